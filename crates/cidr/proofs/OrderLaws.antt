@@ -1,0 +1,69 @@
+-- Networks in order: by first address, then by length, is the lexicographic order of bits.
+use Rattle.std.proofs.Common.{◌≡◌, ℕ, zero, suc, ◌-◌, ◌≤◌, Bool, true, false, ◌&&◌, List, [], ◌∷◌, length, take, drop, ◌==◌, refl, sym, ap, ap₂, ◌∙◌, arith, inl, inr, length-append}
+use Rattle.std.proofs.lemmas.List.{length-replicate}
+use Rattle.std.proofs.lemmas.Bool.{cases_eq}
+use Rattle.std.proofs.lemmas.Bool.Decides.{nat_tests}
+use Rattle.std.proofs.lemmas.Cmp.{tied_itself}
+use Rattle.std.specs.declared.cmp.Ordering.{Ordering}
+use Rattle.std.specs.declared.cmp.Ordering.TheVariants.{Less, Equal, Greater}
+use Rattle.std.specs.Ordering.{nat_cmp, ordering_then, is_eq}
+use Rattle.cidr.specs.Bits.{number, bit_cmp, bit_eq}
+use Rattle.cidr.specs.BitLaws.{bit_cmp-numbers, bit_cmp_total, bit_eq_ties, then_tie}
+use Rattle.cidr.specs.Network.{zeros, first_of}
+use Rattle.cidr.specs.NetworkLaws.{first_of-take, length-take-within}
+use Rattle.cidr.proofs.NetworkNumbers.{number-zeros}
+
+pub length-first_of : (w : ℕ) (p : List Bool) → length p ≤ w → length (first_of w p) ≡ w
+length-first_of w p h = omega (arith, length-append p (zeros (w - length p)), length-replicate (w - length p) false)
+
+-- nothing is below zeros
+then_less : (n : ℕ) → ordering_then (nat_cmp 0 n) Less ≡ Less
+then_less n = elim (cases_eq n 0) [ inl e ↦ rw e refl | inr h ↦ grind (arith, nat_tests) ]
+
+then_greater : (n : ℕ) → ordering_then (nat_cmp n 0) Greater ≡ Greater
+then_greater n = elim (cases_eq n 0) [ inl e ↦ rw e refl | inr h ↦ grind (arith, nat_tests) ]
+
+nat_cmp_less : (n : ℕ) → nat_cmp 0 (suc n) ≡ Less
+nat_cmp_less n = grind (arith, nat_tests)
+
+nat_cmp_greater : (n : ℕ) → nat_cmp (suc n) 0 ≡ Greater
+nat_cmp_greater n = grind (arith, nat_tests)
+
+nat_cmp_suc : (m n : ℕ) → nat_cmp (suc m) (suc n) ≡ nat_cmp m n
+nat_cmp_suc m n = grind (arith, nat_tests)
+
+pub bit_cmp-padded : (w : ℕ) (p q : List Bool) → length p ≤ w → length q ≤ w → bit_cmp p q ≡ ordering_then (bit_cmp (first_of w p) (first_of w q)) (nat_cmp (length p) (length q))
+bit_cmp-padded w [] [] h k = rw (tied_itself bit_cmp_total (zeros (w - 0))) refl
+bit_cmp-padded w [] (c ∷ q) h k =
+    let lp = length-first_of w [] h in
+    let lq = length-first_of w (c ∷ q) k in
+    rw (bit_cmp-numbers (first_of w []) (first_of w (c ∷ q)) (lp ∙ sym lq), number-zeros (w - 0), nat_cmp_less (length q)) (sym (then_less (number (first_of w (c ∷ q)))))
+bit_cmp-padded w (b ∷ p) [] h k =
+    let lp = length-first_of w (b ∷ p) h in
+    let lq = length-first_of w [] k in
+    rw (bit_cmp-numbers (first_of w (b ∷ p)) (first_of w []) (lp ∙ sym lq), number-zeros (w - 0), nat_cmp_greater (length p)) (sym (then_greater (number (first_of w (b ∷ p)))))
+bit_cmp-padded zero (b ∷ p) (c ∷ q) h k = absurd (omega arith)
+bit_cmp-padded (suc w) (true ∷ p) (true ∷ q) h k =
+    let ep : suc w - suc (length p) ≡ w - length p = omega arith in
+    let eq : suc w - suc (length q) ≡ w - length q = omega arith in
+    rw (ep, eq, nat_cmp_suc (length p) (length q)) (bit_cmp-padded w p q (omega arith) (omega arith))
+bit_cmp-padded (suc w) (false ∷ p) (false ∷ q) h k =
+    let ep : suc w - suc (length p) ≡ w - length p = omega arith in
+    let eq : suc w - suc (length q) ≡ w - length q = omega arith in
+    rw (ep, eq, nat_cmp_suc (length p) (length q)) (bit_cmp-padded w p q (omega arith) (omega arith))
+bit_cmp-padded (suc w) (true ∷ p) (false ∷ q) h k = refl
+bit_cmp-padded (suc w) (false ∷ p) (true ∷ q) h k = refl
+
+-- the same of the addresses and lengths of two networks
+pub cmp-networks : (w k j : ℕ) (a b : List Bool) → k ≤ w → length a ≡ w → drop k a ≡ zeros (w - k) → j ≤ w → length b ≡ w → drop j b ≡ zeros (w - j) → bit_cmp (take k a) (take j b) ≡ ordering_then (bit_cmp a b) (nat_cmp k j)
+cmp-networks w k j a b hk la za hj lb zb =
+    let ka = length-take-within w k a hk la in
+    let jb = length-take-within w j b hj lb in
+    bit_cmp-padded w (take k a) (take j b) (omega arith) (omega arith) ∙
+    ap₂ ordering_then (ap₂ bit_cmp (first_of-take w k a hk la za) (first_of-take w j b hj lb zb)) (ap₂ nat_cmp ka jb)
+
+pub eq-networks : (w k j : ℕ) (a b : List Bool) → k ≤ w → length a ≡ w → drop k a ≡ zeros (w - k) → j ≤ w → length b ≡ w → drop j b ≡ zeros (w - j) → bit_eq (take k a) (take j b) ≡ (bit_eq a b && (k == j))
+eq-networks w k j a b hk la za hj lb zb =
+    bit_eq_ties (take k a) (take j b) ∙ ap is_eq (cmp-networks w k j a b hk la za hj lb zb) ∙ then_tie (bit_cmp a b) k j ∙ ap (λ t. t && (k == j)) (sym (bit_eq_ties a b))
+
+pub ruleset order_laws = (cmp-networks, eq-networks, first_of-take, length-take-within)

@@ -1,0 +1,56 @@
+-- What is printed of an IPv4 address spells it.
+use Rattle.std.proofs.Common.{◌≡◌, ℕ, ◌+◌, ◌/◌, ◌%◌, ◌<◌, ◌≤◌, Bool, List, [], ◌∷◌, ◌++◌, length, get_or, decimal, refl, sym, ap, ◌∙◌, arith, inl, inr, append_assoc, length-append}
+use Rattle.std.proofs.lemmas.Bool.{cases_lt}
+use Rattle.std.proofs.lemmas.Fmt.{decimal_digit, decimal_step, decimal_is_IsNumeral, first_decimal, length-decimal-le}
+use Rattle.cidr.specs.Address.{octets_of}
+use Rattle.cidr.specs.AddressText.{IsOctetText, IsJoined, IsIpv4Text, dot}
+use Rattle.cidr.specs.Printed.{dotted, ipv4_text, length_text}
+use Rattle.cidr.proofs.PartLaws.{length-parts_of, parts_fit, flat_map-parts_of}
+
+-- an address is its octets
+octet : (n : ℕ) → n < 256 → IsOctetText (decimal n) n
+octet n fits =
+    let (numeral, value) = decimal_is_IsNumeral n (omega arith) in
+    record {
+      digits = numeral;
+      value = value;
+      fits = fits;
+      no_leading_zero = λ zero_first. elim (cases_lt n 10) [
+        | inl one ↦ ap length (decimal_digit n one)
+        | inr more ↦ absurd (omega (arith, first_decimal n (omega arith) (omega arith)))
+      ];
+    }
+
+spelled_four : (o : List ℕ) → length o ≡ 4 → ((i : ℕ) → get_or o i 0 < 256) → IsJoined IsOctetText (dotted o) o
+spelled_four [] e fits = absurd (omega arith)
+spelled_four (a ∷ []) e fits = absurd (omega arith)
+spelled_four (a ∷ b ∷ []) e fits = absurd (omega arith)
+spelled_four (a ∷ b ∷ c ∷ []) e fits = absurd (omega arith)
+spelled_four (a ∷ b ∷ c ∷ d ∷ []) e fits =
+    (decimal a, _, refl, octet a (fits 0), (decimal b, _, refl, octet b (fits 1), (decimal c, decimal d, refl, octet c (fits 2), octet d (fits 3))))
+spelled_four (a ∷ b ∷ c ∷ d ∷ f ∷ o) e fits = absurd (omega arith)
+
+pub IsIpv4Text-ipv4_text : (a : List Bool) → length a ≡ 32 → IsIpv4Text (ipv4_text a) a
+unfolding ipv4_text
+IsIpv4Text-ipv4_text a e =
+    let four = length-parts_of 8 4 a in
+    record {
+      octets = octets_of a;
+      four = four;
+      joined = spelled_four (octets_of a) four (parts_fit 8 4 a e);
+      value = sym (flat_map-parts_of 8 4 a e);
+    }
+
+pub dotted_pushed : (old : List ℕ) (a b c d : ℕ) → ((((((old ++ decimal a) ++ dot ∷ []) ++ decimal b) ++ dot ∷ []) ++ decimal c) ++ dot ∷ []) ++ decimal d ≡ old ++ dotted (a ∷ b ∷ c ∷ d ∷ [])
+dotted_pushed old a b c d = simp append_assoc
+
+pub pushed_slash : (old ds : List ℕ) → (old ++ 47 ∷ []) ++ ds ≡ old ++ 47 ∷ ds
+pushed_slash old ds = simp append_assoc
+
+-- a length of two digits
+pub length-length_text : (old : List ℕ) (n : ℕ) → n < 100 → length (old ++ length_text n) ≤ length old + 3
+length-length_text old n small = omega (arith, length-append old (length_text n), length-decimal-le 2 n (omega arith) (omega arith) (omega arith))
+
+pub ruleset slash_laws = (pushed_slash)
+
+pub ruleset ipv4_text_laws = (IsIpv4Text-ipv4_text)

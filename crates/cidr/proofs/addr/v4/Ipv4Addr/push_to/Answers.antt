@@ -1,0 +1,18 @@
+use Rattle.std.proofs.Common.{arith}
+use Rattle.cidr.specs.Printed.{ipv4_text}
+use Rattle.cidr.proofs.PrintedLaws.{dotted_pushed}
+use Rattle.cidr.proofs.addr.v4.Ipv4Addr.push_to.Goals as goal
+
+pub returns-clause-bytes : goal.returns-clause-bytes
+unfolding ipv4_text
+returns-clause-bytes g c =
+    rw (
+      c.push_decimal-4.ensures.bytes,
+      c.push-3.ensures.ascii (omega arith),
+      c.push_decimal-3.ensures.bytes,
+      c.push-2.ensures.ascii (omega arith),
+      c.push_decimal-2.ensures.bytes,
+      c.push.ensures.ascii (omega arith),
+      c.push_decimal.ensures.bytes,
+      c.octets.ensures.value,
+    ) (dotted_pushed _ _ _ _ _)

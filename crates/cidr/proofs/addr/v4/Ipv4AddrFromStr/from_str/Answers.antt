@@ -1,0 +1,4 @@
+use Rattle.cidr.proofs.addr.v4.Ipv4AddrFromStr.from_str.Goals as goal
+
+pub returns-in-None : goal.returns-in-None
+returns-in-None c = (c.ipv4.ensures, rw c.as_bytes.ensures.value at c.in-None.ensures)

@@ -1,0 +1,19 @@
+use Rattle.std.proofs.Common.{sym, ap, ◌∙◌, ◌++◌, append_assoc, take, bytes_eq, codes}
+use Rattle.cidr.specs.Canonical.{mapped_groups}
+use Rattle.cidr.proofs.GroupParts.{low_bits}
+use Rattle.cidr.proofs.CanonicalLaws.{printed_mapped, printed_groups_alone}
+use Rattle.cidr.proofs.addr.v6.Ipv6Addr.push_to.Goals as goal
+
+pub returns-then-is_mapped-clause-bytes : goal.returns-then-is_mapped-clause-bytes
+returns-then-is_mapped-clause-bytes g c =
+    let a = c.args.self.now in
+    let old = c.args.text.now.bytes in
+    let mapped = ap (λ t. bytes_eq (take 6 t) mapped_groups) (sym c.segments-groups.ensures.value) ∙ sym c.if-is_mapped.ensures in
+    rw (c.push_to.ensures.bytes, c.push_str.ensures.bytes, c.from_bits.ensures, c.to_bits.ensures.value, low_bits a c.to_bits.ensures.width)
+    (append_assoc old (codes "::ffff:") _ ∙ ap (λ t. old ++ t) (printed_mapped a mapped))
+
+pub returns-else-is_mapped-clause-bytes : goal.returns-else-is_mapped-clause-bytes
+returns-else-is_mapped-clause-bytes g c =
+    let a = c.args.self.now in
+    let other = ap (λ t. bytes_eq (take 6 t) mapped_groups) (sym c.segments-groups.ensures.value) ∙ sym c.if-is_mapped.ensures in
+    rw (c.push_hex_groups.ensures.bytes, c.segments-groups.ensures.value) (ap (λ t. c.args.text.now.bytes ++ t) (printed_groups_alone a other))

@@ -1,0 +1,5 @@
+use Rattle.cidr.proofs.CanonicalLaws.{one_canonical}
+use Rattle.cidr.proofs.addr.v6.Ipv6Addr.to_text.Goals as goal
+
+pub returns-clause-only : goal.returns-clause-only
+returns-clause-only c = λ text h. rw (c.push_to.ensures.bytes, c.new-text.ensures) (one_canonical text c.args.self.now h)

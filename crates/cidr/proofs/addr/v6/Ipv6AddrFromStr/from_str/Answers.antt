@@ -1,0 +1,4 @@
+use Rattle.cidr.proofs.addr.v6.Ipv6AddrFromStr.from_str.Goals as goal
+
+pub returns-in-None : goal.returns-in-None
+returns-in-None c = (c.ipv6.ensures, rw c.as_bytes.ensures.value at c.in-None.ensures)

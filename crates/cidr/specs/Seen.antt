@@ -1,0 +1,12 @@
+-- Values as their views show them.
+use Rattle.std.specs.Prelude.{Result, Ok, Err}
+use Rattle.cidr.specs.declared.family.Family.{Family}
+
+-- the result, with its value as a view shows it
+abbrev pub seen : {N V E : Type 0} → (N → V) → Result N E → Result V E
+seen view (Ok value) = Ok (view value)
+seen view (Err e) = Err e
+
+-- the family of a value, and the value as a view shows it
+abbrev pub in_family : {N V : Type 0} → (N → Family) → (N → V) → N → Family × V
+in_family family view value = (family value, view value)

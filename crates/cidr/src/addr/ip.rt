@@ -1,0 +1,100 @@
+//! The address of either family.
+ghost use Rattle.std.specs.Prelude.{◌≡◌, ◌↔◌, ◌≤◌, length, IsTrue, Some};
+ghost use Rattle.cidr.specs.AddressText.{Reads};
+ghost use Rattle.cidr.specs.IpAddress.{address_family, IsIpText};
+ghost use Rattle.cidr.specs.Printed6.{ip_text};
+ghost use Rattle.cidr.specs.Words.{ip_fault};
+ghost use Rattle.cidr.specs.declared.addr.ip.IpAddr.TheVariants.{V4, V6};
+ghost use Rattle.cidr.specs.declared.family.Family.TheVariants.{Ipv4, Ipv6};
+
+use crate::addr::error::AddrParseError;
+use crate::addr::v4::Ipv4Addr;
+use crate::addr::v6::Ipv6Addr;
+use arrayvec::ArrayString;
+use std::fmt;
+use std::str::FromStr;
+
+/// An IPv4 or an IPv6 address.
+///
+/// Every IPv4 address comes before every IPv6 address, and those of one family are ordered by number.
+#[derive(Clone, Copy, PartialEq, Eq, PartialOrd, Ord, Hash)]
+pub enum IpAddr {
+    V4(Ipv4Addr),
+    V6(Ipv6Addr),
+}
+
+impl IpAddr {
+    /// Whether this is an IPv4 address.
+    pub fn is_ipv4(&self) -> bool
+        ensures { IsTrue result ↔ (address_family self.now ≡ Ipv4) }
+    {
+        matches!(self, IpAddr::V4(_))
+    }
+
+    /// Whether this is an IPv6 address.
+    pub fn is_ipv6(&self) -> bool
+        ensures { IsTrue result ↔ (address_family self.now ≡ Ipv6) }
+    {
+        matches!(self, IpAddr::V6(_))
+    }
+
+    /// The printed text, that of its family: at most 39 bytes.
+    pub fn to_text(&self) -> ArrayString<39>
+        ensures text { result.bytes ≡ ip_text self.now }
+        ensures len { length result.bytes ≤ 39 }
+        ensures spells { IsIpText result.bytes self.now }
+    {
+        match self {
+            IpAddr::V4(address) => address.to_text(),
+            IpAddr::V6(address) => address.to_text(),
+        }
+    }
+}
+
+impl From<Ipv4Addr> for IpAddr {
+    ghost from_gives = { λ a ip. ip ≡ V4 a };
+
+    fn from(address: Ipv4Addr) -> IpAddr {
+        IpAddr::V4(address)
+    }
+}
+
+impl From<Ipv6Addr> for IpAddr {
+    ghost from_gives = { λ a ip. ip ≡ V6 a };
+
+    fn from(address: Ipv6Addr) -> IpAddr {
+        IpAddr::V6(address)
+    }
+}
+
+impl FromStr for IpAddr {
+    type Err = AddrParseError;
+
+    ghost from_str_gives = { Reads IsIpText ip_fault };
+
+    fn from_str(s: &str) -> Result<IpAddr, AddrParseError> {
+        match s.parse::<Ipv4Addr>() {
+            Ok(address) => Ok(IpAddr::V4(address)),
+            Err(_) => match s.parse::<Ipv6Addr>() {
+                Ok(address) => Ok(IpAddr::V6(address)),
+                Err(_) => Err(AddrParseError::ip()),
+            },
+        }
+    }
+}
+
+impl fmt::Display for IpAddr {
+    ghost output = { λ a. Some (ip_text a) };
+
+    fn fmt<W: fmt::Write>(&self, f: &mut fmt::Formatter<W>) -> fmt::Result {
+        f.write_str(self.to_text().as_str())
+    }
+}
+
+impl fmt::Debug for IpAddr {
+    ghost debug_output = { λ a. Some (ip_text a) };
+
+    fn fmt<W: fmt::Write>(&self, f: &mut fmt::Formatter<W>) -> fmt::Result {
+        fmt::Display::fmt(self, f)
+    }
+}

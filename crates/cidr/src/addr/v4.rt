@@ -1,0 +1,207 @@
+//! The IPv4 address.
+ghost use Rattle.std.specs.Prelude.{◌≡◌, ◌+◌, ◌≤◌, [], ◌∷◌, ◌++◌, length, refl, Some};
+ghost use Rattle.std.specs.Ordering.{as_partial_cmp};
+ghost use Rattle.std.specs.Cmp.{partial_equiv_from_equiv};
+ghost use Rattle.std.specs.Hash as fed;
+ghost use Rattle.cidr.specs.Bits.{bits, number, bit_cmp, bit_eq};
+ghost use Rattle.cidr.specs.BitLaws.{bit_eq_equiv, bit_eq_ties, bit_cmp_total, bit_cmp_po, same_image};
+ghost use Rattle.cidr.specs.Address.{octet_bits, octets_of};
+ghost use Rattle.cidr.specs.AddressText.{IsIpv4Text, Reads};
+ghost use Rattle.cidr.specs.Printed.{ipv4_text};
+
+use crate::addr::error::AddrParseError;
+use crate::addr::print::push_decimal;
+use crate::addr::read::read_ipv4;
+use arrayvec::ArrayString;
+use std::cmp::Ordering;
+use std::fmt;
+use std::hash::{Hash, Hasher};
+use std::marker::Model;
+use std::str::FromStr;
+
+/// An IPv4 address: 32 bits, most significant first.
+#[derive(Clone, Copy)]
+pub struct Ipv4Addr {
+    raw: u32,
+}
+
+impl Model for Ipv4Addr {
+    ghost use Rattle.std.specs.Prelude.{List, Bool, ◌^◌, ◌<◌};
+    ghost use Rattle.cidr.specs.Bits.{bits, number};
+    ghost use Rattle.cidr.specs.BitLaws.{number-bits};
+
+    ghost Value = { List Bool };
+
+    ghost view = { λ a. bits 32 a.raw };
+
+    ghost invariant = { λ a. a.raw < 2 ^ 32 };
+
+    ghost inverse = { λ p. record { raw = number p } };
+
+    ghost inverse_ok = { λ a h i. record { raw = number-bits 32 a.raw h i } };
+}
+
+impl Ipv4Addr {
+    /// The address with these octets, most significant first: `new(192, 0, 2, 1)` is 192.0.2.1.
+    #[tactic(auto, using(crate::proofs::OctetLaws::octet_laws))]
+    pub fn new(a: u8, b: u8, c: u8, d: u8) -> Ipv4Addr
+        ensures { result ≡ octet_bits (a ∷ b ∷ c ∷ d ∷ []) }
+    {
+        Ipv4Addr {
+            raw: u32::from_be_bytes([a, b, c, d]),
+        }
+    }
+
+    /// The four octets, most significant first.
+    #[tactic(auto, using(crate::proofs::OctetLaws::octet_laws))]
+    pub fn octets(&self) -> [u8; 4]
+        ensures value { result ≡ octets_of self.now }
+        ensures width { length self.now ≡ 32 }
+    {
+        self.raw.to_be_bytes()
+    }
+
+    /// The address with this number: `from_bits(1)` is 0.0.0.1.
+    pub fn from_bits(value: u32) -> Ipv4Addr
+        ensures { result ≡ bits 32 value }
+    {
+        Ipv4Addr { raw: value }
+    }
+
+    /// The number that the 32 bits write.
+    #[tactic(auto, using(crate::specs::BitLaws::bit_laws))]
+    pub fn to_bits(self) -> u32
+        ensures value { result ≡ number self }
+        ensures width { length self ≡ 32 }
+    {
+        self.raw
+    }
+
+    /// Appends the printed text.
+    pub(crate) fn push_to<const CAP: usize>(&self, text: &mut ArrayString<CAP>)
+        requires { length text.old.bytes + 15 ≤ CAP }
+        ensures bytes { text.new.bytes ≡ text.old.bytes ++ ipv4_text self.now }
+        ensures len { length text.new.bytes ≤ length text.old.bytes + 15 }
+        ensures width { length self.now ≡ 32 }
+    {
+        let [a, b, c, d] = self.octets();
+        push_decimal(text, a);
+        text.push('.');
+        push_decimal(text, b);
+        text.push('.');
+        push_decimal(text, c);
+        text.push('.');
+        push_decimal(text, d);
+    }
+
+    /// The printed text, four decimal octets: at most 15 bytes.
+    #[tactic(auto, using(crate::proofs::PrintedLaws::ipv4_text_laws))]
+    pub fn to_text(&self) -> ArrayString<39>
+        ensures text { result.bytes ≡ ipv4_text self.now }
+        ensures len { length result.bytes ≤ 15 }
+        ensures spells { IsIpv4Text result.bytes self.now }
+    {
+        let mut text = ArrayString::new();
+        self.push_to(&mut text);
+        text
+    }
+}
+
+impl From<u32> for Ipv4Addr {
+    ghost from_gives = { λ n a. a ≡ bits 32 n };
+
+    fn from(value: u32) -> Ipv4Addr {
+        Ipv4Addr::from_bits(value)
+    }
+}
+
+impl From<[u8; 4]> for Ipv4Addr {
+    ghost from_gives = { λ octets a. a ≡ octet_bits octets };
+
+    fn from(octets: [u8; 4]) -> Ipv4Addr {
+        let [a, b, c, d] = octets;
+        Ipv4Addr::new(a, b, c, d)
+    }
+}
+
+impl PartialEq for Ipv4Addr {
+    ghost eq = { bit_eq };
+
+    ghost laws = { partial_equiv_from_equiv bit_eq_equiv };
+
+    #[tactic(auto, using(crate::specs::BitLaws::bit_laws))]
+    fn eq(&self, other: &Ipv4Addr) -> bool {
+        self.raw == other.raw
+    }
+}
+
+impl Eq for Ipv4Addr {
+    ghost laws = { bit_eq_equiv };
+}
+
+impl PartialOrd for Ipv4Addr {
+    ghost partial_cmp = { as_partial_cmp bit_cmp };
+
+    ghost laws = { bit_cmp_po };
+
+    fn partial_cmp(&self, other: &Ipv4Addr) -> Option<Ordering> {
+        Some(self.cmp(other))
+    }
+}
+
+impl Ord for Ipv4Addr {
+    ghost cmp = { bit_cmp };
+
+    ghost total = { bit_cmp_total };
+
+    ghost matches_partial_cmp = { λ _ _. refl };
+
+    ghost matches_eq = { bit_eq_ties };
+
+    #[tactic(auto, using(crate::specs::BitLaws::bit_laws))]
+    fn cmp(&self, other: &Ipv4Addr) -> Ordering {
+        self.raw.cmp(&other.raw)
+    }
+}
+
+impl Hash for Ipv4Addr {
+    ghost hash_input = { λ p. fed.u32 (number p) };
+
+    ghost respects_eq = { same_image (λ p. fed.u32 (number p)) };
+
+    #[tactic(auto, using(crate::specs::BitLaws::bit_laws))]
+    fn hash<H: Hasher>(&self, state: &mut H) {
+        self.raw.hash(state);
+    }
+}
+
+impl FromStr for Ipv4Addr {
+    ghost use Rattle.cidr.specs.Words.{ipv4_fault};
+
+    type Err = AddrParseError;
+
+    ghost from_str_gives = { Reads IsIpv4Text ipv4_fault };
+
+    fn from_str(s: &str) -> Result<Ipv4Addr, AddrParseError> {
+        match read_ipv4(s.as_bytes()) {
+            Some(octets) => Ok(Ipv4Addr::from(octets)),
+            None => Err(AddrParseError::ipv4()),
+        }
+    }
+}
+
+impl fmt::Display for Ipv4Addr {
+    ghost output = { λ a. Some (ipv4_text a) };
+
+    fn fmt<W: fmt::Write>(&self, f: &mut fmt::Formatter<W>) -> fmt::Result {
+        f.write_str(self.to_text().as_str())
+    }
+}
+
+impl fmt::Debug for Ipv4Addr {
+    ghost debug_output = { λ a. Some (ipv4_text a) };
+
+    fn fmt<W: fmt::Write>(&self, f: &mut fmt::Formatter<W>) -> fmt::Result {
+        fmt::Display::fmt(self, f)
+    }
+}

@@ -1,0 +1,245 @@
+//! The IPv6 address.
+ghost use Rattle.std.specs.Prelude.{◌≡◌, ◌+◌, ◌≤◌, [], ◌∷◌, ◌++◌, List, ℕ, length, refl, Some};
+ghost use Rattle.std.specs.Ordering.{as_partial_cmp};
+ghost use Rattle.std.specs.Cmp.{partial_equiv_from_equiv};
+ghost use Rattle.std.specs.Hash as fed;
+ghost use Rattle.cidr.specs.Bits.{bits, number, bit_cmp, bit_eq};
+ghost use Rattle.cidr.specs.BitLaws.{bit_eq_equiv, bit_eq_ties, bit_cmp_total, bit_cmp_po, same_image};
+ghost use Rattle.cidr.specs.Address.{parts_of, octet_bits, group_bits, groups_of};
+ghost use Rattle.cidr.specs.AddressText.{Reads};
+ghost use Rattle.cidr.specs.Ipv6Text.{IsIpv6Text};
+ghost use Rattle.cidr.specs.Canonical.{IsCanonicalText};
+ghost use Rattle.cidr.specs.Printed6.{ipv6_text};
+
+use crate::addr::error::AddrParseError;
+use crate::addr::print6::{is_mapped, push_hex_groups};
+use crate::addr::read6::read_ipv6;
+use crate::addr::v4::Ipv4Addr;
+use arrayvec::ArrayString;
+use std::cmp::Ordering;
+use std::fmt;
+use std::hash::{Hash, Hasher};
+use std::marker::Model;
+use std::str::FromStr;
+
+/// An IPv6 address: 128 bits, most significant first.
+#[derive(Clone, Copy)]
+pub struct Ipv6Addr {
+    raw: u128,
+}
+
+impl Model for Ipv6Addr {
+    ghost use Rattle.std.specs.Prelude.{List, Bool, ◌^◌, ◌<◌};
+    ghost use Rattle.cidr.specs.Bits.{bits, number};
+    ghost use Rattle.cidr.specs.BitLaws.{number-bits};
+
+    ghost Value = { List Bool };
+
+    ghost view = { λ a. bits 128 a.raw };
+
+    ghost invariant = { λ a. a.raw < 2 ^ 128 };
+
+    ghost inverse = { λ p. record { raw = number p } };
+
+    ghost inverse_ok = { λ a h i. record { raw = number-bits 128 a.raw h i } };
+}
+
+impl Ipv6Addr {
+    /// The address with these groups, most significant first.
+    #[tactic(auto, using(crate::proofs::GroupLaws::group_laws))]
+    pub fn new(a: u16, b: u16, c: u16, d: u16, e: u16, f: u16, g: u16, h: u16) -> Ipv6Addr
+        ensures { result ≡ group_bits (a ∷ b ∷ c ∷ d ∷ e ∷ f ∷ g ∷ h ∷ []) }
+    {
+        let two = u128::from(a) * 65536 + u128::from(b);
+        let three = two * 65536 + u128::from(c);
+        let four = three * 65536 + u128::from(d);
+        let five = four * 65536 + u128::from(e);
+        let six = five * 65536 + u128::from(f);
+        let seven = six * 65536 + u128::from(g);
+        Ipv6Addr::from_bits(seven * 65536 + u128::from(h))
+    }
+
+    /// The eight groups of sixteen bits, most significant first.
+    #[tactic(auto, using(crate::proofs::GroupLaws::group_laws))]
+    pub fn segments(&self) -> [u16; 8]
+        ensures value { result ≡ groups_of self.now }
+        ensures width { length self.now ≡ 128 }
+    {
+        let n = self.raw;
+        [
+            ((n >> 112) % 65536) as u16,
+            ((n >> 96) % 65536) as u16,
+            ((n >> 80) % 65536) as u16,
+            ((n >> 64) % 65536) as u16,
+            ((n >> 48) % 65536) as u16,
+            ((n >> 32) % 65536) as u16,
+            ((n >> 16) % 65536) as u16,
+            (n % 65536) as u16,
+        ]
+    }
+
+    /// The sixteen octets, most significant first.
+    #[tactic(auto, using(crate::proofs::OctetRows::sixteen_laws))]
+    pub fn octets(&self) -> [u8; 16]
+        ensures value { result ≡ parts_of 8 16 self.now }
+        ensures width { length self.now ≡ 128 }
+    {
+        self.raw.to_be_bytes()
+    }
+
+    /// The address with this number: `from_bits(1)` is ::1.
+    pub fn from_bits(value: u128) -> Ipv6Addr
+        ensures { result ≡ bits 128 value }
+    {
+        Ipv6Addr { raw: value }
+    }
+
+    /// The number that the 128 bits write.
+    #[tactic(auto, using(crate::specs::BitLaws::bit_laws))]
+    pub fn to_bits(self) -> u128
+        ensures value { result ≡ number self }
+        ensures width { length self ≡ 128 }
+    {
+        self.raw
+    }
+
+    /// Appends the printed text.
+    pub(crate) fn push_to<const CAP: usize>(&self, text: &mut ArrayString<CAP>)
+        requires { length text.old.bytes + 39 ≤ CAP }
+        ensures bytes { text.new.bytes ≡ text.old.bytes ++ ipv6_text self.now }
+        ensures len { length text.new.bytes ≤ length text.old.bytes + 39 }
+        ensures width { length self.now ≡ 128 }
+    {
+        let groups = self.segments();
+        if is_mapped(&groups) {
+            text.push_str("::ffff:");
+            Ipv4Addr::from_bits((self.to_bits() % (1 << 32)) as u32).push_to(text);
+        } else {
+            push_hex_groups(text, &groups);
+        }
+    }
+
+    /// The printed text: at most 39 bytes.
+    ///
+    /// It is the canonical one, of which there is one for each address: 2001:DB8:0:0:0:0:0:1 is `2001:db8::1`,
+    /// and ::ffff:c000:201 is `::ffff:192.0.2.1`.
+    #[tactic(auto, using(crate::proofs::CanonicalLaws::ipv6_text_laws))]
+    pub fn to_text(&self) -> ArrayString<39>
+        ensures text { result.bytes ≡ ipv6_text self.now }
+        ensures len { length result.bytes ≤ 39 }
+        ensures canonical { IsCanonicalText result.bytes self.now }
+        ensures only { (text : List ℕ) → IsCanonicalText text self.now → text ≡ result.bytes }
+        ensures spells { IsIpv6Text result.bytes self.now }
+    {
+        let mut text = ArrayString::new();
+        self.push_to(&mut text);
+        text
+    }
+}
+
+impl From<u128> for Ipv6Addr {
+    ghost from_gives = { λ n a. a ≡ bits 128 n };
+
+    fn from(value: u128) -> Ipv6Addr {
+        Ipv6Addr::from_bits(value)
+    }
+}
+
+impl From<[u8; 16]> for Ipv6Addr {
+    ghost from_gives = { λ octets a. a ≡ octet_bits octets };
+
+    fn from(octets: [u8; 16]) -> Ipv6Addr {
+        Ipv6Addr::from_bits(u128::from_be_bytes(octets))
+    }
+}
+
+impl From<[u16; 8]> for Ipv6Addr {
+    ghost from_gives = { λ groups a. a ≡ group_bits groups };
+
+    fn from(groups: [u16; 8]) -> Ipv6Addr {
+        let [a, b, c, d, e, f, g, h] = groups;
+        Ipv6Addr::new(a, b, c, d, e, f, g, h)
+    }
+}
+
+impl PartialEq for Ipv6Addr {
+    ghost eq = { bit_eq };
+
+    ghost laws = { partial_equiv_from_equiv bit_eq_equiv };
+
+    #[tactic(auto, using(crate::specs::BitLaws::bit_laws))]
+    fn eq(&self, other: &Ipv6Addr) -> bool {
+        self.raw == other.raw
+    }
+}
+
+impl Eq for Ipv6Addr {
+    ghost laws = { bit_eq_equiv };
+}
+
+impl PartialOrd for Ipv6Addr {
+    ghost partial_cmp = { as_partial_cmp bit_cmp };
+
+    ghost laws = { bit_cmp_po };
+
+    fn partial_cmp(&self, other: &Ipv6Addr) -> Option<Ordering> {
+        Some(self.cmp(other))
+    }
+}
+
+impl Ord for Ipv6Addr {
+    ghost cmp = { bit_cmp };
+
+    ghost total = { bit_cmp_total };
+
+    ghost matches_partial_cmp = { λ _ _. refl };
+
+    ghost matches_eq = { bit_eq_ties };
+
+    #[tactic(auto, using(crate::specs::BitLaws::bit_laws))]
+    fn cmp(&self, other: &Ipv6Addr) -> Ordering {
+        self.raw.cmp(&other.raw)
+    }
+}
+
+impl Hash for Ipv6Addr {
+    ghost hash_input = { λ p. fed.u128 (number p) };
+
+    ghost respects_eq = { same_image (λ p. fed.u128 (number p)) };
+
+    #[tactic(auto, using(crate::specs::BitLaws::bit_laws))]
+    fn hash<H: Hasher>(&self, state: &mut H) {
+        self.raw.hash(state);
+    }
+}
+
+impl FromStr for Ipv6Addr {
+    ghost use Rattle.cidr.specs.Words.{ipv6_fault};
+
+    type Err = AddrParseError;
+
+    ghost from_str_gives = { Reads IsIpv6Text ipv6_fault };
+
+    fn from_str(s: &str) -> Result<Ipv6Addr, AddrParseError> {
+        match read_ipv6(s.as_bytes()) {
+            Some(value) => Ok(Ipv6Addr::from_bits(value)),
+            None => Err(AddrParseError::ipv6()),
+        }
+    }
+}
+
+impl fmt::Display for Ipv6Addr {
+    ghost output = { λ a. Some (ipv6_text a) };
+
+    fn fmt<W: fmt::Write>(&self, f: &mut fmt::Formatter<W>) -> fmt::Result {
+        f.write_str(self.to_text().as_str())
+    }
+}
+
+impl fmt::Debug for Ipv6Addr {
+    ghost debug_output = { λ a. Some (ipv6_text a) };
+
+    fn fmt<W: fmt::Write>(&self, f: &mut fmt::Formatter<W>) -> fmt::Result {
+        fmt::Display::fmt(self, f)
+    }
+}

@@ -1,0 +1,334 @@
+//! The network of either family.
+ghost use Rattle.std.specs.Prelude.{◌≡◌, ◌↔◌, ◌≤◌, length, IsTrue, Some};
+ghost use Rattle.cidr.specs.Combined.{network_family, network_prefix, network_bits};
+ghost use Rattle.cidr.specs.CombinedText.{IsIpNetworkText, ip_network_text};
+ghost use Rattle.cidr.specs.declared.cidr.combined.IpCidr.TheVariants.{V4, V6};
+
+use crate::addr::ip::IpAddr;
+use crate::addr::v4::Ipv4Addr;
+use crate::addr::v6::Ipv6Addr;
+use crate::cidr::print::WithLength;
+use crate::cidr::read::{cut_at_last_slash, read_length};
+use crate::cidr::v4::Ipv4Cidr;
+use crate::cidr::v6::Ipv6Cidr;
+use crate::errors::NetworkParseError;
+use crate::family::Family;
+use crate::inet::combined::IpInet;
+use crate::inet_iterator::InetIterator;
+use crate::inet_pair::combined::IpInetPair;
+use arrayvec::ArrayString;
+use std::fmt;
+use std::str::FromStr;
+
+/// An IPv4 or an IPv6 network.
+///
+/// Every IPv4 network comes before every IPv6 network, and those of one family are ordered by first address and
+/// then by length.
+#[derive(Clone, Copy, Debug, PartialEq, Eq, PartialOrd, Ord, Hash)]
+pub enum IpCidr {
+    V4(Ipv4Cidr),
+    V6(Ipv6Cidr),
+}
+
+impl IpCidr {
+    ghost use Rattle.cidr.specs.Combined.{address_by, lone_network, network_within, IsAddressBits, IsLone};
+    ghost use Rattle.std.specs.Prelude.{List, Bool};
+    ghost use Rattle.std.specs.List.{Contains};
+    ghost use Rattle.cidr.specs.CombinedHost.{host_at};
+    ghost use Rattle.cidr.specs.Host.{first_host, last_host};
+    ghost use Rattle.cidr.specs.IpAddress.{ip_address_bits};
+    ghost use Rattle.cidr.specs.Network.{width_of, first_of, last_of, mask_of, BeginsWith, HoldsAll};
+    ghost use Rattle.cidr.specs.Printed.{plain_text};
+    ghost use Rattle.cidr.specs.Walk.{network_hosts, network_walk};
+    ghost use Rattle.cidr.specs.declared.family.Family.TheVariants.{Ipv4, Ipv6};
+
+    /// The network of the first `len` bits of an address, of its family.
+    ///
+    /// Refuses a length above the width, 32 or 128, then an address with a one among the bits from `len` on.
+    pub fn new(addr: IpAddr, len: u8) -> Result<IpCidr, NetworkParseError>
+        ensures { result ≡ network_within addr len }
+    {
+        match addr {
+            IpAddr::V4(addr) => Ok(IpCidr::V4(Ipv4Cidr::new(addr, len)?)),
+            IpAddr::V6(addr) => Ok(IpCidr::V6(Ipv6Cidr::new(addr, len)?)),
+        }
+    }
+
+    /// The network of this address alone, of full length.
+    pub fn new_host(addr: IpAddr) -> IpCidr
+        ensures { result ≡ lone_network addr }
+    {
+        match addr {
+            IpAddr::V4(addr) => IpCidr::V4(Ipv4Cidr::new_host(addr)),
+            IpAddr::V6(addr) => IpCidr::V6(Ipv6Cidr::new_host(addr)),
+        }
+    }
+
+    /// The first address, whose bits from the length on are zero.
+    pub fn first_address(&self) -> IpAddr
+        ensures { result ≡ address_by first_of self.now }
+    {
+        match self {
+            IpCidr::V4(network) => IpAddr::V4(network.first_address()),
+            IpCidr::V6(network) => IpAddr::V6(network.first_address()),
+        }
+    }
+
+    /// The last address, whose bits from the length on are one.
+    pub fn last_address(&self) -> IpAddr
+        ensures { result ≡ address_by last_of self.now }
+    {
+        match self {
+            IpCidr::V4(network) => IpAddr::V4(network.last_address()),
+            IpCidr::V6(network) => IpAddr::V6(network.last_address()),
+        }
+    }
+
+    /// The host of this length at the first address.
+    pub fn first(&self) -> IpInet
+        ensures { result ≡ host_at first_host self.now }
+    {
+        match self {
+            IpCidr::V4(network) => IpInet::V4(network.first()),
+            IpCidr::V6(network) => IpInet::V6(network.first()),
+        }
+    }
+
+    /// The host of this length at the last address.
+    pub fn last(&self) -> IpInet
+        ensures { result ≡ host_at last_host self.now }
+    {
+        match self {
+            IpCidr::V4(network) => IpInet::V4(network.last()),
+            IpCidr::V6(network) => IpInet::V6(network.last()),
+        }
+    }
+
+    /// The walk over all its addresses, ascending, as hosts of this length. It holds exactly the addresses of its
+    /// family that begin with the network's bits.
+    pub fn iter(&self) -> InetIterator<IpAddr>
+        ensures walk { result ≡ network_hosts (network_family self.now) (network_prefix self.now) }
+        ensures exactly { (a : List Bool) → Contains (network_walk (network_family self.now) (network_prefix self.now)) a ↔ ((length a ≡ width_of (network_family self.now)) × BeginsWith a (network_prefix self.now)) }
+    {
+        match self {
+            IpCidr::V4(network) => InetIterator::_new(IpInetPair::V4(network.ends())),
+            IpCidr::V6(network) => InetIterator::_new(IpInetPair::V6(network.ends())),
+        }
+    }
+
+    /// The length in bits, from 0 to 32 or to 128. The family is not counted.
+    pub fn network_length(&self) -> u8
+        ensures value { result ≡ length (network_prefix self.now) }
+        ensures within { result ≤ width_of (network_family self.now) }
+    {
+        match self {
+            IpCidr::V4(network) => network.network_length(),
+            IpCidr::V6(network) => network.network_length(),
+        }
+    }
+
+    /// The family.
+    pub fn family(&self) -> Family
+        ensures { result ≡ network_family self.now }
+    {
+        match self {
+            IpCidr::V4(_) => Family::Ipv4,
+            IpCidr::V6(_) => Family::Ipv6,
+        }
+    }
+
+    /// Whether the network is a single address.
+    pub fn is_host_address(&self) -> bool
+        ensures { IsTrue result ↔ IsLone self.now }
+    {
+        match self {
+            IpCidr::V4(network) => network.is_host_address(),
+            IpCidr::V6(network) => network.is_host_address(),
+        }
+    }
+
+    /// The mask: as many ones as the length says, then zeros.
+    pub fn mask(&self) -> IpAddr
+        ensures { result ≡ address_by mask_of self.now }
+    {
+        match self {
+            IpCidr::V4(network) => IpAddr::V4(network.mask()),
+            IpCidr::V6(network) => IpAddr::V6(network.mask()),
+        }
+    }
+
+    /// Whether the address is in the network. No network holds an address of the other family: ::ffff:0:0/96 does
+    /// not contain 192.0.2.1.
+    pub fn contains(&self, addr: &IpAddr) -> bool
+        ensures { IsTrue result ↔ BeginsWith (ip_address_bits addr.now) (network_bits self.now) }
+    {
+        match (self, addr) {
+            (IpCidr::V4(network), IpAddr::V4(addr)) => network.contains(addr),
+            (IpCidr::V6(network), IpAddr::V6(addr)) => network.contains(addr),
+            _ => false,
+        }
+    }
+
+    /// Whether every address of the other network is in this one, which one of the other family never is.
+    #[tactic(auto, using(crate::proofs::CombinedLaws::holding_laws))]
+    pub fn contains_cidr(&self, other: &IpCidr) -> bool
+        ensures begins { IsTrue result ↔ BeginsWith (network_bits other.now) (network_bits self.now) }
+        ensures holds { IsTrue result ↔ HoldsAll IsAddressBits (network_bits self.now) (network_bits other.now) }
+    {
+        let _within = other.network_length();
+        match (self, other) {
+            (IpCidr::V4(network), IpCidr::V4(other)) => network.contains_cidr(other),
+            (IpCidr::V6(network), IpCidr::V6(other)) => network.contains_cidr(other),
+            _ => false,
+        }
+    }
+
+    /// Whether this is an IPv4 network.
+    pub fn is_ipv4(&self) -> bool
+        ensures { IsTrue result ↔ (network_family self.now ≡ Ipv4) }
+    {
+        matches!(self, IpCidr::V4(_))
+    }
+
+    /// Whether this is an IPv6 network.
+    pub fn is_ipv6(&self) -> bool
+        ensures { IsTrue result ↔ (network_family self.now ≡ Ipv6) }
+    {
+        matches!(self, IpCidr::V6(_))
+    }
+
+    /// The printed text, which leaves out a full length: at most 43 bytes.
+    pub fn to_text(&self) -> ArrayString<43>
+        ensures text { result.bytes ≡ ip_network_text plain_text self.now }
+        ensures len { length result.bytes ≤ 43 }
+        ensures spells { IsIpNetworkText result.bytes self.now }
+    {
+        match self {
+            IpCidr::V4(network) => network.to_text(),
+            IpCidr::V6(network) => network.to_text(),
+        }
+    }
+
+    /// The network as it is printed with its length, also where that is full: `192.0.2.1/32`.
+    pub fn with_length(&self) -> WithLength<IpCidr>
+        ensures { result ≡ self.now }
+    {
+        WithLength::new(*self)
+    }
+}
+
+impl WithLength<IpCidr> {
+    ghost use Rattle.cidr.specs.Printed.{forced_text};
+
+    /// The printed text with the length: at most 43 bytes.
+    pub fn to_text(&self) -> ArrayString<43>
+        ensures text { result.bytes ≡ ip_network_text forced_text self.now }
+        ensures len { length result.bytes ≤ 43 }
+        ensures spells { IsIpNetworkText result.bytes self.now }
+    {
+        match self.get() {
+            IpCidr::V4(network) => network.with_length().to_text(),
+            IpCidr::V6(network) => network.with_length().to_text(),
+        }
+    }
+}
+
+impl IntoIterator for IpCidr {
+    ghost use Rattle.cidr.specs.Walk.{network_hosts};
+
+    type Item = IpInet;
+
+    type IntoIter = InetIterator<IpAddr>;
+
+    ghost into_iter_gives = { λ n it. it ≡ network_hosts (network_family n) (network_prefix n) };
+
+    fn into_iter(self) -> InetIterator<IpAddr> {
+        self.iter()
+    }
+}
+
+impl From<Ipv4Cidr> for IpCidr {
+    ghost from_gives = { λ p n. n ≡ V4 p };
+
+    fn from(network: Ipv4Cidr) -> IpCidr {
+        IpCidr::V4(network)
+    }
+}
+
+impl From<Ipv6Cidr> for IpCidr {
+    ghost from_gives = { λ p n. n ≡ V6 p };
+
+    fn from(network: Ipv6Cidr) -> IpCidr {
+        IpCidr::V6(network)
+    }
+}
+
+impl From<Ipv4Addr> for IpCidr {
+    ghost from_gives = { λ a n. n ≡ V4 a };
+
+    fn from(address: Ipv4Addr) -> IpCidr {
+        IpCidr::V4(Ipv4Cidr::new_host(address))
+    }
+}
+
+impl From<Ipv6Addr> for IpCidr {
+    ghost from_gives = { λ a n. n ≡ V6 a };
+
+    fn from(address: Ipv6Addr) -> IpCidr {
+        IpCidr::V6(Ipv6Cidr::new_host(address))
+    }
+}
+
+impl From<IpAddr> for IpCidr {
+    ghost use Rattle.cidr.specs.Combined.{lone_network};
+
+    ghost from_gives = { λ a n. n ≡ lone_network a };
+
+    fn from(address: IpAddr) -> IpCidr {
+        IpCidr::new_host(address)
+    }
+}
+
+impl FromStr for IpCidr {
+    ghost use Rattle.cidr.specs.CombinedText.{ReadsIpNetwork};
+
+    type Err = NetworkParseError;
+
+    ghost from_str_gives = { ReadsIpNetwork };
+
+    fn from_str(s: &str) -> Result<IpCidr, NetworkParseError> {
+        match cut_at_last_slash(s) {
+            None => match s.parse::<IpAddr>() {
+                Ok(addr) => Ok(IpCidr::new_host(addr)),
+                Err(e) => Err(NetworkParseError::AddrParseError(e)),
+            },
+            Some((front, back)) => match front.parse::<IpAddr>() {
+                Ok(addr) => match read_length(back) {
+                    Ok(len) => IpCidr::new(addr, len),
+                    Err(e) => Err(NetworkParseError::NetworkLengthParseError(e)),
+                },
+                Err(e) => Err(NetworkParseError::AddrParseError(e)),
+            },
+        }
+    }
+}
+
+impl fmt::Display for IpCidr {
+    ghost use Rattle.cidr.specs.Printed.{plain_text};
+
+    ghost output = { λ n. Some (ip_network_text plain_text n) };
+
+    fn fmt<W: fmt::Write>(&self, f: &mut fmt::Formatter<W>) -> fmt::Result {
+        f.write_str(self.to_text().as_str())
+    }
+}
+
+impl fmt::Display for WithLength<IpCidr> {
+    ghost use Rattle.cidr.specs.Printed.{forced_text};
+
+    ghost output = { λ n. Some (ip_network_text forced_text n) };
+
+    fn fmt<W: fmt::Write>(&self, f: &mut fmt::Formatter<W>) -> fmt::Result {
+        f.write_str(self.to_text().as_str())
+    }
+}

@@ -1,0 +1,426 @@
+//! The host of either family.
+ghost use Rattle.std.specs.Prelude.{◌≡◌, ◌+◌, ◌-◌, ◌<◌, ◌≤◌, ◌↔◌, length, IsTrue, IfSome, Some};
+ghost use Rattle.cidr.specs.CombinedHost.{host_family, host_parts, host_by, lone_ip_host};
+ghost use Rattle.cidr.specs.CombinedText.{IsIpHostText, plain_ip_host_text, forced_ip_host_text};
+ghost use Rattle.cidr.specs.Host.{host_part, host_count, with_host_part};
+ghost use Rattle.cidr.specs.Network.{width_of};
+ghost use Rattle.cidr.specs.declared.inet.combined.IpInet.TheVariants.{V4, V6};
+
+use crate::addr::ip::IpAddr;
+use crate::addr::v4::Ipv4Addr;
+use crate::addr::v6::Ipv6Addr;
+use crate::cidr::combined::IpCidr;
+use crate::cidr::print::WithLength;
+use crate::cidr::read::{cut_at_last_slash, read_length};
+use crate::errors::{NetworkLengthTooLongError, NetworkParseError};
+use crate::family::Family;
+use crate::inet::v4::Ipv4Inet;
+use crate::inet::v6::Ipv6Inet;
+use arrayvec::ArrayString;
+use std::fmt;
+use std::ops::{Add, Sub};
+use std::str::FromStr;
+
+/// An IPv4 or an IPv6 host.
+///
+/// Every IPv4 host comes before every IPv6 host, and those of one family are ordered by the address and then by
+/// the length. Steps stay in the network.
+#[derive(Clone, Copy, Debug, PartialEq, Eq, PartialOrd, Ord, Hash)]
+pub enum IpInet {
+    V4(Ipv4Inet),
+    V6(Ipv6Inet),
+}
+
+impl IpInet {
+    ghost use Rattle.cidr.specs.Combined.{address_by, network_bits};
+    ghost use Rattle.cidr.specs.CombinedHost.{IsIpHost, IpWrapsUp, IpWrapsDown, ip_stepped_up, ip_stepped_down, neighbour_by, host_address, host_network, host_at, host_within};
+    ghost use Rattle.cidr.specs.Host.{first_host, last_host, next_of, previous_of};
+    ghost use Rattle.cidr.specs.IpAddress.{ip_address_bits};
+    ghost use Rattle.cidr.specs.Network.{first_of, last_of, mask_of, BeginsWith};
+    ghost use Rattle.cidr.specs.declared.family.Family.TheVariants.{Ipv4, Ipv6};
+
+    /// The host of an address in the network of its first `len` bits. Refuses a length above the width, 32 or 128.
+    pub fn new(addr: IpAddr, len: u8) -> Result<IpInet, NetworkLengthTooLongError>
+        ensures { result ≡ host_within addr len }
+    {
+        match addr {
+            IpAddr::V4(addr) => Ok(IpInet::V4(Ipv4Inet::new(addr, len)?)),
+            IpAddr::V6(addr) => Ok(IpInet::V6(Ipv6Inet::new(addr, len)?)),
+        }
+    }
+
+    /// The host of full length: its network is this address alone.
+    pub fn new_host(addr: IpAddr) -> IpInet
+        ensures { result ≡ lone_ip_host addr }
+    {
+        match addr {
+            IpAddr::V4(addr) => IpInet::V4(Ipv4Inet::new_host(addr)),
+            IpAddr::V6(addr) => IpInet::V6(Ipv6Inet::new_host(addr)),
+        }
+    }
+
+    /// Steps to the next address of the network, or from the last one to the first, and then answers true:
+    /// 10.0.0.255/24 becomes 10.0.0.0/24.
+    pub fn increment(&mut self) -> bool
+        ensures stepped { self.new ≡ ip_stepped_up self.old 1 }
+        ensures wraps { IsTrue result ↔ IpWrapsUp self.old 1 }
+    {
+        match self {
+            IpInet::V4(host) => host.increment(),
+            IpInet::V6(host) => host.increment(),
+        }
+    }
+
+    /// Steps to the address before in the network, or from the first one to the last, and then answers true.
+    pub fn decrement(&mut self) -> bool
+        ensures stepped { self.new ≡ ip_stepped_down self.old 1 }
+        ensures wraps { IsTrue result ↔ IpWrapsDown self.old 1 }
+    {
+        match self {
+            IpInet::V4(host) => host.decrement(),
+            IpInet::V6(host) => host.decrement(),
+        }
+    }
+
+    /// The host at the next address of the network, or `None` at the last one. `previous` leads back.
+    pub fn next(self) -> Option<IpInet>
+        ensures host { result ≡ neighbour_by next_of self }
+        ensures back { IfSome result (λ next. neighbour_by previous_of next ≡ Some self) }
+    {
+        match self {
+            IpInet::V4(host) => Some(IpInet::V4(host.next()?)),
+            IpInet::V6(host) => Some(IpInet::V6(host.next()?)),
+        }
+    }
+
+    /// The host at the address before in the network, or `None` at the first one. `next` leads back.
+    pub fn previous(self) -> Option<IpInet>
+        ensures host { result ≡ neighbour_by previous_of self }
+        ensures back { IfSome result (λ previous. neighbour_by next_of previous ≡ Some self) }
+    {
+        match self {
+            IpInet::V4(host) => Some(IpInet::V4(host.previous()?)),
+            IpInet::V6(host) => Some(IpInet::V6(host.previous()?)),
+        }
+    }
+
+    /// The host `step` addresses further in the network, going round from the last address to the first, and
+    /// whether it went round: 192.0.2.255/24 and 1 give 192.0.2.0/24 and true.
+    ///
+    /// Any step is exact, however large. Where the answer is false, `+` may be used as well.
+    pub fn overflowing_add(self, step: u128) -> (IpInet, bool)
+        ensures stepped { result.0 ≡ ip_stepped_up self step }
+        ensures wraps { IsTrue result.1 ↔ IpWrapsUp self step }
+        ensures back { ip_stepped_down result.0 step ≡ self }
+        ensures host { IsIpHost self }
+    {
+        match self {
+            IpInet::V4(host) => {
+                let (stepped, wraps) = host.overflowing_add(step);
+                (IpInet::V4(stepped), wraps)
+            }
+            IpInet::V6(host) => {
+                let (stepped, wraps) = host.overflowing_add(step);
+                (IpInet::V6(stepped), wraps)
+            }
+        }
+    }
+
+    /// The host `step` addresses before in the network, going round from the first address to the last, and
+    /// whether it went round: 10.0.0.7/29 and 8 give 10.0.0.7/29 and true.
+    ///
+    /// Any step is exact, however large. Where the answer is false, `-` may be used as well.
+    pub fn overflowing_sub(self, step: u128) -> (IpInet, bool)
+        ensures stepped { result.0 ≡ ip_stepped_down self step }
+        ensures wraps { IsTrue result.1 ↔ IpWrapsDown self step }
+        ensures back { ip_stepped_up result.0 step ≡ self }
+        ensures host { IsIpHost self }
+    {
+        match self {
+            IpInet::V4(host) => {
+                let (stepped, wraps) = host.overflowing_sub(step);
+                (IpInet::V4(stepped), wraps)
+            }
+            IpInet::V6(host) => {
+                let (stepped, wraps) = host.overflowing_sub(step);
+                (IpInet::V6(stepped), wraps)
+            }
+        }
+    }
+
+    /// The network, without the host part.
+    pub fn network(&self) -> IpCidr
+        ensures { result ≡ host_network self.now }
+    {
+        match self {
+            IpInet::V4(host) => IpCidr::V4(host.network()),
+            IpInet::V6(host) => IpCidr::V6(host.network()),
+        }
+    }
+
+    /// The address.
+    pub fn address(&self) -> IpAddr
+        ensures value { result ≡ host_address self.now }
+        ensures width { length (host_parts self.now).address ≡ width_of (host_family self.now) }
+    {
+        match self {
+            IpInet::V4(host) => IpAddr::V4(host.address()),
+            IpInet::V6(host) => IpAddr::V6(host.address()),
+        }
+    }
+
+    /// The first address of the network, whose bits from the length on are zero.
+    pub fn first_address(&self) -> IpAddr
+        ensures { result ≡ address_by first_of (host_network self.now) }
+    {
+        match self {
+            IpInet::V4(host) => IpAddr::V4(host.first_address()),
+            IpInet::V6(host) => IpAddr::V6(host.first_address()),
+        }
+    }
+
+    /// The last address of the network, whose bits from the length on are one.
+    pub fn last_address(&self) -> IpAddr
+        ensures { result ≡ address_by last_of (host_network self.now) }
+    {
+        match self {
+            IpInet::V4(host) => IpAddr::V4(host.last_address()),
+            IpInet::V6(host) => IpAddr::V6(host.last_address()),
+        }
+    }
+
+    /// The host at the first address of the network: that of 10.4.3.2/8 is 10.0.0.0/8.
+    pub fn first(&self) -> IpInet
+        ensures { result ≡ host_at first_host (host_network self.now) }
+    {
+        match self {
+            IpInet::V4(host) => IpInet::V4(host.first()),
+            IpInet::V6(host) => IpInet::V6(host.first()),
+        }
+    }
+
+    /// The host at the last address of the network: that of 10.4.3.2/8 is 10.255.255.255/8.
+    pub fn last(&self) -> IpInet
+        ensures { result ≡ host_at last_host (host_network self.now) }
+    {
+        match self {
+            IpInet::V4(host) => IpInet::V4(host.last()),
+            IpInet::V6(host) => IpInet::V6(host.last()),
+        }
+    }
+
+    /// The length of the network in bits, from 0 to 32 or to 128. The family is not counted.
+    pub fn network_length(&self) -> u8
+        ensures value { result ≡ (host_parts self.now).len }
+        ensures within { result ≤ width_of (host_family self.now) }
+    {
+        match self {
+            IpInet::V4(host) => host.network_length(),
+            IpInet::V6(host) => host.network_length(),
+        }
+    }
+
+    /// The family.
+    pub fn family(&self) -> Family
+        ensures { result ≡ host_family self.now }
+    {
+        match self {
+            IpInet::V4(_) => Family::Ipv4,
+            IpInet::V6(_) => Family::Ipv6,
+        }
+    }
+
+    /// Whether the network is a single address.
+    pub fn is_host_address(&self) -> bool
+        ensures { IsTrue result ↔ ((host_parts self.now).len ≡ width_of (host_family self.now)) }
+    {
+        match self {
+            IpInet::V4(host) => host.is_host_address(),
+            IpInet::V6(host) => host.is_host_address(),
+        }
+    }
+
+    /// The mask of the network: as many ones as the length says, then zeros.
+    pub fn mask(&self) -> IpAddr
+        ensures { result ≡ address_by mask_of (host_network self.now) }
+    {
+        match self {
+            IpInet::V4(host) => IpAddr::V4(host.mask()),
+            IpInet::V6(host) => IpAddr::V6(host.mask()),
+        }
+    }
+
+    /// Whether the address is in the network. No network holds an address of the other family.
+    pub fn contains(&self, addr: &IpAddr) -> bool
+        ensures { IsTrue result ↔ BeginsWith (ip_address_bits addr.now) (network_bits (host_network self.now)) }
+    {
+        match (self, addr) {
+            (IpInet::V4(host), IpAddr::V4(addr)) => host.contains(addr),
+            (IpInet::V6(host), IpAddr::V6(addr)) => host.contains(addr),
+            _ => false,
+        }
+    }
+
+    /// Whether this is an IPv4 host.
+    pub fn is_ipv4(&self) -> bool
+        ensures { IsTrue result ↔ (host_family self.now ≡ Ipv4) }
+    {
+        matches!(self, IpInet::V4(_))
+    }
+
+    /// Whether this is an IPv6 host.
+    pub fn is_ipv6(&self) -> bool
+        ensures { IsTrue result ↔ (host_family self.now ≡ Ipv6) }
+    {
+        matches!(self, IpInet::V6(_))
+    }
+
+    /// The printed text, which keeps the host part and leaves out a full length: at most 43 bytes.
+    pub fn to_text(&self) -> ArrayString<43>
+        ensures text { result.bytes ≡ plain_ip_host_text self.now }
+        ensures len { length result.bytes ≤ 43 }
+        ensures spells { IsIpHostText result.bytes self.now }
+    {
+        match self {
+            IpInet::V4(host) => host.to_text(),
+            IpInet::V6(host) => host.to_text(),
+        }
+    }
+
+    /// The host as it is printed with its length, also where that is full: `10.0.0.1/32`.
+    pub fn with_length(&self) -> WithLength<IpInet>
+        ensures { result ≡ self.now }
+    {
+        WithLength::new(*self)
+    }
+}
+
+impl WithLength<IpInet> {
+    /// The printed text with the length: at most 43 bytes.
+    pub fn to_text(&self) -> ArrayString<43>
+        ensures text { result.bytes ≡ forced_ip_host_text self.now }
+        ensures len { length result.bytes ≤ 43 }
+        ensures spells { IsIpHostText result.bytes self.now }
+    {
+        match self.get() {
+            IpInet::V4(host) => host.with_length().to_text(),
+            IpInet::V6(host) => host.with_length().to_text(),
+        }
+    }
+}
+
+impl From<Ipv4Inet> for IpInet {
+    ghost from_gives = { λ h host. host ≡ V4 h };
+
+    fn from(host: Ipv4Inet) -> IpInet {
+        IpInet::V4(host)
+    }
+}
+
+impl From<Ipv6Inet> for IpInet {
+    ghost from_gives = { λ h host. host ≡ V6 h };
+
+    fn from(host: Ipv6Inet) -> IpInet {
+        IpInet::V6(host)
+    }
+}
+
+impl From<Ipv4Addr> for IpInet {
+    ghost use Rattle.cidr.specs.Host.{lone_host};
+
+    ghost from_gives = { λ a host. host ≡ V4 (lone_host 32 a) };
+
+    fn from(address: Ipv4Addr) -> IpInet {
+        IpInet::V4(Ipv4Inet::new_host(address))
+    }
+}
+
+impl From<Ipv6Addr> for IpInet {
+    ghost use Rattle.cidr.specs.Host.{lone_host};
+
+    ghost from_gives = { λ a host. host ≡ V6 (lone_host 128 a) };
+
+    fn from(address: Ipv6Addr) -> IpInet {
+        IpInet::V6(Ipv6Inet::new_host(address))
+    }
+}
+
+impl From<IpAddr> for IpInet {
+    ghost from_gives = { λ a host. host ≡ lone_ip_host a };
+
+    fn from(address: IpAddr) -> IpInet {
+        IpInet::new_host(address)
+    }
+}
+
+impl FromStr for IpInet {
+    ghost use Rattle.cidr.specs.CombinedText.{ReadsIpHost};
+
+    type Err = NetworkParseError;
+
+    ghost from_str_gives = { ReadsIpHost };
+
+    fn from_str(s: &str) -> Result<IpInet, NetworkParseError> {
+        match cut_at_last_slash(s) {
+            None => match s.parse::<IpAddr>() {
+                Ok(addr) => Ok(IpInet::new_host(addr)),
+                Err(e) => Err(NetworkParseError::AddrParseError(e)),
+            },
+            Some((front, back)) => match front.parse::<IpAddr>() {
+                Ok(addr) => match read_length(back) {
+                    Ok(len) => Ok(IpInet::new(addr, len)?),
+                    Err(e) => Err(NetworkParseError::NetworkLengthParseError(e)),
+                },
+                Err(e) => Err(NetworkParseError::AddrParseError(e)),
+            },
+        }
+    }
+}
+
+impl fmt::Display for IpInet {
+    ghost output = { λ h. Some (plain_ip_host_text h) };
+
+    fn fmt<W: fmt::Write>(&self, f: &mut fmt::Formatter<W>) -> fmt::Result {
+        f.write_str(self.to_text().as_str())
+    }
+}
+
+impl fmt::Display for WithLength<IpInet> {
+    ghost output = { λ h. Some (forced_ip_host_text h) };
+
+    fn fmt<W: fmt::Write>(&self, f: &mut fmt::Formatter<W>) -> fmt::Result {
+        f.write_str(self.to_text().as_str())
+    }
+}
+
+/// The host `step` addresses further. The step has to stay in the network, as `overflowing_add` tells.
+impl Add<u128> for IpInet {
+    type Output = IpInet;
+
+    ghost can_add = { λ h s. host_part (host_parts h) + s < host_count (width_of (host_family h)) (host_parts h) };
+
+    ghost add_gives = { λ h s r. r ≡ host_by (λ w host. with_host_part w host (host_part host + s)) h };
+
+    fn add(self, step: u128) -> IpInet {
+        match self {
+            IpInet::V4(host) => IpInet::V4(host + step),
+            IpInet::V6(host) => IpInet::V6(host + step),
+        }
+    }
+}
+
+/// The host `step` addresses before. The step has to stay in the network, as `overflowing_sub` tells.
+impl Sub<u128> for IpInet {
+    type Output = IpInet;
+
+    ghost can_sub = { λ h s. s ≤ host_part (host_parts h) };
+
+    ghost sub_gives = { λ h s r. r ≡ host_by (λ w host. with_host_part w host (host_part host - s)) h };
+
+    fn sub(self, step: u128) -> IpInet {
+        match self {
+            IpInet::V4(host) => IpInet::V4(host - step),
+            IpInet::V6(host) => IpInet::V6(host - step),
+        }
+    }
+}

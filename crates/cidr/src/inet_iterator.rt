@@ -1,0 +1,254 @@
+//! The walk over the addresses of a network or a pair, as hosts and as addresses.
+ghost use Rattle.std.specs.Prelude.{◌≡◌, length};
+ghost use Rattle.std.specs.Iterator.{YieldsFirstBy, YieldsLastBy, item_count};
+ghost use Rattle.cidr.specs.Seen.{in_family};
+ghost use Rattle.cidr.specs.Walk.{pair_hosts, addresses_of, count_of, bounds_of};
+
+use crate::internal_traits::markers::PrivInetPair;
+use crate::num::NumberOfAddresses;
+use crate::traits::{Address, Inet, InetPair};
+use std::alloc::AllocError;
+use std::fmt;
+use std::iter::FusedIterator;
+use std::marker::Model;
+
+pub(crate) mod driving;
+
+/// The hosts of a walk that are left, ascending.
+///
+/// `next` takes the first of them and `next_back` the last. After `None` at either end both ends answer `None`
+/// for good.
+#[derive(Drop)]
+pub struct InetIterator<A: Address> {
+    state: Option<A::InetPair>,
+}
+
+impl<A: Address> Model for InetIterator<A> {
+    ghost use Rattle.std.specs.Prelude.{List, IfSome, ◌<◌, length};
+    ghost use Rattle.cidr.specs.Host.{Host};
+    ghost use Rattle.cidr.specs.Walk.{pair_walk, hosts_left};
+    ghost use Rattle.cidr.specs.declared.family.Family.{Family};
+
+    ghost Value = { List (Family × Host) };
+
+    ghost view = { λ it. hosts_left A.InetPair.family_of A.InetPair.pair it.state };
+
+    ghost invariant = { λ it. IfSome it.state (λ p. 0 < length (pair_walk (A.InetPair.family_of p) (A.InetPair.pair p))) };
+}
+
+impl<A: Address> InetIterator<A> {
+    /// The walk of a pair.
+    pub(crate) fn _new(range_pair: A::InetPair) -> InetIterator<A>
+        ensures { result ≡ pair_hosts (A.InetPair.family_of range_pair) (A.InetPair.pair range_pair) }
+    {
+        let state = match range_pair._covered_addresses() {
+            NumberOfAddresses::Count(0) => None,
+            _ => Some(range_pair),
+        };
+        InetIterator { state }
+    }
+
+    /// Both bounds on how many are left.
+    fn bounds(&self) -> (usize, Option<usize>)
+        ensures { result ≡ bounds_of (length self.now) }
+    {
+        let state = match &self.state {
+            None => return (0, Some(0)),
+            Some(state) => state,
+        };
+        match state._covered_addresses() {
+            NumberOfAddresses::MaxIpv6Addresses => (0, None),
+            NumberOfAddresses::Count(count) => match usize::try_from(count) {
+                Ok(count) => (count, Some(count)),
+                Err(_) => (usize::MAX, None),
+            },
+        }
+    }
+
+    /// How many are left, or `None` where a `usize` has no such number.
+    pub fn count(self) -> Option<usize>
+        ensures { result ≡ count_of (length self) }
+    {
+        self.bounds().1
+    }
+}
+
+impl<A: Address> InetIterator<A>
+where
+    A::InetPair: InetPair<Address = A>,
+    A::Inet: Inet<Address = A>,
+{
+    /// What is left, as addresses alone.
+    pub fn addresses(self) -> InetAddressIterator<A>
+        ensures { result ≡ addresses_of self }
+    {
+        InetAddressIterator { inner: self }
+    }
+}
+
+impl<A: Address> Clone for InetIterator<A>
+where
+    A::InetPair: InetPair<Address = A>,
+{
+    ghost is_clone = { λ it copy. copy ≡ it };
+
+    ghost is_infallible = { λ _. Unit {0} };
+
+    fn clone(&self) -> Result<InetIterator<A>, AllocError> {
+        let state = self.state;
+        Ok(InetIterator { state })
+    }
+}
+
+impl<A: Address> Iterator for InetIterator<A>
+where
+    A::InetPair: InetPair<Address = A>,
+    A::Inet: Inet<Address = A>,
+{
+    type Item = A::Inet;
+
+    ghost next_gives = { YieldsFirstBy (in_family A.Inet.family_of A.Inet.host) (λ it. it) };
+
+    ghost remaining = { item_count (λ it. it) };
+
+    fn next(&mut self) -> Option<A::Inet> {
+        let state = self.state.as_mut()?;
+        let host = state.first();
+        let follows = state._inc_first();
+        if !follows {
+            self.state = None;
+        }
+        Some(host)
+    }
+
+    fn size_hint(&self) -> (usize, Option<usize>) {
+        self.bounds()
+    }
+}
+
+impl<A: Address> DoubleEndedIterator for InetIterator<A>
+where
+    A::InetPair: InetPair<Address = A>,
+    A::Inet: Inet<Address = A>,
+{
+    ghost next_back_gives = { YieldsLastBy (in_family A.Inet.family_of A.Inet.host) (λ it. it) };
+
+    fn next_back(&mut self) -> Option<A::Inet> {
+        let state = self.state.as_mut()?;
+        let host = state.second();
+        let precedes = state._dec_second();
+        if !precedes {
+            self.state = None;
+        }
+        Some(host)
+    }
+}
+
+impl<A: Address> FusedIterator for InetIterator<A>
+where
+    A::InetPair: InetPair<Address = A>,
+    A::Inet: Inet<Address = A>,
+{}
+
+impl<A: Address> fmt::Debug for InetIterator<A>
+where
+    A::InetPair: fmt::Debug,
+{
+    fn fmt<W: fmt::Write>(&self, f: &mut fmt::Formatter<W>) -> fmt::Result {
+        f.debug_struct("InetIterator")
+            .field("state", &self.state)
+            .finish()
+    }
+}
+
+/// The addresses of a walk that are left, ascending.
+///
+/// `next` takes the first of them and `next_back` the last. After `None` at either end both ends answer `None`
+/// for good.
+#[derive(Drop)]
+pub struct InetAddressIterator<A: Address> {
+    inner: InetIterator<A>,
+}
+
+impl<A: Address> Model for InetAddressIterator<A> {
+    ghost use Rattle.std.specs.Prelude.{List, Bool};
+    ghost use Rattle.cidr.specs.Walk.{addresses_of};
+    ghost use Rattle.cidr.specs.declared.family.Family.{Family};
+
+    ghost Value = { List (Family × List Bool) };
+
+    ghost view = { λ it. addresses_of it.inner };
+}
+
+impl<A: Address> InetAddressIterator<A> {
+    /// How many are left, or `None` where a `usize` has no such number.
+    pub fn count(self) -> Option<usize>
+        ensures { result ≡ count_of (length self) }
+    {
+        self.inner.count()
+    }
+}
+
+impl<A: Address> Clone for InetAddressIterator<A>
+where
+    A::InetPair: InetPair<Address = A>,
+{
+    ghost is_clone = { λ it copy. copy ≡ it };
+
+    ghost is_infallible = { λ _. Unit {0} };
+
+    fn clone(&self) -> Result<InetAddressIterator<A>, AllocError> {
+        Ok(InetAddressIterator {
+            inner: self.inner.clone()?,
+        })
+    }
+}
+
+impl<A: Address> Iterator for InetAddressIterator<A>
+where
+    A::InetPair: InetPair<Address = A>,
+    A::Inet: Inet<Address = A>,
+{
+    type Item = A;
+
+    ghost next_gives = { YieldsFirstBy (in_family A.family_of A.bits) (λ it. it) };
+
+    ghost remaining = { item_count (λ it. it) };
+
+    fn next(&mut self) -> Option<A> {
+        Some(self.inner.next()?.address())
+    }
+
+    fn size_hint(&self) -> (usize, Option<usize>) {
+        self.inner.size_hint()
+    }
+}
+
+impl<A: Address> DoubleEndedIterator for InetAddressIterator<A>
+where
+    A::InetPair: InetPair<Address = A>,
+    A::Inet: Inet<Address = A>,
+{
+    ghost next_back_gives = { YieldsLastBy (in_family A.family_of A.bits) (λ it. it) };
+
+    fn next_back(&mut self) -> Option<A> {
+        Some(self.inner.next_back()?.address())
+    }
+}
+
+impl<A: Address> FusedIterator for InetAddressIterator<A>
+where
+    A::InetPair: InetPair<Address = A>,
+    A::Inet: Inet<Address = A>,
+{}
+
+impl<A: Address> fmt::Debug for InetAddressIterator<A>
+where
+    A::InetPair: fmt::Debug,
+{
+    fn fmt<W: fmt::Write>(&self, f: &mut fmt::Formatter<W>) -> fmt::Result {
+        f.debug_struct("InetAddressIterator")
+            .field("inner", &self.inner)
+            .finish()
+    }
+}

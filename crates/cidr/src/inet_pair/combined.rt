@@ -1,0 +1,259 @@
+//! The pair of addresses of either family.
+ghost use Rattle.std.specs.Prelude.{◌≡◌, ◌≤◌, ◌↔◌, length, IfOk, IsTrue, Some};
+ghost use Rattle.cidr.specs.CombinedPair.{pair_family, pair_parts, ip_pair_text};
+ghost use Rattle.cidr.specs.CombinedText.{plain_ip_host_text, forced_ip_host_text};
+ghost use Rattle.cidr.specs.declared.inet_pair.combined.IpInetPair.TheVariants.{V4, V6};
+
+use crate::addr::ip::IpAddr;
+use crate::cidr::combined::IpCidr;
+use crate::cidr::print::WithLength;
+use crate::errors::InetTupleError;
+use crate::family::Family;
+use crate::inet::combined::IpInet;
+use crate::inet_iterator::InetIterator;
+use crate::inet_pair::print::parenthesized;
+use crate::inet_pair::v4::Ipv4InetPair;
+use crate::inet_pair::v6::Ipv6InetPair;
+use crate::internal_traits::markers::PrivInetPair;
+use crate::num::NumberOfAddresses;
+use arrayvec::ArrayString;
+use std::fmt;
+
+/// Two addresses of one family and the length of a network that holds both.
+///
+/// The first may be above the second. The walk goes from the first to the second, both counted.
+#[derive(Clone, Copy, Debug, PartialEq, Eq, Hash)]
+pub enum IpInetPair {
+    V4(Ipv4InetPair),
+    V6(Ipv6InetPair),
+}
+
+impl IpInetPair {
+    ghost use Rattle.cidr.specs.CombinedHost.{host_family, host_parts};
+    ghost use Rattle.cidr.specs.CombinedPair.{pair_host, pair_network};
+    ghost use Rattle.cidr.specs.IpAddress.{address_family, plain_bits};
+    ghost use Rattle.cidr.specs.Network.{width_of};
+    ghost use Rattle.cidr.specs.Pair.{IsPair, first_of_pair, second_of_pair, pair_of, pair_from, pair_within};
+    ghost use Rattle.cidr.specs.Seen.{seen};
+    ghost use Rattle.cidr.specs.Walk.{pair_hosts};
+    ghost use Rattle.cidr.specs.declared.family.Family.TheVariants.{Ipv4, Ipv6};
+
+    /// The pair of two hosts. Refuses hosts of different families, lengths or networks.
+    pub fn new(first: IpInet, second: IpInet) -> Result<IpInetPair, InetTupleError>
+        ensures value { seen pair_parts result ≡ pair_within (host_family first) (host_family second) (pair_of (host_parts first) (host_parts second)) }
+        ensures family { IfOk result (λ pair. pair_family pair ≡ host_family first) }
+    {
+        match (&first, &second) {
+            (IpInet::V4(first), IpInet::V4(second)) => {
+                Ok(IpInetPair::V4(Ipv4InetPair::new(*first, *second)?))
+            }
+            (IpInet::V6(first), IpInet::V6(second)) => {
+                Ok(IpInetPair::V6(Ipv6InetPair::new(*first, *second)?))
+            }
+            _ => Err(InetTupleError::NotInSharedNetwork),
+        }
+    }
+
+    /// The pair of two addresses and a length.
+    ///
+    /// Refuses two families, whatever the length; then a length above the width, 32 or 128; then addresses whose
+    /// first `len` bits differ.
+    pub fn new_from_addresses(
+        first: IpAddr,
+        second: IpAddr,
+        len: u8,
+    ) -> Result<IpInetPair, InetTupleError>
+        ensures value { seen pair_parts result ≡ pair_within (address_family first) (address_family second) (pair_from (width_of (address_family first)) (address_family first) (plain_bits first) (plain_bits second) len) }
+        ensures family { IfOk result (λ pair. pair_family pair ≡ address_family first) }
+    {
+        match (&first, &second) {
+            (IpAddr::V4(first), IpAddr::V4(second)) => Ok(IpInetPair::V4(
+                Ipv4InetPair::new_from_addresses(*first, *second, len)?,
+            )),
+            (IpAddr::V6(first), IpAddr::V6(second)) => Ok(IpInetPair::V6(
+                Ipv6InetPair::new_from_addresses(*first, *second, len)?,
+            )),
+            (IpAddr::V4(_), IpAddr::V6(_)) | (IpAddr::V6(_), IpAddr::V4(_)) => {
+                Err(InetTupleError::NotInSharedNetwork)
+            }
+        }
+    }
+
+    /// The first address, as a host of this length.
+    pub fn first(&self) -> IpInet
+        ensures value { result ≡ pair_host first_of_pair self.now }
+        ensures pair { IsPair (width_of (pair_family self.now)) (pair_parts self.now) }
+    {
+        match self {
+            IpInetPair::V4(pair) => IpInet::V4(pair.first()),
+            IpInetPair::V6(pair) => IpInet::V6(pair.first()),
+        }
+    }
+
+    /// The second address, as a host of this length.
+    pub fn second(&self) -> IpInet
+        ensures value { result ≡ pair_host second_of_pair self.now }
+        ensures pair { IsPair (width_of (pair_family self.now)) (pair_parts self.now) }
+    {
+        match self {
+            IpInetPair::V4(pair) => IpInet::V4(pair.second()),
+            IpInetPair::V6(pair) => IpInet::V6(pair.second()),
+        }
+    }
+
+    /// The network that holds both.
+    pub fn network(&self) -> IpCidr
+        ensures { result ≡ pair_network self.now }
+    {
+        match self {
+            IpInetPair::V4(pair) => IpCidr::V4(pair.network()),
+            IpInetPair::V6(pair) => IpCidr::V6(pair.network()),
+        }
+    }
+
+    /// The length of the network in bits, from 0 to 32 or to 128. The family is not counted.
+    pub fn network_length(&self) -> u8
+        ensures value { result ≡ (pair_parts self.now).len }
+        ensures within { result ≤ width_of (pair_family self.now) }
+    {
+        match self {
+            IpInetPair::V4(pair) => pair.network_length(),
+            IpInetPair::V6(pair) => pair.network_length(),
+        }
+    }
+
+    /// The family.
+    pub fn family(&self) -> Family
+        ensures { result ≡ pair_family self.now }
+    {
+        match self {
+            IpInetPair::V4(_) => Family::Ipv4,
+            IpInetPair::V6(_) => Family::Ipv6,
+        }
+    }
+
+    /// Whether this is a pair of IPv4 addresses.
+    pub fn is_ipv4(&self) -> bool
+        ensures { IsTrue result ↔ (pair_family self.now ≡ Ipv4) }
+    {
+        matches!(self, IpInetPair::V4(_))
+    }
+
+    /// Whether this is a pair of IPv6 addresses.
+    pub fn is_ipv6(&self) -> bool
+        ensures { IsTrue result ↔ (pair_family self.now ≡ Ipv6) }
+    {
+        matches!(self, IpInetPair::V6(_))
+    }
+
+    /// The walk from the first address to the second, both counted, as hosts of this length. It is empty where the
+    /// first is above the second.
+    pub fn iter(self) -> InetIterator<IpAddr>
+        ensures { result ≡ pair_hosts (pair_family self) (pair_parts self) }
+    {
+        InetIterator::_new(self)
+    }
+
+    /// The printed text, `(10.0.0.1/8, 10.0.0.3/8)`, which leaves out a full length: at most 90 bytes.
+    pub fn to_text(&self) -> ArrayString<90>
+        ensures text { result.bytes ≡ ip_pair_text plain_ip_host_text self.now }
+        ensures len { length result.bytes ≤ 90 }
+    {
+        parenthesized(
+            self.first().to_text().as_str(),
+            self.second().to_text().as_str(),
+        )
+    }
+
+    /// The pair as it is printed with the lengths, also where they are full.
+    pub fn with_length(&self) -> WithLength<IpInetPair>
+        ensures { result ≡ self.now }
+    {
+        WithLength::new(*self)
+    }
+}
+
+impl WithLength<IpInetPair> {
+    /// The printed text with the lengths: at most 90 bytes.
+    pub fn to_text(&self) -> ArrayString<90>
+        ensures text { result.bytes ≡ ip_pair_text forced_ip_host_text self.now }
+        ensures len { length result.bytes ≤ 90 }
+    {
+        let first = self.get().first().with_length();
+        let second = self.get().second().with_length();
+        parenthesized(first.to_text().as_str(), second.to_text().as_str())
+    }
+}
+
+impl PrivInetPair for IpInetPair {
+    ghost family_of = { pair_family };
+
+    ghost pair = { pair_parts };
+
+    fn _covered_addresses(&self) -> NumberOfAddresses {
+        match self {
+            IpInetPair::V4(pair) => pair._covered_addresses(),
+            IpInetPair::V6(pair) => pair._covered_addresses(),
+        }
+    }
+
+    fn _inc_first(&mut self) -> bool {
+        match self {
+            IpInetPair::V4(pair) => pair._inc_first(),
+            IpInetPair::V6(pair) => pair._inc_first(),
+        }
+    }
+
+    fn _dec_second(&mut self) -> bool {
+        match self {
+            IpInetPair::V4(pair) => pair._dec_second(),
+            IpInetPair::V6(pair) => pair._dec_second(),
+        }
+    }
+}
+
+impl IntoIterator for IpInetPair {
+    ghost use Rattle.cidr.specs.Walk.{pair_hosts};
+
+    type Item = IpInet;
+
+    type IntoIter = InetIterator<IpAddr>;
+
+    ghost into_iter_gives = { λ p it. it ≡ pair_hosts (pair_family p) (pair_parts p) };
+
+    fn into_iter(self) -> InetIterator<IpAddr> {
+        self.iter()
+    }
+}
+
+impl From<Ipv4InetPair> for IpInetPair {
+    ghost from_gives = { λ p pair. pair ≡ V4 p };
+
+    fn from(pair: Ipv4InetPair) -> IpInetPair {
+        IpInetPair::V4(pair)
+    }
+}
+
+impl From<Ipv6InetPair> for IpInetPair {
+    ghost from_gives = { λ p pair. pair ≡ V6 p };
+
+    fn from(pair: Ipv6InetPair) -> IpInetPair {
+        IpInetPair::V6(pair)
+    }
+}
+
+impl fmt::Display for IpInetPair {
+    ghost output = { λ p. Some (ip_pair_text plain_ip_host_text p) };
+
+    fn fmt<W: fmt::Write>(&self, f: &mut fmt::Formatter<W>) -> fmt::Result {
+        f.write_str(self.to_text().as_str())
+    }
+}
+
+impl fmt::Display for WithLength<IpInetPair> {
+    ghost output = { λ p. Some (ip_pair_text forced_ip_host_text p) };
+
+    fn fmt<W: fmt::Write>(&self, f: &mut fmt::Formatter<W>) -> fmt::Result {
+        f.write_str(self.to_text().as_str())
+    }
+}

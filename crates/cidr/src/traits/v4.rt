@@ -1,0 +1,215 @@
+//! The IPv4 types by the traits.
+ghost use Rattle.cidr.specs.declared.family.Family.TheVariants.{Ipv4};
+
+use crate::addr::v4::Ipv4Addr;
+use crate::cidr::v4::Ipv4Cidr;
+use crate::errors::{InetTupleError, NetworkLengthTooLongError, NetworkParseError};
+use crate::family::Family;
+use crate::inet::v4::Ipv4Inet;
+use crate::inet_iterator::InetIterator;
+use crate::inet_pair::v4::Ipv4InetPair;
+use crate::internal_traits::markers::{Ipv4AddrTools, PrivCidr, PrivInet, PrivUnspecAddress};
+use crate::traits::{Address, Cidr, Inet, InetPair};
+
+impl PrivUnspecAddress for Ipv4Addr {
+    type _Tools = Ipv4AddrTools;
+
+    ghost family_of = { λ _. Ipv4 };
+
+    ghost bits = { λ a. a };
+}
+
+impl Address for Ipv4Addr {
+    type Inet = Ipv4Inet;
+
+    type Cidr = Ipv4Cidr;
+
+    type InetPair = Ipv4InetPair;
+}
+
+impl PrivCidr for Ipv4Cidr {
+    ghost family_of = { λ _. Ipv4 };
+
+    ghost prefix = { λ n. n };
+}
+
+#[tactic(auto, using(crate::proofs::SeenLaws::seen_laws))]
+impl Cidr for Ipv4Cidr {
+    type Address = Ipv4Addr;
+
+    fn new(addr: Ipv4Addr, len: u8) -> Result<Ipv4Cidr, NetworkParseError> {
+        Ipv4Cidr::new(addr, len)
+    }
+
+    fn new_host(addr: Ipv4Addr) -> Ipv4Cidr {
+        Ipv4Cidr::new_host(addr)
+    }
+
+    fn iter(&self) -> InetIterator<Ipv4Addr> {
+        self.iter()
+    }
+
+    fn first_address(&self) -> Ipv4Addr {
+        self.first_address()
+    }
+
+    fn first(&self) -> Ipv4Inet {
+        self.first()
+    }
+
+    fn last_address(&self) -> Ipv4Addr {
+        self.last_address()
+    }
+
+    fn last(&self) -> Ipv4Inet {
+        self.last()
+    }
+
+    fn network_length(&self) -> u8 {
+        self.network_length()
+    }
+
+    fn family(&self) -> Family {
+        self.family()
+    }
+
+    fn is_host_address(&self) -> bool {
+        self.is_host_address()
+    }
+
+    fn mask(&self) -> Ipv4Addr {
+        self.mask()
+    }
+
+    fn contains(&self, addr: &Ipv4Addr) -> bool {
+        self.contains(addr)
+    }
+}
+
+impl PrivInet for Ipv4Inet {
+    ghost family_of = { λ _. Ipv4 };
+
+    ghost host = { λ h. h };
+}
+
+#[tactic(auto, using(crate::proofs::SeenLaws::seen_laws))]
+impl Inet for Ipv4Inet {
+    type Address = Ipv4Addr;
+
+    fn new(addr: Ipv4Addr, len: u8) -> Result<Ipv4Inet, NetworkLengthTooLongError> {
+        Ipv4Inet::new(addr, len)
+    }
+
+    fn new_host(addr: Ipv4Addr) -> Ipv4Inet {
+        Ipv4Inet::new_host(addr)
+    }
+
+    fn increment(&mut self) -> bool {
+        self.increment()
+    }
+
+    fn decrement(&mut self) -> bool {
+        self.decrement()
+    }
+
+    fn next(self) -> Option<Ipv4Inet> {
+        self.next()
+    }
+
+    fn previous(self) -> Option<Ipv4Inet> {
+        self.previous()
+    }
+
+    fn overflowing_add(self, step: u128) -> (Ipv4Inet, bool) {
+        self.overflowing_add(step)
+    }
+
+    fn overflowing_sub(self, step: u128) -> (Ipv4Inet, bool) {
+        self.overflowing_sub(step)
+    }
+
+    fn network(&self) -> Ipv4Cidr {
+        self.network()
+    }
+
+    fn address(&self) -> Ipv4Addr {
+        self.address()
+    }
+
+    fn first_address(&self) -> Ipv4Addr {
+        self.first_address()
+    }
+
+    fn first(&self) -> Ipv4Inet {
+        self.first()
+    }
+
+    fn last_address(&self) -> Ipv4Addr {
+        self.last_address()
+    }
+
+    fn last(&self) -> Ipv4Inet {
+        self.last()
+    }
+
+    fn network_length(&self) -> u8 {
+        self.network_length()
+    }
+
+    fn family(&self) -> Family {
+        self.family()
+    }
+
+    fn is_host_address(&self) -> bool {
+        self.is_host_address()
+    }
+
+    fn mask(&self) -> Ipv4Addr {
+        self.mask()
+    }
+
+    fn contains(&self, addr: &Ipv4Addr) -> bool {
+        self.contains(addr)
+    }
+}
+
+#[tactic(auto, using(crate::proofs::SeenLaws::seen_laws))]
+impl InetPair for Ipv4InetPair {
+    type Address = Ipv4Addr;
+
+    fn new(first: Ipv4Inet, second: Ipv4Inet) -> Result<Ipv4InetPair, InetTupleError> {
+        Ipv4InetPair::new(first, second)
+    }
+
+    fn new_from_addresses(
+        first: Ipv4Addr,
+        second: Ipv4Addr,
+        len: u8,
+    ) -> Result<Ipv4InetPair, InetTupleError> {
+        Ipv4InetPair::new_from_addresses(first, second, len)
+    }
+
+    fn first(&self) -> Ipv4Inet {
+        self.first()
+    }
+
+    fn second(&self) -> Ipv4Inet {
+        self.second()
+    }
+
+    fn network(&self) -> Ipv4Cidr {
+        self.network()
+    }
+
+    fn network_length(&self) -> u8 {
+        self.network_length()
+    }
+
+    fn family(&self) -> Family {
+        self.family()
+    }
+
+    fn iter(self) -> InetIterator<Ipv4Addr> {
+        self.iter()
+    }
+}

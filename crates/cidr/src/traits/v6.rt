@@ -1,0 +1,215 @@
+//! The IPv6 types by the traits.
+ghost use Rattle.cidr.specs.declared.family.Family.TheVariants.{Ipv6};
+
+use crate::addr::v6::Ipv6Addr;
+use crate::cidr::v6::Ipv6Cidr;
+use crate::errors::{InetTupleError, NetworkLengthTooLongError, NetworkParseError};
+use crate::family::Family;
+use crate::inet::v6::Ipv6Inet;
+use crate::inet_iterator::InetIterator;
+use crate::inet_pair::v6::Ipv6InetPair;
+use crate::internal_traits::markers::{Ipv6AddrTools, PrivCidr, PrivInet, PrivUnspecAddress};
+use crate::traits::{Address, Cidr, Inet, InetPair};
+
+impl PrivUnspecAddress for Ipv6Addr {
+    type _Tools = Ipv6AddrTools;
+
+    ghost family_of = { λ _. Ipv6 };
+
+    ghost bits = { λ a. a };
+}
+
+impl Address for Ipv6Addr {
+    type Inet = Ipv6Inet;
+
+    type Cidr = Ipv6Cidr;
+
+    type InetPair = Ipv6InetPair;
+}
+
+impl PrivCidr for Ipv6Cidr {
+    ghost family_of = { λ _. Ipv6 };
+
+    ghost prefix = { λ n. n };
+}
+
+#[tactic(auto, using(crate::proofs::SeenLaws::seen_laws))]
+impl Cidr for Ipv6Cidr {
+    type Address = Ipv6Addr;
+
+    fn new(addr: Ipv6Addr, len: u8) -> Result<Ipv6Cidr, NetworkParseError> {
+        Ipv6Cidr::new(addr, len)
+    }
+
+    fn new_host(addr: Ipv6Addr) -> Ipv6Cidr {
+        Ipv6Cidr::new_host(addr)
+    }
+
+    fn iter(&self) -> InetIterator<Ipv6Addr> {
+        self.iter()
+    }
+
+    fn first_address(&self) -> Ipv6Addr {
+        self.first_address()
+    }
+
+    fn first(&self) -> Ipv6Inet {
+        self.first()
+    }
+
+    fn last_address(&self) -> Ipv6Addr {
+        self.last_address()
+    }
+
+    fn last(&self) -> Ipv6Inet {
+        self.last()
+    }
+
+    fn network_length(&self) -> u8 {
+        self.network_length()
+    }
+
+    fn family(&self) -> Family {
+        self.family()
+    }
+
+    fn is_host_address(&self) -> bool {
+        self.is_host_address()
+    }
+
+    fn mask(&self) -> Ipv6Addr {
+        self.mask()
+    }
+
+    fn contains(&self, addr: &Ipv6Addr) -> bool {
+        self.contains(addr)
+    }
+}
+
+impl PrivInet for Ipv6Inet {
+    ghost family_of = { λ _. Ipv6 };
+
+    ghost host = { λ h. h };
+}
+
+#[tactic(auto, using(crate::proofs::SeenLaws::seen_laws))]
+impl Inet for Ipv6Inet {
+    type Address = Ipv6Addr;
+
+    fn new(addr: Ipv6Addr, len: u8) -> Result<Ipv6Inet, NetworkLengthTooLongError> {
+        Ipv6Inet::new(addr, len)
+    }
+
+    fn new_host(addr: Ipv6Addr) -> Ipv6Inet {
+        Ipv6Inet::new_host(addr)
+    }
+
+    fn increment(&mut self) -> bool {
+        self.increment()
+    }
+
+    fn decrement(&mut self) -> bool {
+        self.decrement()
+    }
+
+    fn next(self) -> Option<Ipv6Inet> {
+        self.next()
+    }
+
+    fn previous(self) -> Option<Ipv6Inet> {
+        self.previous()
+    }
+
+    fn overflowing_add(self, step: u128) -> (Ipv6Inet, bool) {
+        self.overflowing_add(step)
+    }
+
+    fn overflowing_sub(self, step: u128) -> (Ipv6Inet, bool) {
+        self.overflowing_sub(step)
+    }
+
+    fn network(&self) -> Ipv6Cidr {
+        self.network()
+    }
+
+    fn address(&self) -> Ipv6Addr {
+        self.address()
+    }
+
+    fn first_address(&self) -> Ipv6Addr {
+        self.first_address()
+    }
+
+    fn first(&self) -> Ipv6Inet {
+        self.first()
+    }
+
+    fn last_address(&self) -> Ipv6Addr {
+        self.last_address()
+    }
+
+    fn last(&self) -> Ipv6Inet {
+        self.last()
+    }
+
+    fn network_length(&self) -> u8 {
+        self.network_length()
+    }
+
+    fn family(&self) -> Family {
+        self.family()
+    }
+
+    fn is_host_address(&self) -> bool {
+        self.is_host_address()
+    }
+
+    fn mask(&self) -> Ipv6Addr {
+        self.mask()
+    }
+
+    fn contains(&self, addr: &Ipv6Addr) -> bool {
+        self.contains(addr)
+    }
+}
+
+#[tactic(auto, using(crate::proofs::SeenLaws::seen_laws))]
+impl InetPair for Ipv6InetPair {
+    type Address = Ipv6Addr;
+
+    fn new(first: Ipv6Inet, second: Ipv6Inet) -> Result<Ipv6InetPair, InetTupleError> {
+        Ipv6InetPair::new(first, second)
+    }
+
+    fn new_from_addresses(
+        first: Ipv6Addr,
+        second: Ipv6Addr,
+        len: u8,
+    ) -> Result<Ipv6InetPair, InetTupleError> {
+        Ipv6InetPair::new_from_addresses(first, second, len)
+    }
+
+    fn first(&self) -> Ipv6Inet {
+        self.first()
+    }
+
+    fn second(&self) -> Ipv6Inet {
+        self.second()
+    }
+
+    fn network(&self) -> Ipv6Cidr {
+        self.network()
+    }
+
+    fn network_length(&self) -> u8 {
+        self.network_length()
+    }
+
+    fn family(&self) -> Family {
+        self.family()
+    }
+
+    fn iter(self) -> InetIterator<Ipv6Addr> {
+        self.iter()
+    }
+}

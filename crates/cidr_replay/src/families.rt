@@ -1,0 +1,36 @@
+//! Operations on the families.
+
+use crate::answer::Answer;
+use crate::line_error::{LineError, Outcome};
+use crate::tokens::Tokens;
+use cidr::Family;
+
+/// Answers the operation on families that has this name.
+pub fn answer(name: &str, tokens: &mut Tokens<'_>, answer: &mut Answer) -> Outcome {
+    match name {
+        "cmp" => compare(tokens, answer),
+        "show" => show(tokens, answer),
+        _ => Err(LineError::Malformed),
+    }
+}
+
+fn family(tokens: &mut Tokens<'_>) -> Result<Family, LineError> {
+    match tokens.word()? {
+        "Ipv4" => Ok(Family::Ipv4),
+        "Ipv6" => Ok(Family::Ipv6),
+        _ => Err(LineError::Malformed),
+    }
+}
+
+fn compare(tokens: &mut Tokens<'_>, answer: &mut Answer) -> Outcome {
+    let one = family(tokens)?;
+    let other = family(tokens)?;
+    answer.value(&one.cmp(&other))
+}
+
+fn show(tokens: &mut Tokens<'_>, answer: &mut Answer) -> Outcome {
+    let family = family(tokens)?;
+    answer.display(&family.len())?;
+    answer.value(&family.unspecified_address())?;
+    answer.value(&family.loopback_address())
+}

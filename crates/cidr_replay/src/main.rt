@@ -1,0 +1,30 @@
+//! Replays operations on the crate `cidr`: it reads one a line and writes an answer line for each.
+//!
+//! docs/REPLAY.md has the format in short.
+#![tactic(auto)]
+
+mod addresses;
+mod answer;
+mod conversions;
+mod families;
+mod faults;
+mod hosts;
+mod line_error;
+mod networks;
+mod operations;
+mod queries;
+mod refusals;
+mod replay;
+mod tokens;
+mod values;
+
+use replay::{ReplayError, replay};
+use std::io;
+use std::io::{BufReader, BufWriter};
+
+fn main(rt: HostRuntime) -> Result<(), ReplayError> {
+    let alloc = rt.alloc();
+    let mut reader = BufReader::new(alloc, rt.reader()).map_err(ReplayError::Read)?;
+    let mut writer = BufWriter::new(alloc, io::writer(&rt)).map_err(ReplayError::Write)?;
+    replay(alloc, &mut reader, &mut writer)
+}

@@ -1,0 +1,82 @@
+//! From a line to its answer.
+
+use crate::answer::Answer;
+use crate::line_error::{LineError, Outcome};
+use crate::tokens::Tokens;
+use crate::{addresses, conversions, families, faults, hosts, networks};
+use std::alloc::{AllocError, Global};
+use std::str;
+
+/// Replaces what `answer` holds by the answer line to `line`.
+///
+/// A line that is none of the format gets `malformed`, one whose operation has no calls yet `unsupported`.
+pub fn respond(alloc: Global, line: &[u8], answer: &mut Answer) -> Result<(), AllocError> {
+    answer.clear();
+    if let Err(e) = answer_line(alloc, line, answer) {
+        if e == LineError::OutOfMemory {
+            return Err(AllocError);
+        }
+        answer.replace(&e)?;
+    }
+    answer.end()
+}
+
+fn answer_line(alloc: Global, line: &[u8], answer: &mut Answer) -> Outcome {
+    let Ok(line) = str::from_utf8(line) else {
+        return Err(LineError::Malformed);
+    };
+    let mut tokens = Tokens::new(alloc, line);
+    let (section, name) = section_and_name(tokens.word()?);
+    answer_operation(section, name, &mut tokens, answer)?;
+    if tokens.is_empty() {
+        Ok(())
+    } else {
+        Err(LineError::Malformed)
+    }
+}
+
+/// The word cut at its first dot; a word without one has no name.
+fn section_and_name(word: &str) -> (&str, &str) {
+    match word.split_once('.') {
+        Some(parts) => parts,
+        None => (word, ""),
+    }
+}
+
+fn answer_operation(
+    section: &str,
+    name: &str,
+    tokens: &mut Tokens<'_>,
+    answer: &mut Answer,
+) -> Outcome {
+    match section {
+        "addr" => addresses::answer(name, tokens, answer),
+        "family" => families::answer(name, tokens, answer),
+        "cidr" => networks::answer(name, tokens, answer),
+        "inet" => hosts::answer(name, tokens, answer),
+        "fault" => faults::answer(name, tokens, answer),
+        "convert" => conversions::answer(tokens, answer),
+        _ => Err(other_operation(section)),
+    }
+}
+
+/// Whether a section that nothing answers is one of the format.
+fn other_operation(section: &str) -> LineError {
+    match section {
+        "inet"
+        | "pair"
+        | "walk"
+        | "parse"
+        | "bits"
+        | "hostbits"
+        | "compact"
+        | "hostcompact"
+        | "agree"
+        | "prefix"
+        | "table"
+        | "load"
+        | "cover"
+        | "tool" => LineError::Unsupported,
+        _ => LineError::Malformed,
+    }
+}

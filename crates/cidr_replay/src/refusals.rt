@@ -1,0 +1,34 @@
+//! The kinds of the refusals.
+
+use cidr::AddrParseError;
+use cidr::errors::{NetworkLengthTooLongError, NetworkParseError};
+use std::fmt::Display;
+
+/// A refusal: its words are what it displays.
+pub trait Refusal: Display + Drop {
+    /// The name of its kind.
+    fn kind(&self) -> &'static str;
+}
+
+impl Refusal for AddrParseError {
+    fn kind(&self) -> &'static str {
+        "AddrParseError"
+    }
+}
+
+impl Refusal for NetworkParseError {
+    fn kind(&self) -> &'static str {
+        match self {
+            NetworkParseError::InvalidHostPart => "InvalidHostPart",
+            NetworkParseError::AddrParseError(_) => "AddrParseError",
+            NetworkParseError::NetworkLengthParseError(_) => "NetworkLengthParseError",
+            NetworkParseError::NetworkLengthTooLongError(_) => "NetworkLengthTooLongError",
+        }
+    }
+}
+
+impl Refusal for NetworkLengthTooLongError {
+    fn kind(&self) -> &'static str {
+        "NetworkLengthTooLongError"
+    }
+}

@@ -1,0 +1,201 @@
+//! The tokens of a line, and the values that they write.
+ghost use Rattle.std.specs.Prelude.{◌<◌, IfSome};
+
+use crate::line_error::LineError;
+use std::alloc::Global;
+use std::str::FromStr;
+
+/// The type that an operation names.
+#[derive(Clone, Copy, PartialEq, Eq)]
+pub enum Kind {
+    V4,
+    V6,
+    Ip,
+    Any,
+}
+
+/// The tokens that are left of a line; one space stands between two of them.
+#[derive(Drop)]
+pub struct Tokens<'a> {
+    alloc: Global,
+    rest: Option<&'a str>,
+}
+
+impl<'a> Tokens<'a> {
+    /// All tokens of a line.
+    pub fn new(alloc: Global, line: &'a str) -> Tokens<'a> {
+        Tokens {
+            alloc,
+            rest: Some(line),
+        }
+    }
+
+    /// Whether no token is left.
+    pub fn is_empty(&self) -> bool {
+        self.rest.is_none()
+    }
+
+    /// The next token as it stands.
+    pub fn word(&mut self) -> Result<&'a str, LineError> {
+        let Some(rest) = self.rest else {
+            return Err(LineError::Malformed);
+        };
+        match rest.split_once(' ') {
+            Some((word, others)) => {
+                self.rest = Some(others);
+                Ok(word)
+            }
+            None => {
+                self.rest = None;
+                Ok(rest)
+            }
+        }
+    }
+
+    /// A type.
+    pub fn kind(&mut self) -> Result<Kind, LineError> {
+        match self.word()? {
+            "v4" => Ok(Kind::V4),
+            "v6" => Ok(Kind::V6),
+            "ip" => Ok(Kind::Ip),
+            "any" => Ok(Kind::Any),
+            _ => Err(LineError::Malformed),
+        }
+    }
+
+    /// An address, a network or a host, read by its own `FromStr`.
+    pub fn value<V: FromStr>(&mut self) -> Result<V, LineError>
+    where
+        V::Err: Drop,
+    {
+        match self.word()?.parse::<V>() {
+            Ok(value) => Ok(value),
+            Err(_) => Err(LineError::Malformed),
+        }
+    }
+
+    /// A decimal number without a sign or leading zeros.
+    pub fn number<N: FromStr>(&mut self) -> Result<N, LineError>
+    where
+        N::Err: Drop,
+    {
+        let word = self.word()?;
+        if !begins_as_number(word.as_bytes()) {
+            return Err(LineError::Malformed);
+        }
+        match word.parse::<N>() {
+            Ok(number) => Ok(number),
+            Err(_) => Err(LineError::Malformed),
+        }
+    }
+
+    /// Eight groups of an IPv6 address, in decimal.
+    pub fn groups(&mut self) -> Result<[u16; 8], LineError> {
+        let mut groups = [0u16; 8];
+        for group in groups.iter_mut() {
+            *group = self.number()?;
+        }
+        Ok(groups)
+    }
+
+    /// A text behind `=`, in which `%` and two upper-case hexadecimal digits stand for a byte.
+    pub fn text(&mut self) -> Result<String, LineError> {
+        match self.word()?.strip_prefix('=') {
+            Some(escaped) => unescaped(self.alloc, escaped),
+            None => Err(LineError::Malformed),
+        }
+    }
+
+    /// As many octets as the type has.
+    pub fn octets<const N: usize>(&mut self) -> Result<[u8; N], LineError> {
+        match <[u8; N]>::try_from(self.bytes()?.as_slice()) {
+            Ok(octets) => Ok(octets),
+            Err(_) => Err(LineError::Malformed),
+        }
+    }
+
+    /// Bytes behind `x`, two lower-case hexadecimal digits each.
+    pub fn bytes(&mut self) -> Result<Vec<u8>, LineError> {
+        match self.word()?.strip_prefix('x') {
+            Some(digits) => bytes_of(self.alloc, digits.as_bytes()),
+            None => Err(LineError::Malformed),
+        }
+    }
+}
+
+/// Whether the text is `0` or begins with another digit.
+fn begins_as_number(text: &[u8]) -> bool {
+    match text {
+        [b'0'] => true,
+        [b'1'..=b'9', ..] => true,
+        _ => false,
+    }
+}
+
+fn unescaped(alloc: Global, escaped: &str) -> Result<String, LineError> {
+    let mut bytes = Vec::new(alloc);
+    for (i, part) in escaped.split('%').enumerate() {
+        if i == 0 {
+            bytes.extend_from_slice(part.as_bytes())?;
+        } else {
+            push_unescaped(&mut bytes, part.as_bytes())?;
+        }
+    }
+    match String::from_utf8(bytes) {
+        Ok(text) => Ok(text),
+        Err(_) => Err(LineError::Malformed),
+    }
+}
+
+/// Appends what stands behind a `%`: the byte of two digits, and then itself.
+fn push_unescaped(bytes: &mut Vec<u8>, part: &[u8]) -> Result<(), LineError> {
+    match part {
+        [high, low, plain @ ..] => {
+            bytes.push(byte_of(upper_digit(*high), upper_digit(*low))?)?;
+            bytes.extend_from_slice(plain)?;
+            Ok(())
+        }
+        _ => Err(LineError::Malformed),
+    }
+}
+
+fn bytes_of(alloc: Global, digits: &[u8]) -> Result<Vec<u8>, LineError> {
+    let mut bytes = Vec::new(alloc);
+    for pair in digits.chunks(2) {
+        match pair {
+            [high, low] => bytes.push(byte_of(lower_digit(*high), lower_digit(*low))?)?,
+            _ => return Err(LineError::Malformed),
+        }
+    }
+    Ok(bytes)
+}
+
+fn byte_of(high: Option<u8>, low: Option<u8>) -> Result<u8, LineError>
+    requires high { IfSome high (λ d. d < 16) }
+    requires low { IfSome low (λ d. d < 16) }
+{
+    match (high, low) {
+        (Some(high), Some(low)) => Ok(high * 16 + low),
+        _ => Err(LineError::Malformed),
+    }
+}
+
+fn upper_digit(digit: u8) -> Option<u8>
+    ensures { IfSome result (λ d. d < 16) }
+{
+    match digit {
+        b'0'..=b'9' => Some(digit - b'0'),
+        b'A'..=b'F' => Some(digit - b'A' + 10),
+        _ => None,
+    }
+}
+
+fn lower_digit(digit: u8) -> Option<u8>
+    ensures { IfSome result (λ d. d < 16) }
+{
+    match digit {
+        b'0'..=b'9' => Some(digit - b'0'),
+        b'a'..=b'f' => Some(digit - b'a' + 10),
+        _ => None,
+    }
+}

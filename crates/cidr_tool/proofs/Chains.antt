@@ -1,0 +1,100 @@
+use Rattle.std.proofs.Common.{◌≡◌, refl, sym, ◌∙◌, ap, subst, ℕ, ◌+◌, ◌<◌, ◌≤◌, List, [], ◌∷◌, ◌++◌, length, take, drop, true, false, Bool, IsTrue, ◌↔◌, ◌⊎◌, inl, inr, if◌then◌else◌, append_assoc, get_or, Bor, Option, Some, None, Result, Ok, Err}
+use Rattle.std.proofs.lemmas.List.{append-nil, take-append-drop, drop_more, take_all}
+use Rattle.std.proofs.lemmas.Grind.{flat_map-append}
+use Rattle.std.specs.List.{flat_map}
+use Rattle.std.specs.Io.KnownBytes.{Keeps, Appends}
+use Rattle.cidr_tool.specs.declared.errors.ToolError.{ToolError}
+use Rattle.cidr_tool.specs.Writing.{State, Takes, Whole, Part, Writes, Answered}
+
+-- known bytes grow by one list and then by another
+pub appends_twice : (a b c : Option (List ℕ)) (xs ys : List ℕ) → Appends a b xs → Appends b c ys → Appends a c (xs ++ ys)
+appends_twice None b c xs ys p q = tt
+appends_twice (Some ks) None c xs ys p q = absurd p
+appends_twice (Some ks) (Some bs) None xs ys p q = absurd q
+appends_twice (Some ks) (Some bs) (Some cs) xs ys p q = q ∙ (ap (λ k. k ++ ys) p ∙ append_assoc ks xs ys)
+
+pub appends_none : (a b : Option (List ℕ)) → Keeps a b → Appends a b []
+appends_none None b p = tt
+appends_none (Some ks) None p = absurd p
+appends_none (Some ks) (Some bs) p = p ∙ sym (append-nil ks)
+
+pub appends_same : (a : Option (List ℕ)) → Appends a a []
+appends_same None = tt
+appends_same (Some ks) = sym (append-nil ks)
+
+-- nothing yet
+pub whole_none : (a : State) → Whole a a []
+whole_none a = record { taken = appends_same a.taken; fine = refl }
+
+pub whole_whole : (a b c : State) (xs ys : List ℕ) → Whole a b xs → Whole b c ys → Whole a c (xs ++ ys)
+whole_whole a b c xs ys p q = record { taken = appends_twice a.taken b.taken c.taken xs ys p.taken q.taken; fine = q.fine ∙ p.fine }
+
+pub whole_part : (a b c : State) (xs ys : List ℕ) → Whole a b xs → Part b c ys → Part a c (xs ++ ys)
+whole_part a b c xs ys p q = record {
+  front = xs ++ q.front;
+  rest = q.rest;
+  beginning = ap (λ k. xs ++ k) q.beginning ∙ sym (append_assoc xs q.front q.rest);
+  taken = appends_twice a.taken b.taken c.taken xs q.front p.taken q.taken;
+  failed = q.failed;
+}
+
+pub part_more : (a b : State) (xs ys : List ℕ) → Part a b xs → Part a b (xs ++ ys)
+part_more a b xs ys p = record {
+  front = p.front;
+  rest = p.rest ++ ys;
+  beginning = ap (λ k. k ++ ys) p.beginning ∙ append_assoc p.front p.rest ys;
+  taken = p.taken;
+  failed = p.failed;
+}
+
+-- a text that was written, and then the next
+pub then_writes : (a b c : State) (xs ys : List ℕ) (r : Result (Unit {0}) ToolError) → Whole a b xs → Writes b c ys r → Writes a c (xs ++ ys) r
+then_writes a b c xs ys (Ok u) p q = whole_whole a b c xs ys p q
+then_writes a b c xs ys (Err e) p q = (q.0, whole_part a b c xs ys p q.1)
+
+-- an offer of what is left
+pub offered : (a b c : State) (text front rest : List ℕ) (n : ℕ) → text ≡ front ++ rest → Whole a b front → Takes b c rest (Some n) → (text ≡ (front ++ take n rest) ++ drop n rest) × Whole a c (front ++ take n rest)
+offered a b c text front rest n e p t = (
+  e ∙ (ap (λ k. front ++ k) (sym (take-append-drop n rest)) ∙ sym (append_assoc front (take n rest) (drop n rest))),
+  whole_whole a b c front (take n rest) p (record { taken = t.0; fine = t.1 }),
+)
+
+pub refused : (a b c : State) (text front rest : List ℕ) → text ≡ front ++ rest → Whole a b front → Takes b c rest None → Part a c text
+refused a b c text front rest e p t = record {
+  front = front;
+  rest = rest;
+  beginning = e;
+  taken = subst (λ (k : List ℕ). Appends a.taken c.taken k) (append-nil front) (appends_twice a.taken b.taken c.taken front [] p.taken (appends_none b.taken c.taken t.0));
+  failed = t.1;
+}
+
+-- all the parts, by the one at a place
+parts_at : (ps : List (Bor (List ℕ))) (i : ℕ) (d : Bor (List ℕ)) → i < length ps → flat_map (λ (p : Bor (List ℕ)). p.now) ps ≡ flat_map (λ (p : Bor (List ℕ)). p.now) (take i ps) ++ ((get_or ps i d).now ++ flat_map (λ (p : Bor (List ℕ)). p.now) (drop (i + 1) ps))
+parts_at ps i d h =
+    let e : take i ps ++ (get_or ps i d ∷ drop (i + 1) ps) ≡ ps = ap (λ k. take i ps ++ k) (sym (drop_more ps i d h)) ∙ take-append-drop i ps in
+    sym (ap (flat_map (λ (p : Bor (List ℕ)). p.now)) e) ∙ flat_map-append (λ (p : Bor (List ℕ)). p.now) (take i ps) (get_or ps i d ∷ drop (i + 1) ps)
+
+-- a part was refused
+pub part_refused : (a b c : State) (ps : List (Bor (List ℕ))) (i : ℕ) (d : Bor (List ℕ)) (part : List ℕ) → i < length ps → part ≡ (get_or ps i d).now → Whole a b (flat_map (λ (p : Bor (List ℕ)). p.now) (take i ps)) → Part b c part → Part a c (flat_map (λ (p : Bor (List ℕ)). p.now) ps)
+part_refused a b c ps i d part h e w q =
+    rw (parts_at ps i d h, ← e) (whole_part a b c (flat_map (λ (p : Bor (List ℕ)). p.now) (take i ps)) (part ++ flat_map (λ (p : Bor (List ℕ)). p.now) (drop (i + 1) ps)) w (part_more b c part (flat_map (λ (p : Bor (List ℕ)). p.now) (drop (i + 1) ps)) q))
+
+-- all parts were taken
+pub all_written : (a b c : State) (ps : List (Bor (List ℕ))) (i : ℕ) (r : Result (Unit {0}) ToolError) → length ps ≤ i → Whole a b (flat_map (λ (p : Bor (List ℕ)). p.now) (take i ps)) → Writes b c [] r → Writes a c (flat_map (λ (p : Bor (List ℕ)). p.now) ps) r
+all_written a b c ps i r h w q =
+    let t = rw (take_all i ps h) at w in
+    subst (λ (k : List ℕ). Writes a c k r) (append-nil (flat_map (λ (p : Bor (List ℕ)). p.now) ps)) (then_writes a b c (flat_map (λ (p : Bor (List ℕ)). p.now) ps) [] r t q)
+
+-- nothing was taken by a sink that had failed before
+pub part_none : (a : State) (text : List ℕ) → a.failed ≡ true → Part a a text
+part_none a text h = record { front = []; rest = text; beginning = refl; taken = appends_same a.taken; failed = h }
+
+-- what was written to a sink that had not failed
+pub answered : (a b : State) (text : List ℕ) (r : Result (Unit {0}) ToolError) → a.failed ≡ false → Writes a b text r → Answered a b text r
+answered a b text (Ok u) fine h = (h, h.fine ∙ fine)
+answered a b text (Err e) fine h = (h.0, h.1, λ failed. let bad : false ≡ true = sym fine ∙ failed in cc)
+
+-- the answer to a question
+pub yes_or_no : (b : Bool) (P : Type 0) (agree deny text : List ℕ) → (IsTrue b ↔ P) → text ≡ (if b then agree else deny) → (P × (text ≡ agree)) ⊎ (¬ P × (text ≡ deny))
+yes_or_no true P agree deny text h e = inl (h.0 refl, e)
+yes_or_no false P agree deny text h e = inr ((λ p. let bad : false ≡ true = h.1 p in cc), e)

@@ -1,0 +1,107 @@
+-- What the program answers to its words.
+use Rattle.std.specs.Prelude.{◌≡◌, ℕ, Bool, List, [], ◌∷◌, ◌++◌, length, codes, decimal, Result, Err, ◌⊎◌}
+use Rattle.std.specs.Option.{option_map_or}
+use Rattle.std.specs.declared.cmp.Ordering.{Ordering}
+use Rattle.std.specs.declared.cmp.Ordering.TheVariants.{Less, Equal, Greater}
+use Rattle.cidr.specs.Bits.{bit_cmp}
+use Rattle.cidr.specs.Combined.{network_family, network_prefix, address_by, specific, any_bits}
+use Rattle.cidr.specs.CombinedText.{IsAnyNetworkText, IsIpRefused, any_network_text}
+use Rattle.cidr.specs.IpAddress.{IsIpText, ip_address_bits}
+use Rattle.cidr.specs.Network.{first_of, last_of, mask_of, BeginsWith}
+use Rattle.cidr.specs.Printed.{plain_text}
+use Rattle.cidr.specs.Printed6.{ip_text}
+use Rattle.cidr.specs.Words.{ip_fault}
+use Rattle.cidr.specs.declared.family.Family.{Family}
+use Rattle.cidr.specs.declared.family.Family.TheVariants.{Ipv4, Ipv6}
+use Rattle.cidr.specs.declared.addr.ip.IpAddr.{IpAddr}
+use Rattle.cidr.specs.declared.cidr.combined.IpCidr.{IpCidr}
+use Rattle.cidr.specs.declared.cidr.any.AnyIpCidr.{AnyIpCidr}
+use Rattle.cidr.specs.declared.errors.NetworkParseError.{NetworkParseError}
+use Rattle.cidr_tool.specs.Writing.{State, Answered}
+use Rattle.cidr_tool.specs.declared.errors.Fault.{Fault}
+use Rattle.cidr_tool.specs.declared.errors.Fault.TheVariants.{Network, Address}
+use Rattle.cidr_tool.specs.declared.errors.ToolError.{ToolError}
+use Rattle.cidr_tool.specs.declared.errors.ToolError.TheVariants.{Refused, Usage}
+
+-- a command and its arguments
+pub data Request : Type 0 where
+  Show : List ℕ → Request
+  Holds : List ℕ → List ℕ → Request
+  Compare : List ℕ → List ℕ → Request
+
+-- the words are this request
+abbrev pub IsRequest : List (List ℕ) → Request → Type 0
+IsRequest words (Show net) = words ≡ codes "show" ∷ net ∷ []
+IsRequest words (Holds net address) = words ≡ codes "in" ∷ net ∷ address ∷ []
+IsRequest words (Compare left right) = words ≡ codes "cmp" ∷ left ∷ right ∷ []
+
+-- the words are no request
+abbrev pub IsUsage : List (List ℕ) → Type 0
+IsUsage words = (request : Request) → ¬ (IsRequest words request)
+
+-- a line: its name, a space and its value
+abbrev pub line : List ℕ → List ℕ → List ℕ
+line name value = name ++ value ++ codes "\n"
+
+-- the lines of `show`, from the texts of their values
+unfoldable pub show_lines : List ℕ → List ℕ → List ℕ → List ℕ → List ℕ → List ℕ → List ℕ
+show_lines network first last mask len family =
+    line (codes "network ") network ++ line (codes "first ") first ++ line (codes "last ") last
+    ++ line (codes "mask ") mask ++ line (codes "length ") len ++ line (codes "family ") family
+
+abbrev pub family_name : Family → List ℕ
+family_name Ipv4 = codes "Ipv4"
+family_name Ipv6 = codes "Ipv6"
+
+-- what `show` says of a network of either family
+abbrev pub ip_show_text : List ℕ → IpCidr → List ℕ
+ip_show_text text n =
+    show_lines text (ip_text (address_by first_of n)) (ip_text (address_by last_of n)) (ip_text (address_by mask_of n))
+    (decimal (length (network_prefix n))) (family_name (network_family n))
+
+-- what `show` says of a network
+abbrev pub show_text : AnyIpCidr → List ℕ
+show_text network =
+    let text = any_network_text plain_text network in
+    option_map_or (ip_show_text text) (specific network) (line (codes "network ") text)
+
+-- what `cmp` says of an order
+abbrev pub order_text : Ordering → List ℕ
+order_text Less = codes "less\n"
+order_text Equal = codes "equal\n"
+order_text Greater = codes "greater\n"
+
+-- the text that a request is answered with
+abbrev pub IsAnswer : Request → List ℕ → Type 0
+IsAnswer (Show net) text = (network : AnyIpCidr) × IsAnyNetworkText net network × (text ≡ show_text network)
+IsAnswer (Holds net word) text =
+    (network : AnyIpCidr) × (a : IpAddr) × IsAnyNetworkText net network × IsIpText word a
+    × ((BeginsWith (ip_address_bits a) (any_bits network) × (text ≡ codes "yes\n")) ⊎ (¬ (BeginsWith (ip_address_bits a) (any_bits network)) × (text ≡ codes "no\n")))
+IsAnswer (Compare left right) text =
+    (l r : AnyIpCidr) × IsAnyNetworkText left l × IsAnyNetworkText right r × (text ≡ order_text (bit_cmp (any_bits l) (any_bits r)))
+
+-- no network is spelled, and this is the first fault
+abbrev pub IsNetRefused : List ℕ → NetworkParseError → Type 0
+IsNetRefused net e = IsIpRefused net e × ((n : AnyIpCidr) → ¬ (IsAnyNetworkText net n))
+
+-- the fault that a request is refused with: that of the first faulty word
+abbrev pub IsRefusal : Request → Fault → Type 0
+IsRefusal (Show net) (Network e) = IsNetRefused net e
+IsRefusal (Show net) (Address e) = ⊥
+IsRefusal (Holds net word) (Network e) = IsNetRefused net e
+IsRefusal (Holds net word) (Address e) = ((n : AnyIpCidr) × IsAnyNetworkText net n) × (e ≡ ip_fault) × ((a : IpAddr) → ¬ (IsIpText word a))
+IsRefusal (Compare left right) (Network e) = IsNetRefused left e ⊎ (((n : AnyIpCidr) × IsAnyNetworkText left n) × IsNetRefused right e)
+IsRefusal (Compare left right) (Address e) = ⊥
+
+-- What becomes of a request and of the sink. A refusal writes nothing. A request that has an answer is written
+-- whole, or the sink has failed and a beginning of the answer was written, none if it had failed before.
+abbrev pub AnswersRequest : Request → State → State → Result (Unit {0}) ToolError → Type 0
+AnswersRequest request old new r =
+    ((fault : Fault) × (r ≡ Err (Refused fault)) × IsRefusal request fault × (new ≡ old))
+    ⊎ ((text : List ℕ) × IsAnswer request text × Answered old new text r)
+
+-- What `run` answers: wrong words are usage, and write nothing.
+abbrev pub Answers : List (List ℕ) → State → State → Result (Unit {0}) ToolError → Type 0
+Answers words old new r =
+    (IsUsage words × (r ≡ Err Usage) × (new ≡ old))
+    ⊎ ((request : Request) × IsRequest words request × AnswersRequest request old new r)

@@ -1,0 +1,9 @@
+-- The request that a command of the program is.
+use Rattle.cidr_tool.specs.Answer.{Request, Show, Holds, Compare}
+use Rattle.cidr_tool.specs.declared.commands.Command.{Command}
+use Rattle.cidr_tool.specs.declared.commands.Command.TheVariants as command
+
+abbrev pub request_of : Command → Request
+request_of (command.Show net) = Show net.now
+request_of (command.Holds net address) = Holds net.now address.now
+request_of (command.Compare left right) = Compare left.now right.now

@@ -1,0 +1,6 @@
+pub mod Writing
+pub mod Tracked
+pub mod Answer
+pub mod Command
+pub mod Report
+pub mod Lines

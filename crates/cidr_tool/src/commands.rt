@@ -1,0 +1,49 @@
+//! The words of the program as commands.
+ghost use Rattle.std.specs.Prelude.{◌∷◌, [], map, MatchOption};
+ghost use Rattle.cidr_tool.specs.Answer.{IsRequest, IsUsage};
+ghost use Rattle.cidr_tool.specs.Command.{request_of};
+
+/// A command and its arguments.
+#[derive(Clone, Copy)]
+pub enum Command<'a> {
+    /// What there is to say of a network.
+    Show(&'a str),
+    /// Whether a network holds an address.
+    Holds(&'a str, &'a str),
+    /// How two networks are ordered.
+    Compare(&'a str, &'a str),
+}
+
+/// The command of this name with one argument.
+fn with_one<'a>(name: &str, argument: &'a str) -> Option<Command<'a>>
+    ensures { MatchOption result (IsUsage (name.now ∷ argument.now ∷ [])) (λ c. IsRequest (name.now ∷ argument.now ∷ []) (request_of c)) }
+{
+    if name == "show" {
+        return Some(Command::Show(argument));
+    }
+    None
+}
+
+/// The command of this name with two arguments.
+fn with_two<'a>(name: &str, first: &'a str, second: &'a str) -> Option<Command<'a>>
+    ensures { MatchOption result (IsUsage (name.now ∷ first.now ∷ second.now ∷ [])) (λ c. IsRequest (name.now ∷ first.now ∷ second.now ∷ []) (request_of c)) }
+{
+    if name == "in" {
+        return Some(Command::Holds(first, second));
+    }
+    if name == "cmp" {
+        return Some(Command::Compare(first, second));
+    }
+    None
+}
+
+/// The command that the words are.
+pub fn command_of<'a>(words: &[&'a str]) -> Option<Command<'a>>
+    ensures { MatchOption result (IsUsage (map (λ w. w.now) words.now)) (λ c. IsRequest (map (λ w. w.now) words.now) (request_of c)) }
+{
+    match words {
+        [name, argument] => with_one(name, argument),
+        [name, first, second] => with_two(name, first, second),
+        _ => None,
+    }
+}

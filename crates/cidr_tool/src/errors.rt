@@ -1,0 +1,61 @@
+//! Why a run of the program did not give an answer.
+ghost use Rattle.std.specs.Prelude.{◌≡◌, Some};
+
+use cidr::AddrParseError;
+use cidr::errors::NetworkParseError;
+use std::fmt;
+
+/// The fault of a word that was refused. It prints the words of what it holds.
+#[derive(Debug, Drop, PartialEq)]
+pub enum Fault {
+    /// A word is no network.
+    Network(NetworkParseError),
+    /// A word is no address.
+    Address(AddrParseError),
+}
+
+impl fmt::Display for Fault {
+    ghost use Rattle.cidr_tool.specs.Report.{fault_words};
+
+    ghost output = { λ f. Some (fault_words f) };
+
+    fn fmt<W: fmt::Write>(&self, f: &mut fmt::Formatter<W>) -> fmt::Result {
+        match self {
+            Fault::Network(e) => write!(f, "{e}"),
+            Fault::Address(e) => write!(f, "{e}"),
+        }
+    }
+}
+
+/// Why `run` gave no answer.
+#[derive(Debug, Drop, PartialEq)]
+pub enum ToolError {
+    /// A word was refused; nothing was written.
+    Refused(Fault),
+    /// The words are no command of the program; nothing was written.
+    Usage,
+    /// The output has failed; a beginning of the answer was written.
+    Output,
+}
+
+impl From<NetworkParseError> for ToolError {
+    ghost use Rattle.cidr_tool.specs.declared.errors.Fault.TheVariants.{Network};
+    ghost use Rattle.cidr_tool.specs.declared.errors.ToolError.TheVariants.{Refused};
+
+    ghost from_gives = { λ e t. t ≡ Refused (Network e) };
+
+    fn from(e: NetworkParseError) -> ToolError {
+        ToolError::Refused(Fault::Network(e))
+    }
+}
+
+impl From<AddrParseError> for ToolError {
+    ghost use Rattle.cidr_tool.specs.declared.errors.Fault.TheVariants.{Address};
+    ghost use Rattle.cidr_tool.specs.declared.errors.ToolError.TheVariants.{Refused};
+
+    ghost from_gives = { λ e t. t ≡ Refused (Address e) };
+
+    fn from(e: AddrParseError) -> ToolError {
+        ToolError::Refused(Fault::Address(e))
+    }
+}
