@@ -206,17 +206,72 @@ fn orders(rt: HostRuntime) -> Result<(), Fail> {
     Ok(())
 }
 
-/// The operators, where the step stays in the network.
+/// `+` and `-`, where the step stays in the network.
+fn added(host: Ipv4Inet, step: u128) -> Option<Ipv4Inet> {
+    if host.overflowing_add(step).1 {
+        return None;
+    }
+    Some(host + step)
+}
+
+fn subtracted(host: Ipv4Inet, step: u128) -> Option<Ipv4Inet> {
+    if host.overflowing_sub(step).1 {
+        return None;
+    }
+    Some(host - step)
+}
+
+fn added_u32(host: Ipv4Inet, step: u32) -> Option<Ipv4Inet> {
+    if host.overflowing_add_u32(step).1 {
+        return None;
+    }
+    Some(host + step)
+}
+
+fn subtracted_u32(host: Ipv4Inet, step: u32) -> Option<Ipv4Inet> {
+    if host.overflowing_sub_u32(step).1 {
+        return None;
+    }
+    Some(host - step)
+}
+
+fn added_ipv6(host: Ipv6Inet, step: u128) -> Option<Ipv6Inet> {
+    if host.overflowing_add(step).1 {
+        return None;
+    }
+    Some(host + step)
+}
+
+fn subtracted_ipv6(host: Ipv6Inet, step: u128) -> Option<Ipv6Inet> {
+    if host.overflowing_sub(step).1 {
+        return None;
+    }
+    Some(host - step)
+}
+
 #[test]
 fn operators(rt: HostRuntime) -> Result<(), Fail> {
-    let low = Ipv4Inet::new_host(Ipv4Addr::new(192, 0, 2, 5));
-    assert_eq!(rt; low + 0u32, low);
-    assert_eq!(rt; low - 0u32, low);
-    assert_eq!(rt; low + 0u128, low);
-    assert_eq!(rt; low - 0u128, low);
-    let alone = Ipv6Inet::new_host("::1".parse::<Ipv6Addr>()?);
-    assert_eq!(rt; alone + 0, alone);
-    assert_eq!(rt; alone - 0, alone);
+    let low = four("192.0.2.5/24")?;
+    let last = four("192.0.2.255/24")?;
+    assert_eq!(rt; added(low, 250), Some(last));
+    assert_eq!(rt; added(low, 251), None);
+    assert_eq!(rt; added_u32(low, 250), Some(last));
+    assert_eq!(rt; added_u32(low, u32::MAX), None);
+    assert_eq!(rt; subtracted(last, 250), Some(low));
+    assert_eq!(rt; subtracted(last, 256), None);
+    assert_eq!(rt; subtracted_u32(last, 250), Some(low));
+    assert_eq!(rt; subtracted_u32(low, 6), None);
+    Ok(())
+}
+
+#[test]
+fn operators_of_ipv6(rt: HostRuntime) -> Result<(), Fail> {
+    let low = six("2001:db8::1/32")?;
+    let high = six("2001:db8:0:1::1/32")?;
+    assert_eq!(rt; added_ipv6(low, 1 << 64), Some(high));
+    assert_eq!(rt; added_ipv6(low, u128::MAX), None);
+    assert_eq!(rt; subtracted_ipv6(high, 1 << 64), Some(low));
+    assert_eq!(rt; subtracted_ipv6(low, 2), None);
     Ok(())
 }
 
