@@ -5,7 +5,7 @@ use Rattle.std.specs.declared.cmp.Ordering.{Ordering}
 use Rattle.std.specs.declared.cmp.Ordering.TheVariants.{Less, Equal, Greater}
 use Rattle.cidr.specs.Bits.{bit_cmp}
 use Rattle.cidr.specs.Combined.{network_family, network_prefix, address_by, specific, any_bits}
-use Rattle.cidr.specs.CombinedText.{IsAnyNetworkText, IsIpRefused, any_network_text}
+use Rattle.cidr.specs.CombinedText.{IsIpNetworkText, IsAnyNetworkText, IsIpRefused, any_network_text}
 use Rattle.cidr.specs.IpAddress.{IsIpText, ip_address_bits}
 use Rattle.cidr.specs.Network.{first_of, last_of, mask_of, BeginsWith}
 use Rattle.cidr.specs.Printed.{plain_text}
@@ -17,6 +17,8 @@ use Rattle.cidr.specs.declared.addr.ip.IpAddr.{IpAddr}
 use Rattle.cidr.specs.declared.cidr.combined.IpCidr.{IpCidr}
 use Rattle.cidr.specs.declared.cidr.any.AnyIpCidr.{AnyIpCidr}
 use Rattle.cidr.specs.declared.errors.NetworkParseError.{NetworkParseError}
+use Rattle.cidr.specs.declared.inet_iterator.driving.End.{End}
+use Rattle.cidr_tool.specs.Walking.{NamesEnds, walk_text}
 use Rattle.cidr_tool.specs.Writing.{State, Answered}
 use Rattle.cidr_tool.specs.declared.errors.Fault.{Fault}
 use Rattle.cidr_tool.specs.declared.errors.Fault.TheVariants.{Network, Address}
@@ -28,12 +30,14 @@ pub data Request : Type 0 where
   Show : List ℕ → Request
   Holds : List ℕ → List ℕ → Request
   Compare : List ℕ → List ℕ → Request
+  Walk : List ℕ → List End → Request
 
 -- the words are this request
 abbrev pub IsRequest : List (List ℕ) → Request → Type 0
 IsRequest words (Show net) = words ≡ codes "show" ∷ net ∷ []
 IsRequest words (Holds net address) = words ≡ codes "in" ∷ net ∷ address ∷ []
 IsRequest words (Compare left right) = words ≡ codes "cmp" ∷ left ∷ right ∷ []
+IsRequest words (Walk net ends) = (word : List ℕ) × (words ≡ codes "walk" ∷ net ∷ word ∷ []) × NamesEnds word ends
 
 -- the words are no request
 abbrev pub IsUsage : List (List ℕ) → Type 0
@@ -79,6 +83,7 @@ IsAnswer (Holds net word) text =
     × ((BeginsWith (ip_address_bits a) (any_bits network) × (text ≡ codes "yes\n")) ⊎ (¬ (BeginsWith (ip_address_bits a) (any_bits network)) × (text ≡ codes "no\n")))
 IsAnswer (Compare left right) text =
     (l r : AnyIpCidr) × IsAnyNetworkText left l × IsAnyNetworkText right r × (text ≡ order_text (bit_cmp (any_bits l) (any_bits r)))
+IsAnswer (Walk net ends) text = (network : IpCidr) × IsIpNetworkText net network × (text ≡ walk_text network ends)
 
 -- no network is spelled, and this is the first fault
 abbrev pub IsNetRefused : List ℕ → NetworkParseError → Type 0
@@ -92,6 +97,8 @@ IsRefusal (Holds net word) (Network e) = IsNetRefused net e
 IsRefusal (Holds net word) (Address e) = ((n : AnyIpCidr) × IsAnyNetworkText net n) × (e ≡ ip_fault) × ((a : IpAddr) → ¬ (IsIpText word a))
 IsRefusal (Compare left right) (Network e) = IsNetRefused left e ⊎ (((n : AnyIpCidr) × IsAnyNetworkText left n) × IsNetRefused right e)
 IsRefusal (Compare left right) (Address e) = ⊥
+IsRefusal (Walk net ends) (Network e) = IsIpRefused net e × ((n : IpCidr) → ¬ (IsIpNetworkText net n))
+IsRefusal (Walk net ends) (Address e) = ⊥
 
 -- What becomes of a request and of the sink. A refusal writes nothing. A request that has an answer is written
 -- whole, or the sink has failed and a beginning of the answer was written, none if it had failed before.

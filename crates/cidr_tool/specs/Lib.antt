@@ -4,3 +4,4 @@ pub mod Answer
 pub mod Command
 pub mod Report
 pub mod Lines
+pub mod Walking

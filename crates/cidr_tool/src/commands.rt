@@ -3,8 +3,10 @@ ghost use Rattle.std.specs.Prelude.{◌∷◌, [], map, MatchOption};
 ghost use Rattle.cidr_tool.specs.Answer.{IsRequest, IsUsage};
 ghost use Rattle.cidr_tool.specs.Command.{request_of};
 
+use crate::walks::Ends;
+
 /// A command and its arguments.
-#[derive(Clone, Copy)]
+#[derive(Drop)]
 pub enum Command<'a> {
     /// What there is to say of a network.
     Show(&'a str),
@@ -12,6 +14,8 @@ pub enum Command<'a> {
     Holds(&'a str, &'a str),
     /// How two networks are ordered.
     Compare(&'a str, &'a str),
+    /// What calls at ends of the walk over a network's addresses give.
+    Walk(&'a str, Ends),
 }
 
 /// The command of this name with one argument.
@@ -33,6 +37,9 @@ fn with_two<'a>(name: &str, first: &'a str, second: &'a str) -> Option<Command<'
     }
     if name == "cmp" {
         return Some(Command::Compare(first, second));
+    }
+    if name == "walk" {
+        return Some(Command::Walk(first, Ends::named_by(second)?));
     }
     None
 }

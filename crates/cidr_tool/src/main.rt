@@ -8,6 +8,7 @@ mod run;
 mod sink;
 #[cfg(test)]
 mod tests;
+mod walks;
 mod writing;
 
 use errors::ToolError;

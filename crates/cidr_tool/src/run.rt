@@ -2,13 +2,14 @@
 ghost use Rattle.std.specs.Prelude.{◌≡◌, map, decimal, codes, if◌then◌else◌};
 ghost use Rattle.cidr.specs.Bits.{bit_cmp};
 ghost use Rattle.cidr.specs.Combined.{any_bits};
-ghost use Rattle.cidr_tool.specs.Answer.{Answers, AnswersRequest, Show, Holds, Compare, show_text, ip_show_text, order_text, family_name as family_name_of};
+ghost use Rattle.cidr_tool.specs.Answer.{Answers, AnswersRequest, Show, Holds, Compare, Walk, show_text, ip_show_text, order_text, family_name as family_name_of};
 ghost use Rattle.cidr_tool.specs.Lines.{lines_text};
 ghost use Rattle.cidr_tool.specs.Writing.{Answered};
 
 use crate::commands::{Command, command_of};
 use crate::errors::ToolError;
 use crate::sink::Sink;
+use crate::walks::{Ends, write_walk};
 use crate::writing::write_parts;
 use arrayvec::ArrayString;
 use cidr::{AnyIpCidr, Family, IpAddr, IpCidr};
@@ -159,16 +160,27 @@ fn order_name(order: Ordering) -> &'static str
     }
 }
 
+/// The command `walk`.
+fn walk<S: Sink>(net: &str, ends: &Ends, out: &mut S) -> Result<(), ToolError>
+    ensures { AnswersRequest (Walk net.now ends.now) (S.state out.old) (S.state out.new) result }
+{
+    let network = net.parse::<IpCidr>()?;
+    write_walk(&network, ends.as_slice(), out)
+}
+
 /// Answers the words, which are the program's arguments without its name.
 ///
 /// Wrong words are found first, then the first word that is refused, and only then is anything written.
 pub fn run<S: Sink>(words: &[&str], out: &mut S) -> Result<(), ToolError>
     ensures { Answers (map (λ w. w.now) words.now) (S.state out.old) (S.state out.new) result }
 {
-    match command_of(words) {
-        None => Err(ToolError::Usage),
-        Some(Command::Show(net)) => show(net, out),
-        Some(Command::Holds(net, address)) => holds(net, address, out),
-        Some(Command::Compare(left, right)) => compare(left, right, out),
+    let Some(command) = command_of(words) else {
+        return Err(ToolError::Usage);
+    };
+    match &command {
+        Command::Show(net) => show(net, out),
+        Command::Holds(net, address) => holds(net, address, out),
+        Command::Compare(left, right) => compare(left, right, out),
+        Command::Walk(net, ends) => walk(net, ends, out),
     }
 }

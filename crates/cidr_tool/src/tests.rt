@@ -83,7 +83,7 @@ fn plain(alloc: Global) -> Tracked<Memory> {
 /// Each list of words with its text on standard output, the text on standard error, and the status.
 #[test]
 fn answers(rt: HostRuntime) -> Result<(), Fail> {
-    let rows: [(&[&str], &str, &str, u8); 29] = [
+    let rows: [(&[&str], &str, &str, u8); 37] = [
         (&["show", "192.0.2.48/28"], SHOWN, "", 0),
         (
             &["show", "10.0.0.1"],
@@ -157,6 +157,24 @@ fn answers(rt: HostRuntime) -> Result<(), Fail> {
             "host part of address was not zero\n",
             1,
         ),
+        (
+            &["walk", "1.2.3.0/30", "fbbff"],
+            "1.2.3.0\n1.2.3.3\n1.2.3.2\n1.2.3.1\nnone\n",
+            "",
+            0,
+        ),
+        (&["walk", "::/127", "fff"], "::\n::1\nnone\n", "", 0),
+        (&["walk", "10.0.0.0/8", ""], "", "", 0),
+        (&["walk", "any", "f"], "", NO_ADDRESS, 1),
+        (
+            &["walk", "10.0.0.1/8", "f"],
+            "",
+            "host part of address was not zero\n",
+            1,
+        ),
+        (&["walk", "::/0", "x"], "", USAGE, 2),
+        (&["walk", "x", "fF"], "", USAGE, 2),
+        (&["walk", "10.0.0.0/8"], "", USAGE, 2),
         (&["show"], "", USAGE, 2),
         (&["show", "10.0.0.0/8", "x"], "", USAGE, 2),
         (&["in", "x"], "", USAGE, 2),
@@ -172,6 +190,31 @@ fn answers(rt: HostRuntime) -> Result<(), Fail> {
         assert_eq!(rt; out.into_inner().bytes.as_slice(), written.as_bytes());
         assert_eq!(rt; err.into_inner().bytes.as_slice(), said.as_bytes());
     }
+    Ok(())
+}
+
+/// As many letters as a walk takes, and one more.
+#[test]
+fn many_ends(rt: HostRuntime) -> Result<(), Fail> {
+    let mut letters = String::new(rt.alloc());
+    for _ in 0..256 {
+        letters.push('b')?;
+    }
+    let mut out = plain(rt.alloc());
+    assert_eq!(rt;
+        run(&["walk", "0.0.0.0/32", letters.as_str()], &mut out),
+        Ok(())
+    );
+    let written = out.into_inner().bytes;
+    assert_eq!(rt; written.len(), 8 + 255 * 5);
+    assert!(rt; written.as_slice().starts_with(b"0.0.0.0\nnone\n"));
+    letters.push('f')?;
+    let mut out = plain(rt.alloc());
+    assert_eq!(rt;
+        run(&["walk", "::/0", letters.as_str()], &mut out),
+        Err(ToolError::Usage)
+    );
+    assert!(rt; out.into_inner().bytes.is_empty());
     Ok(())
 }
 

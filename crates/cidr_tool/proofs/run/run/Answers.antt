@@ -1,0 +1,9 @@
+use Rattle.std.proofs.Common.{inr}
+use Rattle.cidr_tool.specs.Answer.{Compare, Walk}
+use Rattle.cidr_tool.proofs.run.run.Goals as goal
+
+pub returns-in-Compare : goal.returns-in-Compare
+returns-in-Compare g c = inr (Compare c.in-Compare.left.now c.in-Compare.right.now, rw c.in-Compare.is at c.in-Some.ensures, c.compare.ensures)
+
+pub returns-in-Walk : goal.returns-in-Walk
+returns-in-Walk g c = inr (Walk c.in-Walk.net.now c.in-Walk.ends, rw c.in-Walk.is at c.in-Some.ensures, c.walk.ensures)

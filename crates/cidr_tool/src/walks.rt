@@ -1,0 +1,113 @@
+//! The command `walk`: the ends that letters name, and the lines that answer them.
+ghost use Rattle.std.specs.Prelude.{◌≡◌, ◌≤◌, ◌+◌, ◌++◌, List, length, map, option_map, MatchOption};
+ghost use Rattle.std.specs.List.{flat_map};
+ghost use Rattle.cidr.specs.IpAddress.{address_family, plain_bits};
+ghost use Rattle.cidr.specs.Seen.{in_family};
+ghost use Rattle.cidr_tool.specs.Walking.{NamesEnds, letter, most_ends, answer_line, walk_text};
+ghost use Rattle.cidr_tool.specs.Writing.{Answered};
+ghost use Rattle.cidr.specs.declared.inet_iterator.driving.End.{End as AnEnd};
+
+use crate::errors::ToolError;
+use crate::sink::Sink;
+use crate::writing::write_parts;
+use arrayvec::ArrayString;
+use cidr::{End, IpAddr, IpCidr, drive};
+use std::marker::Model;
+
+/// The most ends that a word names.
+const MOST_ENDS: usize = 256;
+
+/// Ends of a walk, in order.
+#[derive(Drop)]
+pub struct Ends {
+    places: [End; 256],
+    count: usize,
+}
+
+impl Model for Ends {
+    ghost use Rattle.std.specs.Prelude.{List, take, ◌≤◌};
+    ghost use Rattle.cidr.specs.declared.inet_iterator.driving.End.{End as AnEnd};
+
+    ghost Value = { List AnEnd };
+
+    ghost view = { λ e. take e.count e.places };
+
+    ghost invariant = { λ e. e.count ≤ 256 };
+}
+
+impl Ends {
+    /// The ends that the word names, letter by letter: `f` is the front and `b` the back.
+    pub fn named_by(word: &str) -> Option<Ends>
+        ensures { MatchOption result ((ends : List AnEnd) → ¬ (NamesEnds word.now ends)) (NamesEnds word.now) }
+    {
+        let letters = word.as_bytes();
+        if letters.len() > MOST_ENDS {
+            return None;
+        }
+        let mut places = [End::Front; 256];
+        for (i, letter) in letters.iter().enumerate() {
+            places[i] = end_of(*letter)?;
+        }
+        Some(Ends {
+            places,
+            count: letters.len(),
+        })
+    }
+
+    /// The ends as a slice.
+    pub fn as_slice(&self) -> &[End]
+        ensures value { result.now ≡ self.now }
+        ensures within { length result.now ≤ most_ends }
+    {
+        &self.places[..self.count]
+    }
+}
+
+/// The end that a letter names.
+fn end_of(code: u8) -> Option<End>
+    ensures { MatchOption result ((end : AnEnd) → ¬ (code ≡ letter end)) (λ end. code ≡ letter end) }
+{
+    match code {
+        b'f' => Some(End::Front),
+        b'b' => Some(End::Back),
+        _ => None,
+    }
+}
+
+/// The line that answers one call.
+fn push_line(lines: &mut ArrayString<10240>, answer: &Option<IpAddr>)
+    requires { length lines.old.bytes + 40 ≤ 10240 }
+    ensures line { lines.new.bytes ≡ lines.old.bytes ++ answer_line (option_map (in_family address_family plain_bits) answer.now) }
+    ensures len { length lines.new.bytes ≤ length lines.old.bytes + 40 }
+{
+    match answer {
+        Some(address) => lines.push_str(address.to_text().as_str()),
+        None => lines.push_str("none"),
+    }
+    lines.push_str("\n");
+}
+
+/// The lines that answer the calls.
+fn lines_of(answers: &[Option<IpAddr>]) -> ArrayString<10240>
+    requires { length answers.now ≤ most_ends }
+    ensures { result.bytes ≡ flat_map answer_line (map (option_map (in_family address_family plain_bits)) answers.now) }
+{
+    let mut lines = ArrayString::new();
+    for answer in answers {
+        push_line(&mut lines, answer);
+    }
+    lines
+}
+
+/// Writes the lines that answer calls at these ends of the walk over the network's addresses.
+pub fn write_walk<S: Sink>(network: &IpCidr, ends: &[End], out: &mut S) -> Result<(), ToolError>
+    requires { length ends.now ≤ most_ends }
+    ensures { Answered (S.state out.old) (S.state out.new) (walk_text network.now ends.now) result }
+{
+    let mut places = [None; 256];
+    let answers = &mut places[..ends.len()];
+    let mut walk = network.iter().addresses();
+    drive(&mut walk, ends, answers);
+    let lines = lines_of(answers);
+    write_parts(out, &[lines.as_str()])
+}
