@@ -301,520 +301,179 @@ fn edges(rt: HostRuntime) -> Result<(), Fail> {
     Ok(())
 }
 
+/// A row of a table of steps.
+#[derive(Clone, Copy)]
+struct Row<'a> {
+    len: u8,
+    step: u128,
+    up: &'a str,
+    wraps_up: bool,
+    down: &'a str,
+    wraps_down: bool,
+}
+
+/// The rows of a table, a line each.
+fn row_of(line: &str) -> Result<Row<'_>, Fail> {
+    let (len, line) = cut(line)?;
+    let (step, line) = cut(line)?;
+    let (up, line) = cut(line)?;
+    let (wraps_up, line) = cut(line)?;
+    let (down, wraps_down) = cut(line)?;
+    Ok(Row {
+        len: len.parse::<u8>()?,
+        step: step.parse::<u128>()?,
+        up,
+        wraps_up: wraps_up == "true",
+        down,
+        wraps_down: wraps_down == "true",
+    })
+}
+
+fn cut(line: &str) -> Result<(&str, &str), Fail> {
+    Ok(line.split_once(' ').ok_or("a line with more words")?)
+}
+
 /// Steps from 192.0.2.181: the length, the step, where adding it leads and whether it wraps, and the same of
 /// subtracting it. The addresses are those that whole numbers of unlimited size give.
+const STEPS: &str = "0 0 192.0.2.181 false 192.0.2.181 false
+0 1 192.0.2.182 false 192.0.2.180 false
+0 4294967295 192.0.2.180 true 192.0.2.182 true
+0 4294967296 192.0.2.181 true 192.0.2.181 true
+0 18446744073709551616 192.0.2.181 true 192.0.2.181 true
+0 340282366920938463463374607431768211455 192.0.2.180 true 192.0.2.182 true
+1 0 192.0.2.181 false 192.0.2.181 false
+1 1 192.0.2.182 false 192.0.2.180 false
+1 2147483647 192.0.2.180 true 192.0.2.182 true
+1 2147483648 192.0.2.181 true 192.0.2.181 true
+1 4294967296 192.0.2.181 true 192.0.2.181 true
+1 18446744073709551616 192.0.2.181 true 192.0.2.181 true
+1 340282366920938463463374607431768211455 192.0.2.180 true 192.0.2.182 true
+8 0 192.0.2.181 false 192.0.2.181 false
+8 1 192.0.2.182 false 192.0.2.180 false
+8 16777215 192.0.2.180 true 192.0.2.182 true
+8 16777216 192.0.2.181 true 192.0.2.181 true
+8 4294967296 192.0.2.181 true 192.0.2.181 true
+8 18446744073709551616 192.0.2.181 true 192.0.2.181 true
+8 340282366920938463463374607431768211455 192.0.2.180 true 192.0.2.182 true
+24 0 192.0.2.181 false 192.0.2.181 false
+24 1 192.0.2.182 false 192.0.2.180 false
+24 255 192.0.2.180 true 192.0.2.182 true
+24 256 192.0.2.181 true 192.0.2.181 true
+24 4294967296 192.0.2.181 true 192.0.2.181 true
+24 18446744073709551616 192.0.2.181 true 192.0.2.181 true
+24 340282366920938463463374607431768211455 192.0.2.180 true 192.0.2.182 true
+31 0 192.0.2.181 false 192.0.2.181 false
+31 1 192.0.2.180 true 192.0.2.180 false
+31 2 192.0.2.181 true 192.0.2.181 true
+31 4294967296 192.0.2.181 true 192.0.2.181 true
+31 18446744073709551616 192.0.2.181 true 192.0.2.181 true
+31 340282366920938463463374607431768211455 192.0.2.180 true 192.0.2.180 true
+32 0 192.0.2.181 false 192.0.2.181 false
+32 1 192.0.2.181 true 192.0.2.181 true
+32 4294967296 192.0.2.181 true 192.0.2.181 true
+32 18446744073709551616 192.0.2.181 true 192.0.2.181 true
+32 340282366920938463463374607431768211455 192.0.2.181 true 192.0.2.181 true";
+
 #[test]
 fn long_steps(rt: HostRuntime) -> Result<(), Fail> {
-    let rows: [(u8, u128, &str, bool, &str, bool); 38] = [
-        (0, 0, "192.0.2.181", false, "192.0.2.181", false),
-        (0, 1, "192.0.2.182", false, "192.0.2.180", false),
-        (0, 4294967295, "192.0.2.180", true, "192.0.2.182", true),
-        (0, 4294967296, "192.0.2.181", true, "192.0.2.181", true),
-        (
-            0,
-            18446744073709551616,
-            "192.0.2.181",
-            true,
-            "192.0.2.181",
-            true,
-        ),
-        (
-            0,
-            340282366920938463463374607431768211455,
-            "192.0.2.180",
-            true,
-            "192.0.2.182",
-            true,
-        ),
-        (1, 0, "192.0.2.181", false, "192.0.2.181", false),
-        (1, 1, "192.0.2.182", false, "192.0.2.180", false),
-        (1, 2147483647, "192.0.2.180", true, "192.0.2.182", true),
-        (1, 2147483648, "192.0.2.181", true, "192.0.2.181", true),
-        (1, 4294967296, "192.0.2.181", true, "192.0.2.181", true),
-        (
-            1,
-            18446744073709551616,
-            "192.0.2.181",
-            true,
-            "192.0.2.181",
-            true,
-        ),
-        (
-            1,
-            340282366920938463463374607431768211455,
-            "192.0.2.180",
-            true,
-            "192.0.2.182",
-            true,
-        ),
-        (8, 0, "192.0.2.181", false, "192.0.2.181", false),
-        (8, 1, "192.0.2.182", false, "192.0.2.180", false),
-        (8, 16777215, "192.0.2.180", true, "192.0.2.182", true),
-        (8, 16777216, "192.0.2.181", true, "192.0.2.181", true),
-        (8, 4294967296, "192.0.2.181", true, "192.0.2.181", true),
-        (
-            8,
-            18446744073709551616,
-            "192.0.2.181",
-            true,
-            "192.0.2.181",
-            true,
-        ),
-        (
-            8,
-            340282366920938463463374607431768211455,
-            "192.0.2.180",
-            true,
-            "192.0.2.182",
-            true,
-        ),
-        (24, 0, "192.0.2.181", false, "192.0.2.181", false),
-        (24, 1, "192.0.2.182", false, "192.0.2.180", false),
-        (24, 255, "192.0.2.180", true, "192.0.2.182", true),
-        (24, 256, "192.0.2.181", true, "192.0.2.181", true),
-        (24, 4294967296, "192.0.2.181", true, "192.0.2.181", true),
-        (
-            24,
-            18446744073709551616,
-            "192.0.2.181",
-            true,
-            "192.0.2.181",
-            true,
-        ),
-        (
-            24,
-            340282366920938463463374607431768211455,
-            "192.0.2.180",
-            true,
-            "192.0.2.182",
-            true,
-        ),
-        (31, 0, "192.0.2.181", false, "192.0.2.181", false),
-        (31, 1, "192.0.2.180", true, "192.0.2.180", false),
-        (31, 2, "192.0.2.181", true, "192.0.2.181", true),
-        (31, 4294967296, "192.0.2.181", true, "192.0.2.181", true),
-        (
-            31,
-            18446744073709551616,
-            "192.0.2.181",
-            true,
-            "192.0.2.181",
-            true,
-        ),
-        (
-            31,
-            340282366920938463463374607431768211455,
-            "192.0.2.180",
-            true,
-            "192.0.2.180",
-            true,
-        ),
-        (32, 0, "192.0.2.181", false, "192.0.2.181", false),
-        (32, 1, "192.0.2.181", true, "192.0.2.181", true),
-        (32, 4294967296, "192.0.2.181", true, "192.0.2.181", true),
-        (
-            32,
-            18446744073709551616,
-            "192.0.2.181",
-            true,
-            "192.0.2.181",
-            true,
-        ),
-        (
-            32,
-            340282366920938463463374607431768211455,
-            "192.0.2.181",
-            true,
-            "192.0.2.181",
-            true,
-        ),
-    ];
-    for (len, step, up, wraps_up, down, wraps_down) in rows {
-        let host = Ipv4Inet::new(Ipv4Addr::new(192, 0, 2, 181), len)?;
-        let added = Ipv4Inet::new(up.parse::<Ipv4Addr>()?, len)?;
-        let taken = Ipv4Inet::new(down.parse::<Ipv4Addr>()?, len)?;
+    let address = Ipv4Addr::new(192, 0, 2, 181);
+    for line in STEPS.lines() {
+        let row = row_of(line)?;
+        let host = Ipv4Inet::new(address, row.len)?;
+        let up = Ipv4Inet::new(row.up.parse::<Ipv4Addr>()?, row.len)?;
+        let down = Ipv4Inet::new(row.down.parse::<Ipv4Addr>()?, row.len)?;
         assert_eq!(rt;
-            host.overflowing_add(step),
-            (added, wraps_up),
-            "{len} {step}"
+            host.overflowing_add(row.step),
+            (up, row.wraps_up),
+            "{line}"
         );
         assert_eq!(rt;
-            host.overflowing_sub(step),
-            (taken, wraps_down),
-            "{len} {step}"
+            host.overflowing_sub(row.step),
+            (down, row.wraps_down),
+            "{line}"
         );
-        if let Ok(small) = u32::try_from(step) {
-            assert_eq!(rt; host.overflowing_add_u32(small), (added, wraps_up));
-            assert_eq!(rt; host.overflowing_sub_u32(small), (taken, wraps_down));
+        if let Ok(small) = u32::try_from(row.step) {
+            assert_eq!(rt;
+                host.overflowing_add_u32(small),
+                (up, row.wraps_up),
+                "{line}"
+            );
+            assert_eq!(rt;
+                host.overflowing_sub_u32(small),
+                (down, row.wraps_down),
+                "{line}"
+            );
         }
     }
+    assert_eq!(rt; STEPS.lines().count(), 38);
     Ok(())
 }
 
 /// The same from 2001:db8:1234:5678:9abc:def0:fedc:ba98.
+const STEPS_OF_IPV6: &str =
+    "0 0 2001:db8:1234:5678:9abc:def0:fedc:ba98 false 2001:db8:1234:5678:9abc:def0:fedc:ba98 false
+0 1 2001:db8:1234:5678:9abc:def0:fedc:ba99 false 2001:db8:1234:5678:9abc:def0:fedc:ba97 false
+0 4294967296 2001:db8:1234:5678:9abc:def1:fedc:ba98 false 2001:db8:1234:5678:9abc:deef:fedc:ba98 false
+0 18446744073709551616 2001:db8:1234:5679:9abc:def0:fedc:ba98 false 2001:db8:1234:5677:9abc:def0:fedc:ba98 false
+0 340282366920938463463374607431768211455 2001:db8:1234:5678:9abc:def0:fedc:ba97 true 2001:db8:1234:5678:9abc:def0:fedc:ba99 true
+1 0 2001:db8:1234:5678:9abc:def0:fedc:ba98 false 2001:db8:1234:5678:9abc:def0:fedc:ba98 false
+1 1 2001:db8:1234:5678:9abc:def0:fedc:ba99 false 2001:db8:1234:5678:9abc:def0:fedc:ba97 false
+1 4294967296 2001:db8:1234:5678:9abc:def1:fedc:ba98 false 2001:db8:1234:5678:9abc:deef:fedc:ba98 false
+1 18446744073709551616 2001:db8:1234:5679:9abc:def0:fedc:ba98 false 2001:db8:1234:5677:9abc:def0:fedc:ba98 false
+1 170141183460469231731687303715884105727 2001:db8:1234:5678:9abc:def0:fedc:ba97 true 2001:db8:1234:5678:9abc:def0:fedc:ba99 true
+1 170141183460469231731687303715884105728 2001:db8:1234:5678:9abc:def0:fedc:ba98 true 2001:db8:1234:5678:9abc:def0:fedc:ba98 true
+1 340282366920938463463374607431768211455 2001:db8:1234:5678:9abc:def0:fedc:ba97 true 2001:db8:1234:5678:9abc:def0:fedc:ba99 true
+63 0 2001:db8:1234:5678:9abc:def0:fedc:ba98 false 2001:db8:1234:5678:9abc:def0:fedc:ba98 false
+63 1 2001:db8:1234:5678:9abc:def0:fedc:ba99 false 2001:db8:1234:5678:9abc:def0:fedc:ba97 false
+63 4294967296 2001:db8:1234:5678:9abc:def1:fedc:ba98 false 2001:db8:1234:5678:9abc:deef:fedc:ba98 false
+63 18446744073709551616 2001:db8:1234:5679:9abc:def0:fedc:ba98 false 2001:db8:1234:5679:9abc:def0:fedc:ba98 true
+63 36893488147419103231 2001:db8:1234:5678:9abc:def0:fedc:ba97 true 2001:db8:1234:5678:9abc:def0:fedc:ba99 true
+63 36893488147419103232 2001:db8:1234:5678:9abc:def0:fedc:ba98 true 2001:db8:1234:5678:9abc:def0:fedc:ba98 true
+63 340282366920938463463374607431768211455 2001:db8:1234:5678:9abc:def0:fedc:ba97 true 2001:db8:1234:5678:9abc:def0:fedc:ba99 true
+64 0 2001:db8:1234:5678:9abc:def0:fedc:ba98 false 2001:db8:1234:5678:9abc:def0:fedc:ba98 false
+64 1 2001:db8:1234:5678:9abc:def0:fedc:ba99 false 2001:db8:1234:5678:9abc:def0:fedc:ba97 false
+64 4294967296 2001:db8:1234:5678:9abc:def1:fedc:ba98 false 2001:db8:1234:5678:9abc:deef:fedc:ba98 false
+64 18446744073709551615 2001:db8:1234:5678:9abc:def0:fedc:ba97 true 2001:db8:1234:5678:9abc:def0:fedc:ba99 true
+64 18446744073709551616 2001:db8:1234:5678:9abc:def0:fedc:ba98 true 2001:db8:1234:5678:9abc:def0:fedc:ba98 true
+64 340282366920938463463374607431768211455 2001:db8:1234:5678:9abc:def0:fedc:ba97 true 2001:db8:1234:5678:9abc:def0:fedc:ba99 true
+65 0 2001:db8:1234:5678:9abc:def0:fedc:ba98 false 2001:db8:1234:5678:9abc:def0:fedc:ba98 false
+65 1 2001:db8:1234:5678:9abc:def0:fedc:ba99 false 2001:db8:1234:5678:9abc:def0:fedc:ba97 false
+65 4294967296 2001:db8:1234:5678:9abc:def1:fedc:ba98 false 2001:db8:1234:5678:9abc:deef:fedc:ba98 false
+65 9223372036854775807 2001:db8:1234:5678:9abc:def0:fedc:ba97 true 2001:db8:1234:5678:9abc:def0:fedc:ba99 true
+65 9223372036854775808 2001:db8:1234:5678:9abc:def0:fedc:ba98 true 2001:db8:1234:5678:9abc:def0:fedc:ba98 true
+65 18446744073709551616 2001:db8:1234:5678:9abc:def0:fedc:ba98 true 2001:db8:1234:5678:9abc:def0:fedc:ba98 true
+65 340282366920938463463374607431768211455 2001:db8:1234:5678:9abc:def0:fedc:ba97 true 2001:db8:1234:5678:9abc:def0:fedc:ba99 true
+127 0 2001:db8:1234:5678:9abc:def0:fedc:ba98 false 2001:db8:1234:5678:9abc:def0:fedc:ba98 false
+127 1 2001:db8:1234:5678:9abc:def0:fedc:ba99 false 2001:db8:1234:5678:9abc:def0:fedc:ba99 true
+127 2 2001:db8:1234:5678:9abc:def0:fedc:ba98 true 2001:db8:1234:5678:9abc:def0:fedc:ba98 true
+127 4294967296 2001:db8:1234:5678:9abc:def0:fedc:ba98 true 2001:db8:1234:5678:9abc:def0:fedc:ba98 true
+127 18446744073709551616 2001:db8:1234:5678:9abc:def0:fedc:ba98 true 2001:db8:1234:5678:9abc:def0:fedc:ba98 true
+127 340282366920938463463374607431768211455 2001:db8:1234:5678:9abc:def0:fedc:ba99 true 2001:db8:1234:5678:9abc:def0:fedc:ba99 true
+128 0 2001:db8:1234:5678:9abc:def0:fedc:ba98 false 2001:db8:1234:5678:9abc:def0:fedc:ba98 false
+128 1 2001:db8:1234:5678:9abc:def0:fedc:ba98 true 2001:db8:1234:5678:9abc:def0:fedc:ba98 true
+128 4294967296 2001:db8:1234:5678:9abc:def0:fedc:ba98 true 2001:db8:1234:5678:9abc:def0:fedc:ba98 true
+128 18446744073709551616 2001:db8:1234:5678:9abc:def0:fedc:ba98 true 2001:db8:1234:5678:9abc:def0:fedc:ba98 true
+128 340282366920938463463374607431768211455 2001:db8:1234:5678:9abc:def0:fedc:ba98 true 2001:db8:1234:5678:9abc:def0:fedc:ba98 true";
+
 #[test]
 fn long_steps_of_ipv6(rt: HostRuntime) -> Result<(), Fail> {
-    let rows: [(u8, u128, &str, bool, &str, bool); 43] = [
-        (
-            0,
-            0,
-            "2001:db8:1234:5678:9abc:def0:fedc:ba98",
-            false,
-            "2001:db8:1234:5678:9abc:def0:fedc:ba98",
-            false,
-        ),
-        (
-            0,
-            1,
-            "2001:db8:1234:5678:9abc:def0:fedc:ba99",
-            false,
-            "2001:db8:1234:5678:9abc:def0:fedc:ba97",
-            false,
-        ),
-        (
-            0,
-            4294967296,
-            "2001:db8:1234:5678:9abc:def1:fedc:ba98",
-            false,
-            "2001:db8:1234:5678:9abc:deef:fedc:ba98",
-            false,
-        ),
-        (
-            0,
-            18446744073709551616,
-            "2001:db8:1234:5679:9abc:def0:fedc:ba98",
-            false,
-            "2001:db8:1234:5677:9abc:def0:fedc:ba98",
-            false,
-        ),
-        (
-            0,
-            340282366920938463463374607431768211455,
-            "2001:db8:1234:5678:9abc:def0:fedc:ba97",
-            true,
-            "2001:db8:1234:5678:9abc:def0:fedc:ba99",
-            true,
-        ),
-        (
-            1,
-            0,
-            "2001:db8:1234:5678:9abc:def0:fedc:ba98",
-            false,
-            "2001:db8:1234:5678:9abc:def0:fedc:ba98",
-            false,
-        ),
-        (
-            1,
-            1,
-            "2001:db8:1234:5678:9abc:def0:fedc:ba99",
-            false,
-            "2001:db8:1234:5678:9abc:def0:fedc:ba97",
-            false,
-        ),
-        (
-            1,
-            4294967296,
-            "2001:db8:1234:5678:9abc:def1:fedc:ba98",
-            false,
-            "2001:db8:1234:5678:9abc:deef:fedc:ba98",
-            false,
-        ),
-        (
-            1,
-            18446744073709551616,
-            "2001:db8:1234:5679:9abc:def0:fedc:ba98",
-            false,
-            "2001:db8:1234:5677:9abc:def0:fedc:ba98",
-            false,
-        ),
-        (
-            1,
-            170141183460469231731687303715884105727,
-            "2001:db8:1234:5678:9abc:def0:fedc:ba97",
-            true,
-            "2001:db8:1234:5678:9abc:def0:fedc:ba99",
-            true,
-        ),
-        (
-            1,
-            170141183460469231731687303715884105728,
-            "2001:db8:1234:5678:9abc:def0:fedc:ba98",
-            true,
-            "2001:db8:1234:5678:9abc:def0:fedc:ba98",
-            true,
-        ),
-        (
-            1,
-            340282366920938463463374607431768211455,
-            "2001:db8:1234:5678:9abc:def0:fedc:ba97",
-            true,
-            "2001:db8:1234:5678:9abc:def0:fedc:ba99",
-            true,
-        ),
-        (
-            63,
-            0,
-            "2001:db8:1234:5678:9abc:def0:fedc:ba98",
-            false,
-            "2001:db8:1234:5678:9abc:def0:fedc:ba98",
-            false,
-        ),
-        (
-            63,
-            1,
-            "2001:db8:1234:5678:9abc:def0:fedc:ba99",
-            false,
-            "2001:db8:1234:5678:9abc:def0:fedc:ba97",
-            false,
-        ),
-        (
-            63,
-            4294967296,
-            "2001:db8:1234:5678:9abc:def1:fedc:ba98",
-            false,
-            "2001:db8:1234:5678:9abc:deef:fedc:ba98",
-            false,
-        ),
-        (
-            63,
-            18446744073709551616,
-            "2001:db8:1234:5679:9abc:def0:fedc:ba98",
-            false,
-            "2001:db8:1234:5679:9abc:def0:fedc:ba98",
-            true,
-        ),
-        (
-            63,
-            36893488147419103231,
-            "2001:db8:1234:5678:9abc:def0:fedc:ba97",
-            true,
-            "2001:db8:1234:5678:9abc:def0:fedc:ba99",
-            true,
-        ),
-        (
-            63,
-            36893488147419103232,
-            "2001:db8:1234:5678:9abc:def0:fedc:ba98",
-            true,
-            "2001:db8:1234:5678:9abc:def0:fedc:ba98",
-            true,
-        ),
-        (
-            63,
-            340282366920938463463374607431768211455,
-            "2001:db8:1234:5678:9abc:def0:fedc:ba97",
-            true,
-            "2001:db8:1234:5678:9abc:def0:fedc:ba99",
-            true,
-        ),
-        (
-            64,
-            0,
-            "2001:db8:1234:5678:9abc:def0:fedc:ba98",
-            false,
-            "2001:db8:1234:5678:9abc:def0:fedc:ba98",
-            false,
-        ),
-        (
-            64,
-            1,
-            "2001:db8:1234:5678:9abc:def0:fedc:ba99",
-            false,
-            "2001:db8:1234:5678:9abc:def0:fedc:ba97",
-            false,
-        ),
-        (
-            64,
-            4294967296,
-            "2001:db8:1234:5678:9abc:def1:fedc:ba98",
-            false,
-            "2001:db8:1234:5678:9abc:deef:fedc:ba98",
-            false,
-        ),
-        (
-            64,
-            18446744073709551615,
-            "2001:db8:1234:5678:9abc:def0:fedc:ba97",
-            true,
-            "2001:db8:1234:5678:9abc:def0:fedc:ba99",
-            true,
-        ),
-        (
-            64,
-            18446744073709551616,
-            "2001:db8:1234:5678:9abc:def0:fedc:ba98",
-            true,
-            "2001:db8:1234:5678:9abc:def0:fedc:ba98",
-            true,
-        ),
-        (
-            64,
-            340282366920938463463374607431768211455,
-            "2001:db8:1234:5678:9abc:def0:fedc:ba97",
-            true,
-            "2001:db8:1234:5678:9abc:def0:fedc:ba99",
-            true,
-        ),
-        (
-            65,
-            0,
-            "2001:db8:1234:5678:9abc:def0:fedc:ba98",
-            false,
-            "2001:db8:1234:5678:9abc:def0:fedc:ba98",
-            false,
-        ),
-        (
-            65,
-            1,
-            "2001:db8:1234:5678:9abc:def0:fedc:ba99",
-            false,
-            "2001:db8:1234:5678:9abc:def0:fedc:ba97",
-            false,
-        ),
-        (
-            65,
-            4294967296,
-            "2001:db8:1234:5678:9abc:def1:fedc:ba98",
-            false,
-            "2001:db8:1234:5678:9abc:deef:fedc:ba98",
-            false,
-        ),
-        (
-            65,
-            9223372036854775807,
-            "2001:db8:1234:5678:9abc:def0:fedc:ba97",
-            true,
-            "2001:db8:1234:5678:9abc:def0:fedc:ba99",
-            true,
-        ),
-        (
-            65,
-            9223372036854775808,
-            "2001:db8:1234:5678:9abc:def0:fedc:ba98",
-            true,
-            "2001:db8:1234:5678:9abc:def0:fedc:ba98",
-            true,
-        ),
-        (
-            65,
-            18446744073709551616,
-            "2001:db8:1234:5678:9abc:def0:fedc:ba98",
-            true,
-            "2001:db8:1234:5678:9abc:def0:fedc:ba98",
-            true,
-        ),
-        (
-            65,
-            340282366920938463463374607431768211455,
-            "2001:db8:1234:5678:9abc:def0:fedc:ba97",
-            true,
-            "2001:db8:1234:5678:9abc:def0:fedc:ba99",
-            true,
-        ),
-        (
-            127,
-            0,
-            "2001:db8:1234:5678:9abc:def0:fedc:ba98",
-            false,
-            "2001:db8:1234:5678:9abc:def0:fedc:ba98",
-            false,
-        ),
-        (
-            127,
-            1,
-            "2001:db8:1234:5678:9abc:def0:fedc:ba99",
-            false,
-            "2001:db8:1234:5678:9abc:def0:fedc:ba99",
-            true,
-        ),
-        (
-            127,
-            2,
-            "2001:db8:1234:5678:9abc:def0:fedc:ba98",
-            true,
-            "2001:db8:1234:5678:9abc:def0:fedc:ba98",
-            true,
-        ),
-        (
-            127,
-            4294967296,
-            "2001:db8:1234:5678:9abc:def0:fedc:ba98",
-            true,
-            "2001:db8:1234:5678:9abc:def0:fedc:ba98",
-            true,
-        ),
-        (
-            127,
-            18446744073709551616,
-            "2001:db8:1234:5678:9abc:def0:fedc:ba98",
-            true,
-            "2001:db8:1234:5678:9abc:def0:fedc:ba98",
-            true,
-        ),
-        (
-            127,
-            340282366920938463463374607431768211455,
-            "2001:db8:1234:5678:9abc:def0:fedc:ba99",
-            true,
-            "2001:db8:1234:5678:9abc:def0:fedc:ba99",
-            true,
-        ),
-        (
-            128,
-            0,
-            "2001:db8:1234:5678:9abc:def0:fedc:ba98",
-            false,
-            "2001:db8:1234:5678:9abc:def0:fedc:ba98",
-            false,
-        ),
-        (
-            128,
-            1,
-            "2001:db8:1234:5678:9abc:def0:fedc:ba98",
-            true,
-            "2001:db8:1234:5678:9abc:def0:fedc:ba98",
-            true,
-        ),
-        (
-            128,
-            4294967296,
-            "2001:db8:1234:5678:9abc:def0:fedc:ba98",
-            true,
-            "2001:db8:1234:5678:9abc:def0:fedc:ba98",
-            true,
-        ),
-        (
-            128,
-            18446744073709551616,
-            "2001:db8:1234:5678:9abc:def0:fedc:ba98",
-            true,
-            "2001:db8:1234:5678:9abc:def0:fedc:ba98",
-            true,
-        ),
-        (
-            128,
-            340282366920938463463374607431768211455,
-            "2001:db8:1234:5678:9abc:def0:fedc:ba98",
-            true,
-            "2001:db8:1234:5678:9abc:def0:fedc:ba98",
-            true,
-        ),
-    ];
     let address = "2001:db8:1234:5678:9abc:def0:fedc:ba98".parse::<Ipv6Addr>()?;
-    for (len, step, up, wraps_up, down, wraps_down) in rows {
-        let host = Ipv6Inet::new(address, len)?;
-        let added = Ipv6Inet::new(up.parse::<Ipv6Addr>()?, len)?;
-        let taken = Ipv6Inet::new(down.parse::<Ipv6Addr>()?, len)?;
+    for line in STEPS_OF_IPV6.lines() {
+        let row = row_of(line)?;
+        let host = Ipv6Inet::new(address, row.len)?;
+        let up = Ipv6Inet::new(row.up.parse::<Ipv6Addr>()?, row.len)?;
+        let down = Ipv6Inet::new(row.down.parse::<Ipv6Addr>()?, row.len)?;
         assert_eq!(rt;
-            host.overflowing_add(step),
-            (added, wraps_up),
-            "{len} {step}"
+            host.overflowing_add(row.step),
+            (up, row.wraps_up),
+            "{line}"
         );
         assert_eq!(rt;
-            host.overflowing_sub(step),
-            (taken, wraps_down),
-            "{len} {step}"
+            host.overflowing_sub(row.step),
+            (down, row.wraps_down),
+            "{line}"
         );
     }
+    assert_eq!(rt; STEPS_OF_IPV6.lines().count(), 43);
     Ok(())
 }

@@ -252,858 +252,156 @@ fn families(rt: HostRuntime) -> Result<(), Fail> {
     Ok(())
 }
 
-/// Whether the network of this length around 2001:db8:1234:5678:9abc:def0:fedc:ba98 has these parts.
-fn has_parts(len: u8, first: &str, last: &str, mask: &str) -> Result<bool, Fail> {
+/// A row cut at its first space.
+fn cut(row: &str) -> Result<(&str, &str), Fail> {
+    Ok(row.split_once(' ').ok_or("a row with more words")?)
+}
+
+/// Each length with the first address, the last address and the mask of the network around
+/// 2001:db8:1234:5678:9abc:def0:fedc:ba98, as Python's module `ipaddress` gives them.
+const LENGTHS: &str = "0 :: ffff:ffff:ffff:ffff:ffff:ffff:ffff:ffff ::
+1 :: 7fff:ffff:ffff:ffff:ffff:ffff:ffff:ffff 8000::
+2 :: 3fff:ffff:ffff:ffff:ffff:ffff:ffff:ffff c000::
+3 2000:: 3fff:ffff:ffff:ffff:ffff:ffff:ffff:ffff e000::
+4 2000:: 2fff:ffff:ffff:ffff:ffff:ffff:ffff:ffff f000::
+5 2000:: 27ff:ffff:ffff:ffff:ffff:ffff:ffff:ffff f800::
+6 2000:: 23ff:ffff:ffff:ffff:ffff:ffff:ffff:ffff fc00::
+7 2000:: 21ff:ffff:ffff:ffff:ffff:ffff:ffff:ffff fe00::
+8 2000:: 20ff:ffff:ffff:ffff:ffff:ffff:ffff:ffff ff00::
+9 2000:: 207f:ffff:ffff:ffff:ffff:ffff:ffff:ffff ff80::
+10 2000:: 203f:ffff:ffff:ffff:ffff:ffff:ffff:ffff ffc0::
+11 2000:: 201f:ffff:ffff:ffff:ffff:ffff:ffff:ffff ffe0::
+12 2000:: 200f:ffff:ffff:ffff:ffff:ffff:ffff:ffff fff0::
+13 2000:: 2007:ffff:ffff:ffff:ffff:ffff:ffff:ffff fff8::
+14 2000:: 2003:ffff:ffff:ffff:ffff:ffff:ffff:ffff fffc::
+15 2000:: 2001:ffff:ffff:ffff:ffff:ffff:ffff:ffff fffe::
+16 2001:: 2001:ffff:ffff:ffff:ffff:ffff:ffff:ffff ffff::
+17 2001:: 2001:7fff:ffff:ffff:ffff:ffff:ffff:ffff ffff:8000::
+18 2001:: 2001:3fff:ffff:ffff:ffff:ffff:ffff:ffff ffff:c000::
+19 2001:: 2001:1fff:ffff:ffff:ffff:ffff:ffff:ffff ffff:e000::
+20 2001:: 2001:fff:ffff:ffff:ffff:ffff:ffff:ffff ffff:f000::
+21 2001:800:: 2001:fff:ffff:ffff:ffff:ffff:ffff:ffff ffff:f800::
+22 2001:c00:: 2001:fff:ffff:ffff:ffff:ffff:ffff:ffff ffff:fc00::
+23 2001:c00:: 2001:dff:ffff:ffff:ffff:ffff:ffff:ffff ffff:fe00::
+24 2001:d00:: 2001:dff:ffff:ffff:ffff:ffff:ffff:ffff ffff:ff00::
+25 2001:d80:: 2001:dff:ffff:ffff:ffff:ffff:ffff:ffff ffff:ff80::
+26 2001:d80:: 2001:dbf:ffff:ffff:ffff:ffff:ffff:ffff ffff:ffc0::
+27 2001:da0:: 2001:dbf:ffff:ffff:ffff:ffff:ffff:ffff ffff:ffe0::
+28 2001:db0:: 2001:dbf:ffff:ffff:ffff:ffff:ffff:ffff ffff:fff0::
+29 2001:db8:: 2001:dbf:ffff:ffff:ffff:ffff:ffff:ffff ffff:fff8::
+30 2001:db8:: 2001:dbb:ffff:ffff:ffff:ffff:ffff:ffff ffff:fffc::
+31 2001:db8:: 2001:db9:ffff:ffff:ffff:ffff:ffff:ffff ffff:fffe::
+32 2001:db8:: 2001:db8:ffff:ffff:ffff:ffff:ffff:ffff ffff:ffff::
+33 2001:db8:: 2001:db8:7fff:ffff:ffff:ffff:ffff:ffff ffff:ffff:8000::
+34 2001:db8:: 2001:db8:3fff:ffff:ffff:ffff:ffff:ffff ffff:ffff:c000::
+35 2001:db8:: 2001:db8:1fff:ffff:ffff:ffff:ffff:ffff ffff:ffff:e000::
+36 2001:db8:1000:: 2001:db8:1fff:ffff:ffff:ffff:ffff:ffff ffff:ffff:f000::
+37 2001:db8:1000:: 2001:db8:17ff:ffff:ffff:ffff:ffff:ffff ffff:ffff:f800::
+38 2001:db8:1000:: 2001:db8:13ff:ffff:ffff:ffff:ffff:ffff ffff:ffff:fc00::
+39 2001:db8:1200:: 2001:db8:13ff:ffff:ffff:ffff:ffff:ffff ffff:ffff:fe00::
+40 2001:db8:1200:: 2001:db8:12ff:ffff:ffff:ffff:ffff:ffff ffff:ffff:ff00::
+41 2001:db8:1200:: 2001:db8:127f:ffff:ffff:ffff:ffff:ffff ffff:ffff:ff80::
+42 2001:db8:1200:: 2001:db8:123f:ffff:ffff:ffff:ffff:ffff ffff:ffff:ffc0::
+43 2001:db8:1220:: 2001:db8:123f:ffff:ffff:ffff:ffff:ffff ffff:ffff:ffe0::
+44 2001:db8:1230:: 2001:db8:123f:ffff:ffff:ffff:ffff:ffff ffff:ffff:fff0::
+45 2001:db8:1230:: 2001:db8:1237:ffff:ffff:ffff:ffff:ffff ffff:ffff:fff8::
+46 2001:db8:1234:: 2001:db8:1237:ffff:ffff:ffff:ffff:ffff ffff:ffff:fffc::
+47 2001:db8:1234:: 2001:db8:1235:ffff:ffff:ffff:ffff:ffff ffff:ffff:fffe::
+48 2001:db8:1234:: 2001:db8:1234:ffff:ffff:ffff:ffff:ffff ffff:ffff:ffff::
+49 2001:db8:1234:: 2001:db8:1234:7fff:ffff:ffff:ffff:ffff ffff:ffff:ffff:8000::
+50 2001:db8:1234:4000:: 2001:db8:1234:7fff:ffff:ffff:ffff:ffff ffff:ffff:ffff:c000::
+51 2001:db8:1234:4000:: 2001:db8:1234:5fff:ffff:ffff:ffff:ffff ffff:ffff:ffff:e000::
+52 2001:db8:1234:5000:: 2001:db8:1234:5fff:ffff:ffff:ffff:ffff ffff:ffff:ffff:f000::
+53 2001:db8:1234:5000:: 2001:db8:1234:57ff:ffff:ffff:ffff:ffff ffff:ffff:ffff:f800::
+54 2001:db8:1234:5400:: 2001:db8:1234:57ff:ffff:ffff:ffff:ffff ffff:ffff:ffff:fc00::
+55 2001:db8:1234:5600:: 2001:db8:1234:57ff:ffff:ffff:ffff:ffff ffff:ffff:ffff:fe00::
+56 2001:db8:1234:5600:: 2001:db8:1234:56ff:ffff:ffff:ffff:ffff ffff:ffff:ffff:ff00::
+57 2001:db8:1234:5600:: 2001:db8:1234:567f:ffff:ffff:ffff:ffff ffff:ffff:ffff:ff80::
+58 2001:db8:1234:5640:: 2001:db8:1234:567f:ffff:ffff:ffff:ffff ffff:ffff:ffff:ffc0::
+59 2001:db8:1234:5660:: 2001:db8:1234:567f:ffff:ffff:ffff:ffff ffff:ffff:ffff:ffe0::
+60 2001:db8:1234:5670:: 2001:db8:1234:567f:ffff:ffff:ffff:ffff ffff:ffff:ffff:fff0::
+61 2001:db8:1234:5678:: 2001:db8:1234:567f:ffff:ffff:ffff:ffff ffff:ffff:ffff:fff8::
+62 2001:db8:1234:5678:: 2001:db8:1234:567b:ffff:ffff:ffff:ffff ffff:ffff:ffff:fffc::
+63 2001:db8:1234:5678:: 2001:db8:1234:5679:ffff:ffff:ffff:ffff ffff:ffff:ffff:fffe::
+64 2001:db8:1234:5678:: 2001:db8:1234:5678:ffff:ffff:ffff:ffff ffff:ffff:ffff:ffff::
+65 2001:db8:1234:5678:8000:: 2001:db8:1234:5678:ffff:ffff:ffff:ffff ffff:ffff:ffff:ffff:8000::
+66 2001:db8:1234:5678:8000:: 2001:db8:1234:5678:bfff:ffff:ffff:ffff ffff:ffff:ffff:ffff:c000::
+67 2001:db8:1234:5678:8000:: 2001:db8:1234:5678:9fff:ffff:ffff:ffff ffff:ffff:ffff:ffff:e000::
+68 2001:db8:1234:5678:9000:: 2001:db8:1234:5678:9fff:ffff:ffff:ffff ffff:ffff:ffff:ffff:f000::
+69 2001:db8:1234:5678:9800:: 2001:db8:1234:5678:9fff:ffff:ffff:ffff ffff:ffff:ffff:ffff:f800::
+70 2001:db8:1234:5678:9800:: 2001:db8:1234:5678:9bff:ffff:ffff:ffff ffff:ffff:ffff:ffff:fc00::
+71 2001:db8:1234:5678:9a00:: 2001:db8:1234:5678:9bff:ffff:ffff:ffff ffff:ffff:ffff:ffff:fe00::
+72 2001:db8:1234:5678:9a00:: 2001:db8:1234:5678:9aff:ffff:ffff:ffff ffff:ffff:ffff:ffff:ff00::
+73 2001:db8:1234:5678:9a80:: 2001:db8:1234:5678:9aff:ffff:ffff:ffff ffff:ffff:ffff:ffff:ff80::
+74 2001:db8:1234:5678:9a80:: 2001:db8:1234:5678:9abf:ffff:ffff:ffff ffff:ffff:ffff:ffff:ffc0::
+75 2001:db8:1234:5678:9aa0:: 2001:db8:1234:5678:9abf:ffff:ffff:ffff ffff:ffff:ffff:ffff:ffe0::
+76 2001:db8:1234:5678:9ab0:: 2001:db8:1234:5678:9abf:ffff:ffff:ffff ffff:ffff:ffff:ffff:fff0::
+77 2001:db8:1234:5678:9ab8:: 2001:db8:1234:5678:9abf:ffff:ffff:ffff ffff:ffff:ffff:ffff:fff8::
+78 2001:db8:1234:5678:9abc:: 2001:db8:1234:5678:9abf:ffff:ffff:ffff ffff:ffff:ffff:ffff:fffc::
+79 2001:db8:1234:5678:9abc:: 2001:db8:1234:5678:9abd:ffff:ffff:ffff ffff:ffff:ffff:ffff:fffe::
+80 2001:db8:1234:5678:9abc:: 2001:db8:1234:5678:9abc:ffff:ffff:ffff ffff:ffff:ffff:ffff:ffff::
+81 2001:db8:1234:5678:9abc:8000:: 2001:db8:1234:5678:9abc:ffff:ffff:ffff ffff:ffff:ffff:ffff:ffff:8000::
+82 2001:db8:1234:5678:9abc:c000:: 2001:db8:1234:5678:9abc:ffff:ffff:ffff ffff:ffff:ffff:ffff:ffff:c000::
+83 2001:db8:1234:5678:9abc:c000:: 2001:db8:1234:5678:9abc:dfff:ffff:ffff ffff:ffff:ffff:ffff:ffff:e000::
+84 2001:db8:1234:5678:9abc:d000:: 2001:db8:1234:5678:9abc:dfff:ffff:ffff ffff:ffff:ffff:ffff:ffff:f000::
+85 2001:db8:1234:5678:9abc:d800:: 2001:db8:1234:5678:9abc:dfff:ffff:ffff ffff:ffff:ffff:ffff:ffff:f800::
+86 2001:db8:1234:5678:9abc:dc00:: 2001:db8:1234:5678:9abc:dfff:ffff:ffff ffff:ffff:ffff:ffff:ffff:fc00::
+87 2001:db8:1234:5678:9abc:de00:: 2001:db8:1234:5678:9abc:dfff:ffff:ffff ffff:ffff:ffff:ffff:ffff:fe00::
+88 2001:db8:1234:5678:9abc:de00:: 2001:db8:1234:5678:9abc:deff:ffff:ffff ffff:ffff:ffff:ffff:ffff:ff00::
+89 2001:db8:1234:5678:9abc:de80:: 2001:db8:1234:5678:9abc:deff:ffff:ffff ffff:ffff:ffff:ffff:ffff:ff80::
+90 2001:db8:1234:5678:9abc:dec0:: 2001:db8:1234:5678:9abc:deff:ffff:ffff ffff:ffff:ffff:ffff:ffff:ffc0::
+91 2001:db8:1234:5678:9abc:dee0:: 2001:db8:1234:5678:9abc:deff:ffff:ffff ffff:ffff:ffff:ffff:ffff:ffe0::
+92 2001:db8:1234:5678:9abc:def0:: 2001:db8:1234:5678:9abc:deff:ffff:ffff ffff:ffff:ffff:ffff:ffff:fff0::
+93 2001:db8:1234:5678:9abc:def0:: 2001:db8:1234:5678:9abc:def7:ffff:ffff ffff:ffff:ffff:ffff:ffff:fff8::
+94 2001:db8:1234:5678:9abc:def0:: 2001:db8:1234:5678:9abc:def3:ffff:ffff ffff:ffff:ffff:ffff:ffff:fffc::
+95 2001:db8:1234:5678:9abc:def0:: 2001:db8:1234:5678:9abc:def1:ffff:ffff ffff:ffff:ffff:ffff:ffff:fffe::
+96 2001:db8:1234:5678:9abc:def0:: 2001:db8:1234:5678:9abc:def0:ffff:ffff ffff:ffff:ffff:ffff:ffff:ffff::
+97 2001:db8:1234:5678:9abc:def0:8000:0 2001:db8:1234:5678:9abc:def0:ffff:ffff ffff:ffff:ffff:ffff:ffff:ffff:8000:0
+98 2001:db8:1234:5678:9abc:def0:c000:0 2001:db8:1234:5678:9abc:def0:ffff:ffff ffff:ffff:ffff:ffff:ffff:ffff:c000:0
+99 2001:db8:1234:5678:9abc:def0:e000:0 2001:db8:1234:5678:9abc:def0:ffff:ffff ffff:ffff:ffff:ffff:ffff:ffff:e000:0
+100 2001:db8:1234:5678:9abc:def0:f000:0 2001:db8:1234:5678:9abc:def0:ffff:ffff ffff:ffff:ffff:ffff:ffff:ffff:f000:0
+101 2001:db8:1234:5678:9abc:def0:f800:0 2001:db8:1234:5678:9abc:def0:ffff:ffff ffff:ffff:ffff:ffff:ffff:ffff:f800:0
+102 2001:db8:1234:5678:9abc:def0:fc00:0 2001:db8:1234:5678:9abc:def0:ffff:ffff ffff:ffff:ffff:ffff:ffff:ffff:fc00:0
+103 2001:db8:1234:5678:9abc:def0:fe00:0 2001:db8:1234:5678:9abc:def0:ffff:ffff ffff:ffff:ffff:ffff:ffff:ffff:fe00:0
+104 2001:db8:1234:5678:9abc:def0:fe00:0 2001:db8:1234:5678:9abc:def0:feff:ffff ffff:ffff:ffff:ffff:ffff:ffff:ff00:0
+105 2001:db8:1234:5678:9abc:def0:fe80:0 2001:db8:1234:5678:9abc:def0:feff:ffff ffff:ffff:ffff:ffff:ffff:ffff:ff80:0
+106 2001:db8:1234:5678:9abc:def0:fec0:0 2001:db8:1234:5678:9abc:def0:feff:ffff ffff:ffff:ffff:ffff:ffff:ffff:ffc0:0
+107 2001:db8:1234:5678:9abc:def0:fec0:0 2001:db8:1234:5678:9abc:def0:fedf:ffff ffff:ffff:ffff:ffff:ffff:ffff:ffe0:0
+108 2001:db8:1234:5678:9abc:def0:fed0:0 2001:db8:1234:5678:9abc:def0:fedf:ffff ffff:ffff:ffff:ffff:ffff:ffff:fff0:0
+109 2001:db8:1234:5678:9abc:def0:fed8:0 2001:db8:1234:5678:9abc:def0:fedf:ffff ffff:ffff:ffff:ffff:ffff:ffff:fff8:0
+110 2001:db8:1234:5678:9abc:def0:fedc:0 2001:db8:1234:5678:9abc:def0:fedf:ffff ffff:ffff:ffff:ffff:ffff:ffff:fffc:0
+111 2001:db8:1234:5678:9abc:def0:fedc:0 2001:db8:1234:5678:9abc:def0:fedd:ffff ffff:ffff:ffff:ffff:ffff:ffff:fffe:0
+112 2001:db8:1234:5678:9abc:def0:fedc:0 2001:db8:1234:5678:9abc:def0:fedc:ffff ffff:ffff:ffff:ffff:ffff:ffff:ffff:0
+113 2001:db8:1234:5678:9abc:def0:fedc:8000 2001:db8:1234:5678:9abc:def0:fedc:ffff ffff:ffff:ffff:ffff:ffff:ffff:ffff:8000
+114 2001:db8:1234:5678:9abc:def0:fedc:8000 2001:db8:1234:5678:9abc:def0:fedc:bfff ffff:ffff:ffff:ffff:ffff:ffff:ffff:c000
+115 2001:db8:1234:5678:9abc:def0:fedc:a000 2001:db8:1234:5678:9abc:def0:fedc:bfff ffff:ffff:ffff:ffff:ffff:ffff:ffff:e000
+116 2001:db8:1234:5678:9abc:def0:fedc:b000 2001:db8:1234:5678:9abc:def0:fedc:bfff ffff:ffff:ffff:ffff:ffff:ffff:ffff:f000
+117 2001:db8:1234:5678:9abc:def0:fedc:b800 2001:db8:1234:5678:9abc:def0:fedc:bfff ffff:ffff:ffff:ffff:ffff:ffff:ffff:f800
+118 2001:db8:1234:5678:9abc:def0:fedc:b800 2001:db8:1234:5678:9abc:def0:fedc:bbff ffff:ffff:ffff:ffff:ffff:ffff:ffff:fc00
+119 2001:db8:1234:5678:9abc:def0:fedc:ba00 2001:db8:1234:5678:9abc:def0:fedc:bbff ffff:ffff:ffff:ffff:ffff:ffff:ffff:fe00
+120 2001:db8:1234:5678:9abc:def0:fedc:ba00 2001:db8:1234:5678:9abc:def0:fedc:baff ffff:ffff:ffff:ffff:ffff:ffff:ffff:ff00
+121 2001:db8:1234:5678:9abc:def0:fedc:ba80 2001:db8:1234:5678:9abc:def0:fedc:baff ffff:ffff:ffff:ffff:ffff:ffff:ffff:ff80
+122 2001:db8:1234:5678:9abc:def0:fedc:ba80 2001:db8:1234:5678:9abc:def0:fedc:babf ffff:ffff:ffff:ffff:ffff:ffff:ffff:ffc0
+123 2001:db8:1234:5678:9abc:def0:fedc:ba80 2001:db8:1234:5678:9abc:def0:fedc:ba9f ffff:ffff:ffff:ffff:ffff:ffff:ffff:ffe0
+124 2001:db8:1234:5678:9abc:def0:fedc:ba90 2001:db8:1234:5678:9abc:def0:fedc:ba9f ffff:ffff:ffff:ffff:ffff:ffff:ffff:fff0
+125 2001:db8:1234:5678:9abc:def0:fedc:ba98 2001:db8:1234:5678:9abc:def0:fedc:ba9f ffff:ffff:ffff:ffff:ffff:ffff:ffff:fff8
+126 2001:db8:1234:5678:9abc:def0:fedc:ba98 2001:db8:1234:5678:9abc:def0:fedc:ba9b ffff:ffff:ffff:ffff:ffff:ffff:ffff:fffc
+127 2001:db8:1234:5678:9abc:def0:fedc:ba98 2001:db8:1234:5678:9abc:def0:fedc:ba99 ffff:ffff:ffff:ffff:ffff:ffff:ffff:fffe
+128 2001:db8:1234:5678:9abc:def0:fedc:ba98 2001:db8:1234:5678:9abc:def0:fedc:ba98 ffff:ffff:ffff:ffff:ffff:ffff:ffff:ffff";
+
+#[test]
+fn every_length(rt: HostRuntime) -> Result<(), Fail> {
     let inside = address("2001:db8:1234:5678:9abc:def0:fedc:ba98")?;
-    let network = Ipv6Cidr::new(address(first)?, len)?;
-    let last = address(last)?;
-    let mask = address(mask)?;
-    Ok(
-        network.network_length() == len
-            && network.last_address() == last
-            && network.mask() == mask
-            && network.contains(&inside),
-    )
-}
-
-// Each length with the first address, the last address and the mask, as Python's module `ipaddress` gives them.
-
-#[test]
-fn lengths_0_to_15(rt: HostRuntime) -> Result<(), Fail> {
-    let rows = [
-        (0, "::", "ffff:ffff:ffff:ffff:ffff:ffff:ffff:ffff", "::"),
-        (1, "::", "7fff:ffff:ffff:ffff:ffff:ffff:ffff:ffff", "8000::"),
-        (2, "::", "3fff:ffff:ffff:ffff:ffff:ffff:ffff:ffff", "c000::"),
-        (
-            3,
-            "2000::",
-            "3fff:ffff:ffff:ffff:ffff:ffff:ffff:ffff",
-            "e000::",
-        ),
-        (
-            4,
-            "2000::",
-            "2fff:ffff:ffff:ffff:ffff:ffff:ffff:ffff",
-            "f000::",
-        ),
-        (
-            5,
-            "2000::",
-            "27ff:ffff:ffff:ffff:ffff:ffff:ffff:ffff",
-            "f800::",
-        ),
-        (
-            6,
-            "2000::",
-            "23ff:ffff:ffff:ffff:ffff:ffff:ffff:ffff",
-            "fc00::",
-        ),
-        (
-            7,
-            "2000::",
-            "21ff:ffff:ffff:ffff:ffff:ffff:ffff:ffff",
-            "fe00::",
-        ),
-        (
-            8,
-            "2000::",
-            "20ff:ffff:ffff:ffff:ffff:ffff:ffff:ffff",
-            "ff00::",
-        ),
-        (
-            9,
-            "2000::",
-            "207f:ffff:ffff:ffff:ffff:ffff:ffff:ffff",
-            "ff80::",
-        ),
-        (
-            10,
-            "2000::",
-            "203f:ffff:ffff:ffff:ffff:ffff:ffff:ffff",
-            "ffc0::",
-        ),
-        (
-            11,
-            "2000::",
-            "201f:ffff:ffff:ffff:ffff:ffff:ffff:ffff",
-            "ffe0::",
-        ),
-        (
-            12,
-            "2000::",
-            "200f:ffff:ffff:ffff:ffff:ffff:ffff:ffff",
-            "fff0::",
-        ),
-        (
-            13,
-            "2000::",
-            "2007:ffff:ffff:ffff:ffff:ffff:ffff:ffff",
-            "fff8::",
-        ),
-        (
-            14,
-            "2000::",
-            "2003:ffff:ffff:ffff:ffff:ffff:ffff:ffff",
-            "fffc::",
-        ),
-        (
-            15,
-            "2000::",
-            "2001:ffff:ffff:ffff:ffff:ffff:ffff:ffff",
-            "fffe::",
-        ),
-    ];
-    for (len, first, last, mask) in rows {
-        assert!(rt; has_parts(len, first, last, mask)?);
+    for row in LENGTHS.lines() {
+        let (len, row) = cut(row)?;
+        let (first, row) = cut(row)?;
+        let (last, mask) = cut(row)?;
+        let network = Ipv6Cidr::new(address(first)?, len.parse::<u8>()?)?;
+        assert_eq!(rt; network.last_address(), address(last)?, "{len}");
+        assert_eq!(rt; network.mask(), address(mask)?, "{len}");
+        assert!(rt; network.contains(&inside), "{len}");
     }
-    Ok(())
-}
-
-#[test]
-fn lengths_16_to_31(rt: HostRuntime) -> Result<(), Fail> {
-    let rows = [
-        (
-            16,
-            "2001::",
-            "2001:ffff:ffff:ffff:ffff:ffff:ffff:ffff",
-            "ffff::",
-        ),
-        (
-            17,
-            "2001::",
-            "2001:7fff:ffff:ffff:ffff:ffff:ffff:ffff",
-            "ffff:8000::",
-        ),
-        (
-            18,
-            "2001::",
-            "2001:3fff:ffff:ffff:ffff:ffff:ffff:ffff",
-            "ffff:c000::",
-        ),
-        (
-            19,
-            "2001::",
-            "2001:1fff:ffff:ffff:ffff:ffff:ffff:ffff",
-            "ffff:e000::",
-        ),
-        (
-            20,
-            "2001::",
-            "2001:fff:ffff:ffff:ffff:ffff:ffff:ffff",
-            "ffff:f000::",
-        ),
-        (
-            21,
-            "2001:800::",
-            "2001:fff:ffff:ffff:ffff:ffff:ffff:ffff",
-            "ffff:f800::",
-        ),
-        (
-            22,
-            "2001:c00::",
-            "2001:fff:ffff:ffff:ffff:ffff:ffff:ffff",
-            "ffff:fc00::",
-        ),
-        (
-            23,
-            "2001:c00::",
-            "2001:dff:ffff:ffff:ffff:ffff:ffff:ffff",
-            "ffff:fe00::",
-        ),
-        (
-            24,
-            "2001:d00::",
-            "2001:dff:ffff:ffff:ffff:ffff:ffff:ffff",
-            "ffff:ff00::",
-        ),
-        (
-            25,
-            "2001:d80::",
-            "2001:dff:ffff:ffff:ffff:ffff:ffff:ffff",
-            "ffff:ff80::",
-        ),
-        (
-            26,
-            "2001:d80::",
-            "2001:dbf:ffff:ffff:ffff:ffff:ffff:ffff",
-            "ffff:ffc0::",
-        ),
-        (
-            27,
-            "2001:da0::",
-            "2001:dbf:ffff:ffff:ffff:ffff:ffff:ffff",
-            "ffff:ffe0::",
-        ),
-        (
-            28,
-            "2001:db0::",
-            "2001:dbf:ffff:ffff:ffff:ffff:ffff:ffff",
-            "ffff:fff0::",
-        ),
-        (
-            29,
-            "2001:db8::",
-            "2001:dbf:ffff:ffff:ffff:ffff:ffff:ffff",
-            "ffff:fff8::",
-        ),
-        (
-            30,
-            "2001:db8::",
-            "2001:dbb:ffff:ffff:ffff:ffff:ffff:ffff",
-            "ffff:fffc::",
-        ),
-        (
-            31,
-            "2001:db8::",
-            "2001:db9:ffff:ffff:ffff:ffff:ffff:ffff",
-            "ffff:fffe::",
-        ),
-    ];
-    for (len, first, last, mask) in rows {
-        assert!(rt; has_parts(len, first, last, mask)?);
-    }
-    Ok(())
-}
-
-#[test]
-fn lengths_32_to_47(rt: HostRuntime) -> Result<(), Fail> {
-    let rows = [
-        (
-            32,
-            "2001:db8::",
-            "2001:db8:ffff:ffff:ffff:ffff:ffff:ffff",
-            "ffff:ffff::",
-        ),
-        (
-            33,
-            "2001:db8::",
-            "2001:db8:7fff:ffff:ffff:ffff:ffff:ffff",
-            "ffff:ffff:8000::",
-        ),
-        (
-            34,
-            "2001:db8::",
-            "2001:db8:3fff:ffff:ffff:ffff:ffff:ffff",
-            "ffff:ffff:c000::",
-        ),
-        (
-            35,
-            "2001:db8::",
-            "2001:db8:1fff:ffff:ffff:ffff:ffff:ffff",
-            "ffff:ffff:e000::",
-        ),
-        (
-            36,
-            "2001:db8:1000::",
-            "2001:db8:1fff:ffff:ffff:ffff:ffff:ffff",
-            "ffff:ffff:f000::",
-        ),
-        (
-            37,
-            "2001:db8:1000::",
-            "2001:db8:17ff:ffff:ffff:ffff:ffff:ffff",
-            "ffff:ffff:f800::",
-        ),
-        (
-            38,
-            "2001:db8:1000::",
-            "2001:db8:13ff:ffff:ffff:ffff:ffff:ffff",
-            "ffff:ffff:fc00::",
-        ),
-        (
-            39,
-            "2001:db8:1200::",
-            "2001:db8:13ff:ffff:ffff:ffff:ffff:ffff",
-            "ffff:ffff:fe00::",
-        ),
-        (
-            40,
-            "2001:db8:1200::",
-            "2001:db8:12ff:ffff:ffff:ffff:ffff:ffff",
-            "ffff:ffff:ff00::",
-        ),
-        (
-            41,
-            "2001:db8:1200::",
-            "2001:db8:127f:ffff:ffff:ffff:ffff:ffff",
-            "ffff:ffff:ff80::",
-        ),
-        (
-            42,
-            "2001:db8:1200::",
-            "2001:db8:123f:ffff:ffff:ffff:ffff:ffff",
-            "ffff:ffff:ffc0::",
-        ),
-        (
-            43,
-            "2001:db8:1220::",
-            "2001:db8:123f:ffff:ffff:ffff:ffff:ffff",
-            "ffff:ffff:ffe0::",
-        ),
-        (
-            44,
-            "2001:db8:1230::",
-            "2001:db8:123f:ffff:ffff:ffff:ffff:ffff",
-            "ffff:ffff:fff0::",
-        ),
-        (
-            45,
-            "2001:db8:1230::",
-            "2001:db8:1237:ffff:ffff:ffff:ffff:ffff",
-            "ffff:ffff:fff8::",
-        ),
-        (
-            46,
-            "2001:db8:1234::",
-            "2001:db8:1237:ffff:ffff:ffff:ffff:ffff",
-            "ffff:ffff:fffc::",
-        ),
-        (
-            47,
-            "2001:db8:1234::",
-            "2001:db8:1235:ffff:ffff:ffff:ffff:ffff",
-            "ffff:ffff:fffe::",
-        ),
-    ];
-    for (len, first, last, mask) in rows {
-        assert!(rt; has_parts(len, first, last, mask)?);
-    }
-    Ok(())
-}
-
-#[test]
-fn lengths_48_to_63(rt: HostRuntime) -> Result<(), Fail> {
-    let rows = [
-        (
-            48,
-            "2001:db8:1234::",
-            "2001:db8:1234:ffff:ffff:ffff:ffff:ffff",
-            "ffff:ffff:ffff::",
-        ),
-        (
-            49,
-            "2001:db8:1234::",
-            "2001:db8:1234:7fff:ffff:ffff:ffff:ffff",
-            "ffff:ffff:ffff:8000::",
-        ),
-        (
-            50,
-            "2001:db8:1234:4000::",
-            "2001:db8:1234:7fff:ffff:ffff:ffff:ffff",
-            "ffff:ffff:ffff:c000::",
-        ),
-        (
-            51,
-            "2001:db8:1234:4000::",
-            "2001:db8:1234:5fff:ffff:ffff:ffff:ffff",
-            "ffff:ffff:ffff:e000::",
-        ),
-        (
-            52,
-            "2001:db8:1234:5000::",
-            "2001:db8:1234:5fff:ffff:ffff:ffff:ffff",
-            "ffff:ffff:ffff:f000::",
-        ),
-        (
-            53,
-            "2001:db8:1234:5000::",
-            "2001:db8:1234:57ff:ffff:ffff:ffff:ffff",
-            "ffff:ffff:ffff:f800::",
-        ),
-        (
-            54,
-            "2001:db8:1234:5400::",
-            "2001:db8:1234:57ff:ffff:ffff:ffff:ffff",
-            "ffff:ffff:ffff:fc00::",
-        ),
-        (
-            55,
-            "2001:db8:1234:5600::",
-            "2001:db8:1234:57ff:ffff:ffff:ffff:ffff",
-            "ffff:ffff:ffff:fe00::",
-        ),
-        (
-            56,
-            "2001:db8:1234:5600::",
-            "2001:db8:1234:56ff:ffff:ffff:ffff:ffff",
-            "ffff:ffff:ffff:ff00::",
-        ),
-        (
-            57,
-            "2001:db8:1234:5600::",
-            "2001:db8:1234:567f:ffff:ffff:ffff:ffff",
-            "ffff:ffff:ffff:ff80::",
-        ),
-        (
-            58,
-            "2001:db8:1234:5640::",
-            "2001:db8:1234:567f:ffff:ffff:ffff:ffff",
-            "ffff:ffff:ffff:ffc0::",
-        ),
-        (
-            59,
-            "2001:db8:1234:5660::",
-            "2001:db8:1234:567f:ffff:ffff:ffff:ffff",
-            "ffff:ffff:ffff:ffe0::",
-        ),
-        (
-            60,
-            "2001:db8:1234:5670::",
-            "2001:db8:1234:567f:ffff:ffff:ffff:ffff",
-            "ffff:ffff:ffff:fff0::",
-        ),
-        (
-            61,
-            "2001:db8:1234:5678::",
-            "2001:db8:1234:567f:ffff:ffff:ffff:ffff",
-            "ffff:ffff:ffff:fff8::",
-        ),
-        (
-            62,
-            "2001:db8:1234:5678::",
-            "2001:db8:1234:567b:ffff:ffff:ffff:ffff",
-            "ffff:ffff:ffff:fffc::",
-        ),
-        (
-            63,
-            "2001:db8:1234:5678::",
-            "2001:db8:1234:5679:ffff:ffff:ffff:ffff",
-            "ffff:ffff:ffff:fffe::",
-        ),
-    ];
-    for (len, first, last, mask) in rows {
-        assert!(rt; has_parts(len, first, last, mask)?);
-    }
-    Ok(())
-}
-
-#[test]
-fn lengths_64_to_79(rt: HostRuntime) -> Result<(), Fail> {
-    let rows = [
-        (
-            64,
-            "2001:db8:1234:5678::",
-            "2001:db8:1234:5678:ffff:ffff:ffff:ffff",
-            "ffff:ffff:ffff:ffff::",
-        ),
-        (
-            65,
-            "2001:db8:1234:5678:8000::",
-            "2001:db8:1234:5678:ffff:ffff:ffff:ffff",
-            "ffff:ffff:ffff:ffff:8000::",
-        ),
-        (
-            66,
-            "2001:db8:1234:5678:8000::",
-            "2001:db8:1234:5678:bfff:ffff:ffff:ffff",
-            "ffff:ffff:ffff:ffff:c000::",
-        ),
-        (
-            67,
-            "2001:db8:1234:5678:8000::",
-            "2001:db8:1234:5678:9fff:ffff:ffff:ffff",
-            "ffff:ffff:ffff:ffff:e000::",
-        ),
-        (
-            68,
-            "2001:db8:1234:5678:9000::",
-            "2001:db8:1234:5678:9fff:ffff:ffff:ffff",
-            "ffff:ffff:ffff:ffff:f000::",
-        ),
-        (
-            69,
-            "2001:db8:1234:5678:9800::",
-            "2001:db8:1234:5678:9fff:ffff:ffff:ffff",
-            "ffff:ffff:ffff:ffff:f800::",
-        ),
-        (
-            70,
-            "2001:db8:1234:5678:9800::",
-            "2001:db8:1234:5678:9bff:ffff:ffff:ffff",
-            "ffff:ffff:ffff:ffff:fc00::",
-        ),
-        (
-            71,
-            "2001:db8:1234:5678:9a00::",
-            "2001:db8:1234:5678:9bff:ffff:ffff:ffff",
-            "ffff:ffff:ffff:ffff:fe00::",
-        ),
-        (
-            72,
-            "2001:db8:1234:5678:9a00::",
-            "2001:db8:1234:5678:9aff:ffff:ffff:ffff",
-            "ffff:ffff:ffff:ffff:ff00::",
-        ),
-        (
-            73,
-            "2001:db8:1234:5678:9a80::",
-            "2001:db8:1234:5678:9aff:ffff:ffff:ffff",
-            "ffff:ffff:ffff:ffff:ff80::",
-        ),
-        (
-            74,
-            "2001:db8:1234:5678:9a80::",
-            "2001:db8:1234:5678:9abf:ffff:ffff:ffff",
-            "ffff:ffff:ffff:ffff:ffc0::",
-        ),
-        (
-            75,
-            "2001:db8:1234:5678:9aa0::",
-            "2001:db8:1234:5678:9abf:ffff:ffff:ffff",
-            "ffff:ffff:ffff:ffff:ffe0::",
-        ),
-        (
-            76,
-            "2001:db8:1234:5678:9ab0::",
-            "2001:db8:1234:5678:9abf:ffff:ffff:ffff",
-            "ffff:ffff:ffff:ffff:fff0::",
-        ),
-        (
-            77,
-            "2001:db8:1234:5678:9ab8::",
-            "2001:db8:1234:5678:9abf:ffff:ffff:ffff",
-            "ffff:ffff:ffff:ffff:fff8::",
-        ),
-        (
-            78,
-            "2001:db8:1234:5678:9abc::",
-            "2001:db8:1234:5678:9abf:ffff:ffff:ffff",
-            "ffff:ffff:ffff:ffff:fffc::",
-        ),
-        (
-            79,
-            "2001:db8:1234:5678:9abc::",
-            "2001:db8:1234:5678:9abd:ffff:ffff:ffff",
-            "ffff:ffff:ffff:ffff:fffe::",
-        ),
-    ];
-    for (len, first, last, mask) in rows {
-        assert!(rt; has_parts(len, first, last, mask)?);
-    }
-    Ok(())
-}
-
-#[test]
-fn lengths_80_to_95(rt: HostRuntime) -> Result<(), Fail> {
-    let rows = [
-        (
-            80,
-            "2001:db8:1234:5678:9abc::",
-            "2001:db8:1234:5678:9abc:ffff:ffff:ffff",
-            "ffff:ffff:ffff:ffff:ffff::",
-        ),
-        (
-            81,
-            "2001:db8:1234:5678:9abc:8000::",
-            "2001:db8:1234:5678:9abc:ffff:ffff:ffff",
-            "ffff:ffff:ffff:ffff:ffff:8000::",
-        ),
-        (
-            82,
-            "2001:db8:1234:5678:9abc:c000::",
-            "2001:db8:1234:5678:9abc:ffff:ffff:ffff",
-            "ffff:ffff:ffff:ffff:ffff:c000::",
-        ),
-        (
-            83,
-            "2001:db8:1234:5678:9abc:c000::",
-            "2001:db8:1234:5678:9abc:dfff:ffff:ffff",
-            "ffff:ffff:ffff:ffff:ffff:e000::",
-        ),
-        (
-            84,
-            "2001:db8:1234:5678:9abc:d000::",
-            "2001:db8:1234:5678:9abc:dfff:ffff:ffff",
-            "ffff:ffff:ffff:ffff:ffff:f000::",
-        ),
-        (
-            85,
-            "2001:db8:1234:5678:9abc:d800::",
-            "2001:db8:1234:5678:9abc:dfff:ffff:ffff",
-            "ffff:ffff:ffff:ffff:ffff:f800::",
-        ),
-        (
-            86,
-            "2001:db8:1234:5678:9abc:dc00::",
-            "2001:db8:1234:5678:9abc:dfff:ffff:ffff",
-            "ffff:ffff:ffff:ffff:ffff:fc00::",
-        ),
-        (
-            87,
-            "2001:db8:1234:5678:9abc:de00::",
-            "2001:db8:1234:5678:9abc:dfff:ffff:ffff",
-            "ffff:ffff:ffff:ffff:ffff:fe00::",
-        ),
-        (
-            88,
-            "2001:db8:1234:5678:9abc:de00::",
-            "2001:db8:1234:5678:9abc:deff:ffff:ffff",
-            "ffff:ffff:ffff:ffff:ffff:ff00::",
-        ),
-        (
-            89,
-            "2001:db8:1234:5678:9abc:de80::",
-            "2001:db8:1234:5678:9abc:deff:ffff:ffff",
-            "ffff:ffff:ffff:ffff:ffff:ff80::",
-        ),
-        (
-            90,
-            "2001:db8:1234:5678:9abc:dec0::",
-            "2001:db8:1234:5678:9abc:deff:ffff:ffff",
-            "ffff:ffff:ffff:ffff:ffff:ffc0::",
-        ),
-        (
-            91,
-            "2001:db8:1234:5678:9abc:dee0::",
-            "2001:db8:1234:5678:9abc:deff:ffff:ffff",
-            "ffff:ffff:ffff:ffff:ffff:ffe0::",
-        ),
-        (
-            92,
-            "2001:db8:1234:5678:9abc:def0::",
-            "2001:db8:1234:5678:9abc:deff:ffff:ffff",
-            "ffff:ffff:ffff:ffff:ffff:fff0::",
-        ),
-        (
-            93,
-            "2001:db8:1234:5678:9abc:def0::",
-            "2001:db8:1234:5678:9abc:def7:ffff:ffff",
-            "ffff:ffff:ffff:ffff:ffff:fff8::",
-        ),
-        (
-            94,
-            "2001:db8:1234:5678:9abc:def0::",
-            "2001:db8:1234:5678:9abc:def3:ffff:ffff",
-            "ffff:ffff:ffff:ffff:ffff:fffc::",
-        ),
-        (
-            95,
-            "2001:db8:1234:5678:9abc:def0::",
-            "2001:db8:1234:5678:9abc:def1:ffff:ffff",
-            "ffff:ffff:ffff:ffff:ffff:fffe::",
-        ),
-    ];
-    for (len, first, last, mask) in rows {
-        assert!(rt; has_parts(len, first, last, mask)?);
-    }
-    Ok(())
-}
-
-#[test]
-fn lengths_96_to_111(rt: HostRuntime) -> Result<(), Fail> {
-    let rows = [
-        (
-            96,
-            "2001:db8:1234:5678:9abc:def0::",
-            "2001:db8:1234:5678:9abc:def0:ffff:ffff",
-            "ffff:ffff:ffff:ffff:ffff:ffff::",
-        ),
-        (
-            97,
-            "2001:db8:1234:5678:9abc:def0:8000:0",
-            "2001:db8:1234:5678:9abc:def0:ffff:ffff",
-            "ffff:ffff:ffff:ffff:ffff:ffff:8000:0",
-        ),
-        (
-            98,
-            "2001:db8:1234:5678:9abc:def0:c000:0",
-            "2001:db8:1234:5678:9abc:def0:ffff:ffff",
-            "ffff:ffff:ffff:ffff:ffff:ffff:c000:0",
-        ),
-        (
-            99,
-            "2001:db8:1234:5678:9abc:def0:e000:0",
-            "2001:db8:1234:5678:9abc:def0:ffff:ffff",
-            "ffff:ffff:ffff:ffff:ffff:ffff:e000:0",
-        ),
-        (
-            100,
-            "2001:db8:1234:5678:9abc:def0:f000:0",
-            "2001:db8:1234:5678:9abc:def0:ffff:ffff",
-            "ffff:ffff:ffff:ffff:ffff:ffff:f000:0",
-        ),
-        (
-            101,
-            "2001:db8:1234:5678:9abc:def0:f800:0",
-            "2001:db8:1234:5678:9abc:def0:ffff:ffff",
-            "ffff:ffff:ffff:ffff:ffff:ffff:f800:0",
-        ),
-        (
-            102,
-            "2001:db8:1234:5678:9abc:def0:fc00:0",
-            "2001:db8:1234:5678:9abc:def0:ffff:ffff",
-            "ffff:ffff:ffff:ffff:ffff:ffff:fc00:0",
-        ),
-        (
-            103,
-            "2001:db8:1234:5678:9abc:def0:fe00:0",
-            "2001:db8:1234:5678:9abc:def0:ffff:ffff",
-            "ffff:ffff:ffff:ffff:ffff:ffff:fe00:0",
-        ),
-        (
-            104,
-            "2001:db8:1234:5678:9abc:def0:fe00:0",
-            "2001:db8:1234:5678:9abc:def0:feff:ffff",
-            "ffff:ffff:ffff:ffff:ffff:ffff:ff00:0",
-        ),
-        (
-            105,
-            "2001:db8:1234:5678:9abc:def0:fe80:0",
-            "2001:db8:1234:5678:9abc:def0:feff:ffff",
-            "ffff:ffff:ffff:ffff:ffff:ffff:ff80:0",
-        ),
-        (
-            106,
-            "2001:db8:1234:5678:9abc:def0:fec0:0",
-            "2001:db8:1234:5678:9abc:def0:feff:ffff",
-            "ffff:ffff:ffff:ffff:ffff:ffff:ffc0:0",
-        ),
-        (
-            107,
-            "2001:db8:1234:5678:9abc:def0:fec0:0",
-            "2001:db8:1234:5678:9abc:def0:fedf:ffff",
-            "ffff:ffff:ffff:ffff:ffff:ffff:ffe0:0",
-        ),
-        (
-            108,
-            "2001:db8:1234:5678:9abc:def0:fed0:0",
-            "2001:db8:1234:5678:9abc:def0:fedf:ffff",
-            "ffff:ffff:ffff:ffff:ffff:ffff:fff0:0",
-        ),
-        (
-            109,
-            "2001:db8:1234:5678:9abc:def0:fed8:0",
-            "2001:db8:1234:5678:9abc:def0:fedf:ffff",
-            "ffff:ffff:ffff:ffff:ffff:ffff:fff8:0",
-        ),
-        (
-            110,
-            "2001:db8:1234:5678:9abc:def0:fedc:0",
-            "2001:db8:1234:5678:9abc:def0:fedf:ffff",
-            "ffff:ffff:ffff:ffff:ffff:ffff:fffc:0",
-        ),
-        (
-            111,
-            "2001:db8:1234:5678:9abc:def0:fedc:0",
-            "2001:db8:1234:5678:9abc:def0:fedd:ffff",
-            "ffff:ffff:ffff:ffff:ffff:ffff:fffe:0",
-        ),
-    ];
-    for (len, first, last, mask) in rows {
-        assert!(rt; has_parts(len, first, last, mask)?);
-    }
-    Ok(())
-}
-
-#[test]
-fn lengths_112_to_128(rt: HostRuntime) -> Result<(), Fail> {
-    let rows = [
-        (
-            112,
-            "2001:db8:1234:5678:9abc:def0:fedc:0",
-            "2001:db8:1234:5678:9abc:def0:fedc:ffff",
-            "ffff:ffff:ffff:ffff:ffff:ffff:ffff:0",
-        ),
-        (
-            113,
-            "2001:db8:1234:5678:9abc:def0:fedc:8000",
-            "2001:db8:1234:5678:9abc:def0:fedc:ffff",
-            "ffff:ffff:ffff:ffff:ffff:ffff:ffff:8000",
-        ),
-        (
-            114,
-            "2001:db8:1234:5678:9abc:def0:fedc:8000",
-            "2001:db8:1234:5678:9abc:def0:fedc:bfff",
-            "ffff:ffff:ffff:ffff:ffff:ffff:ffff:c000",
-        ),
-        (
-            115,
-            "2001:db8:1234:5678:9abc:def0:fedc:a000",
-            "2001:db8:1234:5678:9abc:def0:fedc:bfff",
-            "ffff:ffff:ffff:ffff:ffff:ffff:ffff:e000",
-        ),
-        (
-            116,
-            "2001:db8:1234:5678:9abc:def0:fedc:b000",
-            "2001:db8:1234:5678:9abc:def0:fedc:bfff",
-            "ffff:ffff:ffff:ffff:ffff:ffff:ffff:f000",
-        ),
-        (
-            117,
-            "2001:db8:1234:5678:9abc:def0:fedc:b800",
-            "2001:db8:1234:5678:9abc:def0:fedc:bfff",
-            "ffff:ffff:ffff:ffff:ffff:ffff:ffff:f800",
-        ),
-        (
-            118,
-            "2001:db8:1234:5678:9abc:def0:fedc:b800",
-            "2001:db8:1234:5678:9abc:def0:fedc:bbff",
-            "ffff:ffff:ffff:ffff:ffff:ffff:ffff:fc00",
-        ),
-        (
-            119,
-            "2001:db8:1234:5678:9abc:def0:fedc:ba00",
-            "2001:db8:1234:5678:9abc:def0:fedc:bbff",
-            "ffff:ffff:ffff:ffff:ffff:ffff:ffff:fe00",
-        ),
-        (
-            120,
-            "2001:db8:1234:5678:9abc:def0:fedc:ba00",
-            "2001:db8:1234:5678:9abc:def0:fedc:baff",
-            "ffff:ffff:ffff:ffff:ffff:ffff:ffff:ff00",
-        ),
-        (
-            121,
-            "2001:db8:1234:5678:9abc:def0:fedc:ba80",
-            "2001:db8:1234:5678:9abc:def0:fedc:baff",
-            "ffff:ffff:ffff:ffff:ffff:ffff:ffff:ff80",
-        ),
-        (
-            122,
-            "2001:db8:1234:5678:9abc:def0:fedc:ba80",
-            "2001:db8:1234:5678:9abc:def0:fedc:babf",
-            "ffff:ffff:ffff:ffff:ffff:ffff:ffff:ffc0",
-        ),
-        (
-            123,
-            "2001:db8:1234:5678:9abc:def0:fedc:ba80",
-            "2001:db8:1234:5678:9abc:def0:fedc:ba9f",
-            "ffff:ffff:ffff:ffff:ffff:ffff:ffff:ffe0",
-        ),
-        (
-            124,
-            "2001:db8:1234:5678:9abc:def0:fedc:ba90",
-            "2001:db8:1234:5678:9abc:def0:fedc:ba9f",
-            "ffff:ffff:ffff:ffff:ffff:ffff:ffff:fff0",
-        ),
-        (
-            125,
-            "2001:db8:1234:5678:9abc:def0:fedc:ba98",
-            "2001:db8:1234:5678:9abc:def0:fedc:ba9f",
-            "ffff:ffff:ffff:ffff:ffff:ffff:ffff:fff8",
-        ),
-        (
-            126,
-            "2001:db8:1234:5678:9abc:def0:fedc:ba98",
-            "2001:db8:1234:5678:9abc:def0:fedc:ba9b",
-            "ffff:ffff:ffff:ffff:ffff:ffff:ffff:fffc",
-        ),
-        (
-            127,
-            "2001:db8:1234:5678:9abc:def0:fedc:ba98",
-            "2001:db8:1234:5678:9abc:def0:fedc:ba99",
-            "ffff:ffff:ffff:ffff:ffff:ffff:ffff:fffe",
-        ),
-        (
-            128,
-            "2001:db8:1234:5678:9abc:def0:fedc:ba98",
-            "2001:db8:1234:5678:9abc:def0:fedc:ba98",
-            "ffff:ffff:ffff:ffff:ffff:ffff:ffff:ffff",
-        ),
-    ];
-    for (len, first, last, mask) in rows {
-        assert!(rt; has_parts(len, first, last, mask)?);
-    }
+    assert_eq!(rt; LENGTHS.lines().count(), 129);
     Ok(())
 }
 
