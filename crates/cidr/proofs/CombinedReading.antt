@@ -1,5 +1,5 @@
 -- What reading a network or a host of either family gives, from what reading its parts gave.
-use Rattle.std.proofs.Common.{◌≡◌, ◌≢◌, ℕ, Bool, true, false, List, codes, bytes_eq, Result, Ok, Err, MatchResult, refl, sym, ◌∙◌, subst, inl, inr}
+use Rattle.std.proofs.Common.{◌≡◌, ◌≢◌, ℕ, Bool, false, List, codes, bytes_eq, Result, Ok, Err, MatchResult, refl, sym, ◌∙◌, subst, inl, inr}
 use Rattle.std.proofs.lemmas.Bool.{false≢true}
 use Rattle.std.proofs.lemmas.Slice.Eq.{bytes_eq-Decides}
 use Rattle.cidr.specs.AddressText.{Reads, IsIpv4Text}

@@ -1,5 +1,5 @@
 -- The groups of an IPv6 address.
-use Rattle.std.proofs.Common.{◌≡◌, ℕ, ◌+◌, ◌*◌, ◌/◌, ◌%◌, ◌^◌, ◌<◌, [], ◌∷◌, refl, ap, ap₂, ◌∙◌, arith}
+use Rattle.std.proofs.Common.{◌≡◌, ℕ, ◌+◌, ◌*◌, ◌/◌, ◌%◌, ◌^◌, ◌<◌, [], ◌∷◌, ap, ap₂, ◌∙◌, arith}
 use Rattle.cidr.specs.Bits.{bits}
 use Rattle.cidr.specs.BitLaws.{length-bits}
 use Rattle.cidr.specs.Address.{group_bits, groups_of}

@@ -2,8 +2,8 @@
 use Rattle.std.proofs.Common.{◌≡◌, ◌≢◌, ℕ, Bool, List, Result, Ok, Err, refl, inl, inr}
 use Rattle.std.proofs.lemmas.Bool.{cases_lt, lt-ltb, le-ltb}
 use Rattle.cidr.specs.AddressText.{Reads}
-use Rattle.cidr.specs.Host.{Host, host_from, lone_host}
-use Rattle.cidr.specs.HostText.{IsHostText, ReadsHost}
+use Rattle.cidr.specs.Host.{Host, host_from}
+use Rattle.cidr.specs.HostText.{ReadsHost}
 use Rattle.cidr.specs.Network.{too_long}
 use Rattle.cidr.specs.NetworkText.{slash, IsLengthText}
 use Rattle.cidr.specs.Refusal.{Lacks, CutsAtLastSlash, HasAddress, IsRefused}

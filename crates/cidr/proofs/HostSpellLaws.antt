@@ -1,5 +1,5 @@
 -- What is printed of a host spells it.
-use Rattle.std.proofs.Common.{◌≡◌, ℕ, ◌<◌, ◌≤◌, Bool, List, ◌++◌, length, decimal, refl, arith, inl, inr, append-nil, eq-eqb, ne_eqb}
+use Rattle.std.proofs.Common.{◌≡◌, ℕ, ◌<◌, Bool, List, length, decimal, refl, arith, inl, inr, append-nil, eq-eqb, ne_eqb}
 use Rattle.std.proofs.lemmas.Bool.{cases_eq}
 use Rattle.cidr.specs.AddressText.{IsIpv4Text}
 use Rattle.cidr.specs.Ipv6Text.{IsIpv6Text}

@@ -5,7 +5,7 @@ use Rattle.std.proofs.lemmas.List.{length-replicate, take_all, drop_all}
 use Rattle.std.proofs.lemmas.Bool.{cases_eq, false_from_ne_true}
 use Rattle.cidr.specs.Bits.{bits, number, bit_eq}
 use Rattle.cidr.specs.BitLaws.{number-bits, number-lt, bits-number, bits-cat, bits-zero, bits-ones, number-append, bit_eq_Decides}
-use Rattle.cidr.specs.Network.{zeros, ones, first_of, last_of, mask_of, BeginsWith}
+use Rattle.cidr.specs.Network.{zeros, ones, last_of, mask_of, BeginsWith}
 use Rattle.cidr.specs.NetworkLaws.{length-take-within, first_of-take}
 
 -- the number of the first k bits, and of those from k on

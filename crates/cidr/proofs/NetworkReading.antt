@@ -1,10 +1,6 @@
 -- What reading a network gives, from what reading its parts gave.
-use Rattle.std.proofs.Common.{◌≡◌, ℕ, ◌-◌, Bool, List, ◌∷◌, ◌++◌, take, drop, Option, Some, None, Ok, Err, refl, sym, ap, ◌∙◌, arith, inl, inr, take-append-drop}
+use Rattle.std.proofs.Common.{ℕ, ◌-◌, Bool, List, take, drop, Ok, Err, refl, sym, ◌∙◌, inl, inr}
 use Rattle.std.proofs.lemmas.Bool.{cases_lt, lt-ltb, le-ltb, cond_both, false≢true}
-use Rattle.std.proofs.lemmas.Str.Pattern.{NoCharPasses-char, drop_at_char}
-use Rattle.std.specs.Str.Pattern.{RFindsChar, SplitsAroundMatch}
-use Rattle.std.specs.Option.{MatchOption}
-use Rattle.std.specs.Borrow.{Bor}
 use Rattle.cidr.specs.Bits.{bit_eq}
 use Rattle.cidr.specs.BitLaws.{bit_eq_Decides}
 use Rattle.cidr.specs.AddressText.{Reads}

@@ -1,33 +1,20 @@
 -- What is printed of an IPv4 address spells it.
-use Rattle.std.proofs.Common.{◌≡◌, ℕ, ◌+◌, ◌/◌, ◌%◌, ◌<◌, ◌≤◌, Bool, List, [], ◌∷◌, ◌++◌, length, get_or, decimal, refl, sym, ap, ◌∙◌, arith, inl, inr, append_assoc, length-append}
-use Rattle.std.proofs.lemmas.Bool.{cases_lt}
-use Rattle.std.proofs.lemmas.Fmt.{decimal_digit, decimal_step, decimal_is_IsNumeral, first_decimal, length-decimal-le}
+use Rattle.std.proofs.Common.{◌≡◌, ℕ, ◌+◌, ◌<◌, ◌≤◌, Bool, List, [], ◌∷◌, ◌++◌, length, get_or, decimal, refl, sym, arith, append_assoc, length-append}
+use Rattle.std.proofs.lemmas.Fmt.{length-decimal-le}
 use Rattle.cidr.specs.Address.{octets_of}
 use Rattle.cidr.specs.AddressText.{IsOctetText, IsJoined, IsIpv4Text, dot}
 use Rattle.cidr.specs.Printed.{dotted, ipv4_text, length_text}
+use Rattle.cidr.proofs.OctetReading.{IsOctetText-decimal}
 use Rattle.cidr.proofs.PartLaws.{length-parts_of, parts_fit, flat_map-parts_of}
 
 -- an address is its octets
-octet : (n : ℕ) → n < 256 → IsOctetText (decimal n) n
-octet n fits =
-    let (numeral, value) = decimal_is_IsNumeral n (omega arith) in
-    record {
-      digits = numeral;
-      value = value;
-      fits = fits;
-      no_leading_zero = λ zero_first. elim (cases_lt n 10) [
-        | inl one ↦ ap length (decimal_digit n one)
-        | inr more ↦ absurd (omega (arith, first_decimal n (omega arith) (omega arith)))
-      ];
-    }
-
 spelled_four : (o : List ℕ) → length o ≡ 4 → ((i : ℕ) → get_or o i 0 < 256) → IsJoined IsOctetText (dotted o) o
 spelled_four [] e fits = absurd (omega arith)
 spelled_four (a ∷ []) e fits = absurd (omega arith)
 spelled_four (a ∷ b ∷ []) e fits = absurd (omega arith)
 spelled_four (a ∷ b ∷ c ∷ []) e fits = absurd (omega arith)
 spelled_four (a ∷ b ∷ c ∷ d ∷ []) e fits =
-    (decimal a, _, refl, octet a (fits 0), (decimal b, _, refl, octet b (fits 1), (decimal c, decimal d, refl, octet c (fits 2), octet d (fits 3))))
+    (decimal a, _, refl, IsOctetText-decimal a (fits 0), (decimal b, _, refl, IsOctetText-decimal b (fits 1), (decimal c, decimal d, refl, IsOctetText-decimal c (fits 2), IsOctetText-decimal d (fits 3))))
 spelled_four (a ∷ b ∷ c ∷ d ∷ f ∷ o) e fits = absurd (omega arith)
 
 pub IsIpv4Text-ipv4_text : (a : List Bool) → length a ≡ 32 → IsIpv4Text (ipv4_text a) a

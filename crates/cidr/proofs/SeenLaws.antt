@@ -1,5 +1,5 @@
 -- A value that is its own view.
-use Rattle.std.proofs.Common.{◌≡◌, Option, Some, None, Result, Ok, Err, IfOk, IfSome, option_map, refl, rules}
+use Rattle.std.proofs.Common.{◌≡◌, Option, Some, None, Result, Ok, Err, IfOk, IfSome, option_map, refl}
 use Rattle.cidr.specs.Seen.{seen}
 
 pub seen-itself : {V E : Type 0} (r : Result V E) → seen (λ x. x) r ≡ r

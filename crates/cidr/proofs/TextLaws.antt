@@ -1,12 +1,12 @@
 -- A text is cut in one way, spells one value, and is not refused where it spells one.
-use Rattle.std.proofs.Common.{◌≡◌, ◌≢◌, ℕ, zero, suc, ◌+◌, ◌-◌, ◌<◌, Bool, List, [], ◌∷◌, ◌++◌, length, get_or, take, drop, refl, sym, ap, ap₂, ◌∙◌, subst, arith, inl, inr, length-append, Result, Ok, Err}
+use Rattle.std.proofs.Common.{◌≡◌, ◌≢◌, ℕ, zero, suc, ◌-◌, ◌<◌, Bool, List, [], ◌∷◌, ◌++◌, length, get_or, drop, refl, sym, ap, ap₂, ◌∙◌, subst, arith, inl, inr, length-append, Result, Ok, Err}
 use Rattle.std.proofs.lemmas.Bool.{cases_lt}
 use Rattle.std.proofs.lemmas.List.{get_or_append_left, get_or-append_right, get_or_at}
 use Rattle.std.proofs.lemmas.Str.Parse.{digit_at}
 use Rattle.std.specs.Str.Parse.{AllDigits, IsNumeral, digits_value}
 use Rattle.cidr.specs.Address.{octet_bits}
 use Rattle.cidr.specs.AddressText.{IsOctetText, IsJoined, IsIpv4Text, dot}
-use Rattle.cidr.specs.NetworkText.{slash, plus, IsByteText, IsLengthText, IsSlashed, IsNetworkText}
+use Rattle.cidr.specs.NetworkText.{slash, IsLengthText, IsSlashed, IsNetworkText}
 use Rattle.cidr.specs.Refusal.{Lacks, CutsAtLastSlash, HasAddress, IsRefused, ReadsNetwork}
 use Rattle.cidr.specs.Host.{Host, network_of}
 use Rattle.cidr.specs.HostText.{IsSlashedHost, IsHostText, IsHostRefused}

@@ -1,10 +1,10 @@
 -- Walks from one address to another: how long they are, and what stands at their ends.
-use Rattle.std.proofs.Common.{◌≡◌, ℕ, zero, suc, ◌+◌, ◌-◌, ◌^◌, ◌<◌, ◌≤◌, Bool, true, false, List, [], ◌∷◌, ◌++◌, length, map, refl, sym, ap, ap₂, ◌∙◌, subst, arith, IsTrue, Option, Some, length-append}
+use Rattle.std.proofs.Common.{◌≡◌, ℕ, suc, ◌+◌, ◌-◌, ◌^◌, ◌<◌, ◌≤◌, Bool, true, false, List, [], ◌∷◌, ◌++◌, length, map, refl, sym, ap, ap₂, ◌∙◌, subst, arith, IsTrue, Option, Some, length-append}
 use Rattle.std.specs.List.{range_with_len}
 use Rattle.std.proofs.lemmas.List.{same_from_push, map-append}
 use Rattle.std.proofs.lemmas.List.FromFn.{length-map-range_with_len, map-range_with_len_more}
 use Rattle.cidr.specs.Bits.{bits, number}
-use Rattle.cidr.specs.BitLaws.{bits-number, number-bits, number-lt}
+use Rattle.cidr.specs.BitLaws.{number-bits, number-lt}
 use Rattle.cidr.specs.Network.{width_of}
 use Rattle.cidr.specs.Host.{Host}
 use Rattle.cidr.specs.Pair.{Pair, IsPair, first_of_pair, second_of_pair}

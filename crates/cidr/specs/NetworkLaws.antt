@@ -1,5 +1,5 @@
 -- The bits of a network and its first address tell each other.
-use Rattle.std.proofs.Common.{◌≡◌, ℕ, ◌-◌, ◌≤◌, Bool, List, ◌++◌, length, take, drop, arith, take-append-drop, length-take-le}
+use Rattle.std.proofs.Common.{◌≡◌, ℕ, ◌-◌, ◌≤◌, Bool, List, length, take, drop, arith, take-append-drop, length-take-le}
 use Rattle.cidr.specs.Network.{zeros, first_of}
 
 pub length-take-within : (w k : ℕ) (a : List Bool) → k ≤ w → length a ≡ w → length (take k a) ≡ k

@@ -1,4 +1,4 @@
-use Rattle.cidr.proofs.OctetReading.{no_octet, zero_octet, short_octet, middle_octet, long_octet, large_octet}
+use Rattle.cidr.proofs.OctetReading.{zero_octet, short_octet, middle_octet, long_octet, large_octet}
 use Rattle.std.proofs.Common.{arith}
 use Rattle.cidr.proofs.addr.read.take_octet.Goals as goal
 

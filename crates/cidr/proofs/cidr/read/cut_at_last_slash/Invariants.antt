@@ -1,4 +1,4 @@
-use Rattle.std.proofs.Common.{◌≡◌, ◌≢◌, ℕ, ◌<◌, ◌≤◌, length, get_or}
+use Rattle.std.proofs.Common.{◌≢◌, ℕ, ◌<◌, ◌≤◌, length, get_or}
 use Rattle.cidr.proofs.cidr.read.cut_at_last_slash.Given as goal
 
 abbrev pub invariant-loop-i : goal.invariant-loop-i
