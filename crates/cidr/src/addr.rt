@@ -2,7 +2,6 @@
 
 pub(crate) mod error;
 pub(crate) mod ip;
-pub(crate) mod laws;
 pub(crate) mod print;
 pub(crate) mod print6;
 pub(crate) mod read;

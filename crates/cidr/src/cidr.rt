@@ -2,7 +2,6 @@
 
 pub(crate) mod any;
 pub(crate) mod combined;
-pub(crate) mod laws;
 pub(crate) mod print;
 pub(crate) mod read;
 pub(crate) mod v4;

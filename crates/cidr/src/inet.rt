@@ -1,6 +1,5 @@
 //! Hosts: addresses in their networks.
 
 pub(crate) mod combined;
-pub(crate) mod laws;
 pub(crate) mod v4;
 pub(crate) mod v6;

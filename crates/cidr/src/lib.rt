@@ -9,6 +9,7 @@ mod inet;
 mod inet_iterator;
 mod inet_pair;
 mod internal_traits;
+pub mod laws;
 mod num;
 mod traits;
 

@@ -3,7 +3,7 @@ use Rattle.cidr.specs.Ipv6Text.{IsIpv6Text}
 use Rattle.cidr.proofs.CombinedOne.{one_ip_host}
 use Rattle.cidr.proofs.Ipv6Grammar.{ipv6_grammar}
 use Rattle.cidr.proofs.TextLaws.{ipv4_grammar, one_host}
-use Rattle.cidr.proofs.inet.laws.host_text_spells_one.Goals as goal
+use Rattle.cidr.proofs.laws.hosts.host_text_spells_one.Goals as goal
 
 pub returns : goal.returns
 returns c = record {

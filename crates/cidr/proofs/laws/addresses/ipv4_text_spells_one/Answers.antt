@@ -1,5 +1,5 @@
 use Rattle.cidr.proofs.TextLaws.{ipv4_grammar}
-use Rattle.cidr.proofs.addr.laws.ipv4_text_spells_one.Goals as goal
+use Rattle.cidr.proofs.laws.addresses.ipv4_text_spells_one.Goals as goal
 
 pub returns : goal.returns
 returns c = ipv4_grammar.one_value

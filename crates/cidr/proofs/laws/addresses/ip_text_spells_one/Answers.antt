@@ -1,5 +1,5 @@
 use Rattle.cidr.proofs.IpAddressLaws.{one_ip_address}
-use Rattle.cidr.proofs.addr.laws.ip_text_spells_one.Goals as goal
+use Rattle.cidr.proofs.laws.addresses.ip_text_spells_one.Goals as goal
 
 pub returns : goal.returns
 returns c = one_ip_address

@@ -10,17 +10,17 @@ use crate::cidr::any::AnyIpCidr;
 use crate::cidr::combined::IpCidr;
 
 /// The order of networks of both families is the lexicographic order of their bits, with the family bit in front.
-pub(crate) fn order_is_by_family_and_bits()
+pub fn order_is_by_family_and_bits()
     ensures { IsOrderOfBits network_bits ⟦<IpCidr as Ord>⟧.cmp }
 {}
 
 /// The same with `Any`, which has no bits and so comes first.
-pub(crate) fn order_begins_with_any()
+pub fn order_begins_with_any()
     ensures { IsOrderOfBits any_bits ⟦<AnyIpCidr as Ord>⟧.cmp }
 {}
 
 /// A text spells one network at most.
-pub(crate) fn network_text_spells_one()
+pub fn network_text_spells_one()
     ensures ipv4 { SpellsOne (IsNetworkText 32 IsIpv4Text) }
     ensures ipv6 { SpellsOne (IsNetworkText 128 IsIpv6Text) }
     ensures ip { SpellsOne IsIpNetworkText }

@@ -9,26 +9,26 @@ ghost use Rattle.cidr.specs.IpAddress.{ip_address_bits, IsIpText, IsOrderOfBits,
 use crate::addr::ip::IpAddr;
 
 /// The order of bits is that of the numbers that they write.
-pub(crate) fn order_is_by_number()
+pub fn order_is_by_number()
     ensures { (a b : List Bool) → length a ≡ length b → bit_cmp a b ≡ nat_cmp (number a) (number b) }
 {}
 
 /// The order of addresses of both families is that of their bits, with the family bit in front.
-pub(crate) fn order_is_by_family_and_bits()
+pub fn order_is_by_family_and_bits()
     ensures { IsOrderOfBits ip_address_bits ⟦<IpAddr as Ord>⟧.cmp }
 {}
 
 /// A text spells one IPv4 address at most.
-pub(crate) fn ipv4_text_spells_one()
+pub fn ipv4_text_spells_one()
     ensures { SpellsOne IsIpv4Text }
 {}
 
 /// A text spells one IPv6 address at most.
-pub(crate) fn ipv6_text_spells_one()
+pub fn ipv6_text_spells_one()
     ensures { SpellsOne IsIpv6Text }
 {}
 
 /// A text spells one address of either family at most: none is an IPv4 text and an IPv6 text.
-pub(crate) fn ip_text_spells_one()
+pub fn ip_text_spells_one()
     ensures { SpellsOne IsIpText }
 {}

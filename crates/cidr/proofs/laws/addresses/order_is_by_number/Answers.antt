@@ -1,5 +1,5 @@
 use Rattle.cidr.specs.BitLaws.{bit_cmp-numbers}
-use Rattle.cidr.proofs.addr.laws.order_is_by_number.Goals as goal
+use Rattle.cidr.proofs.laws.addresses.order_is_by_number.Goals as goal
 
 pub returns : goal.returns
 returns c = bit_cmp-numbers

@@ -9,12 +9,12 @@ ghost use Rattle.cidr.specs.Ipv6Text.{IsIpv6Text};
 use crate::inet::combined::IpInet;
 
 /// The order of hosts of both families is by family, then by address, then by length.
-pub(crate) fn order_is_by_family_address_and_length()
+pub fn order_is_by_family_address_and_length()
     ensures { IsOrderOfHosts ⟦<IpInet as Ord>⟧.cmp }
 {}
 
 /// A text spells one host at most.
-pub(crate) fn host_text_spells_one()
+pub fn host_text_spells_one()
     ensures ipv4 { SpellsOne (IsHostText 32 IsIpv4Text) }
     ensures ipv6 { SpellsOne (IsHostText 128 IsIpv6Text) }
     ensures ip { SpellsOne IsIpHostText }

@@ -1,5 +1,5 @@
 use Rattle.cidr.proofs.Ipv6Grammar.{ipv6_grammar}
-use Rattle.cidr.proofs.addr.laws.ipv6_text_spells_one.Goals as goal
+use Rattle.cidr.proofs.laws.addresses.ipv6_text_spells_one.Goals as goal
 
 pub returns : goal.returns
 returns c = ipv6_grammar.one_value
