@@ -1,5 +1,5 @@
 -- Words whose letters name ends.
-use Rattle.std.proofs.Common.{◌≡◌, ℕ, ◌<◌, List, length, get_or, map, ap, sym, ◌∙◌, arith}
+use Rattle.std.proofs.Common.{◌≡◌, ℕ, ◌<◌, List, length, get_or, ap, ◌∙◌, arith}
 use Rattle.std.proofs.lemmas.List.{get_or-map, length-map}
 use Rattle.cidr.specs.declared.inet_iterator.driving.End.{End}
 use Rattle.cidr.specs.declared.inet_iterator.driving.End.TheVariants.{Front}

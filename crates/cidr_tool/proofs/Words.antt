@@ -1,5 +1,5 @@
 -- Words that are a command and its arguments, and the lines of an answer.
-use Rattle.std.proofs.Common.{◌≡◌, ℕ, List, [], ◌∷◌, length, get_or, map, Bor, nat_eq, refl, ap, sym, arith, true, codes, ◌++◌, append_assoc, append-nil}
+use Rattle.std.proofs.Common.{◌≡◌, ℕ, List, [], ◌∷◌, length, get_or, map, Bor, nat_eq, refl, sym, arith, true, codes, ◌++◌, append_assoc, append-nil}
 use Rattle.std.proofs.lemmas.Bool.Decides.{Decides-eqb}
 use Rattle.std.specs.Cmp.Lexicographic.{pointwise_decides}
 use Rattle.std.specs.Prelude.{None}

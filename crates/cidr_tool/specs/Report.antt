@@ -1,5 +1,5 @@
 -- The exit statuses and the words on standard error.
-use Rattle.std.specs.Prelude.{ℕ, List, ◌++◌, codes, Result, Ok, Err}
+use Rattle.std.specs.Prelude.{ℕ, List, Result, Ok, Err}
 use Rattle.cidr.specs.Words.{parse_words, address_words}
 use Rattle.cidr_tool.specs.declared.errors.Fault.{Fault}
 use Rattle.cidr_tool.specs.declared.errors.Fault.TheVariants.{Network, Address}

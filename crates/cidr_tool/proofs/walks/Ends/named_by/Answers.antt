@@ -1,4 +1,4 @@
-use Rattle.std.proofs.Common.{length, ◌<◌, arith}
+use Rattle.std.proofs.Common.{arith}
 use Rattle.cidr_tool.proofs.Letters.{other_letter}
 use Rattle.cidr_tool.proofs.walks.Ends.named_by.Goals as goal
 
