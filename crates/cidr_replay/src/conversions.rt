@@ -4,8 +4,14 @@ use crate::answer::Answer;
 use crate::line_error::{LineError, Outcome};
 use crate::tokens::Tokens;
 use crate::values::Value;
-use cidr::{IpAddr, Ipv4Addr, Ipv4Cidr, Ipv4Inet, Ipv6Addr, Ipv6Cidr, Ipv6Inet};
+use cidr::{
+    IpAddr, Ipv4Addr, Ipv4Cidr, Ipv4Inet, Ipv4InetPair, Ipv6Addr, Ipv6Cidr, Ipv6Inet, Ipv6InetPair,
+};
 use std::str::FromStr;
+
+mod to_combined;
+
+use to_combined::{from_any_network, from_ip_network, from_option, from_pair, to_host, to_network};
 
 /// Answers a conversion: the two types stand in the line before the value.
 pub fn answer(tokens: &mut Tokens<'_>, answer: &mut Answer) -> Outcome {
@@ -18,16 +24,16 @@ pub fn answer(tokens: &mut Tokens<'_>, answer: &mut Answer) -> Outcome {
         "segments" => from_segments(to, tokens, answer),
         "addr.v4" => from_ipv4(to, tokens, answer),
         "addr.v6" => from_ipv6(to, tokens, answer),
-        "addr.ip"
-        | "cidr.v4"
-        | "cidr.v6"
-        | "cidr.ip"
-        | "cidr.any"
-        | "option"
-        | "inet.v4"
-        | "inet.v6"
-        | "pair.v4"
-        | "pair.v6" => Err(LineError::Unsupported),
+        "addr.ip" => from_ip(to, tokens, answer),
+        "cidr.v4" => to_network::<Ipv4Cidr>(to, tokens, answer),
+        "cidr.v6" => to_network::<Ipv6Cidr>(to, tokens, answer),
+        "cidr.ip" => from_ip_network(to, tokens, answer),
+        "cidr.any" => from_any_network(to, tokens, answer),
+        "option" => from_option(to, tokens, answer),
+        "inet.v4" => to_host::<Ipv4Inet>(to, tokens, answer),
+        "inet.v6" => to_host::<Ipv6Inet>(to, tokens, answer),
+        "pair.v4" => from_pair::<Ipv4InetPair>(to, tokens, answer),
+        "pair.v6" => from_pair::<Ipv6InetPair>(to, tokens, answer),
         _ => Err(LineError::Malformed),
     }
 }
@@ -66,8 +72,8 @@ fn from_ipv4(to: &str, tokens: &mut Tokens<'_>, answer: &mut Answer) -> Outcome 
         "addr.ip" => converted::<Ipv4Addr, IpAddr>(tokens, answer),
         "cidr.v4" => converted::<Ipv4Addr, Ipv4Cidr>(tokens, answer),
         "inet.v4" => converted::<Ipv4Addr, Ipv4Inet>(tokens, answer),
-        "cidr.ip" | "cidr.any" | "inet.ip" => Err(LineError::Unsupported),
-        _ => Err(LineError::Malformed),
+        "inet.ip" => to_host::<Ipv4Addr>(to, tokens, answer),
+        _ => to_network::<Ipv4Addr>(to, tokens, answer),
     }
 }
 
@@ -76,13 +82,20 @@ fn from_ipv6(to: &str, tokens: &mut Tokens<'_>, answer: &mut Answer) -> Outcome 
         "addr.ip" => converted::<Ipv6Addr, IpAddr>(tokens, answer),
         "cidr.v6" => converted::<Ipv6Addr, Ipv6Cidr>(tokens, answer),
         "inet.v6" => converted::<Ipv6Addr, Ipv6Inet>(tokens, answer),
-        "cidr.ip" | "cidr.any" | "inet.ip" => Err(LineError::Unsupported),
-        _ => Err(LineError::Malformed),
+        "inet.ip" => to_host::<Ipv6Addr>(to, tokens, answer),
+        _ => to_network::<Ipv6Addr>(to, tokens, answer),
+    }
+}
+
+fn from_ip(to: &str, tokens: &mut Tokens<'_>, answer: &mut Answer) -> Outcome {
+    match to {
+        "inet.ip" => to_host::<IpAddr>(to, tokens, answer),
+        _ => to_network::<IpAddr>(to, tokens, answer),
     }
 }
 
 /// Reads a value of one type and answers it as another, by `From`.
-fn converted<X: FromStr, Y: From<X> + Value>(
+pub fn converted<X: FromStr, Y: From<X> + Value>(
     tokens: &mut Tokens<'_>,
     answer: &mut Answer,
 ) -> Outcome

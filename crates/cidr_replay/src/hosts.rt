@@ -7,9 +7,10 @@ use crate::queries::HasFamily;
 use crate::tokens::{Kind, Tokens};
 use crate::values::Value;
 use cidr::errors::NetworkLengthTooLongError;
-use cidr::{Ipv4Inet, Ipv6Inet};
+use cidr::{IpInet, Ipv4Inet, Ipv6Inet};
 
 mod calls;
+mod calls_of_combined;
 mod steps;
 
 /// The calls that only hosts have.
@@ -46,7 +47,7 @@ pub fn answer(name: &str, tokens: &mut Tokens<'_>, answer: &mut Answer) -> Outco
     match tokens.kind()? {
         Kind::V4 => answer_ipv4(name, tokens, answer),
         Kind::V6 => answer_ipv6(name, tokens, answer),
-        Kind::Ip => Err(LineError::Unsupported),
+        Kind::Ip => answer_ip(name, tokens, answer),
         Kind::Any => Err(LineError::Malformed),
     }
 }
@@ -69,18 +70,26 @@ fn answer_ipv6(name: &str, tokens: &mut Tokens<'_>, answer: &mut Answer) -> Outc
     }
 }
 
+fn answer_ip(name: &str, tokens: &mut Tokens<'_>, answer: &mut Answer) -> Outcome {
+    match name {
+        "is" => is_ipv4_and_ipv6(tokens, answer),
+        _ => answer_each::<IpInet>(name, tokens, answer),
+    }
+}
+
 /// The operations of every type.
 fn answer_each<H: Host>(name: &str, tokens: &mut Tokens<'_>, answer: &mut Answer) -> Outcome {
     match name {
         "new" => new::<H>(tokens, answer),
         "show" => show::<H>(tokens, answer),
+        "ends" => queries::ends::<H>(tokens, answer),
         "increment" | "decrement" | "next" | "previous" => {
             steps::answer_single::<H>(name, tokens, answer)
         }
         "overflowing_add" | "overflowing_sub" | "add" | "sub" => {
             steps::answer_many::<H>(name, tokens, answer)
         }
-        _ => queries::answer_family::<H>(name, tokens, answer),
+        _ => queries::answer_each::<H>(name, tokens, answer),
     }
 }
 
@@ -95,4 +104,10 @@ fn show<H: Host>(tokens: &mut Tokens<'_>, answer: &mut Answer) -> Outcome {
     answer.value(&host.address())?;
     answer.value(&host.network())?;
     queries::queries(&host, answer)
+}
+
+fn is_ipv4_and_ipv6(tokens: &mut Tokens<'_>, answer: &mut Answer) -> Outcome {
+    let host = tokens.value::<IpInet>()?;
+    answer.display(&host.is_ipv4())?;
+    answer.display(&host.is_ipv6())
 }

@@ -12,11 +12,13 @@ mod hosts;
 mod line_error;
 mod networks;
 mod operations;
+mod pairs;
 mod queries;
 mod refusals;
 mod replay;
 mod tokens;
 mod values;
+mod walks;
 
 use replay::{ReplayError, replay};
 use std::io;

@@ -1,28 +1,21 @@
 //! Operations on networks.
 
 use crate::answer::Answer;
-use crate::line_error::{LineError, Outcome};
+use crate::line_error::Outcome;
 use crate::queries;
 use crate::queries::{HasAddresses, HasFamily};
 use crate::tokens::{Kind, Tokens};
 use cidr::errors::NetworkParseError;
-use cidr::{Ipv4Addr, Ipv4Cidr, Ipv6Addr, Ipv6Cidr};
+use cidr::{IpCidr, Ipv4Cidr, Ipv6Cidr};
+
+mod any;
+mod calls;
 
 /// The calls that only networks have.
 pub trait Network: HasAddresses {
     fn new(addr: Self::Address, len: u8) -> Result<Self, NetworkParseError>;
-}
 
-impl Network for Ipv4Cidr {
-    fn new(addr: Ipv4Addr, len: u8) -> Result<Ipv4Cidr, NetworkParseError> {
-        Ipv4Cidr::new(addr, len)
-    }
-}
-
-impl Network for Ipv6Cidr {
-    fn new(addr: Ipv6Addr, len: u8) -> Result<Ipv6Cidr, NetworkParseError> {
-        Ipv6Cidr::new(addr, len)
-    }
+    fn contains_cidr(&self, other: &Self) -> bool;
 }
 
 /// Answers the operation on networks that has this name.
@@ -30,7 +23,8 @@ pub fn answer(name: &str, tokens: &mut Tokens<'_>, answer: &mut Answer) -> Outco
     match tokens.kind()? {
         Kind::V4 => answer_ipv4(name, tokens, answer),
         Kind::V6 => answer_ipv6(name, tokens, answer),
-        Kind::Ip | Kind::Any => Err(LineError::Unsupported),
+        Kind::Ip => answer_ip(name, tokens, answer),
+        Kind::Any => any::answer(name, tokens, answer),
     }
 }
 
@@ -48,17 +42,32 @@ fn answer_ipv6(name: &str, tokens: &mut Tokens<'_>, answer: &mut Answer) -> Outc
     }
 }
 
-/// The operations of one family.
+fn answer_ip(name: &str, tokens: &mut Tokens<'_>, answer: &mut Answer) -> Outcome {
+    match name {
+        "is" => is_ipv4_and_ipv6(tokens, answer),
+        _ => answer_family::<IpCidr>(name, tokens, answer),
+    }
+}
+
+/// The operations of the types whose networks always have a family.
 fn answer_family<N: Network + HasFamily>(
     name: &str,
     tokens: &mut Tokens<'_>,
     answer: &mut Answer,
 ) -> Outcome {
     match name {
-        "new" => new::<N>(tokens, answer),
         "show" => show::<N>(tokens, answer),
-        "contains_cidr" => Err(LineError::Unsupported),
-        _ => queries::answer_family::<N>(name, tokens, answer),
+        "ends" => queries::ends::<N>(tokens, answer),
+        _ => answer_each::<N>(name, tokens, answer),
+    }
+}
+
+/// The operations of every type.
+fn answer_each<N: Network>(name: &str, tokens: &mut Tokens<'_>, answer: &mut Answer) -> Outcome {
+    match name {
+        "new" => new::<N>(tokens, answer),
+        "contains_cidr" => contains_cidr::<N>(tokens, answer),
+        _ => queries::answer_each::<N>(name, tokens, answer),
     }
 }
 
@@ -68,7 +77,19 @@ fn new<N: Network>(tokens: &mut Tokens<'_>, answer: &mut Answer) -> Outcome {
     answer.value(&N::new(address, len))
 }
 
+fn contains_cidr<N: Network>(tokens: &mut Tokens<'_>, answer: &mut Answer) -> Outcome {
+    let network = tokens.value::<N>()?;
+    let other = tokens.value::<N>()?;
+    answer.display(&network.contains_cidr(&other))
+}
+
 fn show<N: HasFamily>(tokens: &mut Tokens<'_>, answer: &mut Answer) -> Outcome {
     let network = tokens.value::<N>()?;
     queries::queries(&network, answer)
+}
+
+fn is_ipv4_and_ipv6(tokens: &mut Tokens<'_>, answer: &mut Answer) -> Outcome {
+    let network = tokens.value::<IpCidr>()?;
+    answer.display(&network.is_ipv4())?;
+    answer.display(&network.is_ipv6())
 }

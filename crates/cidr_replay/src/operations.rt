@@ -3,7 +3,7 @@
 use crate::answer::Answer;
 use crate::line_error::{LineError, Outcome};
 use crate::tokens::Tokens;
-use crate::{addresses, conversions, families, faults, hosts, networks};
+use crate::{addresses, conversions, families, faults, hosts, networks, pairs, walks};
 use std::alloc::{AllocError, Global};
 use std::str;
 
@@ -35,11 +35,11 @@ fn answer_line(alloc: Global, line: &[u8], answer: &mut Answer) -> Outcome {
     }
 }
 
-/// The word cut at its first dot; a word without one has no name.
+/// The word cut at its first dot; a word without one, or with nothing behind it, has no name.
 fn section_and_name(word: &str) -> (&str, &str) {
     match word.split_once('.') {
-        Some(parts) => parts,
-        None => (word, ""),
+        Some((section, name)) if !name.is_empty() => (section, name),
+        _ => (word, ""),
     }
 }
 
@@ -54,8 +54,10 @@ fn answer_operation(
         "family" => families::answer(name, tokens, answer),
         "cidr" => networks::answer(name, tokens, answer),
         "inet" => hosts::answer(name, tokens, answer),
+        "pair" => pairs::answer(name, tokens, answer),
+        "walk" => walks::answer(name, tokens, answer),
         "fault" => faults::answer(name, tokens, answer),
-        "convert" => conversions::answer(tokens, answer),
+        "convert" if name.is_empty() => conversions::answer(tokens, answer),
         _ => Err(other_operation(section)),
     }
 }
@@ -63,10 +65,7 @@ fn answer_operation(
 /// Whether a section that nothing answers is one of the format.
 fn other_operation(section: &str) -> LineError {
     match section {
-        "inet"
-        | "pair"
-        | "walk"
-        | "parse"
+        "parse"
         | "bits"
         | "hostbits"
         | "compact"

@@ -11,6 +11,7 @@ use cidr::errors::NetworkParseError;
 use std::fmt::Display;
 use std::str::FromStr;
 
+mod of_combined;
 mod of_hosts;
 mod of_networks;
 
@@ -28,7 +29,7 @@ pub trait HasAddresses: Copy + Ord + FromStr<Err = NetworkParseError> + Value {
     fn texts(&self, answer: &mut Answer) -> Outcome;
 }
 
-/// The calls of the networks and hosts of one family.
+/// The calls of the networks and hosts that always have a family.
 pub trait HasFamily: HasAddresses {
     type Host: Value;
 
@@ -45,18 +46,6 @@ pub trait HasFamily: HasAddresses {
     fn network_length(&self) -> u8;
 
     fn family(&self) -> Family;
-}
-
-/// The operations of one family that go by the same names for networks and for hosts.
-pub fn answer_family<R: HasFamily>(
-    name: &str,
-    tokens: &mut Tokens<'_>,
-    answer: &mut Answer,
-) -> Outcome {
-    match name {
-        "ends" => ends::<R>(tokens, answer),
-        _ => answer_each::<R>(name, tokens, answer),
-    }
 }
 
 /// The operations that go by the same names for all networks and hosts.
@@ -97,7 +86,8 @@ fn compare<R: HasAddresses>(tokens: &mut Tokens<'_>, answer: &mut Answer) -> Out
     answer.value(&one.cmp(&other))
 }
 
-fn ends<R: HasFamily>(tokens: &mut Tokens<'_>, answer: &mut Answer) -> Outcome {
+/// The first and the last address as hosts.
+pub fn ends<R: HasFamily>(tokens: &mut Tokens<'_>, answer: &mut Answer) -> Outcome {
     let range = tokens.value::<R>()?;
     answer.value(&range.first())?;
     answer.value(&range.last())

@@ -1,7 +1,7 @@
 //! The kinds of the refusals.
 
 use cidr::AddrParseError;
-use cidr::errors::{NetworkLengthTooLongError, NetworkParseError};
+use cidr::errors::{InetTupleError, NetworkLengthTooLongError, NetworkParseError};
 use std::fmt::Display;
 
 /// A refusal: its words are what it displays.
@@ -30,5 +30,14 @@ impl Refusal for NetworkParseError {
 impl Refusal for NetworkLengthTooLongError {
     fn kind(&self) -> &'static str {
         "NetworkLengthTooLongError"
+    }
+}
+
+impl Refusal for InetTupleError {
+    fn kind(&self) -> &'static str {
+        match self {
+            InetTupleError::NotInSharedNetwork => "NotInSharedNetwork",
+            InetTupleError::NetworkLengthTooLongError(_) => "NetworkLengthTooLongError",
+        }
     }
 }

@@ -1,9 +1,12 @@
 //! The tokens of a line, and the values that they write.
-ghost use Rattle.std.specs.Prelude.{◌<◌, IfSome};
 
 use crate::line_error::LineError;
 use std::alloc::Global;
 use std::str::FromStr;
+
+mod escapes;
+
+use escapes::{bytes_of, unescaped};
 
 /// The type that an operation names.
 #[derive(Clone, Copy, PartialEq, Eq)]
@@ -28,6 +31,11 @@ impl<'a> Tokens<'a> {
             alloc,
             rest: Some(line),
         }
+    }
+
+    /// Where the values of a line get their memory.
+    pub fn alloc(&self) -> Global {
+        self.alloc
     }
 
     /// Whether no token is left.
@@ -71,6 +79,20 @@ impl<'a> Tokens<'a> {
         match self.word()?.parse::<V>() {
             Ok(value) => Ok(value),
             Err(_) => Err(LineError::Malformed),
+        }
+    }
+
+    /// A value, or `none`.
+    pub fn option<V: FromStr>(&mut self) -> Result<Option<V>, LineError>
+    where
+        V::Err: Drop,
+    {
+        match self.word()? {
+            "none" => Ok(None),
+            word => match word.parse::<V>() {
+                Ok(value) => Ok(Some(value)),
+                Err(_) => Err(LineError::Malformed),
+            },
         }
     }
 
@@ -129,73 +151,5 @@ fn begins_as_number(text: &[u8]) -> bool {
         [b'0'] => true,
         [b'1'..=b'9', ..] => true,
         _ => false,
-    }
-}
-
-fn unescaped(alloc: Global, escaped: &str) -> Result<String, LineError> {
-    let mut bytes = Vec::new(alloc);
-    for (i, part) in escaped.split('%').enumerate() {
-        if i == 0 {
-            bytes.extend_from_slice(part.as_bytes())?;
-        } else {
-            push_unescaped(&mut bytes, part.as_bytes())?;
-        }
-    }
-    match String::from_utf8(bytes) {
-        Ok(text) => Ok(text),
-        Err(_) => Err(LineError::Malformed),
-    }
-}
-
-/// Appends what stands behind a `%`: the byte of two digits, and then itself.
-fn push_unescaped(bytes: &mut Vec<u8>, part: &[u8]) -> Result<(), LineError> {
-    match part {
-        [high, low, plain @ ..] => {
-            bytes.push(byte_of(upper_digit(*high), upper_digit(*low))?)?;
-            bytes.extend_from_slice(plain)?;
-            Ok(())
-        }
-        _ => Err(LineError::Malformed),
-    }
-}
-
-fn bytes_of(alloc: Global, digits: &[u8]) -> Result<Vec<u8>, LineError> {
-    let mut bytes = Vec::new(alloc);
-    for pair in digits.chunks(2) {
-        match pair {
-            [high, low] => bytes.push(byte_of(lower_digit(*high), lower_digit(*low))?)?,
-            _ => return Err(LineError::Malformed),
-        }
-    }
-    Ok(bytes)
-}
-
-fn byte_of(high: Option<u8>, low: Option<u8>) -> Result<u8, LineError>
-    requires high { IfSome high (λ d. d < 16) }
-    requires low { IfSome low (λ d. d < 16) }
-{
-    match (high, low) {
-        (Some(high), Some(low)) => Ok(high * 16 + low),
-        _ => Err(LineError::Malformed),
-    }
-}
-
-fn upper_digit(digit: u8) -> Option<u8>
-    ensures { IfSome result (λ d. d < 16) }
-{
-    match digit {
-        b'0'..=b'9' => Some(digit - b'0'),
-        b'A'..=b'F' => Some(digit - b'A' + 10),
-        _ => None,
-    }
-}
-
-fn lower_digit(digit: u8) -> Option<u8>
-    ensures { IfSome result (λ d. d < 16) }
-{
-    match digit {
-        b'0'..=b'9' => Some(digit - b'0'),
-        b'a'..=b'f' => Some(digit - b'a' + 10),
-        _ => None,
     }
 }

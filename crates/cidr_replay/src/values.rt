@@ -3,7 +3,10 @@
 use crate::answer::Answer;
 use crate::line_error::Outcome;
 use crate::refusals::Refusal;
-use cidr::{Family, IpAddr, Ipv4Addr, Ipv4Cidr, Ipv4Inet, Ipv6Addr, Ipv6Cidr, Ipv6Inet};
+use cidr::{
+    AnyIpCidr, Family, IpAddr, IpCidr, IpInet, Ipv4Addr, Ipv4Cidr, Ipv4Inet, Ipv6Addr, Ipv6Cidr,
+    Ipv6Inet,
+};
 use std::cmp::Ordering;
 
 /// What can stand in an answer.
@@ -43,6 +46,18 @@ impl Value for Ipv6Cidr {
     }
 }
 
+impl Value for IpCidr {
+    fn push_to(&self, answer: &mut Answer) -> Outcome {
+        answer.display(&self.with_length())
+    }
+}
+
+impl Value for AnyIpCidr {
+    fn push_to(&self, answer: &mut Answer) -> Outcome {
+        answer.display(&self.with_length())
+    }
+}
+
 impl Value for Ipv4Inet {
     fn push_to(&self, answer: &mut Answer) -> Outcome {
         answer.display(&self.with_length())
@@ -52,6 +67,25 @@ impl Value for Ipv4Inet {
 impl Value for Ipv6Inet {
     fn push_to(&self, answer: &mut Answer) -> Outcome {
         answer.display(&self.with_length())
+    }
+}
+
+impl Value for IpInet {
+    fn push_to(&self, answer: &mut Answer) -> Outcome {
+        answer.display(&self.with_length())
+    }
+}
+
+/// Numbers stand in decimal.
+impl Value for u8 {
+    fn push_to(&self, answer: &mut Answer) -> Outcome {
+        answer.display(self)
+    }
+}
+
+impl Value for usize {
+    fn push_to(&self, answer: &mut Answer) -> Outcome {
+        answer.display(self)
     }
 }
 

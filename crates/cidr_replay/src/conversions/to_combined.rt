@@ -1,0 +1,70 @@
+//! Conversions to the types of either family.
+
+use crate::answer::Answer;
+use crate::conversions::converted;
+use crate::line_error::{LineError, Outcome};
+use crate::pairs::pair;
+use crate::tokens::Tokens;
+use cidr::{AnyIpCidr, InetPair, IpCidr, IpInet, IpInetPair};
+use std::str::FromStr;
+
+/// From a network of either family.
+pub fn from_ip_network(to: &str, tokens: &mut Tokens<'_>, answer: &mut Answer) -> Outcome {
+    match to {
+        "cidr.any" => converted::<IpCidr, AnyIpCidr>(tokens, answer),
+        _ => Err(LineError::Malformed),
+    }
+}
+
+/// From a network of which one holds all addresses.
+pub fn from_any_network(to: &str, tokens: &mut Tokens<'_>, answer: &mut Answer) -> Outcome {
+    match to {
+        "option" => converted::<AnyIpCidr, Option<IpCidr>>(tokens, answer),
+        _ => Err(LineError::Malformed),
+    }
+}
+
+/// From a network of either family that can be missing.
+pub fn from_option(to: &str, tokens: &mut Tokens<'_>, answer: &mut Answer) -> Outcome {
+    match to {
+        "cidr.any" => answer.value(&AnyIpCidr::from(tokens.option::<IpCidr>()?)),
+        _ => Err(LineError::Malformed),
+    }
+}
+
+/// To the pairs of either family.
+pub fn from_pair<P: InetPair>(to: &str, tokens: &mut Tokens<'_>, answer: &mut Answer) -> Outcome
+where
+    IpInetPair: From<P>,
+{
+    match to {
+        "pair.ip" => answer.value(&IpInetPair::from(pair::<P>(tokens)?)),
+        _ => Err(LineError::Malformed),
+    }
+}
+
+/// To the networks of either family.
+pub fn to_network<X: FromStr>(to: &str, tokens: &mut Tokens<'_>, answer: &mut Answer) -> Outcome
+where
+    X::Err: Drop,
+    IpCidr: From<X>,
+    AnyIpCidr: From<X>,
+{
+    match to {
+        "cidr.ip" => converted::<X, IpCidr>(tokens, answer),
+        "cidr.any" => converted::<X, AnyIpCidr>(tokens, answer),
+        _ => Err(LineError::Malformed),
+    }
+}
+
+/// To the hosts of either family.
+pub fn to_host<X: FromStr>(to: &str, tokens: &mut Tokens<'_>, answer: &mut Answer) -> Outcome
+where
+    X::Err: Drop,
+    IpInet: From<X>,
+{
+    match to {
+        "inet.ip" => converted::<X, IpInet>(tokens, answer),
+        _ => Err(LineError::Malformed),
+    }
+}

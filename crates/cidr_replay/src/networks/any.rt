@@ -1,0 +1,40 @@
+//! Operations on networks of which one holds all addresses: that one has no ends and no family.
+
+use crate::answer::Answer;
+use crate::line_error::Outcome;
+use crate::networks::answer_each;
+use crate::tokens::Tokens;
+use cidr::AnyIpCidr;
+
+/// Answers the operation on such networks that has this name.
+pub fn answer(name: &str, tokens: &mut Tokens<'_>, answer: &mut Answer) -> Outcome {
+    match name {
+        "show" => show(tokens, answer),
+        "ends" => ends(tokens, answer),
+        "is" => is_any_ipv4_and_ipv6(tokens, answer),
+        _ => answer_each::<AnyIpCidr>(name, tokens, answer),
+    }
+}
+
+fn show(tokens: &mut Tokens<'_>, answer: &mut Answer) -> Outcome {
+    let network = tokens.value::<AnyIpCidr>()?;
+    answer.value(&network.first_address())?;
+    answer.value(&network.last_address())?;
+    answer.value(&network.mask())?;
+    answer.value(&network.network_length())?;
+    answer.value(&network.family())?;
+    answer.display(&network.is_host_address())
+}
+
+fn ends(tokens: &mut Tokens<'_>, answer: &mut Answer) -> Outcome {
+    let network = tokens.value::<AnyIpCidr>()?;
+    answer.value(&network.first())?;
+    answer.value(&network.last())
+}
+
+fn is_any_ipv4_and_ipv6(tokens: &mut Tokens<'_>, answer: &mut Answer) -> Outcome {
+    let network = tokens.value::<AnyIpCidr>()?;
+    answer.display(&network.is_any())?;
+    answer.display(&network.is_ipv4())?;
+    answer.display(&network.is_ipv6())
+}
