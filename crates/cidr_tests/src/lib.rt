@@ -2,6 +2,10 @@
 #![tactic(auto)]
 
 #[cfg(test)]
+mod combined;
+#[cfg(test)]
+mod combined_pairs;
+#[cfg(test)]
 mod hosts;
 #[cfg(test)]
 mod ipv4;
