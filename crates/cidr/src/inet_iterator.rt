@@ -1,6 +1,7 @@
 //! The walk over the addresses of a network or a pair, as hosts and as addresses.
-ghost use Rattle.std.specs.Prelude.{◌≡◌, length};
-ghost use Rattle.std.specs.Iterator.{YieldsFirstBy, YieldsLastBy, item_count};
+ghost use Rattle.std.specs.Prelude.{◌≡◌, length, IfSome};
+ghost use Rattle.std.specs.Iterator.{YieldsFirstBy, YieldsLastBy, item_count, UpTo, at_most};
+ghost use Rattle.std.specs.Iterator.SizeHint.{IsWithinCount};
 ghost use Rattle.cidr.specs.Seen.{in_family};
 ghost use Rattle.cidr.specs.Walk.{pair_hosts, addresses_of, count_of, bounds_of};
 
@@ -121,7 +122,11 @@ where
         Some(host)
     }
 
-    fn size_hint(&self) -> (usize, Option<usize>) {
+    fn size_hint(&self) -> (usize, Option<usize>)
+        ensures lower { IsWithinCount result.0 (at_most (length self.now)) }
+        ensures upper { IfSome result.1 (UpTo (at_most (length self.now))) }
+        ensures bounds { result ≡ bounds_of (length self.now) }
+    {
         self.bounds()
     }
 }
@@ -219,7 +224,11 @@ where
         Some(self.inner.next()?.address())
     }
 
-    fn size_hint(&self) -> (usize, Option<usize>) {
+    fn size_hint(&self) -> (usize, Option<usize>)
+        ensures lower { IsWithinCount result.0 (at_most (length self.now)) }
+        ensures upper { IfSome result.1 (UpTo (at_most (length self.now))) }
+        ensures bounds { result ≡ bounds_of (length self.now) }
+    {
         self.inner.size_hint()
     }
 }
