@@ -33,3 +33,4 @@ pub mod Driven
 pub mod PairNumbers
 pub mod NetworkWalks
 pub mod SeenLaws
+pub mod WalkOrder

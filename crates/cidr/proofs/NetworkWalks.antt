@@ -37,14 +37,14 @@ number-last_of w p =
     number-append p (ones k) ∙ ap (λ n. number p * 2 ^ n + number (ones k)) (length-replicate k true) ∙ ap (λ n. number p * 2 ^ k + n) (number-ones k)
 
 -- what stands in a walk lies between its ends
-between : (w : ℕ) (p q a : List Bool) → Contains (walk_between w p q) a → (n : ℕ) × (a ≡ bits w n) × (number p ≤ n) × (n ≤ number q)
+pub between : (w : ℕ) (p q a : List Bool) → Contains (walk_between w p q) a → (n : ℕ) × (a ≡ bits w n) × (number p ≤ n) × (n ≤ number q)
 between w p q a (i, in_walk, at) =
     let l = length-walk_between w p q in
     let low : i < number q + 1 - number p = omega arith in
     let value = get_or-map-range_with_len (bits w) (number p) (number q + 1 - number p) i (number p + i) a low refl in
     (number p + i, sym at ∙ value, omega arith, omega arith)
 
-stands_between : (w : ℕ) (p q a : List Bool) → length a ≡ w → number p ≤ number a → number a ≤ number q → Contains (walk_between w p q) a
+pub stands_between : (w : ℕ) (p q a : List Bool) → length a ≡ w → number p ≤ number a → number a ≤ number q → Contains (walk_between w p q) a
 stands_between w p q a e low high =
     let i = number a - number p in
     let l = length-walk_between w p q in

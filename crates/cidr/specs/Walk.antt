@@ -1,7 +1,8 @@
 -- The walk from one address to another, and what calls at its two ends give and leave (Rust's `first..=second`).
-use Rattle.std.specs.Prelude.{◌≡◌, ℕ, ◌+◌, ◌-◌, ◌^◌, Bool, true, false, List, [], ◌∷◌, ◌++◌, map, length, drop, take, ◌==◌, Option, Some, None, if◌then◌else◌, nat_le, nat_lt}
+use Rattle.std.specs.Prelude.{◌≡◌, ◌≢◌, ℕ, ◌+◌, ◌-◌, ◌^◌, ◌<◌, Bool, true, false, List, [], ◌∷◌, ◌++◌, map, length, drop, take, ◌==◌, Option, Some, None, if◌then◌else◌, nat_le, nat_lt}
 use Rattle.std.specs.List.{slice_get, range_with_len}
-use Rattle.cidr.specs.Bits.{bits, number}
+use Rattle.std.specs.declared.cmp.Ordering.TheVariants.{Less, Greater}
+use Rattle.cidr.specs.Bits.{bits, number, bit_cmp}
 use Rattle.cidr.specs.Network.{width_of, first_of, last_of}
 use Rattle.cidr.specs.Host.{Host}
 use Rattle.cidr.specs.Pair.{Pair}
@@ -32,6 +33,14 @@ pair_hosts family pair = hosts_of family pair.len (pair_walk family pair)
 
 abbrev pub network_hosts : Family → List Bool → List (Family × Host)
 network_hosts family network = pair_hosts family (network_pair (width_of family) network)
+
+-- of two places the earlier has the lesser address, so that none comes twice
+abbrev pub IsAscending : List (List Bool) → Type 0
+IsAscending walk = (i j : ℕ) (a b : List Bool) → i < j → slice_get walk i ≡ Some a → slice_get walk j ≡ Some b → bit_cmp a b ≡ Less
+
+-- from the first to the second, both counted
+abbrev pub LiesBetween : ℕ → List Bool → List Bool → List Bool → Type 0
+LiesBetween w first second a = (length a ≡ w) × (bit_cmp first a ≢ Greater) × (bit_cmp a second ≢ Greater)
 
 -- what is left of the walk of a pair, as hosts
 abbrev pub hosts_left : {P : Type 0} → (P → Family) → (P → Pair) → Option P → List (Family × Host)

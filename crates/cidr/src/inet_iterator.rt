@@ -39,13 +39,11 @@ impl<A: Address> Model for InetIterator<A> {
 
 impl<A: Address> InetIterator<A> {
     /// The walk of a pair.
-    pub(crate) fn _new(range_pair: A::InetPair) -> InetIterator<A>
-        ensures { result ≡ pair_hosts (A.InetPair.family_of range_pair) (A.InetPair.pair range_pair) }
+    pub(crate) fn _new(pair: A::InetPair) -> InetIterator<A>
+        ensures { result ≡ pair_hosts (A.InetPair.family_of pair) (A.InetPair.pair pair) }
     {
-        let state = match range_pair._covered_addresses() {
-            NumberOfAddresses::Count(0) => None,
-            _ => Some(range_pair),
-        };
+        let is_empty = pair._covered_addresses() == NumberOfAddresses::Count(0);
+        let state = if is_empty { None } else { Some(pair) };
         InetIterator { state }
     }
 
@@ -53,17 +51,11 @@ impl<A: Address> InetIterator<A> {
     fn bounds(&self) -> (usize, Option<usize>)
         ensures { result ≡ bounds_of (length self.now) }
     {
-        let state = match &self.state {
-            None => return (0, Some(0)),
-            Some(state) => state,
+        let left = match &self.state {
+            Some(pair) => pair._covered_addresses(),
+            None => NumberOfAddresses::Count(0),
         };
-        match state._covered_addresses() {
-            NumberOfAddresses::MaxIpv6Addresses => (0, None),
-            NumberOfAddresses::Count(count) => match usize::try_from(count) {
-                Ok(count) => (count, Some(count)),
-                Err(_) => (usize::MAX, None),
-            },
-        }
+        left.size_hint()
     }
 
     /// How many are left, or `None` where a `usize` has no such number.
@@ -113,10 +105,10 @@ where
     ghost remaining = { item_count (λ it. it) };
 
     fn next(&mut self) -> Option<A::Inet> {
-        let state = self.state.as_mut()?;
-        let host = state.first();
-        let follows = state._inc_first();
-        if !follows {
+        let pair = self.state.as_mut()?;
+        let host = pair.first();
+        let has_more = pair._inc_first();
+        if !has_more {
             self.state = None;
         }
         Some(host)
@@ -139,10 +131,10 @@ where
     ghost next_back_gives = { YieldsLastBy (in_family A.Inet.family_of A.Inet.host) (λ it. it) };
 
     fn next_back(&mut self) -> Option<A::Inet> {
-        let state = self.state.as_mut()?;
-        let host = state.second();
-        let precedes = state._dec_second();
-        if !precedes {
+        let pair = self.state.as_mut()?;
+        let host = pair.second();
+        let has_more = pair._dec_second();
+        if !has_more {
             self.state = None;
         }
         Some(host)

@@ -4,3 +4,4 @@
 pub mod addresses;
 pub mod hosts;
 pub mod networks;
+pub mod walks;

@@ -1,6 +1,7 @@
 //! How many addresses a walk has.
-ghost use Rattle.std.specs.Prelude.{◌≡◌, ◌+◌, Some, decimal};
+ghost use Rattle.std.specs.Prelude.{◌≡◌, ◌+◌, ◌-◌, Some, decimal};
 ghost use Rattle.cidr.specs.Counted.{number_of};
+ghost use Rattle.cidr.specs.Walk.{bounds_of};
 
 use std::fmt;
 
@@ -14,13 +15,29 @@ pub enum NumberOfAddresses {
 }
 
 impl NumberOfAddresses {
-    /// The number of addresses from one to another, both counted, that lies `distance` further.
-    pub(crate) fn from_distance(distance: u128) -> NumberOfAddresses
-        ensures { number_of result ≡ distance + 1 }
+    /// How many there are from the first to the last, both counted: none where the first is above the last.
+    pub(crate) fn between(first: u128, last: u128) -> NumberOfAddresses
+        ensures { number_of result ≡ last + 1 - first }
     {
-        match distance.checked_add(1) {
-            Some(count) => NumberOfAddresses::Count(count),
-            None => NumberOfAddresses::MaxIpv6Addresses,
+        if last < first {
+            NumberOfAddresses::Count(0)
+        } else if last - first == u128::MAX {
+            NumberOfAddresses::MaxIpv6Addresses
+        } else {
+            NumberOfAddresses::Count(last - first + 1)
+        }
+    }
+
+    /// What `size_hint` says of so many.
+    pub(crate) fn size_hint(self) -> (usize, Option<usize>)
+        ensures { result ≡ bounds_of (number_of self) }
+    {
+        match self {
+            NumberOfAddresses::Count(count) => match usize::try_from(count) {
+                Ok(count) => (count, Some(count)),
+                Err(_) => (usize::MAX, None),
+            },
+            NumberOfAddresses::MaxIpv6Addresses => (0, None),
         }
     }
 }

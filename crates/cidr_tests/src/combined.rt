@@ -1,8 +1,8 @@
 //! The types of either family: addresses, networks with and without `any`, hosts, pairs and their walks.
-use cidr::errors::{InetTupleError, NetworkLengthTooLongError, NetworkParseError};
+use cidr::errors::{NetworkLengthTooLongError, NetworkParseError};
 use cidr::{
-    Address, AnyIpCidr, Cidr, End, Family, Inet, InetPair, IpAddr, IpCidr, IpInet, IpInetPair,
-    Ipv4Addr, Ipv4Cidr, Ipv4Inet, Ipv4InetPair, Ipv6Addr, Ipv6Cidr, Ipv6Inet, Ipv6InetPair, drive,
+    Address, AnyIpCidr, Cidr, Family, Inet, InetPair, IpAddr, IpCidr, IpInet, IpInetPair, Ipv4Addr,
+    Ipv4Cidr, Ipv4Inet, Ipv4InetPair, Ipv6Addr, Ipv6Cidr, Ipv6Inet, Ipv6InetPair,
 };
 use std::alloc::Global;
 use std::cmp::Ordering;

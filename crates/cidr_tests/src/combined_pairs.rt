@@ -1,6 +1,6 @@
 //! Pairs of either family and their walks.
 use crate::combined::{address, host, network, pair};
-use cidr::errors::{InetTupleError, NetworkLengthTooLongError};
+use cidr::errors::InetTupleError;
 use cidr::{End, Family, IpAddr, IpInet, IpInetPair, drive};
 use std::test::Fail;
 

@@ -40,7 +40,28 @@ fn queries(rt: HostRuntime) -> Result<(), Fail> {
     let host = Ipv4Cidr::new_host(address("127.0.0.1")?);
     assert!(rt; host == Ipv4Cidr::from(address("127.0.0.1")?));
     assert!(rt; host.is_host_address());
+    let larger = network("10.0.0.0/8")?;
+    let smaller = network("10.1.0.0/16")?;
+    assert!(rt; larger.contains_cidr(&smaller));
+    assert!(rt; larger.contains_cidr(&larger));
+    assert!(rt; !smaller.contains_cidr(&larger));
+    Ok(())
+}
+
+#[test]
+fn printed(rt: HostRuntime) -> Result<(), Fail> {
+    let host = network("127.0.0.1")?;
     assert_eq!(rt; host.to_text().as_str(), "127.0.0.1");
+    assert_eq!(rt; format!(in rt.alloc(); "{host}")?.as_str(), "127.0.0.1");
+    assert_eq!(rt; host.with_length().to_text().as_str(), "127.0.0.1/32");
+    assert_eq!(rt;
+        format!(in rt.alloc(); "{}", host.with_length())?.as_str(),
+        "127.0.0.1/32"
+    );
+    assert_eq!(rt;
+        format!(in rt.alloc(); "{host:?}")?.as_str(),
+        "127.0.0.1/32"
+    );
     Ok(())
 }
 

@@ -146,6 +146,7 @@ fn printed(rt: HostRuntime) -> Result<(), Fail> {
 #[test]
 fn networks(rt: HostRuntime) -> Result<(), Fail> {
     let rows = [
+        ("::ffff:c000:201", "::ffff:192.0.2.1"),
         ("::192.168.4.48/124", "::c0a8:430/124"),
         ("::ffff:0:0/96", "::ffff:0.0.0.0/96"),
         ("2001:DB8:1234:5678::/64", "2001:db8:1234:5678::/64"),
@@ -196,6 +197,9 @@ fn networks(rt: HostRuntime) -> Result<(), Fail> {
     let small = network("2001:db8::/32")?;
     assert!(rt; small.contains(&address("2001:db8:ffff::1")?));
     assert!(rt; !small.contains(&address("2001:db9::")?));
+    let smaller = network("2001:db8:1234::/48")?;
+    assert!(rt; small.contains_cidr(&smaller));
+    assert!(rt; !smaller.contains_cidr(&small));
     Ok(())
 }
 

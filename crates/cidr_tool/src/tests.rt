@@ -198,7 +198,7 @@ fn answers(rt: HostRuntime) -> Result<(), Fail> {
 fn many_ends(rt: HostRuntime) -> Result<(), Fail> {
     let mut letters = String::new(rt.alloc());
     for _ in 0..256 {
-        letters.push('b')?;
+        letters.push('f')?;
     }
     let mut out = plain(rt.alloc());
     assert_eq!(rt;
@@ -210,11 +210,11 @@ fn many_ends(rt: HostRuntime) -> Result<(), Fail> {
     assert!(rt; written.as_slice().starts_with(b"0.0.0.0\nnone\n"));
     letters.push('f')?;
     let mut out = plain(rt.alloc());
-    assert_eq!(rt;
-        run(&["walk", "::/0", letters.as_str()], &mut out),
-        Err(ToolError::Usage)
-    );
+    let mut err = plain(rt.alloc());
+    let answer = run(&["walk", "::/0", letters.as_str()], &mut out);
+    assert_eq!(rt; report(&answer, &mut err), 2);
     assert!(rt; out.into_inner().bytes.is_empty());
+    assert_eq!(rt; err.into_inner().bytes.as_slice(), USAGE.as_bytes());
     Ok(())
 }
 

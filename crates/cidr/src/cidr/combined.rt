@@ -175,6 +175,7 @@ impl IpCidr {
         ensures begins { IsTrue result ↔ BeginsWith (network_bits other.now) (network_bits self.now) }
         ensures holds { IsTrue result ↔ HoldsAll IsAddressBits (network_bits self.now) (network_bits other.now) }
     {
+        // the call tells the proof that the length is within the width
         let _within = other.network_length();
         match (self, other) {
             (IpCidr::V4(network), IpCidr::V4(other)) => network.contains_cidr(other),

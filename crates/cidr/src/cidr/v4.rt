@@ -87,6 +87,7 @@ impl Ipv4Cidr {
     pub fn new_host(addr: Ipv4Addr) -> Ipv4Cidr
         ensures { result ≡ addr }
     {
+        // the call tells the proof that the address has 32 bits
         let _width = addr.to_bits();
         Ipv4Cidr {
             address: addr,

@@ -87,6 +87,7 @@ impl Ipv6Cidr {
     pub fn new_host(addr: Ipv6Addr) -> Ipv6Cidr
         ensures { result ≡ addr }
     {
+        // the call tells the proof that the address has 128 bits
         let _width = addr.to_bits();
         Ipv6Cidr {
             address: addr,

@@ -70,6 +70,7 @@ impl Ipv4Inet {
         requires { len ≤ 32 }
         ensures { result ≡ record { address = addr; len = len } }
     {
+        // the call tells the proof that the address has 32 bits
         let _width = addr.to_bits();
         Ipv4Inet { address: addr, len }
     }

@@ -69,6 +69,7 @@ impl Ipv6Inet {
         requires { len ≤ 128 }
         ensures { result ≡ record { address = addr; len = len } }
     {
+        // the call tells the proof that the address has 128 bits
         let _width = addr.to_bits();
         Ipv6Inet { address: addr, len }
     }

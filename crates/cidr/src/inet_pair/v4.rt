@@ -185,13 +185,9 @@ impl PrivInetPair for Ipv4InetPair {
     ghost pair = { λ p. p };
 
     fn _covered_addresses(&self) -> NumberOfAddresses {
-        let first = self.first.to_bits();
-        let second = self.second.to_bits();
-        if second < first {
-            NumberOfAddresses::Count(0)
-        } else {
-            NumberOfAddresses::from_distance(u128::from(second - first))
-        }
+        let first = u128::from(self.first.to_bits());
+        let second = u128::from(self.second.to_bits());
+        NumberOfAddresses::between(first, second)
     }
 
     fn _inc_first(&mut self) -> bool {

@@ -186,13 +186,7 @@ impl PrivInetPair for Ipv6InetPair {
     ghost pair = { λ p. p };
 
     fn _covered_addresses(&self) -> NumberOfAddresses {
-        let first = self.first.to_bits();
-        let second = self.second.to_bits();
-        if second < first {
-            NumberOfAddresses::Count(0)
-        } else {
-            NumberOfAddresses::from_distance(second - first)
-        }
+        NumberOfAddresses::between(self.first.to_bits(), self.second.to_bits())
     }
 
     fn _inc_first(&mut self) -> bool {
