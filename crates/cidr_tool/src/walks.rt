@@ -17,10 +17,13 @@ use std::marker::Model;
 /// The most ends that a word names.
 const MOST_ENDS: usize = 256;
 
+/// The lines of as many answers as there can be, of which the longest has 39 bytes and a line feed.
+type WalkLines = ArrayString<10240>;
+
 /// Ends of a walk, in order.
 #[derive(Drop)]
 pub struct Ends {
-    places: [End; 256],
+    places: [End; MOST_ENDS],
     count: usize,
 }
 
@@ -44,7 +47,7 @@ impl Ends {
         if letters.len() > MOST_ENDS {
             return None;
         }
-        let mut places = [End::Front; 256];
+        let mut places = [End::Front; MOST_ENDS];
         for (i, letter) in letters.iter().enumerate() {
             places[i] = end_of(*letter)?;
         }
@@ -75,7 +78,7 @@ fn end_of(code: u8) -> Option<End>
 }
 
 /// The line that answers one call.
-fn push_line(lines: &mut ArrayString<10240>, answer: &Option<IpAddr>)
+fn push_line(lines: &mut WalkLines, answer: &Option<IpAddr>)
     requires { length lines.old.bytes + 40 ≤ 10240 }
     ensures line { lines.new.bytes ≡ lines.old.bytes ++ answer_line (option_map (in_family address_family plain_bits) answer.now) }
     ensures len { length lines.new.bytes ≤ length lines.old.bytes + 40 }
@@ -88,11 +91,11 @@ fn push_line(lines: &mut ArrayString<10240>, answer: &Option<IpAddr>)
 }
 
 /// The lines that answer the calls.
-fn lines_of(answers: &[Option<IpAddr>]) -> ArrayString<10240>
+fn lines_of(answers: &[Option<IpAddr>]) -> WalkLines
     requires { length answers.now ≤ most_ends }
     ensures { result.bytes ≡ flat_map answer_line (map (option_map (in_family address_family plain_bits)) answers.now) }
 {
-    let mut lines = ArrayString::new();
+    let mut lines = WalkLines::new();
     for answer in answers {
         push_line(&mut lines, answer);
     }
@@ -104,7 +107,7 @@ pub fn write_walk<S: Sink>(network: &IpCidr, ends: &[End], out: &mut S) -> Resul
     requires { length ends.now ≤ most_ends }
     ensures { Answered (S.state out.old) (S.state out.new) (walk_text network.now ends.now) result }
 {
-    let mut places = [None; 256];
+    let mut places = [None; MOST_ENDS];
     let answers = &mut places[..ends.len()];
     let mut walk = network.iter().addresses();
     drive(&mut walk, ends, answers);
