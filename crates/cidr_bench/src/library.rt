@@ -3,6 +3,7 @@
 use crate::values::{IPV4, IPV6, IPV6_NETWORK, mixed, spread};
 use cidr::{Ipv4Addr, Ipv4Cidr, Ipv6Addr, Ipv6Cidr, Ipv6Inet};
 
+/// Reads eight IPv4 texts in a round.
 pub fn read_ipv4(rounds: u32) -> u32 {
     let mut sum = 0;
     for _ in 0..rounds {
@@ -15,6 +16,7 @@ pub fn read_ipv4(rounds: u32) -> u32 {
     sum
 }
 
+/// Reads eight IPv6 texts in a round.
 pub fn read_ipv6(rounds: u32) -> u32 {
     let mut sum = 0;
     for _ in 0..rounds {
@@ -40,6 +42,7 @@ pub fn print_ipv4(rounds: u32) -> u32 {
     sum
 }
 
+/// The same of IPv6.
 pub fn print_ipv6(rounds: u32) -> u32 {
     let mut sum = 0;
     for round in 0..rounds {
@@ -52,10 +55,12 @@ pub fn print_ipv6(rounds: u32) -> u32 {
     sum
 }
 
+/// The last byte of a text.
 pub fn last_byte(text: &str) -> u32 {
     text.as_bytes().last().map_or(0, |byte| u32::from(*byte))
 }
 
+/// Whether a network holds an address, for sixteen addresses in a round.
 pub fn contains_ipv6(rounds: u32) -> u32 {
     let mut sum = 0;
     let (first, len) = IPV6_NETWORK;
@@ -71,6 +76,7 @@ pub fn contains_ipv6(rounds: u32) -> u32 {
     sum
 }
 
+/// Sixteen steps of a host in a round.
 pub fn step_ipv6(rounds: u32) -> u32 {
     let mut sum = 0;
     let (first, len) = IPV6_NETWORK;

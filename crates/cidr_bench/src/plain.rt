@@ -6,6 +6,7 @@ use arrayvec::ArrayString;
 use std::fmt::Write;
 use std::net::{Ipv4Addr, Ipv6Addr};
 
+/// Reads eight IPv4 texts in a round.
 pub fn read_ipv4(rounds: u32) -> u32 {
     let mut sum = 0;
     for _ in 0..rounds {
@@ -18,6 +19,7 @@ pub fn read_ipv4(rounds: u32) -> u32 {
     sum
 }
 
+/// Reads eight IPv6 texts in a round.
 pub fn read_ipv6(rounds: u32) -> u32 {
     let mut sum = 0;
     for _ in 0..rounds {
@@ -30,6 +32,7 @@ pub fn read_ipv6(rounds: u32) -> u32 {
     sum
 }
 
+/// The texts of eight addresses in a round, of which the last byte is told.
 pub fn print_ipv4(rounds: u32) -> u32 {
     let mut sum = 0;
     for round in 0..rounds {
@@ -43,6 +46,7 @@ pub fn print_ipv4(rounds: u32) -> u32 {
     sum
 }
 
+/// The same of IPv6.
 pub fn print_ipv6(rounds: u32) -> u32 {
     let mut sum = 0;
     for round in 0..rounds {

@@ -25,6 +25,7 @@ impl Work {
         Work::Walk,
     ];
 
+    /// What the work is called in its line.
     pub fn name(self) -> &'static str {
         match self {
             Work::ReadIpv4 => "read IPv4",

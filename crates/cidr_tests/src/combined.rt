@@ -9,10 +9,12 @@ use std::cmp::Ordering;
 use std::hash::{BuildHasher, BuildHasherDefault, FoldHasher};
 use std::test::Fail;
 
+/// The address that the text spells.
 pub fn address(text: &str) -> Result<IpAddr, Fail> {
     Ok(text.parse::<IpAddr>()?)
 }
 
+/// The network that the text spells.
 pub fn network(text: &str) -> Result<IpCidr, Fail> {
     Ok(text.parse::<IpCidr>()?)
 }
@@ -21,10 +23,12 @@ fn any_network(text: &str) -> Result<AnyIpCidr, Fail> {
     Ok(text.parse::<AnyIpCidr>()?)
 }
 
+/// The host that the text spells.
 pub fn host(text: &str) -> Result<IpInet, Fail> {
     Ok(text.parse::<IpInet>()?)
 }
 
+/// The pair of the hosts that the texts spell.
 pub fn pair(first: &str, second: &str) -> Result<IpInetPair, Fail> {
     Ok(IpInetPair::new(host(first)?, host(second)?)?)
 }
