@@ -312,7 +312,7 @@ struct Row<'a> {
     wraps_down: bool,
 }
 
-/// The rows of a table, a line each.
+/// The row that a line of a table is.
 fn row_of(line: &str) -> Result<Row<'_>, Fail> {
     let (len, line) = cut(line)?;
     let (step, line) = cut(line)?;
@@ -329,7 +329,8 @@ fn row_of(line: &str) -> Result<Row<'_>, Fail> {
     })
 }
 
-fn cut(line: &str) -> Result<(&str, &str), Fail> {
+/// A line of a table cut at its first space.
+pub fn cut(line: &str) -> Result<(&str, &str), Fail> {
     Ok(line.split_once(' ').ok_or("a line with more words")?)
 }
 

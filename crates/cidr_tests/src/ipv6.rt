@@ -1,4 +1,5 @@
 //! IPv6 addresses and networks, and addresses of either family.
+use crate::hosts::cut;
 use cidr::{AddrParseError, Family, IpAddr, Ipv4Addr, Ipv6Addr, Ipv6Cidr};
 use std::alloc::Global;
 use std::cmp::Ordering;
@@ -254,11 +255,6 @@ fn families(rt: HostRuntime) -> Result<(), Fail> {
         assert_eq!(rt; format!(in rt.alloc(); "{fault:?}")?.as_str(), wanted);
     }
     Ok(())
-}
-
-/// A row cut at its first space.
-fn cut(row: &str) -> Result<(&str, &str), Fail> {
-    Ok(row.split_once(' ').ok_or("a row with more words")?)
 }
 
 /// Each length with the first address, the last address and the mask of the network around
