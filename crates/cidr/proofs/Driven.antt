@@ -1,3 +1,4 @@
+-- What calls at both ends of a walk give and leave, call by call.
 use Rattle.std.proofs.Common.{◌≡◌, sym, ◌∙◌, ap, arith, ℕ, ◌+◌, ◌-◌, ◌<◌, ◌≤◌, List, [], ◌∷◌, ◌++◌, length, take, drop, get_or, set, map, Option, Some, None, option_map, append_assoc, length-take, length-drop, length-append, MatchOption, suc}
 use Rattle.std.specs.List.{slice_get}
 use Rattle.std.proofs.lemmas.List.{drop_more, take_more, same_from_push, get_or-drop, map_push, take_more_set}
@@ -5,7 +6,7 @@ use Rattle.std.proofs.lemmas.Option.{slice_get-get_or}
 use Rattle.std.proofs.lemmas.Bool.Decides.{nat_tests}
 use Rattle.cidr.specs.declared.inet_iterator.driving.End.{End}
 use Rattle.cidr.specs.declared.inet_iterator.driving.End.TheVariants.{Front, Back}
-use Rattle.cidr.specs.Walk.{answer_at, answers_after, answers_to, fronts, backs, without}
+use Rattle.cidr.specs.model.Walk.{answer_at, answers_after, answers_to, fronts, backs, without}
 
 -- after some calls, with `rest` to come: what was given, and what is left of the items
 pub record Driven {X : Type 0} (items : List X) (ends rest : List End) (given : List (Option X)) (left : List X) : Type 0 where
@@ -21,7 +22,8 @@ length-without : {X : Type 0} (items : List X) (f b : ℕ) → length (without i
 length-without items f b = simp (length-take, length-drop) (omega arith)
 
 -- what a call at the front gives, and what it leaves
-pub front_answer : {X : Type 0} (items : List X) (f b : ℕ) (r : Option X) (left left' : List X) → left ≡ without items f b → MatchOption r ((left ≡ []) × (left' ≡ [])) (λ x. left ≡ x ∷ left') → (answer_at items f b Front ≡ r) × (left' ≡ without items (f + 1) b)
+pub front_answer : {X : Type 0} (items : List X) (f b : ℕ) (r : Option X) (left left' : List X) → left ≡ without items f b
+    → MatchOption r ((left ≡ []) × (left' ≡ [])) (λ x. left ≡ x ∷ left') → (answer_at items f b Front ≡ r) × (left' ≡ without items (f + 1) b)
 front_answer items f b None left left' e h =
     let n : length (without items f b) ≡ 0 = ap length (sym e ∙ h.0) in
     let m : length items ≤ f + b = omega (arith, length-without items f b) in
@@ -41,7 +43,8 @@ front_answer items f b (Some x) left left' e h =
     (grind (arith, nat_tests), l)
 
 -- the same at the back
-pub back_answer : {X : Type 0} (items : List X) (f b : ℕ) (r : Option X) (left left' : List X) → left ≡ without items f b → MatchOption r ((left ≡ []) × (left' ≡ [])) (λ x. left ≡ left' ++ x ∷ []) → (answer_at items f b Back ≡ r) × (left' ≡ without items f (b + 1))
+pub back_answer : {X : Type 0} (items : List X) (f b : ℕ) (r : Option X) (left left' : List X) → left ≡ without items f b
+    → MatchOption r ((left ≡ []) × (left' ≡ [])) (λ x. left ≡ left' ++ x ∷ []) → (answer_at items f b Back ≡ r) × (left' ≡ without items f (b + 1))
 back_answer items f b None left left' e h =
     let n : length (without items f b) ≡ 0 = ap length (sym e ∙ h.0) in
     let m : length items ≤ f + b = omega (arith, length-without items f b) in
@@ -62,7 +65,9 @@ back_answer items f b (Some x) left left' e h =
     (grind (arith, nat_tests), k.0)
 
 -- one more call at the front
-front_given : {X : Type 0} (items : List X) (ends rest : List End) (given : List (Option X)) (left : List X) (r : Option X) (left' : List X) → Driven items ends (Front ∷ rest) given left → MatchOption r ((left ≡ []) × (left' ≡ [])) (λ x. left ≡ x ∷ left') → Driven items ends rest (given ++ r ∷ []) left'
+front_given : {X : Type 0} (items : List X) (ends rest : List End) (given : List (Option X)) (left : List X) (r : Option X) (left' : List X)
+    → Driven items ends (Front ∷ rest) given left → MatchOption r ((left ≡ []) × (left' ≡ [])) (λ x. left ≡ x ∷ left')
+    → Driven items ends rest (given ++ r ∷ []) left'
 front_given items ends rest given left r left' d h =
     let a = front_answer items d.f d.b r left left' d.here h in
     record {
@@ -75,7 +80,9 @@ front_given items ends rest given left r left' d h =
     }
 
 -- one more call at the back
-back_given : {X : Type 0} (items : List X) (ends rest : List End) (given : List (Option X)) (left : List X) (r : Option X) (left' : List X) → Driven items ends (Back ∷ rest) given left → MatchOption r ((left ≡ []) × (left' ≡ [])) (λ x. left ≡ left' ++ x ∷ []) → Driven items ends rest (given ++ r ∷ []) left'
+back_given : {X : Type 0} (items : List X) (ends rest : List End) (given : List (Option X)) (left : List X) (r : Option X) (left' : List X)
+    → Driven items ends (Back ∷ rest) given left → MatchOption r ((left ≡ []) × (left' ≡ [])) (λ x. left ≡ left' ++ x ∷ [])
+    → Driven items ends rest (given ++ r ∷ []) left'
 back_given items ends rest given left r left' d h =
     let a = back_answer items d.f d.b r left left' d.here h in
     record {
@@ -96,13 +103,15 @@ module _ {A X : Type 0} (view : A → X) (items : List X) (ends : List End) (i :
   written = ap (map (option_map view)) (take_more_set answers i r in_answers) ∙ map_push (option_map view) (take i answers) r
 
   -- a turn of the loop that calls at the front
-  pub front_turn : get_or ends i Front ≡ Front → MatchOption r ((left ≡ []) × (left' ≡ [])) (λ x. left ≡ view x ∷ left') → Driven items ends (drop (i + 1) ends) (map (option_map view) (take (i + 1) (set answers i r))) left'
+  pub front_turn : get_or ends i Front ≡ Front → MatchOption r ((left ≡ []) × (left' ≡ [])) (λ x. left ≡ view x ∷ left')
+      → Driven items ends (drop (i + 1) ends) (map (option_map view) (take (i + 1) (set answers i r))) left'
   front_turn e h =
       let k : drop i ends ≡ Front ∷ drop (i + 1) ends = drop_more ends i Front in_ends ∙ ap (λ x. x ∷ drop (i + 1) ends) e in
       rw written (front_given items ends (drop (i + 1) ends) (map (option_map view) (take i answers)) left (option_map view r) left' (rw k at d) (viewed view ((left ≡ []) × (left' ≡ [])) (λ x. left ≡ x ∷ left') r h))
 
   -- a turn of the loop that calls at the back
-  pub back_turn : get_or ends i Front ≡ Back → MatchOption r ((left ≡ []) × (left' ≡ [])) (λ x. left ≡ left' ++ view x ∷ []) → Driven items ends (drop (i + 1) ends) (map (option_map view) (take (i + 1) (set answers i r))) left'
+  pub back_turn : get_or ends i Front ≡ Back → MatchOption r ((left ≡ []) × (left' ≡ [])) (λ x. left ≡ left' ++ view x ∷ [])
+      → Driven items ends (drop (i + 1) ends) (map (option_map view) (take (i + 1) (set answers i r))) left'
   back_turn e h =
       let k : drop i ends ≡ Back ∷ drop (i + 1) ends = drop_more ends i Front in_ends ∙ ap (λ x. x ∷ drop (i + 1) ends) e in
       rw written (back_given items ends (drop (i + 1) ends) (map (option_map view) (take i answers)) left (option_map view r) left' (rw k at d) (viewed view ((left ≡ []) × (left' ≡ [])) (λ x. left ≡ left' ++ x ∷ []) r h))

@@ -4,10 +4,10 @@ use Rattle.std.proofs.Math.Nat.{pow-le-pow_right, mod-eq_of_lt, mul_assoc}
 use Rattle.std.proofs.lemmas.Nat.{pow-add, row_fits, shl_below}
 use Rattle.std.proofs.lemmas.Grind.{flat_map-append}
 use Rattle.std.proofs.lemmas.List.{length-replicate}
-use Rattle.cidr.specs.Bits.{bits, number}
-use Rattle.cidr.specs.BitLaws.{bits-cat, bits-number, number-lt}
-use Rattle.cidr.specs.Address.{group_bits, octet_bits}
-use Rattle.cidr.specs.Reading.{WritesGroups}
+use Rattle.cidr.specs.model.Bits.{bits, number}
+use Rattle.cidr.specs.laws.BitLaws.{bits-cat, bits-number, number-lt}
+use Rattle.cidr.specs.model.Address.{group_bits, octet_bits}
+use Rattle.cidr.specs.internal.Reading.{WritesGroups}
 
 pub no_groups : WritesGroups [] 0
 unfolding bits
@@ -82,7 +82,8 @@ elided_length head tail room =
     omega (arith, length-append (head ++ replicate z 0) tail, length-append head (replicate z 0), length-replicate {A = ℕ} z 0)
 
 -- the head is moved up by seven places at most, and then by one
-pub elided : (head tail : List ℕ) (m n h : ℕ) → WritesGroups head m → WritesGroups tail n → length head ≡ h → h + length tail ≤ 7 → WritesGroups (head ++ replicate (8 - length head - length tail) 0 ++ tail) (m * 2 ^ (16 * (7 - h)) % 2 ^ 128 * 2 ^ 16 % 2 ^ 128 + n)
+pub elided : (head tail : List ℕ) (m n h : ℕ) → WritesGroups head m → WritesGroups tail n → length head ≡ h → h + length tail ≤ 7
+    → WritesGroups (head ++ replicate (8 - length head - length tail) 0 ++ tail) (m * 2 ^ (16 * (7 - h)) % 2 ^ 128 * 2 ^ 16 % 2 ^ 128 + n)
 elided head tail m n h g k len room =
     let s = 16 * (7 - h) in
     let z = 8 - length head - length tail in
@@ -92,13 +93,15 @@ elided head tail m n h g k len room =
     let places : s + 16 ≡ 16 * z + 16 * length tail = omega arith in
     rw (first, twice, second, places) (filled head tail m n z g k)
 
-pub elided_number : (head tail : List ℕ) (m n h : ℕ) → WritesGroups head m → WritesGroups tail n → length head ≡ h → h + length tail ≤ 7 → bits 128 (m * 2 ^ (16 * (7 - h)) % 2 ^ 128 * 2 ^ 16 % 2 ^ 128 + n) ≡ group_bits (head ++ replicate (8 - length head - length tail) 0 ++ tail)
+pub elided_number : (head tail : List ℕ) (m n h : ℕ) → WritesGroups head m → WritesGroups tail n → length head ≡ h → h + length tail ≤ 7
+    → bits 128 (m * 2 ^ (16 * (7 - h)) % 2 ^ 128 * 2 ^ 16 % 2 ^ 128 + n) ≡ group_bits (head ++ replicate (8 - length head - length tail) 0 ++ tail)
 elided_number head tail m n h g k len room =
     let whole = elided head tail m n h g k len room in
     let eight = elided_length head tail (omega arith) in
     rw eight at whole.value
 
-pub elided_fits : (head tail : List ℕ) (m n h : ℕ) → WritesGroups head m → WritesGroups tail n → length head ≡ h → h + length tail ≤ 7 → m * 2 ^ (16 * (7 - h)) % 2 ^ 128 * 2 ^ 16 % 2 ^ 128 + n < 2 ^ 128
+pub elided_fits : (head tail : List ℕ) (m n h : ℕ) → WritesGroups head m → WritesGroups tail n → length head ≡ h → h + length tail ≤ 7
+    → m * 2 ^ (16 * (7 - h)) % 2 ^ 128 * 2 ^ 16 % 2 ^ 128 + n < 2 ^ 128
 elided_fits head tail m n h g k len room =
     let whole = elided head tail m n h g k len room in
     let eight = elided_length head tail (omega arith) in

@@ -2,12 +2,12 @@
 use Rattle.std.proofs.Common.{◌≡◌, ℕ, zero, suc, ◌+◌, ◌*◌, ◌%◌, ◌^◌, Bool, List, [], ◌∷◌, ◌++◌, length, take, drop, flat_map, refl, sym, ap, ap₂, ◌∙◌, arith, take_at, drop_at, length-drop, zero-add}
 use Rattle.std.proofs.Math.Nat.{suc-add}
 use Rattle.std.proofs.lemmas.List.{drop-drop}
-use Rattle.cidr.specs.Bits.{bits, number}
-use Rattle.cidr.specs.BitLaws.{length-bits, number-bits}
-use Rattle.cidr.specs.Address.{parts_of, octet_bits, octets_of, group_bits}
-use Rattle.cidr.specs.AddressText.{dot, IsOctetText, IsJoined, IsIpv4Text}
-use Rattle.cidr.specs.Ipv6Text.{IsDottedPair}
-use Rattle.cidr.specs.Printed.{dotted, ipv4_text}
+use Rattle.cidr.specs.model.Bits.{bits, number}
+use Rattle.cidr.specs.laws.BitLaws.{length-bits, number-bits}
+use Rattle.cidr.specs.model.Address.{parts_of, octet_bits, octets_of, group_bits}
+use Rattle.cidr.specs.texts.Ipv4Text.{dot, IsOctetText, IsJoined, IsIpv4Text}
+use Rattle.cidr.specs.texts.Ipv6Text.{IsDottedPair}
+use Rattle.cidr.specs.texts.PrintedAddress.{dotted, ipv4_text}
 use Rattle.cidr.proofs.PartLaws.{FitAll}
 use Rattle.cidr.proofs.GroupNumbers.{groups-octets}
 use Rattle.cidr.proofs.NetworkNumbers.{number-parts, same_from_number}

@@ -6,7 +6,7 @@ use Rattle.std.proofs.lemmas.List.{get_or-append_right, get_or_past, take_all}
 use Rattle.std.proofs.Math.Nat.{pow-le-pow_right}
 use Rattle.std.specs.Char.{digit_value}
 use Rattle.std.specs.Str.Parse.{AllDigits, digits_value}
-use Rattle.cidr.specs.Reading.{IsFirstGroup, NoGroupFirst}
+use Rattle.cidr.specs.internal.Reading.{IsFirstGroup, NoGroupFirst}
 
 -- what has been read of a group
 pub record HasGroup (text : List ℕ) (count value : ℕ) : Type 0 where
@@ -49,7 +49,8 @@ five_digits text count value i byte h four e within is fifth t n more group stop
           absurd (omega arith)
     ]
 
-pub more_group : (text : List ℕ) (count value i byte digit : ℕ) → HasGroup text count value → count ≢ 4 → count ≡ i → i < length text → byte ≡ get_or text i 0 → (digit_value byte < 16) × (digit ≡ digit_value byte) → HasGroup text (count + 1) (value * 16 + digit)
+pub more_group : (text : List ℕ) (count value i byte digit : ℕ) → HasGroup text count value → count ≢ 4 → count ≡ i → i < length text
+    → byte ≡ get_or text i 0 → (digit_value byte < 16) × (digit ≡ digit_value byte) → HasGroup text (count + 1) (value * 16 + digit)
 more_group text count value i byte digit h short e within is next =
     let at : byte ≡ get_or text count 0 = rw e is in
     record {
@@ -68,7 +69,8 @@ no_group text count e none (d ∷ t) n more group stop split =
     omega arith
 
 -- the group ends where the digits do
-pub first_group : (text : List ℕ) (count value : ℕ) → HasGroup text count value → count ≢ 0 → count ≤ length text → 16 ≤ digit_value (get_or text count 0) → IsFirstGroup text value (take (length text - count) (drop count text))
+pub first_group : (text : List ℕ) (count value : ℕ) → HasGroup text count value → count ≢ 0 → count ≤ length text
+    → 16 ≤ digit_value (get_or text count 0) → IsFirstGroup text value (take (length text - count) (drop count text))
 first_group text count value h some within stop =
     let rest : take (length text - count) (drop count text) ≡ drop count text = take_all _ _ (omega (arith, length-drop count text)) in
     let len = length-take-le count text within in

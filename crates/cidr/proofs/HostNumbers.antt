@@ -1,10 +1,10 @@
 -- Hosts by the numbers of their addresses, over any width.
 use Rattle.std.proofs.Common.{◌≡◌, ℕ, ◌+◌, ◌-◌, ◌*◌, ◌/◌, ◌%◌, ◌^◌, ◌<◌, ◌≤◌, Bool, List, ◌++◌, length, take, drop, refl, sym, ap, ◌∙◌, arith, take_at, drop_at}
 use Rattle.std.proofs.lemmas.Nat.{pow_pos}
-use Rattle.cidr.specs.Bits.{bits, number}
-use Rattle.cidr.specs.BitLaws.{bits-cat, bits-zero, bits-ones, length-bits}
-use Rattle.cidr.specs.Network.{zeros, first_of, last_of}
-use Rattle.cidr.specs.NetworkLaws.{length-take-within}
+use Rattle.cidr.specs.model.Bits.{bits, number}
+use Rattle.cidr.specs.laws.BitLaws.{bits-cat, bits-zero, bits-ones, length-bits}
+use Rattle.cidr.specs.model.Network.{zeros, first_of, last_of}
+use Rattle.cidr.specs.laws.NetworkLaws.{length-take-within}
 use Rattle.cidr.proofs.NetworkNumbers.{number-parts, same_from_number}
 use Rattle.cidr.proofs.StepNumbers.{part_below}
 
@@ -40,4 +40,4 @@ drop-first w k a h e =
     let l = length-take-within w k a h e in
     ap (drop k) (bits-first w k a h e) ∙ drop_at (take k a) (zeros (w - length (take k a))) k l ∙ ap (λ n. zeros (w - n)) l
 
-pub ruleset host_laws = (bits-with_part, bits-first, bits-last_of, number-host_part, take-first, drop-first, length-bits, length-take-within, part_below)
+pub ruleset host_number_laws = (bits-with_part, bits-first, bits-last_of, number-host_part, take-first, drop-first, length-bits, length-take-within, part_below)

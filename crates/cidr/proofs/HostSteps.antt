@@ -4,11 +4,11 @@ use Rattle.std.proofs.Math.Nat.{mod-eq_of_lt, add-mod_right, add-mod-mod, mod-ad
 use Rattle.std.proofs.lemmas.Bool.{false_from_ne_true}
 use Rattle.std.proofs.lemmas.List.{length-replicate}
 use Rattle.std.proofs.lemmas.Nat.{mod_below, pow_pos}
-use Rattle.cidr.specs.Bits.{bits, number, bit_eq}
-use Rattle.cidr.specs.BitLaws.{bits-number, length-bits, number-lt, number-bits, bit_eq_Decides}
-use Rattle.cidr.specs.Network.{zeros, ones, first_of, last_of}
-use Rattle.cidr.specs.NetworkLaws.{length-take-within}
-use Rattle.cidr.specs.Host.{Host, IsHost, network_of, host_part, host_count, with_host_part, stepped_up, stepped_down, WrapsUp, WrapsDown, next_of, previous_of}
+use Rattle.cidr.specs.model.Bits.{bits, number, bit_eq}
+use Rattle.cidr.specs.laws.BitLaws.{bits-number, length-bits, number-lt, number-bits, bit_eq_Decides}
+use Rattle.cidr.specs.model.Network.{zeros, ones, first_of, last_of}
+use Rattle.cidr.specs.laws.NetworkLaws.{length-take-within}
+use Rattle.cidr.specs.model.Host.{Host, IsHost, network_of, host_part, host_count, with_host_part, stepped_up, stepped_down, WrapsUp, WrapsDown, next_of, previous_of}
 use Rattle.cidr.proofs.NetworkNumbers.{same_from_numbers, number-zeros, number-ones}
 
 -- ---- the host part of a host, and the host with a host part

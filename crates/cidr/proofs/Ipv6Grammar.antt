@@ -8,13 +8,14 @@ use Rattle.std.specs.Net.Grammar.{IsDotted, IsGroup, IsGroupsAfter, IsColonHex}
 use Rattle.std.specs.Net.Grammar as Std
 use Rattle.std.proofs.NetLemmas.Options.{same_parts}
 use Rattle.std.proofs.NetLemmas.Ipv6.{read_ipv6_complete, EndsGroups-nil, IsDotted-not_colon_hex}
-use Rattle.cidr.specs.Address.{group_bits}
-use Rattle.cidr.specs.AddressText.{dot, IsIpv4Text}
-use Rattle.cidr.specs.Ipv6Text.{colon, IsGroupText, IsGroups, IsDottedPair, IsRun, IsNothing, IsEightGroups, IsIpv6Text}
-use Rattle.cidr.specs.NetworkText.{slash}
-use Rattle.cidr.specs.Refusal.{Lacks}
+use Rattle.cidr.specs.model.Address.{group_bits}
+use Rattle.cidr.specs.texts.Ipv4Text.{dot, IsIpv4Text}
+use Rattle.cidr.specs.texts.Ipv6Text.{colon, IsGroupText, IsGroups, IsDottedPair, IsRun, IsNothing, IsEightGroups, IsIpv6Text}
+use Rattle.cidr.specs.texts.NetworkText.{slash}
+use Rattle.cidr.specs.texts.Refusal.{Lacks}
 use Rattle.cidr.proofs.OctetReading.{IsOctetText-decimal, decimal-IsOctetText, four_joined}
-use Rattle.cidr.proofs.TextLaws.{IsAddressGrammar, Lacks-append, Lacks-cons, Lacks-joined}
+use Rattle.cidr.proofs.Cuts.{Lacks-append, Lacks-cons}
+use Rattle.cidr.proofs.Ipv4Grammar.{IsGrammar, Lacks-joined}
 
 -- ---- from std's grammar
 group_text : (text : List ℕ) (s : ℕ) → IsGroup text s → IsGroupText text s
@@ -233,7 +234,7 @@ one_groups : (text groups others : List ℕ) → IsColonHex text groups → IsCo
 one_groups text groups others h k =
     (same_parts _ _ _ _ (sym (read_ipv6_complete text groups [] h EndsGroups-nil) ∙ read_ipv6_complete text others [] k EndsGroups-nil)).0
 
-pub ipv6_grammar : IsAddressGrammar IsIpv6Text
+pub ipv6_grammar : IsGrammar IsIpv6Text
 ipv6_grammar = record {
   no_slash = λ text a h. Lacks-eight text h.groups h.eight;
   one_value = λ text a b h k. h.value ∙ ap group_bits (one_groups text h.groups k.groups (std_eight text h.groups h.eight) (std_eight text k.groups k.eight)) ∙ sym k.value;

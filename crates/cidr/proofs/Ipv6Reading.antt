@@ -13,14 +13,14 @@ use Rattle.std.specs.Net.Reader.{read_ipv4, read_ipv4_if, read_segment, read_sep
 use Rattle.std.proofs.NetLemmas.Options.{cond_none, and_then_some, same_parts}
 use Rattle.std.proofs.NetLemmas.Numbers.{read_number_some, read_number_sound}
 use Rattle.std.proofs.NetLemmas.Ipv4.{read_byte_other, read_ipv4_complete, read_ipv4_sound, read_ipv4_none}
-use Rattle.cidr.specs.Bits.{number}
-use Rattle.cidr.specs.Address.{octet_bits}
-use Rattle.cidr.specs.AddressText.{dot, IsIpv4Text}
-use Rattle.cidr.specs.Ipv6Text.{IsGroupText}
-use Rattle.cidr.specs.Reading.{IsFirstGroup, NoGroupFirst, WritesGroups, IsFound, IsStuck, TakesByte}
+use Rattle.cidr.specs.model.Bits.{number}
+use Rattle.cidr.specs.model.Address.{octet_bits}
+use Rattle.cidr.specs.texts.Ipv4Text.{dot, IsIpv4Text}
+use Rattle.cidr.specs.texts.Ipv6Text.{IsGroupText}
+use Rattle.cidr.specs.internal.Reading.{IsFirstGroup, NoGroupFirst, WritesGroups, IsFound, IsStuck, TakesByte}
 use Rattle.cidr.proofs.OctetReading.{four_joined, ipv4_spelled}
 use Rattle.cidr.proofs.Ipv6Grammar.{std_dotted, dotted_pair}
-use Rattle.cidr.proofs.TextLaws.{ipv4_grammar}
+use Rattle.cidr.proofs.Ipv4Grammar.{ipv4_grammar}
 use Rattle.cidr.proofs.GroupNumbers.{no_groups, groups-push, groups-append, groups-octets, groups-address, shifted}
 
 -- ---- one group
@@ -99,13 +99,13 @@ pub record ReadsOn (room : ℕ) (text : List ℕ) (n count : ℕ) (rest : List �
   pub groups : List ℕ
   pub reads : read_segments room true text ≡ after groups (read_segments (room - count) (count == 0) rest)
   pub many : length groups ≡ count
-  pub within : count ≤ room
+  pub fits : count ≤ room
   pub number : WritesGroups groups n
 
 pub reads_start : (room : ℕ) (text : List ℕ) → ReadsOn room text 0 0 text
 reads_start room text =
     let all : room - 0 ≡ room = omega arith in
-    record { groups = []; reads = ap (λ k. read_segments k true text) (sym all); many = refl; within = omega arith; number = no_groups }
+    record { groups = []; reads = ap (λ k. read_segments k true text) (sym all); many = refl; fits = omega arith; number = no_groups }
 
 no_ipv4_if : (fits : Bool) (text : List ℕ) → read_ipv4 text ≡ None → read_ipv4_if fits text ≡ None
 no_ipv4_if true text e = e
@@ -122,9 +122,9 @@ no_colon : (room : ℕ) (text : List ℕ) → get_or text 0 0 ≢ 58 → read_se
 unfolding read_segments
 no_colon room text other = rw (read_byte_other 58 text other)
 
-module _ (room : ℕ) (text : List ℕ) (n count : ℕ) (rest : List ℕ) (h : ReadsOn room text n count rest) where
+module _ {room : ℕ} {text : List ℕ} {n count : ℕ} {rest : List ℕ} (h : ReadsOn room text n count rest) where
   stop : read_segments (room - count) (count == 0) rest ≡ ([], false, rest) → IsFound room text n count rest
-  stop e = record { groups = h.groups; dotted = false; found = h.reads ∙ rw (e, append-nil); ends = λ no. absurd (true≢false (sym no)); many = h.many; within = h.within; number = h.number }
+  stop e = record { groups = h.groups; dotted = false; found = h.reads ∙ rw (e, append-nil); ends = λ no. absurd (true≢false (sym no)); many = h.many; fits = h.fits; number = h.number }
 
   pub at_room : room ≤ count → IsFound room text n count rest
   unfolding read_segments
@@ -138,7 +138,7 @@ module _ (room : ℕ) (text : List ℕ) (n count : ℕ) (rest : List ℕ) (h : R
     unfolding read_segments
     at_no_separator e = stop (rw (next_room, ← e))
 
-    module _ (group : List ℕ) (led : Some group ≡ read_separator (count == 0) rest) where
+    module _ {group : List ℕ} (led : Some group ≡ read_separator (count == 0) rest) where
       pub at_no_group : NoGroupFirst group → IsFound room text n count rest
       unfolding read_segments
       at_no_group none = stop (rw (next_room, ← led, no_ipv4_if (nat_lt 0 (room - (count + 1))) group (no_ipv4 group none), no_segment group none))
@@ -147,11 +147,13 @@ module _ (room : ℕ) (text : List ℕ) (n count : ℕ) (rest : List ℕ) (h : R
       unfolding read_segments
       at_ipv4 o more two e = h.reads ∙ rw (next_room, ← led, lt-ltb 0 (room - (count + 1)) two, e)
 
-      at_group : (v : ℕ) (more : List ℕ) → IsFirstGroup group v more → read_ipv4_if (nat_lt 0 (room - (count + 1))) group ≡ None → read_segments room true text ≡ after (h.groups ++ v ∷ []) (read_segments (room - (count + 1)) false more)
+      at_group : (v : ℕ) (more : List ℕ) → IsFirstGroup group v more → read_ipv4_if (nat_lt 0 (room - (count + 1))) group ≡ None
+          → read_segments room true text ≡ after (h.groups ++ v ∷ []) (read_segments (room - (count + 1)) false more)
       unfolding read_segments
       at_group v more first e = h.reads ∙ rw (next_room, ← led, e, segment group more v first, append_assoc)
 
-      pub reads_more : (v : ℕ) (more : List ℕ) (x : ℕ) → IsFirstGroup group v more → x ≡ v → room ≤ 8 → (count + 1 < room → get_or more 0 0 ≢ dot) → ReadsOn room text (n * 2 ^ 16 % 2 ^ 128 + x) (count + 1) more
+      pub reads_more : (v : ℕ) (more : List ℕ) (x : ℕ) → IsFirstGroup group v more → x ≡ v → room ≤ 8
+          → (count + 1 < room → get_or more 0 0 ≢ dot) → ReadsOn room text (n * 2 ^ 16 % 2 ^ 128 + x) (count + 1) more
       reads_more v more x first same eight other =
           let later : (count + 1 == 0) ≡ false = ne_eqb (count + 1) 0 (omega arith) in
           let none : read_ipv4_if (nat_lt 0 (room - (count + 1))) group ≡ None = elim (cases_lt (count + 1) room) [
@@ -162,7 +164,7 @@ module _ (room : ℕ) (text : List ℕ) (n count : ℕ) (rest : List ℕ) (h : R
             groups = h.groups ++ v ∷ [];
             reads = rw later (at_group v more first none);
             many = omega (arith, length-append h.groups (v ∷ []), h.many);
-            within = omega arith;
+            fits = omega arith;
             number = rw (shifted h.groups n 7 16 h.number (omega (arith, h.many)) (omega arith), same) (groups-push h.groups n v h.number (group_fits first.front v first.group));
           }
 
@@ -180,7 +182,7 @@ module _ (room : ℕ) (text : List ℕ) (n count : ℕ) (rest : List ℕ) (h : R
             ends = λ _. refl;
             found = at_ipv4 octets [] (omega arith) read ∙ ap (λ s. (h.groups ++ s, true, [])) (sym both);
             many = omega (arith, length-append h.groups ((i * 256 + j) ∷ (k * 256 + l) ∷ []), h.many);
-            within = omega arith;
+            fits = omega arith;
             number = rw (shifted h.groups n 6 32 h.number (omega (arith, h.many)) (omega arith), same) (groups-append h.groups ((i * 256 + j) ∷ (k * 256 + l) ∷ []) n (number a) h.number pair);
           }
 

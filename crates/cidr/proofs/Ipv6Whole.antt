@@ -7,11 +7,11 @@ use Rattle.std.specs.Net.Reader.{read_segments, read_tail, read_ipv6, Segments}
 use Rattle.std.proofs.NetLemmas.Options.{cond_none, same_parts}
 use Rattle.std.proofs.NetLemmas.Ipv4.{read_byte_other}
 use Rattle.std.proofs.NetLemmas.Ipv6.{read_ipv6_sound, read_ipv6_complete, EndsGroups-nil}
-use Rattle.cidr.specs.Bits.{bits}
-use Rattle.cidr.specs.Address.{group_bits}
-use Rattle.cidr.specs.AddressText.{dot}
-use Rattle.cidr.specs.Ipv6Text.{colon, IsIpv6Text}
-use Rattle.cidr.specs.Reading.{IsFound, IsStuck}
+use Rattle.cidr.specs.model.Bits.{bits}
+use Rattle.cidr.specs.model.Address.{group_bits}
+use Rattle.cidr.specs.texts.Ipv4Text.{dot}
+use Rattle.cidr.specs.texts.Ipv6Text.{colon, IsIpv6Text}
+use Rattle.cidr.specs.internal.Reading.{IsFound, IsStuck}
 use Rattle.cidr.proofs.Ipv6Grammar.{IsIpv6Text-from_colon_hex, colon_hex-from_IsIpv6Text}
 use Rattle.cidr.proofs.GroupNumbers.{elided_number, elided_fits, eight_number}
 
@@ -59,7 +59,7 @@ stuck_read text groups h read =
 pub at_stuck : (text : List ℕ) → IsStuck 8 text → (a : List Bool) → ¬ (IsIpv6Text text a)
 at_stuck text h = unread text (λ groups. stuck_read text groups h)
 
-module _ (text : List ℕ) (n count : ℕ) (rest : List ℕ) (h : IsFound 8 text n count rest) where
+module _ {text : List ℕ} {n count : ℕ} {rest : List ℕ} (h : IsFound 8 text n count rest) where
   full_read : count ≡ 8 → read_ipv6 text ≡ Some (h.groups, rest)
   unfolding read_ipv6
   full_read eight = rw (h.found, eq-eqb (length h.groups) 8 (h.many ∙ eight))
@@ -88,7 +88,7 @@ module _ (text : List ℕ) (n count : ℕ) (rest : List ℕ) (h : IsFound 8 text
         go groups read true is = none-some _ (sym (dotted_read fewer is) ∙ read)
         go groups read false is = none-some _ (sym (tail_read fewer is ∙ no_tail h.groups rest none) ∙ read)
 
-    module _ (one : List ℕ) (first : rest ≡ colon ∷ one) where
+    module _ {one : List ℕ} (first : rest ≡ colon ∷ one) where
       plain : h.dotted ≡ false
       plain = go h.dotted refl
         where
@@ -99,20 +99,20 @@ module _ (text : List ℕ) (n count : ℕ) (rest : List ℕ) (h : IsFound 8 text
       pub at_one_colon : ((more : List ℕ) → one ≢ colon ∷ more) → (a : List Bool) → ¬ (IsIpv6Text text a)
       at_one_colon none = unread text (λ groups read. none-some _ (sym (tail_read fewer plain ∙ ap (read_tail h.groups) first ∙ no_second h.groups one none) ∙ read))
 
-      module _ (two : List ℕ) (second : one ≡ colon ∷ two) where
+      module _ {two : List ℕ} (second : one ≡ colon ∷ two) where
         both_read : (tail : Segments) → read_segments (7 - count) true two ≡ tail → read_ipv6 text ≡ Some (h.groups ++ replicate (8 - length h.groups - length tail.0) 0 ++ tail.0, tail.2)
         both_read tail is = tail_read fewer plain ∙ rw (first, second, h.many, is)
 
         pub at_stuck_tail : IsStuck (7 - count) two → (a : List Bool) → ¬ (IsIpv6Text text a)
         at_stuck_tail stuck = unread text (λ groups read. stuck.left (same_parts _ groups (read_segments (7 - count) true two).2 [] (sym (both_read _ refl) ∙ read)).1)
 
-        module _ (m more : ℕ) (left : List ℕ) (t : IsFound (7 - count) two m more left) where
+        module _ {m more : ℕ} {left : List ℕ} (t : IsFound (7 - count) two m more left) where
           pub at_left_over : length left ≢ 0 → (a : List Bool) → ¬ (IsIpv6Text text a)
           at_left_over some = unread text (λ groups read. some (ap length (same_parts _ groups left [] (sym (both_read _ t.found) ∙ read)).1))
 
           pub whole_fits : n * 2 ^ (16 * (7 - count)) % 2 ^ 128 * 2 ^ 16 % 2 ^ 128 + m < 2 ^ 128
-          whole_fits = elided_fits h.groups t.groups n m count h.number t.number h.many (omega (arith, t.many, t.within))
+          whole_fits = elided_fits h.groups t.groups n m count h.number t.number h.many (omega (arith, t.many, t.fits))
 
           pub at_end : length left ≡ 0 → IsIpv6Text text (bits 128 (n * 2 ^ (16 * (7 - count)) % 2 ^ 128 * 2 ^ 16 % 2 ^ 128 + m))
           at_end none =
-              read_spelled text _ _ (rw (nil_from_length left none) at (both_read _ t.found)) (elided_number h.groups t.groups n m count h.number t.number h.many (omega (arith, t.many, t.within)))
+              read_spelled text _ _ (rw (nil_from_length left none) at (both_read _ t.found)) (elided_number h.groups t.groups n m count h.number t.number h.many (omega (arith, t.many, t.fits)))

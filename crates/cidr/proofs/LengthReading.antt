@@ -6,7 +6,7 @@ use Rattle.std.proofs.lemmas.Str.Parse.{digit_at, digits_value-take-le}
 use Rattle.std.specs.Char.{digit_value}
 use Rattle.std.specs.Int.{IsInRange, IsOutOfRange}
 use Rattle.std.specs.Str.Parse.{AllDigits, digits_value}
-use Rattle.cidr.specs.NetworkText.{plus, IsByteText, IsLengthText}
+use Rattle.cidr.specs.texts.NetworkText.{plus, IsByteText, IsLengthText}
 
 -- what has been read of some digits
 pub record HasDigits (ds : List ℕ) (i value : ℕ) : Type 0 where
@@ -14,7 +14,8 @@ pub record HasDigits (ds : List ℕ) (i value : ℕ) : Type 0 where
   pub read : digits_value 10 (take i ds) ≡ value
   pub fits : value < 256
 
-pub more_digits : (ds : List ℕ) (i value : ℕ) → HasDigits ds i value → i < length ds → IsInRange 48 57 (get_or ds i 0) → digit_value (get_or ds i 0) < 10 → value * 10 + (get_or ds i 0 - 48) < 256 → HasDigits ds (i + 1) (value * 10 + (get_or ds i 0 - 48))
+pub more_digits : (ds : List ℕ) (i value : ℕ) → HasDigits ds i value → i < length ds → IsInRange 48 57 (get_or ds i 0)
+    → digit_value (get_or ds i 0) < 10 → value * 10 + (get_or ds i 0 - 48) < 256 → HasDigits ds (i + 1) (value * 10 + (get_or ds i 0 - 48))
 more_digits ds i value h l digit below fits = record {
   digits = digits_more 10 ds i l h.digits below;
   read = omega (arith, digits_value_more 10 ds i l, h.read, digit_value_digit (get_or ds i 0) digit);

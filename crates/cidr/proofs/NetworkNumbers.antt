@@ -3,10 +3,10 @@ use Rattle.std.proofs.Common.{◌≡◌, ℕ, ◌+◌, ◌-◌, ◌*◌, ◌/◌
 use Rattle.std.proofs.lemmas.Nat.{pow_pos, pow-add, shr_high, mod_low, row_fits}
 use Rattle.std.proofs.lemmas.List.{length-replicate, take_all, drop_all}
 use Rattle.std.proofs.lemmas.Bool.{cases_eq, false_from_ne_true}
-use Rattle.cidr.specs.Bits.{bits, number, bit_eq}
-use Rattle.cidr.specs.BitLaws.{number-bits, number-lt, bits-number, bits-cat, bits-zero, bits-ones, number-append, bit_eq_Decides}
-use Rattle.cidr.specs.Network.{zeros, ones, last_of, mask_of, BeginsWith}
-use Rattle.cidr.specs.NetworkLaws.{length-take-within, first_of-take}
+use Rattle.cidr.specs.model.Bits.{bits, number, bit_eq}
+use Rattle.cidr.specs.laws.BitLaws.{number-bits, number-lt, bits-number, bits-cat, bits-zero, bits-ones, number-append, bit_eq_Decides}
+use Rattle.cidr.specs.model.Network.{zeros, ones, last_of, mask_of, BeginsWith}
+use Rattle.cidr.specs.laws.NetworkLaws.{length-take-within, first_of-take}
 
 -- the number of the first k bits, and of those from k on
 pub number-parts : (w k : ℕ) (a : List Bool) → k ≤ w → length a ≡ w → (number (take k a) ≡ number a / 2 ^ (w - k)) × (number (drop k a) ≡ number a % 2 ^ (w - k))
@@ -98,6 +98,13 @@ prefix-test w k a b h e f =
       λ begins. sym na ∙ ap number (rw lb at begins) ∙ nb,
     )
 
-pub ruleset network_laws = (host_zero-test, zeros_from_rem, bits-last, last_fits, bits-mask, prefix-test)
+-- the same of the number itself
+pub bits-mask_number : (w k : ℕ) → k ≤ w → bits w (2 ^ w - 1 - (2 ^ (w - k) - 1)) ≡ ones k ++ zeros (w - k)
+bits-mask_number w k h =
+    let a = zeros w in
+    let e : length a ≡ w = length-replicate w false in
+    rw (length-take-within w k a h e) at (bits-mask w k a h e)
 
-pub ruleset host_laws = (take_all, drop_all)
+pub ruleset number_test_laws = (bits-mask_number, prefix-test, host_zero-test)
+
+pub ruleset whole_laws = (take_all, drop_all)

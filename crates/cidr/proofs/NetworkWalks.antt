@@ -4,13 +4,13 @@ use Rattle.std.proofs.lemmas.List.{length-replicate}
 use Rattle.std.proofs.lemmas.List.FromFn.{get_or-map-range_with_len}
 use Rattle.std.proofs.lemmas.Nat.{div-add-mod', mod_below, pow_pos}
 use Rattle.std.specs.List.{Contains}
-use Rattle.cidr.specs.Bits.{bits, number}
-use Rattle.cidr.specs.BitLaws.{length-bits, number-append}
-use Rattle.cidr.specs.Network.{zeros, ones, first_of, last_of, BeginsWith}
-use Rattle.cidr.specs.Pair.{IsPair}
-use Rattle.cidr.specs.Walk.{walk_between, network_pair}
+use Rattle.cidr.specs.model.Bits.{bits, number}
+use Rattle.cidr.specs.laws.BitLaws.{length-bits, number-append}
+use Rattle.cidr.specs.model.Network.{zeros, ones, first_of, last_of, BeginsWith}
+use Rattle.cidr.specs.model.Pair.{IsPair}
+use Rattle.cidr.specs.model.Walk.{walk_between, network_pair}
 use Rattle.cidr.proofs.NetworkNumbers.{number-parts, number-zeros, number-ones, same_from_number}
-use Rattle.cidr.proofs.OrderLaws.{length-first_of}
+use Rattle.cidr.specs.laws.NetworkLaws.{length-first_of}
 use Rattle.cidr.proofs.WalkLaws.{length-walk_between}
 use Rattle.cidr.proofs.PairNumbers.{shared_between}
 
@@ -21,7 +21,7 @@ pub IsPair-network : (w : ℕ) (p : List Bool) → length p ≤ w → IsPair w (
 IsPair-network w p h = record {
   first_width = length-first_of w p h;
   second_width = length-last_of w p h;
-  within = h;
+  fits = h;
   shared = take_at p (zeros (w - length p)) (length p) refl ∙ sym (take_at p (ones (w - length p)) (length p) refl);
 }
 

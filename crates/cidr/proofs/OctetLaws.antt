@@ -1,9 +1,9 @@
 -- The octets of an IPv4 address.
 use Rattle.std.proofs.Common.{◌≡◌, ℕ, ◌/◌, ◌%◌, ◌^◌, ◌<◌, [], ◌∷◌, ap, ap₂, ◌∙◌, arith}
 use Rattle.std.specs.Int.{w32, from_be_bytes, to_be_bytes}
-use Rattle.cidr.specs.Bits.{bits}
-use Rattle.cidr.specs.BitLaws.{length-bits}
-use Rattle.cidr.specs.Address.{octet_bits, octets_of}
+use Rattle.cidr.specs.model.Bits.{bits}
+use Rattle.cidr.specs.laws.BitLaws.{length-bits}
+use Rattle.cidr.specs.model.Address.{octet_bits, octets_of}
 use Rattle.cidr.proofs.PartLaws.{joined_number, bits-parts, parts_of-bits, parts_of-none}
 
 pub bits-octets : (a b c d : ℕ) → a < 256 → b < 256 → c < 256 → d < 256 → bits 32 (from_be_bytes w32 (a ∷ b ∷ c ∷ d ∷ [])) ≡ octet_bits (a ∷ b ∷ c ∷ d ∷ [])

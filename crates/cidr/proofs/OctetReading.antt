@@ -5,9 +5,9 @@ use Rattle.std.proofs.lemmas.List.{nil_from_length}
 use Rattle.std.proofs.lemmas.Fmt.{decimal_digit, decimal_step, decimal_is_IsNumeral, first_decimal, decimal-digits_value}
 use Rattle.std.proofs.lemmas.Str.Parse.{numerals_by_value, tells_digits}
 use Rattle.std.specs.Str.Parse.{digits_value}
-use Rattle.cidr.specs.AddressText.{IsOctetText, IsJoined, IsIpv4Text, dot}
-use Rattle.cidr.specs.Address.{octet_bits}
-use Rattle.cidr.specs.Reading.{NoDigitFirst, StopsAtDot, IsFirstOctet, NoOctetFirst}
+use Rattle.cidr.specs.texts.Ipv4Text.{IsOctetText, IsJoined, IsIpv4Text, dot}
+use Rattle.cidr.specs.model.Address.{octet_bits}
+use Rattle.cidr.specs.internal.Reading.{NoDigitFirst, StopsAtDot, IsFirstOctet, NoOctetFirst}
 
 -- the octet text of a number is its decimal
 pub IsOctetText-decimal : (n : ℕ) → n < 256 → IsOctetText (decimal n) n
@@ -207,7 +207,8 @@ pub first_undotted : (text rest : List ℕ) (k : ℕ) → IsFirstOctet text k re
 first_undotted text rest k f none n m ns (front, back, split, octet, more) =
     none back (sym (f.only front n (dot ∷ back) octet (inr (back, refl)) split).1)
 
-pub first_taken : (text rest back : List ℕ) (k : ℕ) → IsFirstOctet text k rest → rest ≡ dot ∷ back → (n m : ℕ) (ns : List ℕ) → IsJoined IsOctetText text (n ∷ m ∷ ns) ↔ ((n ≡ k) × IsJoined IsOctetText back (m ∷ ns))
+pub first_taken : (text rest back : List ℕ) (k : ℕ) → IsFirstOctet text k rest → rest ≡ dot ∷ back → (n m : ℕ) (ns : List ℕ)
+    → IsJoined IsOctetText text (n ∷ m ∷ ns) ↔ ((n ≡ k) × IsJoined IsOctetText back (m ∷ ns))
 first_taken text rest back k f e n m ns = (
   λ (front, later, split, octet, more).
       let only = f.only front n (dot ∷ later) octet (inr (later, refl)) split in

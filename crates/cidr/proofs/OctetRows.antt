@@ -4,9 +4,9 @@ use Rattle.std.proofs.Math.Nat.{pow-succ'}
 use Rattle.std.proofs.lemmas.Nat.{pow-add}
 use Rattle.std.proofs.NetLemmas.Arrays.{sixteen_items}
 use Rattle.std.specs.Int.{w128, byte_at, bytes_high_first, from_be_bytes, to_be_bytes}
-use Rattle.cidr.specs.Bits.{bits}
-use Rattle.cidr.specs.BitLaws.{length-bits}
-use Rattle.cidr.specs.Address.{parts_of, octet_bits}
+use Rattle.cidr.specs.model.Bits.{bits}
+use Rattle.cidr.specs.laws.BitLaws.{length-bits}
+use Rattle.cidr.specs.model.Address.{parts_of, octet_bits}
 use Rattle.cidr.proofs.PartLaws.{FitAll, joined_number, bits-parts, parts_of-bits, parts_of-none}
 
 octet_power : (k : ℕ) → 256 ^ k ≡ 2 ^ (8 * k)
@@ -34,7 +34,8 @@ octets_fit : (octets : List ℕ) → ((i : ℕ) → get_or octets i 0 < 256) →
 octets_fit [] h = tt
 octets_fit (o ∷ octets) h = (h 0, octets_fit octets (λ i. h (suc i)))
 
-sixteen_joined : (a b c d e f g h i j k l m n o p : ℕ) → from_be_bytes w128 (a ∷ b ∷ c ∷ d ∷ e ∷ f ∷ g ∷ h ∷ i ∷ j ∷ k ∷ l ∷ m ∷ n ∷ o ∷ p ∷ []) ≡ joined_number 8 0 (a ∷ b ∷ c ∷ d ∷ e ∷ f ∷ g ∷ h ∷ i ∷ j ∷ k ∷ l ∷ m ∷ n ∷ o ∷ p ∷ [])
+sixteen_joined : (a b c d e f g h i j k l m n o p : ℕ)
+    → from_be_bytes w128 (a ∷ b ∷ c ∷ d ∷ e ∷ f ∷ g ∷ h ∷ i ∷ j ∷ k ∷ l ∷ m ∷ n ∷ o ∷ p ∷ []) ≡ joined_number 8 0 (a ∷ b ∷ c ∷ d ∷ e ∷ f ∷ g ∷ h ∷ i ∷ j ∷ k ∷ l ∷ m ∷ n ∷ o ∷ p ∷ [])
 sixteen_joined a b c d e f g h i j k l m n o p = omega arith
 
 pub bits-sixteen_octets : (octets : List ℕ) → length octets ≡ 16 → ((i : ℕ) → get_or octets i 0 < 256) → bits 128 (from_be_bytes w128 octets) ≡ octet_bits octets

@@ -1,19 +1,15 @@
 -- Networks in order: by first address, then by length, is the lexicographic order of bits.
-use Rattle.std.proofs.Common.{◌≡◌, ℕ, zero, suc, ◌-◌, ◌≤◌, Bool, true, false, ◌&&◌, List, [], ◌∷◌, length, take, drop, ◌==◌, refl, sym, ap, ap₂, ◌∙◌, arith, inl, inr, length-append}
-use Rattle.std.proofs.lemmas.List.{length-replicate}
-use Rattle.std.proofs.lemmas.Bool.{cases_eq}
+use Rattle.std.proofs.Common.{◌≡◌, ℕ, zero, suc, ◌+◌, ◌*◌, ◌-◌, ◌<◌, ◌≤◌, Bool, true, false, ◌&&◌, List, [], ◌∷◌, length, take, drop, ◌==◌, refl, sym, ap, ap₂, ◌∙◌, arith, inl, inr}
+use Rattle.std.proofs.lemmas.Bool.{cases_eq, cases_lt}
 use Rattle.std.proofs.lemmas.Bool.Decides.{nat_tests}
 use Rattle.std.proofs.lemmas.Cmp.{tied_itself}
 use Rattle.std.specs.declared.cmp.Ordering.TheVariants.{Less, Greater}
 use Rattle.std.specs.Ordering.{nat_cmp, ordering_then, is_eq}
-use Rattle.cidr.specs.Bits.{number, bit_cmp, bit_eq}
-use Rattle.cidr.specs.BitLaws.{bit_cmp-numbers, bit_cmp_total, bit_eq_ties, then_tie}
-use Rattle.cidr.specs.Network.{zeros, first_of}
-use Rattle.cidr.specs.NetworkLaws.{first_of-take, length-take-within}
+use Rattle.cidr.specs.model.Bits.{number, bit_cmp, bit_eq}
+use Rattle.cidr.specs.laws.BitLaws.{bit_cmp-numbers, bit_cmp_total, bit_eq_ties, then_tie}
+use Rattle.cidr.specs.model.Network.{zeros, first_of}
+use Rattle.cidr.specs.laws.NetworkLaws.{first_of-take, length-take-within, length-first_of}
 use Rattle.cidr.proofs.NetworkNumbers.{number-zeros}
-
-pub length-first_of : (w : ℕ) (p : List Bool) → length p ≤ w → length (first_of w p) ≡ w
-length-first_of w p h = omega (arith, length-append p (zeros (w - length p)), length-replicate (w - length p) false)
 
 -- nothing is below zeros
 then_less : (n : ℕ) → ordering_then (nat_cmp 0 n) Less ≡ Less
@@ -54,15 +50,30 @@ bit_cmp-padded (suc w) (true ∷ p) (false ∷ q) h k = refl
 bit_cmp-padded (suc w) (false ∷ p) (true ∷ q) h k = refl
 
 -- the same of the addresses and lengths of two networks
-pub cmp-networks : (w k j : ℕ) (a b : List Bool) → k ≤ w → length a ≡ w → drop k a ≡ zeros (w - k) → j ≤ w → length b ≡ w → drop j b ≡ zeros (w - j) → bit_cmp (take k a) (take j b) ≡ ordering_then (bit_cmp a b) (nat_cmp k j)
+pub cmp-networks : (w k j : ℕ) (a b : List Bool) → k ≤ w → length a ≡ w → drop k a ≡ zeros (w - k) → j ≤ w → length b ≡ w
+    → drop j b ≡ zeros (w - j) → bit_cmp (take k a) (take j b) ≡ ordering_then (bit_cmp a b) (nat_cmp k j)
 cmp-networks w k j a b hk la za hj lb zb =
     let ka = length-take-within w k a hk la in
     let jb = length-take-within w j b hj lb in
     bit_cmp-padded w (take k a) (take j b) (omega arith) (omega arith) ∙
     ap₂ ordering_then (ap₂ bit_cmp (first_of-take w k a hk la za) (first_of-take w j b hj lb zb)) (ap₂ nat_cmp ka jb)
 
-pub eq-networks : (w k j : ℕ) (a b : List Bool) → k ≤ w → length a ≡ w → drop k a ≡ zeros (w - k) → j ≤ w → length b ≡ w → drop j b ≡ zeros (w - j) → bit_eq (take k a) (take j b) ≡ (bit_eq a b && (k == j))
+pub eq-networks : (w k j : ℕ) (a b : List Bool) → k ≤ w → length a ≡ w → drop k a ≡ zeros (w - k) → j ≤ w → length b ≡ w
+    → drop j b ≡ zeros (w - j) → bit_eq (take k a) (take j b) ≡ (bit_eq a b && (k == j))
 eq-networks w k j a b hk la za hj lb zb =
     bit_eq_ties (take k a) (take j b) ∙ ap is_eq (cmp-networks w k j a b hk la za hj lb zb) ∙ then_tie (bit_cmp a b) k j ∙ ap (λ t. t && (k == j)) (sym (bit_eq_ties a b))
 
 pub ruleset order_laws = (cmp-networks, eq-networks, first_of-take, length-take-within)
+
+-- two numbers in one: the first counts more than the second
+pub key_cmp : (x m y n : ℕ) → m < 256 → n < 256 → nat_cmp (x * 256 + m) (y * 256 + n) ≡ ordering_then (nat_cmp x y) (nat_cmp m n)
+key_cmp x m y n h k =
+    elim (cases_eq x y) [
+      | inl same ↦ rw same (tied m n)
+      | inr other ↦ elim (cases_lt x y) [ inl low ↦ grind (arith, nat_tests) | inr high ↦ grind (arith, nat_tests) ]
+    ]
+  where
+    tied : (i j : ℕ) → nat_cmp (y * 256 + i) (y * 256 + j) ≡ ordering_then (nat_cmp y y) (nat_cmp i j)
+    tied i j = grind (arith, nat_tests)
+
+pub ruleset key_laws = (key_cmp)

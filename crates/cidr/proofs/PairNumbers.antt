@@ -3,12 +3,15 @@ use Rattle.std.proofs.Common.{◌≡◌, ◌≢◌, ℕ, ◌+◌, ◌-◌, ◌*�
 use Rattle.std.proofs.Math.Nat.{div-mul-le_self}
 use Rattle.std.proofs.lemmas.Nat.{le-div, pow_pos}
 use Rattle.std.proofs.lemmas.Bool.Decides.{nat_tests}
-use Rattle.cidr.specs.Bits.{bits, number, bit_eq}
-use Rattle.cidr.specs.BitLaws.{bit_eq_Decides, bit_eq_ties, bit_cmp-numbers, length-bits, number-bits, number-lt}
-use Rattle.cidr.specs.Pair.{IsPair}
-use Rattle.cidr.specs.Walk.{walk_between, LosesFirst, LosesLast}
-use Rattle.cidr.specs.NetworkLaws.{length-take-within}
+use Rattle.std.specs.Ordering.{nat_cmp, is_lt}
+use Rattle.cidr.specs.model.Bits.{bits, number, bit_cmp, bit_eq}
+use Rattle.cidr.specs.laws.BitLaws.{bit_eq_Decides, bit_eq_ties, bit_cmp-numbers, length-bits, number-bits, number-lt}
+use Rattle.cidr.specs.model.Host.{host_of, host_part, host_count, stepped_up, stepped_down}
+use Rattle.cidr.specs.model.Pair.{IsPair}
+use Rattle.cidr.specs.model.Walk.{walk_between, LosesFirst, LosesLast}
+use Rattle.cidr.specs.laws.NetworkLaws.{length-take-within}
 use Rattle.cidr.proofs.NetworkNumbers.{number-parts}
+use Rattle.cidr.proofs.HostSteps.{stays_up, stays_down}
 use Rattle.cidr.proofs.WalkLaws.{length-walk_between, walk-after_first, walk-before_second}
 
 bit_eq-numbers : (p q : List Bool) → length p ≡ length q → bit_eq p q ≡ (number p == number q)
@@ -38,33 +41,74 @@ shared_between w k n a b h e f same low high =
     let squeezed : n / 2 ^ (w - k) ≡ number a / 2 ^ (w - k) = omega arith in
     shared-bits w k (bits w n) a h (length-bits w n) e (ap (λ x. x / 2 ^ (w - k)) value ∙ squeezed)
 
--- the pair that is left when an end is dropped, and its walk
-module _ (w k m n : ℕ) (a b x : List Bool) (is : IsPair w (record { first = a; second = b; len = k })) (first : m ≡ number a) (second : n ≡ number b) (h : m < n) where
-  pub IsPair-after_first : x ≡ bits w (m + 1) → IsPair w (record { first = x; second = b; len = k })
-  IsPair-after_first e =
-      let head = shared_between w k (m + 1) a b is.within is.first_width is.second_width is.shared (omega arith) (omega arith) in
-      record {
-        first_width = ap length e ∙ length-bits w (m + 1);
-        second_width = is.second_width;
-        within = is.within;
-        shared = ap (take k) e ∙ head ∙ is.shared;
-      }
+-- ---- a step in the network of length 0 goes to the next of all addresses
+pub next_address : (w : ℕ) (a : List Bool) → length a ≡ w → number a + 1 < 2 ^ w → (stepped_up w (host_of a 0) 1).address ≡ bits w (number a + 1)
+next_address w a e h =
+    let whole : w - 0 ≡ w = omega arith in
+    let low : host_part (host_of a 0) + 1 < host_count w (host_of a 0) = rw whole h in
+    ap (λ x. x.address) (stays_up w 1 (host_of a 0) low) ∙ ap (λ n. bits n (number a + 1)) whole
 
-  pub IsPair-before_second : x ≡ bits w (n - 1) → IsPair w (record { first = a; second = x; len = k })
-  IsPair-before_second e =
-      let head = shared_between w k (n - 1) a b is.within is.first_width is.second_width is.shared (omega arith) (omega arith) in
-      record {
-        first_width = is.first_width;
-        second_width = ap length e ∙ length-bits w (n - 1);
-        within = is.within;
-        shared = sym head ∙ ap (take k) (sym e);
-      }
+pub address_before : (w : ℕ) (a : List Bool) → length a ≡ w → 1 ≤ number a → (stepped_down w (host_of a 0) 1).address ≡ bits w (number a - 1)
+address_before w a e h =
+    let whole : w - 0 ≡ w = omega arith in
+    ap (λ x. x.address) (stays_down w 1 (host_of a 0) (e, omega arith) h) ∙ ap (λ n. bits n (number a - 1)) whole
 
-  pub loses_first : x ≡ bits w (m + 1) → LosesFirst true (walk_between w a b) (walk_between w x b)
-  loses_first e = (a, rw (e, first) (walk-after_first w a b is.first_width is.second_width (omega arith)))
+-- ---- the pair that is left when an end is dropped, and its walk
+module _ (w k : ℕ) (a b : List Bool) (is : IsPair w (record { first = a; second = b; len = k })) where
+  order : bit_cmp a b ≡ nat_cmp (number a) (number b)
+  order = bit_cmp-numbers a b (is.first_width ∙ sym is.second_width)
 
-  pub loses_second : x ≡ bits w (n - 1) → LosesLast true (walk_between w a b) (walk_between w a x)
-  loses_second e = (b, rw (e, second) (walk-before_second w a b is.first_width is.second_width (omega arith)))
+  below : is_lt (bit_cmp a b) ≡ true → number a < number b
+  below h = let less : is_lt (nat_cmp (number a) (number b)) ≡ true = ap is_lt (sym order) ∙ h in grind (arith, nat_tests)
+
+  fits_width : number b < 2 ^ w
+  fits_width = rw is.second_width at (number-lt b)
+
+  -- there are two addresses or more where the first is below the second
+  pub two_or_more : is_lt (bit_cmp a b) ≡ true → 2 ≤ length (walk_between w a b)
+  two_or_more h = omega (arith, below h, length-walk_between w a b)
+
+  pub below_from_two : 2 ≤ length (walk_between w a b) → is_lt (bit_cmp a b) ≡ true
+  below_from_two h =
+      let less : number a < number b = omega (arith, h, length-walk_between w a b) in
+      ap is_lt order ∙ grind (arith, nat_tests)
+
+  module _ (x : List Bool) (h : is_lt (bit_cmp a b) ≡ true) where
+    after : x ≡ (stepped_up w (host_of a 0) 1).address → x ≡ bits w (number a + 1)
+    after e = e ∙ next_address w a is.first_width (omega (arith, below h, fits_width))
+
+    before : x ≡ (stepped_down w (host_of b 0) 1).address → x ≡ bits w (number b - 1)
+    before e = e ∙ address_before w b is.second_width (omega (arith, below h))
+
+    pub pair_after_first : x ≡ (stepped_up w (host_of a 0) 1).address → IsPair w (record { first = x; second = b; len = k })
+    pair_after_first e =
+        let same = after e in
+        let less = below h in
+        let head = shared_between w k (number a + 1) a b is.fits is.first_width is.second_width is.shared (omega arith) (omega arith) in
+        record {
+          first_width = ap length same ∙ length-bits w (number a + 1);
+          second_width = is.second_width;
+          fits = is.fits;
+          shared = ap (take k) same ∙ head ∙ is.shared;
+        }
+
+    pub pair_before_second : x ≡ (stepped_down w (host_of b 0) 1).address → IsPair w (record { first = a; second = x; len = k })
+    pair_before_second e =
+        let same = before e in
+        let less = below h in
+        let head = shared_between w k (number b - 1) a b is.fits is.first_width is.second_width is.shared (omega arith) (omega arith) in
+        record {
+          first_width = is.first_width;
+          second_width = ap length same ∙ length-bits w (number b - 1);
+          fits = is.fits;
+          shared = sym head ∙ ap (take k) (sym same);
+        }
+
+    pub loses_first : x ≡ (stepped_up w (host_of a 0) 1).address → LosesFirst true (walk_between w a b) (walk_between w x b)
+    loses_first e = let less = below h in (a, rw (after e) (walk-after_first w a b is.first_width is.second_width (omega arith)))
+
+    pub loses_second : x ≡ (stepped_down w (host_of b 0) 1).address → LosesLast true (walk_between w a b) (walk_between w a x)
+    loses_second e = let less = below h in (b, rw (before e) (walk-before_second w a b is.first_width is.second_width (omega arith)))
 
 pub shared_yes : (w k : ℕ) (a b : List Bool) → k ≤ w → length a ≡ w → length b ≡ w → number a / 2 ^ (w - k) ≡ number b / 2 ^ (w - k) → bit_eq (take k a) (take k b) ≡ true
 shared_yes w k a b h e f same = shared-test w k a b h e f ∙ grind (arith, nat_tests)
@@ -72,6 +116,6 @@ shared_yes w k a b h e f same = shared-test w k a b h e f ∙ grind (arith, nat_
 pub shared_no : (w k : ℕ) (a b : List Bool) → k ≤ w → length a ≡ w → length b ≡ w → number a / 2 ^ (w - k) ≢ number b / 2 ^ (w - k) → bit_eq (take k a) (take k b) ≡ false
 shared_no w k a b h e f other = shared-test w k a b h e f ∙ grind (arith, nat_tests)
 
-pub ruleset pair_laws = (shared_yes, shared_no, shared-bits)
+pub ruleset shared_laws = (shared_yes, shared_no)
 
-pub ruleset walk_laws = (length-walk_between, length-bits, number-bits, number-lt)
+pub ruleset walk_count_laws = (length-walk_between)

@@ -2,9 +2,9 @@
 use Rattle.std.proofs.Common.{◌≡◌, ℕ, zero, suc, ◌+◌, ◌*◌, ◌/◌, ◌%◌, ◌^◌, ◌<◌, Bool, List, [], ◌∷◌, ◌++◌, length, get_or, take, drop, flat_map, refl, sym, zero-add, ap, ap₂, ◌∙◌, arith, append_assoc, append-nil, take_at, drop_at, take-append-drop, length-drop, length-take-le}
 use Rattle.std.proofs.lemmas.List.{nil_from_length}
 use Rattle.std.proofs.lemmas.Nat.{pow_pos}
-use Rattle.cidr.specs.Bits.{bits, number}
-use Rattle.cidr.specs.BitLaws.{bits-cat, bits-append, length-bits, number-bits_mod, number-lt, bits-number}
-use Rattle.cidr.specs.Address.{parts_of}
+use Rattle.cidr.specs.model.Bits.{bits, number}
+use Rattle.cidr.specs.laws.BitLaws.{bits-cat, bits-append, length-bits, number-bits_mod, number-lt, bits-number}
+use Rattle.cidr.specs.model.Address.{parts_of}
 
 -- the number that x and then the parts write
 abbrev pub joined_number : ℕ → ℕ → List ℕ → ℕ

@@ -1,70 +1,54 @@
--- Steps within a network on numbers, where m numbers are in the network.
-use Rattle.std.proofs.Common.{◌≡◌, ℕ, ◌+◌, ◌-◌, ◌*◌, ◌/◌, ◌%◌, ◌^◌, ◌<◌, ◌≤◌, refl, sym, ap, ◌∙◌, arith}
-use Rattle.std.proofs.Math.Nat.{mod-eq_of_lt, add-mod_right, add-mod-mod, pow-le-pow_right}
+-- Steps within a network on numbers of w bits, of which the first k are the network's.
+use Rattle.std.proofs.Common.{◌≡◌, ℕ, ◌+◌, ◌-◌, ◌*◌, ◌/◌, ◌%◌, ◌^◌, ◌<◌, ◌≤◌, sym, ap, ◌∙◌, arith}
+use Rattle.std.proofs.Math.Nat.{add-mod-mod, add-mul-mod_self_right}
 use Rattle.std.proofs.Math.Pow.{mod-mod-pow}
 use Rattle.std.proofs.lemmas.Nat.{div-add-mod', mod_below, pow_pos, pow-add, shr_split, shr_below, row_fits}
 
--- up, without and with a wrap: the last number is n / m * m + (m - 1)
-pub up_within : (n s m : ℕ) → 0 < m → s % m ≤ n / m * m + (m - 1) - n → n + s % m ≡ n / m * m + (n % m + s) % m
-up_within n s m pos h =
-    let whole = div-add-mod' n m in
-    let below = mod_below n m pos in
-    let same : (n % m + s) % m ≡ n % m + s % m = sym (add-mod-mod (n % m) s m) ∙ mod-eq_of_lt (omega arith) in
-    omega arith
+-- the first and the last bits of the width
+rows : (w k : ℕ) → k ≤ w → 2 ^ w ≡ 2 ^ k * 2 ^ (w - k)
+rows w k h = ap (λ j. 2 ^ j) (omega arith) ∙ pow-add 2 k (w - k)
 
-pub up_over : (n s m : ℕ) → 0 < m → n / m * m + (m - 1) - n < s % m → n / m * m + (s % m - (n / m * m + (m - 1) - n) - 1) ≡ n / m * m + (n % m + s) % m
-up_over n s m pos h =
-    let whole = div-add-mod' n m in
-    let below = mod_below n m pos in
-    let low = mod_below s m pos in
-    let rest = n % m + s % m - m in
-    let split : n % m + s % m ≡ rest + m = omega arith in
-    let same : (n % m + s) % m ≡ rest = sym (add-mod-mod (n % m) s m) ∙ ap (λ x. x % m) split ∙ add-mod_right rest m ∙ mod-eq_of_lt (omega arith) in
-    omega arith
-
--- down, without and with a wrap
-pub down_within : (n s m : ℕ) → 0 < m → s % m ≤ n % m → n - s % m ≡ n / m * m + (n % m + (m - s % m)) % m
-down_within n s m pos h =
-    let whole = div-add-mod' n m in
-    let below = mod_below n m pos in
-    let low = mod_below s m pos in
-    let rest = n % m - s % m in
-    let split : n % m + (m - s % m) ≡ rest + m = omega arith in
-    let same : (n % m + (m - s % m)) % m ≡ rest = ap (λ x. x % m) split ∙ add-mod_right rest m ∙ mod-eq_of_lt (omega arith) in
-    omega arith
-
-pub down_over : (n s m : ℕ) → 0 < m → n % m < s % m → n + (m - s % m) ≡ n / m * m + (n % m + (m - s % m)) % m
-down_over n s m pos h =
-    let whole = div-add-mod' n m in
-    let same : (n % m + (m - s % m)) % m ≡ n % m + (m - s % m) = mod-eq_of_lt (omega (arith, mod_below s m pos)) in
-    omega arith
+row_below : (w k n : ℕ) → k ≤ w → n < 2 ^ w → n / 2 ^ (w - k) < 2 ^ k
+row_below w k n h l = shr_below n k (w - k) (rw (pow-add 2 k (w - k), ← rows w k h) l)
 
 -- the last number of a network fits the width
 pub last_within : (w k n : ℕ) → k ≤ w → n < 2 ^ w → n / 2 ^ (w - k) * 2 ^ (w - k) + (2 ^ (w - k) - 1) < 2 ^ w
 last_within w k n h l =
-    let m = w - k in
-    let pos = pow_pos m in
-    let p : 2 ^ w ≡ 2 ^ k * 2 ^ m = ap (λ j. 2 ^ j) (omega arith) ∙ pow-add 2 k m in
-    let low : n / 2 ^ m < 2 ^ k = shr_below n k m (rw (pow-add 2 k m, ← p) l) in
-    let row = row_fits (n / 2 ^ m) (2 ^ m) (2 ^ k) (2 ^ m) low (omega arith) in
-    omega arith
+    let m = 2 ^ (w - k) in
+    let row = row_fits (n / m) m (2 ^ k) m (row_below w k n h l) (omega arith) in
+    omega (arith, rows w k h, pow_pos (w - k))
 
--- the remainder of a step by 2 ^ w steps as far
+-- a host part is no greater than the width leaves room for
+pub part_below : (n k : ℕ) → n % 2 ^ k < 2 ^ k
+part_below n k = mod_below n (2 ^ k) (pow_pos k)
+
+-- the remainder by 2 ^ w has the same host part
 pub reduced : (w k s : ℕ) → k ≤ w → s % 2 ^ w % 2 ^ (w - k) ≡ s % 2 ^ (w - k)
 reduced w k s h =
     let width : k + (w - k) ≡ w = omega arith in
     ap (λ x. s % 2 ^ x % 2 ^ (w - k)) (sym width) ∙ mod-mod-pow s k (w - k)
 
-pub reduced_up : (w k p s : ℕ) → k ≤ w → (p + s % 2 ^ w) % 2 ^ (w - k) ≡ (p + s) % 2 ^ (w - k)
+-- the host part of a sum of the width
+pub reduced_up : (w k p s : ℕ) → k ≤ w → (p + s % 2 ^ w) % 2 ^ w % 2 ^ (w - k) ≡ (p + s) % 2 ^ (w - k)
 reduced_up w k p s h =
     let m = 2 ^ (w - k) in
-    sym (add-mod-mod p (s % 2 ^ w) m) ∙ ap (λ x. (p + x) % m) (reduced w k s h) ∙ add-mod-mod p s m
+    reduced w k (p + s % 2 ^ w) h ∙ sym (add-mod-mod p (s % 2 ^ w) m) ∙ ap (λ x. (p + x) % m) (reduced w k s h) ∙ add-mod-mod p s m
 
--- a network has no more numbers than the width
-pub count_within : (w k : ℕ) → k ≤ w → 2 ^ (w - k) ≤ 2 ^ w
-count_within w k h = pow-le-pow_right (omega arith) (omega arith)
+-- and of a difference of the width
+pub reduced_down : (w k p s : ℕ) → k ≤ w → s < 2 ^ w → (p + (2 ^ w - s)) % 2 ^ w % 2 ^ (w - k) ≡ (p + (2 ^ (w - k) - s % 2 ^ (w - k))) % 2 ^ (w - k)
+reduced_down w k p s h l =
+    let m = 2 ^ (w - k) in
+    let more = 2 ^ k - 1 - s / m in
+    let above = row_below w k s h l in
+    let below = part_below s (w - k) in
+    let count : 2 ^ k ≡ s / m + 1 + more = omega arith in
+    let whole : 2 ^ w ≡ s / m * m + m + more * m = rows w k h ∙ ap (λ q. q * m) count ∙ omega arith in
+    let split : p + (2 ^ w - s) ≡ p + (m - s % m) + more * m = omega (arith, div-add-mod' s m) in
+    reduced w k (p + (2 ^ w - s)) h ∙ ap (λ x. x % m) split ∙ add-mul-mod_self_right (p + (m - s % m)) more m
 
-pub part_below : (n k : ℕ) → n % 2 ^ k < 2 ^ k
-part_below n k = mod_below n (2 ^ k) (pow_pos k)
+pub reduced_down_wide : (w k p s : ℕ) → k ≤ w → (p + (2 ^ w - s % 2 ^ w)) % 2 ^ w % 2 ^ (w - k) ≡ (p + (2 ^ (w - k) - s % 2 ^ (w - k))) % 2 ^ (w - k)
+reduced_down_wide w k p s h =
+    let m = 2 ^ (w - k) in
+    reduced_down w k p (s % 2 ^ w) h (part_below s w) ∙ ap (λ x. (p + (m - x)) % m) (reduced w k s h)
 
-pub ruleset step_laws = (up_within, up_over, down_within, down_over, last_within, reduced, reduced_up, count_within, part_below, pow_pos, shr_split)
+pub ruleset step_laws = (last_within, part_below, reduced, reduced_up, reduced_down, reduced_down_wide, pow_pos, shr_split)

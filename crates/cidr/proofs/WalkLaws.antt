@@ -3,12 +3,12 @@ use Rattle.std.proofs.Common.{◌≡◌, ℕ, suc, ◌+◌, ◌-◌, ◌^◌, �
 use Rattle.std.specs.List.{range_with_len}
 use Rattle.std.proofs.lemmas.List.{same_from_push, map-append}
 use Rattle.std.proofs.lemmas.List.FromFn.{length-map-range_with_len, map-range_with_len_more}
-use Rattle.cidr.specs.Bits.{bits, number}
-use Rattle.cidr.specs.BitLaws.{number-bits, number-lt}
-use Rattle.cidr.specs.Network.{width_of}
-use Rattle.cidr.specs.Host.{Host}
-use Rattle.cidr.specs.Pair.{Pair, IsPair, first_of_pair, second_of_pair}
-use Rattle.cidr.specs.Walk.{walk_between, pair_walk, hosts_of, pair_hosts, hosts_left, LosesFirst, LosesLast}
+use Rattle.cidr.specs.model.Bits.{bits, number}
+use Rattle.cidr.specs.laws.BitLaws.{number-bits, number-lt}
+use Rattle.cidr.specs.model.Network.{width_of}
+use Rattle.cidr.specs.model.Host.{Host}
+use Rattle.cidr.specs.model.Pair.{Pair, IsPair, first_of_pair, second_of_pair}
+use Rattle.cidr.specs.model.Walk.{walk_between, pair_walk, hosts_of, pair_hosts, hosts_left, LosesFirst, LosesLast}
 use Rattle.cidr.specs.declared.family.Family.{Family}
 use Rattle.cidr.proofs.NetworkNumbers.{same_from_number}
 
@@ -66,27 +66,40 @@ only [] a b = absurd (omega arith)
 only (x ∷ []) a b = (x, refl)
 only (x ∷ y ∷ xs) a b = let h : IsTrue false = b (omega arith) in (cc)
 
-module _ {P : Type 0} (family : P → Family) (pair : P → Pair) (o : Option P) (p q : P) (f : Family) (h : Host) (now left : List (Family × Host)) (s : Some p ≡ o) (v : hosts_left family pair o ≡ now) (same_f : f ≡ family p) (is : IsPair (width_of (family p)) (pair p)) where
-  kept : pair_hosts (family p) (pair p) ≡ now
-  kept = subst (λ (k : Option P). hosts_left family pair k ≡ now) (sym s) v
+-- The pair p of a walk is kept, and its host h is given from one end: now this is left of the walk, and then that, of the pair q.
+pub record IsStep {P : Type 0} (family : P → Family) (pair : P → Pair) (o : Option P) (p q : P) (now left : List (Family × Host)) (f : Family) (h : Host) : Type 0 where
+  pub kept : Some p ≡ o
+  pub view : hosts_left family pair o ≡ now
+  pub is : IsPair (width_of (family p)) (pair p)
+  pub same_family : f ≡ family p
 
-  same_walk : family q ≡ family p → (pair q).len ≡ (pair p).len → left ≡ pair_hosts (family q) (pair q) → hosts_of (family p) (pair p).len (pair_walk (family q) (pair q)) ≡ left
-  same_walk same_family same_len r = ap₂ (λ a n. hosts_of a n (pair_walk (family q) (pair q))) (sym same_family) (sym same_len) ∙ sym r
+-- the pair q that is left is of the family and the length of p
+pub record IsRest {P : Type 0} (family : P → Family) (pair : P → Pair) (p q : P) (left : List (Family × Host)) : Type 0 where
+  pub same_family : family q ≡ family p
+  pub same_len : (pair q).len ≡ (pair p).len
+  pub view : left ≡ pair_hosts (family q) (pair q)
+
+module _ {P : Type 0} {family : P → Family} {pair : P → Pair} {o : Option P} {p q : P} {now left : List (Family × Host)} {f : Family} {h : Host} (s : IsStep family pair o p q now left f h) where
+  whole : pair_hosts (family p) (pair p) ≡ now
+  whole = subst (λ (k : Option P). hosts_left family pair k ≡ now) (sym s.kept) s.view
+
+  rest_hosts : IsRest family pair p q left → hosts_of (family p) (pair p).len (pair_walk (family q) (pair q)) ≡ left
+  rest_hosts r = ap₂ (λ a n. hosts_of a n (pair_walk (family q) (pair q))) (sym r.same_family) (sym r.same_len) ∙ sym r.view
 
   first_host : (x : List Bool) (rest : List (List Bool)) → h ≡ first_of_pair (pair p) → pair_walk (family p) (pair p) ≡ x ∷ rest → now ≡ (f, h) ∷ hosts_of (family p) (pair p).len rest
   first_host x rest same_h e =
-      let y = first_is (width_of (family p)) (pair p).first (pair p).second x rest is.first_width e in
-      sym kept ∙ ap (hosts_of (family p) (pair p).len) e ∙ rw (y, same_f, same_h) refl
+      let y = first_is (width_of (family p)) (pair p).first (pair p).second x rest s.is.first_width e in
+      sym whole ∙ ap (hosts_of (family p) (pair p).len) e ∙ rw (y, s.same_family, same_h) refl
 
   second_host : (x : List Bool) (rest : List (List Bool)) → h ≡ second_of_pair (pair p) → pair_walk (family p) (pair p) ≡ rest ++ x ∷ [] → now ≡ hosts_of (family p) (pair p).len rest ++ (f, h) ∷ []
   second_host x rest same_h e =
-      let y = second_is (width_of (family p)) (pair p).first (pair p).second x rest is.second_width e in
-      sym kept ∙ ap (hosts_of (family p) (pair p).len) e ∙ rw (y, same_f, same_h, map-append) refl
+      let y = second_is (width_of (family p)) (pair p).first (pair p).second x rest s.is.second_width e in
+      sym whole ∙ ap (hosts_of (family p) (pair p).len) e ∙ rw (y, s.same_family, same_h, map-append) refl
 
   -- one of two or more, from the front
-  pub front_more : h ≡ first_of_pair (pair p) → LosesFirst true (pair_walk (family p) (pair p)) (pair_walk (family q) (pair q)) → family q ≡ family p → (pair q).len ≡ (pair p).len → left ≡ pair_hosts (family q) (pair q) → now ≡ (f, h) ∷ left
-  front_more same_h loses same_family same_len r =
-      first_host loses.0 (pair_walk (family q) (pair q)) same_h loses.1 ∙ ap (λ t. (f, h) ∷ t) (same_walk same_family same_len r)
+  pub front_more : h ≡ first_of_pair (pair p) → LosesFirst true (pair_walk (family p) (pair p)) (pair_walk (family q) (pair q)) → IsRest family pair p q left → now ≡ (f, h) ∷ left
+  front_more same_h loses r =
+      first_host loses.0 (pair_walk (family q) (pair q)) same_h loses.1 ∙ ap (λ t. (f, h) ∷ t) (rest_hosts r)
 
   -- the last one, from the front
   pub front_last : h ≡ first_of_pair (pair p) → 0 < length (pair_walk (family p) (pair p)) → (2 ≤ length (pair_walk (family p) (pair p)) → IsTrue false) → left ≡ [] → now ≡ (f, h) ∷ left
@@ -95,9 +108,9 @@ module _ {P : Type 0} (family : P → Family) (pair : P → Pair) (o : Option P)
       first_host last.0 [] same_h last.1 ∙ rw r refl
 
   -- one of two or more, from the back
-  pub back_more : h ≡ second_of_pair (pair p) → LosesLast true (pair_walk (family p) (pair p)) (pair_walk (family q) (pair q)) → family q ≡ family p → (pair q).len ≡ (pair p).len → left ≡ pair_hosts (family q) (pair q) → now ≡ left ++ (f, h) ∷ []
-  back_more same_h loses same_family same_len r =
-      second_host loses.0 (pair_walk (family q) (pair q)) same_h loses.1 ∙ ap (λ t. t ++ (f, h) ∷ []) (same_walk same_family same_len r)
+  pub back_more : h ≡ second_of_pair (pair p) → LosesLast true (pair_walk (family p) (pair p)) (pair_walk (family q) (pair q)) → IsRest family pair p q left → now ≡ left ++ (f, h) ∷ []
+  back_more same_h loses r =
+      second_host loses.0 (pair_walk (family q) (pair q)) same_h loses.1 ∙ ap (λ t. t ++ (f, h) ∷ []) (rest_hosts r)
 
   -- the last one, from the back
   pub back_last : h ≡ second_of_pair (pair p) → 0 < length (pair_walk (family p) (pair p)) → (2 ≤ length (pair_walk (family p) (pair p)) → IsTrue false) → left ≡ [] → now ≡ left ++ (f, h) ∷ []

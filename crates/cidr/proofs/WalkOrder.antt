@@ -7,9 +7,9 @@ use Rattle.std.specs.Cmp.{nat_cmp_is}
 use Rattle.std.specs.List.{Contains, slice_get}
 use Rattle.std.specs.Ordering.{nat_cmp}
 use Rattle.std.specs.declared.cmp.Ordering.TheVariants.{Less, Equal, Greater}
-use Rattle.cidr.specs.Bits.{bits, number}
-use Rattle.cidr.specs.BitLaws.{length-bits, number-bits, number-lt, bit_cmp-bits, bit_cmp-numbers}
-use Rattle.cidr.specs.Walk.{walk_between, IsAscending, LiesBetween}
+use Rattle.cidr.specs.model.Bits.{bits, number}
+use Rattle.cidr.specs.laws.BitLaws.{length-bits, number-bits, number-lt, bit_cmp-bits, bit_cmp-numbers}
+use Rattle.cidr.specs.model.Walk.{walk_between, IsAscending, LiesBetween}
 use Rattle.cidr.proofs.NetworkWalks.{between, stands_between}
 use Rattle.cidr.proofs.WalkLaws.{length-walk_between}
 

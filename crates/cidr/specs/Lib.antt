@@ -1,28 +1,7 @@
-pub mod Bits
-pub mod BitLaws
-pub mod Address
-pub mod Network
-pub mod NetworkLaws
-pub mod Seen
-pub mod Combined
-pub mod Host
-pub mod HostLaws
-pub mod AddressText
-pub mod Ipv6Text
-pub mod IpAddress
-pub mod NetworkText
-pub mod Refusal
-pub mod HostText
-pub mod Reading
-pub mod Printed
-pub mod Canonical
-pub mod Printed6
-pub mod CombinedHost
-pub mod CombinedText
-pub mod Words
-pub mod DecimalLaws
-pub mod Pair
-pub mod PairLaws
-pub mod Counted
-pub mod Walk
-pub mod CombinedPair
+-- What has to be believed: the model, the texts, and values of either family. The other two folders are checked and not
+-- believed: laws that a type or an order cites, and what private functions promise each other.
+pub mod model
+pub mod texts
+pub mod either
+pub mod laws
+pub mod internal

@@ -1,6 +1,7 @@
 //! Addresses: their bits, their texts, and what is printed of them.
 
 pub(crate) mod error;
+pub(crate) mod hex;
 pub(crate) mod ip;
 pub(crate) mod print;
 pub(crate) mod print6;

@@ -1,4 +1,4 @@
-//! The faults of networks and of their texts.
+//! The errors of networks, hosts and pairs, and of their texts.
 ghost use Rattle.std.specs.Prelude.{◌≡◌, Some};
 
 use crate::addr::error::AddrParseError;
@@ -6,14 +6,16 @@ use crate::family::Family;
 use std::error::Error;
 use std::fmt;
 
-/// The text is no length text: an optional `+` and decimal digits of a value up to 255.
+/// The text after the slash is no prefix length: an optional `+` and decimal digits of a value up to 255.
+///
+/// Its message is `invalid length text`.
 #[derive(Clone, Drop, PartialEq, Eq)]
 pub struct ParseIntError {}
 
 impl fmt::Display for ParseIntError {
-    ghost use Rattle.cidr.specs.Words.{length_words};
+    ghost use Rattle.cidr.specs.texts.Messages.{length_message};
 
-    ghost output = { λ _. Some length_words };
+    ghost output = { λ _. Some length_message };
 
     fn fmt<W: fmt::Write>(&self, f: &mut fmt::Formatter<W>) -> fmt::Result {
         f.write_str("invalid length text")
@@ -21,9 +23,9 @@ impl fmt::Display for ParseIntError {
 }
 
 impl fmt::Debug for ParseIntError {
-    ghost use Rattle.cidr.specs.Words.{length_words};
+    ghost use Rattle.cidr.specs.texts.Messages.{length_message};
 
-    ghost debug_output = { λ _. Some length_words };
+    ghost debug_output = { λ _. Some length_message };
 
     fn fmt<W: fmt::Write>(&self, f: &mut fmt::Formatter<W>) -> fmt::Result {
         fmt::Display::fmt(self, f)
@@ -32,12 +34,14 @@ impl fmt::Debug for ParseIntError {
 
 impl Error for ParseIntError {}
 
-/// The length is above the width of the family, 32 or 128.
+/// The prefix length is above the width of the family, 32 or 128.
+///
+/// Its message names both: `Network length 33 is too long for Ipv4 (maximum: 32)`.
 #[derive(Clone, Drop, PartialEq, Eq, Hash)]
 pub struct NetworkLengthTooLongError(usize, Family);
 
 impl NetworkLengthTooLongError {
-    ghost use Rattle.cidr.specs.Network.{too_long};
+    ghost use Rattle.cidr.specs.model.Network.{too_long};
 
     pub(crate) fn new(len: usize, family: Family) -> NetworkLengthTooLongError
         ensures { result ≡ too_long len family }
@@ -47,9 +51,9 @@ impl NetworkLengthTooLongError {
 }
 
 impl fmt::Display for NetworkLengthTooLongError {
-    ghost use Rattle.cidr.specs.Words.{too_long_words};
+    ghost use Rattle.cidr.specs.texts.Messages.{too_long_message};
 
-    ghost output = { λ e. Some (too_long_words e) };
+    ghost output = { λ e. Some (too_long_message e) };
 
     fn fmt<W: fmt::Write>(&self, f: &mut fmt::Formatter<W>) -> fmt::Result {
         let len = self.0;
@@ -64,9 +68,9 @@ impl fmt::Display for NetworkLengthTooLongError {
 }
 
 impl fmt::Debug for NetworkLengthTooLongError {
-    ghost use Rattle.cidr.specs.Words.{too_long_words};
+    ghost use Rattle.cidr.specs.texts.Messages.{too_long_message};
 
-    ghost debug_output = { λ e. Some (too_long_words e) };
+    ghost debug_output = { λ e. Some (too_long_message e) };
 
     fn fmt<W: fmt::Write>(&self, f: &mut fmt::Formatter<W>) -> fmt::Result {
         fmt::Display::fmt(self, f)
@@ -75,26 +79,27 @@ impl fmt::Debug for NetworkLengthTooLongError {
 
 impl Error for NetworkLengthTooLongError {}
 
-/// Why a network is refused.
+/// Why a network or the text of a network or a host is refused.
 ///
-/// Reading a text finds the first of these: the address is faulty, the length text is, the length is above the
-/// width, the host part is not zero.
+/// Reading a text returns the first of these errors: the address, the text of the prefix length, a prefix length
+/// above the width, a set bit after the prefix. 10.0.0.1/33 has a prefix length above the width, and 10.0.0.1/8 has
+/// a set bit after the prefix. A host's text is never refused for the last.
 #[derive(Clone, Drop, PartialEq)]
 pub enum NetworkParseError {
-    /// A bit from the length on is one.
+    /// A bit after the prefix is set: `host part of address was not zero`.
     InvalidHostPart,
-    /// The text before the last slash, or the whole one, is no address.
+    /// The text before the last slash, or all of it where there is no slash, is no address.
     AddrParseError(AddrParseError),
-    /// The text after the last slash is no length.
+    /// The text after the last slash is no prefix length.
     NetworkLengthParseError(ParseIntError),
-    /// The length is above the width.
+    /// The prefix length is above the width of the family.
     NetworkLengthTooLongError(NetworkLengthTooLongError),
 }
 
 impl fmt::Display for NetworkParseError {
-    ghost use Rattle.cidr.specs.Words.{parse_words};
+    ghost use Rattle.cidr.specs.texts.Messages.{parse_message};
 
-    ghost output = { λ e. Some (parse_words e) };
+    ghost output = { λ e. Some (parse_message e) };
 
     fn fmt<W: fmt::Write>(&self, f: &mut fmt::Formatter<W>) -> fmt::Result {
         match self {
@@ -113,9 +118,9 @@ impl fmt::Display for NetworkParseError {
 }
 
 impl fmt::Debug for NetworkParseError {
-    ghost use Rattle.cidr.specs.Words.{parse_words};
+    ghost use Rattle.cidr.specs.texts.Messages.{parse_message};
 
-    ghost debug_output = { λ e. Some (parse_words e) };
+    ghost debug_output = { λ e. Some (parse_message e) };
 
     fn fmt<W: fmt::Write>(&self, f: &mut fmt::Formatter<W>) -> fmt::Result {
         fmt::Display::fmt(self, f)
@@ -144,19 +149,19 @@ impl From<NetworkLengthTooLongError> for NetworkParseError {
     }
 }
 
-/// Why two addresses or hosts are refused as a pair.
+/// Why two hosts, or two addresses and a prefix length, are refused as a pair.
 #[derive(Clone, Drop, PartialEq)]
 pub enum InetTupleError {
-    /// The families, the lengths or the networks differ.
+    /// The families differ, the prefix lengths of two hosts differ, or the two are in different networks.
     NotInSharedNetwork,
-    /// The length is above the width.
+    /// The prefix length is above the width of the family.
     NetworkLengthTooLongError(NetworkLengthTooLongError),
 }
 
 impl fmt::Display for InetTupleError {
-    ghost use Rattle.cidr.specs.Words.{pair_words};
+    ghost use Rattle.cidr.specs.texts.Messages.{pair_message};
 
-    ghost output = { λ e. Some (pair_words e) };
+    ghost output = { λ e. Some (pair_message e) };
 
     fn fmt<W: fmt::Write>(&self, f: &mut fmt::Formatter<W>) -> fmt::Result {
         match self {
@@ -169,9 +174,9 @@ impl fmt::Display for InetTupleError {
 }
 
 impl fmt::Debug for InetTupleError {
-    ghost use Rattle.cidr.specs.Words.{pair_words};
+    ghost use Rattle.cidr.specs.texts.Messages.{pair_message};
 
-    ghost debug_output = { λ e. Some (pair_words e) };
+    ghost debug_output = { λ e. Some (pair_message e) };
 
     fn fmt<W: fmt::Write>(&self, f: &mut fmt::Formatter<W>) -> fmt::Result {
         fmt::Display::fmt(self, f)

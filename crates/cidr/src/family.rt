@@ -5,7 +5,7 @@ use crate::addr::ip::IpAddr;
 use crate::addr::v4::Ipv4Addr;
 use crate::addr::v6::Ipv6Addr;
 
-/// IPv4 or IPv6; `Ipv4` comes first.
+/// IPv4 or IPv6. `Ipv4` comes first.
 #[derive(Clone, Copy, Debug, PartialEq, Eq, PartialOrd, Ord, Hash)]
 pub enum Family {
     Ipv4,
@@ -13,10 +13,10 @@ pub enum Family {
 }
 
 impl Family {
-    ghost use Rattle.cidr.specs.IpAddress.{unspecified, loopback};
-    ghost use Rattle.cidr.specs.Network.{width_of};
+    ghost use Rattle.cidr.specs.either.IpAddress.{unspecified, loopback};
+    ghost use Rattle.cidr.specs.model.Network.{width_of};
 
-    /// The number of bits of an address of this family: 32 or 128.
+    /// The number of bits of an address: 32 or 128.
     pub fn len(&self) -> u8
         ensures { result ≡ width_of self.now }
     {
@@ -25,8 +25,9 @@ impl Family {
             Family::Ipv6 => 128,
         }
     }
-    /// The address whose bits are all zero: 0.0.0.0 or ::.
-    #[tactic(auto, using(crate::proofs::IpAddressLaws::zero_laws))]
+
+    /// The unspecified address, of zero bits alone: 0.0.0.0 or ::.
+    #[tactic(auto, using(crate::proofs::EitherAddresses::zero_laws))]
     pub fn unspecified_address(&self) -> IpAddr
         ensures { result ≡ unspecified self.now }
     {

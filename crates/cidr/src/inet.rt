@@ -1,5 +1,5 @@
 //! Hosts: addresses in their networks.
 
 pub(crate) mod combined;
+pub(crate) mod host;
 pub(crate) mod v4;
-pub(crate) mod v6;

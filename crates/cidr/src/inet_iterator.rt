@@ -2,8 +2,8 @@
 ghost use Rattle.std.specs.Prelude.{◌≡◌, length, IfSome};
 ghost use Rattle.std.specs.Iterator.{YieldsFirstBy, YieldsLastBy, item_count, UpTo, at_most};
 ghost use Rattle.std.specs.Iterator.SizeHint.{IsWithinCount};
-ghost use Rattle.cidr.specs.Seen.{in_family};
-ghost use Rattle.cidr.specs.Walk.{pair_hosts, addresses_of, count_of, bounds_of};
+ghost use Rattle.cidr.specs.model.Views.{in_family};
+ghost use Rattle.cidr.specs.model.Walk.{pair_hosts, addresses_of, count_of, bounds_of};
 
 use crate::internal_traits::markers::PrivInetPair;
 use crate::num::NumberOfAddresses;
@@ -17,8 +17,8 @@ pub(crate) mod driving;
 
 /// The hosts of a walk that are left, ascending.
 ///
-/// `next` takes the first of them and `next_back` the last. After `None` at either end both ends answer `None`
-/// for good.
+/// `next` takes the first of them and `next_back` the last. Once one end has returned `None`, both return `None`
+/// from then on. The calls `iter` of networks and pairs make it.
 #[derive(Drop)]
 pub struct InetIterator<A: Address> {
     state: Option<A::InetPair>,
@@ -26,15 +26,16 @@ pub struct InetIterator<A: Address> {
 
 impl<A: Address> Model for InetIterator<A> {
     ghost use Rattle.std.specs.Prelude.{List, IfSome, ◌<◌, length};
-    ghost use Rattle.cidr.specs.Host.{Host};
-    ghost use Rattle.cidr.specs.Walk.{pair_walk, hosts_left};
+    ghost use Rattle.cidr.specs.model.Host.{Host};
+    ghost use Rattle.cidr.specs.model.Walk.{pair_walk, hosts_left};
     ghost use Rattle.cidr.specs.declared.family.Family.{Family};
 
     ghost Value = { List (Family × Host) };
 
     ghost view = { λ it. hosts_left A.InetPair.family_of A.InetPair.pair it.state };
 
-    ghost invariant = { λ it. IfSome it.state (λ p. 0 < length (pair_walk (A.InetPair.family_of p) (A.InetPair.pair p))) };
+    ghost invariant = { λ it. IfSome it.state
+        (λ p. 0 < length (pair_walk (A.InetPair.family_of p) (A.InetPair.pair p))) };
 }
 
 impl<A: Address> InetIterator<A> {
@@ -58,7 +59,7 @@ impl<A: Address> InetIterator<A> {
         left.size_hint()
     }
 
-    /// How many are left, or `None` where a `usize` has no such number.
+    /// How many are left, or `None` where that is 2^64 or more. It takes no step.
     pub fn count(self) -> Option<usize>
         ensures { result ≡ count_of (length self) }
     {
@@ -71,7 +72,7 @@ where
     A::InetPair: InetPair<Address = A>,
     A::Inet: Inet<Address = A>,
 {
-    /// What is left, as addresses alone.
+    /// What is left of the walk, as addresses without the prefix length.
     pub fn addresses(self) -> InetAddressIterator<A>
         ensures { result ≡ addresses_of self }
     {
@@ -160,8 +161,8 @@ where
 
 /// The addresses of a walk that are left, ascending.
 ///
-/// `next` takes the first of them and `next_back` the last. After `None` at either end both ends answer `None`
-/// for good.
+/// `next` takes the first of them and `next_back` the last. Once one end has returned `None`, both return `None`
+/// from then on. The call `addresses` of `InetIterator` makes it.
 #[derive(Drop)]
 pub struct InetAddressIterator<A: Address> {
     inner: InetIterator<A>,
@@ -169,7 +170,7 @@ pub struct InetAddressIterator<A: Address> {
 
 impl<A: Address> Model for InetAddressIterator<A> {
     ghost use Rattle.std.specs.Prelude.{List, Bool};
-    ghost use Rattle.cidr.specs.Walk.{addresses_of};
+    ghost use Rattle.cidr.specs.model.Walk.{addresses_of};
     ghost use Rattle.cidr.specs.declared.family.Family.{Family};
 
     ghost Value = { List (Family × List Bool) };
@@ -178,7 +179,7 @@ impl<A: Address> Model for InetAddressIterator<A> {
 }
 
 impl<A: Address> InetAddressIterator<A> {
-    /// How many are left, or `None` where a `usize` has no such number.
+    /// How many are left, or `None` where that is 2^64 or more. It takes no step.
     pub fn count(self) -> Option<usize>
         ensures { result ≡ count_of (length self) }
     {

@@ -1,7 +1,9 @@
-//! Laws of the types, each as the contract of a function that does nothing. A caller's proof has the law after a
-//! call.
+//! Laws of the types, each as the contract of a function that does nothing. After a call, a caller's proof has the
+//! law; a program that runs needs none of these.
 
 pub mod addresses;
+pub mod clones;
+pub mod errors;
 pub mod hosts;
 pub mod networks;
 pub mod walks;

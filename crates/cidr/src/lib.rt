@@ -1,7 +1,99 @@
-//! IP networks and addresses, after the crate `cidr`.
+//! IPv4 and IPv6 addresses and networks, proved.
+//!
+//! A network is a `Cidr`, as 192.0.2.48/28: all addresses that begin with the same bits, the prefix. A host is an
+//! `Inet`, as 192.0.2.50/28: an address in its network. The names are those of PostgreSQL and of the Rust crate
+//! `cidr`.
+//!
+//! Each call is panic-free, terminating and does not allocate, and its contract says which value it returns.
+//! Texts are printed into an `ArrayString`, a string of fixed capacity.
+//!
+//! | | IPv4 | IPv6 | either family |
+//! |---|---|---|---|
+//! | address | `Ipv4Addr` | `Ipv6Addr` | `IpAddr` |
+//! | network | `Ipv4Cidr` | `Ipv6Cidr` | `IpCidr`, and `AnyIpCidr` with `any` |
+//! | host | `Ipv4Inet` | `Ipv6Inet` | `IpInet` |
+//! | pair of hosts of one network | `Ipv4InetPair` | `Ipv6InetPair` | `IpInetPair` |
+//!
+//! `InetIterator` and `InetAddressIterator` are the walks over the addresses of a network or a pair. The traits
+//! `Address`, `Cidr`, `Inet` and `InetPair` are for code that is written once over all families. `errors` has the
+//! errors, and `laws` has laws for the proofs of callers.
+//!
+//! # Addresses
+//!
+//! ```
+//! let address = "2001:DB8:0:0:0:0:0:1".parse::<Ipv6Addr>()?;
+//! address.to_text()                       // 2001:db8::1, the one canonical text
+//! Ipv4Addr::new(192, 0, 2, 1).to_bits()   // 0xc0000201
+//! "192.0.2.01".parse::<Ipv4Addr>()        // Err: an octet has no leading zero
+//! ```
+//!
+//! # Networks
+//!
+//! ```
+//! let network = "192.0.2.48/28".parse::<Ipv4Cidr>()?;
+//! network.first_address()                 // 192.0.2.48
+//! network.last_address()                  // 192.0.2.63
+//! network.mask()                          // 255.255.255.240
+//! network.contains(&Ipv4Addr::new(192, 0, 2, 64))   // false
+//! let wide = "2001:db8::/32".parse::<Ipv6Cidr>()?;
+//! wide.contains_cidr(&"2001:db8:1::/48".parse::<Ipv6Cidr>()?)   // true
+//! Ipv4Cidr::new(Ipv4Addr::new(192, 0, 2, 50), 28)   // Err: a bit after the first 28 is set
+//! Ipv4Cidr::new_host(Ipv4Addr::new(192, 0, 2, 1))   // 192.0.2.1/32, which prints as 192.0.2.1
+//! ```
+//!
+//! # Hosts
+//!
+//! ```
+//! let host = "192.0.2.62/28".parse::<Ipv4Inet>()?;
+//! host.network()                          // 192.0.2.48/28
+//! host.next()                             // Some(192.0.2.63/28)
+//! host.overflowing_add(2)                 // (192.0.2.48/28, true): it wrapped
+//! host + 1                                // 192.0.2.63/28; the proof shows that the step stays in the network
+//! ```
+//!
+//! # Pairs and walks
+//!
+//! ```
+//! let first = "192.0.2.49/28".parse::<Ipv4Inet>()?;
+//! let second = "192.0.2.51/28".parse::<Ipv4Inet>()?;
+//! let pair = Ipv4InetPair::new(first, second)?;     // (192.0.2.49/28, 192.0.2.51/28)
+//! let mut walk = pair.iter().addresses();
+//! walk.next()                             // Some(192.0.2.49)
+//! walk.next_back()                        // Some(192.0.2.51)
+//! walk.next()                             // Some(192.0.2.50)
+//! walk.next()                             // None, from now on at both ends
+//! ```
+//!
+//! # Either family
+//!
+//! ```
+//! let network = "::ffff:0.0.0.0/96".parse::<IpCidr>()?;
+//! let address = "192.0.2.1".parse::<IpAddr>()?;
+//! network.contains(&address)              // false: no network contains an address of the other family
+//! "any".parse::<AnyIpCidr>()?.contains(&address)    // true
+//! ```
+//!
+//! # What is refused
+//!
+//! Reading the text of a network returns the first of these errors, which the contracts state in this order:
+//!
+//! 1. `AddrParseError`: what stands before the last slash, or the whole text without one, is no address.
+//! 2. `NetworkLengthParseError`: what stands after it is no prefix length: an optional `+` and decimal digits of
+//!    a value up to 255.
+//! 3. `NetworkLengthTooLongError`: the prefix length is above 32 or 128.
+//! 4. `InvalidHostPart`: a bit after the prefix is set. The text of a host is never refused for this.
+//!
+//! An address alone is a network or a host of full prefix length. In either family, the first error is that of
+//! the family that has the address. `new` of a network returns the errors 3 and 4, in this order, and `new` of a
+//! host returns error 3. A pair from addresses is refused for two families, then for error 3, then where the
+//! prefixes differ; a pair of hosts for two families, two prefix lengths or two networks.
+//!
+//! Three calls have a condition on their caller: `+` and `-` on hosts, whose step has to stay in the network, and
+//! `drive`, whose two slices have to be of one length.
 #![tactic(auto)]
 
 mod addr;
+mod arithmetic;
 mod cidr;
 pub mod errors;
 mod family;
@@ -11,6 +103,7 @@ mod inet_pair;
 mod internal_traits;
 pub mod laws;
 mod num;
+mod text;
 mod traits;
 
 pub use addr::error::AddrParseError;
@@ -19,16 +112,13 @@ pub use addr::v4::Ipv4Addr;
 pub use addr::v6::Ipv6Addr;
 pub use cidr::any::AnyIpCidr;
 pub use cidr::combined::IpCidr;
-pub use cidr::print::WithLength;
-pub use cidr::v4::Ipv4Cidr;
-pub use cidr::v6::Ipv6Cidr;
+pub use cidr::network::{Ipv4Cidr, Ipv6Cidr};
 pub use family::Family;
 pub use inet::combined::IpInet;
-pub use inet::v4::Ipv4Inet;
-pub use inet::v6::Ipv6Inet;
+pub use inet::host::{Ipv4Inet, Ipv6Inet};
 pub use inet_iterator::driving::{End, drive};
 pub use inet_iterator::{InetAddressIterator, InetIterator};
 pub use inet_pair::combined::IpInetPair;
-pub use inet_pair::v4::Ipv4InetPair;
-pub use inet_pair::v6::Ipv6InetPair;
+pub use inet_pair::host_pair::{Ipv4InetPair, Ipv6InetPair};
+pub use text::with_length::WithLength;
 pub use traits::{Address, Cidr, Inet, InetPair};

@@ -1,11 +1,11 @@
 //! How many addresses a walk has.
 ghost use Rattle.std.specs.Prelude.{◌≡◌, ◌+◌, ◌-◌, Some, decimal};
-ghost use Rattle.cidr.specs.Counted.{number_of};
-ghost use Rattle.cidr.specs.Walk.{bounds_of};
+ghost use Rattle.cidr.specs.model.Counted.{number_of};
+ghost use Rattle.cidr.specs.model.Walk.{bounds_of};
 
 use std::fmt;
 
-/// A number of addresses from 0 to 2^128; the greatest fits no `u128`.
+/// A number of addresses from 0 to 2^128. A `u128` has no room for the greatest.
 #[derive(Clone, Copy, Debug, PartialEq, Eq, PartialOrd, Ord, Hash)]
 pub enum NumberOfAddresses {
     /// This many.
@@ -28,7 +28,7 @@ impl NumberOfAddresses {
         }
     }
 
-    /// What `size_hint` says of so many.
+    /// What `size_hint` returns for so many.
     pub(crate) fn size_hint(self) -> (usize, Option<usize>)
         ensures { result ≡ bounds_of (number_of self) }
     {

@@ -1,4 +1,4 @@
-//! The fault of an address text.
+//! The error of an address text.
 ghost use Rattle.std.specs.Prelude.{◌≡◌, Some};
 
 use std::error::Error;
@@ -14,36 +14,37 @@ pub(crate) enum AddrKind {
 
 /// The text is no address of the type that was asked for.
 ///
-/// It remembers that type, and prints as `invalid IPv4 address syntax` and the like.
+/// Its message names that type: `invalid IPv4 address syntax`, `invalid IPv6 address syntax` or
+/// `invalid IP address syntax`. Two such errors are equal if the same type was asked for.
 #[derive(Clone, Drop, PartialEq, Eq)]
 pub struct AddrParseError(AddrKind);
 
 impl AddrParseError {
-    ghost use Rattle.cidr.specs.Words.{ipv4_fault, ipv6_fault, ip_fault};
+    ghost use Rattle.cidr.specs.texts.Messages.{ipv4_error, ipv6_error, ip_error};
 
     pub(crate) fn ipv4() -> AddrParseError
-        ensures { result ≡ ipv4_fault }
+        ensures { result ≡ ipv4_error }
     {
         AddrParseError(AddrKind::Ipv4)
     }
 
     pub(crate) fn ipv6() -> AddrParseError
-        ensures { result ≡ ipv6_fault }
+        ensures { result ≡ ipv6_error }
     {
         AddrParseError(AddrKind::Ipv6)
     }
 
     pub(crate) fn ip() -> AddrParseError
-        ensures { result ≡ ip_fault }
+        ensures { result ≡ ip_error }
     {
         AddrParseError(AddrKind::Ip)
     }
 }
 
 impl fmt::Display for AddrParseError {
-    ghost use Rattle.cidr.specs.Words.{address_words};
+    ghost use Rattle.cidr.specs.texts.Messages.{address_message};
 
-    ghost output = { λ e. Some (address_words e) };
+    ghost output = { λ e. Some (address_message e) };
 
     fn fmt<W: fmt::Write>(&self, f: &mut fmt::Formatter<W>) -> fmt::Result {
         f.write_str(match self.0 {
@@ -55,9 +56,9 @@ impl fmt::Display for AddrParseError {
 }
 
 impl fmt::Debug for AddrParseError {
-    ghost use Rattle.cidr.specs.Words.{address_words};
+    ghost use Rattle.cidr.specs.texts.Messages.{address_message};
 
-    ghost debug_output = { λ e. Some (address_words e) };
+    ghost debug_output = { λ e. Some (address_message e) };
 
     fn fmt<W: fmt::Write>(&self, f: &mut fmt::Formatter<W>) -> fmt::Result {
         fmt::Display::fmt(self, f)

@@ -1,9 +1,9 @@
 //! The address of either family.
 ghost use Rattle.std.specs.Prelude.{◌≡◌, ◌↔◌, ◌≤◌, length, IsTrue, Some};
-ghost use Rattle.cidr.specs.AddressText.{Reads};
-ghost use Rattle.cidr.specs.IpAddress.{address_family, IsIpText};
-ghost use Rattle.cidr.specs.Printed6.{ip_text};
-ghost use Rattle.cidr.specs.Words.{ip_fault};
+ghost use Rattle.cidr.specs.texts.AddressText.{Reads};
+ghost use Rattle.cidr.specs.either.IpAddress.{address_family, IsIpText};
+ghost use Rattle.cidr.specs.texts.PrintedAddress.{ip_text};
+ghost use Rattle.cidr.specs.texts.Messages.{ip_error};
 ghost use Rattle.cidr.specs.declared.addr.ip.IpAddr.TheVariants.{V4, V6};
 ghost use Rattle.cidr.specs.declared.family.Family.TheVariants.{Ipv4, Ipv6};
 
@@ -16,7 +16,9 @@ use std::str::FromStr;
 
 /// An IPv4 or an IPv6 address.
 ///
-/// Every IPv4 address comes before every IPv6 address, and those of one family are ordered by number.
+/// It reads an IPv4 text as `V4` and an IPv6 text as `V6`; no text is both. All IPv4 addresses come before all IPv6
+/// addresses, and those of one family are ordered by number. ::ffff:192.0.2.1 is an IPv6 address and not equal to
+/// 192.0.2.1.
 #[derive(Clone, Copy, PartialEq, Eq, PartialOrd, Ord, Hash)]
 pub enum IpAddr {
     V4(Ipv4Addr),
@@ -38,7 +40,7 @@ impl IpAddr {
         matches!(self, IpAddr::V6(_))
     }
 
-    /// The printed text, that of its family: at most 39 bytes.
+    /// The printed text, as the address of its family prints: at most 39 bytes.
     pub fn to_text(&self) -> ArrayString<39>
         ensures text { result.bytes ≡ ip_text self.now }
         ensures len { length result.bytes ≤ 39 }
@@ -70,7 +72,7 @@ impl From<Ipv6Addr> for IpAddr {
 impl FromStr for IpAddr {
     type Err = AddrParseError;
 
-    ghost from_str_gives = { Reads IsIpText ip_fault };
+    ghost from_str_gives = { Reads IsIpText ip_error };
 
     fn from_str(s: &str) -> Result<IpAddr, AddrParseError> {
         match s.parse::<Ipv4Addr>() {

@@ -4,7 +4,7 @@ ghost use Rattle.std.specs.Prelude.{◌≡◌, ◌+◌, ◌≤◌, ◌++◌, len
 use arrayvec::ArrayString;
 
 /// Appends the number in decimal.
-#[tactic(auto, using(crate::specs::DecimalLaws::decimal_laws))]
+#[tactic(auto, using(crate::specs::laws::DecimalLaws::decimal_laws))]
 pub(crate) fn push_decimal<const CAP: usize>(text: &mut ArrayString<CAP>, n: u8)
     requires { length text.old.bytes + 3 ≤ CAP }
     ensures bytes { text.new.bytes ≡ text.old.bytes ++ decimal n }

@@ -2,7 +2,7 @@
 ghost use Rattle.std.specs.Prelude.{◌≡◌, ◌+◌, ◌*◌, ◌-◌, ◌≤◌, ◌<◌, ◌++◌, length, take, bytes_eq};
 ghost use Rattle.std.specs.Char.{digit_char};
 ghost use Rattle.std.specs.Net.Text.{hex, groups_text, longest_zero_run, hex_groups_text};
-ghost use Rattle.cidr.specs.Canonical.{mapped_groups};
+ghost use Rattle.cidr.specs.texts.Canonical.{mapped_groups};
 
 use arrayvec::ArrayString;
 
@@ -20,7 +20,7 @@ fn hex_digit(digit: u16) -> char
 }
 
 /// Appends the group in hexadecimal, without leading zeros.
-#[tactic(auto, using(crate::proofs::HexLaws::hex_laws))]
+#[tactic(auto, using(crate::proofs::HexPrinting::hex_laws))]
 fn push_hex<const CAP: usize>(text: &mut ArrayString<CAP>, group: u16)
     requires { length text.old.bytes + 4 ≤ CAP }
     ensures bytes { text.new.bytes ≡ text.old.bytes ++ hex group }
@@ -44,7 +44,7 @@ fn push_hex<const CAP: usize>(text: &mut ArrayString<CAP>, group: u16)
 }
 
 /// Appends the groups with colons between them.
-#[tactic(auto, using(crate::proofs::HexLaws::group_text_laws))]
+#[tactic(auto, using(crate::proofs::HexPrinting::group_text_laws))]
 fn push_groups<const CAP: usize>(text: &mut ArrayString<CAP>, groups: &[u16])
     requires { length text.old.bytes + (5 * length groups.now - 1) ≤ CAP }
     ensures bytes { text.new.bytes ≡ text.old.bytes ++ groups_text groups.now }
@@ -62,7 +62,7 @@ fn push_groups<const CAP: usize>(text: &mut ArrayString<CAP>, groups: &[u16])
 /// The start and the length of the longest run of zeros, the first one of that length.
 fn zero_run(groups: &[u16]) -> (usize, usize)
     ensures value { result ≡ longest_zero_run groups.now }
-    ensures within { result.0 + result.1 ≤ length groups.now }
+    ensures fits { result.0 + result.1 ≤ length groups.now }
 {
     let mut start = groups.len();
     let mut len = 0;

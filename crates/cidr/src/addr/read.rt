@@ -1,8 +1,8 @@
 //! Reading the parts of address texts, in one pass over the bytes.
 ghost use Rattle.std.specs.Prelude.{◌≡◌, List, ℕ, Bool, MatchOption};
-ghost use Rattle.cidr.specs.Address.{octet_bits};
-ghost use Rattle.cidr.specs.AddressText.{dot, IsOctetText, IsIpv4Text};
-ghost use Rattle.cidr.specs.Reading.{TakesByte, TakesDigit, TakesOctet, TakesFirst};
+ghost use Rattle.cidr.specs.model.Address.{octet_bits};
+ghost use Rattle.cidr.specs.texts.Ipv4Text.{dot, IsOctetText, IsIpv4Text};
+ghost use Rattle.cidr.specs.internal.Reading.{TakesByte, TakesDigit, TakesOctet, TakesFirst};
 
 /// The value of the decimal digit at the front, and what follows it.
 fn take_digit(text: &[u8]) -> Option<(u8, &[u8])>
@@ -46,7 +46,7 @@ pub(crate) fn take_byte(text: &[u8], byte: u8) -> Option<&[u8]>
     }
 }
 
-/// The octet at the front, which a dot has to follow, and what stands behind the dot.
+/// The octet at the front, which a dot has to follow, and what follows the dot.
 fn take_octet_and_dot(text: &[u8]) -> Option<(u8, &[u8])>
     ensures { TakesFirst text.now result }
 {
@@ -64,7 +64,8 @@ fn read_octet(text: &[u8]) -> Option<u8>
 
 /// The four octets of an IPv4 text.
 pub(crate) fn read_ipv4(text: &[u8]) -> Option<[u8; 4]>
-    ensures { MatchOption result ((a : List Bool) → ¬ (IsIpv4Text text.now a)) (λ o. IsIpv4Text text.now (octet_bits o)) }
+    ensures { MatchOption result ((a : List Bool) → ¬ (IsIpv4Text text.now a))
+        (λ o. IsIpv4Text text.now (octet_bits o)) }
 {
     let (a, rest) = take_octet_and_dot(text)?;
     let (b, rest) = take_octet_and_dot(rest)?;

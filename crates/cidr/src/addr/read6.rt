@@ -1,26 +1,28 @@
 //! Reading IPv6 texts, in one pass over the bytes.
 ghost use Rattle.std.specs.Prelude.{◌≡◌, ◌+◌, ◌≤◌, List, ℕ, Bool, MatchOption};
-ghost use Rattle.cidr.specs.Bits.{bits};
-ghost use Rattle.cidr.specs.Ipv6Text.{IsIpv6Text};
-ghost use Rattle.cidr.specs.Reading.{TakesGroup, TakesSeparator, IsFound, IsStuck};
+ghost use Rattle.cidr.specs.model.Bits.{bits};
+ghost use Rattle.cidr.specs.texts.Ipv6Text.{IsIpv6Text};
+ghost use Rattle.cidr.specs.internal.Reading.{TakesGroup, TakesSeparator, IsFound, IsStuck};
 
+use crate::addr::hex::hex_value;
 use crate::addr::read::{read_ipv4, take_byte};
 use crate::addr::v4::Ipv4Addr;
 
 /// The value of the group at the front, and what follows its digits.
+#[inline(always)]
 fn take_group(text: &[u8]) -> Option<(u16, &[u8])>
     ensures { TakesGroup text.now result }
 {
     let mut value = 0u16;
     let mut count = 0;
     for byte in text {
-        let Some(digit) = char::from(*byte).to_digit(16) else {
+        let Some(digit) = hex_value(*byte) else {
             break;
         };
         if count == 4 {
             return None;
         }
-        value = value * 16 + digit as u16;
+        value = value * 16 + u16::from(digit);
         count += 1;
     }
     if count == 0 {
@@ -41,7 +43,7 @@ struct Groups<'a> {
     rest: &'a [u8],
 }
 
-/// The text from the next group on: behind a colon, unless the group is the first.
+/// The text from the next group on: after a colon, unless the group is the first.
 fn take_separator(text: &[u8], first: bool) -> Option<&[u8]>
     ensures { TakesSeparator first text.now result }
 {
@@ -52,7 +54,9 @@ fn take_separator(text: &[u8], first: bool) -> Option<&[u8]>
     }
 }
 
-/// As many groups as there are at the front, up to `room`, or nothing where a dot ends a group that begins no IPv4 text.
+/// As many groups as there are at the front, up to `room`, or nothing where a dot ends a group that begins no IPv4
+/// text.
+#[inline(always)]
 fn take_groups(text: &[u8], room: usize) -> Option<Groups<'_>>
     requires { room ≤ 8 }
     ensures { MatchOption result (IsStuck room text.now) (λ g. IsFound room text.now g.number g.count g.rest.now) }

@@ -3,11 +3,12 @@ ghost use Rattle.std.specs.Prelude.{◌≡◌, ◌+◌, ◌≤◌, [], ◌∷◌
 ghost use Rattle.std.specs.Ordering.{as_partial_cmp};
 ghost use Rattle.std.specs.Cmp.{partial_equiv_from_equiv};
 ghost use Rattle.std.specs.Hash as fed;
-ghost use Rattle.cidr.specs.Bits.{bits, number, bit_cmp, bit_eq};
-ghost use Rattle.cidr.specs.BitLaws.{bit_eq_equiv, bit_eq_ties, bit_cmp_total, bit_cmp_po, same_image};
-ghost use Rattle.cidr.specs.Address.{octet_bits, octets_of};
-ghost use Rattle.cidr.specs.AddressText.{IsIpv4Text, Reads};
-ghost use Rattle.cidr.specs.Printed.{ipv4_text};
+ghost use Rattle.cidr.specs.model.Bits.{bits, number, bit_cmp, bit_eq};
+ghost use Rattle.cidr.specs.laws.BitLaws.{bit_eq_equiv, bit_eq_ties, bit_cmp_total, bit_cmp_po, same_image};
+ghost use Rattle.cidr.specs.model.Address.{octet_bits, octets_of};
+ghost use Rattle.cidr.specs.texts.Ipv4Text.{IsIpv4Text};
+ghost use Rattle.cidr.specs.texts.AddressText.{Reads};
+ghost use Rattle.cidr.specs.texts.PrintedAddress.{ipv4_text};
 
 use crate::addr::error::AddrParseError;
 use crate::addr::print::push_decimal;
@@ -19,7 +20,10 @@ use std::hash::{Hash, Hasher};
 use std::marker::Model;
 use std::str::FromStr;
 
-/// An IPv4 address: 32 bits, most significant first.
+/// An IPv4 address of 32 bits.
+///
+/// It is read from and printed as four decimal octets, as in 192.0.2.1. An octet with a leading zero is refused,
+/// since some systems take it as octal. Addresses are ordered by number.
 #[derive(Clone, Copy)]
 pub struct Ipv4Addr {
     raw: u32,
@@ -27,8 +31,8 @@ pub struct Ipv4Addr {
 
 impl Model for Ipv4Addr {
     ghost use Rattle.std.specs.Prelude.{List, Bool, ◌^◌, ◌<◌};
-    ghost use Rattle.cidr.specs.Bits.{bits, number};
-    ghost use Rattle.cidr.specs.BitLaws.{number-bits};
+    ghost use Rattle.cidr.specs.model.Bits.{bits, number};
+    ghost use Rattle.cidr.specs.laws.BitLaws.{number-bits};
 
     ghost Value = { List Bool };
 
@@ -61,15 +65,15 @@ impl Ipv4Addr {
         self.raw.to_be_bytes()
     }
 
-    /// The address with this number: `from_bits(1)` is 0.0.0.1.
+    /// The address with this number: `from_bits(256)` is 0.0.1.0.
     pub fn from_bits(value: u32) -> Ipv4Addr
         ensures { result ≡ bits 32 value }
     {
         Ipv4Addr { raw: value }
     }
 
-    /// The number that the 32 bits write.
-    #[tactic(auto, using(crate::specs::BitLaws::bit_laws))]
+    /// The address as a number: that of 0.0.1.0 is 256.
+    #[tactic(auto, using(crate::specs::laws::BitLaws::bit_laws))]
     pub fn to_bits(self) -> u32
         ensures value { result ≡ number self }
         ensures width { length self ≡ 32 }
@@ -94,8 +98,8 @@ impl Ipv4Addr {
         push_decimal(text, d);
     }
 
-    /// The printed text, four decimal octets: at most 15 bytes.
-    #[tactic(auto, using(crate::proofs::PrintedLaws::ipv4_text_laws))]
+    /// The printed text, four decimal octets: `192.0.2.1`. It has at most 15 bytes.
+    #[tactic(auto, using(crate::proofs::Ipv4Printing::ipv4_text_laws))]
     pub fn to_text(&self) -> ArrayString<39>
         ensures text { result.bytes ≡ ipv4_text self.now }
         ensures len { length result.bytes ≤ 15 }
@@ -129,7 +133,7 @@ impl PartialEq for Ipv4Addr {
 
     ghost laws = { partial_equiv_from_equiv bit_eq_equiv };
 
-    #[tactic(auto, using(crate::specs::BitLaws::bit_laws))]
+    #[tactic(auto, using(crate::specs::laws::BitLaws::bit_laws))]
     fn eq(&self, other: &Ipv4Addr) -> bool {
         self.raw == other.raw
     }
@@ -158,7 +162,7 @@ impl Ord for Ipv4Addr {
 
     ghost matches_eq = { bit_eq_ties };
 
-    #[tactic(auto, using(crate::specs::BitLaws::bit_laws))]
+    #[tactic(auto, using(crate::specs::laws::BitLaws::bit_laws))]
     fn cmp(&self, other: &Ipv4Addr) -> Ordering {
         self.raw.cmp(&other.raw)
     }
@@ -169,18 +173,18 @@ impl Hash for Ipv4Addr {
 
     ghost respects_eq = { same_image (λ p. fed.u32 (number p)) };
 
-    #[tactic(auto, using(crate::specs::BitLaws::bit_laws))]
+    #[tactic(auto, using(crate::specs::laws::BitLaws::bit_laws))]
     fn hash<H: Hasher>(&self, state: &mut H) {
         self.raw.hash(state);
     }
 }
 
 impl FromStr for Ipv4Addr {
-    ghost use Rattle.cidr.specs.Words.{ipv4_fault};
+    ghost use Rattle.cidr.specs.texts.Messages.{ipv4_error};
 
     type Err = AddrParseError;
 
-    ghost from_str_gives = { Reads IsIpv4Text ipv4_fault };
+    ghost from_str_gives = { Reads IsIpv4Text ipv4_error };
 
     fn from_str(s: &str) -> Result<Ipv4Addr, AddrParseError> {
         match read_ipv4(s.as_bytes()) {

@@ -3,13 +3,13 @@ ghost use Rattle.std.specs.Prelude.{◌≡◌, ◌+◌, ◌≤◌, [], ◌∷◌
 ghost use Rattle.std.specs.Ordering.{as_partial_cmp};
 ghost use Rattle.std.specs.Cmp.{partial_equiv_from_equiv};
 ghost use Rattle.std.specs.Hash as fed;
-ghost use Rattle.cidr.specs.Bits.{bits, number, bit_cmp, bit_eq};
-ghost use Rattle.cidr.specs.BitLaws.{bit_eq_equiv, bit_eq_ties, bit_cmp_total, bit_cmp_po, same_image};
-ghost use Rattle.cidr.specs.Address.{parts_of, octet_bits, group_bits, groups_of};
-ghost use Rattle.cidr.specs.AddressText.{Reads};
-ghost use Rattle.cidr.specs.Ipv6Text.{IsIpv6Text};
-ghost use Rattle.cidr.specs.Canonical.{IsCanonicalText};
-ghost use Rattle.cidr.specs.Printed6.{ipv6_text};
+ghost use Rattle.cidr.specs.model.Bits.{bits, number, bit_cmp, bit_eq};
+ghost use Rattle.cidr.specs.laws.BitLaws.{bit_eq_equiv, bit_eq_ties, bit_cmp_total, bit_cmp_po, same_image};
+ghost use Rattle.cidr.specs.model.Address.{parts_of, octet_bits, group_bits, groups_of};
+ghost use Rattle.cidr.specs.texts.AddressText.{Reads};
+ghost use Rattle.cidr.specs.texts.Ipv6Text.{IsIpv6Text};
+ghost use Rattle.cidr.specs.texts.Canonical.{IsCanonicalText};
+ghost use Rattle.cidr.specs.texts.PrintedAddress.{ipv6_text};
 
 use crate::addr::error::AddrParseError;
 use crate::addr::print6::{is_mapped, push_hex_groups};
@@ -22,7 +22,11 @@ use std::hash::{Hash, Hasher};
 use std::marker::Model;
 use std::str::FromStr;
 
-/// An IPv6 address: 128 bits, most significant first.
+/// An IPv6 address of 128 bits.
+///
+/// It is read from each text that RFC 4291, 2.2 allows: 2001:DB8::1, 2001:db8:0:0:0:0:0:1 and ::ffff:192.0.2.1 are
+/// texts; an address with a zone, as fe80::1%1, is none. It is printed as RFC 5952 has it. Addresses are ordered by
+/// number.
 #[derive(Clone, Copy)]
 pub struct Ipv6Addr {
     raw: u128,
@@ -30,8 +34,8 @@ pub struct Ipv6Addr {
 
 impl Model for Ipv6Addr {
     ghost use Rattle.std.specs.Prelude.{List, Bool, ◌^◌, ◌<◌};
-    ghost use Rattle.cidr.specs.Bits.{bits, number};
-    ghost use Rattle.cidr.specs.BitLaws.{number-bits};
+    ghost use Rattle.cidr.specs.model.Bits.{bits, number};
+    ghost use Rattle.cidr.specs.laws.BitLaws.{number-bits};
 
     ghost Value = { List Bool };
 
@@ -45,7 +49,8 @@ impl Model for Ipv6Addr {
 }
 
 impl Ipv6Addr {
-    /// The address with these groups, most significant first.
+    /// The address with these groups of sixteen bits, most significant first:
+    /// `new(0x2001, 0xdb8, 0, 0, 0, 0, 0, 1)` is 2001:db8::1.
     #[tactic(auto, using(crate::proofs::GroupLaws::group_laws))]
     pub fn new(a: u16, b: u16, c: u16, d: u16, e: u16, f: u16, g: u16, h: u16) -> Ipv6Addr
         ensures { result ≡ group_bits (a ∷ b ∷ c ∷ d ∷ e ∷ f ∷ g ∷ h ∷ []) }
@@ -94,8 +99,8 @@ impl Ipv6Addr {
         Ipv6Addr { raw: value }
     }
 
-    /// The number that the 128 bits write.
-    #[tactic(auto, using(crate::specs::BitLaws::bit_laws))]
+    /// The address as a number: that of ::1:0 is 65536.
+    #[tactic(auto, using(crate::specs::laws::BitLaws::bit_laws))]
     pub fn to_bits(self) -> u128
         ensures value { result ≡ number self }
         ensures width { length self ≡ 128 }
@@ -121,9 +126,9 @@ impl Ipv6Addr {
 
     /// The printed text: at most 39 bytes.
     ///
-    /// It is the canonical one, of which there is one for each address: 2001:DB8:0:0:0:0:0:1 is `2001:db8::1`,
-    /// and ::ffff:c000:201 is `::ffff:192.0.2.1`.
-    #[tactic(auto, using(crate::proofs::CanonicalLaws::ipv6_text_laws))]
+    /// It is the canonical text of RFC 5952, of which each address has one: 2001:DB8:0:0:0:0:0:1 is printed as
+    /// `2001:db8::1`, and ::ffff:c000:201 as `::ffff:192.0.2.1`.
+    #[tactic(auto, using(crate::proofs::Ipv6Printing::ipv6_text_laws))]
     pub fn to_text(&self) -> ArrayString<39>
         ensures text { result.bytes ≡ ipv6_text self.now }
         ensures len { length result.bytes ≤ 39 }
@@ -167,7 +172,7 @@ impl PartialEq for Ipv6Addr {
 
     ghost laws = { partial_equiv_from_equiv bit_eq_equiv };
 
-    #[tactic(auto, using(crate::specs::BitLaws::bit_laws))]
+    #[tactic(auto, using(crate::specs::laws::BitLaws::bit_laws))]
     fn eq(&self, other: &Ipv6Addr) -> bool {
         self.raw == other.raw
     }
@@ -196,7 +201,7 @@ impl Ord for Ipv6Addr {
 
     ghost matches_eq = { bit_eq_ties };
 
-    #[tactic(auto, using(crate::specs::BitLaws::bit_laws))]
+    #[tactic(auto, using(crate::specs::laws::BitLaws::bit_laws))]
     fn cmp(&self, other: &Ipv6Addr) -> Ordering {
         self.raw.cmp(&other.raw)
     }
@@ -207,18 +212,18 @@ impl Hash for Ipv6Addr {
 
     ghost respects_eq = { same_image (λ p. fed.u128 (number p)) };
 
-    #[tactic(auto, using(crate::specs::BitLaws::bit_laws))]
+    #[tactic(auto, using(crate::specs::laws::BitLaws::bit_laws))]
     fn hash<H: Hasher>(&self, state: &mut H) {
         self.raw.hash(state);
     }
 }
 
 impl FromStr for Ipv6Addr {
-    ghost use Rattle.cidr.specs.Words.{ipv6_fault};
+    ghost use Rattle.cidr.specs.texts.Messages.{ipv6_error};
 
     type Err = AddrParseError;
 
-    ghost from_str_gives = { Reads IsIpv6Text ipv6_fault };
+    ghost from_str_gives = { Reads IsIpv6Text ipv6_error };
 
     fn from_str(s: &str) -> Result<Ipv6Addr, AddrParseError> {
         match read_ipv6(s.as_bytes()) {

@@ -1,56 +1,60 @@
 //! The network of either family, or every address.
-ghost use Rattle.std.specs.Prelude.{◌≡◌, ◌↔◌, ◌≤◌, length, codes, IsTrue, Some, option_map, MatchOption};
-ghost use Rattle.cidr.specs.Combined.{specific, any_of, any_or};
-ghost use Rattle.cidr.specs.CombinedText.{IsAnyNetworkText, any_network_text};
+ghost use Rattle.std.specs.Prelude.{◌≡◌, ◌↔◌, ◌≤◌, length, codes, IsTrue, IfOk, Some, option_map};
+ghost use Rattle.cidr.specs.either.IpNetwork.{specific, any_of, any_or, any_length, IsLoneNetwork};
+ghost use Rattle.cidr.specs.either.IpText.{IsAnyNetworkText, any_network_text};
 ghost use Rattle.cidr.specs.declared.cidr.any.AnyIpCidr.TheVariants as any_network;
 
 use crate::addr::ip::IpAddr;
 use crate::addr::v4::Ipv4Addr;
 use crate::addr::v6::Ipv6Addr;
 use crate::cidr::combined::IpCidr;
-use crate::cidr::print::WithLength;
-use crate::cidr::v4::Ipv4Cidr;
-use crate::cidr::v6::Ipv6Cidr;
+use crate::cidr::network::{Ipv4Cidr, Ipv6Cidr};
 use crate::errors::NetworkParseError;
 use crate::family::Family;
 use crate::inet::combined::IpInet;
+use crate::text::with_length::WithLength;
 use arrayvec::ArrayString;
 use std::fmt;
 use std::str::FromStr;
 
 /// An IPv4 or an IPv6 network, or every address of both families.
 ///
-/// `Any` comes first, then the IPv4 networks, then the IPv6 networks.
+/// It is the type of an entry of an access list that may say "any". `Any` comes first, then the IPv4 networks, then
+/// the IPv6 networks. `Any` has no family, no prefix length and no first address: the calls that ask for one return
+/// `None`.
 #[derive(Clone, Copy, Debug, PartialEq, Eq, PartialOrd, Ord, Hash)]
 pub enum AnyIpCidr {
-    /// Every address. It prints as `any`.
+    /// Every address of both families. It is read from and printed as `any`.
     Any,
     V4(Ipv4Cidr),
     V6(Ipv6Cidr),
 }
 
 impl AnyIpCidr {
-    ghost use Rattle.cidr.specs.Combined.{network_family, network_prefix, any_bits, address_by, lone_network, network_within, IsAddressBits, IsLone};
-    ghost use Rattle.cidr.specs.CombinedHost.{host_at};
-    ghost use Rattle.cidr.specs.Host.{first_host, last_host};
-    ghost use Rattle.cidr.specs.IpAddress.{ip_address_bits};
-    ghost use Rattle.cidr.specs.Network.{first_of, last_of, mask_of, BeginsWith, HoldsAll};
-    ghost use Rattle.cidr.specs.Printed.{plain_text};
-    ghost use Rattle.cidr.specs.Seen.{seen};
+    ghost use Rattle.cidr.specs.either.IpNetwork.{network_family, network_prefix, any_bits, address_by, lone_network, ip_network_from, IsAddressBits};
+    ghost use Rattle.cidr.specs.either.IpHost.{host_at};
+    ghost use Rattle.cidr.specs.model.Host.{first_host, last_host};
+    ghost use Rattle.cidr.specs.either.IpAddress.{ip_address_bits};
+    ghost use Rattle.cidr.specs.model.Network.{first_of, last_of, mask_of, BeginsWith, HoldsAll};
+    ghost use Rattle.cidr.specs.texts.Printed.{plain_text};
+    ghost use Rattle.cidr.specs.model.Views.{seen};
     ghost use Rattle.cidr.specs.declared.family.Family.TheVariants.{Ipv4, Ipv6};
 
     /// The network of the first `len` bits of an address, of its family.
     ///
-    /// Refuses a length above the width, 32 or 128, then an address with a one among the bits from `len` on.
+    /// Refuses a prefix length above the width, 32 or 128, and then an address with a set bit after the first
+    /// `len`.
     pub fn new(addr: IpAddr, len: u8) -> Result<AnyIpCidr, NetworkParseError>
-        ensures { result ≡ seen any_of (network_within addr len) }
+        ensures value { result ≡ seen any_of (ip_network_from addr len) }
+        ensures len { IfOk result (λ n. any_length n ≡ Some len) }
     {
         Ok(AnyIpCidr::from(IpCidr::new(addr, len)?))
     }
 
-    /// The network of this address alone, of full length.
+    /// The network of this address alone, of full prefix length: 192.0.2.1/32 or 2001:db8::1/128.
     pub fn new_host(addr: IpAddr) -> AnyIpCidr
-        ensures { result ≡ any_of (lone_network addr) }
+        ensures value { result ≡ any_of (lone_network addr) }
+        ensures full { IsLoneNetwork result }
     {
         AnyIpCidr::from(IpCidr::new_host(addr))
     }
@@ -86,7 +90,7 @@ impl AnyIpCidr {
         }
     }
 
-    /// The host of this length at the first address, or `None` for `Any`.
+    /// The host at the first address, with the prefix length of the network, or `None` for `Any`.
     pub fn first(&self) -> Option<IpInet>
         ensures { result ≡ option_map (host_at first_host) (specific self.now) }
     {
@@ -96,7 +100,7 @@ impl AnyIpCidr {
         }
     }
 
-    /// The host of this length at the last address, or `None` for `Any`.
+    /// The host at the last address, with the prefix length of the network, or `None` for `Any`.
     pub fn last(&self) -> Option<IpInet>
         ensures { result ≡ option_map (host_at last_host) (specific self.now) }
     {
@@ -106,9 +110,9 @@ impl AnyIpCidr {
         }
     }
 
-    /// The length in bits, from 0 to 32 or to 128, or `None` for `Any`. The family is not counted.
+    /// The prefix length in bits, at most 32 in IPv4 and 128 in IPv6, or `None` for `Any`.
     pub fn network_length(&self) -> Option<u8>
-        ensures { result ≡ option_map (λ n. length (network_prefix n)) (specific self.now) }
+        ensures { result ≡ any_length self.now }
     {
         match self.network() {
             None => None,
@@ -128,7 +132,7 @@ impl AnyIpCidr {
 
     /// Whether the network is a single address, which `Any` is not.
     pub fn is_host_address(&self) -> bool
-        ensures { IsTrue result ↔ MatchOption (specific self.now) ⊥ IsLone }
+        ensures { IsTrue result ↔ IsLoneNetwork self.now }
     {
         match self.network() {
             None => false,
@@ -146,20 +150,22 @@ impl AnyIpCidr {
         }
     }
 
-    /// Whether the address is in the network. `Any` contains every address, and no other network holds an address
-    /// of the other family.
+    /// Whether the address is in the network. `Any` contains every address; no other network contains an address of
+    /// the other family.
     pub fn contains(&self, addr: &IpAddr) -> bool
         ensures { IsTrue result ↔ BeginsWith (ip_address_bits addr.now) (any_bits self.now) }
     {
-        match self.network() {
-            None => true,
-            Some(network) => network.contains(addr),
+        match (self, addr) {
+            (AnyIpCidr::Any, _) => true,
+            (AnyIpCidr::V4(network), IpAddr::V4(addr)) => network.contains(addr),
+            (AnyIpCidr::V6(network), IpAddr::V6(addr)) => network.contains(addr),
+            _ => false,
         }
     }
 
-    /// Whether every address of the other network is in this one. `Any` contains every network and is in itself
-    /// alone.
-    #[tactic(auto, using(crate::proofs::CombinedLaws::holding_laws))]
+    /// Whether every address of the other network is in this one. `Any` contains every network, and no other
+    /// network contains `Any`.
+    #[tactic(auto, using(crate::proofs::EitherHolding::holding_laws))]
     pub fn contains_cidr(&self, other: &AnyIpCidr) -> bool
         ensures begins { IsTrue result ↔ BeginsWith (any_bits other.now) (any_bits self.now) }
         ensures holds { IsTrue result ↔ HoldsAll IsAddressBits (any_bits self.now) (any_bits other.now) }
@@ -192,7 +198,7 @@ impl AnyIpCidr {
         matches!(self, AnyIpCidr::V6(_))
     }
 
-    /// The printed text, `any` or that of the network without a full length: at most 43 bytes.
+    /// The printed text, which is `any` or leaves out a full prefix length: at most 43 bytes.
     pub fn to_text(&self) -> ArrayString<43>
         ensures text { result.bytes ≡ any_network_text plain_text self.now }
         ensures len { length result.bytes ≤ 43 }
@@ -204,7 +210,7 @@ impl AnyIpCidr {
         }
     }
 
-    /// The network as it is printed with its length, also where that is full. `Any` stays `any`.
+    /// The network, to be printed with its prefix length also where that is full. `Any` stays `any`.
     pub fn with_length(&self) -> WithLength<AnyIpCidr>
         ensures { result ≡ self.now }
     {
@@ -223,9 +229,9 @@ fn any_text() -> ArrayString<43>
 }
 
 impl WithLength<AnyIpCidr> {
-    ghost use Rattle.cidr.specs.Printed.{forced_text};
+    ghost use Rattle.cidr.specs.texts.Printed.{forced_text};
 
-    /// The printed text, `any` or that of the network with its length: at most 43 bytes.
+    /// The printed text, which is `any` or has the prefix length: at most 43 bytes.
     pub fn to_text(&self) -> ArrayString<43>
         ensures text { result.bytes ≡ any_network_text forced_text self.now }
         ensures len { length result.bytes ≤ 43 }
@@ -277,7 +283,7 @@ impl From<Ipv6Cidr> for AnyIpCidr {
 }
 
 impl From<Ipv4Addr> for AnyIpCidr {
-    ghost from_gives = { λ a n. n ≡ any_network.V4 a };
+    ghost from_gives = { λ a n. (n ≡ any_network.V4 a) × IsLoneNetwork n };
 
     fn from(address: Ipv4Addr) -> AnyIpCidr {
         AnyIpCidr::V4(Ipv4Cidr::new_host(address))
@@ -285,7 +291,7 @@ impl From<Ipv4Addr> for AnyIpCidr {
 }
 
 impl From<Ipv6Addr> for AnyIpCidr {
-    ghost from_gives = { λ a n. n ≡ any_network.V6 a };
+    ghost from_gives = { λ a n. (n ≡ any_network.V6 a) × IsLoneNetwork n };
 
     fn from(address: Ipv6Addr) -> AnyIpCidr {
         AnyIpCidr::V6(Ipv6Cidr::new_host(address))
@@ -293,9 +299,9 @@ impl From<Ipv6Addr> for AnyIpCidr {
 }
 
 impl From<IpAddr> for AnyIpCidr {
-    ghost use Rattle.cidr.specs.Combined.{lone_network};
+    ghost use Rattle.cidr.specs.either.IpNetwork.{lone_network};
 
-    ghost from_gives = { λ a n. n ≡ any_of (lone_network a) };
+    ghost from_gives = { λ a n. (n ≡ any_of (lone_network a)) × IsLoneNetwork n };
 
     fn from(address: IpAddr) -> AnyIpCidr {
         AnyIpCidr::new_host(address)
@@ -311,7 +317,7 @@ impl From<AnyIpCidr> for Option<IpCidr> {
 }
 
 impl FromStr for AnyIpCidr {
-    ghost use Rattle.cidr.specs.CombinedText.{ReadsAnyNetwork};
+    ghost use Rattle.cidr.specs.either.IpText.{ReadsAnyNetwork};
 
     type Err = NetworkParseError;
 
@@ -329,7 +335,7 @@ impl FromStr for AnyIpCidr {
 }
 
 impl fmt::Display for AnyIpCidr {
-    ghost use Rattle.cidr.specs.Printed.{plain_text};
+    ghost use Rattle.cidr.specs.texts.Printed.{plain_text};
 
     ghost output = { λ n. Some (any_network_text plain_text n) };
 
@@ -339,7 +345,7 @@ impl fmt::Display for AnyIpCidr {
 }
 
 impl fmt::Display for WithLength<AnyIpCidr> {
-    ghost use Rattle.cidr.specs.Printed.{forced_text};
+    ghost use Rattle.cidr.specs.texts.Printed.{forced_text};
 
     ghost output = { λ n. Some (any_network_text forced_text n) };
 

@@ -1,29 +1,28 @@
 //! The network of either family.
-ghost use Rattle.std.specs.Prelude.{◌≡◌, ◌↔◌, ◌≤◌, length, IsTrue, Some};
-ghost use Rattle.cidr.specs.Combined.{network_family, network_prefix, network_bits};
-ghost use Rattle.cidr.specs.CombinedText.{IsIpNetworkText, ip_network_text};
+ghost use Rattle.std.specs.Prelude.{◌≡◌, ◌↔◌, ◌≤◌, length, IsTrue, IfOk, Some};
+ghost use Rattle.cidr.specs.either.IpNetwork.{network_family, network_prefix, network_bits, IsLone};
+ghost use Rattle.cidr.specs.either.IpText.{IsIpNetworkText, ip_network_text};
 ghost use Rattle.cidr.specs.declared.cidr.combined.IpCidr.TheVariants.{V4, V6};
 
 use crate::addr::ip::IpAddr;
 use crate::addr::v4::Ipv4Addr;
 use crate::addr::v6::Ipv6Addr;
-use crate::cidr::print::WithLength;
-use crate::cidr::read::{cut_at_last_slash, read_length};
-use crate::cidr::v4::Ipv4Cidr;
-use crate::cidr::v6::Ipv6Cidr;
+use crate::cidr::network::{Ipv4Cidr, Ipv6Cidr};
 use crate::errors::NetworkParseError;
 use crate::family::Family;
 use crate::inet::combined::IpInet;
 use crate::inet_iterator::InetIterator;
 use crate::inet_pair::combined::IpInetPair;
+use crate::text::read::{cut_at_last_slash, read_length};
+use crate::text::with_length::WithLength;
 use arrayvec::ArrayString;
 use std::fmt;
 use std::str::FromStr;
 
 /// An IPv4 or an IPv6 network.
 ///
-/// Every IPv4 network comes before every IPv6 network, and those of one family are ordered by first address and
-/// then by length.
+/// All IPv4 networks come before all IPv6 networks, and those of one family are ordered by first address and then
+/// by prefix length.
 #[derive(Clone, Copy, Debug, PartialEq, Eq, PartialOrd, Ord, Hash)]
 pub enum IpCidr {
     V4(Ipv4Cidr),
@@ -31,22 +30,22 @@ pub enum IpCidr {
 }
 
 impl IpCidr {
-    ghost use Rattle.cidr.specs.Combined.{address_by, lone_network, network_within, IsAddressBits, IsLone};
-    ghost use Rattle.std.specs.Prelude.{List, Bool};
-    ghost use Rattle.std.specs.List.{Contains};
-    ghost use Rattle.cidr.specs.CombinedHost.{host_at};
-    ghost use Rattle.cidr.specs.Host.{first_host, last_host};
-    ghost use Rattle.cidr.specs.IpAddress.{ip_address_bits};
-    ghost use Rattle.cidr.specs.Network.{width_of, first_of, last_of, mask_of, BeginsWith, HoldsAll};
-    ghost use Rattle.cidr.specs.Printed.{plain_text};
-    ghost use Rattle.cidr.specs.Walk.{network_hosts, network_walk};
+    ghost use Rattle.cidr.specs.either.IpNetwork.{address_by, lone_network, ip_network_from, IsAddressBits};
+    ghost use Rattle.cidr.specs.either.IpHost.{host_at};
+    ghost use Rattle.cidr.specs.model.Host.{first_host, last_host};
+    ghost use Rattle.cidr.specs.either.IpAddress.{ip_address_bits};
+    ghost use Rattle.cidr.specs.model.Network.{width_of, first_of, last_of, mask_of, BeginsWith, HoldsAll};
+    ghost use Rattle.cidr.specs.texts.Printed.{plain_text};
+    ghost use Rattle.cidr.specs.model.Walk.{network_hosts, network_walk, HasExactly};
     ghost use Rattle.cidr.specs.declared.family.Family.TheVariants.{Ipv4, Ipv6};
 
     /// The network of the first `len` bits of an address, of its family.
     ///
-    /// Refuses a length above the width, 32 or 128, then an address with a one among the bits from `len` on.
+    /// Refuses a prefix length above the width, 32 or 128, and then an address with a set bit after the first
+    /// `len`.
     pub fn new(addr: IpAddr, len: u8) -> Result<IpCidr, NetworkParseError>
-        ensures { result ≡ network_within addr len }
+        ensures value { result ≡ ip_network_from addr len }
+        ensures len { IfOk result (λ n. length (network_prefix n) ≡ len) }
     {
         match addr {
             IpAddr::V4(addr) => Ok(IpCidr::V4(Ipv4Cidr::new(addr, len)?)),
@@ -54,9 +53,10 @@ impl IpCidr {
         }
     }
 
-    /// The network of this address alone, of full length.
+    /// The network of this address alone, of full prefix length: 192.0.2.1/32 or 2001:db8::1/128.
     pub fn new_host(addr: IpAddr) -> IpCidr
-        ensures { result ≡ lone_network addr }
+        ensures value { result ≡ lone_network addr }
+        ensures full { IsLone result }
     {
         match addr {
             IpAddr::V4(addr) => IpCidr::V4(Ipv4Cidr::new_host(addr)),
@@ -64,7 +64,7 @@ impl IpCidr {
         }
     }
 
-    /// The first address, whose bits from the length on are zero.
+    /// The first address, in which no bit after the prefix is set.
     pub fn first_address(&self) -> IpAddr
         ensures { result ≡ address_by first_of self.now }
     {
@@ -74,7 +74,7 @@ impl IpCidr {
         }
     }
 
-    /// The last address, whose bits from the length on are one.
+    /// The last address, in which all bits after the prefix are set.
     pub fn last_address(&self) -> IpAddr
         ensures { result ≡ address_by last_of self.now }
     {
@@ -84,7 +84,7 @@ impl IpCidr {
         }
     }
 
-    /// The host of this length at the first address.
+    /// The host at the first address, with the prefix length of the network.
     pub fn first(&self) -> IpInet
         ensures { result ≡ host_at first_host self.now }
     {
@@ -94,7 +94,7 @@ impl IpCidr {
         }
     }
 
-    /// The host of this length at the last address.
+    /// The host at the last address, with the prefix length of the network.
     pub fn last(&self) -> IpInet
         ensures { result ≡ host_at last_host self.now }
     {
@@ -104,11 +104,12 @@ impl IpCidr {
         }
     }
 
-    /// The walk over all its addresses, ascending, as hosts of this length. It holds exactly the addresses of its
-    /// family that begin with the network's bits.
+    /// The walk over all addresses of the network, ascending, as hosts with its prefix length. None is left out:
+    /// the network address and the broadcast address are among them.
     pub fn iter(&self) -> InetIterator<IpAddr>
         ensures walk { result ≡ network_hosts (network_family self.now) (network_prefix self.now) }
-        ensures exactly { (a : List Bool) → Contains (network_walk (network_family self.now) (network_prefix self.now)) a ↔ ((length a ≡ width_of (network_family self.now)) × BeginsWith a (network_prefix self.now)) }
+        ensures exactly { HasExactly (network_family self.now) (network_prefix self.now)
+            (network_walk (network_family self.now) (network_prefix self.now)) }
     {
         match self {
             IpCidr::V4(network) => InetIterator::_new(IpInetPair::V4(network.ends())),
@@ -116,10 +117,10 @@ impl IpCidr {
         }
     }
 
-    /// The length in bits, from 0 to 32 or to 128. The family is not counted.
+    /// The prefix length in bits, at most 32 in IPv4 and 128 in IPv6.
     pub fn network_length(&self) -> u8
         ensures value { result ≡ length (network_prefix self.now) }
-        ensures within { result ≤ width_of (network_family self.now) }
+        ensures fits { result ≤ width_of (network_family self.now) }
     {
         match self {
             IpCidr::V4(network) => network.network_length(),
@@ -137,7 +138,7 @@ impl IpCidr {
         }
     }
 
-    /// Whether the network is a single address.
+    /// Whether the network is a single address: whether the prefix length is full, 32 or 128.
     pub fn is_host_address(&self) -> bool
         ensures { IsTrue result ↔ IsLone self.now }
     {
@@ -147,7 +148,7 @@ impl IpCidr {
         }
     }
 
-    /// The mask: as many ones as the length says, then zeros.
+    /// The mask: as many set bits as the prefix length says, then zeros.
     pub fn mask(&self) -> IpAddr
         ensures { result ≡ address_by mask_of self.now }
     {
@@ -157,8 +158,8 @@ impl IpCidr {
         }
     }
 
-    /// Whether the address is in the network. No network holds an address of the other family: ::ffff:0:0/96 does
-    /// not contain 192.0.2.1.
+    /// Whether the address is in the network. No network contains an address of the other family: ::ffff:0.0.0.0/96
+    /// does not contain 192.0.2.1.
     pub fn contains(&self, addr: &IpAddr) -> bool
         ensures { IsTrue result ↔ BeginsWith (ip_address_bits addr.now) (network_bits self.now) }
     {
@@ -170,13 +171,13 @@ impl IpCidr {
     }
 
     /// Whether every address of the other network is in this one, which one of the other family never is.
-    #[tactic(auto, using(crate::proofs::CombinedLaws::holding_laws))]
+    #[tactic(auto, using(crate::proofs::EitherHolding::holding_laws))]
     pub fn contains_cidr(&self, other: &IpCidr) -> bool
         ensures begins { IsTrue result ↔ BeginsWith (network_bits other.now) (network_bits self.now) }
         ensures holds { IsTrue result ↔ HoldsAll IsAddressBits (network_bits self.now) (network_bits other.now) }
     {
         // the call tells the proof that the length is within the width
-        let _within = other.network_length();
+        let _fits = other.network_length();
         match (self, other) {
             (IpCidr::V4(network), IpCidr::V4(other)) => network.contains_cidr(other),
             (IpCidr::V6(network), IpCidr::V6(other)) => network.contains_cidr(other),
@@ -198,7 +199,8 @@ impl IpCidr {
         matches!(self, IpCidr::V6(_))
     }
 
-    /// The printed text, which leaves out a full length: at most 43 bytes.
+    /// The printed text, which leaves out a full prefix length: `192.0.2.48/28`, `192.0.2.1`, `2001:db8::/32`. It
+    /// has at most 43 bytes.
     pub fn to_text(&self) -> ArrayString<43>
         ensures text { result.bytes ≡ ip_network_text plain_text self.now }
         ensures len { length result.bytes ≤ 43 }
@@ -210,7 +212,8 @@ impl IpCidr {
         }
     }
 
-    /// The network as it is printed with its length, also where that is full: `192.0.2.1/32`.
+    /// The network, to be printed with its prefix length also where that is full: `192.0.2.1/32` or
+    /// `2001:db8::1/128`.
     pub fn with_length(&self) -> WithLength<IpCidr>
         ensures { result ≡ self.now }
     {
@@ -219,9 +222,9 @@ impl IpCidr {
 }
 
 impl WithLength<IpCidr> {
-    ghost use Rattle.cidr.specs.Printed.{forced_text};
+    ghost use Rattle.cidr.specs.texts.Printed.{forced_text};
 
-    /// The printed text with the length: at most 43 bytes.
+    /// The printed text, with the prefix length: at most 43 bytes.
     pub fn to_text(&self) -> ArrayString<43>
         ensures text { result.bytes ≡ ip_network_text forced_text self.now }
         ensures len { length result.bytes ≤ 43 }
@@ -235,7 +238,7 @@ impl WithLength<IpCidr> {
 }
 
 impl IntoIterator for IpCidr {
-    ghost use Rattle.cidr.specs.Walk.{network_hosts};
+    ghost use Rattle.cidr.specs.model.Walk.{network_hosts};
 
     type Item = IpInet;
 
@@ -265,7 +268,7 @@ impl From<Ipv6Cidr> for IpCidr {
 }
 
 impl From<Ipv4Addr> for IpCidr {
-    ghost from_gives = { λ a n. n ≡ V4 a };
+    ghost from_gives = { λ a n. (n ≡ V4 a) × IsLone n };
 
     fn from(address: Ipv4Addr) -> IpCidr {
         IpCidr::V4(Ipv4Cidr::new_host(address))
@@ -273,7 +276,7 @@ impl From<Ipv4Addr> for IpCidr {
 }
 
 impl From<Ipv6Addr> for IpCidr {
-    ghost from_gives = { λ a n. n ≡ V6 a };
+    ghost from_gives = { λ a n. (n ≡ V6 a) × IsLone n };
 
     fn from(address: Ipv6Addr) -> IpCidr {
         IpCidr::V6(Ipv6Cidr::new_host(address))
@@ -281,9 +284,9 @@ impl From<Ipv6Addr> for IpCidr {
 }
 
 impl From<IpAddr> for IpCidr {
-    ghost use Rattle.cidr.specs.Combined.{lone_network};
+    ghost use Rattle.cidr.specs.either.IpNetwork.{lone_network};
 
-    ghost from_gives = { λ a n. n ≡ lone_network a };
+    ghost from_gives = { λ a n. (n ≡ lone_network a) × IsLone n };
 
     fn from(address: IpAddr) -> IpCidr {
         IpCidr::new_host(address)
@@ -291,7 +294,7 @@ impl From<IpAddr> for IpCidr {
 }
 
 impl FromStr for IpCidr {
-    ghost use Rattle.cidr.specs.CombinedText.{ReadsIpNetwork};
+    ghost use Rattle.cidr.specs.either.IpText.{ReadsIpNetwork};
 
     type Err = NetworkParseError;
 
@@ -315,7 +318,7 @@ impl FromStr for IpCidr {
 }
 
 impl fmt::Display for IpCidr {
-    ghost use Rattle.cidr.specs.Printed.{plain_text};
+    ghost use Rattle.cidr.specs.texts.Printed.{plain_text};
 
     ghost output = { λ n. Some (ip_network_text plain_text n) };
 
@@ -325,7 +328,7 @@ impl fmt::Display for IpCidr {
 }
 
 impl fmt::Display for WithLength<IpCidr> {
-    ghost use Rattle.cidr.specs.Printed.{forced_text};
+    ghost use Rattle.cidr.specs.texts.Printed.{forced_text};
 
     ghost output = { λ n. Some (ip_network_text forced_text n) };
 

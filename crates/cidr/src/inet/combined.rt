@@ -1,30 +1,30 @@
 //! The host of either family.
 ghost use Rattle.std.specs.Prelude.{◌≡◌, ◌+◌, ◌-◌, ◌<◌, ◌≤◌, ◌↔◌, length, IsTrue, IfSome, Some};
-ghost use Rattle.cidr.specs.CombinedHost.{host_family, host_parts, host_by, lone_ip_host};
-ghost use Rattle.cidr.specs.CombinedText.{IsIpHostText, plain_ip_host_text, forced_ip_host_text};
-ghost use Rattle.cidr.specs.Host.{host_part, host_count, with_host_part};
-ghost use Rattle.cidr.specs.Network.{width_of};
+ghost use Rattle.cidr.specs.either.IpHost.{host_family, host_parts, host_by, lone_ip_host};
+ghost use Rattle.cidr.specs.either.IpText.{IsIpHostText, ip_host_text};
+ghost use Rattle.cidr.specs.model.Host.{host_part, host_count, with_host_part};
+ghost use Rattle.cidr.specs.model.Network.{width_of};
+ghost use Rattle.cidr.specs.texts.Printed.{plain_host_text, forced_host_text};
 ghost use Rattle.cidr.specs.declared.inet.combined.IpInet.TheVariants.{V4, V6};
 
 use crate::addr::ip::IpAddr;
 use crate::addr::v4::Ipv4Addr;
 use crate::addr::v6::Ipv6Addr;
 use crate::cidr::combined::IpCidr;
-use crate::cidr::print::WithLength;
-use crate::cidr::read::{cut_at_last_slash, read_length};
 use crate::errors::{NetworkLengthTooLongError, NetworkParseError};
 use crate::family::Family;
-use crate::inet::v4::Ipv4Inet;
-use crate::inet::v6::Ipv6Inet;
+use crate::inet::host::{Ipv4Inet, Ipv6Inet};
+use crate::text::read::{cut_at_last_slash, read_length};
+use crate::text::with_length::WithLength;
 use arrayvec::ArrayString;
 use std::fmt;
 use std::ops::{Add, Sub};
 use std::str::FromStr;
 
-/// An IPv4 or an IPv6 host.
+/// An IPv4 or an IPv6 host: an address in its network.
 ///
-/// Every IPv4 host comes before every IPv6 host, and those of one family are ordered by the address and then by
-/// the length. Steps stay in the network.
+/// All IPv4 hosts come before all IPv6 hosts, and those of one family are ordered by address and then by prefix
+/// length. Steps stay in the network.
 #[derive(Clone, Copy, Debug, PartialEq, Eq, PartialOrd, Ord, Hash)]
 pub enum IpInet {
     V4(Ipv4Inet),
@@ -32,16 +32,18 @@ pub enum IpInet {
 }
 
 impl IpInet {
-    ghost use Rattle.cidr.specs.Combined.{address_by, network_bits};
-    ghost use Rattle.cidr.specs.CombinedHost.{IsIpHost, IpWrapsUp, IpWrapsDown, ip_stepped_up, ip_stepped_down, neighbour_by, host_address, host_network, host_at, host_within};
-    ghost use Rattle.cidr.specs.Host.{first_host, last_host, next_of, previous_of};
-    ghost use Rattle.cidr.specs.IpAddress.{ip_address_bits};
-    ghost use Rattle.cidr.specs.Network.{first_of, last_of, mask_of, BeginsWith};
+    ghost use Rattle.cidr.specs.either.IpNetwork.{address_by, network_bits};
+    ghost use Rattle.cidr.specs.either.IpHost.{IsIpHost, IpWrapsUp, IpWrapsDown, ip_stepped_up, ip_stepped_down, neighbour_by, host_address, host_network, host_at, ip_host_from};
+    ghost use Rattle.cidr.specs.model.Host.{first_host, last_host, next_of, previous_of};
+    ghost use Rattle.cidr.specs.either.IpAddress.{ip_address_bits};
+    ghost use Rattle.cidr.specs.model.Network.{first_of, last_of, mask_of, BeginsWith};
     ghost use Rattle.cidr.specs.declared.family.Family.TheVariants.{Ipv4, Ipv6};
 
-    /// The host of an address in the network of its first `len` bits. Refuses a length above the width, 32 or 128.
+    /// The host of an address in the network of its first `len` bits, of its family.
+    ///
+    /// Refuses a prefix length above the width, 32 or 128, and nothing else.
     pub fn new(addr: IpAddr, len: u8) -> Result<IpInet, NetworkLengthTooLongError>
-        ensures { result ≡ host_within addr len }
+        ensures { result ≡ ip_host_from addr len }
     {
         match addr {
             IpAddr::V4(addr) => Ok(IpInet::V4(Ipv4Inet::new(addr, len)?)),
@@ -49,7 +51,7 @@ impl IpInet {
         }
     }
 
-    /// The host of full length: its network is this address alone.
+    /// The host of full prefix length, whose network is this address alone: 192.0.2.1/32 or 2001:db8::1/128.
     pub fn new_host(addr: IpAddr) -> IpInet
         ensures { result ≡ lone_ip_host addr }
     {
@@ -59,8 +61,8 @@ impl IpInet {
         }
     }
 
-    /// Steps to the next address of the network, or from the last one to the first, and then answers true:
-    /// 10.0.0.255/24 becomes 10.0.0.0/24.
+    /// Steps to the next address of the network. From the last one it wraps to the first, and returns true then:
+    /// 192.0.2.63/28 becomes 192.0.2.48/28, and 2001:db8::ffff/112 becomes 2001:db8::/112.
     pub fn increment(&mut self) -> bool
         ensures stepped { self.new ≡ ip_stepped_up self.old 1 }
         ensures wraps { IsTrue result ↔ IpWrapsUp self.old 1 }
@@ -71,7 +73,8 @@ impl IpInet {
         }
     }
 
-    /// Steps to the address before in the network, or from the first one to the last, and then answers true.
+    /// Steps to the previous address of the network. From the first one it wraps to the last, and returns true
+    /// then: 192.0.2.48/28 becomes 192.0.2.63/28, and 2001:db8::/112 becomes 2001:db8::ffff/112.
     pub fn decrement(&mut self) -> bool
         ensures stepped { self.new ≡ ip_stepped_down self.old 1 }
         ensures wraps { IsTrue result ↔ IpWrapsDown self.old 1 }
@@ -93,7 +96,7 @@ impl IpInet {
         }
     }
 
-    /// The host at the address before in the network, or `None` at the first one. `next` leads back.
+    /// The host at the previous address of the network, or `None` at the first one. `next` leads back.
     pub fn previous(self) -> Option<IpInet>
         ensures host { result ≡ neighbour_by previous_of self }
         ensures back { IfSome result (λ previous. neighbour_by next_of previous ≡ Some self) }
@@ -104,10 +107,10 @@ impl IpInet {
         }
     }
 
-    /// The host `step` addresses further in the network, going round from the last address to the first, and
-    /// whether it went round: 192.0.2.255/24 and 1 give 192.0.2.0/24 and true.
+    /// The host `step` addresses further in the network, and whether it wrapped from the last address to the first:
+    /// 192.0.2.50/28 and 14 give 192.0.2.48/28 and true.
     ///
-    /// Any step is exact, however large. Where the answer is false, `+` may be used as well.
+    /// Any step is exact, also one above the number of addresses. Where it does not wrap, `+` may be used as well.
     pub fn overflowing_add(self, step: u128) -> (IpInet, bool)
         ensures stepped { result.0 ≡ ip_stepped_up self step }
         ensures wraps { IsTrue result.1 ↔ IpWrapsUp self step }
@@ -126,10 +129,10 @@ impl IpInet {
         }
     }
 
-    /// The host `step` addresses before in the network, going round from the first address to the last, and
-    /// whether it went round: 10.0.0.7/29 and 8 give 10.0.0.7/29 and true.
+    /// The host `step` addresses back in the network, and whether it wrapped from the first address to the last:
+    /// 10.0.0.7/29 and 8 give 10.0.0.7/29 and true.
     ///
-    /// Any step is exact, however large. Where the answer is false, `-` may be used as well.
+    /// Any step is exact, also one above the number of addresses. Where it does not wrap, `-` may be used as well.
     pub fn overflowing_sub(self, step: u128) -> (IpInet, bool)
         ensures stepped { result.0 ≡ ip_stepped_down self step }
         ensures wraps { IsTrue result.1 ↔ IpWrapsDown self step }
@@ -148,7 +151,8 @@ impl IpInet {
         }
     }
 
-    /// The network, without the host part.
+    /// The network that the host is in: that of 192.0.2.50/28 is 192.0.2.48/28, and that of 2001:db8::5/32 is
+    /// 2001:db8::/32.
     pub fn network(&self) -> IpCidr
         ensures { result ≡ host_network self.now }
     {
@@ -158,7 +162,7 @@ impl IpInet {
         }
     }
 
-    /// The address.
+    /// The address, without the prefix length.
     pub fn address(&self) -> IpAddr
         ensures value { result ≡ host_address self.now }
         ensures width { length (host_parts self.now).address ≡ width_of (host_family self.now) }
@@ -169,7 +173,7 @@ impl IpInet {
         }
     }
 
-    /// The first address of the network, whose bits from the length on are zero.
+    /// The first address of the network, in which no bit after the prefix is set.
     pub fn first_address(&self) -> IpAddr
         ensures { result ≡ address_by first_of (host_network self.now) }
     {
@@ -179,7 +183,7 @@ impl IpInet {
         }
     }
 
-    /// The last address of the network, whose bits from the length on are one.
+    /// The last address of the network, in which all bits after the prefix are set.
     pub fn last_address(&self) -> IpAddr
         ensures { result ≡ address_by last_of (host_network self.now) }
     {
@@ -209,10 +213,10 @@ impl IpInet {
         }
     }
 
-    /// The length of the network in bits, from 0 to 32 or to 128. The family is not counted.
+    /// The prefix length in bits, at most 32 in IPv4 and 128 in IPv6.
     pub fn network_length(&self) -> u8
         ensures value { result ≡ (host_parts self.now).len }
-        ensures within { result ≤ width_of (host_family self.now) }
+        ensures fits { result ≤ width_of (host_family self.now) }
     {
         match self {
             IpInet::V4(host) => host.network_length(),
@@ -230,7 +234,7 @@ impl IpInet {
         }
     }
 
-    /// Whether the network is a single address.
+    /// Whether the network is a single address: whether the prefix length is full, 32 or 128.
     pub fn is_host_address(&self) -> bool
         ensures { IsTrue result ↔ ((host_parts self.now).len ≡ width_of (host_family self.now)) }
     {
@@ -240,7 +244,7 @@ impl IpInet {
         }
     }
 
-    /// The mask of the network: as many ones as the length says, then zeros.
+    /// The mask of the network: as many set bits as the prefix length says, then zeros.
     pub fn mask(&self) -> IpAddr
         ensures { result ≡ address_by mask_of (host_network self.now) }
     {
@@ -250,7 +254,7 @@ impl IpInet {
         }
     }
 
-    /// Whether the address is in the network. No network holds an address of the other family.
+    /// Whether the address is in the network of the host. No network contains an address of the other family.
     pub fn contains(&self, addr: &IpAddr) -> bool
         ensures { IsTrue result ↔ BeginsWith (ip_address_bits addr.now) (network_bits (host_network self.now)) }
     {
@@ -275,9 +279,10 @@ impl IpInet {
         matches!(self, IpInet::V6(_))
     }
 
-    /// The printed text, which keeps the host part and leaves out a full length: at most 43 bytes.
+    /// The printed text, which keeps the whole address and leaves out a full prefix length: `10.4.3.2/8`,
+    /// `10.4.3.2`, `2001:db8::5/32`. It has at most 43 bytes.
     pub fn to_text(&self) -> ArrayString<43>
-        ensures text { result.bytes ≡ plain_ip_host_text self.now }
+        ensures text { result.bytes ≡ ip_host_text plain_host_text self.now }
         ensures len { length result.bytes ≤ 43 }
         ensures spells { IsIpHostText result.bytes self.now }
     {
@@ -287,7 +292,7 @@ impl IpInet {
         }
     }
 
-    /// The host as it is printed with its length, also where that is full: `10.0.0.1/32`.
+    /// The host, to be printed with its prefix length also where that is full: `10.0.0.1/32` or `2001:db8::1/128`.
     pub fn with_length(&self) -> WithLength<IpInet>
         ensures { result ≡ self.now }
     {
@@ -296,9 +301,9 @@ impl IpInet {
 }
 
 impl WithLength<IpInet> {
-    /// The printed text with the length: at most 43 bytes.
+    /// The printed text, with the prefix length: at most 43 bytes.
     pub fn to_text(&self) -> ArrayString<43>
-        ensures text { result.bytes ≡ forced_ip_host_text self.now }
+        ensures text { result.bytes ≡ ip_host_text forced_host_text self.now }
         ensures len { length result.bytes ≤ 43 }
         ensures spells { IsIpHostText result.bytes self.now }
     {
@@ -326,7 +331,7 @@ impl From<Ipv6Inet> for IpInet {
 }
 
 impl From<Ipv4Addr> for IpInet {
-    ghost use Rattle.cidr.specs.Host.{lone_host};
+    ghost use Rattle.cidr.specs.model.Host.{lone_host};
 
     ghost from_gives = { λ a host. host ≡ V4 (lone_host 32 a) };
 
@@ -336,7 +341,7 @@ impl From<Ipv4Addr> for IpInet {
 }
 
 impl From<Ipv6Addr> for IpInet {
-    ghost use Rattle.cidr.specs.Host.{lone_host};
+    ghost use Rattle.cidr.specs.model.Host.{lone_host};
 
     ghost from_gives = { λ a host. host ≡ V6 (lone_host 128 a) };
 
@@ -354,7 +359,7 @@ impl From<IpAddr> for IpInet {
 }
 
 impl FromStr for IpInet {
-    ghost use Rattle.cidr.specs.CombinedText.{ReadsIpHost};
+    ghost use Rattle.cidr.specs.either.IpText.{ReadsIpHost};
 
     type Err = NetworkParseError;
 
@@ -378,7 +383,7 @@ impl FromStr for IpInet {
 }
 
 impl fmt::Display for IpInet {
-    ghost output = { λ h. Some (plain_ip_host_text h) };
+    ghost output = { λ h. Some (ip_host_text plain_host_text h) };
 
     fn fmt<W: fmt::Write>(&self, f: &mut fmt::Formatter<W>) -> fmt::Result {
         f.write_str(self.to_text().as_str())
@@ -386,14 +391,14 @@ impl fmt::Display for IpInet {
 }
 
 impl fmt::Display for WithLength<IpInet> {
-    ghost output = { λ h. Some (forced_ip_host_text h) };
+    ghost output = { λ h. Some (ip_host_text forced_host_text h) };
 
     fn fmt<W: fmt::Write>(&self, f: &mut fmt::Formatter<W>) -> fmt::Result {
         f.write_str(self.to_text().as_str())
     }
 }
 
-/// The host `step` addresses further. The step has to stay in the network, as `overflowing_add` tells.
+/// The host `step` addresses further. The step has to stay in the network; `overflowing_add` tells whether it does.
 impl Add<u128> for IpInet {
     type Output = IpInet;
 
@@ -409,7 +414,7 @@ impl Add<u128> for IpInet {
     }
 }
 
-/// The host `step` addresses before. The step has to stay in the network, as `overflowing_sub` tells.
+/// The host `step` addresses back. The step has to stay in the network; `overflowing_sub` tells whether it does.
 impl Sub<u128> for IpInet {
     type Output = IpInet;
 

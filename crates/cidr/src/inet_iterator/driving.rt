@@ -1,7 +1,7 @@
 //! Calls at both ends of a walk.
 ghost use Rattle.std.specs.Prelude.{◌≡◌, length, map, option_map};
-ghost use Rattle.cidr.specs.Seen.{in_family};
-ghost use Rattle.cidr.specs.Walk.{answers_to, without, fronts, backs};
+ghost use Rattle.cidr.specs.model.Views.{in_family};
+ghost use Rattle.cidr.specs.model.Walk.{answers_to, without, fronts, backs};
 
 use crate::inet_iterator::InetAddressIterator;
 use crate::traits::{Address, Inet, InetPair};
@@ -9,16 +9,17 @@ use crate::traits::{Address, Inet, InetPair};
 /// An end of a walk.
 #[derive(Clone, Copy)]
 pub enum End {
-    /// Where the walk begins: its least address that is left.
+    /// Where the walk begins: the least address that is left.
     Front,
-    /// Where the walk ends: its greatest address that is left.
+    /// Where the walk ends: the greatest address that is left.
     Back,
 }
 
-/// Makes one call for each of `ends`, and writes the answers in this order.
+/// Calls `next` for each `Front` of `ends` and `next_back` for each `Back`, and writes what they return to
+/// `answers`, in this order.
 ///
-/// The two slices have to be of one length. Over the walk of 1.2.3.0/30 front, back, back, front and front give
-/// 1.2.3.0, 1.2.3.3, 1.2.3.2, 1.2.3.1 and `None`.
+/// The two slices have to be of one length. Over the walk of 192.0.2.48/30, front, back, back, front and front give
+/// 192.0.2.48, 192.0.2.51, 192.0.2.50, 192.0.2.49 and `None`.
 pub fn drive<A: Address>(iter: &mut InetAddressIterator<A>, ends: &[End], answers: &mut [Option<A>])
 where
     A::InetPair: InetPair<Address = A>,

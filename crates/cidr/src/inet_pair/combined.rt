@@ -1,27 +1,24 @@
 //! The pair of addresses of either family.
 ghost use Rattle.std.specs.Prelude.{◌≡◌, ◌≤◌, ◌↔◌, length, IfOk, IsTrue, Some};
-ghost use Rattle.cidr.specs.CombinedPair.{pair_family, pair_parts, ip_pair_text};
-ghost use Rattle.cidr.specs.CombinedText.{plain_ip_host_text, forced_ip_host_text};
+ghost use Rattle.cidr.specs.either.IpPair.{pair_family, pair_parts, ip_pair_text};
+ghost use Rattle.cidr.specs.texts.Printed.{plain_host_text, forced_host_text};
 ghost use Rattle.cidr.specs.declared.inet_pair.combined.IpInetPair.TheVariants.{V4, V6};
 
 use crate::addr::ip::IpAddr;
 use crate::cidr::combined::IpCidr;
-use crate::cidr::print::WithLength;
 use crate::errors::InetTupleError;
 use crate::family::Family;
 use crate::inet::combined::IpInet;
 use crate::inet_iterator::InetIterator;
-use crate::inet_pair::print::parenthesized;
-use crate::inet_pair::v4::Ipv4InetPair;
-use crate::inet_pair::v6::Ipv6InetPair;
-use crate::internal_traits::markers::PrivInetPair;
-use crate::num::NumberOfAddresses;
+use crate::inet_pair::host_pair::{Ipv4InetPair, Ipv6InetPair};
+use crate::text::with_length::WithLength;
 use arrayvec::ArrayString;
 use std::fmt;
 
-/// Two addresses of one family and the length of a network that holds both.
+/// Two addresses of one IPv4 or IPv6 network, and the prefix length of that network.
 ///
-/// The first may be above the second. The walk goes from the first to the second, both counted.
+/// The walk goes from the first to the second, both counted. The first may be above the second; the walk is empty
+/// then.
 #[derive(Clone, Copy, Debug, PartialEq, Eq, Hash)]
 pub enum IpInetPair {
     V4(Ipv4InetPair),
@@ -29,18 +26,20 @@ pub enum IpInetPair {
 }
 
 impl IpInetPair {
-    ghost use Rattle.cidr.specs.CombinedHost.{host_family, host_parts};
-    ghost use Rattle.cidr.specs.CombinedPair.{pair_host, pair_network};
-    ghost use Rattle.cidr.specs.IpAddress.{address_family, plain_bits};
-    ghost use Rattle.cidr.specs.Network.{width_of};
-    ghost use Rattle.cidr.specs.Pair.{IsPair, first_of_pair, second_of_pair, pair_of, pair_from, pair_within};
-    ghost use Rattle.cidr.specs.Seen.{seen};
-    ghost use Rattle.cidr.specs.Walk.{pair_hosts};
+    ghost use Rattle.cidr.specs.either.IpHost.{host_family, host_parts};
+    ghost use Rattle.cidr.specs.either.IpPair.{pair_host, pair_network};
+    ghost use Rattle.cidr.specs.either.IpAddress.{address_family, plain_bits};
+    ghost use Rattle.cidr.specs.model.Network.{width_of};
+    ghost use Rattle.cidr.specs.model.Pair.{IsPair, first_of_pair, second_of_pair, pair_of, pair_from, of_one_family};
+    ghost use Rattle.cidr.specs.model.Views.{seen};
+    ghost use Rattle.cidr.specs.model.Walk.{pair_hosts};
     ghost use Rattle.cidr.specs.declared.family.Family.TheVariants.{Ipv4, Ipv6};
 
-    /// The pair of two hosts. Refuses hosts of different families, lengths or networks.
+    /// The pair of two hosts. Refuses hosts of different families, of different prefix lengths, and of different
+    /// networks.
     pub fn new(first: IpInet, second: IpInet) -> Result<IpInetPair, InetTupleError>
-        ensures value { seen pair_parts result ≡ pair_within (host_family first) (host_family second) (pair_of (host_parts first) (host_parts second)) }
+        ensures value { seen pair_parts result ≡
+            of_one_family (host_family first) (host_family second) (pair_of (host_parts first) (host_parts second)) }
         ensures family { IfOk result (λ pair. pair_family pair ≡ host_family first) }
     {
         match (&first, &second) {
@@ -54,16 +53,18 @@ impl IpInetPair {
         }
     }
 
-    /// The pair of two addresses and a length.
+    /// The pair of two addresses in a network of this prefix length.
     ///
-    /// Refuses two families, whatever the length; then a length above the width, 32 or 128; then addresses whose
-    /// first `len` bits differ.
+    /// Refuses two families, whatever the prefix length; then a prefix length above the width, 32 or 128; then
+    /// addresses whose first `len` bits differ.
     pub fn new_from_addresses(
         first: IpAddr,
         second: IpAddr,
         len: u8,
     ) -> Result<IpInetPair, InetTupleError>
-        ensures value { seen pair_parts result ≡ pair_within (address_family first) (address_family second) (pair_from (width_of (address_family first)) (address_family first) (plain_bits first) (plain_bits second) len) }
+        ensures value { seen pair_parts result ≡
+            of_one_family (address_family first) (address_family second)
+            (pair_from (address_family first) (plain_bits first) (plain_bits second) len) }
         ensures family { IfOk result (λ pair. pair_family pair ≡ address_family first) }
     {
         match (&first, &second) {
@@ -79,7 +80,7 @@ impl IpInetPair {
         }
     }
 
-    /// The first address, as a host of this length.
+    /// The first address, as a host with the prefix length of the pair.
     pub fn first(&self) -> IpInet
         ensures value { result ≡ pair_host first_of_pair self.now }
         ensures pair { IsPair (width_of (pair_family self.now)) (pair_parts self.now) }
@@ -90,7 +91,7 @@ impl IpInetPair {
         }
     }
 
-    /// The second address, as a host of this length.
+    /// The second address, as a host with the prefix length of the pair.
     pub fn second(&self) -> IpInet
         ensures value { result ≡ pair_host second_of_pair self.now }
         ensures pair { IsPair (width_of (pair_family self.now)) (pair_parts self.now) }
@@ -101,7 +102,7 @@ impl IpInetPair {
         }
     }
 
-    /// The network that holds both.
+    /// The network that both addresses are in.
     pub fn network(&self) -> IpCidr
         ensures { result ≡ pair_network self.now }
     {
@@ -111,10 +112,10 @@ impl IpInetPair {
         }
     }
 
-    /// The length of the network in bits, from 0 to 32 or to 128. The family is not counted.
+    /// The prefix length in bits, at most 32 in IPv4 and 128 in IPv6.
     pub fn network_length(&self) -> u8
         ensures value { result ≡ (pair_parts self.now).len }
-        ensures within { result ≤ width_of (pair_family self.now) }
+        ensures fits { result ≤ width_of (pair_family self.now) }
     {
         match self {
             IpInetPair::V4(pair) => pair.network_length(),
@@ -146,26 +147,27 @@ impl IpInetPair {
         matches!(self, IpInetPair::V6(_))
     }
 
-    /// The walk from the first address to the second, both counted, as hosts of this length. It is empty where the
-    /// first is above the second.
+    /// The walk from the first address to the second, both counted, ascending, as hosts with the prefix length of
+    /// the pair. It is empty where the first is above the second.
     pub fn iter(self) -> InetIterator<IpAddr>
         ensures { result ≡ pair_hosts (pair_family self) (pair_parts self) }
     {
         InetIterator::_new(self)
     }
 
-    /// The printed text, `(10.0.0.1/8, 10.0.0.3/8)`, which leaves out a full length: at most 90 bytes.
+    /// The printed text, both hosts in parentheses, which leaves out a full prefix length:
+    /// `(10.0.0.1/8, 10.0.0.3/8)` or `(2001:db8::1, 2001:db8::1)`. It has at most 90 bytes.
     pub fn to_text(&self) -> ArrayString<90>
-        ensures text { result.bytes ≡ ip_pair_text plain_ip_host_text self.now }
+        ensures text { result.bytes ≡ ip_pair_text plain_host_text self.now }
         ensures len { length result.bytes ≤ 90 }
     {
-        parenthesized(
-            self.first().to_text().as_str(),
-            self.second().to_text().as_str(),
-        )
+        match self {
+            IpInetPair::V4(pair) => pair.to_text(),
+            IpInetPair::V6(pair) => pair.to_text(),
+        }
     }
 
-    /// The pair as it is printed with the lengths, also where they are full.
+    /// The pair, to be printed with its prefix lengths also where they are full.
     pub fn with_length(&self) -> WithLength<IpInetPair>
         ensures { result ≡ self.now }
     {
@@ -174,46 +176,20 @@ impl IpInetPair {
 }
 
 impl WithLength<IpInetPair> {
-    /// The printed text with the lengths: at most 90 bytes.
+    /// The printed text, with the prefix lengths: at most 90 bytes.
     pub fn to_text(&self) -> ArrayString<90>
-        ensures text { result.bytes ≡ ip_pair_text forced_ip_host_text self.now }
+        ensures text { result.bytes ≡ ip_pair_text forced_host_text self.now }
         ensures len { length result.bytes ≤ 90 }
     {
-        let first = self.get().first().with_length();
-        let second = self.get().second().with_length();
-        parenthesized(first.to_text().as_str(), second.to_text().as_str())
-    }
-}
-
-impl PrivInetPair for IpInetPair {
-    ghost family_of = { pair_family };
-
-    ghost pair = { pair_parts };
-
-    fn _covered_addresses(&self) -> NumberOfAddresses {
-        match self {
-            IpInetPair::V4(pair) => pair._covered_addresses(),
-            IpInetPair::V6(pair) => pair._covered_addresses(),
-        }
-    }
-
-    fn _inc_first(&mut self) -> bool {
-        match self {
-            IpInetPair::V4(pair) => pair._inc_first(),
-            IpInetPair::V6(pair) => pair._inc_first(),
-        }
-    }
-
-    fn _dec_second(&mut self) -> bool {
-        match self {
-            IpInetPair::V4(pair) => pair._dec_second(),
-            IpInetPair::V6(pair) => pair._dec_second(),
+        match self.get() {
+            IpInetPair::V4(pair) => pair.with_length().to_text(),
+            IpInetPair::V6(pair) => pair.with_length().to_text(),
         }
     }
 }
 
 impl IntoIterator for IpInetPair {
-    ghost use Rattle.cidr.specs.Walk.{pair_hosts};
+    ghost use Rattle.cidr.specs.model.Walk.{pair_hosts};
 
     type Item = IpInet;
 
@@ -243,7 +219,7 @@ impl From<Ipv6InetPair> for IpInetPair {
 }
 
 impl fmt::Display for IpInetPair {
-    ghost output = { λ p. Some (ip_pair_text plain_ip_host_text p) };
+    ghost output = { λ p. Some (ip_pair_text plain_host_text p) };
 
     fn fmt<W: fmt::Write>(&self, f: &mut fmt::Formatter<W>) -> fmt::Result {
         f.write_str(self.to_text().as_str())
@@ -251,7 +227,7 @@ impl fmt::Display for IpInetPair {
 }
 
 impl fmt::Display for WithLength<IpInetPair> {
-    ghost output = { λ p. Some (ip_pair_text forced_ip_host_text p) };
+    ghost output = { λ p. Some (ip_pair_text forced_host_text p) };
 
     fn fmt<W: fmt::Write>(&self, f: &mut fmt::Formatter<W>) -> fmt::Result {
         f.write_str(self.to_text().as_str())

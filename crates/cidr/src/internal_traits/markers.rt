@@ -2,10 +2,10 @@
 //!
 //! No other crate can name these traits, so that no other type implements the four.
 ghost use Rattle.std.specs.Prelude.{◌≡◌, ◌≤◌, ◌↔◌, List, Bool, false, length, IsTrue};
-ghost use Rattle.cidr.specs.Host.{Host};
-ghost use Rattle.cidr.specs.Pair.{Pair};
-ghost use Rattle.cidr.specs.Counted.{number_of};
-ghost use Rattle.cidr.specs.Walk.{pair_walk, LosesFirst, LosesLast};
+ghost use Rattle.cidr.specs.model.Host.{Host};
+ghost use Rattle.cidr.specs.model.Pair.{Pair};
+ghost use Rattle.cidr.specs.model.Counted.{number_of};
+ghost use Rattle.cidr.specs.model.Walk.{pair_walk, LosesFirst, LosesLast};
 ghost use Rattle.cidr.specs.declared.family.Family.{Family};
 
 use crate::num::NumberOfAddresses;
@@ -60,17 +60,21 @@ pub trait PrivInetPair: Drop {
     fn _covered_addresses(&self) -> NumberOfAddresses
         ensures { number_of result ≡ length (pair_walk (family_of self.now) (pair self.now)) };
 
-    /// Drops the first address of a walk of two or more. Else it answers false and changes nothing.
+    /// Drops the first address of a walk of two or more. Else it returns false and changes nothing.
     fn _inc_first(&mut self) -> bool
         ensures more { IsTrue result ↔ (2 ≤ length (pair_walk (family_of self.old) (pair self.old))) }
-        ensures walk { LosesFirst result (pair_walk (family_of self.old) (pair self.old)) (pair_walk (family_of self.new) (pair self.new)) }
-        ensures kept { (family_of self.new ≡ family_of self.old) × ((pair self.new).second ≡ (pair self.old).second) × ((pair self.new).len ≡ (pair self.old).len) }
+        ensures walk { LosesFirst result (pair_walk (family_of self.old) (pair self.old))
+            (pair_walk (family_of self.new) (pair self.new)) }
+        ensures kept { (family_of self.new ≡ family_of self.old) × ((pair self.new).second ≡ (pair self.old).second) ×
+            ((pair self.new).len ≡ (pair self.old).len) }
         ensures unchanged { (result ≡ false) → self.new ≡ self.old };
 
-    /// Drops the last address of a walk of two or more. Else it answers false and changes nothing.
+    /// Drops the last address of a walk of two or more. Else it returns false and changes nothing.
     fn _dec_second(&mut self) -> bool
         ensures more { IsTrue result ↔ (2 ≤ length (pair_walk (family_of self.old) (pair self.old))) }
-        ensures walk { LosesLast result (pair_walk (family_of self.old) (pair self.old)) (pair_walk (family_of self.new) (pair self.new)) }
-        ensures kept { (family_of self.new ≡ family_of self.old) × ((pair self.new).first ≡ (pair self.old).first) × ((pair self.new).len ≡ (pair self.old).len) }
+        ensures walk { LosesLast result (pair_walk (family_of self.old) (pair self.old))
+            (pair_walk (family_of self.new) (pair self.new)) }
+        ensures kept { (family_of self.new ≡ family_of self.old) × ((pair self.new).first ≡ (pair self.old).first) ×
+            ((pair self.new).len ≡ (pair self.old).len) }
         ensures unchanged { (result ≡ false) → self.new ≡ self.old };
 }

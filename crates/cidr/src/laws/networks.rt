@@ -1,13 +1,15 @@
 //! What holds of networks and of their texts, each as the contract of a function that does nothing.
-ghost use Rattle.cidr.specs.AddressText.{IsIpv4Text};
-ghost use Rattle.cidr.specs.Combined.{network_bits, any_bits};
-ghost use Rattle.cidr.specs.CombinedText.{IsIpNetworkText, IsAnyNetworkText};
-ghost use Rattle.cidr.specs.IpAddress.{IsOrderOfBits, SpellsOne};
-ghost use Rattle.cidr.specs.Ipv6Text.{IsIpv6Text};
-ghost use Rattle.cidr.specs.NetworkText.{IsNetworkText};
+ghost use Rattle.cidr.specs.model.Network.{FitsWidth, IsHashedApart};
+ghost use Rattle.cidr.specs.either.IpNetwork.{network_bits, any_bits, IsIpNetwork, IsAnyNetwork};
+ghost use Rattle.cidr.specs.either.IpText.{IsIpNetworkText, IsAnyNetworkText};
+ghost use Rattle.cidr.specs.either.IpAddress.{IsOrderOfBits, SpellsOne, TellsEqual, TiesEqual};
+ghost use Rattle.cidr.specs.texts.NetworkText.{IsNetworkText};
+ghost use Rattle.cidr.specs.declared.family.Family.TheVariants.{Ipv4, Ipv6};
 
 use crate::cidr::any::AnyIpCidr;
 use crate::cidr::combined::IpCidr;
+use crate::cidr::network::{Ipv4Cidr, Ipv6Cidr};
+use std::hash::Hash;
 
 /// The order of networks of both families is the lexicographic order of their bits, with the family bit in front.
 pub fn order_is_by_family_and_bits()
@@ -19,10 +21,30 @@ pub fn order_begins_with_any()
     ensures { IsOrderOfBits any_bits ⟦<AnyIpCidr as Ord>⟧.cmp }
 {}
 
+/// Networks of either family are equal, and tie in their order, exactly where they are the same.
+pub fn equal_networks_are_the_same()
+    ensures eq { TellsEqual ⟦<IpCidr as PartialEq>⟧.eq }
+    ensures cmp { TiesEqual ⟦<IpCidr as Ord>⟧.cmp }
+{}
+
+/// The same with `Any`.
+pub fn equal_networks_or_any_are_the_same()
+    ensures eq { TellsEqual ⟦<AnyIpCidr as PartialEq>⟧.eq }
+    ensures cmp { TiesEqual ⟦<AnyIpCidr as Ord>⟧.cmp }
+{}
+
+/// Equal hash inputs come from equal networks.
+pub fn equal_hash_inputs_are_of_equal_networks()
+    ensures ipv4 { IsHashedApart (FitsWidth 32) ⟦<Ipv4Cidr as Hash>⟧.hash_input }
+    ensures ipv6 { IsHashedApart (FitsWidth 128) ⟦<Ipv6Cidr as Hash>⟧.hash_input }
+    ensures ip { IsHashedApart IsIpNetwork ⟦<IpCidr as Hash>⟧.hash_input }
+    ensures any { IsHashedApart IsAnyNetwork ⟦<AnyIpCidr as Hash>⟧.hash_input }
+{}
+
 /// A text spells one network at most.
 pub fn network_text_spells_one()
-    ensures ipv4 { SpellsOne (IsNetworkText 32 IsIpv4Text) }
-    ensures ipv6 { SpellsOne (IsNetworkText 128 IsIpv6Text) }
+    ensures ipv4 { SpellsOne (IsNetworkText Ipv4) }
+    ensures ipv6 { SpellsOne (IsNetworkText Ipv6) }
     ensures ip { SpellsOne IsIpNetworkText }
     ensures any { SpellsOne IsAnyNetworkText }
 {}

@@ -1,7 +1,4 @@
 //! The types of either family by the traits.
-ghost use Rattle.cidr.specs.Combined.{network_family, network_prefix};
-ghost use Rattle.cidr.specs.CombinedHost.{host_family, host_parts};
-ghost use Rattle.cidr.specs.IpAddress.{address_family, plain_bits};
 
 use crate::addr::ip::IpAddr;
 use crate::cidr::combined::IpCidr;
@@ -10,16 +7,7 @@ use crate::family::Family;
 use crate::inet::combined::IpInet;
 use crate::inet_iterator::InetIterator;
 use crate::inet_pair::combined::IpInetPair;
-use crate::internal_traits::markers::{IpAddrTools, PrivCidr, PrivInet, PrivUnspecAddress};
 use crate::traits::{Address, Cidr, Inet, InetPair};
-
-impl PrivUnspecAddress for IpAddr {
-    type _Tools = IpAddrTools;
-
-    ghost family_of = { address_family };
-
-    ghost bits = { plain_bits };
-}
 
 impl Address for IpAddr {
     type Inet = IpInet;
@@ -27,12 +15,6 @@ impl Address for IpAddr {
     type Cidr = IpCidr;
 
     type InetPair = IpInetPair;
-}
-
-impl PrivCidr for IpCidr {
-    ghost family_of = { network_family };
-
-    ghost prefix = { network_prefix };
 }
 
 impl Cidr for IpCidr {
@@ -85,12 +67,6 @@ impl Cidr for IpCidr {
     fn contains(&self, addr: &IpAddr) -> bool {
         self.contains(addr)
     }
-}
-
-impl PrivInet for IpInet {
-    ghost family_of = { host_family };
-
-    ghost host = { host_parts };
 }
 
 impl Inet for IpInet {

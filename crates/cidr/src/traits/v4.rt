@@ -1,23 +1,13 @@
 //! The IPv4 types by the traits.
-ghost use Rattle.cidr.specs.declared.family.Family.TheVariants.{Ipv4};
 
 use crate::addr::v4::Ipv4Addr;
-use crate::cidr::v4::Ipv4Cidr;
+use crate::cidr::network::Ipv4Cidr;
 use crate::errors::{InetTupleError, NetworkLengthTooLongError, NetworkParseError};
 use crate::family::Family;
-use crate::inet::v4::Ipv4Inet;
+use crate::inet::host::Ipv4Inet;
 use crate::inet_iterator::InetIterator;
-use crate::inet_pair::v4::Ipv4InetPair;
-use crate::internal_traits::markers::{Ipv4AddrTools, PrivCidr, PrivInet, PrivUnspecAddress};
+use crate::inet_pair::host_pair::Ipv4InetPair;
 use crate::traits::{Address, Cidr, Inet, InetPair};
-
-impl PrivUnspecAddress for Ipv4Addr {
-    type _Tools = Ipv4AddrTools;
-
-    ghost family_of = { λ _. Ipv4 };
-
-    ghost bits = { λ a. a };
-}
 
 impl Address for Ipv4Addr {
     type Inet = Ipv4Inet;
@@ -27,13 +17,7 @@ impl Address for Ipv4Addr {
     type InetPair = Ipv4InetPair;
 }
 
-impl PrivCidr for Ipv4Cidr {
-    ghost family_of = { λ _. Ipv4 };
-
-    ghost prefix = { λ n. n };
-}
-
-#[tactic(auto, using(crate::proofs::SeenLaws::seen_laws))]
+#[tactic(auto, using(crate::proofs::Views::view_laws))]
 impl Cidr for Ipv4Cidr {
     type Address = Ipv4Addr;
 
@@ -86,13 +70,7 @@ impl Cidr for Ipv4Cidr {
     }
 }
 
-impl PrivInet for Ipv4Inet {
-    ghost family_of = { λ _. Ipv4 };
-
-    ghost host = { λ h. h };
-}
-
-#[tactic(auto, using(crate::proofs::SeenLaws::seen_laws))]
+#[tactic(auto, using(crate::proofs::Views::view_laws))]
 impl Inet for Ipv4Inet {
     type Address = Ipv4Addr;
 
@@ -173,7 +151,7 @@ impl Inet for Ipv4Inet {
     }
 }
 
-#[tactic(auto, using(crate::proofs::SeenLaws::seen_laws))]
+#[tactic(auto, using(crate::proofs::Views::view_laws))]
 impl InetPair for Ipv4InetPair {
     type Address = Ipv4Addr;
 

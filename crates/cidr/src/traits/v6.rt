@@ -1,23 +1,13 @@
 //! The IPv6 types by the traits.
-ghost use Rattle.cidr.specs.declared.family.Family.TheVariants.{Ipv6};
 
 use crate::addr::v6::Ipv6Addr;
-use crate::cidr::v6::Ipv6Cidr;
+use crate::cidr::network::Ipv6Cidr;
 use crate::errors::{InetTupleError, NetworkLengthTooLongError, NetworkParseError};
 use crate::family::Family;
-use crate::inet::v6::Ipv6Inet;
+use crate::inet::host::Ipv6Inet;
 use crate::inet_iterator::InetIterator;
-use crate::inet_pair::v6::Ipv6InetPair;
-use crate::internal_traits::markers::{Ipv6AddrTools, PrivCidr, PrivInet, PrivUnspecAddress};
+use crate::inet_pair::host_pair::Ipv6InetPair;
 use crate::traits::{Address, Cidr, Inet, InetPair};
-
-impl PrivUnspecAddress for Ipv6Addr {
-    type _Tools = Ipv6AddrTools;
-
-    ghost family_of = { λ _. Ipv6 };
-
-    ghost bits = { λ a. a };
-}
 
 impl Address for Ipv6Addr {
     type Inet = Ipv6Inet;
@@ -27,13 +17,7 @@ impl Address for Ipv6Addr {
     type InetPair = Ipv6InetPair;
 }
 
-impl PrivCidr for Ipv6Cidr {
-    ghost family_of = { λ _. Ipv6 };
-
-    ghost prefix = { λ n. n };
-}
-
-#[tactic(auto, using(crate::proofs::SeenLaws::seen_laws))]
+#[tactic(auto, using(crate::proofs::Views::view_laws))]
 impl Cidr for Ipv6Cidr {
     type Address = Ipv6Addr;
 
@@ -86,13 +70,7 @@ impl Cidr for Ipv6Cidr {
     }
 }
 
-impl PrivInet for Ipv6Inet {
-    ghost family_of = { λ _. Ipv6 };
-
-    ghost host = { λ h. h };
-}
-
-#[tactic(auto, using(crate::proofs::SeenLaws::seen_laws))]
+#[tactic(auto, using(crate::proofs::Views::view_laws))]
 impl Inet for Ipv6Inet {
     type Address = Ipv6Addr;
 
@@ -173,7 +151,7 @@ impl Inet for Ipv6Inet {
     }
 }
 
-#[tactic(auto, using(crate::proofs::SeenLaws::seen_laws))]
+#[tactic(auto, using(crate::proofs::Views::view_laws))]
 impl InetPair for Ipv6InetPair {
     type Address = Ipv6Addr;
 

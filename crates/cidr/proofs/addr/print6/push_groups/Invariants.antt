@@ -1,3 +1,4 @@
+-- The groups so far are printed.
 use Rattle.std.proofs.Common.{◌≡◌, ◌+◌, ◌*◌, ◌≤◌, ◌∷◌, ◌++◌, length, get_or, take}
 use Rattle.std.specs.Net.Text.{groups_text}
 use Rattle.cidr.proofs.addr.print6.push_groups.Given as goal

@@ -1,3 +1,4 @@
+-- The run found so far is the longest from here on, and the first of that length.
 use Rattle.std.proofs.Common.{◌≡◌, ◌+◌, ◌≤◌, length, drop}
 use Rattle.std.specs.Net.Text.{zero_run, longest_zero_run}
 use Rattle.cidr.proofs.addr.print6.zero_run.Given as goal

@@ -1,3 +1,4 @@
+-- An IPv4 text is four octets joined by dots, and each way out of the reader finds one missing.
 use Rattle.std.proofs.Common.{refl, [], ◌∷◌}
 use Rattle.cidr.proofs.OctetReading.{four_joined, ipv4_spelled}
 use Rattle.cidr.proofs.addr.read.read_ipv4.Goals as goal

@@ -1,3 +1,4 @@
+-- The last octet ends the text.
 use Rattle.std.proofs.Common.{rules}
 use Rattle.cidr.proofs.OctetReading.{whole_octet, not_whole, whole_none}
 use Rattle.cidr.proofs.addr.read.read_octet.Goals as goal

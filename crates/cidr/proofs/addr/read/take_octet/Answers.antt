@@ -1,3 +1,4 @@
+-- An octet of one, two or three digits, by where its digits end.
 use Rattle.cidr.proofs.OctetReading.{zero_octet, short_octet, middle_octet, long_octet, large_octet}
 use Rattle.std.proofs.Common.{arith}
 use Rattle.cidr.proofs.addr.read.take_octet.Goals as goal

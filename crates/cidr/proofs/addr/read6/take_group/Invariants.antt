@@ -1,3 +1,4 @@
+-- The digits so far write this number.
 use Rattle.cidr.proofs.GroupReading.{HasGroup}
 use Rattle.std.proofs.Common.{◌≡◌}
 use Rattle.cidr.proofs.addr.read6.take_group.Given as goal

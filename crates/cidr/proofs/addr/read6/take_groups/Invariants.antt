@@ -1,3 +1,4 @@
+-- The groups so far were read.
 use Rattle.std.proofs.Common.{◌-◌}
 use Rattle.cidr.proofs.Ipv6Reading.{ReadsOn}
 use Rattle.cidr.proofs.addr.read6.take_groups.Given as goal

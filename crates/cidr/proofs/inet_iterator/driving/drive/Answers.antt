@@ -1,5 +1,6 @@
+-- One more call, at the front or at the back, gives the next of the answers.
 use Rattle.std.proofs.Common.{◌<◌, length, arith}
-use Rattle.cidr.specs.Seen.{in_family}
+use Rattle.cidr.specs.model.Views.{in_family}
 use Rattle.cidr.proofs.Driven.{front_turn, back_turn}
 use Rattle.cidr.proofs.inet_iterator.driving.drive.Goals as goal
 use Rattle.cidr.proofs.inet_iterator.driving.drive.Goals.{in-Front, in-Back}

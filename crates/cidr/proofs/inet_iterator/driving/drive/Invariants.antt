@@ -1,5 +1,6 @@
+-- The calls so far gave their answers, and the rest is left.
 use Rattle.std.proofs.Common.{map, option_map, take, drop}
-use Rattle.cidr.specs.Seen.{in_family}
+use Rattle.cidr.specs.model.Views.{in_family}
 use Rattle.cidr.proofs.Driven.{Driven}
 use Rattle.cidr.proofs.inet_iterator.driving.drive.Given as goal
 

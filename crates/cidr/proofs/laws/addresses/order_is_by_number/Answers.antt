@@ -1,4 +1,5 @@
-use Rattle.cidr.specs.BitLaws.{bit_cmp-numbers}
+-- Lists of one length are ordered as their numbers.
+use Rattle.cidr.specs.laws.BitLaws.{bit_cmp-numbers}
 use Rattle.cidr.proofs.laws.addresses.order_is_by_number.Goals as goal
 
 pub returns : goal.returns

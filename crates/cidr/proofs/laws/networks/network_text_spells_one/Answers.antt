@@ -1,14 +1,13 @@
-use Rattle.cidr.specs.AddressText.{IsIpv4Text}
-use Rattle.cidr.specs.Ipv6Text.{IsIpv6Text}
-use Rattle.cidr.proofs.CombinedOne.{one_ip_network, one_any_network}
-use Rattle.cidr.proofs.Ipv6Grammar.{ipv6_grammar}
-use Rattle.cidr.proofs.TextLaws.{ipv4_grammar, one_network}
+-- A text spells one network at most.
+use Rattle.cidr.specs.declared.family.Family.TheVariants.{Ipv4, Ipv6}
+use Rattle.cidr.proofs.EitherTexts.{one_ip_network, one_any_network}
+use Rattle.cidr.proofs.NetworkTexts.{one_network}
 use Rattle.cidr.proofs.laws.networks.network_text_spells_one.Goals as goal
 
 pub returns : goal.returns
 returns c = record {
-  ipv4 = one_network 32 IsIpv4Text ipv4_grammar;
-  ipv6 = one_network 128 IsIpv6Text ipv6_grammar;
+  ipv4 = one_network Ipv4;
+  ipv6 = one_network Ipv6;
   ip = one_ip_network;
   any = one_any_network;
 }

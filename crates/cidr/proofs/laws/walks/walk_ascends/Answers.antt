@@ -1,3 +1,4 @@
+-- A walk ascends.
 use Rattle.cidr.proofs.WalkOrder.{walk_ascends-law}
 use Rattle.cidr.proofs.laws.walks.walk_ascends.Goals as goal
 

@@ -1,3 +1,4 @@
+-- 2^128 in decimal.
 use Rattle.std.specs.Fmt.{digits}
 use Rattle.cidr.proofs.num.NumberOfAddressesDisplay.fmt.Goals as goal
 

@@ -1,6 +1,7 @@
+-- The four octets of the address, in decimal with dots between them.
 use Rattle.std.proofs.Common.{arith}
-use Rattle.cidr.specs.Printed.{ipv4_text}
-use Rattle.cidr.proofs.PrintedLaws.{dotted_pushed}
+use Rattle.cidr.specs.texts.PrintedAddress.{ipv4_text}
+use Rattle.cidr.proofs.Ipv4Printing.{dotted_pushed}
 use Rattle.cidr.proofs.addr.v4.Ipv4Addr.push_to.Goals as goal
 
 pub returns-clause-bytes : goal.returns-clause-bytes

@@ -1,3 +1,4 @@
+-- Reading an IPv4 address refuses exactly the texts that spell none.
 use Rattle.cidr.proofs.addr.v4.Ipv4AddrFromStr.from_str.Goals as goal
 
 pub returns-in-None : goal.returns-in-None

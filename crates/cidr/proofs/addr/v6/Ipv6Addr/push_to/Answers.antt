@@ -1,7 +1,8 @@
+-- A mapped address is printed with its IPv4 part, every other one in groups.
 use Rattle.std.proofs.Common.{sym, ap, ◌∙◌, ◌++◌, append_assoc, take, bytes_eq, codes}
-use Rattle.cidr.specs.Canonical.{mapped_groups}
+use Rattle.cidr.specs.texts.Canonical.{mapped_groups}
 use Rattle.cidr.proofs.GroupParts.{low_bits}
-use Rattle.cidr.proofs.CanonicalLaws.{printed_mapped, printed_groups_alone}
+use Rattle.cidr.proofs.Ipv6Printing.{printed_mapped, printed_groups_alone}
 use Rattle.cidr.proofs.addr.v6.Ipv6Addr.push_to.Goals as goal
 
 pub returns-then-is_mapped-clause-bytes : goal.returns-then-is_mapped-clause-bytes

@@ -1,4 +1,5 @@
-use Rattle.cidr.proofs.CanonicalLaws.{one_canonical}
+-- The printed text is the only canonical one.
+use Rattle.cidr.proofs.Ipv6Printing.{one_canonical}
 use Rattle.cidr.proofs.addr.v6.Ipv6Addr.to_text.Goals as goal
 
 pub returns-clause-only : goal.returns-clause-only

@@ -1,5 +1,6 @@
+-- The octets of the array, in order.
 use Rattle.std.proofs.Common.{◌≡◌, ◌<◌, ◌∙◌, ℕ, length, get_or, rules, ap}
-use Rattle.cidr.specs.Bits.{bits}
+use Rattle.cidr.specs.model.Bits.{bits}
 use Rattle.cidr.proofs.OctetRows.{bits-sixteen_octets}
 use Rattle.cidr.proofs.addr.v6.Ipv6AddrFromArrayU816.from.Goals as goal
 

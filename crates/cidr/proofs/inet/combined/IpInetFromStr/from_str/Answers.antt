@@ -1,6 +1,7 @@
+-- Reading a host of either family: each way out of the reader.
 use Rattle.std.proofs.Common.{refl, sym, ◌∙◌, inl, inr}
 use Rattle.std.proofs.lemmas.Result.{err_from_is_err_and}
-use Rattle.cidr.proofs.CombinedReading.{ip_host_no_address, ip_host_no_length, ip_host_too_long}
+use Rattle.cidr.proofs.EitherReading.{ip_host_no_address, ip_host_no_length, ip_host_too_long}
 use Rattle.cidr.proofs.inet.combined.IpInetFromStr.from_str.Goals as goal
 
 pub returns-in-Err : goal.returns-in-Err

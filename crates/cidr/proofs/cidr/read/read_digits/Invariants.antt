@@ -1,5 +1,0 @@
-use Rattle.cidr.proofs.LengthReading.{HasDigits}
-use Rattle.cidr.proofs.cidr.read.read_digits.Given as goal
-
-abbrev pub invariant-loop-digit : goal.invariant-loop-digit
-invariant-loop-digit l = HasDigits l.digits l.digit-index l.value

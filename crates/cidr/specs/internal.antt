@@ -1,0 +1,2 @@
+-- What private functions promise each other.
+pub mod Reading

@@ -1,0 +1,87 @@
+-- What the readers of a part of a text promise each other.
+use Rattle.std.specs.Prelude.{◌≡◌, ◌≢◌, ℕ, ◌+◌, ◌*◌, ◌^◌, ◌<◌, ◌≤◌, ◌↔◌, ◌⊎◌, Bool, true, List, [], ◌∷◌, ◌++◌, length, Option, Some, None, MatchOption, slice_index}
+use Rattle.std.specs.Borrow.{Bor}
+use Rattle.std.specs.Char.{digit_value}
+use Rattle.std.specs.Net.Reader.{read_separator, read_segments}
+use Rattle.cidr.specs.model.Bits.{bits}
+use Rattle.cidr.specs.model.Address.{group_bits}
+use Rattle.cidr.specs.texts.Ipv4Text.{dot, IsOctetText, IsJoined}
+use Rattle.cidr.specs.texts.Ipv6Text.{IsGroupText}
+
+-- this byte was read
+abbrev pub TakesByte : ℕ → List ℕ → Option (Bor (List ℕ)) → Type 0
+TakesByte byte text r = MatchOption r ((rest : List ℕ) → text ≢ byte ∷ rest) (λ rest. text ≡ byte ∷ rest.now)
+
+-- no decimal digit stands first
+abbrev pub NoDigitFirst : List ℕ → Type 0
+NoDigitFirst text = 48 ≤ slice_index text 0 → 57 < slice_index text 0
+
+-- a decimal digit was read
+abbrev pub TakesDigit : List ℕ → Option (ℕ × Bor (List ℕ)) → Type 0
+TakesDigit text r = MatchOption r (NoDigitFirst text) (λ p. (text ≡ (48 + p.0) ∷ p.1.now) × (p.0 < 10))
+
+-- the text is at its end, or a dot comes next
+abbrev pub StopsAtDot : List ℕ → Type 0
+StopsAtDot text = (text ≡ []) ⊎ ((rest : List ℕ) × (text ≡ dot ∷ rest))
+
+-- an octet text stands first, and one that ends at a dot or at the end can be only this one
+pub record IsFirstOctet (text : List ℕ) (n : ℕ) (rest : List ℕ) : Type 0 where
+  pub front : List ℕ
+  pub spelled : text ≡ front ++ rest
+  pub octet : IsOctetText front n
+  pub only : (t : List ℕ) (m : ℕ) (more : List ℕ) → IsOctetText t m → StopsAtDot more → text ≡ t ++ more → (m ≡ n) × (more ≡ rest)
+
+-- no octet text that ends at a dot or at the end stands first
+abbrev pub NoOctetFirst : List ℕ → Type 0
+NoOctetFirst text = (t : List ℕ) (m : ℕ) (more : List ℕ) → IsOctetText t m → StopsAtDot more → text ≢ t ++ more
+
+abbrev pub TakesOctet : List ℕ → Option (ℕ × Bor (List ℕ)) → Type 0
+TakesOctet text r = MatchOption r (NoOctetFirst text) (λ p. IsFirstOctet text p.0 p.1.now)
+
+-- an octet and a dot were read: the octets of the text are that one and those of the rest
+abbrev pub TakesFirst : List ℕ → Option (ℕ × Bor (List ℕ)) → Type 0
+TakesFirst text r =
+    MatchOption r ((n m : ℕ) (ns : List ℕ) → ¬ (IsJoined IsOctetText text (n ∷ m ∷ ns)))
+    (λ p. (n m : ℕ) (ns : List ℕ) → IsJoined IsOctetText text (n ∷ m ∷ ns) ↔ ((n ≡ p.0) × IsJoined IsOctetText p.1.now (m ∷ ns)))
+
+-- no hexadecimal digit stands first
+abbrev pub NoHexFirst : List ℕ → Type 0
+NoHexFirst text = 16 ≤ digit_value (slice_index text 0)
+
+-- a group text stands first, and no digit follows it
+pub record IsFirstGroup (text : List ℕ) (n : ℕ) (rest : List ℕ) : Type 0 where
+  pub front : List ℕ
+  pub spelled : text ≡ front ++ rest
+  pub group : IsGroupText front n
+  pub ends : NoHexFirst rest
+
+-- no group text that no digit follows stands first
+abbrev pub NoGroupFirst : List ℕ → Type 0
+NoGroupFirst text = (t : List ℕ) (n : ℕ) (more : List ℕ) → IsGroupText t n → NoHexFirst more → text ≢ t ++ more
+
+abbrev pub TakesGroup : List ℕ → Option (ℕ × Bor (List ℕ)) → Type 0
+TakesGroup text r = MatchOption r (NoGroupFirst text) (λ p. IsFirstGroup text p.0 p.1.now)
+
+-- the text after a colon, or all of it for the first group
+abbrev pub TakesSeparator : Bool → List ℕ → Option (Bor (List ℕ)) → Type 0
+TakesSeparator first text r = MatchOption r (None ≡ read_separator first text) (λ group. Some group.now ≡ read_separator first text)
+
+-- the number whose bits are those of the groups
+pub record WritesGroups (groups : List ℕ) (n : ℕ) : Type 0 where
+  pub fits : n < 2 ^ (16 * length groups)
+  pub value : bits (16 * length groups) n ≡ group_bits groups
+
+-- at most so many groups stand first, these and no more, and this is left: nothing, where an IPv4 text stands last
+pub record IsFound (room : ℕ) (text : List ℕ) (n count : ℕ) (rest : List ℕ) : Type 0 where
+  pub groups : List ℕ
+  pub dotted : Bool
+  pub found : read_segments room true text ≡ (groups, dotted, rest)
+  pub ends : dotted ≡ true → rest ≡ []
+  pub many : length groups ≡ count
+  pub fits : count ≤ room
+  pub number : WritesGroups groups n
+
+-- what is left after the groups is neither nothing nor `::`
+pub record IsStuck (room : ℕ) (text : List ℕ) : Type 0 where
+  pub left : (read_segments room true text).2 ≢ []
+  pub other : ((read_segments room true text).1 ≡ true) ⊎ (slice_index (read_segments room true text).2 0 ≡ dot)

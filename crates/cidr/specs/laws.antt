@@ -1,0 +1,6 @@
+-- Laws that a type, an order or a hash cites, each with its proof.
+pub mod BitLaws
+pub mod NetworkLaws
+pub mod HostLaws
+pub mod PairLaws
+pub mod DecimalLaws

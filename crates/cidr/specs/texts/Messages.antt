@@ -1,0 +1,51 @@
+-- The messages of the errors, byte for byte (the crate `cidr` and std).
+use Rattle.std.specs.Prelude.{ℕ, List, ◌++◌, codes, decimal}
+use Rattle.cidr.specs.declared.family.Family.{Family}
+use Rattle.cidr.specs.declared.family.Family.TheVariants.{Ipv4, Ipv6}
+use Rattle.cidr.specs.declared.addr.error.AddrKind.{AddrKind}
+use Rattle.cidr.specs.declared.addr.error.AddrKind.TheVariants as asked
+use Rattle.cidr.specs.declared.addr.error.AddrParseError.{AddrParseError}
+use Rattle.cidr.specs.declared.errors.NetworkLengthTooLongError.{NetworkLengthTooLongError}
+use Rattle.cidr.specs.declared.errors.NetworkParseError.{NetworkParseError}
+use Rattle.cidr.specs.declared.errors.NetworkParseError.TheVariants as parse_error
+use Rattle.cidr.specs.declared.errors.InetTupleError.{InetTupleError}
+use Rattle.cidr.specs.declared.errors.InetTupleError.TheVariants as pair_error
+
+-- the error of reading an address, by the type that was asked for
+abbrev pub ipv4_error : AddrParseError
+ipv4_error = record { 0 = asked.Ipv4 }
+
+abbrev pub ipv6_error : AddrParseError
+ipv6_error = record { 0 = asked.Ipv6 }
+
+abbrev pub ip_error : AddrParseError
+ip_error = record { 0 = asked.Ip }
+
+abbrev pub kind_message : AddrKind → List ℕ
+kind_message asked.Ipv4 = codes "invalid IPv4 address syntax"
+kind_message asked.Ipv6 = codes "invalid IPv6 address syntax"
+kind_message asked.Ip = codes "invalid IP address syntax"
+
+abbrev pub address_message : AddrParseError → List ℕ
+address_message e = kind_message e.0
+
+abbrev pub length_message : List ℕ
+length_message = codes "invalid length text"
+
+-- what stands after the length
+abbrev pub limit_message : Family → List ℕ
+limit_message Ipv4 = codes " is too long for Ipv4 (maximum: 32)"
+limit_message Ipv6 = codes " is too long for Ipv6 (maximum: 128)"
+
+abbrev pub too_long_message : NetworkLengthTooLongError → List ℕ
+too_long_message e = codes "Network length " ++ (decimal e.0 ++ limit_message e.1)
+
+abbrev pub parse_message : NetworkParseError → List ℕ
+parse_message parse_error.InvalidHostPart = codes "host part of address was not zero"
+parse_message (parse_error.AddrParseError e) = codes "couldn't parse address in network: " ++ address_message e
+parse_message (parse_error.NetworkLengthParseError e) = codes "couldn't parse length in network: " ++ length_message
+parse_message (parse_error.NetworkLengthTooLongError e) = codes "invalid length for network: " ++ too_long_message e
+
+abbrev pub pair_message : InetTupleError → List ℕ
+pair_message pair_error.NotInSharedNetwork = codes "addresses not in shared network"
+pair_message (pair_error.NetworkLengthTooLongError e) = codes "invalid length for network: " ++ too_long_message e

@@ -1,0 +1,47 @@
+-- The error of a text that spells no network: the first one, where the address comes before the length text, that
+-- before the length's range, and the host part last.
+use Rattle.std.specs.Prelude.{◌≡◌, ◌≢◌, ℕ, ◌-◌, ◌<◌, ◌≤◌, ◌⊎◌, Bool, List, ◌∷◌, ◌++◌, length, drop, slice_index, Result, MatchResult}
+use Rattle.cidr.specs.model.Network.{width_of, zeros, too_long}
+use Rattle.cidr.specs.texts.AddressText.{IsAddressText, address_error}
+use Rattle.cidr.specs.texts.NetworkText.{slash, IsLengthText, IsNetworkText}
+use Rattle.cidr.specs.declared.family.Family.{Family}
+use Rattle.cidr.specs.declared.addr.error.AddrParseError.{AddrParseError}
+use Rattle.cidr.specs.declared.errors.NetworkParseError.{NetworkParseError}
+use Rattle.cidr.specs.declared.errors.NetworkParseError.TheVariants as parse_error
+
+-- the byte stands nowhere in the text
+abbrev pub Lacks : ℕ → List ℕ → Type 0
+Lacks c text = (i : ℕ) → i < length text → slice_index text i ≢ c
+
+-- the text before the last slash, and after it
+abbrev pub CutsAtLastSlash : List ℕ → List ℕ → List ℕ → Type 0
+CutsAtLastSlash text front back = (text ≡ front ++ slash ∷ back) × Lacks slash back
+
+-- the part of a text that is read as the address: what stands before the last slash, or all where there is none
+abbrev pub IsAddressPart : List ℕ → List ℕ → Type 0
+IsAddressPart text part = (Lacks slash text × (part ≡ text)) ⊎ ((back : List ℕ) × CutsAtLastSlash text part back)
+
+-- the text has a slash, this text after the last one, and this address before it
+pub record HasAddress (family : Family) (text : List ℕ) (back : List ℕ) (address : List Bool) : Type 0 where
+  pub front : List ℕ
+  pub cut : CutsAtLastSlash text front back
+  pub front_text : IsAddressText family front address
+
+-- the error that comes first
+abbrev pub IsRefused : Family → AddrParseError → List ℕ → NetworkParseError → Type 0
+IsRefused family error text (parse_error.AddrParseError e) =
+    (e ≡ error) × (part : List ℕ) × IsAddressPart text part × ((a : List Bool) → ¬ (IsAddressText family part a))
+IsRefused family error text (parse_error.NetworkLengthParseError e) =
+    (back : List ℕ) × (a : List Bool) × HasAddress family text back a × ((n : ℕ) → ¬ (IsLengthText back n))
+IsRefused family error text (parse_error.NetworkLengthTooLongError e) =
+    (back : List ℕ) × (a : List Bool) × (n : ℕ) × HasAddress family text back a × IsLengthText back n
+    × (width_of family < n) × (e ≡ too_long n family)
+IsRefused family error text parse_error.InvalidHostPart =
+    (back : List ℕ) × (a : List Bool) × (n : ℕ) × HasAddress family text back a × IsLengthText back n
+    × (n ≤ width_of family) × (drop n a ≢ zeros (width_of family - n))
+
+-- reading gives the network that is spelled, or where none is, the refusal
+abbrev pub ReadsNetwork : Family → List ℕ → Result (List Bool) NetworkParseError → Type 0
+ReadsNetwork family text r =
+    MatchResult r (IsNetworkText family text)
+    (λ e. IsRefused family (address_error family) text e × ((p : List Bool) → ¬ (IsNetworkText family text p)))

@@ -1,0 +1,449 @@
+//! The hosts of one family.
+ghost use Rattle.std.specs.Prelude.{◌≡◌, ◌+◌, ◌-◌, ◌<◌, ◌≤◌, ◌↔◌, length, IsTrue, IfSome, Some, refl};
+ghost use Rattle.std.specs.Cmp.{partial_equiv_from_equiv};
+ghost use Rattle.std.specs.Ordering.{as_partial_cmp};
+ghost use Rattle.cidr.specs.model.Network.{width_of};
+ghost use Rattle.cidr.specs.model.Host.{IsHost, host_cmp, host_eq, host_part, host_count, with_host_part};
+ghost use Rattle.cidr.specs.laws.HostLaws.{host_cmp_total, host_cmp_po, host_eq_equiv, host_eq_ties, same_host_image};
+
+use crate::addr::v4::Ipv4Addr;
+use crate::addr::v6::Ipv6Addr;
+use crate::cidr::network::Network;
+use crate::errors::{NetworkLengthTooLongError, NetworkParseError};
+use crate::family::Family;
+use crate::internal_traits::address_bits::{AddressBits, AddressText};
+use crate::text::print::{forced, plain};
+use crate::text::read::{cut_at_last_slash, read_length};
+use crate::text::with_length::WithLength;
+use arrayvec::ArrayString;
+use std::alloc::AllocError;
+use std::cmp::Ordering;
+use std::fmt;
+use std::hash::{Hash, Hasher};
+use std::marker::Model;
+use std::ops::{Add, Sub};
+use std::str::FromStr;
+
+/// A host of one family: an address in its network, as 192.0.2.50/28 or 2001:db8::5/32.
+///
+/// It keeps all bits of the address, and its prefix length, at most 32 in IPv4 and 128 in IPv6, names the network.
+/// Hosts are ordered by address and then by prefix length. Steps stay in the network: they change the bits after
+/// the prefix and leave the prefix.
+///
+/// Its names at a family are `Ipv4Inet` and `Ipv6Inet`.
+pub struct Host<A: AddressBits> {
+    address: A,
+    len: u8,
+}
+
+/// An IPv4 host, as 192.0.2.50/28: the prefix length is at most 32.
+pub type Ipv4Inet = Host<Ipv4Addr>;
+
+/// An IPv6 host, as 2001:db8::5/32: the prefix length is at most 128.
+pub type Ipv6Inet = Host<Ipv6Addr>;
+
+impl<A: AddressBits> Model for Host<A> {
+    ghost use Rattle.cidr.specs.model.Host.{Host, IsHost};
+    ghost use Rattle.cidr.specs.model.Network.{width_of};
+
+    ghost Value = { Host };
+
+    ghost view = { λ h. record { address = A.bits h.address; len = h.len } };
+
+    ghost invariant = { λ h. IsHost (width_of A.FAMILY) (record { address = A.bits h.address; len = h.len }) };
+
+    ghost inverse = { λ h. record { address = A.of_bits h.address; len = h.len } };
+
+    ghost inverse_ok = { λ h _ i. record { address = A.restored h.address i; len = h.len } };
+}
+
+impl<A: AddressBits> Clone for Host<A> {
+    ghost is_clone = { λ host copy. copy ≡ host };
+
+    ghost is_infallible = { λ _. Unit {0} };
+
+    fn clone(&self) -> Result<Host<A>, AllocError> {
+        Ok(*self)
+    }
+}
+
+impl<A: AddressBits> Copy for Host<A> {}
+
+impl<A: AddressBits> Host<A> {
+    ghost use Rattle.cidr.specs.model.Network.{first_of, last_of, mask_of, BeginsWith};
+    ghost use Rattle.cidr.specs.model.Host.{network_of, first_host, last_host, lone_host, host_from, stepped_up, WrapsUp, stepped_down, WrapsDown, next_of, previous_of};
+
+    /// The host of an address in the network of its first `len` bits: 192.0.2.50 with 28, or 2001:db8::5 with 32.
+    ///
+    /// Refuses a prefix length above the width, 32 or 128, and nothing else.
+    pub fn new(addr: A, len: u8) -> Result<Host<A>, NetworkLengthTooLongError>
+        ensures { result ≡ host_from A.FAMILY (A.bits addr) len }
+    {
+        if len > A::FAMILY.len() {
+            return Err(NetworkLengthTooLongError::new(len as usize, A::FAMILY));
+        }
+        Ok(Host::new_unchecked(addr, len))
+    }
+
+    /// The host of an address and a prefix length that is known to be within the width.
+    pub(crate) fn new_unchecked(addr: A, len: u8) -> Host<A>
+        requires { len ≤ width_of A.FAMILY }
+        ensures { result ≡ record { address = A.bits addr; len = len } }
+    {
+        // the call tells the proof how many bits the address has
+        addr.has_width();
+        Host { address: addr, len }
+    }
+
+    /// The host of full prefix length, whose network is this address alone: 192.0.2.1/32 or 2001:db8::1/128.
+    pub fn new_host(addr: A) -> Host<A>
+        ensures { result ≡ lone_host (width_of A.FAMILY) (A.bits addr) }
+    {
+        Host::new_unchecked(addr, A::FAMILY.len())
+    }
+
+    /// Steps to the next address of the network. From the last one it wraps to the first, and returns true then:
+    /// 192.0.2.63/28 becomes 192.0.2.48/28, and 2001:db8::ffff/112 becomes 2001:db8::/112.
+    pub fn increment(&mut self) -> bool
+        ensures stepped { self.new ≡ stepped_up (width_of A.FAMILY) self.old 1 }
+        ensures wraps { IsTrue result ↔ WrapsUp (width_of A.FAMILY) self.old 1 }
+    {
+        let (next, wraps) = self.overflowing_add(1);
+        *self = next;
+        wraps
+    }
+
+    /// Steps to the previous address of the network. From the first one it wraps to the last, and returns true
+    /// then: 192.0.2.48/28 becomes 192.0.2.63/28, and 2001:db8::/112 becomes 2001:db8::ffff/112.
+    pub fn decrement(&mut self) -> bool
+        ensures stepped { self.new ≡ stepped_down (width_of A.FAMILY) self.old 1 }
+        ensures wraps { IsTrue result ↔ WrapsDown self.old 1 }
+    {
+        let (previous, wraps) = self.overflowing_sub(1);
+        *self = previous;
+        wraps
+    }
+
+    /// The host at the next address of the network, or `None` at the last one. `previous` leads back.
+    #[tactic(auto, using(crate::proofs::HostSteps::neighbour_laws))]
+    pub fn next(self) -> Option<Host<A>>
+        ensures host { result ≡ next_of (width_of A.FAMILY) self }
+        ensures back { IfSome result (λ next. previous_of (width_of A.FAMILY) next ≡ Some self) }
+    {
+        let (stepped, wraps) = self.overflowing_add(1);
+        if wraps { None } else { Some(stepped) }
+    }
+
+    /// The host at the previous address of the network, or `None` at the first one. `next` leads back.
+    #[tactic(auto, using(crate::proofs::HostSteps::neighbour_laws))]
+    pub fn previous(self) -> Option<Host<A>>
+        ensures host { result ≡ previous_of (width_of A.FAMILY) self }
+        ensures back { IfSome result (λ previous. next_of (width_of A.FAMILY) previous ≡ Some self) }
+    {
+        let (stepped, wraps) = self.overflowing_sub(1);
+        if wraps { None } else { Some(stepped) }
+    }
+
+    /// The host `step` addresses further in the network, and whether it wrapped from the last address to the first:
+    /// 192.0.2.50/28 and 14 give 192.0.2.48/28 and true, 2001:db8::5/32 and 1 give 2001:db8::6/32 and false.
+    ///
+    /// Any step is exact, also one above the number of addresses. Where it does not wrap, `+` may be used as well.
+    #[tactic(auto, using(crate::proofs::HostSteps::undone_laws))]
+    pub fn overflowing_add(self, step: u128) -> (Host<A>, bool)
+        ensures stepped { result.0 ≡ stepped_up (width_of A.FAMILY) self step }
+        ensures wraps { IsTrue result.1 ↔ WrapsUp (width_of A.FAMILY) self step }
+        ensures back { stepped_down (width_of A.FAMILY) result.0 step ≡ self }
+        ensures host { IsHost (width_of A.FAMILY) self }
+    {
+        let (stepped, wraps) = self.address.step_up(self.len, step);
+        (Host::new_unchecked(stepped, self.len), wraps)
+    }
+
+    /// The host `step` addresses back in the network, and whether it wrapped from the first address to the last:
+    /// 10.0.0.7/29 and 8 give 10.0.0.7/29 and true, 2001:db8::5/32 and 1 give 2001:db8::4/32 and false.
+    ///
+    /// Any step is exact, also one above the number of addresses. Where it does not wrap, `-` may be used as well.
+    #[tactic(auto, using(crate::proofs::HostSteps::undone_laws))]
+    pub fn overflowing_sub(self, step: u128) -> (Host<A>, bool)
+        ensures stepped { result.0 ≡ stepped_down (width_of A.FAMILY) self step }
+        ensures wraps { IsTrue result.1 ↔ WrapsDown self step }
+        ensures back { stepped_up (width_of A.FAMILY) result.0 step ≡ self }
+        ensures host { IsHost (width_of A.FAMILY) self }
+    {
+        let (stepped, wraps) = self.address.step_down(self.len, step);
+        (Host::new_unchecked(stepped, self.len), wraps)
+    }
+
+    /// The network that the host is in: that of 192.0.2.50/28 is 192.0.2.48/28, and that of 2001:db8::5/32 is
+    /// 2001:db8::/32.
+    pub fn network(&self) -> Network<A>
+        ensures { result ≡ network_of self.now }
+    {
+        Network::holding(self.address, self.len)
+    }
+
+    /// The address, without the prefix length.
+    pub fn address(&self) -> A
+        ensures value { A.bits result ≡ self.now.address }
+        ensures width { length (A.bits result) ≡ width_of A.FAMILY }
+    {
+        self.address
+    }
+
+    /// The address, by reference.
+    pub fn address_ref(&self) -> &A
+        ensures { A.bits result.now ≡ self.now.address }
+    {
+        &self.address
+    }
+
+    /// The first address of the network, in which no bit after the prefix is set.
+    pub fn first_address(&self) -> A
+        ensures { A.bits result ≡ first_of (width_of A.FAMILY) (network_of self.now) }
+    {
+        self.address.first_in(self.len)
+    }
+
+    /// The last address of the network, in which all bits after the prefix are set.
+    pub fn last_address(&self) -> A
+        ensures { A.bits result ≡ last_of (width_of A.FAMILY) (network_of self.now) }
+    {
+        self.address.last_in(self.len)
+    }
+
+    /// The host at the first address of the network: that of 10.4.3.2/8 is 10.0.0.0/8, and that of 2001:db8::5/32
+    /// is 2001:db8::/32.
+    pub fn first(&self) -> Host<A>
+        ensures { result ≡ first_host (width_of A.FAMILY) (network_of self.now) }
+    {
+        Host::new_unchecked(self.first_address(), self.len)
+    }
+
+    /// The host at the last address of the network: that of 10.4.3.2/8 is 10.255.255.255/8, and that of
+    /// 2001:db8::5/32 is 2001:db8:ffff:ffff:ffff:ffff:ffff:ffff/32.
+    pub fn last(&self) -> Host<A>
+        ensures { result ≡ last_host (width_of A.FAMILY) (network_of self.now) }
+    {
+        Host::new_unchecked(self.last_address(), self.len)
+    }
+
+    /// The prefix length in bits, at most 32 in IPv4 and 128 in IPv6.
+    pub fn network_length(&self) -> u8
+        ensures value { result ≡ self.now.len }
+        ensures fits { result ≤ width_of A.FAMILY }
+    {
+        self.len
+    }
+
+    /// The family.
+    pub fn family(&self) -> Family
+        ensures { result ≡ A.FAMILY }
+    {
+        A::FAMILY
+    }
+
+    /// Whether the network is a single address: whether the prefix length is full, 32 or 128.
+    pub fn is_host_address(&self) -> bool
+        ensures { IsTrue result ↔ (self.now.len ≡ width_of A.FAMILY) }
+    {
+        self.len == A::FAMILY.len()
+    }
+
+    /// The mask of the network: as many set bits as the prefix length says, then zeros.
+    #[tactic(auto, using(crate::specs::laws::NetworkLaws::taken_laws))]
+    pub fn mask(&self) -> A
+        ensures { A.bits result ≡ mask_of (width_of A.FAMILY) (network_of self.now) }
+    {
+        A::mask_of(self.len)
+    }
+
+    /// Whether the address is in the network of the host: that of 192.0.2.50/28 contains 192.0.2.63, and that of
+    /// 2001:db8::5/32 contains 2001:db8::1.
+    pub fn contains(&self, addr: &A) -> bool
+        ensures { IsTrue result ↔ BeginsWith (A.bits addr.now) (network_of self.now) }
+    {
+        self.address.shares(*addr, self.len)
+    }
+
+    /// The host, to be printed with its prefix length also where that is full: `10.0.0.1/32` or `2001:db8::1/128`.
+    pub fn with_length(&self) -> WithLength<Host<A>>
+        ensures { result ≡ self.now }
+    {
+        WithLength::new(*self)
+    }
+}
+
+impl<A: AddressText> Host<A> {
+    ghost use Rattle.cidr.specs.texts.HostText.{IsHostText};
+    ghost use Rattle.cidr.specs.texts.Printed.{plain_host_text, longest_text};
+
+    /// The printed text, which keeps the whole address and leaves out a full prefix length: `10.4.3.2/8`,
+    /// `10.4.3.2`, `2001:db8::5/32`. It has at most 18 bytes in IPv4 and 43 in IPv6.
+    #[tactic(auto, using(crate::proofs::NetworkPrinting::host_text_laws))]
+    pub fn to_text(&self) -> ArrayString<43>
+        ensures text { result.bytes ≡ plain_host_text A.FAMILY self.now }
+        ensures len { length result.bytes ≤ longest_text A.FAMILY }
+        ensures spells { IsHostText A.FAMILY result.bytes self.now }
+    {
+        plain(self.address, self.len)
+    }
+}
+
+impl<A: AddressText> WithLength<Host<A>> {
+    ghost use Rattle.cidr.specs.texts.HostText.{IsHostText};
+    ghost use Rattle.cidr.specs.texts.Printed.{forced_host_text, longest_text};
+
+    /// The printed text, with the prefix length: at most 18 bytes in IPv4 and 43 in IPv6.
+    #[tactic(auto, using(crate::proofs::NetworkPrinting::host_text_laws))]
+    pub fn to_text(&self) -> ArrayString<43>
+        ensures text { result.bytes ≡ forced_host_text A.FAMILY self.now }
+        ensures len { length result.bytes ≤ longest_text A.FAMILY }
+        ensures spells { IsHostText A.FAMILY result.bytes self.now }
+    {
+        let host = self.get();
+        forced(host.address(), host.network_length())
+    }
+}
+
+impl<A: AddressBits> PartialEq for Host<A> {
+    ghost eq = { host_eq };
+
+    ghost laws = { partial_equiv_from_equiv host_eq_equiv };
+
+    fn eq(&self, other: &Host<A>) -> bool {
+        self.address == other.address && self.len == other.len
+    }
+}
+
+impl<A: AddressBits> Eq for Host<A> {
+    ghost laws = { host_eq_equiv };
+}
+
+impl<A: AddressBits> PartialOrd for Host<A> {
+    ghost partial_cmp = { as_partial_cmp host_cmp };
+
+    ghost laws = { host_cmp_po };
+
+    fn partial_cmp(&self, other: &Host<A>) -> Option<Ordering> {
+        Some(self.cmp(other))
+    }
+}
+
+impl<A: AddressBits> Ord for Host<A> {
+    ghost cmp = { host_cmp };
+
+    ghost total = { host_cmp_total };
+
+    ghost matches_partial_cmp = { λ _ _. refl };
+
+    ghost matches_eq = { host_eq_ties };
+
+    fn cmp(&self, other: &Host<A>) -> Ordering {
+        self.address.order(self.len, other.address, other.len)
+    }
+}
+
+impl<A: AddressBits> Hash for Host<A> {
+    ghost use Rattle.cidr.specs.model.Host.{host_hash};
+
+    ghost hash_input = { host_hash A.FAMILY };
+
+    ghost respects_eq = { same_host_image (host_hash A.FAMILY) };
+
+    fn hash<H: Hasher>(&self, state: &mut H) {
+        self.address.hash(state);
+        self.len.hash(state);
+    }
+}
+
+impl<A: AddressBits> From<A> for Host<A> {
+    ghost use Rattle.cidr.specs.model.Host.{lone_host};
+
+    ghost from_gives = { λ a h. h ≡ lone_host (width_of A.FAMILY) (A.bits a) };
+
+    fn from(address: A) -> Host<A> {
+        Host::new_host(address)
+    }
+}
+
+impl<A: AddressText> FromStr for Host<A> {
+    ghost use Rattle.cidr.specs.texts.HostText.{ReadsHost};
+
+    type Err = NetworkParseError;
+
+    ghost from_str_gives = { ReadsHost A.FAMILY };
+
+    fn from_str(s: &str) -> Result<Host<A>, NetworkParseError> {
+        match cut_at_last_slash(s) {
+            None => match A::read(s) {
+                Ok(addr) => Ok(Host::new_host(addr)),
+                Err(e) => Err(NetworkParseError::AddrParseError(e)),
+            },
+            Some((front, back)) => match A::read(front) {
+                Ok(addr) => match read_length(back) {
+                    Ok(len) => Ok(Host::new(addr, len)?),
+                    Err(e) => Err(NetworkParseError::NetworkLengthParseError(e)),
+                },
+                Err(e) => Err(NetworkParseError::AddrParseError(e)),
+            },
+        }
+    }
+}
+
+impl<A: AddressText> fmt::Display for Host<A> {
+    ghost use Rattle.cidr.specs.texts.Printed.{plain_host_text};
+
+    ghost output = { λ h. Some (plain_host_text A.FAMILY h) };
+
+    fn fmt<W: fmt::Write>(&self, f: &mut fmt::Formatter<W>) -> fmt::Result {
+        f.write_str(self.to_text().as_str())
+    }
+}
+
+impl<A: AddressText> fmt::Display for WithLength<Host<A>> {
+    ghost use Rattle.cidr.specs.texts.Printed.{forced_host_text};
+
+    ghost output = { λ h. Some (forced_host_text A.FAMILY h) };
+
+    fn fmt<W: fmt::Write>(&self, f: &mut fmt::Formatter<W>) -> fmt::Result {
+        f.write_str(self.to_text().as_str())
+    }
+}
+
+impl<A: AddressText> fmt::Debug for Host<A> {
+    ghost use Rattle.cidr.specs.texts.Printed.{forced_host_text};
+
+    ghost debug_output = { λ h. Some (forced_host_text A.FAMILY h) };
+
+    fn fmt<W: fmt::Write>(&self, f: &mut fmt::Formatter<W>) -> fmt::Result {
+        fmt::Display::fmt(&self.with_length(), f)
+    }
+}
+
+/// The host `step` addresses further. The step has to stay in the network; `overflowing_add` tells whether it does.
+impl<A: AddressBits> Add<u128> for Host<A> {
+    type Output = Host<A>;
+
+    ghost can_add = { λ h s. host_part h + s < host_count (width_of A.FAMILY) h };
+
+    ghost add_gives = { λ h s r. r ≡ with_host_part (width_of A.FAMILY) h (host_part h + s) };
+
+    #[tactic(auto, using(crate::proofs::HostSteps::stay_laws))]
+    fn add(self, step: u128) -> Host<A> {
+        self.overflowing_add(step).0
+    }
+}
+
+/// The host `step` addresses back. The step has to stay in the network; `overflowing_sub` tells whether it does.
+impl<A: AddressBits> Sub<u128> for Host<A> {
+    type Output = Host<A>;
+
+    ghost can_sub = { λ h s. s ≤ host_part h };
+
+    ghost sub_gives = { λ h s r. r ≡ with_host_part (width_of A.FAMILY) h (host_part h - s) };
+
+    #[tactic(auto, using(crate::proofs::HostSteps::stay_laws))]
+    fn sub(self, step: u128) -> Host<A> {
+        self.overflowing_sub(step).0
+    }
+}

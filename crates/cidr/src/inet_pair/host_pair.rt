@@ -1,0 +1,271 @@
+//! The pairs of addresses of one family.
+ghost use Rattle.std.specs.Prelude.{◌≡◌, ◌+◌, ◌*◌, ◌≤◌, length, Some};
+ghost use Rattle.std.specs.Cmp.{partial_equiv_from_equiv};
+ghost use Rattle.cidr.specs.model.Network.{width_of};
+ghost use Rattle.cidr.specs.model.Pair.{IsPair, pair_eq};
+ghost use Rattle.cidr.specs.laws.PairLaws.{pair_eq_equiv, same_pair_image};
+ghost use Rattle.cidr.specs.texts.Printed.{pair_text};
+
+use crate::addr::v4::Ipv4Addr;
+use crate::addr::v6::Ipv6Addr;
+use crate::cidr::network::Network;
+use crate::errors::{InetTupleError, NetworkLengthTooLongError};
+use crate::family::Family;
+use crate::inet::host::Host;
+use crate::internal_traits::address_bits::{AddressBits, AddressText};
+use crate::text::print::{forced, parenthesized, plain};
+use crate::text::with_length::WithLength;
+use arrayvec::ArrayString;
+use std::alloc::AllocError;
+use std::fmt;
+use std::hash::{Hash, Hasher};
+use std::marker::Model;
+
+/// Two addresses of one network, and the prefix length of that network.
+///
+/// It is a range of addresses with its walk, which goes from the first to the second, both counted. The first may
+/// be above the second; the walk is empty then. The prefix length is at most 32 in IPv4 and 128 in IPv6.
+///
+/// Its names at a family are `Ipv4InetPair` and `Ipv6InetPair`.
+pub struct HostPair<A: AddressBits> {
+    first: A,
+    second: A,
+    len: u8,
+}
+
+/// Two IPv4 addresses of one network, as (192.0.2.49/28, 192.0.2.51/28).
+pub type Ipv4InetPair = HostPair<Ipv4Addr>;
+
+/// Two IPv6 addresses of one network, as (2001:db8::1/32, 2001:db8::5/32).
+pub type Ipv6InetPair = HostPair<Ipv6Addr>;
+
+impl<A: AddressBits> Model for HostPair<A> {
+    ghost use Rattle.cidr.specs.model.Network.{width_of};
+    ghost use Rattle.cidr.specs.model.Pair.{Pair, IsPair};
+
+    ghost Value = { Pair };
+
+    ghost view = { λ p. record { first = A.bits p.first; second = A.bits p.second; len = p.len } };
+
+    ghost invariant = { λ p. IsPair (width_of A.FAMILY)
+        (record { first = A.bits p.first; second = A.bits p.second; len = p.len }) };
+
+    ghost inverse = { λ p. record { first = A.of_bits p.first; second = A.of_bits p.second; len = p.len } };
+
+    ghost inverse_ok = { λ p _ i.
+        record { first = A.restored p.first i; second = A.restored p.second i; len = p.len } };
+}
+
+impl<A: AddressBits> Clone for HostPair<A> {
+    ghost is_clone = { λ pair copy. copy ≡ pair };
+
+    ghost is_infallible = { λ _. Unit {0} };
+
+    fn clone(&self) -> Result<HostPair<A>, AllocError> {
+        Ok(*self)
+    }
+}
+
+impl<A: AddressBits> Copy for HostPair<A> {}
+
+impl<A: AddressBits> HostPair<A> {
+    ghost use Rattle.cidr.specs.model.Pair.{first_of_pair, second_of_pair, network_of_pair, shared_pair, pair_of, pair_from};
+
+    /// The pair of two hosts. Refuses hosts of different prefix lengths, and hosts of different networks.
+    pub fn new(first: Host<A>, second: Host<A>) -> Result<HostPair<A>, InetTupleError>
+        ensures { result ≡ pair_of first second }
+    {
+        if first.network_length() != second.network_length() {
+            return Err(InetTupleError::NotInSharedNetwork);
+        }
+        HostPair::sharing(first.address(), second.address(), first.network_length())
+    }
+
+    /// The pair of two addresses in a network of this prefix length.
+    ///
+    /// Refuses a prefix length above the width, 32 or 128, and then addresses whose first `len` bits differ:
+    /// 192.0.2.1 and 192.0.2.129 are a pair with 24, and with 25 they are not; 2001:db8::1 and 2001:db9::1 are one
+    /// with 31, and with 32 they are not.
+    pub fn new_from_addresses(first: A, second: A, len: u8) -> Result<HostPair<A>, InetTupleError>
+        ensures { result ≡ pair_from A.FAMILY (A.bits first) (A.bits second) len }
+    {
+        if len > A::FAMILY.len() {
+            return Err(InetTupleError::NetworkLengthTooLongError(NetworkLengthTooLongError::new(
+                len as usize,
+                A::FAMILY,
+            )));
+        }
+        HostPair::sharing(first, second, len)
+    }
+
+    /// The pair, if both addresses begin with the same `len` bits.
+    #[tactic(auto, using(crate::specs::laws::BitLaws::same_laws))]
+    fn sharing(first: A, second: A, len: u8) -> Result<HostPair<A>, InetTupleError>
+        requires { len ≤ width_of A.FAMILY }
+        ensures { result ≡ shared_pair (A.bits first) (A.bits second) len }
+    {
+        if !first.shares(second, len) {
+            return Err(InetTupleError::NotInSharedNetwork);
+        }
+        // the calls tell the proof how many bits the addresses have
+        first.has_width();
+        second.has_width();
+        Ok(HostPair { first, second, len })
+    }
+
+    /// The pair of two addresses that are known to be in one network of this prefix length.
+    pub(crate) fn new_unchecked(first: A, second: A, len: u8) -> HostPair<A>
+        requires { IsPair (width_of A.FAMILY) (record { first = A.bits first; second = A.bits second; len = len }) }
+        ensures { result ≡ record { first = A.bits first; second = A.bits second; len = len } }
+    {
+        HostPair { first, second, len }
+    }
+
+    /// The two addresses.
+    pub(crate) fn addresses(&self) -> (A, A)
+        ensures first { A.bits result.0 ≡ self.now.first }
+        ensures second { A.bits result.1 ≡ self.now.second }
+        ensures pair { IsPair (width_of A.FAMILY) self.now }
+    {
+        (self.first, self.second)
+    }
+
+    /// The first address, as a host with the prefix length of the pair.
+    pub fn first(&self) -> Host<A>
+        ensures value { result ≡ first_of_pair self.now }
+        ensures pair { IsPair (width_of A.FAMILY) self.now }
+    {
+        Host::new_unchecked(self.first, self.len)
+    }
+
+    /// The second address, as a host with the prefix length of the pair.
+    pub fn second(&self) -> Host<A>
+        ensures value { result ≡ second_of_pair self.now }
+        ensures pair { IsPair (width_of A.FAMILY) self.now }
+    {
+        Host::new_unchecked(self.second, self.len)
+    }
+
+    /// The network that both addresses are in.
+    pub fn network(&self) -> Network<A>
+        ensures { result ≡ network_of_pair self.now }
+    {
+        self.first().network()
+    }
+
+    /// The prefix length in bits, at most 32 in IPv4 and 128 in IPv6.
+    pub fn network_length(&self) -> u8
+        ensures value { result ≡ self.now.len }
+        ensures fits { result ≤ width_of A.FAMILY }
+    {
+        self.len
+    }
+
+    /// The family.
+    pub fn family(&self) -> Family
+        ensures { result ≡ A.FAMILY }
+    {
+        A::FAMILY
+    }
+
+    /// The pair, to be printed with its prefix lengths also where they are full.
+    pub fn with_length(&self) -> WithLength<HostPair<A>>
+        ensures { result ≡ self.now }
+    {
+        WithLength::new(*self)
+    }
+}
+
+impl<A: AddressText> HostPair<A> {
+    ghost use Rattle.cidr.specs.texts.Printed.{plain_host_text, longest_text};
+
+    /// The printed text, both hosts in parentheses, which leaves out a full prefix length:
+    /// `(10.0.0.1/8, 10.0.0.3/8)` or `(2001:db8::1, 2001:db8::1)`. It has at most 40 bytes in IPv4 and 90 in IPv6.
+    #[tactic(auto, using(crate::proofs::NetworkPrinting::longest_laws))]
+    pub fn to_text(&self) -> ArrayString<90>
+        ensures text { result.bytes ≡ pair_text (plain_host_text A.FAMILY) self.now }
+        ensures len { length result.bytes ≤ 2 * longest_text A.FAMILY + 4 }
+    {
+        let first = plain(self.first, self.len);
+        let second = plain(self.second, self.len);
+        parenthesized(first.as_str(), second.as_str())
+    }
+}
+
+impl<A: AddressText> WithLength<HostPair<A>> {
+    ghost use Rattle.cidr.specs.texts.Printed.{forced_host_text, longest_text};
+
+    /// The printed text, with the prefix lengths: at most 40 bytes in IPv4 and 90 in IPv6.
+    #[tactic(auto, using(crate::proofs::NetworkPrinting::longest_laws))]
+    pub fn to_text(&self) -> ArrayString<90>
+        ensures text { result.bytes ≡ pair_text (forced_host_text A.FAMILY) self.now }
+        ensures len { length result.bytes ≤ 2 * longest_text A.FAMILY + 4 }
+    {
+        let pair = self.get();
+        let first = forced(pair.first, pair.len);
+        let second = forced(pair.second, pair.len);
+        parenthesized(first.as_str(), second.as_str())
+    }
+}
+
+impl<A: AddressBits> PartialEq for HostPair<A> {
+    ghost eq = { pair_eq };
+
+    ghost laws = { partial_equiv_from_equiv pair_eq_equiv };
+
+    fn eq(&self, other: &HostPair<A>) -> bool {
+        self.first == other.first && self.second == other.second && self.len == other.len
+    }
+}
+
+impl<A: AddressBits> Eq for HostPair<A> {
+    ghost laws = { pair_eq_equiv };
+}
+
+impl<A: AddressBits> Hash for HostPair<A> {
+    ghost use Rattle.cidr.specs.model.Pair.{pair_hash};
+
+    ghost hash_input = { pair_hash A.FAMILY };
+
+    ghost respects_eq = { same_pair_image (pair_hash A.FAMILY) };
+
+    fn hash<H: Hasher>(&self, state: &mut H) {
+        self.first.hash(state);
+        self.second.hash(state);
+        self.len.hash(state);
+    }
+}
+
+impl<A: AddressText> fmt::Display for HostPair<A> {
+    ghost use Rattle.cidr.specs.texts.Printed.{plain_host_text};
+
+    ghost output = { λ p. Some (pair_text (plain_host_text A.FAMILY) p) };
+
+    fn fmt<W: fmt::Write>(&self, f: &mut fmt::Formatter<W>) -> fmt::Result {
+        f.write_str(self.to_text().as_str())
+    }
+}
+
+impl<A: AddressText> fmt::Display for WithLength<HostPair<A>> {
+    ghost use Rattle.cidr.specs.texts.Printed.{forced_host_text};
+
+    ghost output = { λ p. Some (pair_text (forced_host_text A.FAMILY) p) };
+
+    fn fmt<W: fmt::Write>(&self, f: &mut fmt::Formatter<W>) -> fmt::Result {
+        f.write_str(self.to_text().as_str())
+    }
+}
+
+impl<A: AddressText> fmt::Debug for HostPair<A> {
+    fn fmt<W: fmt::Write>(&self, f: &mut fmt::Formatter<W>) -> fmt::Result {
+        let name = match A::FAMILY {
+            Family::Ipv4 => "Ipv4InetPair",
+            Family::Ipv6 => "Ipv6InetPair",
+        };
+        f.debug_struct(name)
+            .field("first", &self.first)
+            .field("second", &self.second)
+            .field("len", &self.len)
+            .finish()
+    }
+}
