@@ -1,7 +1,5 @@
-use Rattle.std.proofs.Common.{◌≡◌, refl, sym, ◌∙◌, ap, subst, ℕ, ◌+◌, ◌<◌, ◌≤◌, List, [], ◌∷◌, ◌++◌, length, take, drop, true, false, Bool, IsTrue, ◌↔◌, ◌⊎◌, inl, inr, if◌then◌else◌, append_assoc, get_or, Bor, Option, Some, None, Result, Ok, Err}
-use Rattle.std.proofs.lemmas.List.{append-nil, take-append-drop, drop_more, take_all}
-use Rattle.std.proofs.lemmas.Grind.{flat_map-append}
-use Rattle.std.specs.List.{flat_map}
+use Rattle.std.proofs.Common.{◌≡◌, refl, sym, ◌∙◌, ap, subst, ℕ, List, [], ◌++◌, take, drop, true, false, Bool, IsTrue, ◌↔◌, ◌⊎◌, inl, inr, if◌then◌else◌, append_assoc, Option, Some, None, Result, Ok, Err}
+use Rattle.std.proofs.lemmas.List.{append-nil, take-append-drop}
 use Rattle.std.specs.Io.KnownBytes.{Keeps, Appends}
 use Rattle.cidr_tool.specs.declared.errors.ToolError.{ToolError}
 use Rattle.cidr_tool.specs.Writing.{State, Takes, Whole, Part, Writes, Answered}
@@ -68,22 +66,9 @@ refused a b c text front rest e p t = record {
   failed = t.1;
 }
 
--- all the parts, by the one at a place
-parts_at : (ps : List (Bor (List ℕ))) (i : ℕ) (d : Bor (List ℕ)) → i < length ps → flat_map (λ (p : Bor (List ℕ)). p.now) ps ≡ flat_map (λ (p : Bor (List ℕ)). p.now) (take i ps) ++ ((get_or ps i d).now ++ flat_map (λ (p : Bor (List ℕ)). p.now) (drop (i + 1) ps))
-parts_at ps i d h =
-    let e : take i ps ++ (get_or ps i d ∷ drop (i + 1) ps) ≡ ps = ap (λ k. take i ps ++ k) (sym (drop_more ps i d h)) ∙ take-append-drop i ps in
-    sym (ap (flat_map (λ (p : Bor (List ℕ)). p.now)) e) ∙ flat_map-append (λ (p : Bor (List ℕ)). p.now) (take i ps) (get_or ps i d ∷ drop (i + 1) ps)
-
--- a part was refused
-pub part_refused : (a b c : State) (ps : List (Bor (List ℕ))) (i : ℕ) (d : Bor (List ℕ)) (part : List ℕ) → i < length ps → part ≡ (get_or ps i d).now → Whole a b (flat_map (λ (p : Bor (List ℕ)). p.now) (take i ps)) → Part b c part → Part a c (flat_map (λ (p : Bor (List ℕ)). p.now) ps)
-part_refused a b c ps i d part h e w q =
-    rw (parts_at ps i d h, ← e) (whole_part a b c (flat_map (λ (p : Bor (List ℕ)). p.now) (take i ps)) (part ++ flat_map (λ (p : Bor (List ℕ)). p.now) (drop (i + 1) ps)) w (part_more b c part (flat_map (λ (p : Bor (List ℕ)). p.now) (drop (i + 1) ps)) q))
-
--- all parts were taken
-pub all_written : (a b c : State) (ps : List (Bor (List ℕ))) (i : ℕ) (r : Result (Unit {0}) ToolError) → length ps ≤ i → Whole a b (flat_map (λ (p : Bor (List ℕ)). p.now) (take i ps)) → Writes b c [] r → Writes a c (flat_map (λ (p : Bor (List ℕ)). p.now) ps) r
-all_written a b c ps i r h w q =
-    let t = rw (take_all i ps h) at w in
-    subst (λ (k : List ℕ). Writes a c k r) (append-nil (flat_map (λ (p : Bor (List ℕ)). p.now) ps)) (then_writes a b c (flat_map (λ (p : Bor (List ℕ)). p.now) ps) [] r t q)
+-- a text that was taken, and then nothing more
+pub then_flushed : (a b c : State) (text : List ℕ) (r : Result (Unit {0}) ToolError) → Whole a b text → Writes b c [] r → Writes a c text r
+then_flushed a b c text r p q = subst (λ (k : List ℕ). Writes a c k r) (append-nil text) (then_writes a b c text [] r p q)
 
 -- nothing was taken by a sink that had failed before
 pub part_none : (a : State) (text : List ℕ) → a.failed ≡ true → Part a a text

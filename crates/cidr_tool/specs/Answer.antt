@@ -1,16 +1,16 @@
--- What the program answers to its words.
+-- What the program answers to its arguments.
 use Rattle.std.specs.Prelude.{◌≡◌, ℕ, List, [], ◌∷◌, ◌++◌, length, codes, decimal, Result, Err, ◌⊎◌}
 use Rattle.std.specs.Option.{option_map_or}
 use Rattle.std.specs.declared.cmp.Ordering.{Ordering}
 use Rattle.std.specs.declared.cmp.Ordering.TheVariants.{Less, Equal, Greater}
-use Rattle.cidr.specs.Bits.{bit_cmp}
-use Rattle.cidr.specs.Combined.{network_family, network_prefix, address_by, specific, any_bits}
-use Rattle.cidr.specs.CombinedText.{IsIpNetworkText, IsAnyNetworkText, IsIpRefused, any_network_text}
-use Rattle.cidr.specs.IpAddress.{IsIpText, ip_address_bits}
-use Rattle.cidr.specs.Network.{first_of, last_of, mask_of, BeginsWith}
-use Rattle.cidr.specs.Printed.{plain_text}
-use Rattle.cidr.specs.Printed6.{ip_text}
-use Rattle.cidr.specs.Words.{ip_fault}
+use Rattle.cidr.specs.model.Bits.{bit_cmp}
+use Rattle.cidr.specs.either.IpNetwork.{network_family, network_prefix, address_by, specific, any_bits}
+use Rattle.cidr.specs.either.IpText.{IsIpNetworkText, IsAnyNetworkText, IsIpRefused, any_network_text}
+use Rattle.cidr.specs.either.IpAddress.{IsIpText, ip_address_bits}
+use Rattle.cidr.specs.model.Network.{first_of, last_of, mask_of, BeginsWith}
+use Rattle.cidr.specs.texts.Printed.{plain_text}
+use Rattle.cidr.specs.texts.PrintedAddress.{ip_text}
+use Rattle.cidr.specs.texts.Messages.{ip_error}
 use Rattle.cidr.specs.declared.family.Family.{Family}
 use Rattle.cidr.specs.declared.family.Family.TheVariants.{Ipv4, Ipv6}
 use Rattle.cidr.specs.declared.addr.ip.IpAddr.{IpAddr}
@@ -32,16 +32,16 @@ pub data Request : Type 0 where
   Compare : List ℕ → List ℕ → Request
   Walk : List ℕ → List End → Request
 
--- the words are this request
+-- the arguments are this request
 abbrev pub IsRequest : List (List ℕ) → Request → Type 0
-IsRequest words (Show net) = words ≡ codes "show" ∷ net ∷ []
-IsRequest words (Holds net address) = words ≡ codes "in" ∷ net ∷ address ∷ []
-IsRequest words (Compare left right) = words ≡ codes "cmp" ∷ left ∷ right ∷ []
-IsRequest words (Walk net ends) = (word : List ℕ) × (words ≡ codes "walk" ∷ net ∷ word ∷ []) × NamesEnds word ends
+IsRequest arguments (Show net) = arguments ≡ codes "show" ∷ net ∷ []
+IsRequest arguments (Holds net address) = arguments ≡ codes "in" ∷ net ∷ address ∷ []
+IsRequest arguments (Compare left right) = arguments ≡ codes "cmp" ∷ left ∷ right ∷ []
+IsRequest arguments (Walk net ends) = (letters : List ℕ) × (arguments ≡ codes "walk" ∷ net ∷ letters ∷ []) × NamesEnds letters ends
 
--- the words are no request
+-- the arguments are no request
 abbrev pub IsUsage : List (List ℕ) → Type 0
-IsUsage words = (request : Request) → ¬ (IsRequest words request)
+IsUsage arguments = (request : Request) → ¬ (IsRequest arguments request)
 
 -- a line: its name, a space and its value
 abbrev pub line : List ℕ → List ℕ → List ℕ
@@ -78,23 +78,23 @@ order_text Greater = codes "greater\n"
 -- the text that a request is answered with
 abbrev pub IsAnswer : Request → List ℕ → Type 0
 IsAnswer (Show net) text = (network : AnyIpCidr) × IsAnyNetworkText net network × (text ≡ show_text network)
-IsAnswer (Holds net word) text =
-    (network : AnyIpCidr) × (a : IpAddr) × IsAnyNetworkText net network × IsIpText word a
+IsAnswer (Holds net address) text =
+    (network : AnyIpCidr) × (a : IpAddr) × IsAnyNetworkText net network × IsIpText address a
     × ((BeginsWith (ip_address_bits a) (any_bits network) × (text ≡ codes "yes\n")) ⊎ (¬ (BeginsWith (ip_address_bits a) (any_bits network)) × (text ≡ codes "no\n")))
 IsAnswer (Compare left right) text =
     (l r : AnyIpCidr) × IsAnyNetworkText left l × IsAnyNetworkText right r × (text ≡ order_text (bit_cmp (any_bits l) (any_bits r)))
 IsAnswer (Walk net ends) text = (network : IpCidr) × IsIpNetworkText net network × (text ≡ walk_text network ends)
 
--- no network is spelled, and this is the first fault
+-- no network is spelled, and this is the first error
 abbrev pub IsNetRefused : List ℕ → NetworkParseError → Type 0
 IsNetRefused net e = IsIpRefused net e × ((n : AnyIpCidr) → ¬ (IsAnyNetworkText net n))
 
--- the fault that a request is refused with: that of the first faulty word
+-- the error that a request is refused with: that of the first argument that is wrong
 abbrev pub IsRefusal : Request → Fault → Type 0
 IsRefusal (Show net) (Network e) = IsNetRefused net e
 IsRefusal (Show net) (Address e) = ⊥
-IsRefusal (Holds net word) (Network e) = IsNetRefused net e
-IsRefusal (Holds net word) (Address e) = ((n : AnyIpCidr) × IsAnyNetworkText net n) × (e ≡ ip_fault) × ((a : IpAddr) → ¬ (IsIpText word a))
+IsRefusal (Holds net address) (Network e) = IsNetRefused net e
+IsRefusal (Holds net address) (Address e) = ((n : AnyIpCidr) × IsAnyNetworkText net n) × (e ≡ ip_error) × ((a : IpAddr) → ¬ (IsIpText address a))
 IsRefusal (Compare left right) (Network e) = IsNetRefused left e ⊎ (((n : AnyIpCidr) × IsAnyNetworkText left n) × IsNetRefused right e)
 IsRefusal (Compare left right) (Address e) = ⊥
 IsRefusal (Walk net ends) (Network e) = IsIpRefused net e × ((n : IpCidr) → ¬ (IsIpNetworkText net n))
@@ -107,8 +107,8 @@ AnswersRequest request old new r =
     ((fault : Fault) × (r ≡ Err (Refused fault)) × IsRefusal request fault × (new ≡ old))
     ⊎ ((text : List ℕ) × IsAnswer request text × Answered old new text r)
 
--- What `run` answers: wrong words are usage, and write nothing.
+-- What `run` answers: other arguments are usage, and nothing is written.
 abbrev pub Answers : List (List ℕ) → State → State → Result (Unit {0}) ToolError → Type 0
-Answers words old new r =
-    (IsUsage words × (r ≡ Err Usage) × (new ≡ old))
-    ⊎ ((request : Request) × IsRequest words request × AnswersRequest request old new r)
+Answers arguments old new r =
+    (IsUsage arguments × (r ≡ Err Usage) × (new ≡ old))
+    ⊎ ((request : Request) × IsRequest arguments request × AnswersRequest request old new r)

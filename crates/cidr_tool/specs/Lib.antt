@@ -3,5 +3,6 @@ pub mod Tracked
 pub mod Answer
 pub mod Command
 pub mod Report
-pub mod Lines
 pub mod Walking
+pub mod Arguments
+pub mod Program

@@ -1,18 +1,43 @@
--- The exit statuses and the words on standard error.
-use Rattle.std.specs.Prelude.{ℕ, List, Result, Ok, Err}
-use Rattle.cidr.specs.Words.{parse_words, address_words}
+-- The exit statuses, and what is written to standard error.
+use Rattle.std.specs.Prelude.{◌≡◌, ℕ, List, ◌++◌, codes, Result, Ok, Err, ◌⊎◌}
+use Rattle.cidr.specs.texts.Messages.{parse_message, address_message}
+use Rattle.cidr_tool.specs.Writing.{State, Answered}
 use Rattle.cidr_tool.specs.declared.errors.Fault.{Fault}
 use Rattle.cidr_tool.specs.declared.errors.Fault.TheVariants.{Network, Address}
 use Rattle.cidr_tool.specs.declared.errors.ToolError.{ToolError}
 use Rattle.cidr_tool.specs.declared.errors.ToolError.TheVariants.{Refused, Usage, Output}
 
--- the words of a fault are those of what it holds
-abbrev pub fault_words : Fault → List ℕ
-fault_words (Network e) = parse_words e
-fault_words (Address e) = address_words e
+-- the message of an error is that of what it holds
+abbrev pub message_of : Fault → List ℕ
+message_of (Network e) = parse_message e
+message_of (Address e) = address_message e
 
 abbrev pub status_of : Result (Unit {0}) ToolError → ℕ
 status_of (Ok _) = 0
 status_of (Err (Refused fault)) = 1
 status_of (Err Usage) = 2
 status_of (Err Output) = 3
+
+-- a line was written whole and flushed, or the sink has failed and a beginning of the line was written, none if it had failed before
+abbrev pub Says : State → State → List ℕ → Type 0
+Says old new line = (r : Result (Unit {0}) ToolError) × Answered old new line r
+
+abbrev pub usage_line : List ℕ
+usage_line = codes "usage: cidr_tool show NET | in NET ADDR | cmp NET NET | walk NET ENDS | bytes NET | loose TEXT\n"
+
+abbrev pub output_line : List ℕ
+output_line = codes "output failed\n"
+
+abbrev pub no_memory_line : List ℕ
+no_memory_line = codes "no memory\n"
+
+-- the line of a refusal: the message, or `refused` where the message could not be formatted
+abbrev pub IsRefusedLine : Fault → List ℕ → Type 0
+IsRefusedLine fault line = (line ≡ message_of fault ++ codes "\n") ⊎ (line ≡ codes "refused\n")
+
+-- what is written for an answer: nothing if it is done, and else one line
+abbrev pub Reports : Result (Unit {0}) ToolError → State → State → Type 0
+Reports (Ok _) old new = new ≡ old
+Reports (Err (Refused fault)) old new = (line : List ℕ) × IsRefusedLine fault line × Says old new line
+Reports (Err Usage) old new = Says old new usage_line
+Reports (Err Output) old new = Says old new output_line

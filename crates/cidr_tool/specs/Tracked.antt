@@ -1,6 +1,7 @@
-use Rattle.std.specs.Prelude.{◌≡◌, false}
-use Rattle.cidr_tool.specs.declared.sink.Tracked.{Tracked}
+-- What is seen of a writer that is watched for failures.
+use Rattle.std.specs.Prelude.{Bool}
 
--- over this writer, and not failed
-abbrev pub IsNew : {W : Type 0} → W → Tracked W → Type 0
-IsNew out t = (t.out ≡ out) × (t.failed ≡ false)
+-- the writer, and whether one of its calls has failed
+pub record Watched (W : Type 0) : Type 0 where
+  pub writer : W
+  pub has_failed : Bool

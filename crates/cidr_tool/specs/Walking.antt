@@ -1,10 +1,9 @@
 -- The command `walk`: the letters that name ends of a walk, and the lines that answer them.
 use Rattle.std.specs.Prelude.{◌≡◌, ℕ, ◌≤◌, Bool, List, ◌++◌, length, map, codes, Option, Some, None}
 use Rattle.std.specs.List.{flat_map}
-use Rattle.cidr.specs.Combined.{network_family, network_prefix}
-use Rattle.cidr.specs.Printed.{ipv4_text}
-use Rattle.cidr.specs.Printed6.{ipv6_text}
-use Rattle.cidr.specs.Walk.{addresses_of, network_hosts, answers_to}
+use Rattle.cidr.specs.either.IpNetwork.{network_family, network_prefix}
+use Rattle.cidr.specs.texts.PrintedAddress.{ipv4_text, ipv6_text}
+use Rattle.cidr.specs.model.Walk.{addresses_of, network_hosts, answers_to}
 use Rattle.cidr.specs.declared.cidr.combined.IpCidr.{IpCidr}
 use Rattle.cidr.specs.declared.family.Family.{Family}
 use Rattle.cidr.specs.declared.family.Family.TheVariants.{Ipv4, Ipv6}
@@ -16,12 +15,12 @@ abbrev pub letter : End → ℕ
 letter Front = 102
 letter Back = 98
 
--- the word names these ends, letter by letter, and no more than it may
+-- the letters name these ends, one each, and no more than there may be
 abbrev pub most_ends : ℕ
 most_ends = 256
 
 abbrev pub NamesEnds : List ℕ → List End → Type 0
-NamesEnds word ends = (word ≡ map letter ends) × (length ends ≤ most_ends)
+NamesEnds letters ends = (letters ≡ map letter ends) × (length ends ≤ most_ends)
 
 -- the line that answers a call: the address that it gave, or `none`
 abbrev pub answer_line : Option (Family × List Bool) → List ℕ

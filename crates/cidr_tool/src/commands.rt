@@ -1,4 +1,4 @@
-//! The words of the program as commands.
+//! The arguments of the program as commands.
 ghost use Rattle.std.specs.Prelude.{◌∷◌, [], map, MatchOption};
 ghost use Rattle.cidr_tool.specs.Answer.{IsRequest, IsUsage};
 ghost use Rattle.cidr_tool.specs.Command.{request_of};
@@ -20,7 +20,8 @@ pub enum Command<'a> {
 
 /// The command of this name with one argument.
 fn with_one<'a>(name: &str, argument: &'a str) -> Option<Command<'a>>
-    ensures { MatchOption result (IsUsage (name.now ∷ argument.now ∷ [])) (λ c. IsRequest (name.now ∷ argument.now ∷ []) (request_of c)) }
+    ensures { MatchOption result (IsUsage (name.now ∷ argument.now ∷ []))
+        (λ c. IsRequest (name.now ∷ argument.now ∷ []) (request_of c)) }
 {
     if name == "show" {
         return Some(Command::Show(argument));
@@ -30,7 +31,8 @@ fn with_one<'a>(name: &str, argument: &'a str) -> Option<Command<'a>>
 
 /// The command of this name with two arguments.
 fn with_two<'a>(name: &str, first: &'a str, second: &'a str) -> Option<Command<'a>>
-    ensures { MatchOption result (IsUsage (name.now ∷ first.now ∷ second.now ∷ [])) (λ c. IsRequest (name.now ∷ first.now ∷ second.now ∷ []) (request_of c)) }
+    ensures { MatchOption result (IsUsage (name.now ∷ first.now ∷ second.now ∷ []))
+        (λ c. IsRequest (name.now ∷ first.now ∷ second.now ∷ []) (request_of c)) }
 {
     if name == "in" {
         return Some(Command::Holds(first, second));
@@ -44,11 +46,12 @@ fn with_two<'a>(name: &str, first: &'a str, second: &'a str) -> Option<Command<'
     None
 }
 
-/// The command that the words are.
-pub fn command_of<'a>(words: &[&'a str]) -> Option<Command<'a>>
-    ensures { MatchOption result (IsUsage (map (λ w. w.now) words.now)) (λ c. IsRequest (map (λ w. w.now) words.now) (request_of c)) }
+/// The command that the arguments are.
+pub fn command_of<'a>(arguments: &[&'a str]) -> Option<Command<'a>>
+    ensures { MatchOption result (IsUsage (map (λ a. a.now) arguments.now))
+        (λ c. IsRequest (map (λ a. a.now) arguments.now) (request_of c)) }
 {
-    match words {
+    match arguments {
         [name, argument] => with_one(name, argument),
         [name, first, second] => with_two(name, first, second),
         _ => None,

@@ -1,23 +1,23 @@
-//! Why a run of the program did not give an answer.
+//! Why a run of the program gave no answer.
 ghost use Rattle.std.specs.Prelude.{◌≡◌, Some};
 
 use cidr::AddrParseError;
 use cidr::errors::NetworkParseError;
 use std::fmt;
 
-/// The fault of a word that was refused. It prints the words of what it holds.
+/// The error of an argument that was refused. It prints the message of what it holds.
 #[derive(Debug, Drop, PartialEq)]
 pub enum Fault {
-    /// A word is no network.
+    /// An argument is no network.
     Network(NetworkParseError),
-    /// A word is no address.
+    /// An argument is no address.
     Address(AddrParseError),
 }
 
 impl fmt::Display for Fault {
-    ghost use Rattle.cidr_tool.specs.Report.{fault_words};
+    ghost use Rattle.cidr_tool.specs.Report.{message_of};
 
-    ghost output = { λ f. Some (fault_words f) };
+    ghost output = { λ f. Some (message_of f) };
 
     fn fmt<W: fmt::Write>(&self, f: &mut fmt::Formatter<W>) -> fmt::Result {
         match self {
@@ -30,9 +30,9 @@ impl fmt::Display for Fault {
 /// Why `run` gave no answer.
 #[derive(Debug, Drop, PartialEq)]
 pub enum ToolError {
-    /// A word was refused; nothing was written.
+    /// An argument was refused; nothing was written.
     Refused(Fault),
-    /// The words are no command of the program; nothing was written.
+    /// The arguments are no command of the program; nothing was written.
     Usage,
     /// The output has failed; a beginning of the answer was written.
     Output,

@@ -1,53 +1,74 @@
-//! The exit status, and what is said on standard error.
-ghost use Rattle.std.specs.Prelude.{◌≡◌};
-ghost use Rattle.cidr_tool.specs.Report.{status_of};
-ghost use Rattle.cidr_tool.specs.Writing.{Whole};
+//! The exit status, and what is written to standard error.
+ghost use Rattle.std.specs.Prelude.{◌≡◌, codes};
+ghost use Rattle.cidr_tool.specs.Report.{IsRefusedLine, Reports, Says, status_of, no_memory_line};
 
-use crate::errors::ToolError;
+use crate::errors::{Fault, ToolError};
 use crate::sink::Sink;
-use crate::writing::write_all;
-use std::fmt;
+use crate::writing::write_text;
+use arrayvec::ArrayString;
 use std::fmt::Write;
 
 const USAGE: &str =
     "usage: cidr_tool show NET | in NET ADDR | cmp NET NET | walk NET ENDS | bytes NET | loose TEXT\n";
 
-/// A sink that text is formatted into.
-#[derive(Drop)]
-struct Lines<'a, S: Sink> {
-    out: &'a mut S,
-}
+/// The longest message of an error, and a line feed.
+const MOST_LINE: usize = 100;
 
-impl<S: Sink> fmt::Write for Lines<'_, S> {
-    ghost write_str_gives = { λ old bytes new. Whole (S.state old.out.now) (S.state new.out.now) bytes };
-
-    fn write_str(&mut self, s: &str) -> fmt::Result {
-        match write_all(self.out, s.as_bytes()) {
-            Ok(()) => Ok(()),
-            Err(_) => Err(fmt::Error),
-        }
+/// The line of a refusal, which is the error's message.
+fn refused_line(fault: &Fault) -> ArrayString<MOST_LINE>
+    ensures { IsRefusedLine fault.now result.bytes }
+{
+    let mut line = ArrayString::new();
+    match writeln!(line, "{fault}") {
+        Ok(()) => line,
+        Err(_) => unformatted(),
     }
 }
 
-/// Writes the line that belongs to an answer, if there is one, and gives the exit status whatever the sink does:
-/// 0 for an answer, 1 for a refusal, 2 for wrong words, 3 where the output failed.
-pub fn report<E: Sink>(answer: &Result<(), ToolError>, err: &mut E) -> u8
-    ensures { result ≡ status_of answer.now }
+/// The line of a refusal whose message could not be formatted, which is none of the library's.
+fn unformatted() -> ArrayString<MOST_LINE>
+    ensures { result.bytes ≡ codes "refused\n" }
 {
-    let mut lines = Lines { out: err };
+    let mut line = ArrayString::new();
+    line.push_str("refused\n");
+    line
+}
+
+/// Writes a line, as far as the sink takes it.
+fn say<E: Sink>(err: &mut E, line: &str)
+    ensures { Says (E.state err.old) (E.state err.new) line.now }
+{
+    let _ = write_text(err, line);
+}
+
+/// Writes the line that belongs to an answer, if there is one, and returns the exit status whatever the sink does:
+/// 0 for an answer, 1 for a refusal, 2 for usage, 3 where the output failed.
+pub fn report<E: Sink>(answer: &Result<(), ToolError>, err: &mut E) -> u8
+    ensures status { result ≡ status_of answer.now }
+    ensures says { Reports answer.now (E.state err.old) (E.state err.new) }
+{
     match answer {
         Ok(()) => 0,
         Err(ToolError::Refused(fault)) => {
-            let _ = writeln!(lines, "{fault}");
+            say(err, refused_line(fault).as_str());
             1
         }
         Err(ToolError::Usage) => {
-            let _ = lines.write_str(USAGE);
+            say(err, USAGE);
             2
         }
         Err(ToolError::Output) => {
-            let _ = lines.write_str("output failed\n");
+            say(err, "output failed\n");
             3
         }
     }
+}
+
+/// Says that there is no memory for the arguments, and returns the exit status, which is that of a failed output.
+pub fn report_no_memory<E: Sink>(err: &mut E) -> u8
+    ensures status { result ≡ 3 }
+    ensures says { Says (E.state err.old) (E.state err.new) no_memory_line }
+{
+    say(err, "no memory\n");
+    3
 }

@@ -1,22 +1,20 @@
 //! Answering the commands.
-ghost use Rattle.std.specs.Prelude.{◌≡◌, map, decimal, codes, if◌then◌else◌};
-ghost use Rattle.cidr.specs.Bits.{bit_cmp};
-ghost use Rattle.cidr.specs.Combined.{any_bits};
-ghost use Rattle.cidr_tool.specs.Answer.{Answers, AnswersRequest, Show, Holds, Compare, Walk, show_text, ip_show_text, order_text, family_name as family_name_of};
-ghost use Rattle.cidr_tool.specs.Lines.{lines_text};
-ghost use Rattle.cidr_tool.specs.Writing.{Answered};
+ghost use Rattle.std.specs.Prelude.{◌≡◌, ◌≤◌, ◌+◌, ◌++◌, length, map, decimal, codes, if◌then◌else◌};
+ghost use Rattle.cidr.specs.model.Bits.{bit_cmp};
+ghost use Rattle.cidr.specs.either.IpNetwork.{any_bits};
+ghost use Rattle.cidr_tool.specs.Answer.{Answers, AnswersRequest, Show, Holds, Compare, Walk, line, show_text, ip_show_text, order_text, family_name as family_name_of};
 
 use crate::commands::{Command, command_of};
 use crate::errors::ToolError;
 use crate::sink::Sink;
 use crate::walks::{Ends, write_walk};
-use crate::writing::write_parts;
+use crate::writing::write_text;
 use arrayvec::ArrayString;
 use cidr::{AnyIpCidr, Family, IpAddr, IpCidr};
 use std::cmp::Ordering;
 
 /// The number in decimal.
-#[tactic(auto, using(cidr::specs::DecimalLaws::decimal_laws))]
+#[tactic(auto, using(cidr::specs::laws::DecimalLaws::decimal_laws))]
 fn decimal_text(n: u8) -> ArrayString<3>
     ensures { result.bytes ≡ decimal n }
 {
@@ -34,63 +32,55 @@ fn decimal_text(n: u8) -> ArrayString<3>
     text
 }
 
-/// What the lines of `show` say.
-#[derive(Clone, Copy)]
-struct Lines<'a> {
-    network: &'a str,
-    first: &'a str,
-    last: &'a str,
-    mask: &'a str,
-    length: &'a str,
-    family: &'a str,
+/// The most bytes of an answer to `show`: 44 of names and line feeds, 43 of the network, three addresses of 39, a
+/// length of 3 and a family of 4.
+const MOST_SHOWN: usize = 211;
+
+/// An answer to `show`.
+type Shown = ArrayString<MOST_SHOWN>;
+
+/// Appends a line: a name and its value.
+fn push_line(text: &mut Shown, name: &str, value: &str)
+    requires { length text.old.bytes + (length name.now + (length value.now + 1)) ≤ 211 }
+    ensures line { text.new.bytes ≡ text.old.bytes ++ line name.now value.now }
+    ensures len { length text.new.bytes ≡ length text.old.bytes + (length name.now + (length value.now + 1)) }
+{
+    text.push_str(name);
+    text.push_str(value);
+    text.push_str("\n");
 }
 
-/// Writes the lines of `show`.
-fn write_lines<S: Sink>(lines: &Lines, out: &mut S) -> Result<(), ToolError>
-    ensures { Answered (S.state out.old) (S.state out.new) (lines_text lines.now) result }
+/// What there is to say of a network of either family.
+fn shown_network(text: &str, network: &IpCidr) -> Shown
+    requires { length text.now ≤ 43 }
+    ensures { result.bytes ≡ ip_show_text text.now network.now }
 {
-    write_parts(
-        out,
-        &[
-            "network ",
-            lines.network,
-            "\nfirst ",
-            lines.first,
-            "\nlast ",
-            lines.last,
-            "\nmask ",
-            lines.mask,
-            "\nlength ",
-            lines.length,
-            "\nfamily ",
-            lines.family,
-            "\n",
-        ],
-    )
-}
-
-/// Writes what there is to say of a network of either family.
-fn write_network<S: Sink>(text: &str, network: &IpCidr, out: &mut S) -> Result<(), ToolError>
-    ensures { Answered (S.state out.old) (S.state out.new) (ip_show_text text.now network.now) result }
-{
-    let first = network.first_address().to_text();
-    let last = network.last_address().to_text();
-    let mask = network.mask().to_text();
-    let length = decimal_text(network.network_length());
-    let lines = Lines {
-        network: text,
-        first: first.as_str(),
-        last: last.as_str(),
-        mask: mask.as_str(),
-        length: length.as_str(),
-        family: family_name(network.family()),
-    };
-    write_lines(&lines, out)
+    let mut shown = Shown::new();
+    push_line(&mut shown, "network ", text);
+    push_line(
+        &mut shown,
+        "first ",
+        network.first_address().to_text().as_str(),
+    );
+    push_line(
+        &mut shown,
+        "last ",
+        network.last_address().to_text().as_str(),
+    );
+    push_line(&mut shown, "mask ", network.mask().to_text().as_str());
+    push_line(
+        &mut shown,
+        "length ",
+        decimal_text(network.network_length()).as_str(),
+    );
+    push_line(&mut shown, "family ", family_name(network.family()));
+    shown
 }
 
 /// The name of a family.
 fn family_name(family: Family) -> &'static str
-    ensures { result.now ≡ family_name_of family }
+    ensures name { result.now ≡ family_name_of family }
+    ensures len { length result.now ≡ 4 }
 {
     match family {
         Family::Ipv4 => "Ipv4",
@@ -98,15 +88,17 @@ fn family_name(family: Family) -> &'static str
     }
 }
 
-/// Writes what there is to say of a network.
-fn write_shown<S: Sink>(network: &AnyIpCidr, out: &mut S) -> Result<(), ToolError>
-    ensures { Answered (S.state out.old) (S.state out.new) (show_text network.now) result }
+/// What there is to say of a network.
+fn shown(network: &AnyIpCidr) -> Shown
+    ensures { result.bytes ≡ show_text network.now }
 {
     let text = network.to_text();
-    match Option::<IpCidr>::from(*network) {
-        Some(specific) => write_network(text.as_str(), &specific, out),
-        None => write_parts(out, &["network ", text.as_str(), "\n"]),
+    if let Some(specific) = Option::<IpCidr>::from(*network) {
+        return shown_network(text.as_str(), &specific);
     }
+    let mut shown = Shown::new();
+    push_line(&mut shown, "network ", text.as_str());
+    shown
 }
 
 /// The command `show`.
@@ -114,16 +106,16 @@ fn show<S: Sink>(net: &str, out: &mut S) -> Result<(), ToolError>
     ensures { AnswersRequest (Show net.now) (S.state out.old) (S.state out.new) result }
 {
     let network = net.parse::<AnyIpCidr>()?;
-    write_shown(&network, out)
+    write_text(out, shown(&network).as_str())
 }
 
 /// The command `in`.
-fn holds<S: Sink>(net: &str, word: &str, out: &mut S) -> Result<(), ToolError>
-    ensures { AnswersRequest (Holds net.now word.now) (S.state out.old) (S.state out.new) result }
+fn holds<S: Sink>(net: &str, text: &str, out: &mut S) -> Result<(), ToolError>
+    ensures { AnswersRequest (Holds net.now text.now) (S.state out.old) (S.state out.new) result }
 {
     let holder = net.parse::<AnyIpCidr>()?;
-    let address = word.parse::<IpAddr>()?;
-    write_parts(out, &[yes_or_no(holder.contains(&address))])
+    let address = text.parse::<IpAddr>()?;
+    write_text(out, yes_or_no(holder.contains(&address)))
 }
 
 /// The line that answers a question of yes or no.
@@ -139,7 +131,7 @@ fn compare<S: Sink>(left: &str, right: &str, out: &mut S) -> Result<(), ToolErro
 {
     let first = left.parse::<AnyIpCidr>()?;
     let second = right.parse::<AnyIpCidr>()?;
-    write_parts(out, &[order_name(order_of(&first, &second))])
+    write_text(out, order_name(order_of(&first, &second)))
 }
 
 /// The order of two networks, which is that of their bits.
@@ -168,9 +160,10 @@ fn walk<S: Sink>(net: &str, ends: &Ends, out: &mut S) -> Result<(), ToolError>
     write_walk(&network, ends.as_slice(), out)
 }
 
-/// Answers the words, which are the program's arguments without its name.
+/// Answers the program's arguments, which come without its name.
 ///
-/// Wrong words are found first, then the first word that is refused, and only then is anything written.
+/// Whether they are a command is found first, then the first argument that is refused, and only then is anything
+/// written.
 pub fn run<S: Sink>(words: &[&str], out: &mut S) -> Result<(), ToolError>
     ensures { Answers (map (λ w. w.now) words.now) (S.state out.old) (S.state out.new) result }
 {

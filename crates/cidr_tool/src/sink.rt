@@ -3,6 +3,7 @@ ghost use Rattle.std.specs.Prelude.{◌≡◌, false};
 ghost use Rattle.cidr_tool.specs.Writing.{State, Takes, Flushes};
 
 use std::io::Write;
+use std::marker::Model;
 
 /// Takes bytes, and remembers whether it has failed.
 pub trait Sink {
@@ -25,26 +26,32 @@ pub trait Sink {
 
 /// A writer that remembers whether it has failed.
 ///
-/// A fault of the writer, also an interrupted call, is a failure, and so is a write that takes none of some bytes.
+/// An error of the writer, also an interrupted call, is a failure, and so is a write that takes none of some bytes.
 #[derive(Drop)]
 pub struct Tracked<W: Write> {
     out: W,
     failed: bool,
 }
 
-impl<W: Write> Tracked<W> {
-    ghost use Rattle.cidr_tool.specs.Tracked.{IsNew};
+impl<W: Write> Model for Tracked<W> {
+    ghost use Rattle.cidr_tool.specs.Tracked.{Watched};
 
+    ghost Value = { Watched W };
+
+    ghost view = { λ t. record { writer = t.out; has_failed = t.failed } };
+}
+
+impl<W: Write> Tracked<W> {
     /// Over this writer, not failed yet.
     pub fn new(out: W) -> Self
-        ensures { IsNew out result }
+        ensures { result ≡ record { writer = out; has_failed = false } }
     {
         Tracked { out, failed: false }
     }
 
     /// Gives the writer back.
     pub fn into_inner(self) -> W
-        ensures { result ≡ self.out }
+        ensures { result ≡ self.writer }
     {
         let Tracked { out, failed: _ } = self;
         out
@@ -52,7 +59,7 @@ impl<W: Write> Tracked<W> {
 }
 
 impl<W: Write> Sink for Tracked<W> {
-    ghost state = { λ t. record { taken = W.contents t.out; failed = t.failed } };
+    ghost state = { λ t. record { taken = W.contents t.writer; failed = t.has_failed } };
 
     fn write(&mut self, bytes: &[u8]) -> Option<usize> {
         if bytes.is_empty() {

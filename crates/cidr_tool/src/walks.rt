@@ -1,20 +1,20 @@
 //! The command `walk`: the ends that letters name, and the lines that answer them.
 ghost use Rattle.std.specs.Prelude.{◌≡◌, ◌≤◌, ◌+◌, ◌++◌, List, length, map, option_map, MatchOption};
 ghost use Rattle.std.specs.List.{flat_map};
-ghost use Rattle.cidr.specs.IpAddress.{address_family, plain_bits};
-ghost use Rattle.cidr.specs.Seen.{in_family};
+ghost use Rattle.cidr.specs.either.IpAddress.{address_family, plain_bits};
+ghost use Rattle.cidr.specs.model.Views.{in_family};
 ghost use Rattle.cidr_tool.specs.Walking.{NamesEnds, letter, most_ends, answer_line, walk_text};
 ghost use Rattle.cidr_tool.specs.Writing.{Answered};
 ghost use Rattle.cidr.specs.declared.inet_iterator.driving.End.{End as AnEnd};
 
 use crate::errors::ToolError;
 use crate::sink::Sink;
-use crate::writing::write_parts;
+use crate::writing::write_text;
 use arrayvec::ArrayString;
 use cidr::{End, IpAddr, IpCidr, drive};
 use std::marker::Model;
 
-/// The most ends that a word names.
+/// The most ends that an argument names.
 const MOST_ENDS: usize = 256;
 
 /// The lines of as many answers as there can be, of which the longest has 39 bytes and a line feed.
@@ -39,11 +39,11 @@ impl Model for Ends {
 }
 
 impl Ends {
-    /// The ends that the word names, letter by letter: `f` is the front and `b` the back.
-    pub fn named_by(word: &str) -> Option<Ends>
-        ensures { MatchOption result ((ends : List AnEnd) → ¬ (NamesEnds word.now ends)) (NamesEnds word.now) }
+    /// The ends that the text names, letter by letter: `f` is the front and `b` the back.
+    pub fn named_by(text: &str) -> Option<Ends>
+        ensures { MatchOption result ((ends : List AnEnd) → ¬ (NamesEnds text.now ends)) (NamesEnds text.now) }
     {
-        let letters = word.as_bytes();
+        let letters = text.as_bytes();
         if letters.len() > MOST_ENDS {
             return None;
         }
@@ -80,7 +80,8 @@ fn end_of(code: u8) -> Option<End>
 /// The line that answers one call.
 fn push_line(lines: &mut WalkLines, answer: &Option<IpAddr>)
     requires { length lines.old.bytes + 40 ≤ 10240 }
-    ensures line { lines.new.bytes ≡ lines.old.bytes ++ answer_line (option_map (in_family address_family plain_bits) answer.now) }
+    ensures line { lines.new.bytes ≡ lines.old.bytes ++ answer_line
+        (option_map (in_family address_family plain_bits) answer.now) }
     ensures len { length lines.new.bytes ≤ length lines.old.bytes + 40 }
 {
     match answer {
@@ -112,5 +113,5 @@ pub fn write_walk<S: Sink>(network: &IpCidr, ends: &[End], out: &mut S) -> Resul
     let mut walk = network.iter().addresses();
     drive(&mut walk, ends, answers);
     let lines = lines_of(answers);
-    write_parts(out, &[lines.as_str()])
+    write_text(out, lines.as_str())
 }

@@ -1,6 +1,5 @@
 //! Writing a whole text to a sink that may take it in parts.
 ghost use Rattle.std.specs.Prelude.{◌≡◌, []};
-ghost use Rattle.std.specs.List.{flat_map};
 ghost use Rattle.cidr_tool.specs.Writing.{Writes, Answered};
 
 use crate::errors::ToolError;
@@ -31,22 +30,14 @@ fn flush<S: Sink>(out: &mut S) -> Result<(), ToolError>
     }
 }
 
-/// Writes the parts one after another, and flushes.
-fn write_each<S: Sink>(out: &mut S, parts: &[&str]) -> Result<(), ToolError>
-    ensures { Writes (S.state out.old) (S.state out.new) (flat_map (λ p. p.now) parts.now) result }
-{
-    for part in parts {
-        write_all(out, part.as_bytes())?;
-    }
-    flush(out)
-}
-
-/// Writes an answer that is made of these parts, and flushes. A sink that has failed before gets nothing.
-pub fn write_parts<S: Sink>(out: &mut S, parts: &[&str]) -> Result<(), ToolError>
-    ensures { Answered (S.state out.old) (S.state out.new) (flat_map (λ p. p.now) parts.now) result }
+/// Writes a text, by one call of `write` where the sink takes all of it, and flushes. A sink that has failed before
+/// gets nothing.
+pub fn write_text<S: Sink>(out: &mut S, text: &str) -> Result<(), ToolError>
+    ensures { Answered (S.state out.old) (S.state out.new) text.now result }
 {
     if out.failed() {
         return Err(ToolError::Output);
     }
-    write_each(out, parts)
+    write_all(out, text.as_bytes())?;
+    flush(out)
 }

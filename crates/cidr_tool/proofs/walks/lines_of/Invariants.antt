@@ -1,7 +1,7 @@
 use Rattle.std.proofs.Common.{◌≡◌, ◌≤◌, ◌*◌, length, take, map, option_map}
 use Rattle.std.specs.List.{flat_map}
-use Rattle.cidr.specs.IpAddress.{address_family, plain_bits}
-use Rattle.cidr.specs.Seen.{in_family}
+use Rattle.cidr.specs.either.IpAddress.{address_family, plain_bits}
+use Rattle.cidr.specs.model.Views.{in_family}
 use Rattle.cidr_tool.specs.Walking.{answer_line}
 use Rattle.cidr_tool.proofs.walks.lines_of.Given as goal
 

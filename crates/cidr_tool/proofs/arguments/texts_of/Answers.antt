@@ -1,0 +1,12 @@
+use Rattle.std.specs.String.{string_bytes}
+use Rattle.std.proofs.Common.{rules, ap}
+use Rattle.cidr_tool.proofs.Reading.{unreadable, one_more}
+use Rattle.cidr_tool.proofs.arguments.texts_of.Goals as goal
+
+pub returns-in_default-from_utf8 : goal.returns-in_default-from_utf8
+returns-in_default-from_utf8 g c _ =
+    unreadable (g.A.Arguments.told c.args.arguments.now) c.loop-place.place c.in-Some.bytes.items (rw c.in-Some.is at c.in_ok-bytes.ensures) (search rules)
+
+pub loop-place-preserved : goal.loop-place-preserved
+loop-place-preserved g c =
+    rw c.in-Ok-push.ensures.items (one_more string_bytes (g.A.Arguments.told c.args.arguments.now) c.loop-place.place c.loop-place.texts.items c.in-Ok.text c.in-Some.bytes.items c.loop-place.invariant (rw c.in-Some.is at c.in_ok-bytes.ensures) (ap (λ v. v.items) c.in-Ok.ensures.ok))

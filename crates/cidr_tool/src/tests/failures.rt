@@ -1,0 +1,102 @@
+//! Writers that fail.
+use super::fakes::{Trouble, plain, troubled, with_arguments};
+use super::{HOST_PART, SHOWN};
+use crate::arguments::Given;
+use crate::errors::{Fault, ToolError};
+use crate::program::program;
+use crate::report::report;
+use crate::run::run;
+use crate::sink::Sink;
+use cidr::errors::NetworkParseError;
+use std::io::ErrorKind;
+use std::test::Fail;
+
+const SHOW: [&str; 2] = ["show", "192.0.2.48/28"];
+
+#[test]
+fn a_slow_writer_gets_the_whole_answer(rt: HostRuntime) -> Result<(), Fail> {
+    let mut slow = troubled(rt.alloc(), 1, 0, Trouble::Zero);
+    assert_eq!(rt; run(&SHOW, &mut slow), Ok(()));
+    let slow = slow.into_inner();
+    assert_eq!(rt; slow.bytes.as_slice(), SHOWN.as_bytes());
+    assert_eq!(rt; slow.calls, SHOWN.len() + 1, "the last call is the flush");
+    Ok(())
+}
+
+/// Trouble at any call ends the writing, and the next run writes nothing.
+#[test]
+fn a_failed_writer_gets_nothing_more(rt: HostRuntime) -> Result<(), Fail> {
+    for trouble in [
+        Trouble::Error(ErrorKind::Other),
+        Trouble::Error(ErrorKind::Interrupted),
+        Trouble::Zero,
+    ] {
+        // a flush that takes no bytes is no trouble
+        let last = if trouble == Trouble::Zero {
+            SHOWN.len()
+        } else {
+            SHOWN.len() + 1
+        };
+        for at in 1..last + 1 {
+            let mut out = troubled(rt.alloc(), 1, at, trouble);
+            assert_eq!(rt; run(&SHOW, &mut out), Err(ToolError::Output));
+            assert!(rt; out.failed());
+            assert_eq!(rt; run(&SHOW, &mut out), Err(ToolError::Output));
+            let bytes = out.into_inner().bytes;
+            assert_eq!(rt; bytes.len(), at - 1, "nothing after the trouble");
+            assert!(rt; SHOWN.as_bytes().starts_with(bytes.as_slice()));
+        }
+    }
+    Ok(())
+}
+
+#[test]
+fn a_failed_output_is_said_on_standard_error(rt: HostRuntime) -> Result<(), Fail> {
+    // the last of these is the flush
+    for at in [1, 2, SHOWN.len(), SHOWN.len() + 1] {
+        let mut out = troubled(rt.alloc(), 1, at, Trouble::Error(ErrorKind::Other));
+        let mut err = plain(rt.alloc());
+        let system = with_arguments(&SHOW);
+        let given = Given { system: &system };
+        assert_eq!(rt; program(rt.alloc(), &given, &mut out, &mut err), 3);
+        let bytes = out.into_inner().bytes;
+        assert_eq!(rt; bytes.len(), at - 1);
+        assert!(rt; SHOWN.as_bytes().starts_with(bytes.as_slice()));
+        assert_eq!(rt;
+            err.into_inner().bytes.as_slice(),
+            b"output failed\n".as_slice()
+        );
+    }
+    Ok(())
+}
+
+#[test]
+fn the_status_does_not_hang_on_standard_error(rt: HostRuntime) -> Result<(), Fail> {
+    let mut failed = troubled(rt.alloc(), 1, 1, Trouble::Zero);
+    assert_eq!(rt; failed.write(b"x"), None);
+    assert_eq!(rt; failed.write(b""), Some(0));
+    let refused = run(&["show", "192.0.3.0/23"], &mut failed);
+    assert_eq!(rt;
+        refused,
+        Err(ToolError::Refused(Fault::Network(NetworkParseError::InvalidHostPart)))
+    );
+    assert_eq!(rt; report(&refused, &mut failed), 1);
+    assert_eq!(rt; report(&Err(ToolError::Output), &mut failed), 3);
+    assert_eq!(rt; report(&run(&["x"], &mut failed), &mut failed), 2);
+    assert_eq!(rt; report(&Ok(()), &mut failed), 0);
+    assert!(rt; failed.into_inner().bytes.is_empty());
+    Ok(())
+}
+
+/// It fails at the fifth call.
+#[test]
+fn a_failing_standard_error_gets_the_beginning_of_the_line(rt: HostRuntime) -> Result<(), Fail> {
+    let mut out = plain(rt.alloc());
+    let mut err = troubled(rt.alloc(), 1, 5, Trouble::Error(ErrorKind::Other));
+    let answer = run(&["show", "192.0.3.0/23"], &mut out);
+    assert_eq!(rt; report(&answer, &mut err), 1);
+    let bytes = err.into_inner().bytes;
+    assert_eq!(rt; bytes.as_slice(), b"host".as_slice());
+    assert!(rt; HOST_PART.as_bytes().starts_with(bytes.as_slice()));
+    Ok(())
+}
