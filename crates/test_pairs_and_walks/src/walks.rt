@@ -1,0 +1,35 @@
+//! Walks that take addresses at both ends.
+use crate::support::read;
+use cidr::{End, Ipv4Addr, Ipv4Cidr, Ipv4Inet, Ipv4InetPair, drive};
+use std::process::Abort;
+
+fn small(last: u8) -> Option<Ipv4Addr> {
+    Some(Ipv4Addr::new(1, 2, 3, last))
+}
+
+/// The pair of two hosts, of 10.0.0.0/8.
+fn pair(rt: &impl Abort, first: &str, second: &str) -> Ipv4InetPair {
+    let (first, second) = (read::<Ipv4Inet>(rt, first), read::<Ipv4Inet>(rt, second));
+    Ipv4InetPair::new(first, second).ok().expect(rt, "a pair")
+}
+
+#[test]
+fn both_ends_of_a_walk_meet(rt: HostRuntime) {
+    let mut walk = read::<Ipv4Cidr>(&rt, "1.2.3.0/30").iter().addresses();
+    let ends = [End::Front, End::Back, End::Back, End::Front, End::Front];
+    let mut answers = [None; 5];
+    drive(&mut walk, &ends, &mut answers);
+    assert!(rt; answers == [small(0), small(3), small(2), small(1), None]);
+    assert!(rt; walk.next().is_none());
+    assert!(rt; walk.next_back().is_none());
+    assert!(rt; walk.count() == Some(0));
+}
+
+#[test]
+fn a_walk_over_a_reversed_pair_is_empty(rt: HostRuntime) {
+    let mut walk = pair(&rt, "10.0.0.9/8", "10.0.0.1/8").iter().addresses();
+    assert!(rt; walk.size_hint() == (0, Some(0)));
+    let mut answers = [None; 2];
+    drive(&mut walk, &[End::Front, End::Back], &mut answers);
+    assert!(rt; answers == [None, None]);
+}

@@ -1,0 +1,10 @@
+//! Tests of code that is written once over the traits, at types of one family and of either. The expected values
+//! come from outside the library.
+#![tactic(auto)]
+
+#[cfg(test)]
+mod either_family;
+#[cfg(test)]
+mod one_family;
+#[cfg(test)]
+mod over_traits;
