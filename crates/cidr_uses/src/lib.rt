@@ -1,0 +1,11 @@
+//! Parts of small programs, written by the public calls of `cidr` alone and proved from its public contracts alone.
+#![tactic(auto)]
+
+pub mod access_list;
+pub mod address_pool;
+pub mod at_ipv4;
+pub mod at_ipv6;
+pub mod config_line;
+pub mod host_lengths;
+pub mod network_lengths;
+pub mod read_back;
