@@ -7,12 +7,85 @@ FOLDER has the groups: files NAME.in with operations and NAME.out with the expec
 line. PROGRAM is cidr_replay: what it answers with `unsupported` is left out, and nothing else of its
 output is used. docs/REPLAY.md says how the lines are chosen.
 """
+import ipaddress
 import subprocess
 import sys
 from collections import defaultdict
 from pathlib import Path
 
 SIZE = 3000
+
+# Worked examples of the groups that stand in the sample besides, each once.
+CHOSEN = [
+    b"addr.cmp ip 127.0.0.11 cb50:ce05:bda8:ebac:4776:66e8:4286:4c5a",
+    b"cidr.cmp ip 0.0.0.0/1 0.0.0.0/10",
+    b"cidr.cmp ip 8000::/1 ::/0",
+    b"cidr.cmp ip ::/1 ::/1",
+    b"cidr.cmp ip 192.0.0.0/3 0:0:0:7f::/64",
+    b"cidr.new any 0.0.0.0 8",
+    b"cidr.new any 62.192.18.92 2",
+    b"cidr.new ip 0.0.0.0 4",
+    b"cidr.show any 81.64.0.0/10",
+    b"cidr.show ip 8.5.190.94/32",
+    b"cidr.show ip ::/16",
+    b"cidr.text any 0.0.0.17/32",
+    b"cidr.text any 112.0.0.0/17",
+    b"cidr.text ip 0:13:f1b1:3926::/64",
+    b"inet.add ip 255.255.255.240/31 1",
+    b"inet.add ip 2001:db8:0:89ac::1/128 0",
+    b"inet.add ip 156.146.196.216/0 1668102951",
+    b"inet.cmp ip 0.0.0.1/16 ::ffff:ffff:ffff:fffc/1",
+    b"inet.cmp ip 0.0.9.100/0 0.0.9.100/24",
+    b"inet.cmp ip 0.0.3.241/31 127.0.0.160/0",
+    b"inet.contains ip ::1:69b6:fc94:8fcb:cf29/96 127.152.0.255",
+    b"inet.contains ip 192.0.2.91/1 ffff:ffff:ffff:ffff:ffe1:8647:6fd3:1faa",
+    b"inet.contains ip 2001:db8:0:520d::1/33 2001:db8:0:520d::3",
+    b"inet.decrement ip 0.0.0.0/2",
+    b"inet.decrement ip 192.168.0.61/1",
+    b"inet.increment ip 10.0.0.1/32",
+    b"inet.increment ip 15.255.255.255/2",
+    b"inet.increment ip ::2fa:afb5/4",
+    b"inet.increment ip ffff:ffff:ffff:ffff:ffff:ffff:ffff:ffff/0",
+    b"inet.next ip ::/0",
+    b"inet.next ip 192.168.0.61/1",
+    b"inet.overflowing_add ip 0.126.0.0/16 340282366920938463463374607431768211455",
+    b"inet.overflowing_add ip 127.0.0.199/0 1",
+    b"inet.overflowing_add ip ::fffe:0:0/8 4294967296",
+    b"inet.overflowing_add ip 127.0.0.17/16 4294967295",
+    b"inet.overflowing_add v6 ::1/0 340282366920938463463374607431768211455",
+    b"inet.overflowing_sub ip 255.206.154.184/0 4294967295",
+    b"inet.overflowing_sub ip 4.9.134.35/6 4294967296",
+    b"inet.overflowing_sub ip ::ffff:ffff:ffff:ffff/128 1",
+    b"inet.overflowing_sub v4 10.0.0.1/32 340282366920938463463374607431768211455",
+    b"inet.overflowing_sub v4 192.0.2.5/24 4294967296",
+    b"inet.overflowing_sub v6 ::/0 340282366920938463463374607431768211455",
+    b"inet.show ip 0.0.64.1/32",
+    b"inet.show ip ::2fa:afb5/4",
+    b"inet.sub ip 156.146.196.216/0 638152591",
+    b"inet.text ip ::100/128",
+    b"pair.text v4 10.0.0.1 10.0.0.3 8",
+    b"walk v4 10.0.0.1 10.0.0.3 8 bfff",
+    b"walk v6 :: 7fff:ffff:ffff:ffff:ffff:ffff:ffff:ffff 1 -",
+    b"walk.net v4 1.2.3.4/32 ffbb",
+    b"walk.net v6 ::/0 -",
+    b"walk.net_hosts ip ::/66 ff",
+]
+
+# Worked by hand: walks over one address, and over all of IPv6.
+WORKED = [
+    (b"walk ip 1::1:0:0:0 1::1:0:0:0 128 fb", b"1::1:0:0:0 none left 0 0 0"),
+    (
+        b"walk.net ip ::/0 fb",
+        b":: ffff:ffff:ffff:ffff:ffff:ffff:ffff:ffff left 18446744073709551615 none none",
+    ),
+    (b"walk.net_hosts ip 0.1.1.0/32 bfbf", b"0.1.1.0/32 none none none left 0 0 0"),
+]
+
+# The address around which every length is tried, and the lengths at which it steps.
+AROUND = [
+    ("v4", ipaddress.ip_address("192.0.2.181"), [0, 1, 8, 24, 31, 32]),
+    ("v6", ipaddress.ip_address("2001:db8:1234:5678:9abc:def0:fedc:ba98"), [0, 1, 63, 64, 65, 127, 128]),
+]
 
 # The format leaves open what these lines get; this program's answers to them are fixed here.
 OTHER_LINES = [
@@ -25,6 +98,16 @@ OTHER_LINES = [
     (b"addr.parse v4 =1.2.3.4%2f", b"malformed"),
     (b"addr.parse v4 =%FF", b"malformed"),
     (b"addr.parse v4 =\xff", b"malformed"),
+    (b"addr.parse v4 =1.2.3.4\r", b"malformed"),
+    (b"addr.parse v4 =1.2.3.4\t", b"malformed"),
+    (b"addr.parse v4 =1.2.3.4\x00", b"malformed"),
+    (b"addr.parse v4 =1.2.3.4\x7f", b"malformed"),
+    (b"addr.parse v6 =::\xef\xbc\x91", b"malformed"),
+    (b"addr.text\tv4 1.2.3.4", b"malformed"),
+    (b"fault.eq v4 =1.2.3.4\r v4 =1.2.3.4", b"malformed"),
+    (b"family.show Ipv4\r", b"malformed"),
+    (b"tool =show =10.0.0.0/8\r", b"malformed"),
+    (b"\r", b"malformed"),
     (b"addr.parse v4 =1.2.3.4 ", b"malformed"),
     (b"addr.parse v4  =1.2.3.4", b"malformed"),
     (b"addr.parse v4 =1.2.3.4 =1.2.3.4", b"malformed"),
@@ -128,15 +211,62 @@ def most_that_fit(lines, size):
     return best, each
 
 
+def lengths(kind, address):
+    """Every length: the network around the address as the module `ipaddress` gives it, and the steps at its ends."""
+    for length in range(address.max_prefixlen + 1):
+        net = ipaddress.ip_network((address, length), strict=False)
+        is_full = "true" if length == address.max_prefixlen else "false"
+        parts = [net[0], net[-1], net.netmask, length, f"Ipv{address.version}", is_full]
+        yield f"cidr.show {kind} {net}", " ".join(map(str, parts))
+        yield f"cidr.contains {kind} {net} {address}", "true"
+        first, last = f"{net[0]}/{length}", f"{net[-1]}/{length}"
+        yield f"inet.increment {kind} {last}", f"true {first}"
+        yield f"inet.decrement {kind} {first}", f"true {last}"
+        yield f"inet.next {kind} {last}", "none"
+        yield f"inet.previous {kind} {first}", "none"
+
+
+def step_sizes(size):
+    """Steps about the number of addresses and about the limits of 32, 64 and 128 bits."""
+    sizes = {0, 1, size - 1, size, 2**32 - 1, 2**32, 2**64, 2**128 - 1}
+    return sorted(n for n in sizes if n < 2**128)
+
+
+def steps(kind, address, length):
+    """Sums and differences as whole numbers of unlimited size give them."""
+    net = ipaddress.ip_network((address, length), strict=False)
+    size, part = net.num_addresses, int(address) - int(net[0])
+    for step in step_sizes(size):
+        for name, end in [("add", part + step), ("sub", part - step)]:
+            is_inside = 0 <= end < size
+            host = f"{net[end % size]}/{length}"
+            for suffix in ["", "_u32"] if kind == "v4" and step < 2**32 else [""]:
+                words = f"{kind} {address}/{length} {step}"
+                yield f"inet.overflowing_{name}{suffix} {words}", f"{host} {'false' if is_inside else 'true'}"
+                yield f"inet.{name}{suffix} {words}", host if is_inside else "malformed"
+
+
+def computed_lines():
+    """Lines that are in no group, with answers by Python's own addresses and numbers."""
+    lines = []
+    for kind, address, step_lengths in AROUND:
+        lines += lengths(kind, address)
+        for length in step_lengths:
+            lines += steps(kind, address, length)
+    return [(operation.encode(), answer.encode()) for operation, answer in lines]
+
+
 def main():
     if len(sys.argv) != 3:
         sys.exit(__doc__)
     lines = read_lines(sys.argv[1], sys.argv[2])
     places, each = most_that_fit(lines, SIZE - len(OTHER_LINES))
-    sample = [lines[place] for place in places] + OTHER_LINES
+    place_of = {operation: place for place, (operation, _) in enumerate(lines)}
+    places = sorted({*places, *(place_of[operation] for operation in CHOSEN)})
+    sample = dict([lines[place] for place in places] + WORKED + computed_lines() + OTHER_LINES)
     here = Path(__file__).resolve().parent
-    (here / "stdin").write_bytes(b"".join(operation + b"\n" for operation, _ in sample))
-    (here / "stdout").write_bytes(b"".join(expected + b"\n" for _, expected in sample))
+    (here / "stdin").write_bytes(b"".join(operation + b"\n" for operation in sample))
+    (here / "stdout").write_bytes(b"".join(expected + b"\n" for expected in sample.values()))
     print(f"{len(sample)} lines, {each} for an operation and type")
 
 

@@ -22,6 +22,9 @@ pub fn respond(alloc: Global, line: &[u8], answer: &mut Answer) -> Result<(), Al
 }
 
 fn answer_line(alloc: Global, line: &[u8], answer: &mut Answer) -> Outcome {
+    if !line.iter().all(|byte| stands_in_a_line(*byte)) {
+        return Err(LineError::Malformed);
+    }
     let Ok(line) = str::from_utf8(line) else {
         return Err(LineError::Malformed);
     };
@@ -33,6 +36,11 @@ fn answer_line(alloc: Global, line: &[u8], answer: &mut Answer) -> Outcome {
     } else {
         Err(LineError::Malformed)
     }
+}
+
+/// Whether the byte is a visible ASCII character, of which tokens are made, or the space between two tokens.
+fn stands_in_a_line(byte: u8) -> bool {
+    matches!(byte, b' '..=b'~')
 }
 
 /// The word cut at its first dot; a word without one, or with nothing behind it, has no name.
