@@ -1,36 +1,69 @@
-//! What the work is done on.
+//! What the work is done on: addresses, networks and texts, as plain numbers.
+ghost use Rattle.std.specs.Prelude.{◌<◌};
 
-pub const IPV4: [&str; 8] = [
-    "0.0.0.0",
-    "1.2.3.4",
-    "10.0.0.1",
-    "127.0.0.1",
-    "192.0.2.48",
-    "198.51.100.255",
-    "203.0.113.7",
-    "255.255.255.255",
+/// How many addresses, networks or hosts the work goes over in a round.
+pub const COUNT: usize = 64;
+
+/// The same as a number of calls.
+pub const CALLS: u32 = 64;
+
+/// Four IPv4 addresses whose first two bits differ.
+const IPV4: [u32; 4] = [0x0a01_0203, 0x6440_0a0b, 0xac10_fe01, 0xc633_6407];
+
+/// Four IPv6 addresses whose first two bits differ.
+const IPV6: [u128; 4] = [
+    0x2001_0db8_0000_0001_0000_0000_0000_0001,
+    0x5f00_1234_5678_9abc_def0_fedc_ba98_7654,
+    0x8000_0000_0000_0000_0000_0000_c000_0201,
+    0xfe80_0000_0000_0000_0001_0002_0003_0004,
 ];
 
-pub const IPV6: [&str; 8] = [
-    "::",
-    "::1",
-    "2001:db8::",
-    "fe80::1:2:3:4",
-    "::ffff:192.0.2.1",
-    "2001:db8:0:1:1:1:1:1",
-    "2001:db8:1234:5678:9abc:def0:fedc:ba98",
-    "ffff:ffff:ffff:ffff:ffff:ffff:ffff:ffff",
-];
+/// The first number and the length of one of 64 different IPv4 networks: sixteen, one in the other, around each of
+/// four addresses.
+pub fn ipv4_network(index: usize) -> (u32, u8) {
+    let len = 2 + 2 * (index % 16);
+    let mask = u32::MAX << (32 - len);
+    (IPV4[index / 16 % 4] & mask, len as u8)
+}
 
-/// The number of the first address, the length, and the number of the second address.
-pub const IPV6_NETWORK: (u128, u8) = (0x2001_0db8_0000_0000_0000_0000_0000_0000, 36);
+/// The same of IPv6.
+pub fn ipv6_network(index: usize) -> (u128, u8) {
+    let group = index / 16 % 4;
+    let len = 8 + 8 * (index % 16) - group;
+    let mask = u128::MAX << (128 - len);
+    (IPV6[group] & mask, len as u8)
+}
+
+/// The number of one of 64 IPv4 addresses, each in some of the networks.
+pub fn ipv4_address(index: usize) -> u32 {
+    IPV4[index % 4] ^ (0x9e37_79b9 >> (1 + 2 * (index / 4 % 16)))
+}
+
+/// The same of IPv6.
+pub fn ipv6_address(index: usize) -> u128 {
+    IPV6[index % 4] ^ (0x9e37_79b9_7f4a_7c15_f39c_c060_5ced_c834 >> (4 + 8 * (index / 4 % 16)))
+}
+
+/// Whether the value with this index is of IPv4, where there are values of both families.
+pub fn is_ipv4(index: usize) -> bool {
+    index / 4 % 2 == 0
+}
+
+/// The last 32 bits of a number.
+pub fn low(number: u128) -> u32 {
+    (number & 0xffff_ffff) as u32
+}
+
+/// The index that goes with another one in a round: each in turn, in an order that changes with the round.
+pub fn partner(round: u32, index: usize) -> usize
+    ensures { result < 64 }
+{
+    let round = round as usize;
+    let stride = 2 * (round % 32) + 1;
+    index.wrapping_mul(stride).wrapping_add(round / 32) % COUNT
+}
 
 /// One number out of two, so that no step of a loop can be left out.
 pub fn mixed(sum: u32, next: u32) -> u32 {
-    (sum ^ next).rotate_left(5).wrapping_add(0x9e37_79b9)
-}
-
-/// A number of 128 bits out of a small one.
-pub fn spread(n: u32) -> u128 {
-    IPV6_NETWORK.0 | (u128::from(n) << 64)
+    sum.wrapping_mul(5) ^ next
 }
