@@ -1,10 +1,15 @@
 //! The errors of networks, hosts and pairs, and of their texts.
-ghost use Rattle.std.specs.Prelude.{◌≡◌, Some};
+ghost use Rattle.std.specs.Prelude.{◌≡◌, ◌≤◌, length, Some};
+ghost use Rattle.cidr.specs.texts.Messages.{limit_message};
 
 use crate::addr::error::AddrParseError;
+use crate::addr::print::decimal_text;
 use crate::family::Family;
+use arrayvec::ArrayString;
 use std::error::Error;
 use std::fmt;
+
+const INVALID_LENGTH_TEXT: &str = "invalid length text";
 
 /// The text after the slash is no prefix length: an optional `+` and decimal digits of a value up to 255.
 ///
@@ -18,7 +23,7 @@ impl fmt::Display for ParseIntError {
     ghost output = { λ _. Some length_message };
 
     fn fmt<W: fmt::Write>(&self, f: &mut fmt::Formatter<W>) -> fmt::Result {
-        f.write_str("invalid length text")
+        f.write_str(INVALID_LENGTH_TEXT)
     }
 }
 
@@ -42,11 +47,34 @@ pub struct NetworkLengthTooLongError(usize, Family);
 
 impl NetworkLengthTooLongError {
     ghost use Rattle.cidr.specs.model.Network.{too_long};
+    ghost use Rattle.cidr.specs.texts.Messages.{too_long_message};
 
     pub(crate) fn new(len: usize, family: Family) -> NetworkLengthTooLongError
         ensures { result ≡ too_long len family }
     {
         NetworkLengthTooLongError(len, family)
+    }
+
+    /// The message, with room for the 20 digits that a `usize` may have.
+    fn to_text(&self) -> ArrayString<71>
+        ensures { result.bytes ≡ too_long_message self.now }
+    {
+        let mut text = ArrayString::new();
+        text.push_str("Network length ");
+        text.push_str(decimal_text(self.0).as_str());
+        text.push_str(limit_text(self.1));
+        text
+    }
+}
+
+/// What stands after the length.
+fn limit_text(family: Family) -> &'static str
+    ensures text { result.now ≡ limit_message family }
+    ensures len { length result.now ≤ 36 }
+{
+    match family {
+        Family::Ipv4 => " is too long for Ipv4 (maximum: 32)",
+        Family::Ipv6 => " is too long for Ipv6 (maximum: 128)",
     }
 }
 
@@ -56,14 +84,7 @@ impl fmt::Display for NetworkLengthTooLongError {
     ghost output = { λ e. Some (too_long_message e) };
 
     fn fmt<W: fmt::Write>(&self, f: &mut fmt::Formatter<W>) -> fmt::Result {
-        let len = self.0;
-        match self.1 {
-            Family::Ipv4 => write!(f, "Network length {len} is too long for Ipv4 (maximum: 32)"),
-            Family::Ipv6 => write!(
-                f,
-                "Network length {len} is too long for Ipv6 (maximum: 128)"
-            ),
-        }
+        f.write_str(self.to_text().as_str())
     }
 }
 
@@ -96,24 +117,42 @@ pub enum NetworkParseError {
     NetworkLengthTooLongError(NetworkLengthTooLongError),
 }
 
+impl NetworkParseError {
+    ghost use Rattle.cidr.specs.texts.Messages.{parse_message};
+
+    /// The message, which is what is printed. It has at most 99 bytes.
+    pub fn to_text(&self) -> ArrayString<99>
+        ensures { result.bytes ≡ parse_message self.now }
+    {
+        let mut text = ArrayString::new();
+        match self {
+            NetworkParseError::InvalidHostPart => text.push_str(
+                "host part of address was not zero",
+            ),
+            NetworkParseError::AddrParseError(e) => {
+                text.push_str("couldn't parse address in network: ");
+                text.push_str(e.to_text().as_str());
+            }
+            NetworkParseError::NetworkLengthParseError(_) => {
+                text.push_str("couldn't parse length in network: ");
+                text.push_str(INVALID_LENGTH_TEXT);
+            }
+            NetworkParseError::NetworkLengthTooLongError(e) => {
+                text.push_str("invalid length for network: ");
+                text.push_str(e.to_text().as_str());
+            }
+        }
+        text
+    }
+}
+
 impl fmt::Display for NetworkParseError {
     ghost use Rattle.cidr.specs.texts.Messages.{parse_message};
 
     ghost output = { λ e. Some (parse_message e) };
 
     fn fmt<W: fmt::Write>(&self, f: &mut fmt::Formatter<W>) -> fmt::Result {
-        match self {
-            NetworkParseError::InvalidHostPart => f.write_str("host part of address was not zero"),
-            NetworkParseError::AddrParseError(e) => {
-                write!(f, "couldn't parse address in network: {e}")
-            }
-            NetworkParseError::NetworkLengthParseError(e) => {
-                write!(f, "couldn't parse length in network: {e}")
-            }
-            NetworkParseError::NetworkLengthTooLongError(e) => {
-                write!(f, "invalid length for network: {e}")
-            }
-        }
+        f.write_str(self.to_text().as_str())
     }
 }
 

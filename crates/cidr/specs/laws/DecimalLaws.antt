@@ -1,6 +1,6 @@
 -- Decimal texts, digit by digit.
-use Rattle.std.proofs.Common.{◌≡◌, ℕ, ◌+◌, ◌/◌, ◌%◌, ◌<◌, ◌≤◌, List, [], ◌∷◌, ◌++◌, decimal, sym, ap, ◌∙◌, arith, append_assoc}
-use Rattle.std.proofs.lemmas.Fmt.{decimal_digit, decimal_step}
+use Rattle.std.proofs.Common.{◌≡◌, ℕ, ◌+◌, ◌/◌, ◌%◌, ◌<◌, ◌≤◌, List, [], ◌∷◌, ◌++◌, decimal, length, ◌^◌, sym, ap, ◌∙◌, arith, append_assoc}
+use Rattle.std.proofs.lemmas.Fmt.{decimal_digit, decimal_step, length-decimal-le}
 
 pub pushed_one : (n : ℕ) (old : List ℕ) → n < 10 → old ++ (48 + n) ∷ [] ≡ old ++ decimal n
 pushed_one n old h = ap (λ t. old ++ t) (sym (decimal_digit n h))
@@ -19,3 +19,16 @@ pushed_three n old h k =
     rw front (append_assoc old (decimal m) ((48 + n % 10) ∷ []) ∙ ap (λ t. old ++ t) (sym (decimal_step n (omega arith) (omega arith))))
 
 pub ruleset decimal_laws = (pushed_one, pushed_two, pushed_three)
+
+-- the last digit after those before it
+pub pushed_only : (n : ℕ) → n < 10 → (48 + n % 10) ∷ [] ≡ decimal n
+pushed_only n h = let same : n % 10 ≡ n = omega arith in ap (λ d. (48 + d) ∷ []) same ∙ sym (decimal_digit n h)
+
+pub pushed_last : (n : ℕ) → 10 ≤ n → n < 2 ^ 64 → decimal (n / 10) ++ (48 + n % 10) ∷ [] ≡ decimal n
+pushed_last n h k = sym (decimal_step n h k)
+
+-- there are at most 20, and 19 before the last
+pub digits_before_last : (n : ℕ) → n < 2 ^ 64 → length (decimal (n / 10)) ≤ 19
+digits_before_last n h = length-decimal-le 19 (n / 10) (omega arith) (omega arith) (omega arith)
+
+pub ruleset number_laws = (pushed_only, pushed_last, digits_before_last)

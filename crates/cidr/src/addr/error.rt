@@ -1,6 +1,7 @@
 //! The error of an address text.
 ghost use Rattle.std.specs.Prelude.{◌≡◌, Some};
 
+use arrayvec::ArrayString;
 use std::error::Error;
 use std::fmt;
 
@@ -20,7 +21,7 @@ pub(crate) enum AddrKind {
 pub struct AddrParseError(AddrKind);
 
 impl AddrParseError {
-    ghost use Rattle.cidr.specs.texts.Messages.{ipv4_error, ipv6_error, ip_error};
+    ghost use Rattle.cidr.specs.texts.Messages.{ipv4_error, ipv6_error, ip_error, address_message};
 
     pub(crate) fn ipv4() -> AddrParseError
         ensures { result ≡ ipv4_error }
@@ -39,6 +40,19 @@ impl AddrParseError {
     {
         AddrParseError(AddrKind::Ip)
     }
+
+    /// The message, which is what is printed. It has at most 27 bytes.
+    pub fn to_text(&self) -> ArrayString<27>
+        ensures { result.bytes ≡ address_message self.now }
+    {
+        let mut text = ArrayString::new();
+        text.push_str(match self.0 {
+            AddrKind::Ipv4 => "invalid IPv4 address syntax",
+            AddrKind::Ipv6 => "invalid IPv6 address syntax",
+            AddrKind::Ip => "invalid IP address syntax",
+        });
+        text
+    }
 }
 
 impl fmt::Display for AddrParseError {
@@ -47,11 +61,7 @@ impl fmt::Display for AddrParseError {
     ghost output = { λ e. Some (address_message e) };
 
     fn fmt<W: fmt::Write>(&self, f: &mut fmt::Formatter<W>) -> fmt::Result {
-        f.write_str(match self.0 {
-            AddrKind::Ipv4 => "invalid IPv4 address syntax",
-            AddrKind::Ipv6 => "invalid IPv6 address syntax",
-            AddrKind::Ip => "invalid IP address syntax",
-        })
+        f.write_str(self.to_text().as_str())
     }
 }
 

@@ -21,3 +21,17 @@ pub(crate) fn push_decimal<const CAP: usize>(text: &mut ArrayString<CAP>, n: u8)
         text.push(char::from(b'0' + n));
     }
 }
+
+/// The number in decimal.
+#[tactic(auto, using(crate::specs::laws::DecimalLaws::number_laws))]
+pub(crate) fn decimal_text(n: usize) -> ArrayString<20>
+    ensures { result.bytes ≡ decimal n }
+{
+    let mut text = if n >= 10 {
+        decimal_text(n / 10)
+    } else {
+        ArrayString::new()
+    };
+    text.push(char::from(b'0' + (n % 10) as u8));
+    text
+}
