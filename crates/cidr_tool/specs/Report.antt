@@ -1,5 +1,5 @@
 -- The exit statuses, and what is written to standard error.
-use Rattle.std.specs.Prelude.{◌≡◌, ℕ, List, ◌++◌, codes, Result, Ok, Err, ◌⊎◌}
+use Rattle.std.specs.Prelude.{◌≡◌, ℕ, List, ◌++◌, codes, Result, Ok, Err}
 use Rattle.cidr.specs.texts.Messages.{parse_message, address_message}
 use Rattle.cidr_tool.specs.Writing.{State, Answered}
 use Rattle.cidr_tool.specs.declared.errors.Fault.{Fault}
@@ -31,13 +31,13 @@ output_line = codes "output failed\n"
 abbrev pub no_memory_line : List ℕ
 no_memory_line = codes "no memory\n"
 
--- the line of a refusal: the message, or `refused` where the message could not be formatted
-abbrev pub IsRefusedLine : Fault → List ℕ → Type 0
-IsRefusedLine fault line = (line ≡ message_of fault ++ codes "\n") ⊎ (line ≡ codes "refused\n")
+-- the line of a refusal: the error's message
+abbrev pub refusal_line : Fault → List ℕ
+refusal_line fault = message_of fault ++ codes "\n"
 
 -- what is written for an answer: nothing if it is done, and else one line
 abbrev pub Reports : Result (Unit {0}) ToolError → State → State → Type 0
 Reports (Ok _) old new = new ≡ old
-Reports (Err (Refused fault)) old new = (line : List ℕ) × IsRefusedLine fault line × Says old new line
+Reports (Err (Refused fault)) old new = Says old new (refusal_line fault)
 Reports (Err Usage) old new = Says old new usage_line
 Reports (Err Output) old new = Says old new output_line

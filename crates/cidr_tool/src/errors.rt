@@ -1,30 +1,16 @@
 //! Why a run of the program gave no answer.
-ghost use Rattle.std.specs.Prelude.{◌≡◌, Some};
+ghost use Rattle.std.specs.Prelude.{◌≡◌};
 
 use cidr::AddrParseError;
 use cidr::errors::NetworkParseError;
-use std::fmt;
 
-/// The error of an argument that was refused. It prints the message of what it holds.
+/// The error of an argument that was refused.
 #[derive(Debug, Drop, PartialEq)]
 pub enum Fault {
     /// An argument is no network.
     Network(NetworkParseError),
     /// An argument is no address.
     Address(AddrParseError),
-}
-
-impl fmt::Display for Fault {
-    ghost use Rattle.cidr_tool.specs.Report.{message_of};
-
-    ghost output = { λ f. Some (message_of f) };
-
-    fn fmt<W: fmt::Write>(&self, f: &mut fmt::Formatter<W>) -> fmt::Result {
-        match self {
-            Fault::Network(e) => write!(f, "{e}"),
-            Fault::Address(e) => write!(f, "{e}"),
-        }
-    }
 }
 
 /// Why `run` gave no answer.

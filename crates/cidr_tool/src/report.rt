@@ -1,12 +1,11 @@
 //! The exit status, and what is written to standard error.
-ghost use Rattle.std.specs.Prelude.{◌≡◌, codes};
-ghost use Rattle.cidr_tool.specs.Report.{IsRefusedLine, Reports, Says, status_of, no_memory_line};
+ghost use Rattle.std.specs.Prelude.{◌≡◌};
+ghost use Rattle.cidr_tool.specs.Report.{Reports, Says, status_of, refusal_line, no_memory_line};
 
 use crate::errors::{Fault, ToolError};
 use crate::sink::Sink;
 use crate::writing::write_text;
 use arrayvec::ArrayString;
-use std::fmt::Write;
 
 const USAGE: &str =
     "usage: cidr_tool show NET | in NET ADDR | cmp NET NET | walk NET ENDS | bytes NET | loose TEXT\n";
@@ -16,21 +15,14 @@ const MOST_LINE: usize = 100;
 
 /// The line of a refusal, which is the error's message.
 fn refused_line(fault: &Fault) -> ArrayString<MOST_LINE>
-    ensures { IsRefusedLine fault.now result.bytes }
+    ensures { result.bytes ≡ refusal_line fault.now }
 {
     let mut line = ArrayString::new();
-    match writeln!(line, "{fault}") {
-        Ok(()) => line,
-        Err(_) => unformatted(),
+    match fault {
+        Fault::Network(e) => line.push_str(e.to_text().as_str()),
+        Fault::Address(e) => line.push_str(e.to_text().as_str()),
     }
-}
-
-/// The line of a refusal whose message could not be formatted, which is none of the library's.
-fn unformatted() -> ArrayString<MOST_LINE>
-    ensures { result.bytes ≡ codes "refused\n" }
-{
-    let mut line = ArrayString::new();
-    line.push_str("refused\n");
+    line.push_str("\n");
     line
 }
 
