@@ -11,6 +11,8 @@ pub mod Ipv4Grammar
 pub mod Ipv6Grammar
 pub mod NetworkTexts
 pub mod NetworkReading
+pub mod Parsing
+pub mod HostBitsIgnored
 pub mod NetworkNumbers
 pub mod SharedBits
 pub mod StepNumbers
@@ -31,6 +33,7 @@ pub mod Ipv6Printing
 pub mod NetworkPrinting
 pub mod EitherAddresses
 pub mod EitherReading
+pub mod EitherParsing
 pub mod EitherTexts
 pub mod EitherHolding
 pub mod EitherEqualities

@@ -5,6 +5,7 @@ pub mod AddressText
 pub mod NetworkText
 pub mod Refusal
 pub mod HostText
+pub mod Parsing
 pub mod Canonical
 pub mod PrintedAddress
 pub mod Printed

@@ -6,4 +6,5 @@ pub mod clones;
 pub mod errors;
 pub mod hosts;
 pub mod networks;
+pub mod parsers;
 pub mod walks;

@@ -16,7 +16,7 @@
 //!
 //! `InetIterator` and `InetAddressIterator` are the walks over the addresses of a network or a pair. The traits
 //! `Address`, `Cidr`, `Inet` and `InetPair` are for code that is written once over all families. `errors` has the
-//! errors, and `laws` has laws for the proofs of callers.
+//! errors, `parsers` has parsers around a closure, and `laws` has laws for the proofs of callers.
 //!
 //! # Addresses
 //!
@@ -73,6 +73,15 @@
 //! "any".parse::<AnyIpCidr>()?.contains(&address)    // true
 //! ```
 //!
+//! # Parsers around a closure
+//!
+//! ```
+//! let parser = |text: &str| if text == "home" { Ok(Ipv4Addr::new(127, 0, 0, 1)) } else { text.parse() };
+//! parsers::parse_cidr("home", parser)                   // 127.0.0.1/32
+//! parsers::parse_cidr("home/8", parser)                 // Err: a bit after the first 8 is set
+//! parsers::parse_cidr_ignore_hostbits("home/8", parser) // 127.0.0.0/8
+//! ```
+//!
 //! # What is refused
 //!
 //! Reading the text of a network returns the first of these errors, which the contracts state in this order:
@@ -88,8 +97,8 @@
 //! host returns error 3. A pair from addresses is refused for two families, then for error 3, then where the
 //! prefixes differ; a pair of hosts for two families, two prefix lengths or two networks.
 //!
-//! Three calls have a condition on their caller: `+` and `-` on hosts, whose step has to stay in the network, and
-//! `drive`, whose two slices have to be of one length.
+//! These calls have a condition on their caller: `+` and `-` on hosts, whose step has to stay in the network;
+//! `drive`, whose two slices have to be of one length; and the parsers, whose closures can be called for every text.
 #![tactic(auto)]
 
 mod addr;
@@ -103,6 +112,7 @@ mod inet_pair;
 mod internal_traits;
 pub mod laws;
 mod num;
+pub mod parsers;
 mod text;
 mod traits;
 

@@ -1,15 +1,17 @@
 -- Texts of networks and hosts of either family, and the error of a text that spells none.
-use Rattle.std.specs.Prelude.{◌≡◌, ◌≢◌, ℕ, Bool, List, codes, MatchOption, Result, MatchResult}
+use Rattle.std.specs.Prelude.{◌≡◌, ◌≢◌, ℕ, Bool, List, codes, ◌⊎◌, MatchOption, Result, Ok, MatchResult}
 use Rattle.std.specs.Option.{option_map_or}
 use Rattle.cidr.specs.model.Host.{Host}
 use Rattle.cidr.specs.texts.NetworkText.{IsNetworkText}
 use Rattle.cidr.specs.texts.Refusal.{IsRefused}
 use Rattle.cidr.specs.texts.HostText.{IsHostText}
 use Rattle.cidr.specs.texts.Messages.{ip_error}
-use Rattle.cidr.specs.either.IpNetwork.{specific}
+use Rattle.cidr.specs.model.Views.{seen}
+use Rattle.cidr.specs.either.IpNetwork.{specific, any_of}
 use Rattle.cidr.specs.declared.cidr.combined.IpCidr.{IpCidr}
 use Rattle.cidr.specs.declared.cidr.combined.IpCidr.TheVariants.{V4, V6}
 use Rattle.cidr.specs.declared.cidr.any.AnyIpCidr.{AnyIpCidr}
+use Rattle.cidr.specs.declared.cidr.any.AnyIpCidr.TheVariants as any_network
 use Rattle.cidr.specs.declared.errors.NetworkParseError.{NetworkParseError}
 use Rattle.cidr.specs.declared.errors.NetworkParseError.TheVariants as parse_error
 use Rattle.cidr.specs.declared.family.Family.{Family}
@@ -42,6 +44,12 @@ ReadsIpNetwork text r = MatchResult r (IsIpNetworkText text) (λ e. IsIpRefused 
 
 abbrev pub ReadsAnyNetwork : List ℕ → Result AnyIpCidr NetworkParseError → Type 0
 ReadsAnyNetwork text r = MatchResult r (IsAnyNetworkText text) (λ e. IsIpRefused text e × ((n : AnyIpCidr) → ¬ (IsAnyNetworkText text n)))
+
+-- `any`, or what reading a network of either family gives
+abbrev pub ReadsAny : (List ℕ → Result IpCidr NetworkParseError → Type 0) → List ℕ → Result AnyIpCidr NetworkParseError → Type 0
+ReadsAny Reads text r =
+    ((text ≡ codes "any") × (r ≡ Ok any_network.Any))
+    ⊎ ((text ≢ codes "any") × (network : Result IpCidr NetworkParseError) × Reads text network × (r ≡ seen any_of network))
 
 -- ---- hosts
 abbrev pub IsIpHostText : List ℕ → IpInet → Type 0

@@ -1,5 +1,5 @@
 -- What the readers of a part of a text promise each other.
-use Rattle.std.specs.Prelude.{◌≡◌, ◌≢◌, ℕ, ◌+◌, ◌*◌, ◌^◌, ◌<◌, ◌≤◌, ◌↔◌, ◌⊎◌, Bool, true, List, [], ◌∷◌, ◌++◌, length, Option, Some, None, MatchOption, slice_index}
+use Rattle.std.specs.Prelude.{◌≡◌, ◌≢◌, ℕ, ◌+◌, ◌*◌, ◌^◌, ◌<◌, ◌≤◌, ◌↔◌, ◌⊎◌, Bool, true, List, [], ◌∷◌, ◌++◌, length, Option, Some, None, MatchOption, slice_index, Result, Ok}
 use Rattle.std.specs.Borrow.{Bor}
 use Rattle.std.specs.Char.{digit_value}
 use Rattle.std.specs.Net.Reader.{read_separator, read_segments}
@@ -7,6 +7,7 @@ use Rattle.cidr.specs.model.Bits.{bits}
 use Rattle.cidr.specs.model.Address.{group_bits}
 use Rattle.cidr.specs.texts.Ipv4Text.{dot, IsOctetText, IsJoined}
 use Rattle.cidr.specs.texts.Ipv6Text.{IsGroupText}
+use Rattle.cidr.specs.declared.errors.NetworkParseError.{NetworkParseError}
 
 -- this byte was read
 abbrev pub TakesByte : ℕ → List ℕ → Option (Bor (List ℕ)) → Type 0
@@ -85,3 +86,7 @@ pub record IsFound (room : ℕ) (text : List ℕ) (n count : ℕ) (rest : List �
 pub record IsStuck (room : ℕ) (text : List ℕ) : Type 0 where
   pub left : (read_segments room true text).2 ≢ []
   pub other : ((read_segments room true text).1 ≡ true) ⊎ (slice_index (read_segments room true text).2 0 ≡ dot)
+
+-- an address and a length, as they are
+abbrev pub AreParts : {A : Type 0} → A → ℕ → Result (A × ℕ) NetworkParseError → Type 0
+AreParts a n parts = parts ≡ Ok (a, n)

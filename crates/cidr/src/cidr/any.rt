@@ -12,6 +12,7 @@ use crate::cidr::network::{Ipv4Cidr, Ipv6Cidr};
 use crate::errors::NetworkParseError;
 use crate::family::Family;
 use crate::inet::combined::IpInet;
+use crate::parsers::any::parse_any_cidr;
 use crate::text::with_length::WithLength;
 use arrayvec::ArrayString;
 use std::fmt;
@@ -324,13 +325,7 @@ impl FromStr for AnyIpCidr {
     ghost from_str_gives = { ReadsAnyNetwork };
 
     fn from_str(s: &str) -> Result<AnyIpCidr, NetworkParseError> {
-        if s == "any" {
-            return Ok(AnyIpCidr::Any);
-        }
-        match s.parse::<IpCidr>() {
-            Ok(network) => Ok(AnyIpCidr::from(network)),
-            Err(e) => Err(e),
-        }
+        parse_any_cidr(s, IpAddr::from_str)
     }
 }
 

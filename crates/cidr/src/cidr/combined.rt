@@ -13,7 +13,7 @@ use crate::family::Family;
 use crate::inet::combined::IpInet;
 use crate::inet_iterator::InetIterator;
 use crate::inet_pair::combined::IpInetPair;
-use crate::text::read::{cut_at_last_slash, read_length};
+use crate::text::read::{cut_at_last_slash, with_length_text};
 use crate::text::with_length::WithLength;
 use arrayvec::ArrayString;
 use std::fmt;
@@ -306,12 +306,9 @@ impl FromStr for IpCidr {
                 Ok(addr) => Ok(IpCidr::new_host(addr)),
                 Err(e) => Err(NetworkParseError::AddrParseError(e)),
             },
-            Some((front, back)) => match front.parse::<IpAddr>() {
-                Ok(addr) => match read_length(back) {
-                    Ok(len) => IpCidr::new(addr, len),
-                    Err(e) => Err(NetworkParseError::NetworkLengthParseError(e)),
-                },
-                Err(e) => Err(NetworkParseError::AddrParseError(e)),
+            Some((front, back)) => match with_length_text(front.parse::<IpAddr>(), back) {
+                Ok((addr, len)) => IpCidr::new(addr, len),
+                Err(first_error) => Err(first_error),
             },
         }
     }

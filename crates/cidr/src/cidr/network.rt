@@ -15,7 +15,7 @@ use crate::inet::host::Host;
 use crate::inet_pair::host_pair::HostPair;
 use crate::internal_traits::address_bits::{AddressBits, AddressText};
 use crate::text::print::{forced, plain};
-use crate::text::read::{cut_at_last_slash, read_length};
+use crate::text::read::{cut_at_last_slash, with_length_text};
 use crate::text::with_length::WithLength;
 use arrayvec::ArrayString;
 use std::alloc::AllocError;
@@ -348,12 +348,9 @@ impl<A: AddressText> FromStr for Network<A> {
                 Ok(addr) => Ok(Network::new_host(addr)),
                 Err(e) => Err(NetworkParseError::AddrParseError(e)),
             },
-            Some((front, back)) => match A::read(front) {
-                Ok(addr) => match read_length(back) {
-                    Ok(len) => Network::new(addr, len),
-                    Err(e) => Err(NetworkParseError::NetworkLengthParseError(e)),
-                },
-                Err(front_error) => Err(NetworkParseError::AddrParseError(front_error)),
+            Some((front, back)) => match with_length_text(A::read(front), back) {
+                Ok((addr, len)) => Network::new(addr, len),
+                Err(first_error) => Err(first_error),
             },
         }
     }

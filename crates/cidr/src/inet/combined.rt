@@ -14,7 +14,7 @@ use crate::cidr::combined::IpCidr;
 use crate::errors::{NetworkLengthTooLongError, NetworkParseError};
 use crate::family::Family;
 use crate::inet::host::{Ipv4Inet, Ipv6Inet};
-use crate::text::read::{cut_at_last_slash, read_length};
+use crate::text::read::{cut_at_last_slash, with_length_text};
 use crate::text::with_length::WithLength;
 use arrayvec::ArrayString;
 use std::fmt;
@@ -371,12 +371,12 @@ impl FromStr for IpInet {
                 Ok(addr) => Ok(IpInet::new_host(addr)),
                 Err(e) => Err(NetworkParseError::AddrParseError(e)),
             },
-            Some((front, back)) => match front.parse::<IpAddr>() {
-                Ok(addr) => match read_length(back) {
-                    Ok(len) => Ok(IpInet::new(addr, len)?),
-                    Err(e) => Err(NetworkParseError::NetworkLengthParseError(e)),
+            Some((front, back)) => match with_length_text(front.parse::<IpAddr>(), back) {
+                Ok((addr, len)) => match IpInet::new(addr, len) {
+                    Ok(host) => Ok(host),
+                    Err(too_long) => Err(NetworkParseError::NetworkLengthTooLongError(too_long)),
                 },
-                Err(e) => Err(NetworkParseError::AddrParseError(e)),
+                Err(first_error) => Err(first_error),
             },
         }
     }

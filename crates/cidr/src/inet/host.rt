@@ -13,7 +13,7 @@ use crate::errors::{NetworkLengthTooLongError, NetworkParseError};
 use crate::family::Family;
 use crate::internal_traits::address_bits::{AddressBits, AddressText};
 use crate::text::print::{forced, plain};
-use crate::text::read::{cut_at_last_slash, read_length};
+use crate::text::read::{cut_at_last_slash, with_length_text};
 use crate::text::with_length::WithLength;
 use arrayvec::ArrayString;
 use std::alloc::AllocError;
@@ -379,12 +379,12 @@ impl<A: AddressText> FromStr for Host<A> {
                 Ok(addr) => Ok(Host::new_host(addr)),
                 Err(e) => Err(NetworkParseError::AddrParseError(e)),
             },
-            Some((front, back)) => match A::read(front) {
-                Ok(addr) => match read_length(back) {
-                    Ok(len) => Ok(Host::new(addr, len)?),
-                    Err(e) => Err(NetworkParseError::NetworkLengthParseError(e)),
+            Some((front, back)) => match with_length_text(A::read(front), back) {
+                Ok((addr, len)) => match Host::new(addr, len) {
+                    Ok(host) => Ok(host),
+                    Err(too_long) => Err(NetworkParseError::NetworkLengthTooLongError(too_long)),
                 },
-                Err(e) => Err(NetworkParseError::AddrParseError(e)),
+                Err(first_error) => Err(first_error),
             },
         }
     }

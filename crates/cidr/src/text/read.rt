@@ -1,11 +1,15 @@
 //! Reading the parts of a network text.
 ghost use Rattle.std.specs.Prelude.{◌≡◌, ◌<◌, ℕ, MatchOption};
+ghost use Rattle.std.specs.Fn.{FnOnceReturnsAt};
 ghost use Rattle.cidr.specs.texts.AddressText.{Reads};
 ghost use Rattle.cidr.specs.texts.NetworkText.{slash, IsByteText, IsLengthText};
 ghost use Rattle.cidr.specs.texts.Refusal.{Lacks, CutsAtLastSlash};
+ghost use Rattle.cidr.specs.texts.Parsing.{ReadsSlashed, ReadsCut};
+ghost use Rattle.cidr.specs.internal.Reading.{AreParts};
 
+use crate::addr::error::AddrParseError;
 use crate::addr::read::take_byte;
-use crate::errors::ParseIntError;
+use crate::errors::{NetworkParseError, ParseIntError};
 
 /// The text before the last slash, and the bytes after it, if there is one.
 pub(crate) fn cut_at_last_slash(s: &str) -> Option<(&str, &[u8])>
@@ -50,4 +54,39 @@ pub(crate) fn read_length(text: &[u8]) -> Result<u8, ParseIntError>
         None => read_digits(text),
     };
     digits.ok_or(ParseIntError {})
+}
+
+/// The address and the number of the length text that follows it, where reading the address gave `address`. Its error
+/// comes first.
+#[inline(always)]
+pub(crate) fn with_length_text<A: Copy>(
+    address: Result<A, AddrParseError>,
+    text: &[u8],
+) -> Result<(A, u8), NetworkParseError>
+    ensures { ReadsSlashed AreParts address text.now result }
+{
+    match address {
+        Ok(address) => match read_length(text) {
+            Ok(len) => Ok((address, len)),
+            Err(length_error) => Err(NetworkParseError::NetworkLengthParseError(length_error)),
+        },
+        Err(e) => Err(NetworkParseError::AddrParseError(e)),
+    }
+}
+
+/// What both parts of a text with a slash give, where `address_parser` reads what stands before the last one.
+#[inline(always)]
+pub(crate) fn read_at_slash<A, AP>(
+    s: &str,
+    address_parser: AP,
+) -> Option<Result<(A, u8), NetworkParseError>>
+where
+    A: Copy,
+    AP: FnOnce(&str) -> Result<A, AddrParseError>,
+    requires { AP.IsAlwaysCallable address_parser }
+    ensures { MatchOption result (Lacks slash s.now)
+        (ReadsCut (FnOnceReturnsAt AP.FnOnce address_parser) AreParts s.now) }
+{
+    let (front, back) = cut_at_last_slash(s)?;
+    Some(with_length_text(address_parser(front), back))
 }

@@ -1,7 +1,10 @@
--- A text other than `any` is read as a network of either family.
-use Rattle.std.proofs.Common.{sym, ◌∙◌}
-use Rattle.cidr.proofs.EitherReading.{not_any, any_refused}
+-- Parsing around the strict reader of addresses is strict reading.
+use Rattle.std.proofs.Common.{subst}
+use Rattle.cidr.specs.either.IpAddress.{IsIpText}
+use Rattle.cidr.specs.texts.AddressText.{Reads}
+use Rattle.cidr.specs.texts.Messages.{ip_error}
+use Rattle.cidr.proofs.EitherParsing.{any_strictly_read}
 use Rattle.cidr.proofs.cidr.any.AnyIpCidrFromStr.from_str.Goals as goal
 
-pub returns-in-Err : goal.returns-in-Err
-returns-in-Err c = any_refused c.args.s.now _ (not_any _ (sym c.eq.ensures ∙ c.if-eq.false)) c.in-Err.ensures.value
+pub returns : goal.returns
+returns c = any_strictly_read _ (λ t x h. subst (λ s. Reads IsIpText ip_error s x) h.shows (h.says.met)) c.args.s.now c.parse_any_cidr.result c.parse_any_cidr.ensures

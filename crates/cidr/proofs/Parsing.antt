@@ -1,0 +1,94 @@
+-- What the parts of a text with a slash give.
+use Rattle.std.proofs.Common.{◌≡◌, ℕ, List, Result, Ok, Err, IfOk, refl, ap, subst, inl, inr}
+use Rattle.cidr.specs.texts.NetworkText.{IsLengthText}
+use Rattle.cidr.specs.model.Views.{seen, in_family}
+use Rattle.cidr.specs.texts.Parsing.{ReadsSlashed, ReadsCut}
+use Rattle.cidr.specs.internal.Reading.{AreParts}
+use Rattle.cidr.specs.declared.addr.error.AddrParseError.{AddrParseError}
+use Rattle.cidr.specs.declared.errors.NetworkParseError.{NetworkParseError}
+use Rattle.cidr.specs.declared.errors.NetworkParseError.TheVariants as parse_error
+use Rattle.cidr.specs.declared.family.Family.{Family}
+
+-- ---- what is made of both parts
+module _ {A : Type 0} (parts : Result (A × ℕ) NetworkParseError) where
+  same_error : {R : Type 0} (e f : NetworkParseError) → parts ≡ Err e → parts ≡ Err f → ◌≡◌ {A = Result R NetworkParseError} (Err e) (Err f)
+  same_error e f h k = cc
+
+  error_is : (e f : NetworkParseError) → parts ≡ Err e → parts ≡ Err f → e ≡ f
+  error_is e f h k = cc
+
+  same_parts : (p q : A × ℕ) → parts ≡ Ok p → parts ≡ Ok q → p ≡ q
+  same_parts p q h k = cc
+
+  not_both : {X : Type 0} (e : NetworkParseError) (p : A × ℕ) → parts ≡ Err e → parts ≡ Ok p → X
+  not_both e p h k = absurd (cc)
+
+  module _ {R : Type 0} (Makes : A → ℕ → Result R NetworkParseError → Type 0) where
+    refused_follows : (answer : Result A AddrParseError) (back : List ℕ) (e : NetworkParseError) → parts ≡ Err e → ReadsSlashed AreParts answer back parts
+        → ReadsSlashed Makes answer back (Err e)
+    refused_follows (Err x) back e is h = same_error e (parse_error.AddrParseError x) is h
+    refused_follows (Ok a) back e is (inl (n, l, h)) = not_both e (a, n) is h
+    refused_follows (Ok a) back e is (inr (none, h)) = inr (none, same_error e (parse_error.NetworkLengthParseError (record {})) is h)
+
+    made_follows : (answer : Result A AddrParseError) (back : List ℕ) (p : A × ℕ) (r : Result R NetworkParseError) → parts ≡ Ok p → Makes p.0 p.1 r
+        → ReadsSlashed AreParts answer back parts → ReadsSlashed Makes answer back r
+    made_follows (Err x) back p r is made h = not_both (parse_error.AddrParseError x) p h is
+    made_follows (Ok b) back p r is made (inl (m, l, h)) = inl (m, l, subst (λ q. Makes q.0 q.1 r) (same_parts p (b, m) is h) made)
+    made_follows (Ok b) back p r is made (inr (none, h)) = not_both (parse_error.NetworkLengthParseError (record {})) p h is
+
+  module _ {Asked : List ℕ → Result A AddrParseError → Type 0} (text : List ℕ) (h : ReadsCut Asked AreParts text parts) where
+    pub cut_refused : {R : Type 0} (Makes : A → ℕ → Result R NetworkParseError → Type 0) (e : NetworkParseError) → parts ≡ Err e → ReadsCut Asked Makes text (Err e)
+    cut_refused Makes e is = record {
+      front = h.front;
+      back = h.back;
+      answer = h.answer;
+      cut = h.cut;
+      asked = h.asked;
+      follows = refused_follows Makes h.answer h.back e is h.follows;
+    }
+
+    pub cut_made : {R : Type 0} (Makes : A → ℕ → Result R NetworkParseError → Type 0) (p : A × ℕ) (r : Result R NetworkParseError) → parts ≡ Ok p → Makes p.0 p.1 r → ReadsCut Asked Makes text r
+    cut_made Makes p r is made = record {
+      front = h.front;
+      back = h.back;
+      answer = h.answer;
+      cut = h.cut;
+      asked = h.asked;
+      follows = made_follows Makes h.answer h.back p r is made h.follows;
+    }
+
+-- the part was asked for in another way too
+pub asked_as : {A R : Type 0} {Asked Known : List ℕ → Result A AddrParseError → Type 0} {Makes : A → ℕ → Result R NetworkParseError → Type 0} {text : List ℕ} {r : Result R NetworkParseError}
+    → ((front : List ℕ) (answer : Result A AddrParseError) → Asked front answer → Known front answer) → ReadsCut Asked Makes text r → ReadsCut Known Makes text r
+asked_as known h = record {
+  front = h.front;
+  back = h.back;
+  answer = h.answer;
+  cut = h.cut;
+  asked = known h.front h.answer h.asked;
+  follows = h.follows;
+}
+
+-- ---- what an address and a length text gave
+pub both_read : {A : Type 0} (answer : Result A AddrParseError) (back : List ℕ) (p : A × ℕ) → ReadsSlashed AreParts answer back (Ok p) → (answer ≡ Ok p.0) × IsLengthText back p.1
+both_read (Err x) back p h = not_both (Ok p) (parse_error.AddrParseError x) p h refl
+both_read (Ok b) back p (inl (m, l, h)) =
+    let same = same_parts (Ok p) (b, m) p h refl in
+    (ap (λ q. Ok q.0) same, subst (λ q. IsLengthText back q.1) same l)
+both_read (Ok b) back p (inr (none, h)) = not_both (Ok p) (parse_error.NetworkLengthParseError (record {})) p h refl
+
+-- the address's error, or that of the length text
+module _ {A : Type 0} (Known : Result A AddrParseError → Type 0) (P : NetworkParseError → Type 0) (back : List ℕ)
+    (no_address : (x : AddrParseError) → Known (Err x) → P (parse_error.AddrParseError x))
+    (no_length : (a : A) → Known (Ok a) → ((n : ℕ) → ¬ (IsLengthText back n)) → P (parse_error.NetworkLengthParseError (record {}))) where
+  pub by_part_error : (answer : Result A AddrParseError) (e : NetworkParseError) → Known answer → ReadsSlashed AreParts answer back (Err e) → P e
+  by_part_error (Err x) e known h = subst P (error_is {A = A} (Err e) (parse_error.AddrParseError x) e h refl) (no_address x known)
+  by_part_error (Ok b) e known (inl (m, l, h)) = not_both (Err e) e (b, m) refl h
+  by_part_error (Ok b) e known (inr (none, h)) =
+      subst P (error_is {A = A} (Err e) (parse_error.NetworkLengthParseError (record {})) e h refl) (no_length b known none)
+
+-- ---- a value and its family
+pub seen_in_family : {N V E : Type 0} (family : N → Family) (view : N → V) (f : Family) (r : Result N E) (v : Result V E) → seen view r ≡ v → IfOk r (λ n. family n ≡ f)
+    → seen (in_family family view) r ≡ seen (λ p. (f, p)) v
+seen_in_family family view f (Ok x) v h k = rw (← h) (ap (λ g. Ok (g, view x)) k)
+seen_in_family family view f (Err e) v h k = rw (← h) refl

@@ -1,0 +1,75 @@
+//! Networks, by parsers of the parts of a text. A set bit after the prefix is ignored.
+ghost use Rattle.std.specs.Fn.{FnReturnsAt, FnOnceReturnsAt};
+ghost use Rattle.cidr.specs.model.Views.{in_family};
+ghost use Rattle.cidr.specs.texts.Parsing.{MadeBy, MadeAlone, ReadsAround, ReadsWhole, holding_network};
+
+use crate::addr::error::AddrParseError;
+use crate::errors::NetworkParseError;
+use crate::text::read::read_at_slash;
+use crate::traits::{Address, Cidr, Inet};
+
+/// As `parse_cidr_full`, but set bits after the prefix are ignored: the network is that which holds the address.
+///
+/// What `host_parser` refuses stays refused.
+pub fn parse_cidr_full_ignore_hostbits<C, AP, HP>(
+    s: &str,
+    address_parser: AP,
+    host_parser: HP,
+) -> Result<C, NetworkParseError>
+where
+    C: Cidr,
+    C::Address: Address<Cidr = C>,
+    <C::Address as Address>::Inet: Inet<Address = C::Address>,
+    AP: FnOnce(&str) -> Result<C::Address, AddrParseError>,
+    HP: FnOnce(&str) -> Result<C, NetworkParseError>,
+    requires address { AP.IsAlwaysCallable address_parser }
+    requires host { HP.IsAlwaysCallable host_parser }
+    ensures { ReadsAround (FnOnceReturnsAt AP.FnOnce address_parser)
+        (MadeBy (in_family C.Address.family_of C.Address.bits) (in_family C.family_of C.prefix) holding_network)
+        (FnOnceReturnsAt HP.FnOnce host_parser) s.now result }
+{
+    match read_at_slash(s, address_parser) {
+        None => host_parser(s),
+        Some(Ok((address, len))) => network_holding(address, len),
+        Some(Err(e)) => Err(e),
+    }
+}
+
+/// As `parse_cidr`, but set bits after the prefix are ignored: the network is that which holds the address.
+pub fn parse_cidr_ignore_hostbits<C, AP>(
+    s: &str,
+    address_parser: AP,
+) -> Result<C, NetworkParseError>
+where
+    C: Cidr,
+    C::Address: Address<Cidr = C>,
+    <C::Address as Address>::Inet: Inet<Address = C::Address>,
+    AP: Fn(&str) -> Result<C::Address, AddrParseError>,
+    requires { AP.IsAlwaysCallable address_parser }
+    ensures { ReadsAround (FnReturnsAt AP.Fn address_parser)
+        (MadeBy (in_family C.Address.family_of C.Address.bits) (in_family C.family_of C.prefix) holding_network)
+        (ReadsWhole (FnReturnsAt AP.Fn address_parser)
+        (MadeAlone (in_family C.Address.family_of C.Address.bits) (in_family C.family_of C.prefix) (λ a. a)))
+        s.now result }
+{
+    match read_at_slash(s, &address_parser) {
+        None => Ok(C::new_host(address_parser(s)?)),
+        Some(Ok((address, len))) => network_holding(address, len),
+        Some(Err(e)) => Err(e),
+    }
+}
+
+/// The network of this length that holds the address.
+fn network_holding<C>(address: C::Address, len: u8) -> Result<C, NetworkParseError>
+where
+    C: Cidr,
+    C::Address: Address<Cidr = C>,
+    <C::Address as Address>::Inet: Inet<Address = C::Address>,
+    ensures { MadeBy (in_family C.Address.family_of C.Address.bits) (in_family C.family_of C.prefix)
+        holding_network address len result }
+{
+    match <C::Address as Address>::Inet::new(address, len) {
+        Ok(host) => Ok(host.network()),
+        Err(e) => Err(NetworkParseError::NetworkLengthTooLongError(e)),
+    }
+}
