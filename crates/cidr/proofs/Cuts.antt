@@ -1,8 +1,9 @@
 -- A text that is cut at a byte is cut in one way, and a length text spells one length.
-use Rattle.std.proofs.Common.{◌≡◌, ◌≢◌, ℕ, zero, suc, ◌-◌, ◌<◌, List, [], ◌∷◌, ◌++◌, length, get_or, drop, refl, sym, ap, ap₂, ◌∙◌, subst, arith, inl, inr, length-append}
+use Rattle.std.proofs.Common.{◌≡◌, ◌≢◌, ℕ, zero, suc, ◌-◌, ◌<◌, ◌≤◌, List, [], ◌∷◌, ◌++◌, length, get_or, drop, refl, sym, ap, ap₂, ◌∙◌, subst, arith, inl, inr, length-append}
 use Rattle.std.proofs.lemmas.Bool.{cases_lt}
 use Rattle.std.proofs.lemmas.List.{get_or_append_left, get_or-append_right, get_or_at}
 use Rattle.std.proofs.lemmas.Str.Parse.{digit_at}
+use Rattle.std.specs.Char.{digit_value}
 use Rattle.std.specs.Str.Parse.{AllDigits, IsNumeral, digits_value}
 use Rattle.cidr.specs.texts.NetworkText.{IsLengthText}
 use Rattle.cidr.specs.texts.Refusal.{Lacks}
@@ -21,9 +22,11 @@ Lacks-cons c x xs h k (suc i) l = k i (omega arith)
 pub Lacks-tail : (c x : ℕ) (xs : List ℕ) → Lacks c (x ∷ xs) → (x ≢ c) × Lacks c xs
 Lacks-tail c x xs h = (h 0 (omega arith), λ i l. h (suc i) (omega arith))
 
--- decimal digits are neither slashes nor dots
-pub Lacks-digits : (c : ℕ) (ds : List ℕ) → c < 48 → AllDigits 10 ds → Lacks c ds
-Lacks-digits c ds low h i l e = omega (arith, digit_at ds i h l)
+-- digits are no other bytes, as slashes, dots and colons
+pub Lacks-digits : (radix c : ℕ) (ds : List ℕ) → radix ≤ digit_value c → AllDigits radix ds → Lacks c ds
+Lacks-digits radix c [] other h i l = absurd (omega arith)
+Lacks-digits radix c (d ∷ ds) other h zero l = λ e. let digit : digit_value c < radix = subst (λ z. digit_value z < radix) e h.0 in omega arith
+Lacks-digits radix c (d ∷ ds) other h (suc i) l = Lacks-digits radix c ds other h.1 i (omega arith)
 
 -- the byte stands there
 pub not_lacking : (c : ℕ) (xs ys : List ℕ) → ¬ (Lacks c (xs ++ c ∷ ys))
@@ -53,11 +56,12 @@ one_first_cut c (x ∷ f) b (y ∷ g) d e h k =
     (ap₂ (λ a t. a ∷ t) (ap (λ t. get_or t 0 0) e) rest.0, rest.1)
 
 -- ---- length texts
-pub Lacks-length : (c : ℕ) (text : List ℕ) (n : ℕ) → c < 48 → 43 ≢ c → IsLengthText text n → Lacks c text
-Lacks-length c text n low other (inl h) = Lacks-digits c text low h.0.1
-Lacks-length c text n low other (inr (digits, e, h)) = rw e (Lacks-cons c 43 digits other (Lacks-digits c digits low h.0.1))
+pub Lacks-length : (c : ℕ) (text : List ℕ) (n : ℕ) → 10 ≤ digit_value c → 43 ≢ c → IsLengthText text n → Lacks c text
+Lacks-length c text n low other (inl h) = Lacks-digits 10 c text low h.0.1
+Lacks-length c text n low other (inr (digits, e, h)) = rw e (Lacks-cons c 43 digits other (Lacks-digits 10 c digits low h.0.1))
 
-no_plus : (ds es : List ℕ) → IsNumeral 10 ds → ds ≢ 43 ∷ es
+-- digits begin with no plus
+pub no_plus : (ds es : List ℕ) → IsNumeral 10 ds → ds ≢ 43 ∷ es
 no_plus ds es h e =
     let first = digit_at ds 0 h.1 h.0 in
     let first_is_plus : get_or ds 0 0 ≡ 43 = ap (λ t. get_or t 0 0) e in

@@ -31,8 +31,8 @@ same_host_family text f g a b (inl h) (inr t) =
 same_host_family text f g a b (inr s) (inl k) =
     absurd (not_lacking slash s.front s.back (subst (Lacks slash) s.spelled ((address_grammar g).no_slash text b.address k.0)))
 same_host_family text f g a b (inr s) (inr t) =
-    let low : slash < 48 = omega arith in
-    let same = one_cut slash s.front s.back t.front t.back (sym s.spelled ∙ t.spelled) (Lacks-length slash s.back a.len low (omega arith) s.back_text) (Lacks-length slash t.back b.len low (omega arith) t.back_text) in
+    let none = Lacks-length slash s.back a.len (omega arith) (omega arith) s.back_text in
+    let same = one_cut slash s.front s.back t.front t.back (sym s.spelled ∙ t.spelled) none (Lacks-length slash t.back b.len (omega arith) (omega arith) t.back_text) in
     one_family t.front f g a.address b.address (subst (λ x. IsAddressText f x a.address) same.0 s.front_text) t.front_text
 
 same_network_family : (text : List ℕ) (f g : Family) (p q : List Bool) → IsNetworkText f text p → IsNetworkText g text q → f ≡ g

@@ -1,5 +1,6 @@
 -- Texts joined by dots spell one list, and an IPv4 text spells one address.
-use Rattle.std.proofs.Common.{◌≡◌, ℕ, ◌<◌, Bool, List, [], ◌∷◌, ◌++◌, refl, sym, ap, ap₂, ◌∙◌, subst, arith}
+use Rattle.std.proofs.Common.{◌≡◌, ◌≢◌, ℕ, ◌≤◌, Bool, List, [], ◌∷◌, ◌++◌, refl, sym, ap, ap₂, ◌∙◌, subst, arith}
+use Rattle.std.specs.Char.{digit_value}
 use Rattle.cidr.specs.model.Address.{octet_bits}
 use Rattle.cidr.specs.texts.Ipv4Text.{IsOctetText, IsJoined, IsIpv4Text, dot}
 use Rattle.cidr.specs.texts.NetworkText.{slash}
@@ -31,22 +32,26 @@ module _ (Part : List ℕ → ℕ → Type 0) (no_dot : (text : List ℕ) (n : �
       let (n, rest, e, q, later) = first_part f b ns (no_dot f m p) (subst (λ t. IsJoined Part t ns) split k) in
       ap₂ (λ x t. x ∷ t) (one f m n p q) (one_joined b (m' ∷ ms) rest more later) ∙ sym e
 
+-- a byte that is no dot and stands in no part
+pub Lacks-joined : (Part : List ℕ → ℕ → Type 0) (c : ℕ) → ((text : List ℕ) (n : ℕ) → Part text n → Lacks c text) → dot ≢ c → (text ns : List ℕ) → IsJoined Part text ns → Lacks c text
+Lacks-joined Part c each other text [] h = absurd h
+Lacks-joined Part c each other text (n ∷ []) h = each text n h
+Lacks-joined Part c each other text (n ∷ m ∷ ns) (f, b, split, p, more) =
+    rw split (Lacks-append c f (dot ∷ b) (each f n p) (Lacks-cons c dot b other (Lacks-joined Part c each other b (m ∷ ns) more)))
+
 -- ---- IPv4 texts
-pub Lacks-octet : (c : ℕ) (text : List ℕ) (n : ℕ) → c < 48 → IsOctetText text n → Lacks c text
-Lacks-octet c text n low h = Lacks-digits c text low h.digits.1
+pub Lacks-octet : (c : ℕ) (text : List ℕ) (n : ℕ) → 10 ≤ digit_value c → IsOctetText text n → Lacks c text
+Lacks-octet c text n low h = Lacks-digits 10 c text low h.digits.1
 
 pub one_octet : (text : List ℕ) (m n : ℕ) → IsOctetText text m → IsOctetText text n → m ≡ n
 one_octet text m n h k = sym h.value ∙ k.value
 
-pub Lacks-joined : (text ns : List ℕ) → IsJoined IsOctetText text ns → Lacks slash text
-Lacks-joined text [] h = absurd h
-Lacks-joined text (n ∷ []) h = Lacks-octet slash text n (omega arith) h
-Lacks-joined text (n ∷ m ∷ ns) (f, b, split, p, more) =
-    rw split (Lacks-append slash f (dot ∷ b) (Lacks-octet slash f n (omega arith) p) (Lacks-cons slash dot b (omega arith) (Lacks-joined b (m ∷ ns) more)))
+pub Lacks-octets : (text ns : List ℕ) → IsJoined IsOctetText text ns → Lacks slash text
+Lacks-octets = Lacks-joined IsOctetText slash (λ text n. Lacks-octet slash text n (omega arith)) (omega arith)
 
 pub ipv4_grammar : IsGrammar IsIpv4Text
 ipv4_grammar = record {
-  no_slash = λ text a h. Lacks-joined text h.octets h.joined;
+  no_slash = λ text a h. Lacks-octets text h.octets h.joined;
   one_value = λ text a b h k.
       h.value ∙ ap octet_bits (one_joined IsOctetText (λ t n. Lacks-octet dot t n (omega arith)) one_octet text h.octets k.octets h.joined k.joined) ∙ sym k.value;
 }

@@ -15,7 +15,7 @@ use Rattle.cidr.specs.texts.NetworkText.{slash}
 use Rattle.cidr.specs.texts.Refusal.{Lacks}
 use Rattle.cidr.proofs.OctetReading.{IsOctetText-decimal, decimal-IsOctetText, four_joined}
 use Rattle.cidr.proofs.Cuts.{Lacks-append, Lacks-cons}
-use Rattle.cidr.proofs.Ipv4Grammar.{IsGrammar, Lacks-joined}
+use Rattle.cidr.proofs.Ipv4Grammar.{IsGrammar, Lacks-octets}
 
 -- ---- from std's grammar
 group_text : (text : List ℕ) (s : ℕ) → IsGroup text s → IsGroupText text s
@@ -208,7 +208,7 @@ Lacks-groups text (g ∷ t ∷ groups) (front, back, split, h, more) =
     Lacks-between text front back split (Lacks-hex front h.0.1) (Lacks-groups back (t ∷ groups) more)
 
 Lacks-pair : (text : List ℕ) (g h : ℕ) → IsDottedPair text g h → Lacks slash text
-Lacks-pair text g h (i, j, k, l, joined, _, _) = Lacks-joined text (i ∷ j ∷ k ∷ l ∷ []) joined
+Lacks-pair text g h (i, j, k, l, joined, _, _) = Lacks-octets text (i ∷ j ∷ k ∷ l ∷ []) joined
 
 Lacks-run : (text groups : List ℕ) → IsRun text groups → Lacks slash text
 Lacks-run text groups (inl h) = Lacks-groups text groups h

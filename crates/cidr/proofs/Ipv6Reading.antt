@@ -17,11 +17,12 @@ use Rattle.cidr.specs.model.Bits.{number}
 use Rattle.cidr.specs.model.Address.{octet_bits}
 use Rattle.cidr.specs.texts.Ipv4Text.{dot, IsIpv4Text}
 use Rattle.cidr.specs.texts.Ipv6Text.{IsGroupText}
-use Rattle.cidr.specs.internal.Reading.{IsFirstGroup, NoGroupFirst, WritesGroups, IsFound, IsStuck, TakesByte}
+use Rattle.cidr.specs.internal.Reading.{IsFirstGroup, NoGroupFirst, WritesParts, IsFound, IsStuck, TakesByte}
 use Rattle.cidr.proofs.OctetReading.{four_joined, ipv4_spelled}
 use Rattle.cidr.proofs.Ipv6Grammar.{std_dotted, dotted_pair}
 use Rattle.cidr.proofs.Ipv4Grammar.{ipv4_grammar}
-use Rattle.cidr.proofs.GroupNumbers.{no_groups, groups-push, groups-append, groups-octets, groups-address, shifted}
+use Rattle.cidr.proofs.PartLaws.{writes-none, writes-push, writes-append}
+use Rattle.cidr.proofs.GroupNumbers.{groups-octets, groups-address, shifted}
 
 -- ---- one group
 hex_digits : (ds : List ℕ) → AllDigits 10 ds → AllDigits 16 ds
@@ -100,12 +101,12 @@ pub record ReadsOn (room : ℕ) (text : List ℕ) (n count : ℕ) (rest : List �
   pub reads : read_segments room true text ≡ after groups (read_segments (room - count) (count == 0) rest)
   pub many : length groups ≡ count
   pub fits : count ≤ room
-  pub number : WritesGroups groups n
+  pub number : WritesParts 16 groups n
 
 pub reads_start : (room : ℕ) (text : List ℕ) → ReadsOn room text 0 0 text
 reads_start room text =
     let all : room - 0 ≡ room = omega arith in
-    record { groups = []; reads = ap (λ k. read_segments k true text) (sym all); many = refl; fits = omega arith; number = no_groups }
+    record { groups = []; reads = ap (λ k. read_segments k true text) (sym all); many = refl; fits = omega arith; number = writes-none 16 }
 
 no_ipv4_if : (fits : Bool) (text : List ℕ) → read_ipv4 text ≡ None → read_ipv4_if fits text ≡ None
 no_ipv4_if true text e = e
@@ -165,7 +166,7 @@ module _ {room : ℕ} {text : List ℕ} {n count : ℕ} {rest : List ℕ} (h : R
             reads = rw later (at_group v more first none);
             many = omega (arith, length-append h.groups (v ∷ []), h.many);
             fits = omega arith;
-            number = rw (shifted h.groups n 7 16 h.number (omega (arith, h.many)) (omega arith), same) (groups-push h.groups n v h.number (group_fits first.front v first.group));
+            number = rw (shifted h.groups n 7 16 h.number (omega (arith, h.many)) (omega arith), same) (writes-push 16 h.groups n v h.number (group_fits first.front v first.group));
           }
 
       pub at_dotted : (a : List Bool) (x : ℕ) → IsIpv4Text group a → x ≡ number a → length a ≡ 32 → room ≤ 8 → count + 1 < room → IsFound room text (n * 2 ^ 32 % 2 ^ 128 + x) (count + 2) []
@@ -183,7 +184,7 @@ module _ {room : ℕ} {text : List ℕ} {n count : ℕ} {rest : List ℕ} (h : R
             found = at_ipv4 octets [] (omega arith) read ∙ ap (λ s. (h.groups ++ s, true, [])) (sym both);
             many = omega (arith, length-append h.groups ((i * 256 + j) ∷ (k * 256 + l) ∷ []), h.many);
             fits = omega arith;
-            number = rw (shifted h.groups n 6 32 h.number (omega (arith, h.many)) (omega arith), same) (groups-append h.groups ((i * 256 + j) ∷ (k * 256 + l) ∷ []) n (number a) h.number pair);
+            number = rw (shifted h.groups n 6 32 h.number (omega (arith, h.many)) (omega arith), same) (writes-append 16 h.groups ((i * 256 + j) ∷ (k * 256 + l) ∷ []) n (number a) h.number pair);
           }
 
       pub at_stray_dot : (v : ℕ) (more later : List ℕ) → IsFirstGroup group v more → more ≡ dot ∷ later → ((a : List Bool) → ¬ (IsIpv4Text group a)) → count + 1 < room → IsStuck room text

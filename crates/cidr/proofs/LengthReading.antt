@@ -1,31 +1,20 @@
 -- Length texts, digit by digit.
-use Rattle.std.proofs.Common.{◌≡◌, ◌≢◌, ℕ, ◌+◌, ◌-◌, ◌*◌, ◌<◌, List, ◌∷◌, length, get_or, take, drop, sym, ap, ◌∙◌, subst, arith, inl, inr}
-use Rattle.std.proofs.lemmas.Int.Digits.{digits_value_more, digits_more}
+use Rattle.std.proofs.Common.{◌≡◌, ◌≢◌, ℕ, ◌+◌, ◌-◌, ◌*◌, ◌<◌, List, ◌∷◌, length, get_or, drop, sym, ap, ◌∙◌, subst, arith, inl, inr}
 use Rattle.std.proofs.lemmas.Str.{digit_value_digit}
 use Rattle.std.proofs.lemmas.Str.Parse.{digit_at, digits_value-take-le}
 use Rattle.std.specs.Char.{digit_value}
 use Rattle.std.specs.Int.{IsInRange, IsOutOfRange}
-use Rattle.std.specs.Str.Parse.{AllDigits, digits_value}
 use Rattle.cidr.specs.texts.NetworkText.{plus, IsByteText, IsLengthText}
+use Rattle.cidr.proofs.NumberReading.{HasDigits, large_digits}
 
--- what has been read of some digits
-pub record HasDigits (ds : List ℕ) (i value : ℕ) : Type 0 where
-  pub digits : AllDigits 10 (take i ds)
-  pub read : digits_value 10 (take i ds) ≡ value
-  pub fits : value < 256
-
-pub more_digits : (ds : List ℕ) (i value : ℕ) → HasDigits ds i value → i < length ds → IsInRange 48 57 (get_or ds i 0)
-    → digit_value (get_or ds i 0) < 10 → value * 10 + (get_or ds i 0 - 48) < 256 → HasDigits ds (i + 1) (value * 10 + (get_or ds i 0 - 48))
-more_digits ds i value h l digit below fits = record {
-  digits = digits_more 10 ds i l h.digits below;
-  read = omega (arith, digits_value_more 10 ds i l, h.read, digit_value_digit (get_or ds i 0) digit);
-  fits = fits;
-}
+-- a decimal digit's value, as the reader computes it
+pub decimal_digit_value : (ds : List ℕ) (i : ℕ) → IsInRange 48 57 (get_or ds i 0) → (digit_value (get_or ds i 0) ≡ get_or ds i 0 - 48) × (get_or ds i 0 - 48 < 10)
+decimal_digit_value ds i digit = (omega (arith, digit_value_digit (get_or ds i 0) digit), omega arith)
 
 -- digits of a value that is too large already
-pub too_large : (ds : List ℕ) (i value : ℕ) → HasDigits ds i value → i < length ds → IsInRange 48 57 (get_or ds i 0) → 255 < value * 10 + (get_or ds i 0 - 48) → (n : ℕ) → ¬ (IsByteText ds n)
+pub too_large : (ds : List ℕ) (i value : ℕ) → HasDigits 10 256 ds i value → i < length ds → IsInRange 48 57 (get_or ds i 0) → 255 < value * 10 + (get_or ds i 0 - 48) → (n : ℕ) → ¬ (IsByteText ds n)
 too_large ds i value h l digit large n text =
-    omega (arith, digits_value_more 10 ds i l, h.read, digit_value_digit (get_or ds i 0) digit, digits_value-take-le 10 ds (i + 1) (omega arith), text.1, text.2)
+    omega (arith, large_digits 10 256 ds i value _ h l (decimal_digit_value ds i digit).0 large, digits_value-take-le 10 ds (i + 1) (omega arith), text.1, text.2)
 
 -- a byte that is no digit
 pub not_digits : (ds : List ℕ) (i : ℕ) → i < length ds → IsOutOfRange 48 57 (get_or ds i 0) → (n : ℕ) → ¬ (IsByteText ds n)

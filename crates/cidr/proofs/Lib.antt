@@ -4,7 +4,9 @@ pub mod OctetLaws
 pub mod OctetRows
 pub mod GroupLaws
 pub mod OctetReading
+pub mod JoinedReading
 pub mod GroupReading
+pub mod NumberReading
 pub mod LengthReading
 pub mod Cuts
 pub mod Ipv4Grammar

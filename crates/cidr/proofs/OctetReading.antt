@@ -1,13 +1,12 @@
 -- Octets at the front of a text.
-use Rattle.std.proofs.Common.{◌≡◌, ◌≢◌, ℕ, ◌+◌, ◌*◌, ◌/◌, ◌%◌, ◌^◌, ◌<◌, ◌≤◌, Bool, List, [], ◌∷◌, ◌++◌, length, get_or, drop, decimal, refl, sym, ap, ◌∙◌, subst, arith, inl, inr, append-nil, ◌↔◌}
+use Rattle.std.proofs.Common.{◌≡◌, ◌≢◌, ℕ, ◌+◌, ◌*◌, ◌/◌, ◌%◌, ◌^◌, ◌<◌, ◌≤◌, Bool, List, [], ◌∷◌, ◌++◌, length, get_or, drop, decimal, refl, sym, ap, ◌∙◌, subst, arith, inl, inr}
 use Rattle.std.proofs.lemmas.Bool.{cases_lt}
-use Rattle.std.proofs.lemmas.List.{nil_from_length}
 use Rattle.std.proofs.lemmas.Fmt.{decimal_digit, decimal_step, decimal_is_IsNumeral, first_decimal, decimal-digits_value}
 use Rattle.std.proofs.lemmas.Str.Parse.{numerals_by_value, tells_digits}
 use Rattle.std.specs.Str.Parse.{digits_value}
-use Rattle.cidr.specs.texts.Ipv4Text.{IsOctetText, IsJoined, IsIpv4Text, dot}
+use Rattle.cidr.specs.texts.Ipv4Text.{IsOctetText, IsJoined, IsIpv4Text}
 use Rattle.cidr.specs.model.Address.{octet_bits}
-use Rattle.cidr.specs.internal.Reading.{NoDigitFirst, StopsAtDot, IsFirstOctet, NoOctetFirst}
+use Rattle.cidr.specs.internal.Reading.{NoDigitFirst, StopsAtDot, IsFirstPart, NoPartFirst}
 
 -- the octet text of a number is its decimal
 pub IsOctetText-decimal : (n : ℕ) → n < 256 → IsOctetText (decimal n) n
@@ -79,18 +78,18 @@ same_tail x y xs ys e = ap (drop 1) e
 spread : (text t more s : List ℕ) → text ≡ t ++ more → t ≡ s → text ≡ s ++ more
 spread text t more s e f = e ∙ ap (λ x. x ++ more) f
 
-pub no_octet : (text : List ℕ) → NoDigitFirst text → NoOctetFirst text
+pub no_octet : (text : List ℕ) → NoDigitFirst text → NoPartFirst IsOctetText text
 no_octet text none t m more h stop e = elim (places t m h) [
   | One t m small f ↦ let head : get_or text 0 0 ≡ 48 + m = ap (λ x. get_or x 0 0) (spread text t more _ e f) in omega (arith, none)
   | Two t m low high f ↦ let head : get_or text 0 0 ≡ 48 + m / 10 = ap (λ x. get_or x 0 0) (spread text t more _ e f) in omega (arith, none)
   | Three t m low high f ↦ let head : get_or text 0 0 ≡ 48 + m / 100 = ap (λ x. get_or x 0 0) (spread text t more _ e f) in omega (arith, none)
 ]
 
-pub zero_octet : (text rest : List ℕ) (n : ℕ) → text ≡ (48 + n) ∷ rest → n ≡ 0 → IsFirstOctet text 0 rest
+pub zero_octet : (text rest : List ℕ) (n : ℕ) → text ≡ (48 + n) ∷ rest → n ≡ 0 → IsFirstPart IsOctetText text 0 rest
 zero_octet text rest n s z = record {
   front = 48 ∷ [];
   spelled = s ∙ ap (λ k. (48 + k) ∷ rest) z;
-  octet = one_octet_text 0 (omega arith);
+  part = one_octet_text 0 (omega arith);
   only = λ t m more h stop e. elim (places t m h) [
     | One t m small f ↦
         let both = sym s ∙ spread text t more _ e f in
@@ -101,11 +100,11 @@ zero_octet text rest n s z = record {
   ];
 }
 
-pub short_octet : (text rest : List ℕ) (n : ℕ) → text ≡ (48 + n) ∷ rest → n < 10 → 0 < n → NoDigitFirst rest → IsFirstOctet text n rest
+pub short_octet : (text rest : List ℕ) (n : ℕ) → text ≡ (48 + n) ∷ rest → n < 10 → 0 < n → NoDigitFirst rest → IsFirstPart IsOctetText text n rest
 short_octet text rest n s small pos none = record {
   front = (48 + n) ∷ [];
   spelled = s;
-  octet = one_octet_text n small;
+  part = one_octet_text n small;
   only = λ t m more h stop e. elim (places t m h) [
     | One t m small f ↦
         let both = sym s ∙ spread text t more _ e f in
@@ -119,7 +118,7 @@ short_octet text rest n s small pos none = record {
 }
 
 -- two digits at the front
-pub middle_octet : (text after rest : List ℕ) (i j : ℕ) → text ≡ (48 + i) ∷ after → i < 10 → i ≢ 0 → after ≡ (48 + j) ∷ rest → j < 10 → NoDigitFirst rest → IsFirstOctet text (i * 10 + j) rest
+pub middle_octet : (text after rest : List ℕ) (i j : ℕ) → text ≡ (48 + i) ∷ after → i < 10 → i ≢ 0 → after ≡ (48 + j) ∷ rest → j < 10 → NoDigitFirst rest → IsFirstPart IsOctetText text (i * 10 + j) rest
 middle_octet text after rest i j s hi pos s' hj none =
     let whole : text ≡ (48 + i) ∷ (48 + j) ∷ rest = s ∙ ap (λ t. (48 + i) ∷ t) s' in
     let n : ℕ = i * 10 + j in
@@ -128,7 +127,7 @@ middle_octet text after rest i j s hi pos s' hj none =
     record {
       front = (48 + i) ∷ (48 + j) ∷ [];
       spelled = whole;
-      octet = rw (q, r) at (two_octet_text n (omega arith) (omega arith));
+      part = rw (q, r) at (two_octet_text n (omega arith) (omega arith));
       only = λ t m more h stop e. elim (places t m h) [
         | One t m small f ↦
             let both = sym whole ∙ spread text t more _ e f in
@@ -171,7 +170,7 @@ module _ (text after later rest : List ℕ) (i j k : ℕ) (s : text ≡ (48 + i)
             (omega arith, sym (same_tail _ _ _ _ three), high)
       ]
 
-  pub long_octet : (i * 10 + j) * 10 + k < 256 → IsFirstOctet text ((i * 10 + j) * 10 + k) rest
+  pub long_octet : (i * 10 + j) * 10 + k < 256 → IsFirstPart IsOctetText text ((i * 10 + j) * 10 + k) rest
   long_octet fits =
       let n : ℕ = (i * 10 + j) * 10 + k in
       let q : n / 100 ≡ i = omega arith in
@@ -180,42 +179,12 @@ module _ (text after later rest : List ℕ) (i j k : ℕ) (s : text ≡ (48 + i)
       record {
         front = (48 + i) ∷ (48 + j) ∷ (48 + k) ∷ [];
         spelled = whole;
-        octet = rw (q, r, u) at (three_octet_text n (omega arith) fits);
+        part = rw (q, r, u) at (three_octet_text n (omega arith) fits);
         only = λ t m more h stop e. let (a, b, _) = three_places t m more h stop e in (a, b);
       }
 
-  pub large_octet : 256 ≤ (i * 10 + j) * 10 + k → NoOctetFirst text
+  pub large_octet : 256 ≤ (i * 10 + j) * 10 + k → NoPartFirst IsOctetText text
   large_octet large t m more h stop e = let (a, _, b) = three_places t m more h stop e in omega arith
-
--- ---- an octet that is the whole text
-pub whole_none : (text : List ℕ) → NoOctetFirst text → (n : ℕ) → ¬ (IsOctetText text n)
-whole_none text none n h = none text n [] h (inl refl) (sym (append-nil text))
-
-pub whole_octet : (text rest : List ℕ) (n : ℕ) → IsFirstOctet text n rest → length rest ≡ 0 → IsOctetText text n
-whole_octet text rest n f e = rw (f.spelled, nil_from_length rest e, append-nil f.front) f.octet
-
-pub not_whole : (text rest : List ℕ) (n : ℕ) → IsFirstOctet text n rest → 0 < length rest → (m : ℕ) → ¬ (IsOctetText text m)
-not_whole text rest n f pos m h =
-    let same : [] ≡ rest = (f.only text m [] h (inl refl) (sym (append-nil text))).1 in
-    omega (arith, ap length same)
-
--- ---- an octet and a dot
-pub first_none : (text : List ℕ) → NoOctetFirst text → (n m : ℕ) (ns : List ℕ) → ¬ (IsJoined IsOctetText text (n ∷ m ∷ ns))
-first_none text none n m ns (front, back, split, octet, more) = none front n (dot ∷ back) octet (inr (back, refl)) split
-
-pub first_undotted : (text rest : List ℕ) (k : ℕ) → IsFirstOctet text k rest → ((back : List ℕ) → rest ≢ dot ∷ back) → (n m : ℕ) (ns : List ℕ) → ¬ (IsJoined IsOctetText text (n ∷ m ∷ ns))
-first_undotted text rest k f none n m ns (front, back, split, octet, more) =
-    none back (sym (f.only front n (dot ∷ back) octet (inr (back, refl)) split).1)
-
-pub first_taken : (text rest back : List ℕ) (k : ℕ) → IsFirstOctet text k rest → rest ≡ dot ∷ back → (n m : ℕ) (ns : List ℕ)
-    → IsJoined IsOctetText text (n ∷ m ∷ ns) ↔ ((n ≡ k) × IsJoined IsOctetText back (m ∷ ns))
-first_taken text rest back k f e n m ns = (
-  λ (front, later, split, octet, more).
-      let only = f.only front n (dot ∷ later) octet (inr (later, refl)) split in
-      let same : later ≡ back = ap (drop 1) (only.1 ∙ e) in
-      (only.0, subst (λ t. IsJoined IsOctetText t (m ∷ ns)) same more),
-  λ (same, more). (f.front, back, f.spelled ∙ ap (λ t. f.front ++ t) e, subst (IsOctetText f.front) (sym same) f.octet, more),
-)
 
 -- ---- four octets
 four_items : (o : List ℕ) → length o ≡ 4 → o ≡ get_or o 0 0 ∷ get_or o 1 0 ∷ get_or o 2 0 ∷ get_or o 3 0 ∷ []

@@ -1,10 +1,13 @@
 -- Numbers of k bits in a row, and the bits that they make together.
-use Rattle.std.proofs.Common.{◌≡◌, ℕ, zero, suc, ◌+◌, ◌*◌, ◌/◌, ◌%◌, ◌^◌, ◌<◌, Bool, List, [], ◌∷◌, ◌++◌, length, get_or, take, drop, flat_map, refl, sym, zero-add, ap, ap₂, ◌∙◌, arith, append_assoc, append-nil, take_at, drop_at, take-append-drop, length-drop, length-take-le}
+use Rattle.std.proofs.Common.{◌≡◌, ℕ, zero, suc, ◌+◌, ◌*◌, ◌/◌, ◌%◌, ◌^◌, ◌<◌, ◌≤◌, Bool, List, [], ◌∷◌, ◌++◌, length, get_or, take, drop, flat_map, replicate, refl, sym, zero-add, ap, ap₂, ◌∙◌, subst, arith, append_assoc, append-nil, take_at, drop_at, take-append-drop, length-append, length-drop, length-take-le, lit≤}
 use Rattle.std.proofs.lemmas.List.{nil_from_length}
-use Rattle.std.proofs.lemmas.Nat.{pow_pos}
+use Rattle.std.proofs.lemmas.Nat.{pow_pos, pow-add, row_fits, mul-le}
+use Rattle.std.proofs.Math.Nat.{pow-le-pow_right}
+use Rattle.std.proofs.lemmas.Grind.{flat_map-append}
 use Rattle.cidr.specs.model.Bits.{bits, number}
 use Rattle.cidr.specs.laws.BitLaws.{bits-cat, bits-append, length-bits, number-bits_mod, number-lt, bits-number}
 use Rattle.cidr.specs.model.Address.{parts_of}
+use Rattle.cidr.specs.internal.Reading.{WritesParts}
 
 -- the number that x and then the parts write
 abbrev pub joined_number : ℕ → ℕ → List ℕ → ℕ
@@ -64,3 +67,48 @@ parts_fit k (suc n) a e i =
     let first : number (take k a) < 2 ^ k = rw l at (number-lt (take k a)) in
     let later = parts_fit k n (drop k a) (omega (arith, length-drop k a)) in
     elim i as (λ j. get_or (number (take k a) ∷ parts_of k n (drop k a)) j 0 < 2 ^ k) [ zero ↦ first | suc j ↦ later j ]
+
+-- ---- the number that parts write
+pub writes-none : (k : ℕ) → WritesParts k [] 0
+unfolding bits
+writes-none k =
+    let e : k * 0 ≡ 0 = omega arith in
+    record { fits = rw e (omega arith); value = rw e refl }
+
+pub writes-one : (k v : ℕ) → v < 2 ^ k → WritesParts k (v ∷ []) v
+writes-one k v h =
+    let e : k * 1 ≡ k = omega arith in
+    record { fits = rw e h; value = rw e (sym (append-nil (bits k v))) }
+
+-- parts behind others
+pub writes-append : (k : ℕ) (ps qs : List ℕ) (m n : ℕ) → WritesParts k ps m → WritesParts k qs n → WritesParts k (ps ++ qs) (m * 2 ^ (k * length qs) + n)
+writes-append k ps qs m n g h =
+    let i = k * length ps in
+    let j = k * length qs in
+    let width : k * length (ps ++ qs) ≡ i + j = rw (length-append ps qs) (omega arith) in
+    let room : 2 ^ (i + j) ≡ 2 ^ i * 2 ^ j = pow-add 2 i j in
+    let row : m * 2 ^ j + 2 ^ j ≤ 2 ^ i * 2 ^ j = row_fits m (2 ^ j) (2 ^ i) (2 ^ j) g.fits (omega arith) in
+    let low = h.fits in
+    record {
+      fits = rw (width, room) (omega arith);
+      value = rw width (bits-cat i j m n low ∙ ap₂ (λ x y. x ++ y) g.value h.value ∙ sym (flat_map-append (bits k) ps qs));
+    }
+
+pub writes-push : (k : ℕ) (ps : List ℕ) (m v : ℕ) → WritesParts k ps m → v < 2 ^ k → WritesParts k (ps ++ v ∷ []) (m * 2 ^ k + v)
+writes-push k ps m v g h =
+    let e : k * 1 ≡ k = omega arith in
+    let all : WritesParts k (ps ++ v ∷ []) (m * 2 ^ (k * 1) + v) = writes-append k ps (v ∷ []) m v g (writes-one k v h) in
+    rw e at all
+
+-- few parts leave room for more
+pub writes-few : (k : ℕ) (ps : List ℕ) (n most : ℕ) → WritesParts k ps n → length ps ≤ most → n < 2 ^ (k * most)
+writes-few k ps n most h few =
+    let room : 2 ^ (k * length ps) ≤ 2 ^ (k * most) = pow-le-pow_right (lit≤ tt) (mul-le k (length ps) k most (omega arith) few) in
+    omega (arith, h.fits)
+
+-- zeros
+pub writes-zeros : (k n : ℕ) → WritesParts k (replicate n 0) 0
+writes-zeros k zero = writes-none k
+writes-zeros k (suc n) =
+    let none : 0 * 2 ^ (k * length (replicate {A = ℕ} n 0)) + 0 ≡ 0 = omega arith in
+    subst (WritesParts k (0 ∷ replicate n 0)) none (writes-append k (0 ∷ []) (replicate n 0) 0 0 (writes-one k 0 (pow_pos k)) (writes-zeros k n))

@@ -1,10 +1,9 @@
 -- What the readers of a part of a text promise each other.
-use Rattle.std.specs.Prelude.{◌≡◌, ◌≢◌, ℕ, ◌+◌, ◌*◌, ◌^◌, ◌<◌, ◌≤◌, ◌↔◌, ◌⊎◌, Bool, true, List, [], ◌∷◌, ◌++◌, length, Option, Some, None, MatchOption, slice_index, Result, Ok}
+use Rattle.std.specs.Prelude.{◌≡◌, ◌≢◌, ℕ, ◌+◌, ◌*◌, ◌^◌, ◌<◌, ◌≤◌, ◌↔◌, ◌⊎◌, Bool, true, List, [], ◌∷◌, ◌++◌, length, flat_map, Option, Some, None, MatchOption, slice_index, Result, Ok}
 use Rattle.std.specs.Borrow.{Bor}
 use Rattle.std.specs.Char.{digit_value}
 use Rattle.std.specs.Net.Reader.{read_separator, read_segments}
 use Rattle.cidr.specs.model.Bits.{bits}
-use Rattle.cidr.specs.model.Address.{group_bits}
 use Rattle.cidr.specs.texts.Ipv4Text.{dot, IsOctetText, IsJoined}
 use Rattle.cidr.specs.texts.Ipv6Text.{IsGroupText}
 use Rattle.cidr.specs.declared.errors.NetworkParseError.{NetworkParseError}
@@ -25,19 +24,19 @@ TakesDigit text r = MatchOption r (NoDigitFirst text) (λ p. (text ≡ (48 + p.0
 abbrev pub StopsAtDot : List ℕ → Type 0
 StopsAtDot text = (text ≡ []) ⊎ ((rest : List ℕ) × (text ≡ dot ∷ rest))
 
--- an octet text stands first, and one that ends at a dot or at the end can be only this one
-pub record IsFirstOctet (text : List ℕ) (n : ℕ) (rest : List ℕ) : Type 0 where
+-- a part stands first, and one that ends at a dot or at the end can be only this one
+pub record IsFirstPart (Part : List ℕ → ℕ → Type 0) (text : List ℕ) (n : ℕ) (rest : List ℕ) : Type 0 where
   pub front : List ℕ
   pub spelled : text ≡ front ++ rest
-  pub octet : IsOctetText front n
-  pub only : (t : List ℕ) (m : ℕ) (more : List ℕ) → IsOctetText t m → StopsAtDot more → text ≡ t ++ more → (m ≡ n) × (more ≡ rest)
+  pub part : Part front n
+  pub only : (t : List ℕ) (m : ℕ) (more : List ℕ) → Part t m → StopsAtDot more → text ≡ t ++ more → (m ≡ n) × (more ≡ rest)
 
--- no octet text that ends at a dot or at the end stands first
-abbrev pub NoOctetFirst : List ℕ → Type 0
-NoOctetFirst text = (t : List ℕ) (m : ℕ) (more : List ℕ) → IsOctetText t m → StopsAtDot more → text ≢ t ++ more
+-- no part that ends at a dot or at the end stands first
+abbrev pub NoPartFirst : (List ℕ → ℕ → Type 0) → List ℕ → Type 0
+NoPartFirst Part text = (t : List ℕ) (m : ℕ) (more : List ℕ) → Part t m → StopsAtDot more → text ≢ t ++ more
 
-abbrev pub TakesOctet : List ℕ → Option (ℕ × Bor (List ℕ)) → Type 0
-TakesOctet text r = MatchOption r (NoOctetFirst text) (λ p. IsFirstOctet text p.0 p.1.now)
+abbrev pub TakesPart : (List ℕ → ℕ → Type 0) → List ℕ → Option (ℕ × Bor (List ℕ)) → Type 0
+TakesPart Part text r = MatchOption r (NoPartFirst Part text) (λ p. IsFirstPart Part text p.0 p.1.now)
 
 -- an octet and a dot were read: the octets of the text are that one and those of the rest
 abbrev pub TakesFirst : List ℕ → Option (ℕ × Bor (List ℕ)) → Type 0
@@ -67,10 +66,10 @@ TakesGroup text r = MatchOption r (NoGroupFirst text) (λ p. IsFirstGroup text p
 abbrev pub TakesSeparator : Bool → List ℕ → Option (Bor (List ℕ)) → Type 0
 TakesSeparator first text r = MatchOption r (None ≡ read_separator first text) (λ group. Some group.now ≡ read_separator first text)
 
--- the number whose bits are those of the groups
-pub record WritesGroups (groups : List ℕ) (n : ℕ) : Type 0 where
-  pub fits : n < 2 ^ (16 * length groups)
-  pub value : bits (16 * length groups) n ≡ group_bits groups
+-- the number whose bits are those of the parts, of k bits each
+pub record WritesParts (k : ℕ) (parts : List ℕ) (n : ℕ) : Type 0 where
+  pub fits : n < 2 ^ (k * length parts)
+  pub value : bits (k * length parts) n ≡ flat_map (bits k) parts
 
 -- at most so many groups stand first, these and no more, and this is left: nothing, where an IPv4 text stands last
 pub record IsFound (room : ℕ) (text : List ℕ) (n count : ℕ) (rest : List ℕ) : Type 0 where
@@ -80,7 +79,7 @@ pub record IsFound (room : ℕ) (text : List ℕ) (n count : ℕ) (rest : List �
   pub ends : dotted ≡ true → rest ≡ []
   pub many : length groups ≡ count
   pub fits : count ≤ room
-  pub number : WritesGroups groups n
+  pub number : WritesParts 16 groups n
 
 -- what is left after the groups is neither nothing nor `::`
 pub record IsStuck (room : ℕ) (text : List ℕ) : Type 0 where

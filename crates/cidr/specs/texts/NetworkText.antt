@@ -13,9 +13,13 @@ slash = 47
 abbrev pub plus : ℕ
 plus = 43
 
+-- one or more digits of the radix, of a value below the limit
+abbrev pub IsNumberText : ℕ → ℕ → List ℕ → ℕ → Type 0
+IsNumberText radix limit text n = IsNumeral radix text × (digits_value radix text ≡ n) × (n < limit)
+
 -- one or more decimal digits of a value below 256
 abbrev pub IsByteText : List ℕ → ℕ → Type 0
-IsByteText text n = IsNumeral 10 text × (digits_value 10 text ≡ n) × (n < 256)
+IsByteText = IsNumberText 10 256
 
 -- the same after an optional plus
 abbrev pub IsLengthText : List ℕ → ℕ → Type 0

@@ -2,7 +2,7 @@
 ghost use Rattle.std.specs.Prelude.{◌≡◌, List, ℕ, Bool, MatchOption};
 ghost use Rattle.cidr.specs.model.Address.{octet_bits};
 ghost use Rattle.cidr.specs.texts.Ipv4Text.{dot, IsOctetText, IsIpv4Text};
-ghost use Rattle.cidr.specs.internal.Reading.{TakesByte, TakesDigit, TakesOctet, TakesFirst};
+ghost use Rattle.cidr.specs.internal.Reading.{TakesByte, TakesDigit, TakesPart, TakesFirst};
 
 /// The value of the decimal digit at the front, and what follows it.
 fn take_digit(text: &[u8]) -> Option<(u8, &[u8])>
@@ -16,7 +16,7 @@ fn take_digit(text: &[u8]) -> Option<(u8, &[u8])>
 
 /// The octet at the front, of as many digits as can be one, and what follows it.
 fn take_octet(text: &[u8]) -> Option<(u8, &[u8])>
-    ensures { TakesOctet text.now result }
+    ensures { TakesPart IsOctetText text.now result }
 {
     let (first, after_first) = take_digit(text)?;
     if first == 0 {

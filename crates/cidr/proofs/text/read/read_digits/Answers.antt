@@ -2,7 +2,8 @@
 use Rattle.std.proofs.Common.{arith, refl, sym}
 use Rattle.std.proofs.lemmas.Bool.{eqb-false}
 use Rattle.std.proofs.lemmas.List.{take_all}
-use Rattle.cidr.proofs.LengthReading.{more_digits, too_large, not_digits}
+use Rattle.cidr.proofs.NumberReading.{more_digits}
+use Rattle.cidr.proofs.LengthReading.{decimal_digit_value, too_large, not_digits}
 use Rattle.cidr.proofs.text.read.read_digits.Goals as goal
 
 pub loop-digit-init : goal.loop-digit-init
@@ -24,7 +25,9 @@ pub returns-then-more-gt255 : goal.returns-then-more-gt255
 returns-then-more-gt255 c = too_large _ _ _ c.loop-digit.invariant c.loop-digit-test.true c.if-not-is_ascii_digit.ensures.cases (omega (arith, c.from.ensures, c.from-in-loop-digit.ensures))
 
 pub loop-digit-preserved : goal.loop-digit-preserved
-loop-digit-preserved c = rw (c.from.ensures, c.from-in-loop-digit.ensures) (more_digits _ _ _ c.loop-digit.invariant c.loop-digit-test.true c.if-not-is_ascii_digit.ensures.cases c.if-not-is_ascii_digit.ensures.bound (omega (arith, c.from.ensures, c.from-in-loop-digit.ensures)))
+loop-digit-preserved c =
+    let (digit, below) = decimal_digit_value c.args.digits.now c.loop-digit.digit-index c.if-not-is_ascii_digit.ensures.cases in
+    rw (c.from.ensures, c.from-in-loop-digit.ensures) (more_digits _ _ _ _ _ _ c.loop-digit.invariant c.loop-digit-test.true digit below (omega (arith, c.from.ensures, c.from-in-loop-digit.ensures)))
 
 pub returns : goal.returns
 returns c =
