@@ -8,9 +8,11 @@ pub mod JoinedReading
 pub mod GroupReading
 pub mod NumberReading
 pub mod LengthReading
+pub mod LooseReading
 pub mod Cuts
 pub mod Ipv4Grammar
 pub mod Ipv6Grammar
+pub mod LooseGrammar
 pub mod NetworkTexts
 pub mod NetworkReading
 pub mod Parsing

@@ -1,2 +1,3 @@
 -- What private functions promise each other.
 pub mod Reading
+pub mod Joined

@@ -10,3 +10,4 @@ pub mod Canonical
 pub mod PrintedAddress
 pub mod Printed
 pub mod Messages
+pub mod LooseText

@@ -5,6 +5,7 @@ pub mod addresses;
 pub mod clones;
 pub mod errors;
 pub mod hosts;
+pub mod loose_texts;
 pub mod networks;
 pub mod parsers;
 pub mod walks;

@@ -1,0 +1,90 @@
+//! Reading numbers that are joined by dots, in one pass over the bytes.
+ghost use Rattle.std.specs.Prelude.{◌≡◌, ◌+◌, ◌≤◌, ℕ, List, MatchOption};
+ghost use Rattle.cidr.specs.texts.NetworkText.{IsNumberText};
+ghost use Rattle.cidr.specs.internal.Reading.{TakesPart};
+ghost use Rattle.cidr.specs.internal.Joined.{IsAfterPlus, JoinsParts, JoinsNone};
+
+use crate::addr::hex::hex_value;
+use crate::addr::read::take_byte;
+
+/// A spelling of the numbers that stand between dots.
+pub(crate) trait Part {
+    /// Which text spells which number.
+    ghost spells: { List ℕ → ℕ → Type 0 };
+
+    /// The number at the front, and what follows it.
+    fn take(text: &[u8]) -> Option<(u32, &[u8])>
+        ensures { TakesPart spells text.now result };
+}
+
+/// The numbers of a text.
+#[derive(Clone, Copy)]
+pub(crate) struct Parts {
+    /// The octets before the last number, as a number.
+    pub(crate) front: u32,
+    /// How many octets these are.
+    pub(crate) count: u8,
+    /// The last number.
+    pub(crate) last: u32,
+}
+
+/// The text after its plus, or all of it where it begins with none.
+pub(crate) fn after_plus(text: &[u8]) -> &[u8]
+    ensures { IsAfterPlus text.now result.now }
+{
+    take_byte(text, b'+').unwrap_or(text)
+}
+
+/// The number up to `most` that the digits at the front write, and what follows them.
+#[inline(always)]
+pub(crate) fn take_number(text: &[u8], radix: u8, most: u32) -> Option<(u32, &[u8])>
+    requires { radix ≤ 16 }
+    ensures { TakesPart (IsNumberText radix (most + 1)) text.now result }
+{
+    let mut value = 0u64;
+    let mut count = 0;
+    for byte in text {
+        let Some(digit) = hex_value(*byte) else {
+            break;
+        };
+        if digit >= radix {
+            break;
+        }
+        value = value * u64::from(radix) + u64::from(digit);
+        if value > u64::from(most) {
+            return None;
+        }
+        count += 1;
+    }
+    if count == 0 {
+        None
+    } else {
+        Some((value as u32, &text[count..]))
+    }
+}
+
+/// The one to four numbers of a text, of which all but the last are octets.
+#[inline(always)]
+pub(crate) fn read_parts<P: Part>(text: &[u8]) -> Option<Parts>
+    ensures { MatchOption result (JoinsNone P.spells text.now)
+        (λ parts. JoinsParts P.spells text.now parts.front parts.count parts.last) }
+{
+    let mut front = 0u32;
+    let mut rest = text;
+    for count in 0..4u8 {
+        let (number, after) = P::take(rest)?;
+        if after.is_empty() {
+            return Some(Parts {
+                front,
+                count,
+                last: number,
+            });
+        }
+        rest = take_byte(after, b'.')?;
+        if number > 255 {
+            return None;
+        }
+        front = front * 256 + number;
+    }
+    None
+}
