@@ -13,6 +13,7 @@ pub mod Cuts
 pub mod Ipv4Grammar
 pub mod Ipv6Grammar
 pub mod LooseGrammar
+pub mod ShortGrammar
 pub mod NetworkTexts
 pub mod NetworkReading
 pub mod Parsing

@@ -1,13 +1,14 @@
--- Loose parts, by the first bytes.
+-- Loose parts and the octets of short texts, by the first bytes.
 use Rattle.std.proofs.Common.{◌≡◌, ◌≢◌, ℕ, ◌^◌, ◌<◌, ◌⊎◌, List, [], ◌∷◌, ◌++◌, get_or, refl, sym, ap, ◌∙◌, subst, arith, inl, inr, Option}
 use Rattle.std.specs.Borrow.{Bor}
 use Rattle.std.specs.Char.{digit_value}
 use Rattle.cidr.specs.texts.Ipv4Text.{digit_zero}
-use Rattle.cidr.specs.texts.NetworkText.{plus, IsNumberText}
+use Rattle.cidr.specs.texts.NetworkText.{plus, IsNumberText, IsLengthText}
 use Rattle.cidr.specs.texts.LooseText.{IsU32Text, IsLetterX, IsLoosePart}
 use Rattle.cidr.specs.internal.Reading.{StopsAtDot, TakesPart}
 use Rattle.cidr.specs.internal.Joined.{IsAfterPlus, LeadsToDigits}
 use Rattle.cidr.proofs.Cuts.{no_plus}
+use Rattle.cidr.proofs.LengthReading.{without_plus}
 use Rattle.cidr.proofs.JoinedReading.{IsPrefixed, takes_prefixed}
 
 -- the first byte of a text that begins with digits, or with these bytes
@@ -138,3 +139,22 @@ takes_loose text radix digits r (inr (inl (is, same, rest, s, other))) h =
     takes_prefixed IsLoosePart (IsU32Text 8) text [] text (octal_text text rest s other) r octal
 takes_loose text radix digits r (inr (inr (is, other, after))) h =
     decimal_text text digits other r after (subst (λ k. TakesPart (IsU32Text k) digits r) is h)
+
+-- ---- the octets of short texts
+pub takes_length : (text digits : List ℕ) (r : Option (ℕ × Bor (List ℕ))) → IsAfterPlus text digits → TakesPart (IsNumberText 10 256) digits r → TakesPart IsLengthText text r
+takes_length text digits r (inl s) h = takes_prefixed IsLengthText (IsNumberText 10 256) text (plus ∷ []) digits signed r h
+  where
+    cut : (t more : List ℕ) (n : ℕ) → text ≡ t ++ more → StopsAtDot more → IsLengthText t n → (u : List ℕ) × (t ≡ (plus ∷ []) ++ u) × IsNumberText 10 256 u n
+    cut t more n e stop (inl number) = absurd (no_plus_first text t more digits 256 n e s number)
+    cut t more n e stop (inr after) = after
+
+    signed : IsPrefixed IsLengthText (IsNumberText 10 256) text (plus ∷ []) digits
+    signed = record { split = s; put = λ t more n e number. inr (t, refl, number); cut = cut }
+takes_length text digits r (inr (same, none)) h = takes_prefixed IsLengthText (IsNumberText 10 256) text [] text plain r (subst (λ t. TakesPart (IsNumberText 10 256) t r) same h)
+  where
+    plain : IsPrefixed IsLengthText (IsNumberText 10 256) text [] text
+    plain = record {
+      split = refl;
+      put = λ t more n e number. inl number;
+      cut = λ t more n e stop part. (t, refl, without_plus t n (λ u a. none (u ++ more) (e ∙ ap (λ s. s ++ more) a)) part);
+    }

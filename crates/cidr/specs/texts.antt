@@ -11,3 +11,4 @@ pub mod PrintedAddress
 pub mod Printed
 pub mod Messages
 pub mod LooseText
+pub mod ShortText

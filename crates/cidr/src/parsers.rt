@@ -14,6 +14,7 @@ mod ignore_hostbits;
 mod loose;
 mod networks;
 mod parts;
+mod short;
 
 pub use any::{
     parse_any_cidr, parse_any_cidr_full, parse_any_cidr_full_ignore_hostbits,
@@ -23,3 +24,4 @@ pub use hosts::{parse_inet, parse_inet_full};
 pub use ignore_hostbits::{parse_cidr_full_ignore_hostbits, parse_cidr_ignore_hostbits};
 pub use loose::{inet_addr, parse_loose_ip, parse_loose_ipv4};
 pub use networks::{parse_cidr, parse_cidr_full};
+pub use short::{parse_short_ip_address_as_cidr, parse_short_ipv4_address_as_cidr};
