@@ -8,6 +8,6 @@ pub returns : goal.returns
 returns c =
     let parts = c.in_ok-parts.parts in
     let free = 32 - 8 * parts.count in
-    let small : parts.last / 2 ^ free ≡ 0 = rw c.from-last.ensures at c.if-last-free-ne0.false in
+    let small : parts.last / 2 ^ free ≡ 0 = cc in
     let whole : parts.front * 2 ^ free % 2 ^ 64 ≡ parts.front * 2 ^ free = shl_whole parts.front 32 free 64 (omega (arith, c.from.ensures)) (omega arith) in
     rw (c.from_bits.ensures, c.from.ensures, c.from-last.ensures, whole) (loose_value c.args.s.now parts.front parts.count parts.last (rw c.as_bytes.ensures.value at c.in_ok-parts.ensures) small)
