@@ -1,0 +1,9 @@
+//! Tests of loose and short IPv4 texts. The expected values come from outside the library.
+#![tactic(auto)]
+
+#[cfg(test)]
+mod long;
+#[cfg(test)]
+mod loose;
+#[cfg(test)]
+mod short;
