@@ -16,7 +16,8 @@
 //!
 //! `InetIterator` and `InetAddressIterator` are the walks over the addresses of a network or a pair. The traits
 //! `Address`, `Cidr`, `Inet` and `InetPair` are for code that is written once over all families. `errors` has the
-//! errors, `parsers` has parsers around a closure, and `laws` has laws for the proofs of callers.
+//! errors, `parsers` reads texts in other forms than the types themselves do, and `laws` has laws for the proofs of
+//! callers.
 //!
 //! # Addresses
 //!
@@ -80,6 +81,14 @@
 //! parsers::parse_cidr("home", parser)                   // 127.0.0.1/32
 //! parsers::parse_cidr("home/8", parser)                 // Err: a bit after the first 8 is set
 //! parsers::parse_cidr_ignore_hostbits("home/8", parser) // 127.0.0.0/8
+//! ```
+//!
+//! # Loose and short texts
+//!
+//! ```
+//! inet_addr("127.1")                      // Some(127.0.0.1), as POSIX has it
+//! parse_loose_ip("0x7f000001")            // Ok(127.0.0.1)
+//! parse_short_ipv4_address_as_cidr("192.168")   // Ok(192.168.0.0/16)
 //! ```
 //!
 //! # What is refused
