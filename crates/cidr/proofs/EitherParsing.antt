@@ -73,7 +73,7 @@ module _ (Asked : List ℕ → Result IpAddr AddrParseError → Type 0) (known :
   whole_read (Err x) r lacks asked h =
       rw (same_result r (Err (parse_error.AddrParseError x)) h) (ip_no_address text text x (inl (lacks, refl)) (known text (Err x) asked))
 
-  slashed_read : (front back : List ℕ) (answer : Result IpAddr AddrParseError) (r : Result IpCidr NetworkParseError) → CutsAtLastSlash text front back → Asked front answer
+  pub slashed_read : (front back : List ℕ) (answer : Result IpAddr AddrParseError) (r : Result IpCidr NetworkParseError) → CutsAtLastSlash text front back → Asked front answer
       → ReadsSlashed (MadeBy located shown strict_network) answer back r → ReadsIpNetwork text r
   slashed_read front back (Err x) r cut asked h = rw h (ip_no_address text front x (inr (back, cut)) (known front (Err x) asked))
   slashed_read front back (Ok a) r cut asked (inl (n, l, h)) =

@@ -39,6 +39,7 @@ pub mod NetworkPrinting
 pub mod EitherAddresses
 pub mod EitherReading
 pub mod EitherParsing
+pub mod ShortParsing
 pub mod EitherTexts
 pub mod EitherHolding
 pub mod EitherEqualities

@@ -24,4 +24,7 @@ pub use hosts::{parse_inet, parse_inet_full};
 pub use ignore_hostbits::{parse_cidr_full_ignore_hostbits, parse_cidr_ignore_hostbits};
 pub use loose::{inet_addr, parse_loose_ip, parse_loose_ipv4};
 pub use networks::{parse_cidr, parse_cidr_full};
-pub use short::{parse_short_ip_address_as_cidr, parse_short_ipv4_address_as_cidr};
+pub use short::{
+    parse_short_any_ip_cidr, parse_short_ip_address_as_cidr, parse_short_ip_cidr,
+    parse_short_ipv4_address_as_cidr, parse_short_ipv4_cidr,
+};

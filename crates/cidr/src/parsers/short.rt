@@ -2,17 +2,24 @@
 ghost use Rattle.std.specs.Prelude.{List, Bool, MatchOption};
 ghost use Rattle.cidr.specs.texts.AddressText.{Reads};
 ghost use Rattle.cidr.specs.texts.NetworkText.{IsLengthText};
-ghost use Rattle.cidr.specs.texts.ShortText.{IsShortText, IsShortIpText};
+ghost use Rattle.cidr.specs.texts.ShortText.{IsShortText, IsShortIpText, ReadsShort};
+ghost use Rattle.cidr.specs.texts.Refusal.{ReadsNetwork};
+ghost use Rattle.cidr.specs.either.IpText.{ReadsIpNetwork, ReadsAny};
+ghost use Rattle.cidr.specs.declared.family.Family.TheVariants.{Ipv4};
 ghost use Rattle.cidr.specs.texts.Messages.{ipv4_error, ip_error};
 ghost use Rattle.cidr.specs.declared.errors.NetworkParseError.TheVariants as parse_error;
 
 use crate::addr::error::AddrParseError;
 use crate::addr::ip::IpAddr;
 use crate::addr::v4::Ipv4Addr;
+use crate::cidr::any::AnyIpCidr;
 use crate::cidr::combined::IpCidr;
 use crate::cidr::network::Ipv4Cidr;
 use crate::errors::NetworkParseError;
+use crate::parsers::any::parse_any_cidr_full;
+use crate::parsers::networks::parse_cidr_full;
 use crate::parsers::parts::{Part, after_plus, read_parts, take_number};
+use std::str::FromStr;
 
 /// A decimal octet, after an optional plus.
 struct ShortPart;
@@ -65,4 +72,30 @@ pub fn parse_short_ip_address_as_cidr(s: &str) -> Result<IpCidr, NetworkParseErr
             None => Err(NetworkParseError::AddrParseError(e)),
         },
     }
+}
+
+/// The network of a text with a slash, read strictly as `Ipv4Cidr` reads it, or of a short text:
+/// `10.0.0.0/9` is 10.0.0.0/9, and `10.7` is 10.7.0.0/16.
+///
+/// The octets before a slash have to be four.
+pub fn parse_short_ipv4_cidr(s: &str) -> Result<Ipv4Cidr, NetworkParseError>
+    ensures { ReadsShort (Reads IsShortText (parse_error.AddrParseError ipv4_error)) (ReadsNetwork Ipv4) s.now result }
+{
+    parse_cidr_full(s, Ipv4Addr::from_str, parse_short_ipv4_address_as_cidr)
+}
+
+/// The network of a text with a slash, read strictly as `IpCidr` reads it, or what [`parse_short_ip_address_as_cidr`]
+/// reads.
+pub fn parse_short_ip_cidr(s: &str) -> Result<IpCidr, NetworkParseError>
+    ensures { ReadsShort (Reads IsShortIpText (parse_error.AddrParseError ip_error)) ReadsIpNetwork s.now result }
+{
+    parse_cidr_full(s, IpAddr::from_str, parse_short_ip_address_as_cidr)
+}
+
+/// `Any` for the text `any`, and for every other what [`parse_short_ip_cidr`] reads.
+pub fn parse_short_any_ip_cidr(s: &str) -> Result<AnyIpCidr, NetworkParseError>
+    ensures { ReadsAny (ReadsShort (Reads IsShortIpText (parse_error.AddrParseError ip_error)) ReadsIpNetwork)
+        s.now result }
+{
+    parse_any_cidr_full(s, IpAddr::from_str, parse_short_ip_address_as_cidr)
 }
