@@ -6,4 +6,6 @@ mod long;
 #[cfg(test)]
 mod loose;
 #[cfg(test)]
+mod networks;
+#[cfg(test)]
 mod short;
