@@ -13,6 +13,7 @@ mod line_error;
 mod networks;
 mod operations;
 mod pairs;
+mod parsers;
 mod queries;
 mod refusals;
 mod replay;

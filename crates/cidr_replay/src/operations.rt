@@ -3,7 +3,7 @@
 use crate::answer::Answer;
 use crate::line_error::{LineError, Outcome};
 use crate::tokens::Tokens;
-use crate::{addresses, conversions, families, faults, hosts, networks, pairs, walks};
+use crate::{addresses, conversions, families, faults, hosts, networks, pairs, parsers, walks};
 use std::alloc::{AllocError, Global};
 use std::str;
 
@@ -65,6 +65,7 @@ fn answer_operation(
         "pair" => pairs::answer(name, tokens, answer),
         "walk" => walks::answer(name, tokens, answer),
         "fault" => faults::answer(name, tokens, answer),
+        "parse" => parsers::answer(name, tokens, answer),
         "convert" if name.is_empty() => conversions::answer(tokens, answer),
         _ => Err(other_operation(section)),
     }
@@ -73,8 +74,7 @@ fn answer_operation(
 /// Whether a section that nothing answers is one of the format.
 fn other_operation(section: &str) -> LineError {
     match section {
-        "parse"
-        | "bits"
+        "bits"
         | "hostbits"
         | "compact"
         | "hostcompact"

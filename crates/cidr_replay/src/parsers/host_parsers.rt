@@ -1,0 +1,65 @@
+//! The parsers of texts with no slash that a line names.
+
+use crate::line_error::LineError;
+use crate::parsers::fixed::{Fixed, has_ipv4};
+use crate::tokens::Tokens;
+use cidr::Cidr;
+use cidr::errors::NetworkParseError;
+use std::str::FromStr;
+
+const NETWORK: Fixed = Fixed {
+    ipv4: "192.0.2.0/24",
+    ipv6: "2001:db8::/32",
+};
+
+const HOST: Fixed = Fixed {
+    ipv4: "192.0.2.1/24",
+    ipv6: "2001:db8::1/32",
+};
+
+/// A parser of texts with no slash.
+#[derive(Clone, Copy)]
+pub enum HostParser {
+    /// Reads as `FromStr` of the type.
+    Strict,
+    /// Refuses every text.
+    Refuse,
+    /// Gives one value for every text.
+    Fixed(Fixed),
+}
+
+impl HostParser {
+    /// The parser that the next token names, for networks of this type.
+    pub fn of_networks<C: Cidr>(tokens: &mut Tokens<'_>) -> Result<HostParser, LineError> {
+        match tokens.word()? {
+            "hshort" if has_ipv4::<C>() => Err(LineError::Unsupported),
+            word => HostParser::named(word, NETWORK),
+        }
+    }
+
+    /// The parser that the next token names, for hosts.
+    pub fn of_hosts(tokens: &mut Tokens<'_>) -> Result<HostParser, LineError> {
+        HostParser::named(tokens.word()?, HOST)
+    }
+
+    fn named(word: &str, fixed: Fixed) -> Result<HostParser, LineError> {
+        match word {
+            "hstrict" => Ok(HostParser::Strict),
+            "hrefuse" => Ok(HostParser::Refuse),
+            "hfixed" => Ok(HostParser::Fixed(fixed)),
+            _ => Err(LineError::Malformed),
+        }
+    }
+
+    /// What the parser gives for a text.
+    pub fn read<V: FromStr<Err = NetworkParseError>>(
+        self,
+        text: &str,
+    ) -> Result<V, NetworkParseError> {
+        match self {
+            HostParser::Strict => text.parse::<V>(),
+            HostParser::Refuse => Err(NetworkParseError::InvalidHostPart),
+            HostParser::Fixed(fixed) => fixed.value::<V>(),
+        }
+    }
+}
