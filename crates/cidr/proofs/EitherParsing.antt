@@ -66,7 +66,8 @@ shown_lone : (a : IpAddr) → shown (lone_network a) ≡ located a
 shown_lone (address.V4 a) = refl
 shown_lone (address.V6 a) = refl
 
-module _ (Asked : List ℕ → Result IpAddr AddrParseError → Type 0) (known : (text : List ℕ) (answer : Result IpAddr AddrParseError) → Asked text answer → Reads IsIpText ip_error text answer) (text : List ℕ) where
+module _ (Asked : List ℕ → Result IpAddr AddrParseError → Type 0)
+    (known : (text : List ℕ) (answer : Result IpAddr AddrParseError) → Asked text answer → Reads IsIpText ip_error text answer) (text : List ℕ) where
   whole_read : (answer : Result IpAddr AddrParseError) (r : Result IpCidr NetworkParseError) → Lacks 47 text → Asked text answer
       → MadeAlone located shown (λ a. a) answer r → ReadsIpNetwork text r
   whole_read (Ok a) r lacks asked h = rw (same_result r (Ok (lone_network a)) (h ∙ sym (ap Ok (shown_lone a)))) (lone_spelled text a (known text (Ok a) asked))

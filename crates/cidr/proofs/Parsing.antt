@@ -47,7 +47,8 @@ module _ {A : Type 0} (parts : Result (A × ℕ) NetworkParseError) where
       follows = refused_follows Makes h.answer h.back e is h.follows;
     }
 
-    pub cut_made : {R : Type 0} (Makes : A → ℕ → Result R NetworkParseError → Type 0) (p : A × ℕ) (r : Result R NetworkParseError) → parts ≡ Ok p → Makes p.0 p.1 r → ReadsCut Asked Makes text r
+    pub cut_made : {R : Type 0} (Makes : A → ℕ → Result R NetworkParseError → Type 0) (p : A × ℕ) (r : Result R NetworkParseError)
+        → parts ≡ Ok p → Makes p.0 p.1 r → ReadsCut Asked Makes text r
     cut_made Makes p r is made = record {
       front = h.front;
       back = h.back;
@@ -58,7 +59,8 @@ module _ {A : Type 0} (parts : Result (A × ℕ) NetworkParseError) where
     }
 
 -- the part was asked for in another way too
-pub asked_as : {A R : Type 0} {Asked Known : List ℕ → Result A AddrParseError → Type 0} {Makes : A → ℕ → Result R NetworkParseError → Type 0} {text : List ℕ} {r : Result R NetworkParseError}
+pub asked_as : {A R : Type 0} {Asked Known : List ℕ → Result A AddrParseError → Type 0} {Makes : A → ℕ → Result R NetworkParseError → Type 0}
+    {text : List ℕ} {r : Result R NetworkParseError}
     → ((front : List ℕ) (answer : Result A AddrParseError) → Asked front answer → Known front answer) → ReadsCut Asked Makes text r → ReadsCut Known Makes text r
 asked_as known h = record {
   front = h.front;

@@ -46,7 +46,8 @@ ipv4_slashed_read text front back (Ok a) r cut known (inr (none, h)) =
 abbrev CalledAt : {R : Type 0} → (List ℕ → R → Type 0) → List ℕ → R → Type 0
 CalledAt Gives text r = (p : Bor (List ℕ)) × Gives p.now r × (p.now ≡ text)
 
-pub short_ip_read : {Asked : List ℕ → Result IpAddr AddrParseError → Type 0} {Whole : List ℕ → Result IpCidr NetworkParseError → Type 0} (text : List ℕ) (r : Result IpCidr NetworkParseError)
+pub short_ip_read : {Asked : List ℕ → Result IpAddr AddrParseError → Type 0} {Whole : List ℕ → Result IpCidr NetworkParseError → Type 0}
+    (text : List ℕ) (r : Result IpCidr NetworkParseError)
     → ReadsAround Asked (MadeBy (in_family address_family plain_bits) (in_family network_family network_prefix) strict_network) Whole text r
     → ((text : List ℕ) (answer : Result IpAddr AddrParseError) → Asked text answer → CalledAt (Reads IsIpText ip_error) text answer)
     → ((text : List ℕ) (r : Result IpCidr NetworkParseError) → Whole text r → CalledAt (Reads IsShortIpText (parse_error.AddrParseError ip_error)) text r)

@@ -50,7 +50,8 @@ abbrev pub MadeAlone : {A V R W : Type 0} → (A → V) → (R → W) → (V →
 MadeAlone address made lone answer r = seen made r ≡ lone_from lone (seen address answer)
 
 -- the text has a slash, the part before the last one gave this answer where it was asked for, and r follows
-pub record ReadsCut {A R : Type 0} (Asked : List ℕ → Result A AddrParseError → Type 0) (Makes : A → ℕ → Result R NetworkParseError → Type 0) (text : List ℕ) (r : Result R NetworkParseError) : Type 0 where
+pub record ReadsCut {A R : Type 0} (Asked : List ℕ → Result A AddrParseError → Type 0) (Makes : A → ℕ → Result R NetworkParseError → Type 0)
+    (text : List ℕ) (r : Result R NetworkParseError) : Type 0 where
   pub front : List ℕ
   pub back : List ℕ
   pub answer : Result A AddrParseError
@@ -59,7 +60,8 @@ pub record ReadsCut {A R : Type 0} (Asked : List ℕ → Result A AddrParseError
   pub follows : ReadsSlashed Makes answer back r
 
 -- a text is read at its last slash, or as a whole where it has none
-abbrev pub ReadsAround : {A R : Type 0} → (List ℕ → Result A AddrParseError → Type 0) → (A → ℕ → Result R NetworkParseError → Type 0) → (List ℕ → Result R NetworkParseError → Type 0) → List ℕ → Result R NetworkParseError → Type 0
+abbrev pub ReadsAround : {A R : Type 0} → (List ℕ → Result A AddrParseError → Type 0) → (A → ℕ → Result R NetworkParseError → Type 0)
+    → (List ℕ → Result R NetworkParseError → Type 0) → List ℕ → Result R NetworkParseError → Type 0
 ReadsAround Asked Makes Whole text r = (Lacks slash text × Whole text r) ⊎ ReadsCut Asked Makes text r
 
 -- a whole text was asked for, and r is made of the answer

@@ -22,7 +22,8 @@ IsShortIpText text (V4 network) = IsShortText text network
 IsShortIpText text (V6 network) = IsIpv6Text text network
 
 -- what reading gives of a text with no slash, read as a short text, and of one with a slash, read strictly
-abbrev pub ReadsShort : {N : Type 0} → (List ℕ → Result N NetworkParseError → Type 0) → (List ℕ → Result N NetworkParseError → Type 0) → List ℕ → Result N NetworkParseError → Type 0
+abbrev pub ReadsShort : {N : Type 0} → (List ℕ → Result N NetworkParseError → Type 0) → (List ℕ → Result N NetworkParseError → Type 0)
+    → List ℕ → Result N NetworkParseError → Type 0
 ReadsShort Short Strict text r =
     (Lacks slash text × Short text r)
     ⊎ ((front : List ℕ) × (back : List ℕ) × CutsAtLastSlash text front back × Strict text r)

@@ -5,8 +5,8 @@ ghost use Rattle.cidr.specs.declared.addr.error.AddrParseError.{AddrParseError};
 ghost use Rattle.cidr.specs.declared.errors.NetworkParseError.{NetworkParseError};
 ghost use Rattle.cidr.specs.declared.family.Family.{Family};
 
-/// Of a text with a slash, for the same address read before it: a parser that ignores host bits gives the network of the
-/// strict one, accepts besides exactly what that refuses with `InvalidHostPart`, and refuses the rest alike.
+/// Of a text with a slash, for the same address read before it: a parser that ignores host bits gives the network of
+/// the strict one, accepts besides exactly what that refuses with `InvalidHostPart`, and refuses the rest alike.
 pub fn ignoring_host_bits_accepts_them()
     ensures { (answer : Result (Family × List Bool) AddrParseError) (back : List ℕ)
         (strict mended : Result (Family × List Bool) NetworkParseError) →
