@@ -43,9 +43,11 @@ rows() {
     run 0 $'less\n' '' cmp 192.0.2.0/24 192.0.2.0/25
     run 0 $'192.0.2.48\n192.0.2.49\nnone\n' '' walk 192.0.2.48/31 fff
     run 0 '' '' walk 10.0.0.0/8 ''
+    run 0 $'10.0.1.2\n' '' loose 0xA000102
     run 1 '' "$host_part" show 10.0.0.1/8
     run 1 '' "$too_long" show ::/129
     run 1 '' "$no_address" in any x
+    run 1 '' "$no_address" loose 08
     run 1 '' "$host_part" cmp 10.0.0.1/8 x
     run 1 '' "couldn't parse address in network: $no_address" cmp x 10.0.0.1/8
     run 1 '' $'couldn\'t parse length in network: invalid length text\n' show 10.0.0.0/x

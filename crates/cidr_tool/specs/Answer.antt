@@ -10,9 +10,11 @@ use Rattle.cidr.specs.either.IpAddress.{IsIpText, ip_address_bits}
 use Rattle.cidr.specs.model.Network.{first_of, last_of, mask_of, BeginsWith}
 use Rattle.cidr.specs.texts.Printed.{plain_text}
 use Rattle.cidr.specs.texts.PrintedAddress.{ip_text}
+use Rattle.cidr.specs.texts.LooseText.{IsLooseIpText}
 use Rattle.cidr.specs.texts.Messages.{ip_error}
 use Rattle.cidr.specs.declared.family.Family.{Family}
 use Rattle.cidr.specs.declared.family.Family.TheVariants.{Ipv4, Ipv6}
+use Rattle.cidr.specs.declared.addr.error.AddrParseError.{AddrParseError}
 use Rattle.cidr.specs.declared.addr.ip.IpAddr.{IpAddr}
 use Rattle.cidr.specs.declared.cidr.combined.IpCidr.{IpCidr}
 use Rattle.cidr.specs.declared.cidr.any.AnyIpCidr.{AnyIpCidr}
@@ -31,6 +33,7 @@ pub data Request : Type 0 where
   Holds : List ℕ → List ℕ → Request
   Compare : List ℕ → List ℕ → Request
   Walk : List ℕ → List End → Request
+  Loose : List ℕ → Request
 
 -- the arguments are this request
 abbrev pub IsRequest : List (List ℕ) → Request → Type 0
@@ -38,6 +41,7 @@ IsRequest arguments (Show net) = arguments ≡ codes "show" ∷ net ∷ []
 IsRequest arguments (Holds net address) = arguments ≡ codes "in" ∷ net ∷ address ∷ []
 IsRequest arguments (Compare left right) = arguments ≡ codes "cmp" ∷ left ∷ right ∷ []
 IsRequest arguments (Walk net ends) = (letters : List ℕ) × (arguments ≡ codes "walk" ∷ net ∷ letters ∷ []) × NamesEnds letters ends
+IsRequest arguments (Loose text) = arguments ≡ codes "loose" ∷ text ∷ []
 
 -- the arguments are no request
 abbrev pub IsUsage : List (List ℕ) → Type 0
@@ -84,21 +88,28 @@ IsAnswer (Holds net address) text =
 IsAnswer (Compare left right) text =
     (l r : AnyIpCidr) × IsAnyNetworkText left l × IsAnyNetworkText right r × (text ≡ order_text (bit_cmp (any_bits l) (any_bits r)))
 IsAnswer (Walk net ends) text = (network : IpCidr) × IsIpNetworkText net network × (text ≡ walk_text network ends)
+IsAnswer (Loose spelled) text = (a : IpAddr) × IsLooseIpText spelled a × (text ≡ ip_text a ++ codes "\n")
 
 -- no network is spelled, and this is the first error
 abbrev pub IsNetRefused : List ℕ → NetworkParseError → Type 0
 IsNetRefused net e = IsIpRefused net e × ((n : AnyIpCidr) → ¬ (IsAnyNetworkText net n))
+
+-- a text that spells no address is refused with the error of an address
+abbrev pub IsAddressRefused : (List ℕ → IpAddr → Type 0) → List ℕ → AddrParseError → Type 0
+IsAddressRefused Spells text e = (e ≡ ip_error) × ((a : IpAddr) → ¬ (Spells text a))
 
 -- the error that a request is refused with: that of the first argument that is wrong
 abbrev pub IsRefusal : Request → Fault → Type 0
 IsRefusal (Show net) (Network e) = IsNetRefused net e
 IsRefusal (Show net) (Address e) = ⊥
 IsRefusal (Holds net address) (Network e) = IsNetRefused net e
-IsRefusal (Holds net address) (Address e) = ((n : AnyIpCidr) × IsAnyNetworkText net n) × (e ≡ ip_error) × ((a : IpAddr) → ¬ (IsIpText address a))
+IsRefusal (Holds net address) (Address e) = ((n : AnyIpCidr) × IsAnyNetworkText net n) × IsAddressRefused IsIpText address e
 IsRefusal (Compare left right) (Network e) = IsNetRefused left e ⊎ (((n : AnyIpCidr) × IsAnyNetworkText left n) × IsNetRefused right e)
 IsRefusal (Compare left right) (Address e) = ⊥
 IsRefusal (Walk net ends) (Network e) = IsIpRefused net e × ((n : IpCidr) → ¬ (IsIpNetworkText net n))
 IsRefusal (Walk net ends) (Address e) = ⊥
+IsRefusal (Loose text) (Network e) = ⊥
+IsRefusal (Loose text) (Address e) = IsAddressRefused IsLooseIpText text e
 
 -- What becomes of a request and of the sink. A refusal writes nothing. A request that has an answer is written
 -- whole, or the sink has failed and a beginning of the answer was written, none if it had failed before.

@@ -16,6 +16,8 @@ pub enum Command<'a> {
     Compare(&'a str, &'a str),
     /// What calls at ends of the walk over a network's addresses give.
     Walk(&'a str, Ends),
+    /// The address that a loose text spells.
+    Loose(&'a str),
 }
 
 /// The command of this name with one argument.
@@ -25,6 +27,9 @@ fn with_one<'a>(name: &str, argument: &'a str) -> Option<Command<'a>>
 {
     if name == "show" {
         return Some(Command::Show(argument));
+    }
+    if name == "loose" {
+        return Some(Command::Loose(argument));
     }
     None
 }

@@ -2,7 +2,8 @@
 ghost use Rattle.std.specs.Prelude.{◌≡◌, ◌≤◌, ◌+◌, ◌++◌, length, map, decimal, codes, if◌then◌else◌};
 ghost use Rattle.cidr.specs.model.Bits.{bit_cmp};
 ghost use Rattle.cidr.specs.either.IpNetwork.{any_bits};
-ghost use Rattle.cidr_tool.specs.Answer.{Answers, AnswersRequest, Show, Holds, Compare, Walk, line, show_text, ip_show_text, order_text, family_name as family_name_of};
+ghost use Rattle.cidr.specs.texts.PrintedAddress.{ip_text};
+ghost use Rattle.cidr_tool.specs.Answer.{Answers, AnswersRequest, Show, Holds, Compare, Walk, Loose, line, show_text, ip_show_text, order_text, family_name as family_name_of};
 
 use crate::commands::{Command, command_of};
 use crate::errors::ToolError;
@@ -10,6 +11,7 @@ use crate::sink::Sink;
 use crate::walks::{Ends, write_walk};
 use crate::writing::write_text;
 use arrayvec::ArrayString;
+use cidr::parsers::parse_loose_ip;
 use cidr::{AnyIpCidr, Family, IpAddr, IpCidr};
 use std::cmp::Ordering;
 
@@ -160,6 +162,27 @@ fn walk<S: Sink>(net: &str, ends: &Ends, out: &mut S) -> Result<(), ToolError>
     write_walk(&network, ends.as_slice(), out)
 }
 
+/// The longest text of an address, and a line feed.
+const MOST_LINE: usize = 40;
+
+/// The line of an address.
+fn address_line(address: &IpAddr) -> ArrayString<MOST_LINE>
+    ensures { result.bytes ≡ ip_text address.now ++ codes "\n" }
+{
+    let mut line = ArrayString::new();
+    line.push_str(address.to_text().as_str());
+    line.push_str("\n");
+    line
+}
+
+/// The command `loose`.
+fn loose<S: Sink>(text: &str, out: &mut S) -> Result<(), ToolError>
+    ensures { AnswersRequest (Loose text.now) (S.state out.old) (S.state out.new) result }
+{
+    let address = parse_loose_ip(text)?;
+    write_text(out, address_line(&address).as_str())
+}
+
 /// Answers the program's arguments, which come without its name.
 ///
 /// Whether they are a command is found first, then the first argument that is refused, and only then is anything
@@ -175,5 +198,6 @@ pub fn run<S: Sink>(words: &[&str], out: &mut S) -> Result<(), ToolError>
         Command::Holds(net, address) => holds(net, address, out),
         Command::Compare(left, right) => compare(left, right, out),
         Command::Walk(net, ends) => walk(net, ends, out),
+        Command::Loose(text) => loose(text, out),
     }
 }

@@ -11,6 +11,8 @@ const USAGE: &str =
 
 const NO_ADDRESS: &str = "couldn't parse address in network: invalid IP address syntax\n";
 
+const ADDRESS_SYNTAX: &str = "invalid IP address syntax\n";
+
 const HOST_PART: &str = "host part of address was not zero\n";
 
 const SHOWN: &str =

@@ -1,6 +1,6 @@
 //! What each command writes, on which stream, with which status.
 use super::fakes::{plain, with_arguments};
-use super::{HOST_PART, NO_ADDRESS, SHOWN, USAGE};
+use super::{ADDRESS_SYNTAX, HOST_PART, NO_ADDRESS, SHOWN, USAGE};
 use crate::arguments::Given;
 use crate::program::program;
 use std::process::Abort;
@@ -116,24 +116,9 @@ fn in_tells_the_first_error(rt: HostRuntime) -> Result<(), Fail> {
     try_rows(
         &rt,
         &[
-            (
-                &["in", "10.0.0.0/8", "x"],
-                "",
-                "invalid IP address syntax\n",
-                1,
-            ),
-            (
-                &["in", "10.0.0.0/8", "any"],
-                "",
-                "invalid IP address syntax\n",
-                1,
-            ),
-            (
-                &["in", "10.0.0.0/8", "10.0.0.0/8"],
-                "",
-                "invalid IP address syntax\n",
-                1,
-            ),
+            (&["in", "10.0.0.0/8", "x"], "", ADDRESS_SYNTAX, 1),
+            (&["in", "10.0.0.0/8", "any"], "", ADDRESS_SYNTAX, 1),
+            (&["in", "10.0.0.0/8", "10.0.0.0/8"], "", ADDRESS_SYNTAX, 1),
             (&["in", "10.0.0.1/8", "x"], "", HOST_PART, 1),
             (&["in", "x", "10.0.0.1"], "", NO_ADDRESS, 1),
             (&["in", "x", "y"], "", NO_ADDRESS, 1),
@@ -214,6 +199,41 @@ fn walk_refuses_what_is_no_network(rt: HostRuntime) -> Result<(), Fail> {
 }
 
 #[test]
+fn loose_prints_the_address(rt: HostRuntime) -> Result<(), Fail> {
+    try_rows(
+        &rt,
+        &[
+            (&["loose", "192.0.2.1"], "192.0.2.1\n", "", 0),
+            (&["loose", "127.1"], "127.0.0.1\n", "", 0),
+            (&["loose", "0xA000102"], "10.0.1.2\n", "", 0),
+            (&["loose", "010.0X20.513"], "8.32.2.1\n", "", 0),
+            (&["loose", "4294967295"], "255.255.255.255\n", "", 0),
+            (&["loose", "::1"], "::1\n", "", 0),
+            (
+                &["loose", "ABCD:ABCD:ABCD:ABCD:ABCD:ABCD:ABCD:ABCD"],
+                "abcd:abcd:abcd:abcd:abcd:abcd:abcd:abcd\n",
+                "",
+                0,
+            ),
+        ],
+    )
+}
+
+#[test]
+fn loose_refuses_what_is_no_address(rt: HostRuntime) -> Result<(), Fail> {
+    try_rows(
+        &rt,
+        &[
+            (&["loose", "08"], "", ADDRESS_SYNTAX, 1),
+            (&["loose", "4294967296"], "", ADDRESS_SYNTAX, 1),
+            (&["loose", "any"], "", ADDRESS_SYNTAX, 1),
+            (&["loose", "10.0.0.0/8"], "", ADDRESS_SYNTAX, 1),
+            (&["loose", ""], "", ADDRESS_SYNTAX, 1),
+        ],
+    )
+}
+
+#[test]
 fn other_arguments_are_usage(rt: HostRuntime) -> Result<(), Fail> {
     try_rows(
         &rt,
@@ -223,6 +243,8 @@ fn other_arguments_are_usage(rt: HostRuntime) -> Result<(), Fail> {
             (&["in", "x"], "", USAGE, 2),
             (&["cmp", "x"], "", USAGE, 2),
             (&["walk", "10.0.0.0/8"], "", USAGE, 2),
+            (&["loose"], "", USAGE, 2),
+            (&["bytes", "10.0.0.0/8"], "", USAGE, 2),
             (&["", "x"], "", USAGE, 2),
             (&["SHOW", "10.0.0.0/8"], "", USAGE, 2),
         ],
@@ -240,6 +262,7 @@ fn an_argument_too_many_is_usage(rt: HostRuntime) -> Result<(), Fail> {
             (&["cmp", "10.0.0.0/8", "::/0", "x"], "", USAGE, 2),
             (&["cmp", "x", "y", "z"], "", USAGE, 2),
             (&["walk", "10.0.0.0/8", "f", "f"], "", USAGE, 2),
+            (&["loose", "127.1", "127.1"], "", USAGE, 2),
             (&["cmp", "10.0.0.0/8", "::/0", "x", "y"], "", USAGE, 2),
         ],
     )
