@@ -1,4 +1,4 @@
-//! Operations on the parsers that take closures.
+//! Operations on the parsers.
 
 use crate::answer::Answer;
 use crate::line_error::{LineError, Outcome};
@@ -14,6 +14,7 @@ mod any;
 mod fixed;
 mod host_parsers;
 mod hosts;
+mod loose;
 mod networks;
 
 /// Answers the operation on parsers that has this name.
@@ -31,7 +32,7 @@ fn answer_ipv4(name: &str, tokens: &mut Tokens<'_>, answer: &mut Answer) -> Outc
         "inet_addr"
         | "parse_loose_ipv4"
         | "parse_short_ipv4_address_as_cidr"
-        | "parse_short_ipv4_cidr" => Err(LineError::Unsupported),
+        | "parse_short_ipv4_cidr" => loose::answer_ipv4(name, tokens, answer),
         _ => answer_each::<Ipv4Addr, Ipv4Cidr, Ipv4Inet>(name, tokens, answer),
     }
 }
@@ -39,7 +40,7 @@ fn answer_ipv4(name: &str, tokens: &mut Tokens<'_>, answer: &mut Answer) -> Outc
 fn answer_ip(name: &str, tokens: &mut Tokens<'_>, answer: &mut Answer) -> Outcome {
     match name {
         "parse_loose_ip" | "parse_short_ip_address_as_cidr" | "parse_short_ip_cidr" => {
-            Err(LineError::Unsupported)
+            loose::answer_ip(name, tokens, answer)
         }
         _ => answer_each::<IpAddr, IpCidr, IpInet>(name, tokens, answer),
     }

@@ -3,6 +3,7 @@
 use crate::line_error::LineError;
 use crate::parsers::fixed::{Fixed, has_ipv4};
 use crate::tokens::Tokens;
+use cidr::parsers::parse_loose_ip;
 use cidr::{AddrParseError, Address};
 
 const LOCALHOST: Fixed = Fixed {
@@ -32,6 +33,8 @@ pub enum AddressParser {
     Refuse,
     /// Knows three texts that are no address texts, and refuses all others.
     Odd,
+    /// Reads loose texts too.
+    Loose,
 }
 
 impl AddressParser {
@@ -42,7 +45,7 @@ impl AddressParser {
             "localhost" => Ok(AddressParser::Localhost),
             "refuse" => Ok(AddressParser::Refuse),
             "odd" => Ok(AddressParser::Odd),
-            "loose" if has_ipv4::<A>() => Err(LineError::Unsupported),
+            "loose" if has_ipv4::<A>() => Ok(AddressParser::Loose),
             _ => Err(LineError::Malformed),
         }
     }
@@ -54,6 +57,7 @@ impl AddressParser {
             AddressParser::Localhost => by_name(text),
             AddressParser::Refuse => refused(),
             AddressParser::Odd => odd(text),
+            AddressParser::Loose => loose(text),
         }
     }
 }
@@ -71,6 +75,13 @@ fn odd<A: Address>(text: &str) -> Result<A, AddrParseError> {
         "" => UNSPECIFIED.value(),
         "any" => GIVEN_FOR_ANY.value(),
         _ => refused(),
+    }
+}
+
+fn loose<A: Address>(text: &str) -> Result<A, AddrParseError> {
+    match parse_loose_ip(text) {
+        Ok(address) => address.to_text().as_str().parse::<A>(),
+        Err(_) => refused(),
     }
 }
 

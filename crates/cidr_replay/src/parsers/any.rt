@@ -4,6 +4,7 @@ use crate::answer::Answer;
 use crate::line_error::{LineError, Outcome};
 use crate::parsers::address_parsers::AddressParser;
 use crate::parsers::host_parsers::HostParser;
+use crate::parsers::loose;
 use crate::tokens::Tokens;
 use cidr::parsers::{
     parse_any_cidr, parse_any_cidr_full, parse_any_cidr_full_ignore_hostbits,
@@ -18,7 +19,7 @@ pub fn answer(name: &str, tokens: &mut Tokens<'_>, answer: &mut Answer) -> Outco
         "parse_any_cidr_full" | "parse_any_cidr_full_ignore_hostbits" => {
             answer_full(name, tokens, answer)
         }
-        "parse_short_any_ip_cidr" => Err(LineError::Unsupported),
+        "parse_short_any_ip_cidr" => loose::answer_any(tokens, answer),
         _ => Err(LineError::Malformed),
     }
 }

@@ -5,6 +5,7 @@ use crate::parsers::fixed::{Fixed, has_ipv4};
 use crate::tokens::Tokens;
 use cidr::Cidr;
 use cidr::errors::NetworkParseError;
+use cidr::parsers::parse_short_ip_address_as_cidr;
 use std::str::FromStr;
 
 const NETWORK: Fixed = Fixed {
@@ -26,13 +27,15 @@ pub enum HostParser {
     Refuse,
     /// Gives one value for every text.
     Fixed(Fixed),
+    /// Reads short texts.
+    Short,
 }
 
 impl HostParser {
     /// The parser that the next token names, for networks of this type.
     pub fn of_networks<C: Cidr>(tokens: &mut Tokens<'_>) -> Result<HostParser, LineError> {
         match tokens.word()? {
-            "hshort" if has_ipv4::<C>() => Err(LineError::Unsupported),
+            "hshort" if has_ipv4::<C>() => Ok(HostParser::Short),
             word => HostParser::named(word, NETWORK),
         }
     }
@@ -60,6 +63,14 @@ impl HostParser {
             HostParser::Strict => text.parse::<V>(),
             HostParser::Refuse => Err(NetworkParseError::InvalidHostPart),
             HostParser::Fixed(fixed) => fixed.value::<V>(),
+            HostParser::Short => short(text),
         }
+    }
+}
+
+fn short<V: FromStr<Err = NetworkParseError>>(text: &str) -> Result<V, NetworkParseError> {
+    match parse_short_ip_address_as_cidr(text) {
+        Ok(network) => network.to_text().as_str().parse::<V>(),
+        Err(_) => "".parse::<V>(),
     }
 }
