@@ -8,6 +8,7 @@
 mod bench;
 mod containing;
 mod idle;
+mod loose;
 mod masked;
 mod networks;
 mod ordering;
@@ -37,6 +38,7 @@ fn main(rt: HostRuntime) -> io::Result<()> {
         row: row.as_ref().map_or("", |word| word.as_str()),
     };
     reading::compare_all(&bench)?;
+    loose::compare_all(&bench)?;
     printing::compare_all(&bench)?;
     idle::compare_all(&bench)?;
     containing::compare_all(&bench)?;
