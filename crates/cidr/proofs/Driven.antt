@@ -98,7 +98,9 @@ viewed : {A X : Type 0} (view : A → X) (P : Type 0) (Q : X → Type 0) (r : Op
 viewed view P Q None h = h
 viewed view P Q (Some x) h = h
 
-module _ {A X : Type 0} (view : A → X) (items : List X) (ends : List End) (i : ℕ) (answers : List (Option A)) (left : List X) (r : Option A) (left' : List X) (in_ends : i < length ends) (in_answers : i < length answers) (d : Driven items ends (drop i ends) (map (option_map view) (take i answers)) left) where
+module _ {A X : Type 0} (view : A → X) (items : List X) (ends : List End) (i : ℕ) (answers : List (Option A)) (left : List X) (r : Option A)
+    (left' : List X) (in_ends : i < length ends) (in_answers : i < length answers)
+    (d : Driven items ends (drop i ends) (map (option_map view) (take i answers)) left) where
   written : map (option_map view) (take (i + 1) (set answers i r)) ≡ map (option_map view) (take i answers) ++ option_map view r ∷ []
   written = ap (map (option_map view)) (take_more_set answers i r in_answers) ∙ map_push (option_map view) (take i answers) r
 
@@ -107,11 +109,13 @@ module _ {A X : Type 0} (view : A → X) (items : List X) (ends : List End) (i :
       → Driven items ends (drop (i + 1) ends) (map (option_map view) (take (i + 1) (set answers i r))) left'
   front_turn e h =
       let k : drop i ends ≡ Front ∷ drop (i + 1) ends = drop_more ends i Front in_ends ∙ ap (λ x. x ∷ drop (i + 1) ends) e in
-      rw written (front_given items ends (drop (i + 1) ends) (map (option_map view) (take i answers)) left (option_map view r) left' (rw k at d) (viewed view ((left ≡ []) × (left' ≡ [])) (λ x. left ≡ x ∷ left') r h))
+      let seen = viewed view ((left ≡ []) × (left' ≡ [])) (λ x. left ≡ x ∷ left') r h in
+      rw written (front_given items ends (drop (i + 1) ends) (map (option_map view) (take i answers)) left (option_map view r) left' (rw k at d) seen)
 
   -- a turn of the loop that calls at the back
   pub back_turn : get_or ends i Front ≡ Back → MatchOption r ((left ≡ []) × (left' ≡ [])) (λ x. left ≡ left' ++ view x ∷ [])
       → Driven items ends (drop (i + 1) ends) (map (option_map view) (take (i + 1) (set answers i r))) left'
   back_turn e h =
       let k : drop i ends ≡ Back ∷ drop (i + 1) ends = drop_more ends i Front in_ends ∙ ap (λ x. x ∷ drop (i + 1) ends) e in
-      rw written (back_given items ends (drop (i + 1) ends) (map (option_map view) (take i answers)) left (option_map view r) left' (rw k at d) (viewed view ((left ≡ []) × (left' ≡ [])) (λ x. left ≡ left' ++ x ∷ []) r h))
+      let seen = viewed view ((left ≡ []) × (left' ≡ [])) (λ x. left ≡ left' ++ x ∷ []) r h in
+      rw written (back_given items ends (drop (i + 1) ends) (map (option_map view) (take i answers)) left (option_map view r) left' (rw k at d) seen)

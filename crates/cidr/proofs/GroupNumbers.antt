@@ -35,7 +35,8 @@ filled head tail m n z g h =
     let t = length tail in
     let zeros : length (replicate {A = ℕ} z 0) ≡ z = length-replicate z 0 in
     let front : WritesParts 16 (head ++ replicate z 0) (m * 2 ^ (16 * z)) =
-    subst (WritesParts 16 (head ++ replicate z 0)) (let e : m * 2 ^ (16 * length (replicate {A = ℕ} z 0)) + 0 ≡ m * 2 ^ (16 * z) = rw zeros (omega arith) in e) (writes-append 16 head (replicate z 0) m 0 g (writes-zeros 16 z)) in
+    let shift : m * 2 ^ (16 * length (replicate {A = ℕ} z 0)) + 0 ≡ m * 2 ^ (16 * z) = rw zeros (omega arith) in
+    subst (WritesParts 16 (head ++ replicate z 0)) shift (writes-append 16 head (replicate z 0) m 0 g (writes-zeros 16 z)) in
     let sum : m * 2 ^ (16 * z) * 2 ^ (16 * t) + n ≡ m * 2 ^ (16 * z + 16 * t) + n = rw (pow-add 2 (16 * z) (16 * t)) (omega (arith, mul_assoc m (2 ^ (16 * z)) (2 ^ (16 * t)))) in
     subst (WritesParts 16 (head ++ replicate z 0 ++ tail)) sum (writes-append 16 (head ++ replicate z 0) tail (m * 2 ^ (16 * z)) n front h)
 

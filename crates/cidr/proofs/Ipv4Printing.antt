@@ -12,8 +12,13 @@ spelled_four [] e fits = absurd (omega arith)
 spelled_four (a ∷ []) e fits = absurd (omega arith)
 spelled_four (a ∷ b ∷ []) e fits = absurd (omega arith)
 spelled_four (a ∷ b ∷ c ∷ []) e fits = absurd (omega arith)
-spelled_four (a ∷ b ∷ c ∷ d ∷ []) e fits =
-    (decimal a, _, refl, IsOctetText-decimal a (fits 0), (decimal b, _, refl, IsOctetText-decimal b (fits 1), (decimal c, decimal d, refl, IsOctetText-decimal c (fits 2), IsOctetText-decimal d (fits 3))))
+spelled_four (a ∷ b ∷ c ∷ d ∷ []) e fits = (
+  decimal a,
+  _,
+  refl,
+  IsOctetText-decimal a (fits 0),
+  (decimal b, _, refl, IsOctetText-decimal b (fits 1), (decimal c, decimal d, refl, IsOctetText-decimal c (fits 2), IsOctetText-decimal d (fits 3))),
+)
 spelled_four (a ∷ b ∷ c ∷ d ∷ f ∷ o) e fits = absurd (omega arith)
 
 pub IsIpv4Text-ipv4_text : (a : List Bool) → length a ≡ 32 → IsIpv4Text (ipv4_text a) a

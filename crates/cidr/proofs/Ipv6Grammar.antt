@@ -41,7 +41,13 @@ dotted_pair text octets d =
       d.b,
       d.c,
       d.d,
-      (decimal d.a, _, shown, IsOctetText-decimal d.a d.fit.0, (decimal d.b, _, refl, IsOctetText-decimal d.b d.fit.1, (decimal d.c, decimal d.d, refl, IsOctetText-decimal d.c d.fit.2, IsOctetText-decimal d.d d.fit.3))),
+      (
+        decimal d.a,
+        _,
+        shown,
+        IsOctetText-decimal d.a d.fit.0,
+        (decimal d.b, _, refl, IsOctetText-decimal d.b d.fit.1, (decimal d.c, decimal d.d, refl, IsOctetText-decimal d.c d.fit.2, IsOctetText-decimal d.d d.fit.3)),
+      ),
       refl,
       refl,
     )
@@ -70,7 +76,13 @@ run_from_first group rest s [] g h = rw (h, append-nil group) (inl (group_text g
 run_from_first group rest s (t ∷ segments) g (inl (next, more, split, n, later)) =
     rw split (more_run group (next ++ more) s (t ∷ segments) (group_text group s g) (run_from_first next more t segments n later))
 run_from_first group rest s (t ∷ segments) g (inr (last, octets, allowed, split, d, e)) =
-    rw split (inr (s ∷ [], first_group last octets d, second_group last octets d, ap (λ t. s ∷ t) (e ∙ two_groups last octets d), inr (group, last, refl, group_text group s g, dotted_pair last octets d)))
+    rw split (inr (
+      s ∷ [],
+      first_group last octets d,
+      second_group last octets d,
+      ap (λ t. s ∷ t) (e ∙ two_groups last octets d),
+      inr (group, last, refl, group_text group s g, dotted_pair last octets d),
+    ))
 
 groups_from_std : (text groups : List ℕ) → Std.IsGroups false text groups → IsNothing text groups ⊎ IsGroups text groups
 groups_from_std text [] h = inl (h, refl)

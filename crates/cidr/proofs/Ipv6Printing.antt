@@ -71,7 +71,8 @@ one_shortened text groups h =
     let two = h.long in
     let long : 1 < len = omega arith in
     let front : h.front ≡ groups_text (take start groups) = one_plain_groups h.front (take h.start groups) h.front_text ∙ ap (λ s. groups_text (take s groups)) same_start in
-    let back : h.back ≡ groups_text (drop (start + len) groups) = one_plain_groups h.back (drop (h.start + h.len) groups) h.back_text ∙ ap₂ (λ s l. groups_text (drop (s + l) groups)) same_start same_len in
+    let same_back = ap₂ (λ s l. groups_text (drop (s + l) groups)) same_start same_len in
+    let back : h.back ≡ groups_text (drop (start + len) groups) = one_plain_groups h.back (drop (h.start + h.len) groups) h.back_text ∙ same_back in
     rw (lt-ltb 1 len long) (h.spelled ∙ ap₂ (λ x y. x ++ colon ∷ colon ∷ y) front back ∙ sym (append_assoc (groups_text (take start groups)) (codes "::") (groups_text (drop (start + len) groups))))
 
 pub IsCanonicalText-ipv6_text : (a : List Bool) → length a ≡ 128 → IsCanonicalText (ipv6_text a) a

@@ -12,7 +12,9 @@ use Rattle.cidr.specs.laws.NetworkLaws.{length-take-within, first_of-take}
 pub number-parts : (w k : ℕ) (a : List Bool) → k ≤ w → length a ≡ w → (number (take k a) ≡ number a / 2 ^ (w - k)) × (number (drop k a) ≡ number a % 2 ^ (w - k))
 number-parts w k a h e =
     let d : length (drop k a) ≡ w - k = omega (arith, length-drop k a) in
-    let whole : number a ≡ number (take k a) * 2 ^ (w - k) + number (drop k a) = sym (ap number (take-append-drop k a)) ∙ number-append (take k a) (drop k a) ∙ ap (λ m. number (take k a) * 2 ^ m + number (drop k a)) d in
+    let sized = ap (λ m. number (take k a) * 2 ^ m + number (drop k a)) d in
+    let whole : number a ≡ number (take k a) * 2 ^ (w - k) + number (drop k a) =
+    sym (ap number (take-append-drop k a)) ∙ number-append (take k a) (drop k a) ∙ sized in
     let low : number (drop k a) < 2 ^ (w - k) = rw (← d) (number-lt (drop k a)) in
     rw whole (sym (shr_high (number (take k a)) (w - k) (number (drop k a)) low), sym (mod_low (number (take k a)) (w - k) (number (drop k a)) low))
 
@@ -52,13 +54,20 @@ one_row a b h =
     let m : a * b ≡ c * b + b = ap (λ t. t * b) e ∙ omega arith in
     sym m
 
+-- the number of an address whose bits from k on are zero
+number_of_zeros : (w k : ℕ) (a : List Bool) → k ≤ w → length a ≡ w → drop k a ≡ zeros (w - k) → number a ≡ number (take k a) * 2 ^ (w - k) + 0
+number_of_zeros w k a h e z =
+    let l = length-take-within w k a h e in
+    sym (ap number (first_of-take w k a h e z)) ∙ number-append (take k a) (zeros (w - length (take k a))) ∙ rw (l, length-replicate (w - k) false, number-zeros (w - k)) refl
+
 -- the last address by numbers
 pub bits-last : (w k : ℕ) (a : List Bool) → k ≤ w → length a ≡ w → drop k a ≡ zeros (w - k) → bits w (number a + (2 ^ (w - k) - 1)) ≡ last_of w (take k a)
 bits-last w k a h e z =
     let l = length-take-within w k a h e in
     let pos = pow_pos (w - k) in
-    let whole : number a ≡ number (take k a) * 2 ^ (w - k) + 0 = sym (ap number (first_of-take w k a h e z)) ∙ number-append (take k a) (zeros (w - length (take k a))) ∙ rw (l, length-replicate (w - k) false, number-zeros (w - k)) refl in
-    let split : bits (k + (w - k)) (number (take k a) * 2 ^ (w - k) + (2 ^ (w - k) - 1)) ≡ bits k (number (take k a)) ++ bits (w - k) (2 ^ (w - k) - 1) = bits-cat k (w - k) (number (take k a)) (2 ^ (w - k) - 1) (omega arith) in
+    let whole = number_of_zeros w k a h e z in
+    let split : bits (k + (w - k)) (number (take k a) * 2 ^ (w - k) + (2 ^ (w - k) - 1)) ≡ bits k (number (take k a)) ++ bits (w - k) (2 ^ (w - k) - 1) =
+    bits-cat k (w - k) (number (take k a)) (2 ^ (w - k) - 1) (omega arith) in
     let width : k + (w - k) ≡ w = omega arith in
     let front : bits k (number (take k a)) ≡ take k a = same_from_number k (number (take k a)) (take k a) l refl in
     let sum : number a + (2 ^ (w - k) - 1) ≡ number (take k a) * 2 ^ (w - k) + (2 ^ (w - k) - 1) = omega arith in
@@ -68,7 +77,7 @@ pub last_fits : (w k : ℕ) (a : List Bool) → k ≤ w → length a ≡ w → d
 last_fits w k a h e z =
     let l = length-take-within w k a h e in
     let pos = pow_pos (w - k) in
-    let whole : number a ≡ number (take k a) * 2 ^ (w - k) + 0 = sym (ap number (first_of-take w k a h e z)) ∙ number-append (take k a) (zeros (w - length (take k a))) ∙ rw (l, length-replicate (w - k) false, number-zeros (w - k)) refl in
+    let whole = number_of_zeros w k a h e z in
     let low : number (take k a) < 2 ^ k = rw l at (number-lt (take k a)) in
     let p : 2 ^ w ≡ 2 ^ k * 2 ^ (w - k) = ap (λ m. 2 ^ m) (omega arith) ∙ pow-add 2 k (w - k) in
     let row : number (take k a) * 2 ^ (w - k) + 2 ^ (w - k) ≤ 2 ^ k * 2 ^ (w - k) = row_fits (number (take k a)) (2 ^ (w - k)) (2 ^ k) (2 ^ (w - k)) low (omega arith) in

@@ -43,9 +43,10 @@ module _ (family : Family) (error : AddrParseError) where
       → IsLengthText back n → ReadsNetworkAs family error text (network_from family a n)
   reads_new text front back a n cut h l =
       let has : HasAddress family text back a = record { front = front; cut = cut; front_text = h } in
+      let host_part = bit_eq (drop n a) (zeros (width_of family - n)) in
       elim (cases_lt (width_of family) n) [
         | inl over ↦ rw (lt-ltb (width_of family) n over) (refuses text (parse_error.NetworkLengthTooLongError (too_long n family)) (back, a, n, has, l, over, refl))
-        | inr within ↦ rw (le-ltb (width_of family) n within) (cond_both (bit_eq (drop n a) (zeros (width_of family - n))) (Ok (take n a)) (Err parse_error.InvalidHostPart) (ReadsNetworkAs family error text)
+        | inr within ↦ rw (le-ltb (width_of family) n within) (cond_both host_part (Ok (take n a)) (Err parse_error.InvalidHostPart) (ReadsNetworkAs family error text)
             (λ same. inr (record {
               front = front;
               back = back;

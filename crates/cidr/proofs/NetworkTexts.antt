@@ -66,7 +66,9 @@ module _ (family : Family) where
   one_host text h k (inl s) (inr t) = absurd (not_lacking slash t.front t.back (subst (Lacks slash) t.spelled (g.no_slash text h.address s.0)))
   one_host text h k (inr s) (inl t) = absurd (not_lacking slash s.front s.back (subst (Lacks slash) s.spelled (g.no_slash text k.address t.0)))
   one_host text h k (inr s) (inr t) =
-      let (f, b) = one_cut slash s.front s.back t.front t.back (sym s.spelled ∙ t.spelled) (Lacks-length slash s.back h.len (omega arith) (omega arith) s.back_text) (Lacks-length slash t.back k.len (omega arith) (omega arith) t.back_text) in
+      let s_lacks = Lacks-length slash s.back h.len (omega arith) (omega arith) s.back_text in
+      let t_lacks = Lacks-length slash t.back k.len (omega arith) (omega arith) t.back_text in
+      let (f, b) = one_cut slash s.front s.back t.front t.back (sym s.spelled ∙ t.spelled) s_lacks t_lacks in
       let address = g.one_value t.front h.address k.address (subst (λ x. IsAddressText family x h.address) f s.front_text) t.front_text in
       let len = one_length t.back h.len k.len (subst (λ x. IsLengthText x h.len) b s.back_text) t.back_text in
       ap₂ (λ a n. record { address = a; len = n }) address len

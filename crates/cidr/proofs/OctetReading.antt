@@ -118,7 +118,8 @@ short_octet text rest n s small pos none = record {
 }
 
 -- two digits at the front
-pub middle_octet : (text after rest : List ℕ) (i j : ℕ) → text ≡ (48 + i) ∷ after → i < 10 → i ≢ 0 → after ≡ (48 + j) ∷ rest → j < 10 → NoDigitFirst rest → IsFirstPart IsOctetText text (i * 10 + j) rest
+pub middle_octet : (text after rest : List ℕ) (i j : ℕ) → text ≡ (48 + i) ∷ after → i < 10 → i ≢ 0 → after ≡ (48 + j) ∷ rest → j < 10
+    → NoDigitFirst rest → IsFirstPart IsOctetText text (i * 10 + j) rest
 middle_octet text after rest i j s hi pos s' hj none =
     let whole : text ≡ (48 + i) ∷ (48 + j) ∷ rest = s ∙ ap (λ t. (48 + i) ∷ t) s' in
     let n : ℕ = i * 10 + j in
@@ -145,7 +146,8 @@ middle_octet text after rest i j s hi pos s' hj none =
       ];
     }
 
-module _ (text after later rest : List ℕ) (i j k : ℕ) (s : text ≡ (48 + i) ∷ after) (hi : i < 10) (pos : i ≢ 0) (s' : after ≡ (48 + j) ∷ later) (hj : j < 10) (s'' : later ≡ (48 + k) ∷ rest) (hk : k < 10) where
+module _ (text after later rest : List ℕ) (i j k : ℕ) (s : text ≡ (48 + i) ∷ after) (hi : i < 10) (pos : i ≢ 0)
+    (s' : after ≡ (48 + j) ∷ later) (hj : j < 10) (s'' : later ≡ (48 + k) ∷ rest) (hk : k < 10) where
   whole : text ≡ (48 + i) ∷ (48 + j) ∷ (48 + k) ∷ rest
   whole = s ∙ ap (λ t. (48 + i) ∷ t) (s' ∙ ap (λ t. (48 + j) ∷ t) s'')
 

@@ -51,7 +51,8 @@ then_writes a b c xs ys (Ok u) p q = whole_whole a b c xs ys p q
 then_writes a b c xs ys (Err e) p q = (q.0, whole_part a b c xs ys p q.1)
 
 -- an offer of what is left
-pub offered : (a b c : State) (text front rest : List ℕ) (n : ℕ) → text ≡ front ++ rest → Whole a b front → Takes b c rest (Some n) → (text ≡ (front ++ take n rest) ++ drop n rest) × Whole a c (front ++ take n rest)
+pub offered : (a b c : State) (text front rest : List ℕ) (n : ℕ) → text ≡ front ++ rest → Whole a b front → Takes b c rest (Some n)
+    → (text ≡ (front ++ take n rest) ++ drop n rest) × Whole a c (front ++ take n rest)
 offered a b c text front rest n e p t = (
   e ∙ (ap (λ k. front ++ k) (sym (take-append-drop n rest)) ∙ sym (append_assoc front (take n rest) (drop n rest))),
   whole_whole a b c front (take n rest) p (record { taken = t.0; fine = t.1 }),

@@ -28,7 +28,10 @@ six : (a b c d e f : List ℕ) → ((((([] ++ a) ++ b) ++ c) ++ d) ++ e) ++ f �
 six a b c d e f = simp (append_assoc)
 
 -- the lines of `show`, each appended to those before
-pub lines_appended : (network first last mask len family : List ℕ) → ((((([] ++ line (codes "network ") network) ++ line (codes "first ") first) ++ line (codes "last ") last) ++ line (codes "mask ") mask) ++ line (codes "length ") len) ++ line (codes "family ") family ≡ show_lines network first last mask len family
+pub lines_appended : (network first last mask len family : List ℕ)
+    → ((((([] ++ line (codes "network ") network) ++ line (codes "first ") first) ++ line (codes "last ") last)
+    ++ line (codes "mask ") mask) ++ line (codes "length ") len) ++ line (codes "family ") family
+    ≡ show_lines network first last mask len family
 unfolding show_lines
 lines_appended network first last mask len family =
     six (line (codes "network ") network) (line (codes "first ") first) (line (codes "last ") last) (line (codes "mask ") mask) (line (codes "length ") len) (line (codes "family ") family)

@@ -11,5 +11,6 @@ line_is_none : (line text : List ℕ) → line ≡ verb ++ text → ((n : AnyIpC
 line_is_none line text begins none n (other, same, spells) =
     let e : other ≡ text = append_cancel_left verb other text (sym same ∙ begins) in none n (rw e at spells)
 
-pub line_refused : (line text : List ℕ) (e : NetworkParseError) → line ≡ verb ++ text → IsIpRefused text e → ((n : AnyIpCidr) → ¬ (IsAnyNetworkText text n)) → ReadsLine line (Err (line_error.Network e))
+pub line_refused : (line text : List ℕ) (e : NetworkParseError) → line ≡ verb ++ text → IsIpRefused text e
+    → ((n : AnyIpCidr) → ¬ (IsAnyNetworkText text n)) → ReadsLine line (Err (line_error.Network e))
 line_refused line text e begins refused none = ((text, begins, refused), line_is_none line text begins none)

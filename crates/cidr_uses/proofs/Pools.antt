@@ -30,7 +30,9 @@ pub addresses_left : (family : Family) (len : ℕ) (walk : List (List Bool)) →
 addresses_left family len [] = refl
 addresses_left family len (a ∷ walk) = ap (λ w. a ∷ w) (addresses_left family len walk)
 
-pub is_pool : (p : List Bool) → length p ≤ 32 → HasExactly Ipv4 p (network_walk Ipv4 p) → ((w : ℕ) (first second : List Bool) → length first ≡ w → length second ≡ w → IsAscending (walk_between w first second)) → IsPool (pool_of p (addresses_of (network_hosts Ipv4 p)))
+pub is_pool : (p : List Bool) → length p ≤ 32 → HasExactly Ipv4 p (network_walk Ipv4 p)
+    → ((w : ℕ) (first second : List Bool) → length first ≡ w → length second ≡ w → IsAscending (walk_between w first second))
+    → IsPool (pool_of p (addresses_of (network_hosts Ipv4 p)))
 is_pool p fits exactly ascends =
     let first : length (first_of 32 p) ≡ 32 = omega (arith, length-append {A = Bool}, length-replicate {A = Bool}) in
     let last : length (last_of 32 p) ≡ 32 = omega (arith, length-append {A = Bool}, length-replicate {A = Bool}) in

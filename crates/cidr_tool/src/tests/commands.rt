@@ -42,7 +42,8 @@ fn show_names_ends_mask_length_and_family(rt: HostRuntime) -> Result<(), Fail> {
             ),
             (
                 &["show", "2001:DB8::/32"],
-                "network 2001:db8::/32\nfirst 2001:db8::\nlast 2001:db8:ffff:ffff:ffff:ffff:ffff:ffff\nmask ffff:ffff::\nlength 32\nfamily Ipv6\n",
+                "network 2001:db8::/32\nfirst 2001:db8::\nlast 2001:db8:ffff:ffff:ffff:ffff:ffff:ffff\n\
+                 mask ffff:ffff::\nlength 32\nfamily Ipv6\n",
                 "",
                 0,
             ),
@@ -55,7 +56,9 @@ fn show_names_ends_mask_length_and_family(rt: HostRuntime) -> Result<(), Fail> {
 #[test]
 fn show_of_the_longest_network_fits(rt: HostRuntime) -> Result<(), Fail> {
     let answer =
-        "network abcd:abcd:abcd:abcd:abcd:abcd:abcd:abcc/127\nfirst abcd:abcd:abcd:abcd:abcd:abcd:abcd:abcc\nlast abcd:abcd:abcd:abcd:abcd:abcd:abcd:abcd\nmask ffff:ffff:ffff:ffff:ffff:ffff:ffff:fffe\nlength 127\nfamily Ipv6\n";
+        "network abcd:abcd:abcd:abcd:abcd:abcd:abcd:abcc/127\nfirst abcd:abcd:abcd:abcd:abcd:abcd:abcd:abcc\n\
+         last abcd:abcd:abcd:abcd:abcd:abcd:abcd:abcd\nmask ffff:ffff:ffff:ffff:ffff:ffff:ffff:fffe\n\
+         length 127\nfamily Ipv6\n";
     assert_eq!(rt; answer.len(), 211);
     let row: Row = (
         &["show", "abcd:abcd:abcd:abcd:abcd:abcd:abcd:abcc/127"],

@@ -9,4 +9,9 @@ returns-in_default-from_utf8 g c _ =
 
 pub loop-place-preserved : goal.loop-place-preserved
 loop-place-preserved g c =
-    rw c.in-Ok-push.ensures.items (one_more string_bytes (g.A.Arguments.told c.args.arguments.now) c.loop-place.place c.loop-place.texts.items c.in-Ok.text c.in-Some.bytes.items c.loop-place.invariant (rw c.in-Some.is at c.in_ok-bytes.ensures) (ap (λ v. v.items) c.in-Ok.ensures.ok))
+    let told = g.A.Arguments.told c.args.arguments.now in
+    let place = c.loop-place.place in
+    let bytes = c.in-Some.bytes.items in
+    let given = rw c.in-Some.is at c.in_ok-bytes.ensures in
+    let spelled = ap (λ v. v.items) c.in-Ok.ensures.ok in
+    rw c.in-Ok-push.ensures.items (one_more string_bytes told place c.loop-place.texts.items c.in-Ok.text bytes c.loop-place.invariant given spelled)

@@ -16,8 +16,14 @@ returns-in_default-take_digit c =
 
 pub returns-then-three-gt255 : goal.returns-then-three-gt255
 returns-then-three-gt255 c =
-    large_octet _ _ _ _ _ _ _ c.in_ok-first.ensures.0 c.in_ok-first.ensures.1 c.if-first-eq0.false c.in-Some.ensures.0 c.in-Some.ensures.1 c.in-Some-take_digit.ensures.0 c.in-Some-take_digit.ensures.1 (omega arith)
+    let first = c.in_ok-first.ensures in
+    let second = c.in-Some.ensures in
+    let third = c.in-Some-take_digit.ensures in
+    large_octet _ _ _ _ _ _ _ first.0 first.1 c.if-first-eq0.false second.0 second.1 third.0 third.1 (omega arith)
 
 pub returns : goal.returns
 returns c =
-    rw (c.from.ensures, c.from-2.ensures) (long_octet _ _ _ _ _ _ _ c.in_ok-first.ensures.0 c.in_ok-first.ensures.1 c.if-first-eq0.false c.in-Some.ensures.0 c.in-Some.ensures.1 c.in-Some-take_digit.ensures.0 c.in-Some-take_digit.ensures.1 (omega arith))
+    let first = c.in_ok-first.ensures in
+    let second = c.in-Some.ensures in
+    let third = c.in-Some-take_digit.ensures in
+    rw (c.from.ensures, c.from-2.ensures) (long_octet _ _ _ _ _ _ _ first.0 first.1 c.if-first-eq0.false second.0 second.1 third.0 third.1 (omega arith))

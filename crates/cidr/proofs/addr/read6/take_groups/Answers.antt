@@ -11,11 +11,13 @@ loop-groups-init c = reads_start _ _
 pub returns-in_err-read_ipv4 : goal.returns-in_err-read_ipv4
 returns-in_err-read_ipv4 c =
     let (later, dot) = dot_next _ _ c.take_byte.ensures c.if-is_some.ensures in
-    rw c.from_residual.ensures (at_stray_dot c.loop-groups.invariant c.loop-groups-test.true c.in-Some.ensures _ _ later c.in-Some-take_group.ensures dot c.in_err-read_ipv4.ensures c.if-groups-room.true)
+    rw c.from_residual.ensures
+    (at_stray_dot c.loop-groups.invariant c.loop-groups-test.true c.in-Some.ensures _ _ later c.in-Some-take_group.ensures dot c.in_err-read_ipv4.ensures c.if-groups-room.true)
 
 pub returns-then-is_some : goal.returns-then-is_some
 returns-then-is_some c =
-    at_dotted c.loop-groups.invariant c.loop-groups-test.true c.in-Some.ensures c.from-last.result c.from.result (rw c.from-last.ensures c.in_ok-read_ipv4.ensures) (c.from.ensures ∙ c.to_bits.ensures.value) c.to_bits.ensures.width c.requires c.if-groups-room.true
+    at_dotted c.loop-groups.invariant c.loop-groups-test.true c.in-Some.ensures c.from-last.result c.from.result
+    (rw c.from-last.ensures c.in_ok-read_ipv4.ensures) (c.from.ensures ∙ c.to_bits.ensures.value) c.to_bits.ensures.width c.requires c.if-groups-room.true
 
 pub loop-groups-preserved : goal.loop-groups-preserved
 loop-groups-preserved c =
