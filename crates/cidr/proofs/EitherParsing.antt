@@ -10,6 +10,7 @@ use Rattle.cidr.specs.texts.Messages.{ip_error}
 use Rattle.cidr.specs.texts.Parsing.{strict_network, MadeBy, MadeAlone, ReadsSlashed, ReadsAround, ReadsWhole}
 use Rattle.cidr.specs.texts.Refusal.{Lacks, CutsAtLastSlash}
 use Rattle.cidr.proofs.EitherReading.{ip_no_address, ip_no_length, ip_reads_new, any_refused}
+use Rattle.cidr.proofs.Views.{seen_injective}
 use Rattle.cidr.specs.declared.addr.error.AddrParseError.{AddrParseError}
 use Rattle.cidr.specs.declared.addr.ip.IpAddr.{IpAddr}
 use Rattle.cidr.specs.declared.addr.ip.IpAddr.TheVariants as address
@@ -40,10 +41,7 @@ same_network (V6 p) (V4 q) h =
 same_network (V6 p) (V6 q) h = ap (λ x. V6 x.1) h
 
 same_result : (r s : Result IpCidr NetworkParseError) → seen shown r ≡ seen shown s → r ≡ s
-same_result (Ok m) (Ok n) h = ap Ok (same_network m n (cc))
-same_result (Ok m) (Err e) h = absurd (cc)
-same_result (Err d) (Ok n) h = absurd (cc)
-same_result (Err d) (Err e) h = cc
+same_result = seen_injective shown same_network
 
 shown_new : (a : IpAddr) (n : ℕ) → seen shown (ip_network_from a n) ≡ strict_network (located a) n
 shown_new (address.V4 a) n = by_case (network_from Ipv4 a n)

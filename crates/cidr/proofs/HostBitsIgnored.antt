@@ -1,11 +1,12 @@
 -- What ignoring host bits gives beside strict reading, of one address and one length text.
-use Rattle.std.proofs.Common.{◌≡◌, ℕ, ◌-◌, Bool, List, take, drop, Result, Ok, Err, refl, sym, ◌∙◌, subst, inl, inr}
+use Rattle.std.proofs.Common.{ℕ, ◌-◌, Bool, List, take, drop, Result, Ok, Err, refl, sym, ◌∙◌, subst, inl, inr}
 use Rattle.std.proofs.lemmas.Bool.{cases_lt, lt-ltb, le-ltb, cond_both}
 use Rattle.cidr.specs.model.Bits.{bit_eq}
 use Rattle.cidr.specs.model.Network.{width_of, zeros}
 use Rattle.cidr.specs.model.Views.{seen}
 use Rattle.cidr.specs.texts.Parsing.{ReadsSlashed, MadeBy, MendsHostPart, strict_network, holding_network}
 use Rattle.cidr.proofs.Cuts.{one_length}
+use Rattle.cidr.proofs.Views.{seen-itself}
 use Rattle.cidr.specs.declared.addr.error.AddrParseError.{AddrParseError}
 use Rattle.cidr.specs.declared.errors.NetworkParseError.{NetworkParseError}
 use Rattle.cidr.specs.declared.errors.NetworkParseError.TheVariants as parse_error
@@ -21,17 +22,13 @@ mends_new a n =
           (λ r. MendsHostPart {W = Family × List Bool} (seen (λ p. (a.0, p)) r) (Ok (a.0, take n a.1))) (λ same. refl) (λ other. refl))
     ]
 
-seen_same : {V E : Type 0} (r : Result V E) → seen (λ v. v) r ≡ r
-seen_same (Ok v) = refl
-seen_same (Err e) = refl
-
 module _ (back : List ℕ) (strict mended : Result (Family × List Bool) NetworkParseError) where
   pub mends : (answer : Result (Family × List Bool) AddrParseError) → ReadsSlashed (MadeBy (λ a. a) (λ n. n) strict_network) answer back strict
       → ReadsSlashed (MadeBy (λ a. a) (λ n. n) holding_network) answer back mended → MendsHostPart strict mended
   mends (Err x) h k = rw (h, k) refl
   mends (Ok a) (inl (n, l, h)) (inl (m, s, k)) =
-      let made = sym (seen_same strict) ∙ h in
-      let other = sym (seen_same mended) ∙ k in
+      let made = sym (seen-itself strict) ∙ h in
+      let other = sym (seen-itself mended) ∙ k in
       rw (made, other) (subst (λ x. MendsHostPart (strict_network a n) (holding_network a x)) (one_length back n m l s) (mends_new a n))
   mends (Ok a) (inl (n, l, h)) (inr (none, k)) = absurd (none n l)
   mends (Ok a) (inr (none, h)) (inl (m, s, k)) = absurd (none m s)

@@ -10,6 +10,7 @@ pub mod NumberReading
 pub mod LengthReading
 pub mod LooseReading
 pub mod Cuts
+pub mod Views
 pub mod Ipv4Grammar
 pub mod Ipv6Grammar
 pub mod LooseGrammar
@@ -47,4 +48,3 @@ pub mod WalkLaws
 pub mod WalkOrder
 pub mod NetworkWalks
 pub mod Driven
-pub mod Views

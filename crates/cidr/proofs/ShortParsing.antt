@@ -13,6 +13,7 @@ use Rattle.cidr.specs.texts.Refusal.{CutsAtLastSlash, ReadsNetwork}
 use Rattle.cidr.specs.texts.ShortText.{IsShortIpText, ReadsShort}
 use Rattle.cidr.proofs.EitherParsing.{slashed_read}
 use Rattle.cidr.proofs.NetworkReading.{reads_no_front, reads_no_length, reads_new}
+use Rattle.cidr.proofs.Views.{seen_injective}
 use Rattle.cidr.specs.declared.addr.error.AddrParseError.{AddrParseError}
 use Rattle.cidr.specs.declared.addr.ip.IpAddr.{IpAddr}
 use Rattle.cidr.specs.declared.cidr.combined.IpCidr.{IpCidr}
@@ -25,12 +26,7 @@ abbrev in_ipv4 : List Bool → Family × List Bool
 in_ipv4 p = (Ipv4, p)
 
 same_bits : (r s : Result (List Bool) NetworkParseError) → seen in_ipv4 r ≡ seen in_ipv4 s → r ≡ s
-same_bits (Ok p) (Ok q) h =
-    let same : in_ipv4 p ≡ in_ipv4 q = cc in
-    ap (λ x. Ok x.1) same
-same_bits (Ok p) (Err e) h = absurd (cc)
-same_bits (Err d) (Ok q) h = absurd (cc)
-same_bits (Err d) (Err e) h = cc
+same_bits = seen_injective in_ipv4 (λ p q h. ap (λ x. x.1) h)
 
 pub ipv4_slashed_read : (text front back : List ℕ) (answer : Result (List Bool) AddrParseError) (r : Result (List Bool) NetworkParseError)
     → CutsAtLastSlash text front back → Reads (IsAddressText Ipv4) ipv4_error front answer
