@@ -65,15 +65,15 @@ shown_lone (address.V4 a) = refl
 shown_lone (address.V6 a) = refl
 
 module _ (Asked : List ℕ → Result IpAddr AddrParseError → Type 0)
-    (known : (text : List ℕ) (answer : Result IpAddr AddrParseError) → Asked text answer → Reads IsIpText ip_error text answer) (text : List ℕ) where
-  whole_read : (answer : Result IpAddr AddrParseError) (r : Result IpCidr NetworkParseError) → Lacks 47 text → Asked text answer
-      → MadeAlone located shown (λ a. a) answer r → ReadsIpNetwork text r
+    (known : (text : List ℕ) (returned : Result IpAddr AddrParseError) → Asked text returned → Reads IsIpText ip_error text returned) (text : List ℕ) where
+  whole_read : (returned : Result IpAddr AddrParseError) (r : Result IpCidr NetworkParseError) → Lacks 47 text → Asked text returned
+      → MadeAlone located shown (λ a. a) returned r → ReadsIpNetwork text r
   whole_read (Ok a) r lacks asked h = rw (same_result r (Ok (lone_network a)) (h ∙ sym (ap Ok (shown_lone a)))) (lone_spelled text a (known text (Ok a) asked))
   whole_read (Err x) r lacks asked h =
       rw (same_result r (Err (parse_error.AddrParseError x)) h) (ip_no_address text text x (inl (lacks, refl)) (known text (Err x) asked))
 
-  pub slashed_read : (front back : List ℕ) (answer : Result IpAddr AddrParseError) (r : Result IpCidr NetworkParseError) → CutsAtLastSlash text front back → Asked front answer
-      → ReadsSlashed (MadeBy located shown strict_network) answer back r → ReadsIpNetwork text r
+  pub slashed_read : (front back : List ℕ) (returned : Result IpAddr AddrParseError) (r : Result IpCidr NetworkParseError) → CutsAtLastSlash text front back → Asked front returned
+      → ReadsSlashed (MadeBy located shown strict_network) returned back r → ReadsIpNetwork text r
   slashed_read front back (Err x) r cut asked h = rw h (ip_no_address text front x (inr (back, cut)) (known front (Err x) asked))
   slashed_read front back (Ok a) r cut asked (inl (n, l, h)) =
       rw (same_result r (ip_network_from a n) (h ∙ sym (shown_new a n))) (ip_reads_new text front back a n cut (known front (Ok a) asked) l)
@@ -81,8 +81,8 @@ module _ (Asked : List ℕ → Result IpAddr AddrParseError → Type 0)
 
   strictly_read : (r : Result IpCidr NetworkParseError)
       → ReadsAround Asked (MadeBy located shown strict_network) (ReadsWhole Asked (MadeAlone located shown (λ a. a))) text r → ReadsIpNetwork text r
-  strictly_read r (inl (lacks, (answer, asked, h))) = whole_read answer r lacks asked h
-  strictly_read r (inr h) = slashed_read h.front h.back h.answer r h.cut h.asked h.follows
+  strictly_read r (inl (lacks, (returned, asked, h))) = whole_read returned r lacks asked h
+  strictly_read r (inr h) = slashed_read h.front h.back h.returned r h.cut h.asked h.follows
 
   any_of_read : (network : Result IpCidr NetworkParseError) → text ≢ codes "any" → ReadsIpNetwork text network → ReadsAnyNetwork text (seen any_of network)
   any_of_read (Ok (V4 p)) other h = h

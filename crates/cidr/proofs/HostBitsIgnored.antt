@@ -23,8 +23,8 @@ mends_new a n =
     ]
 
 module _ (back : List ℕ) (strict mended : Result (Family × List Bool) NetworkParseError) where
-  pub mends : (answer : Result (Family × List Bool) AddrParseError) → ReadsSlashed (MadeBy (λ a. a) (λ n. n) strict_network) answer back strict
-      → ReadsSlashed (MadeBy (λ a. a) (λ n. n) holding_network) answer back mended → MendsHostPart strict mended
+  pub mends : (returned : Result (Family × List Bool) AddrParseError) → ReadsSlashed (MadeBy (λ a. a) (λ n. n) strict_network) returned back strict
+      → ReadsSlashed (MadeBy (λ a. a) (λ n. n) holding_network) returned back mended → MendsHostPart strict mended
   mends (Err x) h k = rw (h, k) refl
   mends (Ok a) (inl (n, l, h)) (inl (m, s, k)) =
       let made = sym (seen-itself strict) ∙ h in

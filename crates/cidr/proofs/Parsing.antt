@@ -24,14 +24,14 @@ module _ {A : Type 0} (parts : Result (A × ℕ) NetworkParseError) where
   not_both e p h k = absurd (cc)
 
   module _ {R : Type 0} (Makes : A → ℕ → Result R NetworkParseError → Type 0) where
-    refused_follows : (answer : Result A AddrParseError) (back : List ℕ) (e : NetworkParseError) → parts ≡ Err e → ReadsSlashed AreParts answer back parts
-        → ReadsSlashed Makes answer back (Err e)
+    refused_follows : (returned : Result A AddrParseError) (back : List ℕ) (e : NetworkParseError) → parts ≡ Err e → ReadsSlashed AreParts returned back parts
+        → ReadsSlashed Makes returned back (Err e)
     refused_follows (Err x) back e is h = same_error e (parse_error.AddrParseError x) is h
     refused_follows (Ok a) back e is (inl (n, l, h)) = not_both e (a, n) is h
     refused_follows (Ok a) back e is (inr (none, h)) = inr (none, same_error e (parse_error.NetworkLengthParseError (record {})) is h)
 
-    made_follows : (answer : Result A AddrParseError) (back : List ℕ) (p : A × ℕ) (r : Result R NetworkParseError) → parts ≡ Ok p → Makes p.0 p.1 r
-        → ReadsSlashed AreParts answer back parts → ReadsSlashed Makes answer back r
+    made_follows : (returned : Result A AddrParseError) (back : List ℕ) (p : A × ℕ) (r : Result R NetworkParseError) → parts ≡ Ok p → Makes p.0 p.1 r
+        → ReadsSlashed AreParts returned back parts → ReadsSlashed Makes returned back r
     made_follows (Err x) back p r is made h = not_both (parse_error.AddrParseError x) p h is
     made_follows (Ok b) back p r is made (inl (m, l, h)) = inl (m, l, subst (λ q. Makes q.0 q.1 r) (same_parts p (b, m) is h) made)
     made_follows (Ok b) back p r is made (inr (none, h)) = not_both (parse_error.NetworkLengthParseError (record {})) p h is
@@ -41,10 +41,10 @@ module _ {A : Type 0} (parts : Result (A × ℕ) NetworkParseError) where
     cut_refused Makes e is = record {
       front = h.front;
       back = h.back;
-      answer = h.answer;
+      returned = h.returned;
       cut = h.cut;
       asked = h.asked;
-      follows = refused_follows Makes h.answer h.back e is h.follows;
+      follows = refused_follows Makes h.returned h.back e is h.follows;
     }
 
     pub cut_made : {R : Type 0} (Makes : A → ℕ → Result R NetworkParseError → Type 0) (p : A × ℕ) (r : Result R NetworkParseError)
@@ -52,27 +52,27 @@ module _ {A : Type 0} (parts : Result (A × ℕ) NetworkParseError) where
     cut_made Makes p r is made = record {
       front = h.front;
       back = h.back;
-      answer = h.answer;
+      returned = h.returned;
       cut = h.cut;
       asked = h.asked;
-      follows = made_follows Makes h.answer h.back p r is made h.follows;
+      follows = made_follows Makes h.returned h.back p r is made h.follows;
     }
 
 -- the part was asked for in another way too
 pub asked_as : {A R : Type 0} {Asked Known : List ℕ → Result A AddrParseError → Type 0} {Makes : A → ℕ → Result R NetworkParseError → Type 0}
     {text : List ℕ} {r : Result R NetworkParseError}
-    → ((front : List ℕ) (answer : Result A AddrParseError) → Asked front answer → Known front answer) → ReadsCut Asked Makes text r → ReadsCut Known Makes text r
+    → ((front : List ℕ) (returned : Result A AddrParseError) → Asked front returned → Known front returned) → ReadsCut Asked Makes text r → ReadsCut Known Makes text r
 asked_as known h = record {
   front = h.front;
   back = h.back;
-  answer = h.answer;
+  returned = h.returned;
   cut = h.cut;
-  asked = known h.front h.answer h.asked;
+  asked = known h.front h.returned h.asked;
   follows = h.follows;
 }
 
 -- ---- what an address and a length text gave
-pub both_read : {A : Type 0} (answer : Result A AddrParseError) (back : List ℕ) (p : A × ℕ) → ReadsSlashed AreParts answer back (Ok p) → (answer ≡ Ok p.0) × IsLengthText back p.1
+pub both_read : {A : Type 0} (returned : Result A AddrParseError) (back : List ℕ) (p : A × ℕ) → ReadsSlashed AreParts returned back (Ok p) → (returned ≡ Ok p.0) × IsLengthText back p.1
 both_read (Err x) back p h = not_both (Ok p) (parse_error.AddrParseError x) p h refl
 both_read (Ok b) back p (inl (m, l, h)) =
     let same = same_parts (Ok p) (b, m) p h refl in
@@ -83,7 +83,7 @@ both_read (Ok b) back p (inr (none, h)) = not_both (Ok p) (parse_error.NetworkLe
 module _ {A : Type 0} (Known : Result A AddrParseError → Type 0) (P : NetworkParseError → Type 0) (back : List ℕ)
     (no_address : (x : AddrParseError) → Known (Err x) → P (parse_error.AddrParseError x))
     (no_length : (a : A) → Known (Ok a) → ((n : ℕ) → ¬ (IsLengthText back n)) → P (parse_error.NetworkLengthParseError (record {}))) where
-  pub by_part_error : (answer : Result A AddrParseError) (e : NetworkParseError) → Known answer → ReadsSlashed AreParts answer back (Err e) → P e
+  pub by_part_error : (returned : Result A AddrParseError) (e : NetworkParseError) → Known returned → ReadsSlashed AreParts returned back (Err e) → P e
   by_part_error (Err x) e known h = subst P (error_is {A = A} (Err e) (parse_error.AddrParseError x) e h refl) (no_address x known)
   by_part_error (Ok b) e known (inl (m, l, h)) = not_both (Err e) e (b, m) refl h
   by_part_error (Ok b) e known (inr (none, h)) =

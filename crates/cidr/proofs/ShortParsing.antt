@@ -28,9 +28,9 @@ in_ipv4 p = (Ipv4, p)
 same_bits : (r s : Result (List Bool) NetworkParseError) → seen in_ipv4 r ≡ seen in_ipv4 s → r ≡ s
 same_bits = seen_injective in_ipv4 (λ p q h. ap (λ x. x.1) h)
 
-pub ipv4_slashed_read : (text front back : List ℕ) (answer : Result (List Bool) AddrParseError) (r : Result (List Bool) NetworkParseError)
-    → CutsAtLastSlash text front back → Reads (IsAddressText Ipv4) ipv4_error front answer
-    → ReadsSlashed (MadeBy in_ipv4 in_ipv4 strict_network) answer back r → ReadsNetwork Ipv4 text r
+pub ipv4_slashed_read : (text front back : List ℕ) (returned : Result (List Bool) AddrParseError) (r : Result (List Bool) NetworkParseError)
+    → CutsAtLastSlash text front back → Reads (IsAddressText Ipv4) ipv4_error front returned
+    → ReadsSlashed (MadeBy in_ipv4 in_ipv4 strict_network) returned back r → ReadsNetwork Ipv4 text r
 ipv4_slashed_read text front back (Err x) r cut known h = rw h (reads_no_front Ipv4 ipv4_error text front back x cut known)
 ipv4_slashed_read text front back (Ok a) r cut known (inl (n, l, h)) =
     rw (same_bits r (network_from Ipv4 a n) h) (reads_new Ipv4 ipv4_error text front back a n cut known l)
@@ -45,11 +45,11 @@ CalledAt Gives text r = (p : Bor (List ℕ)) × Gives p.now r × (p.now ≡ text
 pub short_ip_read : {Asked : List ℕ → Result IpAddr AddrParseError → Type 0} {Whole : List ℕ → Result IpCidr NetworkParseError → Type 0}
     (text : List ℕ) (r : Result IpCidr NetworkParseError)
     → ReadsAround Asked (MadeBy (in_family address_family plain_bits) (in_family network_family network_prefix) strict_network) Whole text r
-    → ((text : List ℕ) (answer : Result IpAddr AddrParseError) → Asked text answer → CalledAt (Reads IsIpText ip_error) text answer)
+    → ((text : List ℕ) (returned : Result IpAddr AddrParseError) → Asked text returned → CalledAt (Reads IsIpText ip_error) text returned)
     → ((text : List ℕ) (r : Result IpCidr NetworkParseError) → Whole text r → CalledAt (Reads IsShortIpText (parse_error.AddrParseError ip_error)) text r)
     → ReadsShort (Reads IsShortIpText (parse_error.AddrParseError ip_error)) ReadsIpNetwork text r
 short_ip_read text r (inl (lacks, h)) asked whole =
     let read = whole text r h in
     inl (lacks, subst (λ t. Reads IsShortIpText (parse_error.AddrParseError ip_error) t r) read.2 read.1)
 short_ip_read {Asked} text r (inr h) asked whole =
-    inr (h.front, h.back, h.cut, slashed_read Asked (λ t x k. subst (λ s. Reads IsIpText ip_error s x) (asked t x k).2 (asked t x k).1) text h.front h.back h.answer r h.cut h.asked h.follows)
+    inr (h.front, h.back, h.cut, slashed_read Asked (λ t x k. subst (λ s. Reads IsIpText ip_error s x) (asked t x k).2 (asked t x k).1) text h.front h.back h.returned r h.cut h.asked h.follows)

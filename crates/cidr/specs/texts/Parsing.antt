@@ -47,26 +47,26 @@ lone_from lone (Err e) = Err (parse_error.AddrParseError e)
 lone_from lone (Ok a) = Ok (lone a)
 
 abbrev pub MadeAlone : {A V R W : Type 0} → (A → V) → (R → W) → (V → W) → Result A AddrParseError → Result R NetworkParseError → Type 0
-MadeAlone address made lone answer r = seen made r ≡ lone_from lone (seen address answer)
+MadeAlone address made lone returned r = seen made r ≡ lone_from lone (seen address returned)
 
--- the text has a slash, the part before the last one gave this answer where it was asked for, and r follows
+-- the text has a slash, this was returned where the part before the last one was asked for, and r follows
 pub record ReadsCut {A R : Type 0} (Asked : List ℕ → Result A AddrParseError → Type 0) (Makes : A → ℕ → Result R NetworkParseError → Type 0)
     (text : List ℕ) (r : Result R NetworkParseError) : Type 0 where
   pub front : List ℕ
   pub back : List ℕ
-  pub answer : Result A AddrParseError
+  pub returned : Result A AddrParseError
   pub cut : CutsAtLastSlash text front back
-  pub asked : Asked front answer
-  pub follows : ReadsSlashed Makes answer back r
+  pub asked : Asked front returned
+  pub follows : ReadsSlashed Makes returned back r
 
 -- a text is read at its last slash, or as a whole where it has none
 abbrev pub ReadsAround : {A R : Type 0} → (List ℕ → Result A AddrParseError → Type 0) → (A → ℕ → Result R NetworkParseError → Type 0)
     → (List ℕ → Result R NetworkParseError → Type 0) → List ℕ → Result R NetworkParseError → Type 0
 ReadsAround Asked Makes Whole text r = (Lacks slash text × Whole text r) ⊎ ReadsCut Asked Makes text r
 
--- a whole text was asked for, and r is made of the answer
+-- a whole text was asked for, and r is made of what was returned
 abbrev pub ReadsWhole : {A R : Type 0} → (List ℕ → Result A AddrParseError → Type 0) → (Result A AddrParseError → R → Type 0) → List ℕ → R → Type 0
-ReadsWhole {A} Asked Makes text r = (answer : Result A AddrParseError) × Asked text answer × Makes answer r
+ReadsWhole {A} Asked Makes text r = (returned : Result A AddrParseError) × Asked text returned × Makes returned r
 
 -- two results of one text: the second has the first's value where that has one, a value too where the first refuses the
 -- host part, and else the first's error

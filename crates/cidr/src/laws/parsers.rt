@@ -8,8 +8,8 @@ ghost use Rattle.cidr.specs.declared.family.Family.{Family};
 /// Of a text with a slash, for the same address read before it: a parser that ignores host bits gives the network of
 /// the strict one, accepts besides exactly what that refuses with `InvalidHostPart`, and refuses the rest alike.
 pub fn ignoring_host_bits_accepts_them()
-    ensures { (answer : Result (Family × List Bool) AddrParseError) (back : List ℕ)
+    ensures { (returned : Result (Family × List Bool) AddrParseError) (back : List ℕ)
         (strict mended : Result (Family × List Bool) NetworkParseError) →
-        ReadsSlashed (MadeBy (λ a. a) (λ n. n) strict_network) answer back strict →
-        ReadsSlashed (MadeBy (λ a. a) (λ n. n) holding_network) answer back mended → MendsHostPart strict mended }
+        ReadsSlashed (MadeBy (λ a. a) (λ n. n) strict_network) returned back strict →
+        ReadsSlashed (MadeBy (λ a. a) (λ n. n) holding_network) returned back mended → MendsHostPart strict mended }
 {}

@@ -17,7 +17,7 @@ returns c =
             h.front,
             h.back,
             h.cut,
-            ipv4_slashed_read c.args.s.now h.front h.back h.answer c.parse_cidr_full.result h.cut
-                (subst (λ t. Reads (IsAddressText Ipv4) ipv4_error t h.answer) h.asked.2 h.asked.1) h.follows,
+            ipv4_slashed_read c.args.s.now h.front h.back h.returned c.parse_cidr_full.result h.cut
+                (subst (λ t. Reads (IsAddressText Ipv4) ipv4_error t h.returned) h.asked.2 h.asked.1) h.follows,
           )
     ]
