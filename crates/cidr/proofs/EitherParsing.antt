@@ -9,7 +9,7 @@ use Rattle.cidr.specs.texts.AddressText.{Reads}
 use Rattle.cidr.specs.texts.Messages.{ip_error}
 use Rattle.cidr.specs.texts.Parsing.{strict_network, MadeBy, MadeAlone, ReadsSlashed, ReadsAround, ReadsWhole}
 use Rattle.cidr.specs.texts.Refusal.{Lacks, CutsAtLastSlash}
-use Rattle.cidr.proofs.EitherReading.{ip_no_address, ip_no_length, ip_reads_new, any_refused}
+use Rattle.cidr.proofs.EitherReading.{ip_no_address, ip_slashed_read, any_refused}
 use Rattle.cidr.proofs.Views.{seen_injective}
 use Rattle.cidr.specs.declared.addr.error.AddrParseError.{AddrParseError}
 use Rattle.cidr.specs.declared.addr.ip.IpAddr.{IpAddr}
@@ -74,10 +74,9 @@ module _ (Asked : List ℕ → Result IpAddr AddrParseError → Type 0)
 
   pub slashed_read : (front back : List ℕ) (returned : Result IpAddr AddrParseError) (r : Result IpCidr NetworkParseError) → CutsAtLastSlash text front back → Asked front returned
       → ReadsSlashed (MadeBy located shown strict_network) returned back r → ReadsIpNetwork text r
-  slashed_read front back (Err x) r cut asked h = rw h (ip_no_address text front x (inr (back, cut)) (known front (Err x) asked))
-  slashed_read front back (Ok a) r cut asked (inl (n, l, h)) =
-      rw (same_result r (ip_network_from a n) (h ∙ sym (shown_new a n))) (ip_reads_new text front back a n cut (known front (Ok a) asked) l)
-  slashed_read front back (Ok a) r cut asked (inr (none, h)) = rw h (ip_no_length text front back a (record {}) cut (known front (Ok a) asked) (refl, none))
+  slashed_read front back returned r cut asked =
+      ip_slashed_read (MadeBy located shown strict_network) text front back returned r
+      (λ a n h. same_result r (ip_network_from a n) (h ∙ sym (shown_new a n))) cut (known front returned asked)
 
   strictly_read : (r : Result IpCidr NetworkParseError)
       → ReadsAround Asked (MadeBy located shown strict_network) (ReadsWhole Asked (MadeAlone located shown (λ a. a))) text r → ReadsIpNetwork text r

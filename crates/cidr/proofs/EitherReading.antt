@@ -7,6 +7,7 @@ use Rattle.cidr.specs.model.Host.{Host, host_from}
 use Rattle.cidr.specs.model.Network.{network_from}
 use Rattle.cidr.specs.texts.AddressText.{IsAddressText, Reads}
 use Rattle.cidr.specs.texts.NetworkText.{IsLengthText, IsNetworkText}
+use Rattle.cidr.specs.texts.Parsing.{ReadsSlashed}
 use Rattle.cidr.specs.texts.Refusal.{Lacks, CutsAtLastSlash, IsAddressPart, IsRefused}
 use Rattle.cidr.specs.texts.HostText.{IsHostText}
 use Rattle.cidr.specs.texts.Messages.{ip_error}
@@ -98,18 +99,30 @@ ip_no_address text part e is h =
     let refused = refused_address text part e is h in
     (refused, λ n t. refused_none (network_family n) ip_error text (parse_error.AddrParseError e) (network_prefix n) (refused (network_family n)) (network_text_of text n t))
 
-pub ip_no_length : (text front back : List ℕ) (a : IpAddr) (e : ParseIntError) → CutsAtLastSlash text front back → IsIpText front a
+ip_no_length : (text front back : List ℕ) (a : IpAddr) (e : ParseIntError) → CutsAtLastSlash text front back → IsIpText front a
     → Reads IsLengthText (record {}) back (Err e) → ReadsIpNetwork text (Err (parse_error.NetworkLengthParseError e))
 ip_no_length text front back (address.V4 a) e cut h l =
     reads_network_in text front back Ipv4 a cut h V4 (λ p k. k) (Err (parse_error.NetworkLengthParseError e)) (reads_no_length Ipv4 ip_error text front back a e cut h l)
 ip_no_length text front back (address.V6 a) e cut h l =
     reads_network_in text front back Ipv6 a cut h V6 (λ p k. k) (Err (parse_error.NetworkLengthParseError e)) (reads_no_length Ipv6 ip_error text front back a e cut h l)
 
-pub ip_reads_new : (text front back : List ℕ) (a : IpAddr) (n : ℕ) → CutsAtLastSlash text front back → IsIpText front a → IsLengthText back n → ReadsIpNetwork text (ip_network_from a n)
+ip_reads_new : (text front back : List ℕ) (a : IpAddr) (n : ℕ) → CutsAtLastSlash text front back → IsIpText front a → IsLengthText back n → ReadsIpNetwork text (ip_network_from a n)
 ip_reads_new text front back (address.V4 a) n cut h l =
     reads_network_in text front back Ipv4 a cut h V4 (λ p k. k) (network_from Ipv4 a n) (reads_new Ipv4 ip_error text front back a n cut h l)
 ip_reads_new text front back (address.V6 a) n cut h l =
     reads_network_in text front back Ipv6 a cut h V6 (λ p k. k) (network_from Ipv6 a n) (reads_new Ipv6 ip_error text front back a n cut h l)
+
+-- what an address and a length make
+abbrev pub MakesIpNetwork : IpAddr → ℕ → Result IpCidr NetworkParseError → Type 0
+MakesIpNetwork a n r = r ≡ ip_network_from a n
+
+-- a text with a slash, by what reading the part before it gave
+pub ip_slashed_read : (Makes : IpAddr → ℕ → Result IpCidr NetworkParseError → Type 0) (text front back : List ℕ)
+    (returned : Result IpAddr AddrParseError) (r : Result IpCidr NetworkParseError) → ((a : IpAddr) (n : ℕ) → Makes a n r → MakesIpNetwork a n r)
+    → CutsAtLastSlash text front back → Reads IsIpText ip_error front returned → ReadsSlashed Makes returned back r → ReadsIpNetwork text r
+ip_slashed_read Makes text front back (Err x) r made cut known h = rw h (ip_no_address text front x (inr (back, cut)) known)
+ip_slashed_read Makes text front back (Ok a) r made cut known (inl (n, l, h)) = rw (made a n h) (ip_reads_new text front back a n cut known l)
+ip_slashed_read Makes text front back (Ok a) r made cut known (inr (none, h)) = rw h (ip_no_length text front back a (record {}) cut known (refl, none))
 
 pub ip_host_no_address : (text part : List ℕ) (e : AddrParseError) → IsAddressPart text part → Reads IsIpText ip_error part (Err e) → ReadsIpHost text (Err (parse_error.AddrParseError e))
 ip_host_no_address text part e is h =

@@ -4,8 +4,10 @@ use Rattle.std.proofs.lemmas.Bool.{cases_lt, lt-ltb, le-ltb, cond_both, false≢
 use Rattle.cidr.specs.model.Bits.{bit_eq}
 use Rattle.cidr.specs.model.Host.{Host, host_from}
 use Rattle.cidr.specs.model.Network.{width_of, zeros, network_from, too_long}
+use Rattle.cidr.specs.model.Views.{seen}
 use Rattle.cidr.specs.texts.AddressText.{IsAddressText, Reads}
 use Rattle.cidr.specs.texts.NetworkText.{slash, IsLengthText, IsNetworkText}
+use Rattle.cidr.specs.texts.Parsing.{ReadsSlashed}
 use Rattle.cidr.specs.texts.Refusal.{Lacks, CutsAtLastSlash, HasAddress, IsRefused}
 use Rattle.cidr.specs.texts.HostText.{IsHostText, IsHostRefused}
 use Rattle.cidr.specs.laws.BitLaws.{bit_eq_Decides}
@@ -22,6 +24,10 @@ abbrev pub ReadsNetworkAs : Family → AddrParseError → List ℕ → Result (L
 ReadsNetworkAs family error text r =
     MatchResult r (IsNetworkText family text) (λ e. IsRefused family error text e × ((p : List Bool) → ¬ (IsNetworkText family text p)))
 
+-- what an address and a length make, by the address's bits
+abbrev pub MakesNetwork : {A : Type 0} → Family → (A → List Bool) → A → ℕ → Result (List Bool) NetworkParseError → Type 0
+MakesNetwork family bits a n r = r ≡ network_from family (bits a) n
+
 module _ (family : Family) (error : AddrParseError) where
   refuses : (text : List ℕ) (e : NetworkParseError) → IsRefused family error text e → ReadsNetworkAs family error text (Err e)
   refuses text e h = (h, λ p. refused_none family error text e p h)
@@ -30,7 +36,7 @@ module _ (family : Family) (error : AddrParseError) where
       → ReadsNetworkAs family error text (Err (parse_error.AddrParseError e))
   reads_no_address text e lacks h = refuses text (parse_error.AddrParseError e) (h.0, text, inl (lacks, refl), h.1)
 
-  pub reads_no_front : (text front back : List ℕ) (e : AddrParseError) → CutsAtLastSlash text front back
+  reads_no_front : (text front back : List ℕ) (e : AddrParseError) → CutsAtLastSlash text front back
       → Reads (IsAddressText family) error front (Err e) → ReadsNetworkAs family error text (Err (parse_error.AddrParseError e))
   reads_no_front text front back e cut h = refuses text (parse_error.AddrParseError e) (h.0, front, inr (back, cut), h.1)
 
@@ -61,6 +67,16 @@ module _ (family : Family) (error : AddrParseError) where
             }))
             (λ other. refuses text parse_error.InvalidHostPart (back, a, n, has, l, within, λ e. false≢true (sym other ∙ (bit_eq_Decides (drop n a) (zeros (width_of family - n))).1 e))))
       ]
+
+  -- a text with a slash, by what reading the part before it gave
+  pub network_slashed_read : {A : Type 0} (bits : A → List Bool) (Makes : A → ℕ → Result (List Bool) NetworkParseError → Type 0) (text front back : List ℕ)
+      (returned : Result A AddrParseError) (r : Result (List Bool) NetworkParseError) → ((a : A) (n : ℕ) → Makes a n r → MakesNetwork family bits a n r)
+      → CutsAtLastSlash text front back → Reads (IsAddressText family) error front (seen bits returned)
+      → ReadsSlashed Makes returned back r → ReadsNetworkAs family error text r
+  network_slashed_read bits Makes text front back (Err x) r made cut known h = rw h (reads_no_front text front back x cut known)
+  network_slashed_read bits Makes text front back (Ok a) r made cut known (inl (n, l, h)) = rw (made a n h) (reads_new text front back (bits a) n cut known l)
+  network_slashed_read bits Makes text front back (Ok a) r made cut known (inr (none, h)) =
+      rw h (reads_no_length text front back (bits a) (record {}) cut known (refl, none))
 
 -- ---- hosts
 -- the same as `ReadsHost`, in the same way

@@ -24,13 +24,13 @@ module _ {A : Type 0} (parts : Result (A × ℕ) NetworkParseError) where
   not_both e p h k = absurd (cc)
 
   module _ {R : Type 0} (Makes : A → ℕ → Result R NetworkParseError → Type 0) where
-    refused_follows : (returned : Result A AddrParseError) (back : List ℕ) (e : NetworkParseError) → parts ≡ Err e → ReadsSlashed AreParts returned back parts
+    pub refused_follows : (returned : Result A AddrParseError) (back : List ℕ) (e : NetworkParseError) → parts ≡ Err e → ReadsSlashed AreParts returned back parts
         → ReadsSlashed Makes returned back (Err e)
     refused_follows (Err x) back e is h = same_error e (parse_error.AddrParseError x) is h
     refused_follows (Ok a) back e is (inl (n, l, h)) = not_both e (a, n) is h
     refused_follows (Ok a) back e is (inr (none, h)) = inr (none, same_error e (parse_error.NetworkLengthParseError (record {})) is h)
 
-    made_follows : (returned : Result A AddrParseError) (back : List ℕ) (p : A × ℕ) (r : Result R NetworkParseError) → parts ≡ Ok p → Makes p.0 p.1 r
+    pub made_follows : (returned : Result A AddrParseError) (back : List ℕ) (p : A × ℕ) (r : Result R NetworkParseError) → parts ≡ Ok p → Makes p.0 p.1 r
         → ReadsSlashed AreParts returned back parts → ReadsSlashed Makes returned back r
     made_follows (Err x) back p r is made h = not_both (parse_error.AddrParseError x) p h is
     made_follows (Ok b) back p r is made (inl (m, l, h)) = inl (m, l, subst (λ q. Makes q.0 q.1 r) (same_parts p (b, m) is h) made)

@@ -1,5 +1,5 @@
 -- What a text with a slash gives around a strict reader of addresses, and one without around a short reader.
-use Rattle.std.proofs.Common.{◌≡◌, ℕ, Bool, List, Result, Ok, Err, refl, ap, subst, inl, inr}
+use Rattle.std.proofs.Common.{◌≡◌, ℕ, Bool, List, Result, ap, subst, inl, inr}
 use Rattle.cidr.specs.model.Network.{network_from}
 use Rattle.std.specs.Borrow.{Bor}
 use Rattle.cidr.specs.model.Views.{seen, in_family}
@@ -12,8 +12,8 @@ use Rattle.cidr.specs.texts.Parsing.{strict_network, MadeBy, ReadsSlashed, Reads
 use Rattle.cidr.specs.texts.Refusal.{CutsAtLastSlash, ReadsNetwork}
 use Rattle.cidr.specs.texts.ShortText.{IsShortIpText, ReadsShort}
 use Rattle.cidr.proofs.EitherParsing.{slashed_read}
-use Rattle.cidr.proofs.NetworkReading.{reads_no_front, reads_no_length, reads_new}
-use Rattle.cidr.proofs.Views.{seen_injective}
+use Rattle.cidr.proofs.NetworkReading.{network_slashed_read}
+use Rattle.cidr.proofs.Views.{seen-itself, seen_injective}
 use Rattle.cidr.specs.declared.addr.error.AddrParseError.{AddrParseError}
 use Rattle.cidr.specs.declared.addr.ip.IpAddr.{IpAddr}
 use Rattle.cidr.specs.declared.cidr.combined.IpCidr.{IpCidr}
@@ -31,11 +31,9 @@ same_bits = seen_injective in_ipv4 (λ p q h. ap (λ x. x.1) h)
 pub ipv4_slashed_read : (text front back : List ℕ) (returned : Result (List Bool) AddrParseError) (r : Result (List Bool) NetworkParseError)
     → CutsAtLastSlash text front back → Reads (IsAddressText Ipv4) ipv4_error front returned
     → ReadsSlashed (MadeBy in_ipv4 in_ipv4 strict_network) returned back r → ReadsNetwork Ipv4 text r
-ipv4_slashed_read text front back (Err x) r cut known h = rw h (reads_no_front Ipv4 ipv4_error text front back x cut known)
-ipv4_slashed_read text front back (Ok a) r cut known (inl (n, l, h)) =
-    rw (same_bits r (network_from Ipv4 a n) h) (reads_new Ipv4 ipv4_error text front back a n cut known l)
-ipv4_slashed_read text front back (Ok a) r cut known (inr (none, h)) =
-    rw h (reads_no_length Ipv4 ipv4_error text front back a (record {}) cut known (refl, none))
+ipv4_slashed_read text front back returned r cut known =
+    network_slashed_read Ipv4 ipv4_error (λ a. a) (MadeBy in_ipv4 in_ipv4 strict_network) text front back returned r
+    (λ a n h. same_bits r (network_from Ipv4 a n) h) cut (rw (seen-itself returned) known)
 
 -- ---- of either family
 -- what a function that is called at a text gave

@@ -1,9 +1,8 @@
 -- Reading a network: each way out of the reader, by what reading the parts gave.
-use Rattle.std.proofs.Common.{Err, refl, subst}
-use Rattle.cidr.specs.model.Views.{seen}
-use Rattle.cidr.specs.texts.AddressText.{IsAddressText, address_error, Reads}
-use Rattle.cidr.proofs.NetworkReading.{ReadsNetworkAs, reads_no_address, reads_no_front, reads_no_length, reads_new}
-use Rattle.cidr.proofs.Parsing.{both_read, by_part_error}
+use Rattle.std.proofs.Common.{refl}
+use Rattle.cidr.specs.texts.AddressText.{address_error}
+use Rattle.cidr.proofs.NetworkReading.{MakesNetwork, reads_no_address, network_slashed_read}
+use Rattle.cidr.proofs.Parsing.{refused_follows, made_follows}
 use Rattle.cidr.proofs.cidr.network.NetworkFromStr.from_str.Goals as goal
 
 pub returns-in-Err : goal.returns-in-Err
@@ -14,15 +13,13 @@ returns-in-Err g c =
 pub returns-in-Ok-with_length_text : goal.returns-in-Ok-with_length_text
 returns-in-Ok-with_length_text g c =
     let family = g.A.AddressBits.FAMILY in
-    let both = both_read _ c.in-Some.back.now _ c.in-Ok-with_length_text.ensures in
-    let known = subst (λ returned. Reads (IsAddressText family) (address_error family) c.in-Some.front.now (seen g.A.AddressBits.bits returned)) both.0 c.read-in-Some.ensures in
-    rw c.new.ensures.value (reads_new family (address_error family) c.args.s.now _ _ _ _ c.in-Some.ensures known both.1)
+    let Makes = MakesNetwork family g.A.AddressBits.bits in
+    network_slashed_read family (address_error family) _ Makes c.args.s.now _ _ c.read-in-Some.result _ (λ a n h. h) c.in-Some.ensures c.read-in-Some.ensures
+    (made_follows _ Makes _ _ _ _ refl c.new.ensures.value c.in-Ok-with_length_text.ensures)
 
 pub returns-in-Err-with_length_text : goal.returns-in-Err-with_length_text
 returns-in-Err-with_length_text g c =
     let family = g.A.AddressBits.FAMILY in
-    let error = address_error family in
-    by_part_error (λ returned. Reads (IsAddressText family) error c.in-Some.front.now (seen g.A.AddressBits.bits returned)) (λ e. ReadsNetworkAs family error c.args.s.now (Err e)) c.in-Some.back.now
-    (λ x h. reads_no_front family error c.args.s.now _ _ x c.in-Some.ensures h)
-    (λ a h none. reads_no_length family error c.args.s.now _ _ _ _ c.in-Some.ensures h (refl, none))
-    c.read-in-Some.result _ c.read-in-Some.ensures c.in-Err-with_length_text.ensures
+    let Makes = MakesNetwork family g.A.AddressBits.bits in
+    network_slashed_read family (address_error family) _ Makes c.args.s.now _ _ c.read-in-Some.result _ (λ a n h. h) c.in-Some.ensures c.read-in-Some.ensures
+    (refused_follows _ Makes _ _ _ refl c.in-Err-with_length_text.ensures)
