@@ -1,5 +1,5 @@
 -- Pairs by the numbers of their addresses, over any width.
-use Rattle.std.proofs.Common.{◌≡◌, ◌≢◌, ℕ, ◌+◌, ◌-◌, ◌*◌, ◌/◌, ◌^◌, ◌<◌, ◌≤◌, Bool, true, false, List, length, take, ◌==◌, sym, ap, ap₂, ◌∙◌, arith}
+use Rattle.std.proofs.Common.{◌≡◌, ◌≢◌, ℕ, ◌+◌, ◌-◌, ◌*◌, ◌/◌, ◌^◌, ◌<◌, ◌≤◌, Bool, true, false, List, length, take, ◌==◌, sym, ap, ap₂, ◌∙◌, arith, IsTrue, ◌↔◌}
 use Rattle.std.proofs.Math.Nat.{div-mul-le_self}
 use Rattle.std.proofs.lemmas.Nat.{le-div, pow_pos}
 use Rattle.std.proofs.lemmas.Bool.Decides.{nat_tests}
@@ -65,50 +65,61 @@ module _ (w k : ℕ) (a b : List Bool) (is : IsPair w (record { first = a; secon
   fits_width = rw is.second_width at (number-lt b)
 
   -- there are two addresses or more where the first is below the second
-  pub two_or_more : is_lt (bit_cmp a b) ≡ true → 2 ≤ length (walk_between w a b)
+  two_or_more : is_lt (bit_cmp a b) ≡ true → 2 ≤ length (walk_between w a b)
   two_or_more h = omega (arith, below h, length-walk_between w a b)
 
-  pub below_from_two : 2 ≤ length (walk_between w a b) → is_lt (bit_cmp a b) ≡ true
+  below_from_two : 2 ≤ length (walk_between w a b) → is_lt (bit_cmp a b) ≡ true
   below_from_two h =
       let less : number a < number b = omega (arith, h, length-walk_between w a b) in
       ap is_lt order ∙ grind (arith, nat_tests)
 
-  module _ (x : List Bool) (h : is_lt (bit_cmp a b) ≡ true) where
-    after : x ≡ (stepped_up w (host_of a 0) 1).address → x ≡ bits w (number a + 1)
-    after e = e ∙ next_address w a is.first_width (omega (arith, below h, fits_width))
+  -- the same where both addresses and the test of their order have names of their own
+  module _ (c d : List Bool) (e : c ≡ a) (f : d ≡ b) (more : Bool) (test : more ≡ is_lt (bit_cmp c d)) where
+    tested : more ≡ is_lt (bit_cmp a b)
+    tested = rw (e, f) at test
 
-    before : x ≡ (stepped_down w (host_of b 0) 1).address → x ≡ bits w (number b - 1)
-    before e = e ∙ address_before w b is.second_width (omega (arith, below h))
+    pub tells_more : IsTrue more ↔ (2 ≤ length (walk_between w a b))
+    tells_more = (λ yes. two_or_more (sym tested ∙ yes), λ two. tested ∙ below_from_two two)
 
-    pub pair_after_first : x ≡ (stepped_up w (host_of a 0) 1).address → IsPair w (record { first = x; second = b; len = k })
-    pair_after_first e =
-        let same = after e in
-        let less = below h in
-        let head = shared_between w k (number a + 1) a b is.fits is.first_width is.second_width is.shared (omega arith) (omega arith) in
-        record {
-          first_width = ap length same ∙ length-bits w (number a + 1);
-          second_width = is.second_width;
-          fits = is.fits;
-          shared = ap (take k) same ∙ head ∙ is.shared;
-        }
+    module _ (yes : more ≡ true) (x : List Bool) where
+      less : number a < number b
+      less = below (sym tested ∙ yes)
 
-    pub pair_before_second : x ≡ (stepped_down w (host_of b 0) 1).address → IsPair w (record { first = a; second = x; len = k })
-    pair_before_second e =
-        let same = before e in
-        let less = below h in
-        let head = shared_between w k (number b - 1) a b is.fits is.first_width is.second_width is.shared (omega arith) (omega arith) in
-        record {
-          first_width = is.first_width;
-          second_width = ap length same ∙ length-bits w (number b - 1);
-          fits = is.fits;
-          shared = sym head ∙ ap (take k) (sym same);
-        }
+      after : x ≡ (stepped_up w (host_of c 0) 1).address → x ≡ bits w (number a + 1)
+      after h = (rw e at h) ∙ next_address w a is.first_width (omega (arith, less, fits_width))
 
-    pub loses_first : x ≡ (stepped_up w (host_of a 0) 1).address → LosesFirst true (walk_between w a b) (walk_between w x b)
-    loses_first e = let less = below h in (a, rw (after e) (walk-after_first w a b is.first_width is.second_width (omega arith)))
+      before : x ≡ (stepped_down w (host_of d 0) 1).address → x ≡ bits w (number b - 1)
+      before h = (rw f at h) ∙ address_before w b is.second_width (omega (arith, less))
 
-    pub loses_second : x ≡ (stepped_down w (host_of b 0) 1).address → LosesLast true (walk_between w a b) (walk_between w a x)
-    loses_second e = let less = below h in (b, rw (before e) (walk-before_second w a b is.first_width is.second_width (omega arith)))
+      pub pair_after_first : x ≡ (stepped_up w (host_of c 0) 1).address → IsPair w (record { first = x; second = b; len = k })
+      pair_after_first h =
+          let same = after h in
+          let lower = less in
+          let head = shared_between w k (number a + 1) a b is.fits is.first_width is.second_width is.shared (omega arith) (omega arith) in
+          record {
+            first_width = ap length same ∙ length-bits w (number a + 1);
+            second_width = is.second_width;
+            fits = is.fits;
+            shared = ap (take k) same ∙ head ∙ is.shared;
+          }
+
+      pub pair_before_second : x ≡ (stepped_down w (host_of d 0) 1).address → IsPair w (record { first = a; second = x; len = k })
+      pair_before_second h =
+          let same = before h in
+          let lower = less in
+          let head = shared_between w k (number b - 1) a b is.fits is.first_width is.second_width is.shared (omega arith) (omega arith) in
+          record {
+            first_width = is.first_width;
+            second_width = ap length same ∙ length-bits w (number b - 1);
+            fits = is.fits;
+            shared = sym head ∙ ap (take k) (sym same);
+          }
+
+      pub loses_first : x ≡ (stepped_up w (host_of c 0) 1).address → LosesFirst true (walk_between w a b) (walk_between w x b)
+      loses_first h = let lower = less in (a, rw (after h) (walk-after_first w a b is.first_width is.second_width (omega arith)))
+
+      pub loses_second : x ≡ (stepped_down w (host_of d 0) 1).address → LosesLast true (walk_between w a b) (walk_between w a x)
+      loses_second h = let lower = less in (b, rw (before h) (walk-before_second w a b is.first_width is.second_width (omega arith)))
 
 pub shared_yes : (w k : ℕ) (a b : List Bool) → k ≤ w → length a ≡ w → length b ≡ w → number a / 2 ^ (w - k) ≡ number b / 2 ^ (w - k) → bit_eq (take k a) (take k b) ≡ true
 shared_yes w k a b h e f same = shared-test w k a b h e f ∙ grind (arith, nat_tests)
