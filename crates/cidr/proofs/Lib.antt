@@ -21,6 +21,9 @@ pub mod Parsing
 pub mod HostBitsIgnored
 pub mod NetworkNumbers
 pub mod SharedBits
+pub mod SingleBits
+pub mod SharedLength
+pub mod StringBits
 pub mod StepNumbers
 pub mod HostNumbers
 pub mod PairNumbers

@@ -1,10 +1,10 @@
 -- Networks in order: by first address, then by length, is the lexicographic order of bits.
-use Rattle.std.proofs.Common.{◌≡◌, ℕ, zero, suc, ◌+◌, ◌*◌, ◌-◌, ◌<◌, ◌≤◌, Bool, true, false, ◌&&◌, List, [], ◌∷◌, length, take, drop, ◌==◌, refl, sym, ap, ap₂, ◌∙◌, arith, inl, inr}
+use Rattle.std.proofs.Common.{◌≡◌, ℕ, zero, suc, ◌+◌, ◌*◌, ◌-◌, ◌<◌, ◌≤◌, min, Bool, true, false, ◌&&◌, List, [], ◌∷◌, length, take, drop, ◌==◌, refl, sym, ap, ap₂, ◌∙◌, arith, inl, inr}
 use Rattle.std.proofs.lemmas.Bool.{cases_eq, cases_lt}
 use Rattle.std.proofs.lemmas.Bool.Decides.{nat_tests}
 use Rattle.std.proofs.lemmas.Cmp.{tied_itself}
 use Rattle.std.specs.declared.cmp.Ordering.TheVariants.{Less, Greater}
-use Rattle.std.specs.Ordering.{nat_cmp, ordering_then, is_eq}
+use Rattle.std.specs.Ordering.{nat_cmp, ordering_then, is_eq, ord_min}
 use Rattle.cidr.specs.model.Bits.{number, bit_cmp, bit_eq}
 use Rattle.cidr.specs.laws.BitLaws.{bit_cmp-numbers, bit_cmp_total, bit_eq_ties, then_tie}
 use Rattle.cidr.specs.model.Network.{zeros, first_of}
@@ -64,6 +64,14 @@ eq-networks w k j a b hk la za hj lb zb =
     bit_eq_ties (take k a) (take j b) ∙ ap is_eq (cmp-networks w k j a b hk la za hj lb zb) ∙ then_tie (bit_cmp a b) k j ∙ ap (λ t. t && (k == j)) (sym (bit_eq_ties a b))
 
 pub ruleset order_laws = (cmp-networks, eq-networks, first_of-take, length-take-within)
+
+-- the least of two numbers, and of three
+pub least : (m n : ℕ) → ord_min nat_cmp m n ≡ min m n
+least m n = elim (cases_lt n m) [ inl low ↦ grind (arith, nat_tests) | inr high ↦ grind (arith, nat_tests) ]
+
+pub least_of_three : (m n x y s r j : ℕ) → r ≡ ord_min nat_cmp m j → j ≡ ord_min nat_cmp n s → m ≡ x → n ≡ y → r ≡ min x (min y s)
+least_of_three m n x y s r j h k first second =
+    h ∙ least m j ∙ ap₂ min first (k ∙ least n s ∙ ap (λ t. min t s) second)
 
 -- two numbers in one: the first counts more than the second
 pub key_cmp : (x m y n : ℕ) → m < 256 → n < 256 → nat_cmp (x * 256 + m) (y * 256 + n) ≡ ordering_then (nat_cmp x y) (nat_cmp m n)

@@ -2,5 +2,6 @@
 pub mod BitLaws
 pub mod NetworkLaws
 pub mod HostLaws
+pub mod StringLaws
 pub mod PairLaws
 pub mod DecimalLaws

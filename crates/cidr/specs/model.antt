@@ -7,3 +7,4 @@ pub mod Host
 pub mod Pair
 pub mod Walk
 pub mod Counted
+pub mod BitString

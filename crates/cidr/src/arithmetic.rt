@@ -1,5 +1,6 @@
 //! The arithmetic of networks, on the numbers of addresses: first of 32 bits, then of 128.
-ghost use Rattle.std.specs.Prelude.{◌≡◌, ◌+◌, ◌-◌, ◌*◌, ◌/◌, ◌%◌, ◌^◌, ◌<◌, ◌≤◌, ◌↔◌, IsTrue};
+ghost use Rattle.std.specs.Prelude.{◌≡◌, ◌≢◌, ◌+◌, ◌-◌, ◌*◌, ◌/◌, ◌%◌, ◌^◌, ◌<◌, ◌≤◌, ◌↔◌, ◌==◌, ℕ, cond, IsTrue};
+ghost use Rattle.std.specs.Int.{bit_at};
 ghost use Rattle.std.specs.Ordering.{nat_cmp, ordering_then};
 
 use std::cmp::Ordering;
@@ -89,6 +90,32 @@ pub(crate) fn order(value: u32, len: u8, other: u32, other_len: u8) -> Ordering
     key.cmp(&other_key)
 }
 
+/// How many of the first bits of two numbers of 32 bits are the same.
+pub(crate) fn shared_len(value: u32, other: u32) -> u8
+    ensures fits { result ≤ 32 }
+    ensures shared { (k : ℕ) → k ≤ 32 → (k ≤ result) ↔ (value / 2 ^ (32 - k) ≡ other / 2 ^ (32 - k)) }
+{
+    (value ^ other).leading_zeros() as u8
+}
+
+/// Bit `i` of a number of 32 bits, the most significant first.
+pub(crate) fn bit(value: u32, i: u8) -> bool
+    requires { i < 32 }
+    ensures { result ≡ (bit_at value (31 - i) == 1) }
+{
+    value >> (31 - i) & 1 == 1
+}
+
+/// The number of 32 bits whose bit `i` is `b`, the most significant first.
+pub(crate) fn with_bit(value: u32, i: u8, b: bool) -> u32
+    requires { i < 32 }
+    ensures set { bit_at result (31 - i) ≡ cond b 1 0 }
+    ensures kept { (k : ℕ) → k < 32 → k ≢ 31 - i → bit_at result k ≡ bit_at value k }
+{
+    let place = 1 << (31 - i);
+    if b { value | place } else { value & !place }
+}
+
 /// Whether two numbers of 128 bits have the same first `len` bits.
 pub(crate) fn same_first_bits6(value: u128, other: u128, len: u8) -> bool
     requires { len ≤ 128 }
@@ -162,4 +189,30 @@ pub(crate) fn step_down6(value: u128, len: u8, step: u128) -> (u128, bool)
     let host = host_part6(value, len);
     let stepped = host_part6(host.wrapping_sub(step), len);
     (first_number6(value, len) + stepped, step > host)
+}
+
+/// How many of the first bits of two numbers of 128 bits are the same.
+pub(crate) fn shared_len6(value: u128, other: u128) -> u8
+    ensures fits { result ≤ 128 }
+    ensures shared { (k : ℕ) → k ≤ 128 → (k ≤ result) ↔ (value / 2 ^ (128 - k) ≡ other / 2 ^ (128 - k)) }
+{
+    (value ^ other).leading_zeros() as u8
+}
+
+/// Bit `i` of a number of 128 bits, the most significant first.
+pub(crate) fn bit6(value: u128, i: u8) -> bool
+    requires { i < 128 }
+    ensures { result ≡ (bit_at value (127 - i) == 1) }
+{
+    value >> (127 - i) & 1 == 1
+}
+
+/// The number of 128 bits whose bit `i` is `b`, the most significant first.
+pub(crate) fn with_bit6(value: u128, i: u8, b: bool) -> u128
+    requires { i < 128 }
+    ensures set { bit_at result (127 - i) ≡ cond b 1 0 }
+    ensures kept { (k : ℕ) → k < 128 → k ≢ 127 - i → bit_at result k ≡ bit_at value k }
+{
+    let place = 1 << (127 - i);
+    if b { value | place } else { value & !place }
 }

@@ -2,3 +2,4 @@
 
 pub(crate) mod address_bits;
 pub(crate) mod markers;
+pub(crate) mod single_bits;

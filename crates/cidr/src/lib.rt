@@ -83,6 +83,22 @@
 //! parsers::parse_cidr_ignore_hostbits("home/8", parser) // 127.0.0.0/8
 //! ```
 //!
+//! # Strings of bits
+//!
+//! A network is the string of the bits that its addresses begin with, and a host that of its network: `BitString`.
+//!
+//! ```
+//! let mut network = "192.168.0.0/16".parse::<Ipv4Cidr>()?;
+//! network.clip(2)                         // 192.0.0.0/2
+//! network.append(true)                    // 224.0.0.0/3
+//! network.shared_prefix_len(&other)       // how many bits both begin with
+//! let mut either = "192.168.0.0/16".parse::<AnyIpCidr>()?;
+//! either.len()                            // 17: the family bit comes first
+//! either.flip(0)                          // ::/0
+//! ```
+//!
+//! `NetworkBits` adds to it that the order is that of the bits, which is what a table of networks goes by.
+//!
 //! # Loose and short texts
 //!
 //! ```
@@ -107,11 +123,13 @@
 //! prefixes differ; a pair of hosts for two families, two prefix lengths or two networks.
 //!
 //! These calls have a condition on their caller: `+` and `-` on hosts, whose step has to stay in the network;
-//! `drive`, whose two slices have to be of one length; and the parsers, whose closures can be called for every text.
+//! `drive`, whose two slices have to be of one length; `get`, `set` and `flip` of a bit, whose index has to be below
+//! the length; `append`, which needs room; and the parsers, whose closures can be called for every text.
 #![tactic(auto)]
 
 mod addr;
 mod arithmetic;
+mod bits;
 mod cidr;
 pub mod errors;
 mod family;
@@ -129,6 +147,7 @@ pub use addr::error::AddrParseError;
 pub use addr::ip::IpAddr;
 pub use addr::v4::Ipv4Addr;
 pub use addr::v6::Ipv6Addr;
+pub use bits::{BitString, NetworkBits};
 pub use cidr::any::AnyIpCidr;
 pub use cidr::combined::IpCidr;
 pub use cidr::network::{Ipv4Cidr, Ipv6Cidr};

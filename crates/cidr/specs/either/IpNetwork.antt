@@ -1,5 +1,5 @@
 -- Networks of either family. As bits they have the family bit in front, as addresses have it, and `Any` has no bits.
-use Rattle.std.specs.Prelude.{◌≡◌, ℕ, Bool, true, false, List, [], ◌∷◌, length, Option, Some, None, option_map, MatchOption, Result, ⊤}
+use Rattle.std.specs.Prelude.{◌≡◌, ℕ, ◌<◌, Bool, true, false, List, [], ◌∷◌, length, Option, Some, None, option_map, MatchOption, Result, ⊤}
 use Rattle.std.specs.Option.{option_map_or}
 use Rattle.cidr.specs.model.Network.{width_of, network_from, FitsWidth}
 use Rattle.cidr.specs.model.Views.{seen}
@@ -84,3 +84,9 @@ IsLoneNetwork network = MatchOption (specific network) ⊥ IsLone
 
 abbrev pub any_bits : AnyIpCidr → List Bool
 any_bits network = option_map_or network_bits (specific network) []
+
+-- one more bit can be appended: `Any` takes the family bit, and a network a bit where its length is not full
+abbrev pub AnyHasRoom : AnyIpCidr → Type 0
+AnyHasRoom any_network.Any = ⊤
+AnyHasRoom (any_network.V4 p) = length p < 32
+AnyHasRoom (any_network.V6 p) = length p < 128

@@ -79,7 +79,7 @@ impl<A: AddressBits> Clone for Network<A> {
 impl<A: AddressBits> Copy for Network<A> {}
 
 impl<A: AddressBits> Network<A> {
-    ghost use Rattle.cidr.specs.model.Network.{first_of, last_of, mask_of, BeginsWith, HasWidth, HoldsAll, network_from};
+    ghost use Rattle.cidr.specs.model.Network.{first_of, last_of, mask_of, BeginsWith, HasWidth, HoldsAll, IsFirstAddress, network_from};
     ghost use Rattle.std.specs.Prelude.{take};
     ghost use Rattle.cidr.specs.model.Host.{first_host, last_host};
     ghost use Rattle.cidr.specs.model.Walk.{network_pair, network_walk, HasExactly};
@@ -118,6 +118,14 @@ impl<A: AddressBits> Network<A> {
             address: addr,
             len: A::FAMILY.len(),
         }
+    }
+
+    /// The network of this first address and prefix length, which are known to belong together.
+    pub(crate) fn new_unchecked(addr: A, len: u8) -> Network<A>
+        requires { IsFirstAddress (width_of A.FAMILY) len (A.bits addr) }
+        ensures { result ≡ take len (A.bits addr) }
+    {
+        Network { address: addr, len }
     }
 
     /// The network of this length that holds the address.

@@ -1,0 +1,76 @@
+//! Hosts of one family as strings of bits: those of their networks.
+ghost use Rattle.std.specs.Prelude.{◌≡◌, ◌+◌, ◌<◌, ◌++◌, ◌∷◌, [], length, take};
+ghost use Rattle.cidr.specs.model.BitString.{host_with_bit, host_clipped, host_longer, inverted};
+ghost use Rattle.cidr.specs.model.Host.{network_of};
+ghost use Rattle.cidr.specs.model.Network.{width_of, zeros};
+
+use crate::bits::{BitString, place};
+use crate::inet::host::Host;
+use crate::internal_traits::single_bits::SingleBits;
+use std::cmp::min;
+
+impl<A: SingleBits> BitString for Host<A> {
+    ghost bits = { network_of };
+
+    ghost HasRoom = { λ host. host.len < width_of A.FAMILY };
+
+    #[tactic(auto, using(crate::specs::laws::NetworkLaws::taken_laws))]
+    fn len(&self) -> usize {
+        // the call tells the proof how many bits the address has
+        self.address().has_width();
+        usize::from(self.network_length())
+    }
+
+    fn get(&self, i: usize) -> bool {
+        self.address().bit(place(i, self.network_length()))
+    }
+
+    fn set(&mut self, i: usize, b: bool)
+        requires { i < length (network_of self.old) }
+        ensures { self.new ≡ host_with_bit i b self.old }
+    {
+        let len = self.network_length();
+        *self = Host::new_unchecked(self.address().with_bit(place(i, len), b), len);
+    }
+
+    fn flip(&mut self, i: usize)
+        requires { i < length (network_of self.old) }
+        ensures { self.new ≡ host_with_bit i (inverted i self.old.address) self.old }
+    {
+        let b = self.get(i);
+        self.set(i, !b);
+    }
+
+    fn clip(&mut self, k: usize)
+        ensures bits { network_of self.new ≡ take k (network_of self.old) }
+        ensures room { k < length (network_of self.old) → self.new.len < width_of A.FAMILY }
+        ensures host { self.new ≡ host_clipped (width_of A.FAMILY) k self.old }
+    {
+        let (address, len) = (self.address(), self.network_length());
+        let width = A::FAMILY.len();
+        if k < usize::from(width) {
+            let k = place(k, width);
+            *self = Host::new_unchecked(address.first_in(k), min(len, k));
+        }
+    }
+
+    fn append(&mut self, b: bool)
+        requires { self.old.len < width_of A.FAMILY }
+        ensures bits { network_of self.new ≡ network_of self.old ++ b ∷ [] }
+        ensures host { self.new ≡ host_longer b self.old }
+    {
+        let (address, len) = (self.address(), self.network_length());
+        *self = Host::new_unchecked(address.with_bit(len, b), len + 1);
+    }
+
+    fn null() -> Host<A>
+        ensures { result ≡ record { address = zeros (width_of A.FAMILY); len = 0 } }
+    {
+        Host::new_unchecked(A::mask_of(0), 0)
+    }
+
+    fn shared_prefix_len(&self, other: &Host<A>) -> usize {
+        let shared = self.address().shared_len(other.address());
+        usize::from(min(self.network_length(), min(other.network_length(), shared)))
+    }
+}

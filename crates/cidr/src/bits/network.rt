@@ -1,0 +1,73 @@
+//! Networks of one family as strings of bits.
+ghost use Rattle.std.specs.Prelude.{◌≡◌, ◌+◌, ◌<◌, ◌≤◌, ◌++◌, ◌∷◌, [], Some, length, take, set, slice_get, refl};
+ghost use Rattle.cidr.specs.model.BitString.{IsSharedLength, inverted};
+ghost use Rattle.cidr.specs.model.Network.{width_of};
+
+use crate::bits::{BitString, NetworkBits, place};
+use crate::cidr::network::Network;
+use crate::internal_traits::single_bits::SingleBits;
+use std::cmp::min;
+
+/// How many bits both networks begin with.
+pub(crate) fn shared_length<A: SingleBits>(one: &Network<A>, other: &Network<A>) -> u8
+    ensures { IsSharedLength one.now other.now result }
+{
+    let shared = one.first_address().shared_len(other.first_address());
+    min(one.network_length(), min(other.network_length(), shared))
+}
+
+impl<A: SingleBits> BitString for Network<A> {
+    ghost bits = { λ n. n };
+
+    ghost HasRoom = { λ n. length n < width_of A.FAMILY };
+
+    fn len(&self) -> usize {
+        usize::from(self.network_length())
+    }
+
+    fn get(&self, i: usize) -> bool {
+        self.first_address().bit(place(i, self.network_length()))
+    }
+
+    fn set(&mut self, i: usize, b: bool)
+        requires { i < length self.old }
+        ensures { self.new ≡ set self.old i b }
+    {
+        let len = self.network_length();
+        *self = Network::new_unchecked(self.first_address().with_bit(place(i, len), b), len);
+    }
+
+    fn flip(&mut self, i: usize)
+        requires { i < length self.old }
+        ensures { self.new ≡ set self.old i (inverted i self.old) }
+    {
+        let b = self.get(i);
+        self.set(i, !b);
+    }
+
+    fn clip(&mut self, k: usize) {
+        let len = self.network_length();
+        if k < usize::from(len) {
+            *self = Network::holding(self.first_address(), place(k, len));
+        }
+    }
+
+    fn append(&mut self, b: bool) {
+        let len = self.network_length();
+        *self = Network::new_unchecked(self.first_address().with_bit(len, b), len + 1);
+    }
+
+    fn null() -> Network<A> {
+        Network::holding(A::mask_of(0), 0)
+    }
+
+    fn shared_prefix_len(&self, other: &Network<A>) -> usize {
+        usize::from(shared_length(self, other))
+    }
+}
+
+impl<A: SingleBits> NetworkBits for Network<A> {
+    ghost ordered = { λ _ _. refl };
+
+    ghost determined = { λ _ _ h. h };
+}

@@ -1,0 +1,56 @@
+//! Single bits of an address, and how many bits two addresses begin with alike.
+ghost use Rattle.std.specs.Prelude.{◌≡◌, ◌<◌, false, get_or, set};
+ghost use Rattle.cidr.specs.model.BitString.{IsSharedLength};
+ghost use Rattle.cidr.specs.model.Network.{width_of};
+
+use crate::addr::v4::Ipv4Addr;
+use crate::addr::v6::Ipv6Addr;
+use crate::arithmetic::{bit, bit6, shared_len, shared_len6, with_bit, with_bit6};
+use crate::internal_traits::address_bits::AddressBits;
+
+/// The bits of an address one by one, the most significant first.
+pub trait SingleBits: AddressBits {
+    /// Bit `i`.
+    fn bit(self, i: u8) -> bool
+        requires { i < width_of Self.FAMILY }
+        ensures { result ≡ get_or (Self.bits self) i false };
+
+    /// The address whose bit `i` is `b`.
+    fn with_bit(self, i: u8, b: bool) -> Self
+        requires { i < width_of Self.FAMILY }
+        ensures { Self.bits result ≡ set (Self.bits self) i b };
+
+    /// How many bits both begin with.
+    fn shared_len(self, other: Self) -> u8
+        ensures { IsSharedLength (Self.bits self) (Self.bits other) result };
+}
+
+impl SingleBits for Ipv4Addr {
+    fn bit(self, i: u8) -> bool {
+        bit(self.to_bits(), i)
+    }
+
+    #[tactic(auto, using(crate::proofs::SingleBits::single_bit_laws))]
+    fn with_bit(self, i: u8, b: bool) -> Ipv4Addr {
+        Ipv4Addr::from_bits(with_bit(self.to_bits(), i, b))
+    }
+
+    fn shared_len(self, other: Ipv4Addr) -> u8 {
+        shared_len(self.to_bits(), other.to_bits())
+    }
+}
+
+impl SingleBits for Ipv6Addr {
+    fn bit(self, i: u8) -> bool {
+        bit6(self.to_bits(), i)
+    }
+
+    #[tactic(auto, using(crate::proofs::SingleBits::single_bit_laws))]
+    fn with_bit(self, i: u8, b: bool) -> Ipv6Addr {
+        Ipv6Addr::from_bits(with_bit6(self.to_bits(), i, b))
+    }
+
+    fn shared_len(self, other: Ipv6Addr) -> u8 {
+        shared_len6(self.to_bits(), other.to_bits())
+    }
+}
