@@ -28,6 +28,7 @@ pub mod StepNumbers
 pub mod HostNumbers
 pub mod PairNumbers
 pub mod Holding
+pub mod Nesting
 pub mod HostSteps
 pub mod OrderLaws
 pub mod GroupNumbers

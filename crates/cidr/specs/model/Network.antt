@@ -1,7 +1,8 @@
 -- A network is the list of the bits that its addresses begin with (RFC 4632, 3.1), and w is the width of its addresses.
-use Rattle.std.specs.Prelude.{◌≡◌, ℕ, ◌-◌, ◌≤◌, Bool, true, false, List, ◌++◌, length, take, drop, replicate, Result, Ok, Err, nat_lt, if◌then◌else◌}
+use Rattle.std.specs.Prelude.{◌≡◌, ◌≢◌, ℕ, ◌-◌, ◌≤◌, Bool, true, false, List, ◌++◌, length, take, drop, replicate, Result, Ok, Err, nat_lt, if◌then◌else◌}
 use Rattle.std.specs.Hash as fed
-use Rattle.cidr.specs.model.Bits.{number, bit_eq}
+use Rattle.std.specs.declared.cmp.Ordering.TheVariants.{Greater}
+use Rattle.cidr.specs.model.Bits.{number, bit_cmp, bit_eq}
 use Rattle.cidr.specs.declared.family.Family.{Family}
 use Rattle.cidr.specs.declared.family.Family.TheVariants.{Ipv4, Ipv6}
 use Rattle.cidr.specs.declared.errors.NetworkLengthTooLongError.{NetworkLengthTooLongError}
@@ -49,6 +50,14 @@ FitsWidth w network = length network ≤ w
 -- every address of the other network is in this one
 unfoldable pub HoldsAll : (List Bool → Type 0) → List Bool → List Bool → Type 0
 HoldsAll IsAddress network other = (a : List Bool) → IsAddress a → BeginsWith a other → BeginsWith a network
+
+-- no list begins with both, as an address would that is in both networks
+abbrev pub AreApart : List Bool → List Bool → Type 0
+AreApart p q = (a : List Bool) → BeginsWith a p → ¬ (BeginsWith a q)
+
+-- what begins with p comes from p on in the order of bits, and there one after the other
+abbrev pub IsConsecutive : List Bool → List Bool → Type 0
+IsConsecutive p q = (bit_cmp p q ≢ Greater) × ((r : List Bool) → bit_cmp p r ≢ Greater → bit_cmp r q ≢ Greater → BeginsWith r p)
 
 -- the error of a length above the width
 abbrev pub too_long : ℕ → Family → NetworkLengthTooLongError

@@ -1,5 +1,6 @@
 //! What holds of networks and of their texts, each as the contract of a function that does nothing.
-ghost use Rattle.cidr.specs.model.Network.{FitsWidth, IsHashedApart};
+ghost use Rattle.std.specs.Prelude.{Bool, List};
+ghost use Rattle.cidr.specs.model.Network.{BeginsWith, FitsWidth, AreApart, IsConsecutive, IsHashedApart};
 ghost use Rattle.cidr.specs.either.IpNetwork.{network_bits, any_bits, IsIpNetwork, IsAnyNetwork};
 ghost use Rattle.cidr.specs.either.IpText.{IsIpNetworkText, IsAnyNetworkText};
 ghost use Rattle.cidr.specs.either.IpAddress.{IsOrderOfBits, SpellsOne, TellsEqual, TiesEqual};
@@ -47,4 +48,15 @@ pub fn network_text_spells_one()
     ensures ipv6 { SpellsOne (IsNetworkText Ipv6) }
     ensures ip { SpellsOne IsIpNetworkText }
     ensures any { SpellsOne IsAnyNetworkText }
+{}
+
+/// Two networks of which neither contains the other have no address in common.
+pub fn networks_are_nested_or_apart()
+    ensures { (p q : List Bool) → ¬ (BeginsWith q p) → ¬ (BeginsWith p q) → AreApart p q }
+{}
+
+/// The networks inside a network come after it in their order, one after the other: it contains each that lies
+/// between itself and one that it contains.
+pub fn networks_inside_are_consecutive()
+    ensures { (p q : List Bool) → BeginsWith q p → IsConsecutive p q }
 {}
