@@ -8,4 +8,5 @@ pub mod at_ipv6;
 pub mod config_line;
 pub mod host_lengths;
 pub mod network_lengths;
+pub mod prefix_tree;
 pub mod read_back;
