@@ -1,4 +1,4 @@
-//! The errors of networks, hosts and pairs, and of their texts.
+//! The errors of networks, hosts and pairs, of their texts, and of compact bytes.
 ghost use Rattle.std.specs.Prelude.{◌≡◌, ◌≤◌, length, Some};
 ghost use Rattle.cidr.specs.texts.Messages.{limit_message};
 
@@ -233,3 +233,64 @@ impl From<NetworkLengthTooLongError> for InetTupleError {
         InetTupleError::NetworkLengthTooLongError(e)
     }
 }
+
+/// Why bytes are refused as compact bytes.
+///
+/// Reading returns the first of these that applies: no byte at all (`Truncated`), `InvalidTag`, too few octets
+/// (`Truncated`), `InvalidAny`, `InvalidFamily`, `InvalidHostPart`.
+#[derive(Clone, Drop, PartialEq, Eq)]
+pub enum CompactError {
+    /// There is no byte, or there are fewer octets than the tag asks for: `compact bytes end too early`.
+    Truncated,
+    /// The tag is that of no prefix length in either family, and not that of `any`: `invalid tag`.
+    InvalidTag,
+    /// The tag is that of `any`, which only `AnyIpCidr` reads: ``invalid value: `any` ``.
+    InvalidAny,
+    /// The tag is of this family, and the type is of the other one: ``invalid type: `Ipv4Addr` `` or
+    /// ``invalid type: `Ipv6Addr` ``.
+    InvalidFamily(Family),
+    /// A bit after the prefix is set, and the type is a network: `host part of address was not zero`.
+    InvalidHostPart,
+}
+
+impl CompactError {
+    ghost use Rattle.cidr.specs.texts.Messages.{compact_message};
+
+    /// The message, which is what is printed. It has at most 33 bytes.
+    pub fn to_text(&self) -> ArrayString<33>
+        ensures { result.bytes ≡ compact_message self.now }
+    {
+        let mut text = ArrayString::new();
+        text.push_str(match self {
+            CompactError::Truncated => "compact bytes end too early",
+            CompactError::InvalidTag => "invalid tag",
+            CompactError::InvalidAny => "invalid value: `any`",
+            CompactError::InvalidFamily(Family::Ipv4) => "invalid type: `Ipv4Addr`",
+            CompactError::InvalidFamily(Family::Ipv6) => "invalid type: `Ipv6Addr`",
+            CompactError::InvalidHostPart => "host part of address was not zero",
+        });
+        text
+    }
+}
+
+impl fmt::Display for CompactError {
+    ghost use Rattle.cidr.specs.texts.Messages.{compact_message};
+
+    ghost output = { λ e. Some (compact_message e) };
+
+    fn fmt<W: fmt::Write>(&self, f: &mut fmt::Formatter<W>) -> fmt::Result {
+        f.write_str(self.to_text().as_str())
+    }
+}
+
+impl fmt::Debug for CompactError {
+    ghost use Rattle.cidr.specs.texts.Messages.{compact_message};
+
+    ghost debug_output = { λ e. Some (compact_message e) };
+
+    fn fmt<W: fmt::Write>(&self, f: &mut fmt::Formatter<W>) -> fmt::Result {
+        fmt::Display::fmt(self, f)
+    }
+}
+
+impl Error for CompactError {}

@@ -10,6 +10,8 @@ use Rattle.cidr.specs.declared.errors.NetworkParseError.{NetworkParseError}
 use Rattle.cidr.specs.declared.errors.NetworkParseError.TheVariants as parse_error
 use Rattle.cidr.specs.declared.errors.InetTupleError.{InetTupleError}
 use Rattle.cidr.specs.declared.errors.InetTupleError.TheVariants as pair_error
+use Rattle.cidr.specs.declared.errors.CompactError.{CompactError}
+use Rattle.cidr.specs.declared.errors.CompactError.TheVariants as compact_error
 
 -- the error of reading an address, by the type that was asked for
 abbrev pub ipv4_error : AddrParseError
@@ -49,3 +51,15 @@ parse_message (parse_error.NetworkLengthTooLongError e) = codes "invalid length 
 abbrev pub pair_message : InetTupleError → List ℕ
 pair_message pair_error.NotInSharedNetwork = codes "addresses not in shared network"
 pair_message (pair_error.NetworkLengthTooLongError e) = codes "invalid length for network: " ++ too_long_message e
+
+-- the type that another family's address has
+abbrev pub address_type : Family → List ℕ
+address_type Ipv4 = codes "Ipv4Addr"
+address_type Ipv6 = codes "Ipv6Addr"
+
+abbrev pub compact_message : CompactError → List ℕ
+compact_message compact_error.Truncated = codes "compact bytes end too early"
+compact_message compact_error.InvalidTag = codes "invalid tag"
+compact_message compact_error.InvalidAny = codes "invalid value: `any`"
+compact_message (compact_error.InvalidFamily family) = codes "invalid type: `" ++ (address_type family ++ codes "`")
+compact_message compact_error.InvalidHostPart = codes "host part of address was not zero"

@@ -7,7 +7,9 @@ use crate::addr::v4::Ipv4Addr;
 use crate::addr::v6::Ipv6Addr;
 use crate::cidr::any::AnyIpCidr;
 use crate::cidr::combined::IpCidr;
-use crate::errors::{InetTupleError, NetworkLengthTooLongError, NetworkParseError, ParseIntError};
+use crate::errors::{
+    CompactError, InetTupleError, NetworkLengthTooLongError, NetworkParseError, ParseIntError,
+};
 use crate::family::Family;
 use crate::inet::combined::IpInet;
 use crate::inet_pair::combined::IpInetPair;
@@ -35,4 +37,5 @@ pub fn error_clones_are_the_same()
     ensures too_long { ClonesSame ⟦<NetworkLengthTooLongError as Clone>⟧.is_clone }
     ensures network { ClonesSame ⟦<NetworkParseError as Clone>⟧.is_clone }
     ensures pair { ClonesSame ⟦<InetTupleError as Clone>⟧.is_clone }
+    ensures compact { ClonesSame ⟦<CompactError as Clone>⟧.is_clone }
 {}

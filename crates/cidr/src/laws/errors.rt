@@ -2,7 +2,9 @@
 ghost use Rattle.cidr.specs.either.IpAddress.{TellsEqual};
 
 use crate::addr::error::AddrParseError;
-use crate::errors::{InetTupleError, NetworkLengthTooLongError, NetworkParseError, ParseIntError};
+use crate::errors::{
+    CompactError, InetTupleError, NetworkLengthTooLongError, NetworkParseError, ParseIntError,
+};
 
 /// Errors are equal exactly where their kind and their contents are the same.
 pub fn equal_errors_are_the_same()
@@ -11,4 +13,5 @@ pub fn equal_errors_are_the_same()
     ensures too_long { TellsEqual ⟦<NetworkLengthTooLongError as PartialEq>⟧.eq }
     ensures network { TellsEqual ⟦<NetworkParseError as PartialEq>⟧.eq }
     ensures pair { TellsEqual ⟦<InetTupleError as PartialEq>⟧.eq }
+    ensures compact { TellsEqual ⟦<CompactError as PartialEq>⟧.eq }
 {}
