@@ -33,6 +33,9 @@ pub mod HostSteps
 pub mod OrderLaws
 pub mod GroupNumbers
 pub mod GroupParts
+pub mod CompactOctets
+pub mod CompactBytes
+pub mod CompactErrors
 pub mod Ipv6Reading
 pub mod Ipv6Whole
 pub mod Ipv4Printing
@@ -48,6 +51,7 @@ pub mod ShortParsing
 pub mod EitherTexts
 pub mod EitherHolding
 pub mod EitherEqualities
+pub mod CompactEither
 pub mod WalkLaws
 pub mod WalkOrder
 pub mod NetworkWalks

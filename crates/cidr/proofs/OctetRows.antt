@@ -30,7 +30,7 @@ octets_of-number (suc k) n =
 pub sixteen_octets : (n : ℕ) → parts_of 8 16 (bits 128 n) ≡ to_be_bytes w128 n
 sixteen_octets n = octets_of-number 16 n
 
-octets_fit : (octets : List ℕ) → ((i : ℕ) → get_or octets i 0 < 256) → FitAll 8 octets
+pub octets_fit : (octets : List ℕ) → ((i : ℕ) → get_or octets i 0 < 256) → FitAll 8 octets
 octets_fit [] h = tt
 octets_fit (o ∷ octets) h = (h 0, octets_fit octets (λ i. h (suc i)))
 

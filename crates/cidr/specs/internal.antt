@@ -1,3 +1,4 @@
 -- What private functions promise each other.
 pub mod Reading
 pub mod Joined
+pub mod Fronts

@@ -131,6 +131,7 @@ mod addr;
 mod arithmetic;
 mod bits;
 mod cidr;
+mod compact;
 pub mod errors;
 mod family;
 mod inet;

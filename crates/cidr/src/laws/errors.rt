@@ -1,5 +1,7 @@
 //! What holds of errors, each as the contract of a function that does nothing.
 ghost use Rattle.cidr.specs.either.IpAddress.{TellsEqual};
+ghost use Rattle.cidr.specs.bytes.CompactRefusal.{Only, Both, HasOneError, IsNetworkBytesRefused, IsHostBytesRefused, IsAnyBytesRefused};
+ghost use Rattle.cidr.specs.declared.family.Family.TheVariants.{Ipv4, Ipv6};
 
 use crate::addr::error::AddrParseError;
 use crate::errors::{
@@ -14,4 +16,15 @@ pub fn equal_errors_are_the_same()
     ensures network { TellsEqual ⟦<NetworkParseError as PartialEq>⟧.eq }
     ensures pair { TellsEqual ⟦<InetTupleError as PartialEq>⟧.eq }
     ensures compact { TellsEqual ⟦<CompactError as PartialEq>⟧.eq }
+{}
+
+/// Bytes that are refused as compact bytes have one error, of each type.
+pub fn compact_bytes_have_one_error()
+    ensures ipv4 { HasOneError (IsNetworkBytesRefused (Only Ipv4)) }
+    ensures ipv6 { HasOneError (IsNetworkBytesRefused (Only Ipv6)) }
+    ensures ip { HasOneError (IsNetworkBytesRefused Both) }
+    ensures any { HasOneError IsAnyBytesRefused }
+    ensures ipv4_host { HasOneError (IsHostBytesRefused (Only Ipv4)) }
+    ensures ipv6_host { HasOneError (IsHostBytesRefused (Only Ipv6)) }
+    ensures ip_host { HasOneError (IsHostBytesRefused Both) }
 {}

@@ -1,0 +1,13 @@
+-- The octets that come first are those of the address.
+use Rattle.std.proofs.Common.{ℕ, ◌<◌, get_or, sym, ap, ◌∙◌, subst, rules}
+use Rattle.cidr.specs.model.Address.{octet_bits}
+use Rattle.cidr.specs.internal.Fronts.{HasOctets}
+use Rattle.cidr.specs.declared.family.Family.TheVariants.{Ipv6}
+use Rattle.cidr.proofs.CompactOctets.{first_octets}
+use Rattle.cidr.proofs.compact.octets.Ipv6AddrAddressOctets.take_octets.Goals as goal
+
+pub returns-in-Some : goal.returns-in-Some
+returns-in-Some c =
+    let octets = c.args.octets.now in
+    let fit : (i : ℕ) → get_or octets i 0 < 256 = λ i. search rules in
+    subst (HasOctets Ipv6 octets) (sym (c.from.ensures ∙ ap octet_bits c.in-Some.ensures.cases.0)) (first_octets Ipv6 octets (search rules) fit)

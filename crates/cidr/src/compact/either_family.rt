@@ -1,0 +1,139 @@
+//! Compact bytes of the networks and hosts of either family, and of `any`.
+ghost use Rattle.std.specs.Prelude.{◌≡◌, ◌≤◌, [], ◌∷◌, length};
+ghost use Rattle.cidr.specs.bytes.Compact.{any_tag, ip_network_bytes, ip_host_bytes, any_network_bytes, StandsAlone, ReadsCompact};
+ghost use Rattle.cidr.specs.bytes.CompactRefusal.{Both, IsNetworkBytesRefused, IsHostBytesRefused, IsAnyBytesRefused};
+ghost use Rattle.cidr.specs.either.IpNetwork.{IsIpNetwork, IsAnyNetwork};
+ghost use Rattle.cidr.specs.either.IpHost.{IsIpHost};
+
+use crate::cidr::any::AnyIpCidr;
+use crate::cidr::combined::IpCidr;
+use crate::cidr::network::{Ipv4Cidr, Ipv6Cidr};
+use crate::compact::{Front, read_front};
+use crate::errors::CompactError;
+use crate::inet::combined::IpInet;
+use crate::inet::host::{Ipv4Inet, Ipv6Inet};
+use arrayvec::ArrayVec;
+
+impl IpCidr {
+    /// The compact bytes, as the network of its family has them.
+    ///
+    /// No other network's bytes begin with them, in either family.
+    pub fn to_compact(&self) -> ArrayVec<u8, 17>
+        ensures bytes { result.items ≡ ip_network_bytes self.now }
+        ensures len { length result.items ≤ 17 }
+        ensures alone { StandsAlone IsIpNetwork ip_network_bytes self.now }
+    {
+        match self {
+            IpCidr::V4(network) => network.to_compact(),
+            IpCidr::V6(network) => network.to_compact(),
+        }
+    }
+
+    /// The network whose compact bytes come first, and how many they are. Bytes after them are left alone.
+    ///
+    /// Where no network's bytes come first, it returns the first error of: no byte (`Truncated`), `InvalidTag`, too
+    /// few octets (`Truncated`), `InvalidAny`, `InvalidHostPart`.
+    pub fn from_compact(bytes: &[u8]) -> Result<(IpCidr, usize), CompactError>
+        ensures { ReadsCompact IsIpNetwork ip_network_bytes (IsNetworkBytesRefused Both) bytes.now result }
+    {
+        let (value, used) = match AnyIpCidr::from_compact(bytes) {
+            Ok(read) => read,
+            Err(e) => return Err(e),
+        };
+        match value {
+            AnyIpCidr::Any => Err(CompactError::InvalidAny),
+            AnyIpCidr::V4(network) => Ok((IpCidr::V4(network), used)),
+            AnyIpCidr::V6(network) => Ok((IpCidr::V6(network), used)),
+        }
+    }
+}
+
+impl IpInet {
+    /// The compact bytes, as the host of its family has them.
+    ///
+    /// No other host's bytes begin with them, in either family.
+    pub fn to_compact(&self) -> ArrayVec<u8, 17>
+        ensures bytes { result.items ≡ ip_host_bytes self.now }
+        ensures len { length result.items ≤ 17 }
+        ensures alone { StandsAlone IsIpHost ip_host_bytes self.now }
+    {
+        match self {
+            IpInet::V4(host) => host.to_compact(),
+            IpInet::V6(host) => host.to_compact(),
+        }
+    }
+
+    /// The host whose compact bytes come first, and how many they are. Bytes after them are left alone.
+    ///
+    /// Where no host's bytes come first, it returns the first error of: no byte (`Truncated`), `InvalidTag`, too few
+    /// octets (`Truncated`), `InvalidAny`.
+    pub fn from_compact(bytes: &[u8]) -> Result<(IpInet, usize), CompactError>
+        ensures { ReadsCompact IsIpHost ip_host_bytes (IsHostBytesRefused Both) bytes.now result }
+    {
+        let front = match read_front(bytes) {
+            Ok(front) => front,
+            Err(e) => return Err(e),
+        };
+        match front {
+            Front::Any => Err(CompactError::InvalidAny),
+            Front::V4(address, len) => {
+                let host = Ipv4Inet::new_unchecked(address, len);
+                Ok((IpInet::V4(host), 5))
+            }
+            Front::V6(address, len) => {
+                let host = Ipv6Inet::new_unchecked(address, len);
+                Ok((IpInet::V6(host), 17))
+            }
+        }
+    }
+}
+
+impl AnyIpCidr {
+    /// The compact bytes: 0xff alone for `Any`, and else those of the network.
+    ///
+    /// No other value's bytes begin with them, in either family.
+    pub fn to_compact(&self) -> ArrayVec<u8, 17>
+        ensures bytes { result.items ≡ any_network_bytes self.now }
+        ensures len { length result.items ≤ 17 }
+        ensures alone { StandsAlone IsAnyNetwork any_network_bytes self.now }
+    {
+        match self {
+            AnyIpCidr::Any => any_bytes(),
+            AnyIpCidr::V4(network) => network.to_compact(),
+            AnyIpCidr::V6(network) => network.to_compact(),
+        }
+    }
+
+    /// The value whose compact bytes come first, and how many they are. Bytes after them are left alone.
+    ///
+    /// Where no value's bytes come first, it returns the first error of: no byte (`Truncated`), `InvalidTag`, too few
+    /// octets (`Truncated`), `InvalidHostPart`.
+    pub fn from_compact(bytes: &[u8]) -> Result<(AnyIpCidr, usize), CompactError>
+        ensures { ReadsCompact IsAnyNetwork any_network_bytes IsAnyBytesRefused bytes.now result }
+    {
+        let front = match read_front(bytes) {
+            Ok(front) => front,
+            Err(e) => return Err(e),
+        };
+        match front {
+            Front::Any => Ok((AnyIpCidr::Any, 1)),
+            Front::V4(address, len) => match Ipv4Cidr::new(address, len) {
+                Ok(network) => Ok((AnyIpCidr::V4(network), 5)),
+                Err(_) => Err(CompactError::InvalidHostPart),
+            },
+            Front::V6(address, len) => match Ipv6Cidr::new(address, len) {
+                Ok(network) => Ok((AnyIpCidr::V6(network), 17)),
+                Err(_) => Err(CompactError::InvalidHostPart),
+            },
+        }
+    }
+}
+
+/// The bytes of `any`.
+fn any_bytes() -> ArrayVec<u8, 17>
+    ensures { result.items ≡ any_tag ∷ [] }
+{
+    let mut bytes = ArrayVec::new();
+    bytes.push(0xff);
+    bytes
+}
