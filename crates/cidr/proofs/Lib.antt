@@ -52,6 +52,7 @@ pub mod EitherTexts
 pub mod EitherHolding
 pub mod EitherEqualities
 pub mod CompactEither
+pub mod Agreeing
 pub mod WalkLaws
 pub mod WalkOrder
 pub mod NetworkWalks

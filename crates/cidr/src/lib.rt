@@ -130,6 +130,7 @@
 mod addr;
 mod arithmetic;
 mod bits;
+pub mod canon;
 mod cidr;
 mod compact;
 pub mod errors;
