@@ -16,8 +16,8 @@
 //!
 //! `InetIterator` and `InetAddressIterator` are the walks over the addresses of a network or a pair. The traits
 //! `Address`, `Cidr`, `Inet` and `InetPair` are for code that is written once over all families. `errors` has the
-//! errors, `parsers` reads texts in other forms than the types themselves do, and `laws` has laws for the proofs of
-//! callers.
+//! errors, `parsers` reads texts in other forms than the types themselves do, `canon` compares networks in five ways at
+//! once, and `laws` has laws for the proofs of callers.
 //!
 //! # Addresses
 //!
@@ -107,6 +107,19 @@
 //! parse_short_ipv4_address_as_cidr("192.168")   // Ok(192.168.0.0/16)
 //! ```
 //!
+//! # Compact bytes
+//!
+//! ```
+//! let network = "192.0.2.0/24".parse::<Ipv4Cidr>()?;
+//! network.to_compact()                    // 0x18, 0xc0, 0x00, 0x02, 0x00: the tag and the octets
+//! Ipv4Cidr::from_compact(&[8, 10, 0, 0, 0, 99])   // Ok((10.0.0.0/8, 5)): the last byte is left alone
+//! AnyIpCidr::from_compact(&[0xff])        // Ok((any, 1))
+//! Ipv4Cidr::from_compact(&[24, 192, 0])   // Err(Truncated)
+//! ```
+//!
+//! A tag of 0x00 to 0x20 is an IPv4 prefix length, one of 0x40 to 0xc0 an IPv6 prefix length and 0x40, and 0xff is
+//! `any`. No value's bytes begin with those of another value of its type.
+//!
 //! # What is refused
 //!
 //! Reading the text of a network returns the first of these errors, which the contracts state in this order:
@@ -121,6 +134,9 @@
 //! the family that has the address. `new` of a network returns the errors 3 and 4, in this order, and `new` of a
 //! host returns error 3. A pair from addresses is refused for two families, then for error 3, then where the
 //! prefixes differ; a pair of hosts for two families, two prefix lengths or two networks.
+//!
+//! Reading compact bytes returns the first of these errors: no byte (`Truncated`), `InvalidTag`, too few octets
+//! (`Truncated`), `InvalidAny`, `InvalidFamily`, `InvalidHostPart`. The last is of networks alone.
 //!
 //! These calls have a condition on their caller: `+` and `-` on hosts, whose step has to stay in the network;
 //! `drive`, whose two slices have to be of one length; `get`, `set` and `flip` of a bit, whose index has to be below
