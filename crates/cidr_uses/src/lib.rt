@@ -5,6 +5,7 @@ pub mod access_list;
 pub mod address_pool;
 pub mod at_ipv4;
 pub mod at_ipv6;
+pub mod compact;
 pub mod config_line;
 pub mod host_lengths;
 pub mod network_lengths;
