@@ -80,7 +80,8 @@ module _ {N : Type 0} (Holds : N → List Bool → Type 0) (text bytes : N → L
       not_true false n = refl
 
 -- ---- address sets
-holds_both : (IsAddress : List Bool → Type 0) (p q : List Bool) → SameAddresses (λ a. IsAddress a × BeginsWith a p) (λ a. IsAddress a × BeginsWith a q) → HoldsAll IsAddress p q × HoldsAll IsAddress q p
+holds_both : (IsAddress : List Bool → Type 0) (p q : List Bool) → SameAddresses (λ a. IsAddress a × BeginsWith a p) (λ a. IsAddress a × BeginsWith a q)
+    → HoldsAll IsAddress p q × HoldsAll IsAddress q p
 unfolding HoldsAll
 holds_both IsAddress p q s = (λ a is begins. ((s a).1 (is, begins)).1, λ a is begins. ((s a).0 (is, begins)).1)
 

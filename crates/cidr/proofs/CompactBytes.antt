@@ -39,7 +39,8 @@ octets_tell k a b r s la lb h =
     let front : parts_of 8 k a ≡ parts_of 8 k b = sym (take_at (parts_of 8 k a) r k (length-parts_of 8 k a)) ∙ ap (take k) h ∙ take_at (parts_of 8 k b) s k (length-parts_of 8 k b) in
     sym (flat_map-parts_of 8 k a la) ∙ ap (flat_map (bits 8)) front ∙ flat_map-parts_of 8 k b lb
 
-host_tag : (f : Family) (input : List ℕ) (a : Host) (tag : ℕ) (rest : List ℕ) → HasHost f input a → input ≡ tag ∷ rest → (tag ≡ tag_of f a.len) × (length rest ≡ octet_count f + length (drop (octet_count f) rest))
+host_tag : (f : Family) (input : List ℕ) (a : Host) (tag : ℕ) (rest : List ℕ) → HasHost f input a → input ≡ tag ∷ rest
+    → (tag ≡ tag_of f a.len) × (length rest ≡ octet_count f + length (drop (octet_count f) rest))
 host_tag f input a tag rest (is, more, e) s =
     let parts = heads tag (tag_of f a.len) rest (parts_of 8 (octet_count f) a.address ++ more) (sym s ∙ e) in
     let size = length-parts_of 8 (octet_count f) a.address in

@@ -5,9 +5,15 @@ use Rattle.cidr.proofs.canon.agree.Goals as goal
 pub returns-clause-all : goal.returns-clause-all
 returns-clause-all g c =
     let n = g.N.Canonical in
-    agree_all n.holds n.text n.bytes g.N.Ord.cmp n.is_network g.met.N.Ord.total c.known.ensures.tells c.args.a.now c.args.b.now c.known.ensures.network c.known-2.ensures.network c.is_eq.result (rw c.cmp.ensures at c.is_eq.ensures)
+    let a = c.args.a.now in
+    let b = c.args.b.now in
+    let test = rw c.cmp.ensures at c.is_eq.ensures in
+    agree_all n.holds n.text n.bytes g.N.Ord.cmp n.is_network g.met.N.Ord.total c.known.ensures.tells a b c.known.ensures.network c.known-2.ensures.network c.is_eq.result test
 
 pub returns-clause-none : goal.returns-clause-none
 returns-clause-none g c =
     let n = g.N.Canonical in
-    agree_none n.holds n.text n.bytes g.N.Ord.cmp n.is_network g.met.N.Ord.total c.known.ensures.tells c.args.a.now c.args.b.now c.known.ensures.network c.known-2.ensures.network c.is_eq.result (rw c.cmp.ensures at c.is_eq.ensures)
+    let a = c.args.a.now in
+    let b = c.args.b.now in
+    let test = rw c.cmp.ensures at c.is_eq.ensures in
+    agree_none n.holds n.text n.bytes g.N.Ord.cmp n.is_network g.met.N.Ord.total c.known.ensures.tells a b c.known.ensures.network c.known-2.ensures.network c.is_eq.result test

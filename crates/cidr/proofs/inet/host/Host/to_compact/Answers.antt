@@ -11,4 +11,6 @@ use Rattle.cidr.proofs.inet.host.Host.to_compact.Goals as goal
 pub returns-clause-alone : goal.returns-clause-alone
 returns-clause-alone g c =
     let f = g.A.AddressBits.FAMILY in
-    stands_alone (IsHost (width_of f)) (host_bytes f) (IsHostBytesRefused (Only f)) (host_code f) c.args.self.now (ap length (sym c.address.ensures.value) ∙ c.address.ensures.width, rw c.network_length.ensures.value at c.network_length.ensures.fits)
+    let width = ap length (sym c.address.ensures.value) ∙ c.address.ensures.width in
+    let fits = rw c.network_length.ensures.value at c.network_length.ensures.fits in
+    stands_alone (IsHost (width_of f)) (host_bytes f) (IsHostBytesRefused (Only f)) (host_code f) c.args.self.now (width, fits)
