@@ -2,4 +2,5 @@
 pub mod ReadBack
 pub mod Pools
 pub mod ConfigLines
+pub mod Agreements
 pub mod Fronts

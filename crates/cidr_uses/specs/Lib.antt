@@ -2,3 +2,4 @@
 pub mod AccessList
 pub mod AddressPool
 pub mod ConfigLine
+pub mod Consequences

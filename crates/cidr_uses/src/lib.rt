@@ -7,6 +7,7 @@ pub mod at_ipv4;
 pub mod at_ipv6;
 pub mod compact;
 pub mod config_line;
+pub mod consequences;
 pub mod host_lengths;
 pub mod network_lengths;
 pub mod prefix_tree;
