@@ -5,8 +5,8 @@ use Rattle.cidr.specs.model.Host.{host_of}
 use Rattle.cidr.specs.model.Network.{width_of}
 use Rattle.cidr.specs.bytes.Compact.{octet_count}
 use Rattle.cidr.specs.bytes.CompactRefusal.{HasHost, HasAny, Only, IsNetworkBytesRefused, IsHostBytesRefused}
-use Rattle.cidr.specs.declared.compact.Front.{Front}
-use Rattle.cidr.specs.declared.compact.Front.TheVariants.{Any, V4, V6}
+use Rattle.cidr.specs.declared.compact.front.Front.{Front}
+use Rattle.cidr.specs.declared.compact.front.Front.TheVariants.{Any, V4, V6}
 use Rattle.cidr.specs.declared.errors.CompactError.{CompactError}
 use Rattle.cidr.specs.declared.errors.CompactError.TheVariants as compact_error
 use Rattle.cidr.specs.declared.family.Family.{Family}

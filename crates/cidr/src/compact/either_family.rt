@@ -8,7 +8,7 @@ ghost use Rattle.cidr.specs.either.IpHost.{IsIpHost};
 use crate::cidr::any::AnyIpCidr;
 use crate::cidr::combined::IpCidr;
 use crate::cidr::network::{Ipv4Cidr, Ipv6Cidr};
-use crate::compact::{Front, read_front};
+use crate::compact::front::{Front, read_front};
 use crate::errors::CompactError;
 use crate::inet::combined::IpInet;
 use crate::inet::host::{Ipv4Inet, Ipv6Inet};

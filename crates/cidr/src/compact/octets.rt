@@ -1,14 +1,14 @@
-//! The octets of an address and the tags of its family.
-ghost use Rattle.std.specs.Prelude.{◌≡◌, ◌≤◌, option_map};
+//! The compact bytes of an address with a prefix length.
+ghost use Rattle.std.specs.Prelude.{◌≡◌, ◌≤◌};
 ghost use Rattle.cidr.specs.bytes.Compact.{host_bytes};
-ghost use Rattle.cidr.specs.internal.Fronts.{TakesOctets, TakesHost};
+ghost use Rattle.cidr.specs.internal.Fronts.{TakesHost};
 ghost use Rattle.cidr.specs.model.Host.{host_of};
 ghost use Rattle.cidr.specs.model.Network.{width_of};
 ghost use Rattle.cidr.specs.model.Views.{seen};
 
 use crate::addr::v4::Ipv4Addr;
 use crate::addr::v6::Ipv6Addr;
-use crate::compact::{Front, read_front};
+use crate::compact::front::{Front, read_front};
 use crate::errors::CompactError;
 use crate::family::Family;
 use crate::internal_traits::address_bits::AddressBits;
@@ -21,10 +21,6 @@ pub trait AddressOctets: AddressBits {
         requires { len ≤ width_of Self.FAMILY }
         ensures { result.items ≡ host_bytes Self.FAMILY (host_of (Self.bits self) len) };
 
-    /// The address whose octets come first, if there are enough of them.
-    fn take_octets(octets: &[u8]) -> Option<Self>
-        ensures { TakesOctets Self.FAMILY octets.now (option_map Self.bits result) };
-
     /// The address and the prefix length that compact bytes begin with, if they are of this family.
     fn take_compact(bytes: &[u8]) -> Result<(Self, u8), CompactError>
         ensures { TakesHost Self.FAMILY bytes.now (seen (λ p. (Self.bits p.0, p.1)) result) };
@@ -36,13 +32,6 @@ impl AddressOctets for Ipv4Addr {
         let mut bytes = ArrayVec::from([len, a, b, c, d, 0, 0, 0, 0, 0, 0, 0, 0, 0, 0, 0, 0]);
         bytes.truncate(5);
         bytes
-    }
-
-    fn take_octets(octets: &[u8]) -> Option<Ipv4Addr> {
-        match octets.split_first_chunk::<4>() {
-            Some((first, _)) => Some(Ipv4Addr::from(*first)),
-            None => None,
-        }
     }
 
     fn take_compact(bytes: &[u8]) -> Result<(Ipv4Addr, u8), CompactError> {
@@ -58,13 +47,6 @@ impl AddressOctets for Ipv6Addr {
     fn compact(self, len: u8) -> ArrayVec<u8, 17> {
         let [a, b, c, d, e, f, g, h, i, j, k, l, m, n, o, p] = self.octets();
         ArrayVec::from([0x40 + len, a, b, c, d, e, f, g, h, i, j, k, l, m, n, o, p])
-    }
-
-    fn take_octets(octets: &[u8]) -> Option<Ipv6Addr> {
-        match octets.split_first_chunk::<16>() {
-            Some((first, _)) => Some(Ipv6Addr::from(*first)),
-            None => None,
-        }
     }
 
     fn take_compact(bytes: &[u8]) -> Result<(Ipv6Addr, u8), CompactError> {

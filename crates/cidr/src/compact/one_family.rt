@@ -6,7 +6,7 @@ ghost use Rattle.cidr.specs.model.Network.{width_of, FitsWidth};
 ghost use Rattle.cidr.specs.model.Host.{IsHost};
 
 use crate::cidr::network::Network;
-use crate::compact::bytes_used;
+use crate::compact::front::bytes_used;
 use crate::compact::octets::AddressOctets;
 use crate::errors::CompactError;
 use crate::inet::host::Host;

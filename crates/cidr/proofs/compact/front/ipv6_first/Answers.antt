@@ -4,7 +4,7 @@ use Rattle.cidr.specs.model.Address.{octet_bits}
 use Rattle.cidr.specs.internal.Fronts.{HasOctets}
 use Rattle.cidr.specs.declared.family.Family.TheVariants.{Ipv6}
 use Rattle.cidr.proofs.CompactOctets.{first_octets}
-use Rattle.cidr.proofs.compact.octets.Ipv6AddrAddressOctets.take_octets.Goals as goal
+use Rattle.cidr.proofs.compact.front.ipv6_first.Goals as goal
 
 pub returns-in-Some : goal.returns-in-Some
 returns-in-Some c =
