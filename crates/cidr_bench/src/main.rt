@@ -6,6 +6,7 @@
 #![tactic(auto)]
 
 mod bench;
+mod compact;
 mod containing;
 mod idle;
 mod loose;
@@ -40,6 +41,7 @@ fn main(rt: HostRuntime) -> io::Result<()> {
     reading::compare_all(&bench)?;
     loose::compare_all(&bench)?;
     printing::compare_all(&bench)?;
+    compact::compare_all(&bench)?;
     idle::compare_all(&bench)?;
     containing::compare_all(&bench)?;
     ordering::compare_all(&bench)?;
