@@ -5,6 +5,7 @@
 
 mod addresses;
 mod answer;
+mod bits;
 mod conversions;
 mod families;
 mod faults;

@@ -3,7 +3,9 @@
 use crate::answer::Answer;
 use crate::line_error::{LineError, Outcome};
 use crate::tokens::Tokens;
-use crate::{addresses, conversions, families, faults, hosts, networks, pairs, parsers, walks};
+use crate::{
+    addresses, bits, conversions, families, faults, hosts, networks, pairs, parsers, walks,
+};
 use std::alloc::{AllocError, Global};
 use std::str;
 
@@ -66,6 +68,8 @@ fn answer_operation(
         "walk" => walks::answer(name, tokens, answer),
         "fault" => faults::answer(name, tokens, answer),
         "parse" => parsers::answer(name, tokens, answer),
+        "bits" => bits::answer(name, tokens, answer),
+        "hostbits" => bits::answer_hosts(name, tokens, answer),
         "convert" if name.is_empty() => conversions::answer(tokens, answer),
         _ => Err(other_operation(section)),
     }
@@ -74,16 +78,8 @@ fn answer_operation(
 /// Whether a section that nothing answers is one of the format.
 fn other_operation(section: &str) -> LineError {
     match section {
-        "bits"
-        | "hostbits"
-        | "compact"
-        | "hostcompact"
-        | "agree"
-        | "prefix"
-        | "table"
-        | "load"
-        | "cover"
-        | "tool" => LineError::Unsupported,
+        "compact" | "hostcompact" | "agree" | "prefix" | "table" | "load" | "cover" | "tool" =>
+            LineError::Unsupported,
         _ => LineError::Malformed,
     }
 }

@@ -111,6 +111,15 @@ impl<'a> Tokens<'a> {
         }
     }
 
+    /// A truth value.
+    pub fn truth(&mut self) -> Result<bool, LineError> {
+        match self.word()? {
+            "true" => Ok(true),
+            "false" => Ok(false),
+            _ => Err(LineError::Malformed),
+        }
+    }
+
     /// Eight groups of an IPv6 address, in decimal.
     pub fn groups(&mut self) -> Result<[u16; 8], LineError> {
         let mut groups = [0u16; 8];

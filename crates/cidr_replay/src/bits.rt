@@ -1,0 +1,108 @@
+//! Operations on networks and hosts as strings of bits.
+ghost use Rattle.std.specs.Prelude.{◌<◌, length, IsTrue, IfOk};
+
+use crate::answer::Answer;
+use crate::line_error::{LineError, Outcome};
+use crate::tokens::{Kind, Tokens};
+use crate::values::Value;
+use cidr::errors::NetworkParseError;
+use cidr::{AnyIpCidr, BitString, Ipv4Cidr, Ipv4Inet, Ipv6Cidr, Ipv6Inet};
+use std::str::FromStr;
+
+mod room;
+
+/// The strings of bits of which there are operations.
+pub trait Bits: BitString + FromStr<Err = NetworkParseError> + Value {
+    /// Whether one more bit can be appended.
+    fn has_room(&self) -> bool
+        ensures { IsTrue result → Self.BitString.HasRoom self.now };
+}
+
+/// Answers the operation on the bits of networks that has this name.
+pub fn answer(name: &str, tokens: &mut Tokens<'_>, answer: &mut Answer) -> Outcome {
+    match tokens.kind()? {
+        Kind::V4 => answer_each::<Ipv4Cidr>(name, tokens, answer),
+        Kind::V6 => answer_each::<Ipv6Cidr>(name, tokens, answer),
+        Kind::Any => answer_each::<AnyIpCidr>(name, tokens, answer),
+        Kind::Ip => Err(LineError::Malformed),
+    }
+}
+
+/// Answers the operation on the bits of hosts that has this name.
+pub fn answer_hosts(name: &str, tokens: &mut Tokens<'_>, answer: &mut Answer) -> Outcome {
+    match tokens.kind()? {
+        Kind::V4 => answer_each::<Ipv4Inet>(name, tokens, answer),
+        Kind::V6 => answer_each::<Ipv6Inet>(name, tokens, answer),
+        Kind::Ip | Kind::Any => Err(LineError::Malformed),
+    }
+}
+
+/// The operations of every type.
+fn answer_each<B: Bits>(name: &str, tokens: &mut Tokens<'_>, answer: &mut Answer) -> Outcome {
+    match name {
+        "len" => answer.value(&tokens.value::<B>()?.len()),
+        "get" => get::<B>(tokens, answer),
+        "set" => set::<B>(tokens, answer),
+        "flip" => flip::<B>(tokens, answer),
+        "clip" => clip::<B>(tokens, answer),
+        "append" => append::<B>(tokens, answer),
+        "null" => answer.value(&B::null()),
+        "shared_prefix_len" => shared_prefix_len::<B>(tokens, answer),
+        _ => Err(LineError::Malformed),
+    }
+}
+
+/// Which bit of the string is meant; one that it does not have is none of the format.
+fn index<B: Bits>(bits: &B, tokens: &mut Tokens<'_>) -> Result<usize, LineError>
+    ensures { IfOk result (λ i. i < length (B.BitString.bits bits.now)) }
+{
+    let i = tokens.number::<usize>()?;
+    if i < bits.len() {
+        Ok(i)
+    } else {
+        Err(LineError::Malformed)
+    }
+}
+
+fn get<B: Bits>(tokens: &mut Tokens<'_>, answer: &mut Answer) -> Outcome {
+    let bits = tokens.value::<B>()?;
+    let i = index(&bits, tokens)?;
+    answer.display(&bits.get(i))
+}
+
+fn set<B: Bits>(tokens: &mut Tokens<'_>, answer: &mut Answer) -> Outcome {
+    let mut bits = tokens.value::<B>()?;
+    let i = index(&bits, tokens)?;
+    bits.set(i, tokens.truth()?);
+    answer.value(&bits)
+}
+
+fn flip<B: Bits>(tokens: &mut Tokens<'_>, answer: &mut Answer) -> Outcome {
+    let mut bits = tokens.value::<B>()?;
+    let i = index(&bits, tokens)?;
+    bits.flip(i);
+    answer.value(&bits)
+}
+
+fn clip<B: Bits>(tokens: &mut Tokens<'_>, answer: &mut Answer) -> Outcome {
+    let mut bits = tokens.value::<B>()?;
+    bits.clip(tokens.number()?);
+    answer.value(&bits)
+}
+
+/// Appends a bit; to a full string is none of the format.
+fn append<B: Bits>(tokens: &mut Tokens<'_>, answer: &mut Answer) -> Outcome {
+    let mut bits = tokens.value::<B>()?;
+    let bit = tokens.truth()?;
+    if !bits.has_room() {
+        return Err(LineError::Malformed);
+    }
+    bits.append(bit);
+    answer.value(&bits)
+}
+
+fn shared_prefix_len<B: Bits>(tokens: &mut Tokens<'_>, answer: &mut Answer) -> Outcome {
+    let one = tokens.value::<B>()?;
+    let other = tokens.value::<B>()?;
+    answer.value(&one.shared_prefix_len(&other))
+}
