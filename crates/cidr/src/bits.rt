@@ -34,12 +34,16 @@ pub trait BitString {
     /// The other bits stay, but for the family bit of `AnyIpCidr`: setting that leaves no more than the family.
     fn set(&mut self, i: usize, b: bool)
         requires { i < length (bits self.old) }
-        ensures { take (i + 1) (bits self.new) ≡ take i (bits self.old) ++ b ∷ [] };
+        ensures bits { take (i + 1) (bits self.new) ≡ take i (bits self.old) ++ b ∷ [] }
+        ensures len { length (bits self.new) ≤ length (bits self.old) }
+        ensures room { HasRoom self.old → HasRoom self.new };
 
     /// Inverts bit `i`. Its condition is that `i` is below the length.
     fn flip(&mut self, i: usize)
         requires { i < length (bits self.old) }
-        ensures { take (i + 1) (bits self.new) ≡ take i (bits self.old) ++ inverted i (bits self.old) ∷ [] };
+        ensures bits { take (i + 1) (bits self.new) ≡ take i (bits self.old) ++ inverted i (bits self.old) ∷ [] }
+        ensures len { length (bits self.new) ≤ length (bits self.old) }
+        ensures room { HasRoom self.old → HasRoom self.new };
 
     /// Leaves the first `k` bits: 192.168.0.0/16 becomes 192.0.0.0/2 at 2. A shorter string stays as it is.
     fn clip(&mut self, k: usize)
