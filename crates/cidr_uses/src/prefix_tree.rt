@@ -1,5 +1,5 @@
 //! Networks as the places of a tree of prefixes, over the traits of bit strings alone.
-ghost use Rattle.std.specs.Prelude.{◌≡◌, ◌↔◌, ◌-◌, ◌++◌, ◌∷◌, [], IsTrue, MatchOption, length, take};
+ghost use Rattle.std.specs.Prelude.{◌≡◌, ◌↔◌, ◌-◌, ◌++◌, ◌∷◌, [], IsTrue, MatchOption, false, length, take, true};
 ghost use Rattle.cidr.specs.model.BitString.{inverted};
 ghost use Rattle.cidr.specs.model.Network.{BeginsWith};
 
@@ -28,11 +28,21 @@ pub fn sibling<C: NetworkBits + Copy>(network: C) -> Option<C>
     if len == 0 {
         return None;
     }
-    let last = network.get(len - 1);
     let mut other = network;
-    other.clip(len - 1);
-    other.append(!last);
+    other.flip(len - 1);
     Some(other)
+}
+
+/// Both halves of a network that is no single address: of 10.0.0.0/8 they are 10.0.0.0/9 and 10.128.0.0/9.
+pub fn halves<C: NetworkBits + Copy>(network: C) -> (C, C)
+    requires { C.HasRoom network }
+    ensures lower { C.bits result.0 ≡ C.bits network ++ false ∷ [] }
+    ensures upper { C.bits result.1 ≡ C.bits network ++ true ∷ [] }
+{
+    let (mut lower, mut upper) = (network, network);
+    lower.append(false);
+    upper.append(true);
+    (lower, upper)
 }
 
 /// Whether the bits of the outer network begin those of the inner one.

@@ -13,5 +13,5 @@ returns c =
       one_spelled = c.in-Ok.ensures.value;
       other_spelled = c.in-Ok-parse.ensures.value;
       exactly = rw c.eq.ensures (texts_tell _ _ _ _ c.in-Ok.network c.in-Ok-parse.network c.agree-same.result
-        c.agree-same.ensures.all c.agree-same.ensures.none c.as_str.result.now c.as_str-2.result.now here there);
+          c.agree-same.ensures.all c.agree-same.ensures.none c.as_str.result.now c.as_str-2.result.now here there);
     }

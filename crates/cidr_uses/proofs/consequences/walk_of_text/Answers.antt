@@ -11,5 +11,5 @@ returns-in-Ok c =
       network = c.in-Ok.network;
       spelled = c.in-Ok.ensures.value;
       exactly = walk_of_network Ipv4 c.in-Ok.network c.addresses.result (c.addresses.ensures ∙ ap addresses_of c.iter.ensures.walk)
-        c.iter.ensures.exactly;
+          c.iter.ensures.exactly;
     }
