@@ -43,6 +43,7 @@ rows() {
     run 0 $'less\n' '' cmp 192.0.2.0/24 192.0.2.0/25
     run 0 $'192.0.2.48\n192.0.2.49\nnone\n' '' walk 192.0.2.48/31 fff
     run 0 '' '' walk 10.0.0.0/8 ''
+    run 0 $'18c0000200\n' '' bytes 192.0.2.0/24
     run 0 $'10.0.1.2\n' '' loose 0xA000102
     run 1 '' "$host_part" show 10.0.0.1/8
     run 1 '' "$too_long" show ::/129

@@ -1,11 +1,14 @@
 -- What the program answers to its arguments.
-use Rattle.std.specs.Prelude.{◌≡◌, ℕ, List, [], ◌∷◌, ◌++◌, length, codes, decimal, Result, Err, ◌⊎◌}
+use Rattle.std.specs.Prelude.{◌≡◌, ℕ, ◌/◌, ◌%◌, List, [], ◌∷◌, ◌++◌, length, codes, decimal, Result, Err, ◌⊎◌}
+use Rattle.std.specs.Char.{digit_char}
+use Rattle.std.specs.List.{flat_map}
 use Rattle.std.specs.Option.{option_map_or}
 use Rattle.std.specs.declared.cmp.Ordering.{Ordering}
 use Rattle.std.specs.declared.cmp.Ordering.TheVariants.{Less, Equal, Greater}
 use Rattle.cidr.specs.model.Bits.{bit_cmp}
 use Rattle.cidr.specs.either.IpNetwork.{network_family, network_prefix, address_by, specific, any_bits}
 use Rattle.cidr.specs.either.IpText.{IsIpNetworkText, IsAnyNetworkText, IsIpRefused, any_network_text}
+use Rattle.cidr.specs.bytes.Compact.{any_network_bytes}
 use Rattle.cidr.specs.either.IpAddress.{IsIpText, ip_address_bits}
 use Rattle.cidr.specs.model.Network.{first_of, last_of, mask_of, BeginsWith}
 use Rattle.cidr.specs.texts.Printed.{plain_text}
@@ -33,6 +36,7 @@ pub data Request : Type 0 where
   Holds : List ℕ → List ℕ → Request
   Compare : List ℕ → List ℕ → Request
   Walk : List ℕ → List End → Request
+  Bytes : List ℕ → Request
   Loose : List ℕ → Request
 
 -- the arguments are this request
@@ -41,6 +45,7 @@ IsRequest arguments (Show net) = arguments ≡ codes "show" ∷ net ∷ []
 IsRequest arguments (Holds net address) = arguments ≡ codes "in" ∷ net ∷ address ∷ []
 IsRequest arguments (Compare left right) = arguments ≡ codes "cmp" ∷ left ∷ right ∷ []
 IsRequest arguments (Walk net ends) = (letters : List ℕ) × (arguments ≡ codes "walk" ∷ net ∷ letters ∷ []) × NamesEnds letters ends
+IsRequest arguments (Bytes net) = arguments ≡ codes "bytes" ∷ net ∷ []
 IsRequest arguments (Loose text) = arguments ≡ codes "loose" ∷ text ∷ []
 
 -- the arguments are no request
@@ -79,6 +84,14 @@ order_text Less = codes "less\n"
 order_text Equal = codes "equal\n"
 order_text Greater = codes "greater\n"
 
+-- a byte in hexadecimal, in lower case: the digit of its sixteens, and that of its ones
+abbrev pub hex_byte : ℕ → List ℕ
+hex_byte byte = digit_char (byte / 16) ∷ digit_char (byte % 16) ∷ []
+
+-- bytes in hexadecimal, not separated
+abbrev pub hex_text : List ℕ → List ℕ
+hex_text bytes = flat_map hex_byte bytes
+
 -- the text that a request is answered with
 abbrev pub IsAnswer : Request → List ℕ → Type 0
 IsAnswer (Show net) text = (network : AnyIpCidr) × IsAnyNetworkText net network × (text ≡ show_text network)
@@ -88,6 +101,7 @@ IsAnswer (Holds net address) text =
 IsAnswer (Compare left right) text =
     (l r : AnyIpCidr) × IsAnyNetworkText left l × IsAnyNetworkText right r × (text ≡ order_text (bit_cmp (any_bits l) (any_bits r)))
 IsAnswer (Walk net ends) text = (network : IpCidr) × IsIpNetworkText net network × (text ≡ walk_text network ends)
+IsAnswer (Bytes net) text = (network : AnyIpCidr) × IsAnyNetworkText net network × (text ≡ hex_text (any_network_bytes network) ++ codes "\n")
 IsAnswer (Loose spelled) text = (a : IpAddr) × IsLooseIpText spelled a × (text ≡ ip_text a ++ codes "\n")
 
 -- no network is spelled, and this is the first error
@@ -108,6 +122,8 @@ IsRefusal (Compare left right) (Network e) = IsNetRefused left e ⊎ (((n : AnyI
 IsRefusal (Compare left right) (Address e) = ⊥
 IsRefusal (Walk net ends) (Network e) = IsIpRefused net e × ((n : IpCidr) → ¬ (IsIpNetworkText net n))
 IsRefusal (Walk net ends) (Address e) = ⊥
+IsRefusal (Bytes net) (Network e) = IsNetRefused net e
+IsRefusal (Bytes net) (Address e) = ⊥
 IsRefusal (Loose text) (Network e) = ⊥
 IsRefusal (Loose text) (Address e) = IsAddressRefused IsLooseIpText text e
 

@@ -16,6 +16,8 @@ pub enum Command<'a> {
     Compare(&'a str, &'a str),
     /// What calls at ends of the walk over a network's addresses give.
     Walk(&'a str, Ends),
+    /// The compact bytes of a network.
+    Bytes(&'a str),
     /// The address that a loose text spells.
     Loose(&'a str),
 }
@@ -27,6 +29,9 @@ fn with_one<'a>(name: &str, argument: &'a str) -> Option<Command<'a>>
 {
     if name == "show" {
         return Some(Command::Show(argument));
+    }
+    if name == "bytes" {
+        return Some(Command::Bytes(argument));
     }
     if name == "loose" {
         return Some(Command::Loose(argument));

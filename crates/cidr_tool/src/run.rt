@@ -1,9 +1,10 @@
 //! Answering the commands.
-ghost use Rattle.std.specs.Prelude.{◌≡◌, ◌≤◌, ◌+◌, ◌++◌, length, map, decimal, codes, if◌then◌else◌};
+ghost use Rattle.std.specs.Prelude.{◌≡◌, ◌≤◌, ◌<◌, ◌+◌, ◌++◌, length, map, decimal, codes, if◌then◌else◌};
+ghost use Rattle.std.specs.Char.{digit_char};
 ghost use Rattle.cidr.specs.model.Bits.{bit_cmp};
 ghost use Rattle.cidr.specs.either.IpNetwork.{any_bits};
 ghost use Rattle.cidr.specs.texts.PrintedAddress.{ip_text};
-ghost use Rattle.cidr_tool.specs.Answer.{Answers, AnswersRequest, Show, Holds, Compare, Walk, Loose, line, show_text, ip_show_text, order_text, family_name as family_name_of};
+ghost use Rattle.cidr_tool.specs.Answer.{Answers, AnswersRequest, Show, Holds, Compare, Walk, Bytes, Loose, line, show_text, ip_show_text, order_text, family_name as family_name_of, hex_byte, hex_text};
 
 use crate::commands::{Command, command_of};
 use crate::errors::ToolError;
@@ -162,6 +163,52 @@ fn walk<S: Sink>(net: &str, ends: &Ends, out: &mut S) -> Result<(), ToolError>
     write_walk(&network, ends.as_slice(), out)
 }
 
+/// Two digits for each of 17 compact bytes, and a line feed.
+const MOST_HEX: usize = 35;
+
+/// The hexadecimal digit, in lower case.
+fn hex_digit(digit: u8) -> char
+    requires { digit < 16 }
+    ensures value { result ≡ digit_char digit }
+    ensures ascii { result < 128 }
+{
+    if digit < 10 {
+        char::from(b'0' + digit)
+    } else {
+        char::from(b'a' + (digit - 10))
+    }
+}
+
+/// Appends the two digits of a byte.
+fn push_byte(line: &mut ArrayString<MOST_HEX>, byte: u8)
+    requires { length line.old.bytes + 2 ≤ 35 }
+    ensures { line.new.bytes ≡ line.old.bytes ++ hex_byte byte }
+{
+    line.push(hex_digit(byte / 16));
+    line.push(hex_digit(byte % 16));
+}
+
+/// The line of bytes in hexadecimal.
+fn hex_line(bytes: &[u8]) -> ArrayString<MOST_HEX>
+    requires { length bytes.now ≤ 17 }
+    ensures { result.bytes ≡ hex_text bytes.now ++ codes "\n" }
+{
+    let mut line = ArrayString::new();
+    for byte in bytes {
+        push_byte(&mut line, *byte);
+    }
+    line.push('\n');
+    line
+}
+
+/// The command `bytes`.
+fn bytes<S: Sink>(net: &str, out: &mut S) -> Result<(), ToolError>
+    ensures { AnswersRequest (Bytes net.now) (S.state out.old) (S.state out.new) result }
+{
+    let value = net.parse::<AnyIpCidr>()?;
+    write_text(out, hex_line(value.to_compact().as_slice()).as_str())
+}
+
 /// The longest text of an address, and a line feed.
 const MOST_LINE: usize = 40;
 
@@ -198,6 +245,7 @@ pub fn run<S: Sink>(words: &[&str], out: &mut S) -> Result<(), ToolError>
         Command::Holds(net, address) => holds(net, address, out),
         Command::Compare(left, right) => compare(left, right, out),
         Command::Walk(net, ends) => walk(net, ends, out),
+        Command::Bytes(net) => bytes(net, out),
         Command::Loose(text) => loose(text, out),
     }
 }

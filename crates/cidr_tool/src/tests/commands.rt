@@ -202,6 +202,56 @@ fn walk_refuses_what_is_no_network(rt: HostRuntime) -> Result<(), Fail> {
 }
 
 #[test]
+fn bytes_are_two_digits_each(rt: HostRuntime) -> Result<(), Fail> {
+    try_rows(
+        &rt,
+        &[
+            (&["bytes", "192.0.2.0/24"], "18c0000200\n", "", 0),
+            (&["bytes", "10.0.0.0/+08"], "080a000000\n", "", 0),
+            (&["bytes", "0.0.0.0/0"], "0000000000\n", "", 0),
+            (&["bytes", "255.255.255.255"], "20ffffffff\n", "", 0),
+            (&["bytes", "any"], "ff\n", "", 0),
+            (
+                &["bytes", "::/0"],
+                "4000000000000000000000000000000000\n",
+                "",
+                0,
+            ),
+            (
+                &["bytes", "::1"],
+                "c000000000000000000000000000000001\n",
+                "",
+                0,
+            ),
+            (
+                &["bytes", "0123:4567:89AB:CDEF:fedc:ba98:7654:3210/124"],
+                "bc0123456789abcdeffedcba9876543210\n",
+                "",
+                0,
+            ),
+        ],
+    )
+}
+
+#[test]
+fn bytes_refuses_what_is_no_network(rt: HostRuntime) -> Result<(), Fail> {
+    try_rows(
+        &rt,
+        &[
+            (&["bytes", "192.0.2.1/24"], "", HOST_PART, 1),
+            (&["bytes", "18c0000200"], "", NO_ADDRESS, 1),
+            (&["bytes", ""], "", NO_ADDRESS, 1),
+            (
+                &["bytes", "10.0.0.0/"],
+                "",
+                "couldn't parse length in network: invalid length text\n",
+                1,
+            ),
+        ],
+    )
+}
+
+#[test]
 fn loose_prints_the_address(rt: HostRuntime) -> Result<(), Fail> {
     try_rows(
         &rt,
@@ -247,7 +297,8 @@ fn other_arguments_are_usage(rt: HostRuntime) -> Result<(), Fail> {
             (&["cmp", "x"], "", USAGE, 2),
             (&["walk", "10.0.0.0/8"], "", USAGE, 2),
             (&["loose"], "", USAGE, 2),
-            (&["bytes", "10.0.0.0/8"], "", USAGE, 2),
+            (&["bytes"], "", USAGE, 2),
+            (&["BYTES", "10.0.0.0/8"], "", USAGE, 2),
             (&["", "x"], "", USAGE, 2),
             (&["SHOW", "10.0.0.0/8"], "", USAGE, 2),
         ],
@@ -265,6 +316,7 @@ fn an_argument_too_many_is_usage(rt: HostRuntime) -> Result<(), Fail> {
             (&["cmp", "10.0.0.0/8", "::/0", "x"], "", USAGE, 2),
             (&["cmp", "x", "y", "z"], "", USAGE, 2),
             (&["walk", "10.0.0.0/8", "f", "f"], "", USAGE, 2),
+            (&["bytes", "any", "any"], "", USAGE, 2),
             (&["loose", "127.1", "127.1"], "", USAGE, 2),
             (&["cmp", "10.0.0.0/8", "::/0", "x", "y"], "", USAGE, 2),
         ],

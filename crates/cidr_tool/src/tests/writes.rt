@@ -8,13 +8,14 @@ use std::test::Fail;
 
 #[test]
 fn each_answer_is_one_write_and_a_flush(rt: HostRuntime) -> Result<(), Fail> {
-    let rows: [&[&str]; 7] = [
+    let rows: [&[&str]; 8] = [
         &["show", "any"],
         &["show", "192.0.2.48/28"],
         &["show", "2001:db8::/32"],
         &["in", "any", "::1"],
         &["cmp", "any", "any"],
         &["walk", "::/0", "fbfb"],
+        &["bytes", "::1"],
         &["loose", "127.1"],
     ];
     for arguments in rows {
