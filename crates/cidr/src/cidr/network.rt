@@ -234,6 +234,9 @@ impl<A: AddressBits> Network<A> {
 
     /// Whether every address of the other network is in this one: 10.0.0.0/8 contains 10.1.0.0/16 and itself, and
     /// 2001:db8::/32 contains 2001:db8:1::/48 and itself.
+    ///
+    /// Two networks of which neither contains the other have no address in common, and in their order those inside a
+    /// network follow it one after the other: [`laws::networks`](crate::laws::networks) says both.
     #[tactic(auto, using(crate::proofs::Holding::holding_laws))]
     pub fn contains_cidr(&self, other: &Network<A>) -> bool
         ensures begins { IsTrue result ↔ BeginsWith other.now self.now }
