@@ -6,6 +6,7 @@
 mod addresses;
 mod answer;
 mod bits;
+mod compact;
 mod conversions;
 mod families;
 mod faults;

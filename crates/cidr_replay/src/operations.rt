@@ -4,7 +4,7 @@ use crate::answer::Answer;
 use crate::line_error::{LineError, Outcome};
 use crate::tokens::Tokens;
 use crate::{
-    addresses, bits, conversions, families, faults, hosts, networks, pairs, parsers, walks,
+    addresses, bits, compact, conversions, families, faults, hosts, networks, pairs, parsers, walks,
 };
 use std::alloc::{AllocError, Global};
 use std::str;
@@ -70,6 +70,7 @@ fn answer_operation(
         "parse" => parsers::answer(name, tokens, answer),
         "bits" => bits::answer(name, tokens, answer),
         "hostbits" => bits::answer_hosts(name, tokens, answer),
+        "compact" | "hostcompact" | "agree" => compact::answer(section, name, tokens, answer),
         "convert" if name.is_empty() => conversions::answer(tokens, answer),
         _ => Err(other_operation(section)),
     }
@@ -78,8 +79,7 @@ fn answer_operation(
 /// Whether a section that nothing answers is one of the format.
 fn other_operation(section: &str) -> LineError {
     match section {
-        "compact" | "hostcompact" | "agree" | "prefix" | "table" | "load" | "cover" | "tool" =>
-            LineError::Unsupported,
+        "prefix" | "table" | "load" | "cover" | "tool" => LineError::Unsupported,
         _ => LineError::Malformed,
     }
 }

@@ -1,7 +1,7 @@
 //! The kinds of the refusals.
 
 use cidr::AddrParseError;
-use cidr::errors::{InetTupleError, NetworkLengthTooLongError, NetworkParseError};
+use cidr::errors::{CompactError, InetTupleError, NetworkLengthTooLongError, NetworkParseError};
 use std::fmt::Display;
 
 /// A refusal: its words are what it displays.
@@ -38,6 +38,18 @@ impl Refusal for InetTupleError {
         match self {
             InetTupleError::NotInSharedNetwork => "NotInSharedNetwork",
             InetTupleError::NetworkLengthTooLongError(_) => "NetworkLengthTooLongError",
+        }
+    }
+}
+
+impl Refusal for CompactError {
+    fn kind(&self) -> &'static str {
+        match self {
+            CompactError::Truncated => "Truncated",
+            CompactError::InvalidTag => "InvalidTag",
+            CompactError::InvalidAny => "InvalidAny",
+            CompactError::InvalidFamily(_) => "InvalidFamily",
+            CompactError::InvalidHostPart => "InvalidHostPart",
         }
     }
 }

@@ -89,6 +89,12 @@ impl Value for usize {
     }
 }
 
+impl Value for bool {
+    fn push_to(&self, answer: &mut Answer) -> Outcome {
+        answer.display(self)
+    }
+}
+
 impl Value for Family {
     fn push_to(&self, answer: &mut Answer) -> Outcome {
         answer.word(match self {
@@ -114,6 +120,14 @@ impl<V: Value> Value for Option<V> {
             Some(value) => value.push_to(answer),
             None => answer.word("none"),
         }
+    }
+}
+
+/// A value that was read, and how many bytes it was read from.
+impl<V: Value> Value for (V, usize) {
+    fn push_to(&self, answer: &mut Answer) -> Outcome {
+        self.0.push_to(answer)?;
+        self.1.push_to(answer)
     }
 }
 
