@@ -1,5 +1,5 @@
 -- Networks as strings of bits, by their first addresses.
-use Rattle.std.proofs.Common.{◌≡◌, ℕ, suc, ◌+◌, ◌-◌, ◌<◌, ◌≤◌, min, Bool, false, List, [], ◌∷◌, ◌++◌, length, get_or, set, take, slice_get, Some, refl, sym, ap, ap₂, ◌∙◌, arith, take_at, drop_at, length-append}
+use Rattle.std.proofs.Common.{◌≡◌, ℕ, zero, suc, ◌+◌, ◌-◌, ◌<◌, ◌≤◌, min, Bool, false, List, [], ◌∷◌, ◌++◌, length, get_or, set, take, slice_get, Some, refl, sym, ap, ap₂, ◌∙◌, arith, take_at, drop_at, length-append}
 use Rattle.std.proofs.lemmas.List.{append-nil, take_all, length-set, get_or_append_left, set-append_left, set_at}
 use Rattle.std.proofs.lemmas.Option.{slice_get-get_or}
 use Rattle.cidr.specs.model.BitString.{host_clipped}
@@ -76,3 +76,10 @@ host_unclipped w k host is h =
     let address : first_of w (take k host.address) ≡ host.address = rw (all, none) (append-nil host.address) in
     let len : host.len ≡ min host.len k = omega (arith, is.1) in
     ap₂ host_of (sym address) len
+
+-- a bit of an address set is that bit of its first bits
+pub take-set : (n i : ℕ) (b : Bool) (a : List Bool) → i < length (take n a) → take n (set a i b) ≡ set (take n a) i b
+take-set zero i b a h = absurd (omega arith)
+take-set (suc n) i b [] h = absurd (omega arith)
+take-set (suc n) zero b (c ∷ a) h = refl
+take-set (suc n) (suc i) b (c ∷ a) h = ap (λ t. c ∷ t) (take-set n i b a (omega arith))

@@ -1,5 +1,5 @@
 //! Networks and hosts as strings of bits.
-ghost use Rattle.std.specs.Prelude.{◌≡◌, ◌+◌, ◌<◌, ◌≤◌, ◌++◌, ◌∷◌, [], List, Bool, Some, length, take, slice_get};
+ghost use Rattle.std.specs.Prelude.{◌≡◌, ◌+◌, ◌<◌, ◌≤◌, ◌++◌, ◌∷◌, [], List, Bool, Some, length, set, take, slice_get};
 ghost use Rattle.cidr.specs.model.Bits.{bit_cmp};
 ghost use Rattle.cidr.specs.model.BitString.{IsSharedLength, inverted};
 
@@ -19,7 +19,7 @@ pub trait BitString {
     /// One more bit can be appended.
     ghost HasRoom: { Self → Type 0 };
 
-    /// The number of bits: at most 32 in IPv4, 128 in IPv6, and 129 in `AnyIpCidr`.
+    /// The number of bits: the prefix length, and in `AnyIpCidr` one more, so that there are 129 at most.
     fn len(&self) -> usize
         ensures value { result ≡ length (bits self.now) }
         ensures fits { result ≤ 129 };
@@ -35,13 +35,15 @@ pub trait BitString {
     fn set(&mut self, i: usize, b: bool)
         requires { i < length (bits self.old) }
         ensures bits { take (i + 1) (bits self.new) ≡ take i (bits self.old) ++ b ∷ [] }
+        ensures rest { 0 < i → bits self.new ≡ set (bits self.old) i b }
         ensures len { length (bits self.new) ≤ length (bits self.old) }
         ensures room { HasRoom self.old → HasRoom self.new };
 
-    /// Inverts bit `i`. Its condition is that `i` is below the length.
+    /// Inverts bit `i`. Its condition is that `i` is below the length. What becomes of the others is as for `set`.
     fn flip(&mut self, i: usize)
         requires { i < length (bits self.old) }
         ensures bits { take (i + 1) (bits self.new) ≡ take i (bits self.old) ++ inverted i (bits self.old) ∷ [] }
+        ensures rest { 0 < i → bits self.new ≡ set (bits self.old) i (inverted i (bits self.old)) }
         ensures len { length (bits self.new) ≤ length (bits self.old) }
         ensures room { HasRoom self.old → HasRoom self.new };
 

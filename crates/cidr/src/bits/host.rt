@@ -1,5 +1,5 @@
 //! Hosts of one family as strings of bits: those of their networks.
-ghost use Rattle.std.specs.Prelude.{◌≡◌, ◌+◌, ◌<◌, ◌++◌, ◌∷◌, [], length, take};
+ghost use Rattle.std.specs.Prelude.{◌≡◌, ◌+◌, ◌<◌, ◌++◌, ◌∷◌, [], length, set, take};
 ghost use Rattle.cidr.specs.model.BitString.{host_with_bit, host_clipped, host_longer, inverted};
 ghost use Rattle.cidr.specs.model.Host.{network_of};
 ghost use Rattle.cidr.specs.model.Network.{width_of, zeros};
@@ -27,7 +27,8 @@ impl<A: SingleBits> BitString for Host<A> {
 
     fn set(&mut self, i: usize, b: bool)
         requires { i < length (network_of self.old) }
-        ensures { self.new ≡ host_with_bit i b self.old }
+        ensures bits { network_of self.new ≡ set (network_of self.old) i b }
+        ensures host { self.new ≡ host_with_bit i b self.old }
     {
         let len = self.network_length();
         *self = Host::new_unchecked(self.address().with_bit(place(i, len), b), len);
@@ -35,7 +36,8 @@ impl<A: SingleBits> BitString for Host<A> {
 
     fn flip(&mut self, i: usize)
         requires { i < length (network_of self.old) }
-        ensures { self.new ≡ host_with_bit i (inverted i self.old.address) self.old }
+        ensures bits { network_of self.new ≡ set (network_of self.old) i (inverted i (network_of self.old)) }
+        ensures host { self.new ≡ host_with_bit i (inverted i self.old.address) self.old }
     {
         let b = self.get(i);
         self.set(i, !b);
