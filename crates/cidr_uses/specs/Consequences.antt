@@ -1,5 +1,5 @@
 -- What two texts say when networks are compared, and which walk a text names.
-use Rattle.std.specs.Prelude.{◌≡◌, ◌↔◌, ℕ, Bool, List, IsTrue}
+use Rattle.std.specs.Prelude.{◌↔◌, ℕ, Bool, List, IsTrue}
 use Rattle.std.specs.List.{Contains}
 use Rattle.cidr.specs.bytes.Agreement.{IsAddressOf, IsAnyAddressOf, SameAddresses}
 use Rattle.cidr.specs.declared.cidr.any.AnyIpCidr.{AnyIpCidr}

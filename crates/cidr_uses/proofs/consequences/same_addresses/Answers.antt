@@ -1,5 +1,5 @@
 -- The same texts are printed exactly of networks with the same addresses.
-use Rattle.std.proofs.Common.{◌≡◌, sym, ap, ◌∙◌}
+use Rattle.std.proofs.Common.{◌∙◌}
 use Rattle.cidr_uses.proofs.Agreements.{texts_tell}
 use Rattle.cidr_uses.proofs.consequences.same_addresses.Goals as goal
 
