@@ -1,5 +1,5 @@
 //! Reading numbers that are joined by dots, in one pass over the bytes.
-ghost use Rattle.std.specs.Prelude.{◌≡◌, ◌+◌, ◌≤◌, ℕ, List, MatchOption};
+ghost use Rattle.std.specs.Prelude.{◌≡◌, ◌+◌, ◌<◌, ◌≤◌, ℕ, List, MatchOption};
 ghost use Rattle.cidr.specs.texts.NetworkText.{IsNumberText};
 ghost use Rattle.cidr.specs.internal.Reading.{TakesPart};
 ghost use Rattle.cidr.specs.internal.Joined.{IsAfterPlus, JoinsParts, JoinsNone};
@@ -38,12 +38,17 @@ pub(crate) fn after_plus(text: &[u8]) -> &[u8]
 /// The number up to `most` that the digits at the front write, and what follows them.
 #[inline(always)]
 pub(crate) fn take_number(text: &[u8], radix: u8, most: u32) -> Option<(u32, &[u8])>
-    requires { radix ≤ 16 }
+    requires positive { 0 < radix }
+    requires hexadecimal { radix ≤ 16 }
     ensures { TakesPart (IsNumberText radix (most + 1)) text.now result }
 {
     let mut value = 0u64;
     let mut count = 0;
     for byte in text {
+        if value == 0 && *byte == b'0' {
+            count += 1;
+            continue;
+        }
         let Some(digit) = hex_value(*byte) else {
             break;
         };
