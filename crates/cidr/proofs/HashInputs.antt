@@ -7,21 +7,16 @@ use Rattle.std.specs.List.{flat_map}
 use Rattle.cidr.specs.declared.family.Family.{Family}
 use Rattle.cidr.specs.declared.family.Family.TheVariants.{Ipv4, Ipv6}
 use Rattle.cidr.specs.model.Bits.{bits, number}
-use Rattle.cidr.specs.model.Address.{parts_of}
 use Rattle.cidr.specs.model.Network.{width_of, zeros, first_of, address_hash, network_hash, IsHashedApart, HasWidth, FitsWidth}
 use Rattle.cidr.specs.model.Host.{IsHost, host_of, host_hash}
 use Rattle.cidr.specs.model.Pair.{Pair, IsPair, pair_hash}
-use Rattle.cidr.specs.laws.BitLaws.{bits-number}
 use Rattle.cidr.specs.laws.NetworkLaws.{length-first_of}
 use Rattle.cidr.proofs.PartLaws.{flat_map-parts_of}
-use Rattle.cidr.proofs.OctetRows.{octets_of-number}
-
-octets_of : (k : ℕ) (a : List Bool) → length a ≡ 8 * k → parts_of 8 k a ≡ bytes_high_first k (number a)
-octets_of k a e = ap (parts_of 8 k) (sym (bits-number a) ∙ ap (λ w. bits w (number a)) e) ∙ octets_of-number k (number a)
+use Rattle.cidr.proofs.OctetRows.{octets_of-address}
 
 same_octets : (k : ℕ) (a b : List Bool) → length a ≡ 8 * k → length b ≡ 8 * k → bytes_high_first k (number a) ≡ bytes_high_first k (number b) → a ≡ b
 same_octets k a b e f h =
-    sym (flat_map-parts_of 8 k a e) ∙ ap (flat_map (bits 8)) (octets_of k a e ∙ h ∙ sym (octets_of k b f)) ∙ flat_map-parts_of 8 k b f
+    sym (flat_map-parts_of 8 k a e) ∙ ap (flat_map (bits 8)) (octets_of-address k a e ∙ h ∙ sym (octets_of-address k b f)) ∙ flat_map-parts_of 8 k b f
 
 -- turned, the lowest byte comes last
 turned4 : (m n : ℕ) → le_bytes 4 m ≡ le_bytes 4 n → bytes_high_first 4 m ≡ bytes_high_first 4 n

@@ -25,12 +25,14 @@ pub mod SingleBits
 pub mod SharedLength
 pub mod StringBits
 pub mod StepNumbers
+pub mod HalfNumbers
 pub mod HostNumbers
 pub mod PairNumbers
 pub mod Holding
 pub mod Nesting
 pub mod HostSteps
 pub mod OrderLaws
+pub mod HalfBits
 pub mod GroupNumbers
 pub mod GroupParts
 pub mod CompactOctets

@@ -1,11 +1,11 @@
 -- Octets in a row and the bits of their number, as many as there are.
-use Rattle.std.proofs.Common.{◌≡◌, ℕ, zero, suc, ◌+◌, ◌*◌, ◌/◌, ◌%◌, ◌^◌, ◌<◌, List, [], ◌∷◌, length, get_or, refl, sym, ap, ap₂, ◌∙◌, arith}
+use Rattle.std.proofs.Common.{◌≡◌, ℕ, zero, suc, ◌+◌, ◌*◌, ◌/◌, ◌%◌, ◌^◌, ◌<◌, Bool, List, [], ◌∷◌, length, get_or, refl, sym, ap, ap₂, ◌∙◌, arith}
 use Rattle.std.proofs.Math.Nat.{pow-succ'}
 use Rattle.std.proofs.lemmas.Nat.{pow-add}
 use Rattle.std.proofs.NetLemmas.Arrays.{sixteen_items}
 use Rattle.std.specs.Int.{w128, byte_at, bytes_high_first, from_be_bytes, to_be_bytes}
-use Rattle.cidr.specs.model.Bits.{bits}
-use Rattle.cidr.specs.laws.BitLaws.{length-bits}
+use Rattle.cidr.specs.model.Bits.{bits, number}
+use Rattle.cidr.specs.laws.BitLaws.{bits-number}
 use Rattle.cidr.specs.model.Address.{parts_of, octet_bits}
 use Rattle.cidr.proofs.PartLaws.{FitAll, joined_number, bits-parts, parts_of-bits, parts_of-none}
 
@@ -27,8 +27,12 @@ octets_of-number (suc k) n =
     let places : 8 * suc k ≡ 8 + 8 * k = omega arith in
     ap (λ w. parts_of 8 (suc k) (bits w n)) places ∙ parts_of-bits 8 k n ∙ ap₂ (λ x t. x ∷ t) (octet_at k n) (octets_of-number k n)
 
-pub sixteen_octets : (n : ℕ) → parts_of 8 16 (bits 128 n) ≡ to_be_bytes w128 n
-sixteen_octets n = octets_of-number 16 n
+-- and of an address
+pub octets_of-address : (k : ℕ) (a : List Bool) → length a ≡ 8 * k → parts_of 8 k a ≡ bytes_high_first k (number a)
+octets_of-address k a e = ap (parts_of 8 k) (sym (bits-number a) ∙ ap (λ w. bits w (number a)) e) ∙ octets_of-number k (number a)
+
+pub sixteen_octets : (a : List Bool) → length a ≡ 128 → parts_of 8 16 a ≡ to_be_bytes w128 (number a)
+sixteen_octets a e = octets_of-address 16 a e
 
 pub octets_fit : (octets : List ℕ) → ((i : ℕ) → get_or octets i 0 < 256) → FitAll 8 octets
 octets_fit [] h = tt
@@ -44,4 +48,4 @@ bits-sixteen_octets octets many fits =
     let width : 8 * length octets ≡ 128 = omega arith in
     ap (bits 128) number ∙ (rw width at (bits-parts 8 octets (octets_fit octets fits)))
 
-pub ruleset sixteen_laws = (sixteen_octets, length-bits)
+pub ruleset sixteen_laws = (sixteen_octets)

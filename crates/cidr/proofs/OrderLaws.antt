@@ -3,6 +3,7 @@ use Rattle.std.proofs.Common.{◌≡◌, ℕ, zero, suc, ◌+◌, ◌*◌, ◌-�
 use Rattle.std.proofs.lemmas.Bool.{cases_eq, cases_lt}
 use Rattle.std.proofs.lemmas.Bool.Decides.{nat_tests}
 use Rattle.std.proofs.lemmas.Cmp.{tied_itself}
+use Rattle.std.proofs.lemmas.Nat.{mul-le}
 use Rattle.std.specs.declared.cmp.Ordering.TheVariants.{Less, Greater}
 use Rattle.std.specs.Ordering.{nat_cmp, ordering_then, is_eq, ord_min}
 use Rattle.cidr.specs.model.Bits.{number, bit_cmp, bit_eq}
@@ -74,14 +75,25 @@ least_of_three m n x y s r j h k first second =
     h ∙ least m j ∙ ap₂ min first (k ∙ least n s ∙ ap (λ t. min t s) second)
 
 -- two numbers in one: the first counts more than the second
-pub key_cmp : (x m y n : ℕ) → m < 256 → n < 256 → nat_cmp (x * 256 + m) (y * 256 + n) ≡ ordering_then (nat_cmp x y) (nat_cmp m n)
-key_cmp x m y n h k =
+pub key_cmp : (r x m y n : ℕ) → m < r → n < r → nat_cmp (x * r + m) (y * r + n) ≡ ordering_then (nat_cmp x y) (nat_cmp m n)
+key_cmp r x m y n h k =
     elim (cases_eq x y) [
       | inl same ↦ rw same (tied m n)
-      | inr other ↦ elim (cases_lt x y) [ inl low ↦ grind (arith, nat_tests) | inr high ↦ grind (arith, nat_tests) ]
+      | inr other ↦ elim (cases_lt x y) [
+        | inl low ↦
+            let row = mul-le (x + 1) r y r (omega arith) (omega arith) in
+            let wide : (x + 1) * r ≡ x * r + r = omega arith in
+            let below : x * r + m < y * r + n = omega arith in
+            grind (arith, nat_tests)
+        | inr high ↦
+            let row = mul-le (y + 1) r x r (omega arith) (omega arith) in
+            let wide : (y + 1) * r ≡ y * r + r = omega arith in
+            let below : y * r + n < x * r + m = omega arith in
+            grind (arith, nat_tests)
+      ]
     ]
   where
-    tied : (i j : ℕ) → nat_cmp (y * 256 + i) (y * 256 + j) ≡ ordering_then (nat_cmp y y) (nat_cmp i j)
+    tied : (i j : ℕ) → nat_cmp (y * r + i) (y * r + j) ≡ ordering_then (nat_cmp y y) (nat_cmp i j)
     tied i j = grind (arith, nat_tests)
 
 pub ruleset key_laws = (key_cmp)

@@ -1,8 +1,8 @@
 -- Steps within a network on numbers of w bits, of which the first k are the network's.
-use Rattle.std.proofs.Common.{◌≡◌, ℕ, ◌+◌, ◌-◌, ◌*◌, ◌/◌, ◌%◌, ◌^◌, ◌<◌, ◌≤◌, sym, ap, ◌∙◌, arith}
+use Rattle.std.proofs.Common.{◌≡◌, ℕ, ◌+◌, ◌-◌, ◌*◌, ◌/◌, ◌%◌, ◌^◌, ◌<◌, ◌≤◌, sym, ap, ◌∙◌, arith, bit_and}
 use Rattle.std.proofs.Math.Nat.{add-mod-mod, add-mul-mod_self_right}
 use Rattle.std.proofs.Math.Pow.{mod-mod-pow}
-use Rattle.std.proofs.lemmas.Nat.{div-add-mod', mod_below, pow_pos, pow-add, shr_split, shr_below, row_fits}
+use Rattle.std.proofs.lemmas.Nat.{and_mask, div-add-mod', mod_below, pow_pos, pow-add, shr_split, shr_below, row_fits}
 
 -- the first and the last bits of the width
 rows : (w k : ℕ) → k ≤ w → 2 ^ w ≡ 2 ^ k * 2 ^ (w - k)
@@ -51,4 +51,8 @@ reduced_down_wide w k p s h =
     let m = 2 ^ (w - k) in
     reduced_down w k p (s % 2 ^ w) h (part_below s w) ∙ ap (λ x. (p + (m - x)) % m) (reduced w k s h)
 
-pub ruleset step_laws = (last_within, part_below, reduced, reduced_up, reduced_down, reduced_down_wide, pow_pos, shr_split)
+-- the lowest 32 bits by their mask
+pub low_word : (s : ℕ) → bit_and s 4294967295 ≡ s % 2 ^ 32
+low_word s = and_mask s 32
+
+pub ruleset step_laws = (low_word, last_within, part_below, reduced, reduced_up, reduced_down, reduced_down_wide, pow_pos, shr_split)

@@ -2,3 +2,4 @@
 pub mod Reading
 pub mod Joined
 pub mod Fronts
+pub mod Halves

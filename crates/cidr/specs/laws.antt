@@ -5,3 +5,4 @@ pub mod HostLaws
 pub mod StringLaws
 pub mod PairLaws
 pub mod DecimalLaws
+pub mod HalfLaws

@@ -3,6 +3,7 @@ ghost use Rattle.std.specs.Prelude.{◌≡◌, ◌+◌, ◌-◌, Some, decimal};
 ghost use Rattle.cidr.specs.model.Counted.{number_of};
 ghost use Rattle.cidr.specs.model.Walk.{bounds_of};
 
+use crate::arithmetic::halves::Halves;
 use std::fmt;
 
 /// A number of addresses from 0 to 2^128. A `u128` has no room for the greatest.
@@ -16,15 +17,16 @@ pub enum NumberOfAddresses {
 
 impl NumberOfAddresses {
     /// How many there are from the first to the last, both counted: none where the first is above the last.
-    pub(crate) fn between(first: u128, last: u128) -> NumberOfAddresses
+    pub(crate) fn between(first: Halves, last: Halves) -> NumberOfAddresses
         ensures { number_of result ≡ last + 1 - first }
     {
-        if last < first {
-            NumberOfAddresses::Count(0)
-        } else if last - first == u128::MAX {
-            NumberOfAddresses::MaxIpv6Addresses
-        } else {
-            NumberOfAddresses::Count(last - first + 1)
+        let (steps, reversed) = last.overflowing_sub(first);
+        if reversed {
+            return NumberOfAddresses::Count(0);
+        }
+        match steps.join() {
+            u128::MAX => NumberOfAddresses::MaxIpv6Addresses,
+            steps => NumberOfAddresses::Count(steps + 1),
         }
     }
 

@@ -1,5 +1,5 @@
 //! The IPv6 address.
-ghost use Rattle.std.specs.Prelude.{◌≡◌, ◌+◌, ◌≤◌, [], ◌∷◌, ◌++◌, List, ℕ, length, refl, Some};
+ghost use Rattle.std.specs.Prelude.{◌≡◌, ◌+◌, ◌*◌, ◌/◌, ◌%◌, ◌^◌, ◌<◌, ◌≤◌, [], ◌∷◌, ◌++◌, List, ℕ, length, refl, Some};
 ghost use Rattle.std.specs.Ordering.{as_partial_cmp};
 ghost use Rattle.std.specs.Cmp.{partial_equiv_from_equiv};
 ghost use Rattle.std.specs.Hash as fed;
@@ -15,6 +15,7 @@ use crate::addr::error::AddrParseError;
 use crate::addr::print6::{is_mapped, push_hex_groups};
 use crate::addr::read6::read_ipv6;
 use crate::addr::v4::Ipv4Addr;
+use crate::arithmetic::halves::Halves;
 use arrayvec::ArrayString;
 use std::cmp::Ordering;
 use std::fmt;
@@ -29,23 +30,28 @@ use std::str::FromStr;
 /// number.
 #[derive(Clone, Copy)]
 pub struct Ipv6Addr {
-    raw: u128,
+    upper: u64,
+    lower: u64,
 }
 
 impl Model for Ipv6Addr {
-    ghost use Rattle.std.specs.Prelude.{List, Bool, ◌^◌, ◌<◌};
+    ghost use Rattle.std.specs.Prelude.{List, Bool, ◌/◌, ◌%◌, ◌^◌, ◌<◌};
     ghost use Rattle.cidr.specs.model.Bits.{bits, number};
-    ghost use Rattle.cidr.specs.laws.BitLaws.{number-bits};
+    ghost use Rattle.cidr.specs.internal.Halves.{joined};
+    ghost use Rattle.cidr.specs.laws.HalfLaws.{upper-bits, lower-bits};
 
     ghost Value = { List Bool };
 
-    ghost view = { λ a. bits 128 a.raw };
+    ghost view = { λ a. bits 128 (joined a.upper a.lower) };
 
-    ghost invariant = { λ a. a.raw < 2 ^ 128 };
+    ghost invariant = { λ a. (a.upper < 2 ^ 64) × (a.lower < 2 ^ 64) };
 
-    ghost inverse = { λ p. record { raw = number p } };
+    ghost inverse = { λ p. record { upper = number p / 2 ^ 64; lower = number p % 2 ^ 64 } };
 
-    ghost inverse_ok = { λ a h i. record { raw = number-bits 128 a.raw h i } };
+    ghost inverse_ok = { λ a fit i. record {
+      upper = upper-bits a.upper a.lower fit.0 fit.1 i;
+      lower = lower-bits a.upper a.lower fit.0 fit.1 i;
+    } };
 }
 
 impl Ipv6Addr {
@@ -55,13 +61,10 @@ impl Ipv6Addr {
     pub fn new(a: u16, b: u16, c: u16, d: u16, e: u16, f: u16, g: u16, h: u16) -> Ipv6Addr
         ensures { result ≡ group_bits (a ∷ b ∷ c ∷ d ∷ e ∷ f ∷ g ∷ h ∷ []) }
     {
-        let two = u128::from(a) * 65536 + u128::from(b);
-        let three = two * 65536 + u128::from(c);
-        let four = three * 65536 + u128::from(d);
-        let five = four * 65536 + u128::from(e);
-        let six = five * 65536 + u128::from(f);
-        let seven = six * 65536 + u128::from(g);
-        Ipv6Addr::from_bits(seven * 65536 + u128::from(h))
+        Ipv6Addr {
+            upper: half_of(a, b, c, d),
+            lower: half_of(e, f, g, h),
+        }
     }
 
     /// The eight groups of sixteen bits, most significant first.
@@ -70,16 +73,15 @@ impl Ipv6Addr {
         ensures value { result ≡ groups_of self.now }
         ensures width { length self.now ≡ 128 }
     {
-        let n = self.raw;
         [
-            ((n >> 112) % 65536) as u16,
-            ((n >> 96) % 65536) as u16,
-            ((n >> 80) % 65536) as u16,
-            ((n >> 64) % 65536) as u16,
-            ((n >> 48) % 65536) as u16,
-            ((n >> 32) % 65536) as u16,
-            ((n >> 16) % 65536) as u16,
-            (n % 65536) as u16,
+            group_at(self.upper, 48),
+            group_at(self.upper, 32),
+            group_at(self.upper, 16),
+            group_at(self.upper, 0),
+            group_at(self.lower, 48),
+            group_at(self.lower, 32),
+            group_at(self.lower, 16),
+            group_at(self.lower, 0),
         ]
     }
 
@@ -89,14 +91,14 @@ impl Ipv6Addr {
         ensures value { result ≡ parts_of 8 16 self.now }
         ensures width { length self.now ≡ 128 }
     {
-        self.raw.to_be_bytes()
+        self.to_bits().to_be_bytes()
     }
 
     /// The address with this number: `from_bits(1)` is ::1.
     pub fn from_bits(value: u128) -> Ipv6Addr
         ensures { result ≡ bits 128 value }
     {
-        Ipv6Addr { raw: value }
+        Ipv6Addr::from_halves(Halves::split(value))
     }
 
     /// The address as a number: that of ::1:0 is 65536.
@@ -105,7 +107,27 @@ impl Ipv6Addr {
         ensures value { result ≡ number self }
         ensures width { length self ≡ 128 }
     {
-        self.raw
+        self.halves().join()
+    }
+
+    /// The address with this number, in halves.
+    #[tactic(auto, using(crate::proofs::HalfBits::half_laws))]
+    pub(crate) fn from_halves(value: Halves) -> Ipv6Addr
+        ensures { result ≡ bits 128 value }
+    {
+        Ipv6Addr {
+            upper: value.upper(),
+            lower: value.lower(),
+        }
+    }
+
+    /// The address as a number, in halves.
+    #[tactic(auto, using(crate::proofs::HalfBits::half_laws))]
+    pub(crate) fn halves(self) -> Halves
+        ensures value { result ≡ number self }
+        ensures width { length self ≡ 128 }
+    {
+        Halves::new(self.upper, self.lower)
     }
 
     /// Appends the printed text.
@@ -118,7 +140,7 @@ impl Ipv6Addr {
         let groups = self.segments();
         if is_mapped(&groups) {
             text.push_str("::ffff:");
-            Ipv4Addr::from_bits((self.to_bits() % (1 << 32)) as u32).push_to(text);
+            Ipv4Addr::from_bits((self.halves().lower() & 0xffff_ffff) as u32).push_to(text);
         } else {
             push_hex_groups(text, &groups);
         }
@@ -140,6 +162,24 @@ impl Ipv6Addr {
         self.push_to(&mut text);
         text
     }
+}
+
+/// The half that four groups write.
+fn half_of(a: u16, b: u16, c: u16, d: u16) -> u64
+    ensures { result ≡ ((a * 65536 + b) * 65536 + c) * 65536 + d }
+{
+    let two = u64::from(a) * 65536 + u64::from(b);
+    let three = two * 65536 + u64::from(c);
+    three * 65536 + u64::from(d)
+}
+
+/// The group of a half that so many bits follow.
+#[tactic(auto, using(crate::proofs::GroupLaws::group_mask))]
+fn group_at(half: u64, shift: u8) -> u16
+    requires { shift < 64 }
+    ensures { result ≡ half / 2 ^ shift % 65536 }
+{
+    (half >> shift & 0xffff) as u16
 }
 
 impl From<u128> for Ipv6Addr {
@@ -172,9 +212,9 @@ impl PartialEq for Ipv6Addr {
 
     ghost laws = { partial_equiv_from_equiv bit_eq_equiv };
 
-    #[tactic(auto, using(crate::specs::laws::BitLaws::bit_laws))]
+    #[tactic(auto, using(crate::proofs::HalfBits::half_laws))]
     fn eq(&self, other: &Ipv6Addr) -> bool {
-        self.raw == other.raw
+        self.upper == other.upper && self.lower == other.lower
     }
 }
 
@@ -201,9 +241,12 @@ impl Ord for Ipv6Addr {
 
     ghost matches_eq = { bit_eq_ties };
 
-    #[tactic(auto, using(crate::specs::laws::BitLaws::bit_laws))]
+    #[tactic(auto, using(crate::proofs::HalfBits::half_laws))]
     fn cmp(&self, other: &Ipv6Addr) -> Ordering {
-        self.raw.cmp(&other.raw)
+        match self.upper.cmp(&other.upper) {
+            Ordering::Equal => self.lower.cmp(&other.lower),
+            unlike => unlike,
+        }
     }
 }
 
@@ -214,7 +257,7 @@ impl Hash for Ipv6Addr {
 
     #[tactic(auto, using(crate::specs::laws::BitLaws::bit_laws))]
     fn hash<H: Hasher>(&self, state: &mut H) {
-        self.raw.hash(state);
+        self.to_bits().hash(state);
     }
 }
 

@@ -15,10 +15,9 @@ ghost use Rattle.cidr.specs.declared.family.Family.TheVariants.{Ipv4, Ipv6};
 use crate::addr::error::AddrParseError;
 use crate::addr::v4::Ipv4Addr;
 use crate::addr::v6::Ipv6Addr;
+use crate::arithmetic::halves::Halves;
 use crate::arithmetic::{
-    first_number, first_number6, host_mask, host_mask6, host_part, host_part6, last_number,
-    last_number6, order, same_first_bits, same_first_bits6, step_down, step_down6, step_up,
-    step_up6,
+    first_number, host_mask, host_part, last_number, order, same_first_bits, step_down, step_up,
 };
 use crate::family::Family;
 use crate::num::NumberOfAddresses;
@@ -178,7 +177,10 @@ impl AddressBits for Ipv4Addr {
 
     #[tactic(auto, using(crate::proofs::PairNumbers::walk_count_laws))]
     fn count_to(self, last: Ipv4Addr) -> NumberOfAddresses {
-        NumberOfAddresses::between(u128::from(self.to_bits()), u128::from(last.to_bits()))
+        NumberOfAddresses::between(
+            Halves::new(0, u64::from(self.to_bits())),
+            Halves::new(0, u64::from(last.to_bits())),
+        )
     }
 
     ghost ordered = { λ _ _. refl };
@@ -216,48 +218,51 @@ impl AddressBits for Ipv6Addr {
 
     #[tactic(auto, using(crate::proofs::HostNumbers::host_number_laws))]
     fn first_in(self, len: u8) -> Ipv6Addr {
-        Ipv6Addr::from_bits(first_number6(self.to_bits(), len))
+        Ipv6Addr::from_halves(self.halves().first_number(len))
     }
 
     #[tactic(auto, using(crate::proofs::HostNumbers::host_number_laws))]
     fn last_in(self, len: u8) -> Ipv6Addr {
-        Ipv6Addr::from_bits(last_number6(self.to_bits(), len))
+        Ipv6Addr::from_halves(self.halves().last_number(len))
     }
 
     #[tactic(auto, using(crate::proofs::NetworkNumbers::number_test_laws))]
     fn mask_of(len: u8) -> Ipv6Addr {
-        Ipv6Addr::from_bits(u128::MAX - host_mask6(len))
+        Ipv6Addr::from_halves(Halves::network_mask(len))
     }
 
     #[tactic(auto, using(crate::proofs::NetworkNumbers::number_test_laws))]
     fn is_first_in(self, len: u8) -> bool {
-        host_part6(self.to_bits(), len) == 0
+        self.halves().host_part(len).is_zero()
     }
 
     #[tactic(auto, using(crate::proofs::PairNumbers::shared_laws))]
     fn shares(self, other: Ipv6Addr, len: u8) -> bool {
-        same_first_bits6(self.to_bits(), other.to_bits(), len)
+        self.halves().same_first_bits(other.halves(), len)
     }
 
     #[tactic(auto, using(crate::proofs::HostNumbers::host_number_laws))]
     fn step_up(self, len: u8, step: u128) -> (Ipv6Addr, bool) {
-        let (stepped, wraps) = step_up6(self.to_bits(), len, step);
-        (Ipv6Addr::from_bits(stepped), wraps)
+        let (stepped, wraps) = self.halves().step_up(len, step);
+        (Ipv6Addr::from_halves(stepped), wraps)
     }
 
     #[tactic(auto, using(crate::proofs::HostNumbers::host_number_laws))]
     fn step_down(self, len: u8, step: u128) -> (Ipv6Addr, bool) {
-        let (stepped, wraps) = step_down6(self.to_bits(), len, step);
-        (Ipv6Addr::from_bits(stepped), wraps)
+        let (stepped, wraps) = self.halves().step_down(len, step);
+        (Ipv6Addr::from_halves(stepped), wraps)
     }
 
     fn order(self, len: u8, other: Ipv6Addr, other_len: u8) -> Ordering {
-        self.cmp(&other).then(len.cmp(&other_len))
+        match self.cmp(&other) {
+            Ordering::Equal => len.cmp(&other_len),
+            unlike => unlike,
+        }
     }
 
     #[tactic(auto, using(crate::proofs::PairNumbers::walk_count_laws))]
     fn count_to(self, last: Ipv6Addr) -> NumberOfAddresses {
-        NumberOfAddresses::between(self.to_bits(), last.to_bits())
+        NumberOfAddresses::between(self.halves(), last.halves())
     }
 
     ghost ordered = { λ _ _. refl };

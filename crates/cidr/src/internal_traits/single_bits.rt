@@ -5,7 +5,7 @@ ghost use Rattle.cidr.specs.model.Network.{width_of};
 
 use crate::addr::v4::Ipv4Addr;
 use crate::addr::v6::Ipv6Addr;
-use crate::arithmetic::{bit, bit6, shared_len, shared_len6, with_bit, with_bit6};
+use crate::arithmetic::{bit, shared_len, with_bit};
 use crate::internal_traits::address_bits::AddressBits;
 
 /// The bits of an address one by one, the most significant first.
@@ -42,15 +42,15 @@ impl SingleBits for Ipv4Addr {
 
 impl SingleBits for Ipv6Addr {
     fn bit(self, i: u8) -> bool {
-        bit6(self.to_bits(), i)
+        self.halves().bit(i)
     }
 
     #[tactic(auto, using(crate::proofs::SingleBits::single_bit_laws))]
     fn with_bit(self, i: u8, b: bool) -> Ipv6Addr {
-        Ipv6Addr::from_bits(with_bit6(self.to_bits(), i, b))
+        Ipv6Addr::from_halves(self.halves().with_bit(i, b))
     }
 
     fn shared_len(self, other: Ipv6Addr) -> u8 {
-        shared_len6(self.to_bits(), other.to_bits())
+        self.halves().shared_len(other.halves())
     }
 }

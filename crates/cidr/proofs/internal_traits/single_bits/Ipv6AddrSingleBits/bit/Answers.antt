@@ -6,5 +6,5 @@ use Rattle.cidr.proofs.internal_traits.single_bits.Ipv6AddrSingleBits.bit.Goals 
 
 pub returns : goal.returns
 returns c =
-    c.bit6.ensures ∙ ap (λ n. bit_at n (127 - c.args.i) == 1) c.to_bits.ensures.value
-    ∙ sym (get_or-number 128 c.args.i c.args.self (omega arith) c.to_bits.ensures.width)
+    c.bit.ensures ∙ ap (λ n. bit_at n (127 - c.args.i) == 1) c.halves.ensures.value
+    ∙ sym (get_or-number 128 c.args.i c.args.self (omega arith) c.halves.ensures.width)

@@ -4,7 +4,7 @@ use Rattle.cidr.proofs.internal_traits.single_bits.Ipv6AddrSingleBits.shared_len
 
 pub returns : goal.returns
 returns c =
-    let here = c.to_bits.ensures in
-    let there = c.to_bits-2.ensures in
-    let same = rw (here.value, there.value) at c.shared_len6.ensures.shared in
-    shared_by_numbers 128 c.shared_len6.result c.args.self c.args.other here.width there.width c.shared_len6.ensures.fits same
+    let here = c.halves.ensures in
+    let there = c.halves-2.ensures in
+    let same = rw (here.value, there.value) at c.shared_len.ensures.shared in
+    shared_by_numbers 128 c.shared_len.result c.args.self c.args.other here.width there.width c.shared_len.ensures.fits same

@@ -1,0 +1,7 @@
+-- The zeros in front of the difference are the shared bits, of 64.
+use Rattle.std.proofs.Common.{arith}
+use Rattle.cidr.proofs.SharedBits.{same_first_bits}
+use Rattle.cidr.proofs.arithmetic.half.shared_len.Goals as goal
+
+pub returns-clause-shared : goal.returns-clause-shared
+returns-clause-shared c k h = same_first_bits 64 k c.args.half c.args.other h (omega arith) (omega arith)

@@ -1,7 +1,0 @@
--- The zeros in front of the difference are the shared bits, of 128.
-use Rattle.std.proofs.Common.{arith}
-use Rattle.cidr.proofs.SharedBits.{same_first_bits}
-use Rattle.cidr.proofs.arithmetic.shared_len6.Goals as goal
-
-pub returns-clause-shared : goal.returns-clause-shared
-returns-clause-shared c k h = same_first_bits 128 k c.args.value c.args.other h (omega arith) (omega arith)
