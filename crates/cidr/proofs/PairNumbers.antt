@@ -1,5 +1,5 @@
 -- Pairs by the numbers of their addresses, over any width.
-use Rattle.std.proofs.Common.{◌≡◌, ◌≢◌, ℕ, ◌+◌, ◌-◌, ◌*◌, ◌/◌, ◌^◌, ◌<◌, ◌≤◌, Bool, true, false, List, length, take, ◌==◌, sym, ap, ap₂, ◌∙◌, arith, IsTrue, ◌↔◌}
+use Rattle.std.proofs.Common.{◌≡◌, ◌≢◌, ℕ, ◌+◌, ◌-◌, ◌*◌, ◌/◌, ◌^◌, ◌<◌, ◌≤◌, Bool, true, false, List, length, take, ◌==◌, sym, ap, ap₂, ◌∙◌, arith, IsTrue, ◌↔◌, nat_lt}
 use Rattle.std.proofs.Math.Nat.{div-mul-le_self}
 use Rattle.std.proofs.lemmas.Nat.{le-div, pow_pos}
 use Rattle.std.proofs.lemmas.Bool.Decides.{nat_tests}
@@ -130,3 +130,15 @@ shared_no w k a b h e f other = shared-test w k a b h e f ∙ grind (arith, nat_
 pub ruleset shared_laws = (shared_yes, shared_no)
 
 pub ruleset walk_count_laws = (length-walk_between)
+
+-- the test of the order, on the numbers
+pub below_test : (a b : List Bool) → length a ≡ length b → is_lt (bit_cmp a b) ≡ nat_lt (number a) (number b)
+below_test a b e = ap is_lt (bit_cmp-numbers a b e) ∙ grind (arith, nat_tests)
+
+pub below_yes : (a b : List Bool) → length a ≡ length b → number a < number b → is_lt (bit_cmp a b) ≡ true
+below_yes a b e h = ap is_lt (bit_cmp-numbers a b e) ∙ grind (arith, nat_tests)
+
+pub below_no : (a b : List Bool) → length a ≡ length b → number b ≤ number a → is_lt (bit_cmp a b) ≡ false
+below_no a b e h = ap is_lt (bit_cmp-numbers a b e) ∙ grind (arith, nat_tests)
+
+pub ruleset below_laws = (below_test, below_yes, below_no)

@@ -1,6 +1,6 @@
 //! The traits of addresses: what networks, hosts and pairs of one family are written over.
 ghost use Rattle.std.specs.Prelude.{◌≡◌, ◌↔◌, ◌+◌, ◌-◌, ◌≤◌, ◌++◌, Bool, List, length, take, drop, IsTrue, refl};
-ghost use Rattle.std.specs.Ordering.{nat_cmp, ordering_then};
+ghost use Rattle.std.specs.Ordering.{nat_cmp, ordering_then, is_lt};
 ghost use Rattle.cidr.specs.model.Views.{seen};
 ghost use Rattle.cidr.specs.model.Bits.{bit_cmp, bit_eq};
 ghost use Rattle.cidr.specs.model.Counted.{number_of};
@@ -91,6 +91,10 @@ pub trait AddressBits: Copy + Ord + Hash {
     fn order(self, len: u8, other: Self, other_len: u8) -> Ordering
         ensures { result ≡ ordering_then (bit_cmp (bits self) (bits other)) (nat_cmp len other_len) };
 
+    /// Whether it comes before the other.
+    fn is_below(self, other: Self) -> bool
+        ensures { result ≡ is_lt (bit_cmp (bits self) (bits other)) };
+
     /// How many addresses there are from this one to the last, both counted.
     fn count_to(self, last: Self) -> NumberOfAddresses
         ensures { number_of result ≡ length (walk_between (width_of FAMILY) (bits self) (bits last)) };
@@ -173,6 +177,11 @@ impl AddressBits for Ipv4Addr {
     #[tactic(auto, using(crate::specs::laws::BitLaws::number_order_laws))]
     fn order(self, len: u8, other: Ipv4Addr, other_len: u8) -> Ordering {
         order(self.to_bits(), len, other.to_bits(), other_len)
+    }
+
+    #[tactic(auto, using(crate::proofs::PairNumbers::below_laws))]
+    fn is_below(self, other: Ipv4Addr) -> bool {
+        self.to_bits() < other.to_bits()
     }
 
     #[tactic(auto, using(crate::proofs::PairNumbers::walk_count_laws))]
@@ -258,6 +267,11 @@ impl AddressBits for Ipv6Addr {
             Ordering::Equal => len.cmp(&other_len),
             unlike => unlike,
         }
+    }
+
+    #[tactic(auto, using(crate::proofs::PairNumbers::below_laws))]
+    fn is_below(self, other: Ipv6Addr) -> bool {
+        self.to_bits() < other.to_bits()
     }
 
     #[tactic(auto, using(crate::proofs::PairNumbers::walk_count_laws))]

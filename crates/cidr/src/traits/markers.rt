@@ -1,7 +1,4 @@
 //! The marker traits of all types, side by side: the family and the bits of each.
-ghost use Rattle.std.specs.Prelude.{◌≡◌};
-ghost use Rattle.std.specs.Ordering.{is_lt};
-ghost use Rattle.cidr.specs.model.Bits.{bit_cmp};
 ghost use Rattle.cidr.specs.either.IpAddress.{address_family, plain_bits};
 ghost use Rattle.cidr.specs.either.IpHost.{host_family, host_parts};
 ghost use Rattle.cidr.specs.either.IpNetwork.{network_family, network_prefix};
@@ -83,7 +80,7 @@ impl<A: AddressBits> PrivInetPair for HostPair<A> {
 
     fn _inc_first(&mut self) -> bool {
         let (first, second) = self.addresses();
-        let more = is_below(first, second);
+        let more = first.is_below(second);
         if more {
             // the network of length 0 has all addresses
             let next = first.step_up(0, 1).0;
@@ -94,7 +91,7 @@ impl<A: AddressBits> PrivInetPair for HostPair<A> {
 
     fn _dec_second(&mut self) -> bool {
         let (first, second) = self.addresses();
-        let more = is_below(first, second);
+        let more = first.is_below(second);
         if more {
             // the network of length 0 has all addresses
             let before = second.step_down(0, 1).0;
@@ -102,13 +99,6 @@ impl<A: AddressBits> PrivInetPair for HostPair<A> {
         }
         more
     }
-}
-
-/// Whether the first address comes before the second.
-fn is_below<A: AddressBits>(first: A, second: A) -> bool
-    ensures { result ≡ is_lt (bit_cmp (A.bits first) (A.bits second)) }
-{
-    first.cmp(&second).is_lt()
 }
 
 impl PrivInetPair for IpInetPair {
