@@ -4,6 +4,8 @@
 #[cfg(test)]
 mod errors;
 #[cfg(test)]
+mod every_length;
+#[cfg(test)]
 mod holding;
 #[cfg(test)]
 mod lengths;

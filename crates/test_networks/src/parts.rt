@@ -50,3 +50,24 @@ fn a_network_of_one_address_has_full_length(rt: HostRuntime) {
     assert!(rt; network.is_host_address());
     assert!(rt; *network.first_address_ref() == last);
 }
+
+#[test]
+fn an_ipv6_prefix_ends_in_either_half(rt: HostRuntime) {
+    for (network, last, mask) in [
+        ("::/1", "7fff:ffff:ffff:ffff:ffff:ffff:ffff:ffff", "8000::"),
+        ("::/63", "::1:ffff:ffff:ffff:ffff", "ffff:ffff:ffff:fffe::"),
+        ("::/64", "::ffff:ffff:ffff:ffff", "ffff:ffff:ffff:ffff::"),
+        (
+            "::/65",
+            "::7fff:ffff:ffff:ffff",
+            "ffff:ffff:ffff:ffff:8000::",
+        ),
+    ] {
+        let found = read::<Ipv6Cidr>(&rt, network);
+        assert!(rt;
+            found.last_address() == read::<Ipv6Addr>(&rt, last),
+            "at {network}"
+        );
+        assert!(rt; found.mask() == read::<Ipv6Addr>(&rt, mask), "at {network}");
+    }
+}
