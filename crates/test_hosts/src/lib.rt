@@ -2,6 +2,8 @@
 #![tactic(auto)]
 
 #[cfg(test)]
+mod every_length;
+#[cfg(test)]
 mod order;
 #[cfg(test)]
 mod parts;

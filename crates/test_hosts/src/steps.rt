@@ -36,3 +36,19 @@ fn an_ipv6_step_carries_into_the_upper_half(rt: HostRuntime) {
     assert!(rt; host.next() == Some(above));
     assert!(rt; read::<Ipv6Inet>(&rt, "::/64").previous().is_none());
 }
+
+#[test]
+fn a_prefix_that_ends_beside_the_middle_keeps_the_step_to_its_half(rt: HostRuntime) {
+    for (host, wanted, wraps) in [
+        ("::ffff:ffff:ffff:ffff/63", "0:0:0:1::/63", false),
+        ("::ffff:ffff:ffff:ffff/64", "::/64", true),
+        ("::ffff:ffff:ffff:ffff/65", "::8000:0:0:0/65", true),
+    ] {
+        let before = read::<Ipv6Inet>(&rt, host);
+        let mut after = before;
+        assert!(rt; after.increment() == wraps, "at {host}");
+        assert!(rt; after == read::<Ipv6Inet>(&rt, wanted), "at {host}");
+        assert!(rt; after.decrement() == wraps, "at {host}");
+        assert!(rt; after == before, "at {host}");
+    }
+}
