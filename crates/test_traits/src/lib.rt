@@ -5,6 +5,10 @@
 #[cfg(test)]
 mod either_family;
 #[cfg(test)]
+mod lengths;
+#[cfg(test)]
+mod long_texts;
+#[cfg(test)]
 mod one_family;
 #[cfg(test)]
 mod over_traits;
