@@ -6,29 +6,8 @@ use cidr::parsers::{
     parse_any_cidr_ignore_hostbits, parse_cidr, parse_cidr_full, parse_cidr_full_ignore_hostbits,
     parse_cidr_ignore_hostbits, parse_inet, parse_inet_full,
 };
-use cidr::{AddrParseError, IpAddr, IpCidr, IpInet};
+use cidr::{IpAddr, IpCidr, IpInet};
 use std::str::FromStr;
-
-/// Refuses every text as strict reading refuses one that is no address.
-fn refuse(_text: &str) -> Result<IpAddr, AddrParseError> {
-    "".parse::<IpAddr>()
-}
-
-#[test]
-fn any_is_read_with_no_parser(rt: HostRuntime) {
-    assert!(rt; gives(rt.alloc(), &parse_any_cidr("any", refuse), "any"));
-    assert!(rt;
-        gives(
-            rt.alloc(),
-            &parse_any_cidr_ignore_hostbits("any", refuse),
-            "any"
-        )
-    );
-    let full = parse_any_cidr_full("any", refuse, refuse_host_part::<IpCidr>);
-    assert!(rt; gives(rt.alloc(), &full, "any"));
-    let ignoring = parse_any_cidr_full_ignore_hostbits("any", refuse, refuse_host_part::<IpCidr>);
-    assert!(rt; gives(rt.alloc(), &ignoring, "any"));
-}
 
 #[test]
 fn any_has_no_length(rt: HostRuntime) {

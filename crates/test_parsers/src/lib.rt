@@ -8,4 +8,6 @@ mod either_family;
 #[cfg(test)]
 mod one_family;
 #[cfg(test)]
+mod refusals;
+#[cfg(test)]
 mod support;
