@@ -59,6 +59,16 @@ fn a_walk_over_all_of_ipv6_has_no_count(rt: HostRuntime) {
 }
 
 #[test]
+fn a_walk_over_half_of_ipv6_has_no_count(rt: HostRuntime) {
+    let half = read::<Ipv6Cidr>(&rt, "::/1");
+    let pair = Ipv6InetPair::new(half.first(), half.last()).expect(&rt, "one network");
+    assert!(rt; pair.iter().size_hint() == (usize::MAX, None));
+    assert!(rt; pair.iter().count().is_none());
+    assert!(rt; pair.iter().addresses().size_hint() == (usize::MAX, None));
+    assert!(rt; pair.iter().addresses().count().is_none());
+}
+
+#[test]
 fn a_walk_over_all_of_ipv4_is_counted(rt: HostRuntime) {
     let mut hosts = read::<Ipv4Cidr>(&rt, "0.0.0.0/0").into_iter();
     assert!(rt; hosts.size_hint() == (1 << 32, Some(1 << 32)));

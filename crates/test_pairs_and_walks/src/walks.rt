@@ -33,3 +33,22 @@ fn a_walk_over_a_reversed_pair_is_empty(rt: HostRuntime) {
     drive(&mut walk, &[End::Front, End::Back], &mut answers);
     assert!(rt; answers == [None, None]);
 }
+
+#[test]
+fn a_walk_over_one_address_gives_it_once(rt: HostRuntime) {
+    let address = read::<Ipv4Addr>(&rt, "1.2.3.4");
+    let ends = [End::Front, End::Front, End::Back, End::Back];
+    let mut walk = Ipv4Cidr::new_host(address).iter().addresses();
+    let mut answers = [None; 4];
+    drive(&mut walk, &ends, &mut answers);
+    assert!(rt; answers == [Some(address), None, None, None]);
+}
+
+#[test]
+fn no_calls_leave_a_walk_as_it_was(rt: HostRuntime) {
+    let mut walk = read::<Ipv4Cidr>(&rt, "1.2.3.0/30").iter().addresses();
+    drive(&mut walk, &[], &mut []);
+    assert!(rt; walk.size_hint() == (4, Some(4)));
+    assert!(rt; walk.next() == small(0));
+    assert!(rt; walk.next_back() == small(3));
+}
