@@ -9,42 +9,69 @@ use crate::run::run;
 use crate::sink::Sink;
 use cidr::errors::NetworkParseError;
 use std::io::ErrorKind;
+use std::process::Abort;
 use std::test::Fail;
 
 const SHOW: [&str; 2] = ["show", "192.0.2.48/28"];
 
+/// Arguments of each command, and the answer.
+const ANSWERS: [(&[&str], &str); 8] = [
+    (&SHOW, SHOWN),
+    (&["show", "any"], "network any\n"),
+    (&["in", "10.0.0.0/8", "11.0.0.0"], "no\n"),
+    (&["cmp", "any", "0.0.0.0/0"], "less\n"),
+    (
+        &["walk", "1.2.3.0/30", "fbb"],
+        "1.2.3.0\n1.2.3.3\n1.2.3.2\n",
+    ),
+    (&["walk", "1.2.3.0/30", ""], ""),
+    (&["bytes", "192.0.2.0/24"], "18c0000200\n"),
+    (&["loose", "127.1"], "127.0.0.1\n"),
+];
+
 #[test]
 fn a_slow_writer_gets_the_whole_answer(rt: HostRuntime) -> Result<(), Fail> {
-    let mut slow = troubled(rt.alloc(), 1, 0, Trouble::Zero);
-    assert_eq!(rt; run(&SHOW, &mut slow), Ok(()));
-    let slow = slow.into_inner();
-    assert_eq!(rt; slow.bytes.as_slice(), SHOWN.as_bytes());
-    assert_eq!(rt; slow.calls, SHOWN.len() + 1, "the last call is the flush");
+    for (arguments, answer) in ANSWERS {
+        let mut slow = troubled(rt.alloc(), 1, 0, Trouble::Zero);
+        assert_eq!(rt; run(arguments, &mut slow), Ok(()));
+        let slow = slow.into_inner();
+        assert_eq!(rt; slow.bytes.as_slice(), answer.as_bytes());
+        assert_eq!(rt; slow.calls, answer.len() + 1, "the last call is the flush");
+    }
     Ok(())
 }
 
-/// Trouble at any call ends the writing, and the next run writes nothing.
+/// Runs these arguments twice on a writer that takes a byte a call and has its trouble at one. The first run ends
+/// there, and the second writes nothing.
+fn try_trouble(
+    rt: &(impl Abort + AllocGlobal),
+    arguments: &[&str],
+    answer: &str,
+    at: usize,
+    trouble: Trouble,
+) -> Result<(), Fail> {
+    let mut out = troubled(rt.alloc(), 1, at, trouble);
+    assert_eq!(rt; run(arguments, &mut out), Err(ToolError::Output));
+    assert!(rt; out.failed());
+    assert_eq!(rt; run(arguments, &mut out), Err(ToolError::Output));
+    let written = out.into_inner();
+    assert_eq!(rt; written.calls, at, "no call after the trouble");
+    assert_eq!(rt; written.bytes.len().saturating_add(1), at);
+    assert!(rt; answer.as_bytes().starts_with(written.bytes.as_slice()));
+    Ok(())
+}
+
 #[test]
 fn a_failed_writer_gets_nothing_more(rt: HostRuntime) -> Result<(), Fail> {
-    for trouble in [
-        Trouble::Error(ErrorKind::Other),
-        Trouble::Error(ErrorKind::Interrupted),
-        Trouble::Zero,
-    ] {
-        // a flush that takes no bytes is no trouble
-        let last = if trouble == Trouble::Zero {
-            SHOWN.len()
-        } else {
-            SHOWN.len() + 1
-        };
-        for at in 1..last + 1 {
-            let mut out = troubled(rt.alloc(), 1, at, trouble);
-            assert_eq!(rt; run(&SHOW, &mut out), Err(ToolError::Output));
-            assert!(rt; out.failed());
-            assert_eq!(rt; run(&SHOW, &mut out), Err(ToolError::Output));
-            let bytes = out.into_inner().bytes;
-            assert_eq!(rt; bytes.len(), at - 1, "nothing after the trouble");
-            assert!(rt; SHOWN.as_bytes().starts_with(bytes.as_slice()));
+    for (arguments, answer) in ANSWERS {
+        // the last call is the flush
+        for at in 1..answer.len().saturating_add(2) {
+            for kind in [ErrorKind::Other, ErrorKind::Interrupted] {
+                try_trouble(&rt, arguments, answer, at, Trouble::Error(kind))?;
+            }
+        }
+        for at in 1..answer.len().saturating_add(1) {
+            try_trouble(&rt, arguments, answer, at, Trouble::Zero)?;
         }
     }
     Ok(())
