@@ -8,8 +8,6 @@ mod every_length;
 #[cfg(test)]
 mod holding;
 #[cfg(test)]
-mod lengths;
-#[cfg(test)]
 mod order;
 #[cfg(test)]
 mod parts;

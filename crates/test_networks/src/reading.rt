@@ -53,6 +53,7 @@ fn a_length_is_digits_of_a_value_up_to_255(rt: HostRuntime) {
         "10.0.0.0/+",
         "10.0.0.0/++8",
         "10.0.0.0/ 8",
+        "10.0.0.0/８",
     ] {
         assert!(rt;
             reads_as::<Ipv4Cidr>(rt.alloc(), text, message),
@@ -75,6 +76,8 @@ fn what_stands_before_the_last_slash_is_an_address(rt: HostRuntime) {
         "1.2.3",
         " 10.0.0.0/8",
         "/",
+        "é/8",
+        "10.0.0.0//8",
     ] {
         assert!(rt;
             reads_as::<Ipv4Cidr>(rt.alloc(), text, message),
