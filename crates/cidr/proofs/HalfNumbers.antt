@@ -36,7 +36,7 @@ parts_within w k n m h =
       | inr within ↦ omega (arith, last_within w k n (omega arith) h, shr_split n (w - k))
     ]
 
-pub ruleset host_laws = (shr_split)
+pub ruleset host_laws = (shr_split, part_below)
 
 pub ruleset split_laws = (upper-joined, lower-joined, shr_split)
 
@@ -92,14 +92,6 @@ rounded-halves h k u l fits low =
 pub host-halves : (k u l : ℕ) → k ≤ 128 → l < 2 ^ 64 → joined (u % 2 ^ (64 - k)) (l % 2 ^ (64 - (k - 64))) ≡ joined u l % 2 ^ (128 - k)
 host-halves k u l fits low = sym (mod-halves 64 k u l fits low)
 
-pub parts-halves : (k u l v m : ℕ) → k ≤ 128 → l < 2 ^ 64 → m < 2 ^ 64
-    → joined (u / 2 ^ (64 - k) * 2 ^ (64 - k) + v % 2 ^ (64 - k)) (l / 2 ^ (64 - (k - 64)) * 2 ^ (64 - (k - 64)) + m % 2 ^ (64 - (k - 64)))
-    ≡ joined u l / 2 ^ (128 - k) * 2 ^ (128 - k) + joined v m % 2 ^ (128 - k)
-parts-halves k u l v m fits low lower =
-    let i = 64 - k in
-    let spread : (u / 2 ^ i * 2 ^ i + v % 2 ^ i) * 2 ^ 64 ≡ u / 2 ^ i * 2 ^ i * 2 ^ 64 + v % 2 ^ i * 2 ^ 64 = omega arith in
-    omega (arith, spread, rounded-halves 64 k u l fits low, mod-halves 64 k v m fits lower)
-
 pub ones-halves : (k : ℕ) → k ≤ 128 → joined (2 ^ (64 - k) - 1) (2 ^ (64 - (k - 64)) - 1) ≡ 2 ^ (128 - k) - 1
 ones-halves k fits =
     elim (cases_lt 64 k) [
@@ -113,6 +105,21 @@ ones-halves k fits =
           let pos = pow_pos (64 - k) in
           rw (same, all, pow-add 2 (64 - k) 64) (omega arith)
     ]
+
+pub room-halves : (k u l : ℕ) → k ≤ 128 → l < 2 ^ 64
+    → joined (2 ^ (64 - k) - 1 - u % 2 ^ (64 - k)) (2 ^ (64 - (k - 64)) - 1 - l % 2 ^ (64 - (k - 64))) ≡ 2 ^ (128 - k) - 1 - joined u l % 2 ^ (128 - k)
+room-halves k u l fits low =
+    let upper = part_below u (64 - k) in
+    let lower = part_below l (64 - (k - 64)) in
+    omega (arith, ones-halves k fits, host-halves k u l fits low)
+
+pub parts-halves : (k u l v m : ℕ) → k ≤ 128 → l < 2 ^ 64 → m < 2 ^ 64
+    → joined (u / 2 ^ (64 - k) * 2 ^ (64 - k) + v % 2 ^ (64 - k)) (l / 2 ^ (64 - (k - 64)) * 2 ^ (64 - (k - 64)) + m % 2 ^ (64 - (k - 64)))
+    ≡ joined u l / 2 ^ (128 - k) * 2 ^ (128 - k) + joined v m % 2 ^ (128 - k)
+parts-halves k u l v m fits low lower =
+    let i = 64 - k in
+    let spread : (u / 2 ^ i * 2 ^ i + v % 2 ^ i) * 2 ^ 64 ≡ u / 2 ^ i * 2 ^ i * 2 ^ 64 + v % 2 ^ i * 2 ^ 64 = omega arith in
+    omega (arith, spread, rounded-halves 64 k u l fits low, mod-halves 64 k v m fits lower)
 
 -- ---- the first bits of two numbers by halves
 multiple-div : (a b k : ℕ) → a / 2 ^ k * 2 ^ k ≡ b / 2 ^ k * 2 ^ k → a / 2 ^ k ≡ b / 2 ^ k

@@ -20,11 +20,10 @@ impl NumberOfAddresses {
     pub(crate) fn between(first: Halves, last: Halves) -> NumberOfAddresses
         ensures { number_of result ≡ last + 1 - first }
     {
-        let (steps, reversed) = last.overflowing_sub(first);
-        if reversed {
+        if last.is_below(first) {
             return NumberOfAddresses::Count(0);
         }
-        match steps.join() {
+        match last.wrapping_sub(first).join() {
             u128::MAX => NumberOfAddresses::MaxIpv6Addresses,
             steps => NumberOfAddresses::Count(steps + 1),
         }

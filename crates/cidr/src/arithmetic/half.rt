@@ -18,6 +18,14 @@ pub(crate) fn host_part(half: u64, len: u8) -> u64
     half & host_mask(len)
 }
 
+/// How much greater the number of the bits from `len` on can be.
+#[tactic(auto, using(crate::proofs::HalfNumbers::host_laws))]
+pub(crate) fn host_room(half: u64, len: u8) -> u64
+    ensures { result ≡ 2 ^ (64 - len) - 1 - half % 2 ^ (64 - len) }
+{
+    host_mask(len) - host_part(half, len)
+}
+
 /// The first `len` bits of the half, and from there on those of the other.
 #[tactic(auto, using(crate::proofs::HalfNumbers::host_laws))]
 pub(crate) fn with_host_part(half: u64, other: u64, len: u8) -> u64

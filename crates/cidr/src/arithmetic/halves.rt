@@ -83,14 +83,20 @@ impl Halves {
         Halves { upper, lower }
     }
 
-    /// The difference, and whether the upper half borrows: whether the other is greater.
-    pub(crate) fn overflowing_sub(self, other: Halves) -> (Halves, bool)
-        ensures value { result.0 ≡ (self + (2 ^ 128 - other)) % 2 ^ 128 }
-        ensures borrow { IsTrue result.1 ↔ (self < other) }
+    /// The difference, without what the upper half borrows.
+    pub(crate) fn wrapping_sub(self, other: Halves) -> Halves
+        ensures { result ≡ (self + (2 ^ 128 - other)) % 2 ^ 128 }
     {
         let (lower, borrow) = self.lower.borrowing_sub(other.lower, false);
-        let (upper, borrow) = self.upper.borrowing_sub(other.upper, borrow);
-        (Halves { upper, lower }, borrow)
+        let (upper, _) = self.upper.borrowing_sub(other.upper, borrow);
+        Halves { upper, lower }
+    }
+
+    /// Whether it is below the other, by one comparison of both halves.
+    pub(crate) fn is_below(self, other: Halves) -> bool
+        ensures { IsTrue result ↔ (self < other) }
+    {
+        self.join() < other.join()
     }
 
     /// The first `len` bits, and from there on those of the other.
@@ -116,14 +122,14 @@ impl Halves {
         }
     }
 
-    /// The greatest number of the bits from `len` on: all ones.
-    pub(crate) fn host_mask(len: u8) -> Halves
+    /// How much greater the number of the bits from `len` on can be.
+    pub(crate) fn host_room(self, len: u8) -> Halves
         requires { len ≤ 128 }
-        ensures { result ≡ 2 ^ (128 - len) - 1 }
+        ensures { result ≡ 2 ^ (128 - len) - 1 - self % 2 ^ (128 - len) }
     {
         Halves {
-            upper: half::host_mask(len),
-            lower: half::host_mask(len.saturating_sub(64)),
+            upper: half::host_room(self.upper, len),
+            lower: half::host_room(self.lower, len.saturating_sub(64)),
         }
     }
 
@@ -170,8 +176,7 @@ impl Halves {
         ensures wraps { IsTrue result.1 ↔ (2 ^ (128 - len) ≤ self % 2 ^ (128 - len) + step) }
     {
         let step = Halves::split(step);
-        let (room, _) = Halves::host_mask(len).overflowing_sub(self.host_part(len));
-        let (_, wraps) = room.overflowing_sub(step);
+        let wraps = self.host_room(len).is_below(step);
         (self.with_host_part(self.wrapping_add(step), len), wraps)
     }
 
@@ -184,9 +189,8 @@ impl Halves {
         ensures wraps { IsTrue result.1 ↔ (self % 2 ^ (128 - len) < step) }
     {
         let step = Halves::split(step);
-        let (stepped, _) = self.overflowing_sub(step);
-        let (_, wraps) = self.host_part(len).overflowing_sub(step);
-        (self.with_host_part(stepped, len), wraps)
+        let wraps = self.host_part(len).is_below(step);
+        (self.with_host_part(self.wrapping_sub(step), len), wraps)
     }
 
     /// How many of the first bits of both are the same.

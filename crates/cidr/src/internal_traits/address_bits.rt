@@ -271,7 +271,7 @@ impl AddressBits for Ipv6Addr {
 
     #[tactic(auto, using(crate::proofs::PairNumbers::below_laws))]
     fn is_below(self, other: Ipv6Addr) -> bool {
-        self.to_bits() < other.to_bits()
+        self.halves().is_below(other.halves())
     }
 
     #[tactic(auto, using(crate::proofs::PairNumbers::walk_count_laws))]
