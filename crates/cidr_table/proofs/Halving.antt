@@ -1,0 +1,72 @@
+-- The search by halving: what it knows between two comparisons, and that each halves the places left.
+use Rattle.std.proofs.Common.{◌≡◌, refl, ◌∙◌, ap, arith, inl, inr, ℕ, ◌+◌, ◌-◌, ◌^◌, ◌<◌, ◌≤◌, List, length, get_or, suc, zero}
+use Rattle.std.proofs.Math.Nat.{pow-suc, pow-zero}
+use Rattle.std.proofs.lemmas.Bool.{cases_eq}
+use Rattle.std.proofs.lemmas.Map.Keys.{Less-from_sorted}
+use Rattle.std.specs.Cmp.{IsTotalOrder}
+use Rattle.std.specs.Ordering.{ordering_reverse}
+use Rattle.std.specs.declared.cmp.Ordering.{Ordering}
+use Rattle.std.specs.declared.cmp.Ordering.TheVariants.{Less, Greater}
+use Rattle.std.specs.List.Sorted.{IsStrictlySortedBy}
+
+-- of d comparisons enough are left for the binary digits of the number of places left
+pub record HasLeft (before now places d : ℕ) : Type 0 where
+  pub digits : ℕ
+  pub counted : now + digits ≤ before + d
+  pub small : places < 2 ^ digits
+
+-- the key's place among the first `end` is between two places, and each comparison halved their number
+pub record Halves {C : Type 0} (cmp : C → C → Ordering) (old keys : List C) (key : C) (end before now low high : ℕ) : Type 0 where
+  pub same : keys ≡ old
+  pub ordered : low ≤ high
+  pub within : high ≤ end
+  pub lesser : (j : ℕ) → j < low → cmp (get_or old j key) key ≡ Less
+  pub greater : (j : ℕ) → high ≤ j → j < end → cmp (get_or old j key) key ≡ Greater
+  pub cost : (d : ℕ) → end < 2 ^ d → HasLeft before now (high - low) d
+
+halved_at : (before now s t d k : ℕ) → now + k ≤ before + d → s < 2 ^ k → 0 < s → t + t ≤ s → HasLeft before (now + 1) t d
+halved_at before now s t d zero a b some l = absurd (omega (arith, pow-zero 2))
+halved_at before now s t d (suc k) a b some l = record { digits = k; counted = omega arith; small = omega (arith, pow-suc 2 k) }
+
+-- one comparison more, and at most half of the places left
+pub halved : (before now s t d : ℕ) → HasLeft before now s d → 0 < s → t + t ≤ s → HasLeft before (now + 1) t d
+halved before now s t d h some l = halved_at before now s t d h.digits h.counted h.small some l
+
+module _ {C : Type 0} (cmp : C → C → Ordering) (o : IsTotalOrder cmp) (keys : List C) (sorted : IsStrictlySortedBy cmp keys) (key : C) (mid : ℕ) (within : mid < length keys) where
+  -- up to a lesser key all are lesser
+  pub lesser_upto : cmp (get_or keys mid key) key ≡ Less → (j : ℕ) → j < mid + 1 → cmp (get_or keys j key) key ≡ Less
+  lesser_upto h j lt = elim (cases_eq j mid) [
+    | inl e ↦ rw e h
+    | inr n ↦ o.trans (get_or keys j key) (get_or keys mid key) key (Less-from_sorted cmp keys j mid key sorted (omega arith) within) h
+  ]
+
+  -- from a greater key on all are greater
+  pub greater_from : cmp (get_or keys mid key) key ≡ Greater → (j : ℕ) → mid ≤ j → j < length keys → cmp (get_or keys j key) key ≡ Greater
+  greater_from h j le lt = elim (cases_eq j mid) [
+    | inl e ↦ rw e h
+    | inr n ↦
+        let below : cmp key (get_or keys mid key) ≡ Less = o.antisymm key (get_or keys mid key) ∙ ap ordering_reverse h in
+        let next : cmp (get_or keys mid key) (get_or keys j key) ≡ Less = Less-from_sorted cmp keys mid j key sorted (omega arith) lt in
+        o.antisymm (get_or keys j key) key ∙ ap ordering_reverse (o.trans key (get_or keys mid key) (get_or keys j key) below next)
+  ]
+
+  module _ (end before now low high : ℕ) (fits : end ≤ length keys) (h : Halves cmp keys keys key end before now low high) (from : low ≤ mid) (upto : mid < high) where
+    pub right_half : cmp (get_or keys mid key) key ≡ Less → high - (mid + 1) + (high - (mid + 1)) ≤ high - low → Halves cmp keys keys key end before (now + 1) (mid + 1) high
+    right_half less small = record {
+      same = refl;
+      ordered = omega arith;
+      within = h.within;
+      lesser = lesser_upto less;
+      greater = h.greater;
+      cost = λ d p. halved before now (high - low) (high - (mid + 1)) d (h.cost d p) (omega arith) small;
+    }
+
+    pub left_half : cmp (get_or keys mid key) key ≡ Greater → mid - low + (mid - low) ≤ high - low → Halves cmp keys keys key end before (now + 1) low mid
+    left_half more small = record {
+      same = refl;
+      ordered = from;
+      within = omega (arith, h.within);
+      lesser = h.lesser;
+      greater = λ j f l. greater_from more j f (omega arith);
+      cost = λ d p. halved before now (high - low) (mid - low) d (h.cost d p) (omega arith) small;
+    }

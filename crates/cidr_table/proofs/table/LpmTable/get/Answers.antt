@@ -1,0 +1,11 @@
+use Rattle.std.proofs.Common.{sym, ◌∙◌, ap, Some}
+use Rattle.cidr_table.proofs.RowPlaces.{lookup_at}
+use Rattle.cidr_table.proofs.MapLaws.{looked_up}
+use Rattle.cidr_table.proofs.Matching.{cmp_exact}
+use Rattle.cidr_table.proofs.table.LpmTable.get.Goals as goal
+
+pub returns-in-Ok : goal.returns-in-Ok
+returns-in-Ok g c =
+    let b = rw c.self.view_is at c.index-row.ensures in
+    let found = lookup_at g.C.Ord.cmp g.met.C.Ord.total c.args.key.now c.args.self.now c.in-Ok.place c.index-row.result.now c.in-Ok.ensures.sorted c.in-Ok.ensures.place in
+    rw (found ∙ ap (λ p. Some p.1) (sym b)) at (looked_up g.C.Ord.cmp g.met.C.Ord.total (cmp_exact g.C.Ord.cmp g.C.BitString.bits g.met.C.NetworkBits.ordered g.met.C.NetworkBits.determined) c.args.key.now c.args.self.now)

@@ -1,0 +1,31 @@
+-- Where a key stands among the first `end` keys of an ascending list.
+use Rattle.std.specs.Prelude.{ℕ, ◌≡◌, ◌≢◌, ◌<◌, ◌≤◌, Bool, List, length, take, Result, Ok, Err, slice_index_or}
+use Rattle.std.specs.declared.cmp.Ordering.{Ordering}
+use Rattle.std.specs.declared.cmp.Ordering.TheVariants.{Less, Equal, Greater}
+use Rattle.cidr.specs.model.Bits.{bit_eq}
+
+module _ {C : Type 0} (cmp : C → C → Ordering) (keys : List C) (key : C) (end : ℕ) where
+  -- an equal key stands at this place
+  pub record IsAt (i : ℕ) : Type 0 where
+    pub within : i < end
+    pub equal : cmp (slice_index_or keys i key) key ≡ Equal
+
+  -- lesser keys stand before this place, and greater ones from it on
+  pub record IsGap (i : ℕ) : Type 0 where
+    pub within : i ≤ end
+    pub before : (j : ℕ) → j < i → cmp (slice_index_or keys j key) key ≡ Less
+    pub behind : (j : ℕ) → i ≤ j → j < end → cmp (slice_index_or keys j key) key ≡ Greater
+
+  abbrev pub IsPlace : Result ℕ ℕ → Type 0
+  IsPlace (Ok i) = IsAt i
+  IsPlace (Err i) = IsGap i
+
+-- no key before this place is in the order after the asked one or equal to it, and none from it on is before it
+pub record IsLowerBound {C : Type 0} (cmp : C → C → Ordering) (keys : List C) (key : C) (end i : ℕ) : Type 0 where
+  pub within : i ≤ end
+  pub before : (j : ℕ) → j < i → cmp (slice_index_or keys j key) key ≡ Less
+  pub behind : (j : ℕ) → i ≤ j → j < end → cmp (slice_index_or keys j key) key ≢ Less
+
+-- whether the bits begin with those of the outer network
+abbrev pub begins_with : List Bool → List Bool → Bool
+begins_with a outer = bit_eq (take (length outer) a) outer
