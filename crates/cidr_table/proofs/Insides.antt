@@ -1,8 +1,8 @@
 -- The rows inside a network: they stand together from where the network would stand.
-use Rattle.std.proofs.Common.{◌≡◌, ◌≢◌, refl, sym, ◌∙◌, ap, arith, inl, inr, ℕ, zero, suc, ◌+◌, ◌-◌, ◌<◌, ◌≤◌, Bool, true, false, List, [], ◌∷◌, length, get_or, take, drop, ◌==◌, length-take, eq-eqb, ne_eqb}
-use Rattle.std.proofs.lemmas.Bool.{cases_lt, cases_eq, true≢false, false≢true}
+use Rattle.std.proofs.Common.{◌≡◌, ◌≢◌, refl, sym, ◌∙◌, ap, arith, inl, inr, ℕ, zero, suc, ◌+◌, ◌-◌, ◌<◌, ◌≤◌, Bool, true, false, List, [], ◌∷◌, length, get_or, take, drop, length-take}
+use Rattle.std.proofs.lemmas.Bool.{cases_lt, cases_eq, true≢false}
 use Rattle.std.proofs.lemmas.Cmp.{alike_right}
-use Rattle.std.proofs.lemmas.List.{take_all, get_or-take, get_or-drop, length-map, length-drop}
+use Rattle.std.proofs.lemmas.List.{get_or-take, get_or-drop, length-map, length-drop}
 use Rattle.std.proofs.lemmas.Map.Keys.{Less-from_sorted}
 use Rattle.std.specs.List.{AllWithin, AllByRecursion}
 use Rattle.std.specs.List.Sorted.{IsStrictlySortedBy, IsPartitionedBy}
@@ -10,67 +10,12 @@ use Rattle.std.specs.Map.{keys_of}
 use Rattle.std.specs.Cmp.{IsTotalOrder}
 use Rattle.std.specs.Ordering.{ordering_reverse}
 use Rattle.std.specs.declared.cmp.Ordering.{Ordering}
-use Rattle.std.specs.Bool.{beq, Decides}
-use Rattle.std.specs.Cmp.Lexicographic.{pointwise_decides}
 use Rattle.std.specs.declared.cmp.Ordering.TheVariants.{Less, Greater}
 use Rattle.cidr.specs.model.Bits.{bit_cmp}
-use Rattle.cidr.specs.model.BitString.{IsSharedLength}
 use Rattle.cidr.specs.model.Network.{BeginsWith}
 use Rattle.cidr_table.specs.Places.{IsAt, IsLowerBound, begins_with}
 use Rattle.cidr_table.specs.Prefixes.{AreInside}
-use Rattle.cidr_table.proofs.Matching.{begins_length}
-
--- what begins with a network is not before it
-pub not_before : (a p : List Bool) → BeginsWith a p → bit_cmp a p ≢ Less
-not_before a [] h l = not_less a l
-  where
-    not_less : (a : List Bool) → bit_cmp a [] ≢ Less
-    not_less [] l = cc
-    not_less (x ∷ a) l = cc
-not_before [] (b ∷ p) h l = omega (arith, begins_length [] (b ∷ p) h)
-not_before (true ∷ a) (true ∷ p) h l = not_before a p (ap (drop 1) h) l
-not_before (false ∷ a) (false ∷ p) h l = not_before a p (ap (drop 1) h) l
-not_before (true ∷ a) (false ∷ p) h l = true≢false (ap (λ t. get_or t 0 false) h)
-not_before (false ∷ a) (true ∷ p) h l = false≢true (ap (λ t. get_or t 0 true) h)
-
--- between a network and what begins with it, all begin with it
-pub begins_between : (p q r : List Bool) → BeginsWith q p → bit_cmp r p ≢ Less → bit_cmp r q ≢ Greater → BeginsWith r p
-begins_between [] q r h low high = refl
-begins_between (b ∷ p) [] r h low high = absurd (omega (arith, begins_length [] (b ∷ p) h))
-begins_between (b ∷ p) (c ∷ q) [] h low high = absurd (low refl)
-begins_between (true ∷ p) (true ∷ q) (true ∷ r) h low high = ap (λ t. true ∷ t) (begins_between p q r (ap (drop 1) h) low high)
-begins_between (true ∷ p) (true ∷ q) (false ∷ r) h low high = absurd (low refl)
-begins_between (false ∷ p) (false ∷ q) (false ∷ r) h low high = ap (λ t. false ∷ t) (begins_between p q r (ap (drop 1) h) low high)
-begins_between (false ∷ p) (false ∷ q) (true ∷ r) h low high = absurd (high refl)
-begins_between (true ∷ p) (false ∷ q) r h low high = absurd (false≢true (ap (λ t. get_or t 0 true) h))
-begins_between (false ∷ p) (true ∷ q) r h low high = absurd (true≢false (ap (λ t. get_or t 0 true) h))
-
-bools_decide : (x y : Bool) → Decides (beq x y) (x ≡ y)
-bools_decide true true = (λ _. refl, λ _. refl)
-bools_decide false false = (λ _. refl, λ _. refl)
-bools_decide true false = (λ e. absurd (false≢true e), λ e. absurd (true≢false e))
-bools_decide false true = (λ e. absurd (false≢true e), λ e. absurd (false≢true e))
-
-pub begins_decides : (a p : List Bool) → Decides (begins_with a p) (BeginsWith a p)
-begins_decides a p = pointwise_decides bools_decide (take (length p) a) p
-
--- the shared length tells whether one begins with the other
-pub begins_from_shared : (a p : List Bool) (n : ℕ) → IsSharedLength a p n → (n == length p) ≡ begins_with a p
-begins_from_shared a p n h =
-    let s = h.shared.0 in
-    let len : length s ≡ n = h.shared.1 in
-    let most = begins_length p s h.shared.3 in
-    elim (cases_eq n (length p)) [
-      | inl e ↦
-          let same : s ≡ p = sym h.shared.3 ∙ take_all (length s) p (omega arith) in
-          eq-eqb n (length p) e ∙ sym ((begins_decides a p).1 (rw (sym same) h.shared.2))
-      | inr other ↦
-          ne_eqb n (length p) other ∙ sym (not_true (begins_with a p) (λ t. other (omega (arith, h.longest p ((begins_decides a p).0 t) (take_all (length p) p (omega arith))))))
-    ]
-  where
-    not_true : (b : Bool) → b ≢ true → b ≡ false
-    not_true true n = absurd (n refl)
-    not_true false n = refl
+use Rattle.cidr_table.proofs.Beginnings.{not_before, begins_between, begins_decides}
 
 -- a key that is there is the first that is not before it
 pub lower_bound_at : {C : Type 0} (cmp : C → C → Ordering) → IsTotalOrder cmp → (keys : List C) (key : C) (end i : ℕ) → end ≡ length keys → IsStrictlySortedBy cmp keys → IsAt cmp keys key end i → IsLowerBound cmp keys key end i

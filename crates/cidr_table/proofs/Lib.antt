@@ -1,6 +1,8 @@
--- The lemmas of the search, and of the longest match over it.
+-- The lemmas: beginnings of bits, the searches, the longest match over them, and rows as a map.
+pub mod Beginnings
 pub mod Halving
-pub mod Matching
+pub mod SharedLengths
+pub mod Narrowing
 pub mod RowPlaces
 pub mod MapLaws
 pub mod Insides

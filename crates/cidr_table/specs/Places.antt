@@ -2,7 +2,7 @@
 use Rattle.std.specs.Prelude.{ℕ, ◌≡◌, ◌≢◌, ◌<◌, ◌≤◌, Bool, List, length, take, Result, Ok, Err, slice_index_or}
 use Rattle.std.specs.declared.cmp.Ordering.{Ordering}
 use Rattle.std.specs.declared.cmp.Ordering.TheVariants.{Less, Equal, Greater}
-use Rattle.cidr.specs.model.Bits.{bit_eq}
+use Rattle.cidr.specs.model.Bits.{bit_cmp, bit_eq}
 
 module _ {C : Type 0} (cmp : C → C → Ordering) (keys : List C) (key : C) (end : ℕ) where
   -- an equal key stands at this place
@@ -19,6 +19,11 @@ module _ {C : Type 0} (cmp : C → C → Ordering) (keys : List C) (key : C) (en
   abbrev pub IsPlace : Result ℕ ℕ → Type 0
   IsPlace (Ok i) = IsAt i
   IsPlace (Err i) = IsGap i
+
+-- `Ok` of n where the key has the first n asked bits, and else `Err` of n where longer beginnings of them come after the key
+abbrev pub IsShared : List Bool → List Bool → ℕ → Result ℕ ℕ → Type 0
+IsShared key asked most (Ok n) = (n ≤ most) × (key ≡ take n asked)
+IsShared key asked most (Err n) = (n ≤ most) × ((m : ℕ) → n < m → m ≤ most → bit_cmp key (take m asked) ≡ Less)
 
 -- no key before this place is in the order after the asked one or equal to it, and none from it on is before it
 pub record IsLowerBound {C : Type 0} (cmp : C → C → Ordering) (keys : List C) (key : C) (end i : ℕ) : Type 0 where

@@ -3,7 +3,7 @@ ghost use Rattle.std.specs.Prelude.{◌≡◌, ℕ, ◌+◌, ◌*◌, ◌^◌, �
 ghost use Rattle.std.specs.List.Sorted.{IsStrictlySortedBy};
 ghost use Rattle.cidr_table.specs.Prefixes.{IsLongestMatch};
 
-use crate::search::search;
+use crate::search::{binary_digits, clipped, search, shared_len};
 use cidr::{BitString, NetworkBits};
 use std::cmp::Ordering;
 
@@ -35,14 +35,32 @@ pub fn longest_match<C: NetworkBits + Copy, P: Probe<C>>(rows: &mut P, asked: &C
     ensures cost { (d : ℕ) → length (P.keys rows.old) < 2 ^ d →
         P.count rows.new ≤ P.count rows.old + (length (C.bits asked.now) + 1) * d }
 {
-    let mut key = *asked;
-    let mut left = asked.len() + 1;
-    while left > 0 {
-        left -= 1;
-        key.clip(left);
-        if let Ok(place) = search(rows, &key, rows.len()) {
-            return Some(place);
+    // Each length may take `digits` comparisons. What the lengths so far left over is `spare`.
+    let digits = binary_digits(rows.len());
+    let mut spare = digits;
+    let mut end = rows.len();
+    let mut len = asked.len();
+    while end > 0 && len > 0 {
+        match search(rows, &clipped(asked, len), end) {
+            Ok(place) => return Some(place),
+            Err(place) => end = place,
+        }
+        len -= 1;
+        let cost = binary_digits(len);
+        if end > 0 && cost < spare {
+            match shared_len(rows, end - 1, asked, len) {
+                Ok(_) => return Some(end - 1),
+                Err(shared) => {
+                    spare = spare - cost + (len - shared) * digits;
+                    len = shared;
+                }
+            }
         }
     }
-    None
+    // The key of no bits comes before all others.
+    if end > 0 && rows.compare(0, &clipped(asked, 0)).is_eq() {
+        Some(0)
+    } else {
+        None
+    }
 }

@@ -1,8 +1,8 @@
-use Rattle.cidr_table.proofs.Matching.{Tried}
+use Rattle.cidr_table.proofs.Narrowing.{Narrowed}
 use Rattle.cidr_table.proofs.probe.longest_match.Given as goal
 
-abbrev pub invariant-loop-left : goal.invariant-loop-left
-invariant-loop-left g l = Tried g.C.BitString.bits (g.P.Probe.keys l.fn.rows) (g.P.Probe.keys l.rows) l.asked l.key (g.P.Probe.count l.fn.rows) (g.P.Probe.count l.rows) l.left
+abbrev pub invariant-loop-end : goal.invariant-loop-end
+invariant-loop-end g l = Narrowed g.C.BitString.bits (g.P.Probe.keys l.fn.rows) (g.P.Probe.keys l.rows) l.asked (g.P.Probe.count l.fn.rows) (g.P.Probe.count l.rows) l.end l.len l.spare l.digits
 
-abbrev pub decreases-loop-left : goal.decreases-loop-left
-decreases-loop-left g l = l.left
+abbrev pub decreases-loop-end : goal.decreases-loop-end
+decreases-loop-end g l = l.len

@@ -1,4 +1,4 @@
-use Rattle.cidr_table.proofs.Insides.{begins_from_shared}
+use Rattle.cidr_table.proofs.Beginnings.{begins_from_shared}
 use Rattle.cidr_table.proofs.table.is_inside.Goals as goal
 
 pub returns : goal.returns

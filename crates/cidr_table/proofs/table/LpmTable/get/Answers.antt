@@ -1,7 +1,7 @@
 use Rattle.std.proofs.Common.{sym, ◌∙◌, ap, Some}
 use Rattle.cidr_table.proofs.RowPlaces.{lookup_at}
 use Rattle.cidr_table.proofs.MapLaws.{looked_up}
-use Rattle.cidr_table.proofs.Matching.{cmp_exact}
+use Rattle.cidr_table.proofs.Beginnings.{cmp_exact}
 use Rattle.cidr_table.proofs.table.LpmTable.get.Goals as goal
 
 pub returns-in-Ok : goal.returns-in-Ok

@@ -1,7 +1,7 @@
 use Rattle.std.proofs.Common.{sym, ◌∙◌, ap, Some}
 use Rattle.cidr_table.proofs.RowPlaces.{lookup_at, set_at, insert_gap, sorted_insert}
 use Rattle.cidr_table.proofs.MapLaws.{looked_up, inserted}
-use Rattle.cidr_table.proofs.Matching.{cmp_exact}
+use Rattle.cidr_table.proofs.Beginnings.{cmp_exact}
 use Rattle.cidr_table.proofs.table.LpmTable.insert.Goals as goal
 
 -- a key that is there: its row takes the value
