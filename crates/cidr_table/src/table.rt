@@ -17,7 +17,7 @@ use std::mem;
 use std::slice::Iter;
 
 /// Networks with a value each, in the order of their bits. A network with a value is a row.
-#[derive(Drop)]
+#[derive(Debug, Drop)]
 pub struct LpmTable<C: NetworkBits + Copy, V> {
     rows: Vec<(C, V)>,
 }
