@@ -57,6 +57,11 @@ impl Answer {
         Ok(write!(self.line, "{value}")?)
     }
 
+    /// Appends to the last token.
+    pub fn more<D: Display>(&mut self, value: &D) -> Outcome {
+        Ok(write!(self.line, "{value}")?)
+    }
+
     /// Appends a token or tokens as they stand for the value.
     pub fn value<V: Value>(&mut self, value: &V) -> Outcome {
         value.push_to(self)

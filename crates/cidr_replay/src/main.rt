@@ -19,6 +19,7 @@ mod parsers;
 mod queries;
 mod refusals;
 mod replay;
+mod tables;
 mod tokens;
 mod values;
 mod walks;

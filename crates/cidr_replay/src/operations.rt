@@ -4,7 +4,8 @@ use crate::answer::Answer;
 use crate::line_error::{LineError, Outcome};
 use crate::tokens::Tokens;
 use crate::{
-    addresses, bits, compact, conversions, families, faults, hosts, networks, pairs, parsers, walks,
+    addresses, bits, compact, conversions, families, faults, hosts, networks, pairs, parsers,
+    tables, walks,
 };
 use std::alloc::{AllocError, Global};
 use std::str;
@@ -71,6 +72,7 @@ fn answer_operation(
         "bits" => bits::answer(name, tokens, answer),
         "hostbits" => bits::answer_hosts(name, tokens, answer),
         "compact" | "hostcompact" | "agree" => compact::answer(section, name, tokens, answer),
+        "table" if name.is_empty() => tables::answer(tokens, answer),
         "convert" if name.is_empty() => conversions::answer(tokens, answer),
         _ => Err(other_operation(section)),
     }
@@ -79,7 +81,7 @@ fn answer_operation(
 /// Whether a section that nothing answers is one of the format.
 fn other_operation(section: &str) -> LineError {
     match section {
-        "prefix" | "table" | "load" | "cover" | "tool" => LineError::Unsupported,
+        "prefix" | "load" | "cover" | "tool" => LineError::Unsupported,
         _ => LineError::Malformed,
     }
 }
