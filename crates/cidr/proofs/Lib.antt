@@ -38,6 +38,7 @@ pub mod GroupParts
 pub mod CompactOctets
 pub mod CompactBytes
 pub mod CompactErrors
+pub mod PrefixSpelling
 pub mod Ipv6Reading
 pub mod Ipv6Whole
 pub mod Ipv4Printing

@@ -1,4 +1,4 @@
-//! The errors of networks, hosts and pairs, of their texts, and of compact bytes.
+//! The errors of networks, hosts and pairs, of their texts, and of compact and prefix bytes.
 ghost use Rattle.std.specs.Prelude.{◌≡◌, ◌≤◌, length, Some};
 ghost use Rattle.cidr.specs.texts.Messages.{limit_message};
 
@@ -294,3 +294,53 @@ impl fmt::Debug for CompactError {
 }
 
 impl Error for CompactError {}
+
+/// Why bytes are refused as prefix bytes.
+///
+/// Reading returns the first of these that applies: no byte at all (`Truncated`), `LengthTooLong`, too few octets
+/// (`Truncated`).
+#[derive(Clone, Drop, PartialEq, Eq)]
+pub enum PrefixBytesError {
+    /// The prefix length is above the width of the family, 32 or 128: `prefix length is too long`.
+    LengthTooLong,
+    /// There is no byte, or there are fewer octets than the prefix length asks for: `prefix bytes end too early`.
+    Truncated,
+}
+
+impl PrefixBytesError {
+    ghost use Rattle.cidr.specs.texts.Messages.{prefix_message};
+
+    /// The message, which is what is printed. It has at most 26 bytes.
+    pub fn to_text(&self) -> ArrayString<26>
+        ensures { result.bytes ≡ prefix_message self.now }
+    {
+        let mut text = ArrayString::new();
+        text.push_str(match self {
+            PrefixBytesError::LengthTooLong => "prefix length is too long",
+            PrefixBytesError::Truncated => "prefix bytes end too early",
+        });
+        text
+    }
+}
+
+impl fmt::Display for PrefixBytesError {
+    ghost use Rattle.cidr.specs.texts.Messages.{prefix_message};
+
+    ghost output = { λ e. Some (prefix_message e) };
+
+    fn fmt<W: fmt::Write>(&self, f: &mut fmt::Formatter<W>) -> fmt::Result {
+        f.write_str(self.to_text().as_str())
+    }
+}
+
+impl fmt::Debug for PrefixBytesError {
+    ghost use Rattle.cidr.specs.texts.Messages.{prefix_message};
+
+    ghost debug_output = { λ e. Some (prefix_message e) };
+
+    fn fmt<W: fmt::Write>(&self, f: &mut fmt::Formatter<W>) -> fmt::Result {
+        fmt::Display::fmt(self, f)
+    }
+}
+
+impl Error for PrefixBytesError {}

@@ -158,6 +158,7 @@ mod internal_traits;
 pub mod laws;
 mod num;
 pub mod parsers;
+mod prefix_bytes;
 mod text;
 mod traits;
 
@@ -176,5 +177,6 @@ pub use inet_iterator::driving::{End, drive};
 pub use inet_iterator::{InetAddressIterator, InetIterator};
 pub use inet_pair::combined::IpInetPair;
 pub use inet_pair::host_pair::{Ipv4InetPair, Ipv6InetPair};
+pub use prefix_bytes::PrefixBytes;
 pub use text::with_length::WithLength;
 pub use traits::{Address, Cidr, Inet, InetPair};

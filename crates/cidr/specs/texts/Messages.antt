@@ -12,6 +12,8 @@ use Rattle.cidr.specs.declared.errors.InetTupleError.{InetTupleError}
 use Rattle.cidr.specs.declared.errors.InetTupleError.TheVariants as pair_error
 use Rattle.cidr.specs.declared.errors.CompactError.{CompactError}
 use Rattle.cidr.specs.declared.errors.CompactError.TheVariants as compact_error
+use Rattle.cidr.specs.declared.errors.PrefixBytesError.{PrefixBytesError}
+use Rattle.cidr.specs.declared.errors.PrefixBytesError.TheVariants as prefix_error
 
 -- the error of reading an address, by the type that was asked for
 abbrev pub ipv4_error : AddrParseError
@@ -63,3 +65,7 @@ compact_message compact_error.InvalidTag = codes "invalid tag"
 compact_message compact_error.InvalidAny = codes "invalid value: `any`"
 compact_message (compact_error.InvalidFamily family) = codes "invalid type: `" ++ (address_type family ++ codes "`")
 compact_message compact_error.InvalidHostPart = codes "host part of address was not zero"
+
+abbrev pub prefix_message : PrefixBytesError → List ℕ
+prefix_message prefix_error.LengthTooLong = codes "prefix length is too long"
+prefix_message prefix_error.Truncated = codes "prefix bytes end too early"
