@@ -160,6 +160,17 @@ refused_none w input Truncated (inr (n, rest, s, within, few)) p k h =
     let size : length h.2.octets ≡ octets_for n = h.2.fewest ∙ ap octets_for (sym len) in
     omega (arith, few, size, ap length same, length-append h.2.octets (drop k input))
 
+-- and has one error
+apart : (w : ℕ) (input : List ℕ) → IsPrefixRefused w input LengthTooLong → IsPrefixRefused w input Truncated → ⊥
+apart w input (n, rest, s, over) (inl none) = let both = sym none ∙ s in cc
+apart w input (n, rest, s, over) (inr (m, more, t, within, few)) = omega (arith, over, within, (heads n m rest more (sym s ∙ t)).0)
+
+pub one_prefix_error : (w : ℕ) (input : List ℕ) (d e : PrefixBytesError) → IsPrefixRefused w input d → IsPrefixRefused w input e → d ≡ e
+one_prefix_error w input LengthTooLong LengthTooLong h k = refl
+one_prefix_error w input LengthTooLong Truncated h k = absurd (apart w input h k)
+one_prefix_error w input Truncated LengthTooLong h k = absurd (apart w input k h)
+one_prefix_error w input Truncated Truncated h k = refl
+
 same_ok : (p q : List Bool × ℕ) (r : Result (List Bool × ℕ) PrefixBytesError) → r ≡ Ok p → r ≡ Ok q → p ≡ q
 same_ok p q r e h = cc
 

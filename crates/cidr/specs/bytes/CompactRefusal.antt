@@ -53,5 +53,5 @@ abbrev pub IsAnyBytesRefused : List ℕ → CompactError → Type 0
 IsAnyBytesRefused input e = IsNetworkBytesRefused Both input e × (e ≢ compact_error.InvalidAny)
 
 -- an input has one error at most
-abbrev pub HasOneError : (List ℕ → CompactError → Type 0) → Type 0
-HasOneError IsRefused = (input : List ℕ) (d e : CompactError) → IsRefused input d → IsRefused input e → d ≡ e
+abbrev pub HasOneError : {E : Type 0} → (List ℕ → E → Type 0) → Type 0
+HasOneError {E} IsRefused = (input : List ℕ) (d e : E) → IsRefused input d → IsRefused input e → d ≡ e

@@ -9,6 +9,7 @@ use crate::cidr::any::AnyIpCidr;
 use crate::cidr::combined::IpCidr;
 use crate::errors::{
     CompactError, InetTupleError, NetworkLengthTooLongError, NetworkParseError, ParseIntError,
+    PrefixBytesError,
 };
 use crate::family::Family;
 use crate::inet::combined::IpInet;
@@ -38,4 +39,5 @@ pub fn error_clones_are_the_same()
     ensures network { ClonesSame ⟦<NetworkParseError as Clone>⟧.is_clone }
     ensures pair { ClonesSame ⟦<InetTupleError as Clone>⟧.is_clone }
     ensures compact { ClonesSame ⟦<CompactError as Clone>⟧.is_clone }
+    ensures prefix { ClonesSame ⟦<PrefixBytesError as Clone>⟧.is_clone }
 {}

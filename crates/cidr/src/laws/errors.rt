@@ -1,11 +1,14 @@
 //! What holds of errors, each as the contract of a function that does nothing.
+ghost use Rattle.std.specs.Prelude.{ℕ};
 ghost use Rattle.cidr.specs.either.IpAddress.{TellsEqual};
 ghost use Rattle.cidr.specs.bytes.CompactRefusal.{Only, Both, HasOneError, IsNetworkBytesRefused, IsHostBytesRefused, IsAnyBytesRefused};
+ghost use Rattle.cidr.specs.bytes.Prefix.{IsPrefixRefused};
 ghost use Rattle.cidr.specs.declared.family.Family.TheVariants.{Ipv4, Ipv6};
 
 use crate::addr::error::AddrParseError;
 use crate::errors::{
     CompactError, InetTupleError, NetworkLengthTooLongError, NetworkParseError, ParseIntError,
+    PrefixBytesError,
 };
 
 /// Errors are equal exactly where their kind and their contents are the same.
@@ -16,6 +19,7 @@ pub fn equal_errors_are_the_same()
     ensures network { TellsEqual ⟦<NetworkParseError as PartialEq>⟧.eq }
     ensures pair { TellsEqual ⟦<InetTupleError as PartialEq>⟧.eq }
     ensures compact { TellsEqual ⟦<CompactError as PartialEq>⟧.eq }
+    ensures prefix { TellsEqual ⟦<PrefixBytesError as PartialEq>⟧.eq }
 {}
 
 /// Bytes that are refused as compact bytes have one error, of each type.
@@ -27,4 +31,9 @@ pub fn compact_bytes_have_one_error()
     ensures ipv4_host { HasOneError (IsHostBytesRefused (Only Ipv4)) }
     ensures ipv6_host { HasOneError (IsHostBytesRefused (Only Ipv6)) }
     ensures ip_host { HasOneError (IsHostBytesRefused Both) }
+{}
+
+/// Bytes that are refused as prefix bytes have one error, whatever the width.
+pub fn prefix_bytes_have_one_error()
+    ensures { (w : ℕ) → HasOneError (IsPrefixRefused w) }
 {}
