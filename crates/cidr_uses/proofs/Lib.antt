@@ -4,3 +4,4 @@ pub mod Pools
 pub mod ConfigLines
 pub mod Agreements
 pub mod Fronts
+pub mod PrefixFronts

@@ -10,5 +10,6 @@ pub mod config_line;
 pub mod consequences;
 pub mod host_lengths;
 pub mod network_lengths;
+pub mod prefix_bytes;
 pub mod prefix_tree;
 pub mod read_back;
