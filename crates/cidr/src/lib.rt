@@ -120,6 +120,19 @@
 //! A tag of 0x00 to 0x20 is an IPv4 prefix length, one of 0x40 to 0xc0 an IPv6 prefix length and 0x40, and 0xff is
 //! `any`. No value's bytes begin with those of another value of its type.
 //!
+//! # Prefix bytes
+//!
+//! `PrefixBytes` writes networks of one family as routing protocols do: the prefix length and then no more octets than
+//! hold the prefix.
+//!
+//! ```
+//! let network = "192.0.2.128/25".parse::<Ipv4Cidr>()?;
+//! network.to_prefix_bytes()               // 25, 192, 0, 2, 128
+//! Ipv4Cidr::from_prefix_bytes(&[9, 10, 255, 8])   // Ok((10.128.0.0/9, 3)): bits after the prefix are free
+//! Ipv4Cidr::from_prefix_bytes(&[33])      // Err(LengthTooLong)
+//! Ipv6Cidr::from_prefix_bytes(&[128, 0])  // Err(Truncated)
+//! ```
+//!
 //! # What is refused
 //!
 //! Reading the text of a network returns the first of these errors, which the contracts state in this order:
@@ -137,6 +150,9 @@
 //!
 //! Reading compact bytes returns the first of these errors: no byte (`Truncated`), `InvalidTag`, too few octets
 //! (`Truncated`), `InvalidAny`, `InvalidFamily`, `InvalidHostPart`. The last is of networks alone.
+//!
+//! Reading prefix bytes returns the first of these errors: no byte (`Truncated`), `LengthTooLong`, too few octets
+//! (`Truncated`).
 //!
 //! These calls have a condition on their caller: `+` and `-` on hosts, whose step has to stay in the network;
 //! `drive`, whose two slices have to be of one length; `get`, `set` and `flip` of a bit, whose index has to be below
