@@ -16,6 +16,7 @@ mod networks;
 mod operations;
 mod pairs;
 mod parsers;
+mod prefixes;
 mod queries;
 mod refusals;
 mod replay;

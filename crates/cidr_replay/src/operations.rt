@@ -5,7 +5,7 @@ use crate::line_error::{LineError, Outcome};
 use crate::tokens::Tokens;
 use crate::{
     addresses, bits, compact, conversions, families, faults, hosts, networks, pairs, parsers,
-    tables, walks,
+    prefixes, tables, walks,
 };
 use std::alloc::{AllocError, Global};
 use std::str;
@@ -72,6 +72,7 @@ fn answer_operation(
         "bits" => bits::answer(name, tokens, answer),
         "hostbits" => bits::answer_hosts(name, tokens, answer),
         "compact" | "hostcompact" | "agree" => compact::answer(section, name, tokens, answer),
+        "prefix" => prefixes::answer(name, tokens, answer),
         "table" if name.is_empty() => tables::answer(tokens, answer),
         "convert" if name.is_empty() => conversions::answer(tokens, answer),
         _ => Err(other_operation(section)),
@@ -81,7 +82,7 @@ fn answer_operation(
 /// Whether a section that nothing answers is one of the format.
 fn other_operation(section: &str) -> LineError {
     match section {
-        "prefix" | "load" | "cover" | "tool" => LineError::Unsupported,
+        "load" | "cover" | "tool" => LineError::Unsupported,
         _ => LineError::Malformed,
     }
 }

@@ -1,7 +1,9 @@
 //! The kinds of the refusals.
 
 use cidr::AddrParseError;
-use cidr::errors::{CompactError, InetTupleError, NetworkLengthTooLongError, NetworkParseError};
+use cidr::errors::{
+    CompactError, InetTupleError, NetworkLengthTooLongError, NetworkParseError, PrefixBytesError,
+};
 use std::fmt::Display;
 
 /// A refusal: its words are what it displays.
@@ -50,6 +52,15 @@ impl Refusal for CompactError {
             CompactError::InvalidAny => "InvalidAny",
             CompactError::InvalidFamily(_) => "InvalidFamily",
             CompactError::InvalidHostPart => "InvalidHostPart",
+        }
+    }
+}
+
+impl Refusal for PrefixBytesError {
+    fn kind(&self) -> &'static str {
+        match self {
+            PrefixBytesError::LengthTooLong => "LengthTooLong",
+            PrefixBytesError::Truncated => "Truncated",
         }
     }
 }
