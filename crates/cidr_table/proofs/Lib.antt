@@ -6,3 +6,5 @@ pub mod Narrowing
 pub mod RowPlaces
 pub mod MapLaws
 pub mod Insides
+pub mod PrefixLists
+pub mod LastPlaces

@@ -3,3 +3,4 @@
 pub mod FiniteMap
 pub mod Prefixes
 pub mod Places
+pub mod Loading

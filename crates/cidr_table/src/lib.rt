@@ -29,3 +29,4 @@ mod table;
 pub use probe::{Probe, longest_match};
 pub use rows::Rows;
 pub use table::LpmTable;
+pub use table::load::LoadError;

@@ -16,6 +16,8 @@ use std::marker::Model;
 use std::mem;
 use std::slice::Iter;
 
+pub mod load;
+
 /// Networks with a value each, in the order of their bits. A network with a value is a row.
 #[derive(Debug, Drop)]
 pub struct LpmTable<C: NetworkBits + Copy, V> {

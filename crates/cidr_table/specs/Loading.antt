@@ -1,0 +1,46 @@
+-- A table loaded from a list of prefixes, each written as prefix bytes (RFC 4271, 4.3), one after the other to the end.
+-- w is the number of bits of an address, and a prefix's place is counted from 0.
+use Rattle.std.specs.Prelude.{◌≡◌, ◌≢◌, ◌↔◌, ℕ, ◌+◌, ◌≤◌, Bool, List, [], ◌∷◌, ◌++◌, length, Contains, slice_get, Some, Result, MatchResult}
+use Rattle.cidr.specs.bytes.Prefix.{SpellsPrefix, IsPrefixRefused}
+use Rattle.cidr_table.specs.declared.table.load.LoadError.{LoadError}
+use Rattle.cidr_table.specs.declared.table.load.LoadError.TheVariants.{Prefix, NoMemory}
+
+-- the key stands in the list at this place, and at no later one
+pub record IsLastPlace {C : Type 0} (keys : List C) (key : C) (place : ℕ) : Type 0 where
+  pub here : slice_get keys place ≡ Some key
+  pub last : (other : ℕ) → slice_get keys other ≡ Some key → other ≤ place
+
+module _ {C : Type 0} (bits : C → List Bool) (w : ℕ) where
+  -- the input is these prefixes one after the other, and then the rest
+  abbrev pub IsListed : List C → List ℕ → List ℕ → Type 0
+  IsListed [] rest input = input ≡ rest
+  IsListed (key ∷ keys) rest input =
+      (bytes : List ℕ) × (behind : List ℕ) × (input ≡ bytes ++ behind) × SpellsPrefix w bytes (bits key) × IsListed keys rest behind
+
+  -- the rows of the table: each prefix of the list with its last place
+  abbrev pub HasLastPlaces : List ℕ → List (C × ℕ) → Type 0
+  HasLastPlaces input rows = (keys : List C) × IsListed keys [] input × ((row : C × ℕ) → Contains rows row ↔ IsLastPlace keys row.0 row.1)
+
+  -- the first failure: after as many prefixes as the place says, bytes that begin with none; and for want of memory only
+  -- where the input begins with a prefix
+  abbrev pub IsLoadRefused : List ℕ → LoadError → Type 0
+  IsLoadRefused input (Prefix place e) =
+      (keys : List C) × (rest : List ℕ) × IsListed keys rest input × (length keys ≡ place) × (rest ≢ []) × IsPrefixRefused w rest e
+  IsLoadRefused input NoMemory = (key : C) × (rest : List ℕ) × IsListed (key ∷ []) rest input
+
+  abbrev pub IsLoaded : List ℕ → Result (List (C × ℕ)) LoadError → Type 0
+  IsLoaded input r = MatchResult r (HasLastPlaces input) (IsLoadRefused input)
+
+-- ---- what private functions promise each other
+-- the keys with their places, the first of which is n
+abbrev pub placed : {C : Type 0} → ℕ → List C → List (C × ℕ)
+placed n [] = []
+placed n (key ∷ keys) = (key, n) ∷ placed (n + 1) keys
+
+-- the prefixes up to the end, each with its place
+abbrev pub IsRead : {C : Type 0} → (C → List Bool) → ℕ → List ℕ → List (C × ℕ) → Type 0
+IsRead {C} bits w input rows = (keys : List C) × IsListed bits w keys [] input × (rows ≡ placed 0 keys)
+
+-- of the rows of one key that with the greatest place
+abbrev pub AreLast : {C : Type 0} → List (C × ℕ) → List (C × ℕ) → Type 0
+AreLast {C} old new = (row : C × ℕ) → Contains new row ↔ (Contains old row × ((other : C × ℕ) → Contains old other → other.0 ≡ row.0 → other.1 ≤ row.1))
