@@ -1,6 +1,9 @@
--- What has to be believed: the rows as a map, and what begins with what. `Places` is what private functions promise each
--- other.
+-- What has to be believed: the rows as a map, what begins with what, and the least cover. `Places` and `CoverStack` are
+-- what private functions promise each other.
 pub mod FiniteMap
 pub mod Prefixes
 pub mod Places
 pub mod Loading
+pub mod Cover
+pub mod CoverAddresses
+pub mod CoverStack

@@ -10,6 +10,8 @@
 //! let place = longest_match(&mut routes.probe(), &"10.1.2.3".parse()?)   // Some(1)
 //! routes.row(1)                               // Some((10.1.0.0/16, 2))
 //! routes.inside(&"10.0.0.0/8".parse()?)       // both rows
+//! let mut networks = ["0.0.0.0/0".parse()?; 2];
+//! routes.least_cover(&mut networks)           // 1: the first is 10.0.0.0/8, which has all addresses of the keys
 //! ```
 //!
 //! `longest_match` is a function over any `Probe`, which counts the comparisons with keys. With n the number of rows
@@ -21,6 +23,7 @@
 #![tactic(auto)]
 
 mod count;
+pub mod laws;
 mod probe;
 mod rows;
 mod search;

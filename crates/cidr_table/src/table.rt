@@ -8,6 +8,8 @@ ghost use Rattle.cidr_table.specs.FiniteMap.{IsUnder, IsInserted, IsRemoved};
 ghost use Rattle.cidr_table.specs.Prefixes.{AreInside};
 ghost use Rattle.cidr_table.specs.Places.{IsPlace, IsLowerBound, begins_with};
 
+mod cover;
+
 use crate::rows::Rows;
 use crate::search::search;
 use cidr::NetworkBits;

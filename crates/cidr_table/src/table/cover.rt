@@ -1,0 +1,95 @@
+//! The shortest list of networks that holds the same addresses as the keys of a table.
+ghost use Rattle.std.specs.Prelude.{◌≡◌, ◌≤◌, Bool, List, length, take, map};
+ghost use Rattle.std.specs.Bool.{Decides};
+ghost use Rattle.std.specs.List.Sorted.{IsStrictlySortedBy};
+ghost use Rattle.std.specs.Map.{keys_of};
+ghost use Rattle.std.specs.declared.cmp.Ordering.TheVariants.{Less};
+ghost use Rattle.cidr.specs.model.Bits.{bit_cmp};
+ghost use Rattle.cidr_table.specs.Cover.{Covers, IsLeastCover};
+ghost use Rattle.cidr_table.specs.CoverStack.{AreHalves, AreBefore, IsReduced, IsPushed};
+
+use crate::table::{LpmTable, is_inside};
+use cidr::{BitString, NetworkBits};
+
+impl<C: NetworkBits + Copy, V> LpmTable<C, V> {
+    /// Writes the shortest list of networks that holds the same addresses as the keys into the first places of `out`,
+    /// ascending, and returns how many there are (aggregation, RFC 4632, 4).
+    ///
+    /// A key inside another is left out, and the two halves of a network become that network, as far up as it goes:
+    /// 10.0.0.0/9, 10.128.0.0/9 and 11.0.0.0/8 become 10.0.0.0/7. Of `AnyIpCidr`, 0.0.0.0/0 and ::/0 become `Any`.
+    ///
+    /// The condition is that `out` has at least as many places as there are rows. What is in the places behind the
+    /// list is left open. It takes one pass over the rows and allocates nothing.
+    pub fn least_cover(&self, out: &mut [C]) -> usize
+        requires room { length self.now ≤ length out.old }
+        ensures fits { result ≤ length self.now }
+        ensures cover { IsLeastCover 129 (map C.bits (keys_of self.now)) (map C.bits (take result out.new)) }
+    {
+        least_cover(self.rows.as_slice(), out)
+    }
+}
+
+/// The least cover of the keys of rows that ascend by them.
+///
+/// The networks so far stand in `out` as a stack: a key that the last one holds is skipped, any other is put behind it,
+/// and while the last two are the halves of one network, that takes their place. So there are no more merges than keys.
+fn least_cover<C: NetworkBits + Copy, V>(rows: &[(C, V)], out: &mut [C]) -> usize
+    requires sorted { IsStrictlySortedBy C.cmp (keys_of rows.now) }
+    requires room { length rows.now ≤ length out.old }
+    ensures fits { result ≤ length rows.now }
+    ensures cover { IsLeastCover 129 (map C.bits (keys_of rows.now)) (map C.bits (take result out.new)) }
+{
+    let mut n = 0;
+    for row in rows {
+        let key = &row.0;
+        known(key);
+        if !is_covered(out, n, key) {
+            out[n] = *key;
+            n = merge(out, n + 1);
+        }
+    }
+    n
+}
+
+/// Has no more than 129 bits, which a proof gets from the call.
+fn known<C: BitString>(key: &C)
+    ensures { length (C.bits key.now) ≤ 129 }
+{
+    key.len();
+}
+
+/// Whether one of the first `count` networks holds a key that is behind them all: if any, it is the last.
+fn is_covered<C: NetworkBits>(out: &[C], count: usize, key: &C) -> bool
+    requires within { count ≤ length out.now }
+    requires reduced { IsReduced 129 (map C.bits (take count out.now)) }
+    requires before { AreBefore (map C.bits (take count out.now)) (C.bits key.now) }
+    ensures { Decides result (Covers (map C.bits (take count out.now)) (C.bits key.now)) }
+{
+    count > 0 && is_inside(key, &out[count - 1])
+}
+
+/// Puts one network in the place of the last two while they are its halves, and returns how many are left.
+fn merge<C: BitString>(out: &mut [C], count: usize) -> usize
+    requires within { count ≤ length out.old }
+    requires pushed { IsPushed 129 (map C.bits (take count out.old)) }
+    ensures fewer { result ≤ count }
+    ensures cover { IsLeastCover 129 (map C.bits (take count out.old)) (map C.bits (take result out.new)) }
+    ensures before { (k : List Bool) → AreBefore (map C.bits (take count out.old)) k
+        → AreBefore (map C.bits (take result out.new)) k }
+{
+    let mut n = count;
+    while n >= 2 && are_halves(&out[n - 2], &out[n - 1]) {
+        let len = out[n - 2].len();
+        out[n - 2].clip(len - 1);
+        n -= 1;
+    }
+    n
+}
+
+/// Whether a network and a later one are the halves of one network.
+fn are_halves<C: BitString>(lower: &C, upper: &C) -> bool
+    requires { bit_cmp (C.bits lower.now) (C.bits upper.now) ≡ Less }
+    ensures { Decides result (AreHalves (C.bits lower.now) (C.bits upper.now)) }
+{
+    lower.len() == upper.len() && lower.shared_prefix_len(upper) + 1 == lower.len()
+}
