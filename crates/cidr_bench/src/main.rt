@@ -2,13 +2,15 @@
 //!
 //! The first argument is the number of rounds, and a second one, if given, is a part of the names of the rows to be
 //! done. Each line has the work, the picoseconds that one call takes here and in the plain way, and the first as a
-//! percentage of the second. Without an argument nothing is timed.
+//! percentage of the second; the lines of long texts have no plain way, and the picoseconds of each character. Without
+//! an argument nothing is timed.
 #![tactic(auto)]
 
 mod bench;
 mod compact;
 mod containing;
 mod idle;
+mod long;
 mod loose;
 mod masked;
 mod networks;
@@ -40,6 +42,7 @@ fn main(rt: HostRuntime) -> io::Result<()> {
     };
     reading::compare_all(&bench)?;
     loose::compare_all(&bench)?;
+    long::time_all(&bench)?;
     printing::compare_all(&bench)?;
     compact::compare_all(&bench)?;
     idle::compare_all(&bench)?;
