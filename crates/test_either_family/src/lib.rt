@@ -21,6 +21,8 @@ mod printing;
 #[cfg(test)]
 mod reading;
 #[cfg(test)]
+mod sizes;
+#[cfg(test)]
 mod support;
 #[cfg(test)]
 mod walks;
