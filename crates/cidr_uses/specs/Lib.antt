@@ -1,5 +1,6 @@
--- What an access list, a pool of addresses and a line of a configuration are.
+-- What an access list, a pool of addresses, a line of a configuration and a route are.
 pub mod AccessList
 pub mod AddressPool
 pub mod ConfigLine
 pub mod Consequences
+pub mod Routing

@@ -13,3 +13,4 @@ pub mod network_lengths;
 pub mod prefix_bytes;
 pub mod prefix_tree;
 pub mod read_back;
+pub mod routing_table;

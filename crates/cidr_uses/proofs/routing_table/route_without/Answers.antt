@@ -1,0 +1,14 @@
+use Rattle.std.proofs.Common.{◌≢◌, List, Some, None, IfSome, Option}
+use Rattle.std.specs.Prelude.{MatchOption}
+use Rattle.cidr_table.specs.FiniteMap.{IsRemoved}
+use Rattle.cidr_uses.specs.Routing.{IsRoute, HasNoRoute}
+use Rattle.cidr_uses.proofs.routing_table.route_without.Goals as goal
+
+-- a route is a row, and no row has the key
+other_key : {C V : Type 0} (bits : C → List _) (old routes : List (C × V)) (asked : List _) (key : C) → IsRemoved old key routes → (r : Option (C × V))
+    → MatchOption r (HasNoRoute bits routes asked) (λ row. IsRoute bits routes asked row) → IfSome r (λ row. row.0 ≢ key)
+other_key bits old routes asked key h None m = tt
+other_key bits old routes asked key h (Some row) m = ((h row).0 m.there).0
+
+pub returns : goal.returns
+returns g c = other_key g.C.BitString.bits c.args.routes.now c.remove.new.self (g.C.BitString.bits c.args.asked.now) c.args.withdrawn.now c.remove.ensures.after c.route.result c.route.ensures
