@@ -1,5 +1,6 @@
--- What is read back is what was printed, what a pool gives, which lines are refused, what bytes begin with, and the
--- rows of a table.
+-- What is read back is what was printed, what a pool gives, which lines are refused, what bytes begin with, the rows of
+-- a table, and which network lies in a list made shorter.
+pub mod Aggregates
 pub mod ReadBack
 pub mod Pools
 pub mod ConfigLines

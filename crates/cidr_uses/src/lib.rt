@@ -3,6 +3,7 @@
 
 pub mod access_list;
 pub mod address_pool;
+pub mod aggregate;
 pub mod at_ipv4;
 pub mod at_ipv6;
 pub mod compact;
