@@ -1,4 +1,4 @@
-//! Replays operations on the crate `cidr`: it reads one a line and writes an answer line for each.
+//! Replays operations on the crates `cidr` and `cidr_table`: it reads one a line and writes an answer line for each.
 //!
 //! docs/REPLAY.md has the format in short.
 #![tactic(auto)]
@@ -8,6 +8,7 @@ mod answer;
 mod bits;
 mod compact;
 mod conversions;
+mod covers;
 mod families;
 mod faults;
 mod hosts;

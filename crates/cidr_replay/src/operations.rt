@@ -4,8 +4,8 @@ use crate::answer::Answer;
 use crate::line_error::{LineError, Outcome};
 use crate::tokens::Tokens;
 use crate::{
-    addresses, bits, compact, conversions, families, faults, hosts, networks, pairs, parsers,
-    prefixes, tables, walks,
+    addresses, bits, compact, conversions, covers, families, faults, hosts, networks, pairs,
+    parsers, prefixes, tables, walks,
 };
 use std::alloc::{AllocError, Global};
 use std::str;
@@ -74,6 +74,7 @@ fn answer_operation(
         "compact" | "hostcompact" | "agree" => compact::answer(section, name, tokens, answer),
         "prefix" => prefixes::answer(name, tokens, answer),
         "table" if name.is_empty() => tables::answer(tokens, answer),
+        "cover" if name.is_empty() => covers::answer(tokens, answer),
         "convert" if name.is_empty() => conversions::answer(tokens, answer),
         _ => Err(other_operation(section)),
     }
@@ -82,7 +83,7 @@ fn answer_operation(
 /// Whether a section that nothing answers is one of the format.
 fn other_operation(section: &str) -> LineError {
     match section {
-        "load" | "cover" | "tool" => LineError::Unsupported,
+        "load" | "tool" => LineError::Unsupported,
         _ => LineError::Malformed,
     }
 }
