@@ -41,16 +41,30 @@ impl Bench<'_> {
         let start = Instant::now(rt)?;
         let plain = W::plainly(self.rounds);
         let plain_time = start.elapsed(rt)?.as_nanos();
-        let calls = u128::from(self.rounds) * u128::from(W::CALLS);
-        let percent = library_time.saturating_mul(100) / plain_time.max(1);
-        let note = if library == plain {
-            ""
-        } else {
-            " (the answers differ)"
-        };
-        println!(rt;
-            "{}: {} ps, plain {} ps, {percent} %{note}",
+        self.print(
             W::NAME,
+            W::CALLS,
+            library_time,
+            plain_time,
+            library == plain,
+        )
+    }
+
+    /// Prints the line of some work, from what all rounds took.
+    pub fn print(
+        &self,
+        name: &str,
+        calls: u32,
+        library_time: u128,
+        plain_time: u128,
+        same: bool,
+    ) -> io::Result<()> {
+        let rt = self.rt;
+        let calls = u128::from(self.rounds) * u128::from(calls);
+        let percent = library_time.saturating_mul(100) / plain_time.max(1);
+        let note = if same { "" } else { " (the answers differ)" };
+        println!(rt;
+            "{name}: {} ps, plain {} ps, {percent} %{note}",
             library_time.saturating_mul(1000) / calls.max(1),
             plain_time.saturating_mul(1000) / calls.max(1)
         )

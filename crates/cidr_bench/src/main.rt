@@ -9,7 +9,9 @@
 mod bench;
 mod compact;
 mod containing;
+mod covering;
 mod idle;
+mod loading;
 mod long;
 mod loose;
 mod masked;
@@ -18,6 +20,7 @@ mod ordering;
 mod printing;
 mod reading;
 mod stepping;
+mod tables;
 mod texts;
 mod values;
 mod walking;
@@ -49,5 +52,8 @@ fn main(rt: HostRuntime) -> io::Result<()> {
     containing::compare_all(&bench)?;
     ordering::compare_all(&bench)?;
     stepping::compare_all(&bench)?;
-    walking::compare_all(&bench)
+    walking::compare_all(&bench)?;
+    tables::compare_all(&bench)?;
+    loading::compare_all(&bench)?;
+    covering::compare_all(&bench)
 }

@@ -67,3 +67,11 @@ pub fn partner(round: u32, index: usize) -> usize
 pub fn mixed(sum: u32, next: u32) -> u32 {
     sum.wrapping_mul(5) ^ next
 }
+
+/// The next of a fixed sequence of numbers (Knuth's linear congruential generator for 64 bits).
+pub fn next(state: &mut u64) -> u32 {
+    *state = state
+        .wrapping_mul(6364136223846793005)
+        .wrapping_add(1442695040888963407);
+    (*state >> 32) as u32
+}
