@@ -1,6 +1,6 @@
 //! Walks that take addresses at both ends.
 use crate::support::read;
-use cidr::{End, Ipv4Addr, Ipv4Cidr, Ipv4Inet, Ipv4InetPair, drive};
+use cidr::{End, Ipv4Addr, Ipv4Cidr, Ipv4Inet, Ipv4InetPair, Ipv6Inet, Ipv6InetPair, drive};
 use std::process::Abort;
 
 fn small(last: u8) -> Option<Ipv4Addr> {
@@ -51,4 +51,19 @@ fn no_calls_leave_a_walk_as_it_was(rt: HostRuntime) {
     assert!(rt; walk.size_hint() == (4, Some(4)));
     assert!(rt; walk.next() == small(0));
     assert!(rt; walk.next_back() == small(3));
+}
+
+#[test]
+fn an_ipv6_walk_goes_from_the_lower_half_on_into_the_upper_half(rt: HostRuntime) {
+    let first = read::<Ipv6Inet>(&rt, "::ffff:ffff:ffff:ffff/0");
+    let second = read::<Ipv6Inet>(&rt, "0:0:0:1::/0");
+    let pair = Ipv6InetPair::new(first, second).ok().expect(&rt, "a pair");
+    let mut walk = pair.iter().addresses();
+    let mut answers = [None; 3];
+    drive(
+        &mut walk,
+        &[End::Front, End::Front, End::Front],
+        &mut answers,
+    );
+    assert!(rt; answers == [Some(first.address()), Some(second.address()), None]);
 }
