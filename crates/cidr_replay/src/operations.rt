@@ -74,6 +74,7 @@ fn answer_operation(
         "compact" | "hostcompact" | "agree" => compact::answer(section, name, tokens, answer),
         "prefix" => prefixes::answer(name, tokens, answer),
         "table" if name.is_empty() => tables::answer(tokens, answer),
+        "load" if name.is_empty() => tables::answer_load(tokens, answer),
         "cover" if name.is_empty() => covers::answer(tokens, answer),
         "convert" if name.is_empty() => conversions::answer(tokens, answer),
         _ => Err(other_operation(section)),
@@ -83,7 +84,7 @@ fn answer_operation(
 /// Whether a section that nothing answers is one of the format.
 fn other_operation(section: &str) -> LineError {
     match section {
-        "load" | "tool" => LineError::Unsupported,
+        "tool" => LineError::Unsupported,
         _ => LineError::Malformed,
     }
 }

@@ -5,8 +5,10 @@ use crate::line_error::{LineError, Outcome};
 use crate::tokens::{Kind, Tokens};
 use crate::values::Value;
 use cidr::errors::NetworkParseError;
-use cidr::{AnyIpCidr, Ipv4Cidr, Ipv6Cidr, NetworkBits};
-use cidr_table::{LpmTable, longest_match};
+use cidr::{AnyIpCidr, Ipv4Cidr, Ipv6Cidr, NetworkBits, PrefixBytes};
+use cidr_table::{LoadError, LpmTable, longest_match};
+use std::fmt::Display;
+use std::num::ParseIntError;
 use std::str::FromStr;
 
 /// The types of keys.
@@ -33,18 +35,52 @@ impl Key for AnyIpCidr {
     }
 }
 
+/// What stands under a key: a number.
+pub trait Number: FromStr<Err = ParseIntError> + Value + Copy + Display {}
+
+impl Number for u64 {}
+
+impl Number for usize {}
+
+/// Answers the steps on a table that is loaded from prefix bytes, and then all its rows.
+pub fn answer_load(tokens: &mut Tokens<'_>, answer: &mut Answer) -> Outcome {
+    match tokens.kind()? {
+        Kind::V4 => answer_loaded::<Ipv4Cidr>(tokens, answer),
+        Kind::V6 => answer_loaded::<Ipv6Cidr>(tokens, answer),
+        Kind::Ip | Kind::Any => Err(LineError::Malformed),
+    }
+}
+
+fn answer_loaded<C: Key + PrefixBytes>(tokens: &mut Tokens<'_>, answer: &mut Answer) -> Outcome {
+    let bytes = tokens.bytes()?;
+    match LpmTable::<C, usize>::load(tokens.alloc(), bytes.as_slice()) {
+        Ok(table) => {
+            answer.word("ok")?;
+            answer_steps(table, tokens, answer)
+        }
+        Err(LoadError::NoMemory) => Err(LineError::OutOfMemory),
+        Err(LoadError::Prefix(place, e)) => {
+            tokens.skip_rest();
+            answer.word("err")?;
+            answer.word("Prefix")?;
+            answer.value(&place)?;
+            answer.refusal(&e)
+        }
+    }
+}
+
 /// Answers the steps on an empty table, and then all its rows.
 pub fn answer(tokens: &mut Tokens<'_>, answer: &mut Answer) -> Outcome {
     match tokens.kind()? {
-        Kind::V4 => answer_steps::<Ipv4Cidr>(LpmTable::new(tokens.alloc()), tokens, answer),
-        Kind::V6 => answer_steps::<Ipv6Cidr>(LpmTable::new(tokens.alloc()), tokens, answer),
-        Kind::Any => answer_steps::<AnyIpCidr>(LpmTable::new(tokens.alloc()), tokens, answer),
+        Kind::V4 => answer_steps::<Ipv4Cidr, u64>(LpmTable::new(tokens.alloc()), tokens, answer),
+        Kind::V6 => answer_steps::<Ipv6Cidr, u64>(LpmTable::new(tokens.alloc()), tokens, answer),
+        Kind::Any => answer_steps::<AnyIpCidr, u64>(LpmTable::new(tokens.alloc()), tokens, answer),
         Kind::Ip => Err(LineError::Malformed),
     }
 }
 
-fn answer_steps<C: Key>(
-    mut table: LpmTable<C, u64>,
+fn answer_steps<C: Key, V: Number>(
+    mut table: LpmTable<C, V>,
     tokens: &mut Tokens<'_>,
     answer: &mut Answer,
 ) -> Outcome {
@@ -62,8 +98,8 @@ fn answer_steps<C: Key>(
     Ok(())
 }
 
-fn answer_step<C: Key>(
-    table: &mut LpmTable<C, u64>,
+fn answer_step<C: Key, V: Number>(
+    table: &mut LpmTable<C, V>,
     tokens: &mut Tokens<'_>,
     answer: &mut Answer,
 ) -> Outcome {
@@ -82,7 +118,11 @@ fn answer_step<C: Key>(
 }
 
 /// The row of the longest match behind its place.
-fn answer_match<C: Key>(table: &LpmTable<C, u64>, asked: &C, answer: &mut Answer) -> Outcome {
+fn answer_match<C: Key, V: Number>(
+    table: &LpmTable<C, V>,
+    asked: &C,
+    answer: &mut Answer,
+) -> Outcome {
     let Some(place) = longest_match(&mut table.probe(), asked) else {
         return answer.word("none");
     };
@@ -93,7 +133,7 @@ fn answer_match<C: Key>(table: &LpmTable<C, u64>, asked: &C, answer: &mut Answer
     more_of_row(row, answer)
 }
 
-fn answer_row<C: Key>(row: Option<&(C, u64)>, answer: &mut Answer) -> Outcome {
+fn answer_row<C: Key, V: Number>(row: Option<&(C, V)>, answer: &mut Answer) -> Outcome {
     match row {
         Some(row) => {
             answer.word("")?;
@@ -104,7 +144,7 @@ fn answer_row<C: Key>(row: Option<&(C, u64)>, answer: &mut Answer) -> Outcome {
 }
 
 /// The rows between brackets, with commas between them.
-fn answer_rows<C: Key>(rows: &[(C, u64)], answer: &mut Answer) -> Outcome {
+fn answer_rows<C: Key, V: Number>(rows: &[(C, V)], answer: &mut Answer) -> Outcome {
     answer.word("[")?;
     for (i, row) in rows.iter().enumerate() {
         if i > 0 {
@@ -116,7 +156,7 @@ fn answer_rows<C: Key>(rows: &[(C, u64)], answer: &mut Answer) -> Outcome {
 }
 
 /// Appends a row to the last token.
-fn more_of_row<C: Key>(row: &(C, u64), answer: &mut Answer) -> Outcome {
+fn more_of_row<C: Key, V: Number>(row: &(C, V), answer: &mut Answer) -> Outcome {
     row.0.more_to(answer)?;
     answer.more(&format_args!("={}", row.1))
 }

@@ -43,6 +43,11 @@ impl<'a> Tokens<'a> {
         self.rest.is_none()
     }
 
+    /// Takes all tokens that are left.
+    pub fn skip_rest(&mut self) {
+        self.rest = None;
+    }
+
     /// The next token as it stands.
     pub fn word(&mut self) -> Result<&'a str, LineError> {
         let Some(rest) = self.rest else {
