@@ -1,4 +1,5 @@
 //! Loading a table from prefix bytes, beside a sort of as many numbers.
+ghost use Rattle.std.specs.Prelude.{◌≤◌};
 
 use crate::bench::Bench;
 use crate::values::{mixed, next};
@@ -57,7 +58,10 @@ impl List {
         Ok(list)
     }
 
-    fn push(&mut self, address: u32, len: u8) -> Result<(), AllocError> {
+    /// Appends the network of this length that holds the address.
+    fn push(&mut self, address: u32, len: u8) -> Result<(), AllocError>
+        requires { len ≤ 32 }
+    {
         let kept = u64::from(address) >> (32 - u32::from(len)) << (32 - u32::from(len));
         let [a, b, c, _] = ((kept % 4_294_967_296) as u32).to_be_bytes();
         self.bytes.push(len)?;

@@ -18,8 +18,17 @@
 //! and d that of the binary digits of n, it makes at most `(len + 1) * d` of them, where `len` is the length of the
 //! asked bits.
 //!
-//! `insert` of a new key is the only call that allocates. Where an allocation fails, the key and the value come back
-//! and the table is as it was.
+//! `insert` of a new key and `load` are the only calls that allocate. Where an allocation fails, `insert` returns the
+//! key and the value and leaves the table as it was, and `load` returns `NoMemory`.
+//!
+//! A table of networks of one family is loaded from prefix bytes, one after the other, each with its place:
+//!
+//! ```
+//! LpmTable::<Ipv4Cidr, usize>::load(rt.alloc(), &[8, 10, 16, 10, 1, 0])
+//!                                             // Ok: 0.0.0.0/0 with 2, 10.0.0.0/8 with 0, 10.1.0.0/16 with 1
+//! LpmTable::<Ipv4Cidr, usize>::load(rt.alloc(), &[8, 10, 40])
+//!                                             // Err(Prefix(1, LengthTooLong))
+//! ```
 #![tactic(auto)]
 
 mod count;
