@@ -82,7 +82,10 @@ fn match_each(table: &LpmTable<Ipv4Cidr, u32>, asked: &[Ipv4Cidr], rounds: u32) 
     for _ in 0..rounds {
         for network in asked {
             let place = longest_match(&mut table.probe(), network);
-            sum = mixed(sum, place.map_or(u32::MAX, |place| place as u32));
+            sum = mixed(
+                sum,
+                place.map_or(u32::MAX, |place| (place % 4_294_967_296) as u32),
+            );
         }
     }
     sum
@@ -94,7 +97,10 @@ fn search_each(rows: &[(Ipv4Cidr, u32)], asked: &[Ipv4Cidr], rounds: u32) -> u32
     for _ in 0..rounds {
         for network in asked {
             let place = search_by_lengths(rows, network);
-            sum = mixed(sum, place.map_or(u32::MAX, |place| place as u32));
+            sum = mixed(
+                sum,
+                place.map_or(u32::MAX, |place| (place % 4_294_967_296) as u32),
+            );
         }
     }
     sum

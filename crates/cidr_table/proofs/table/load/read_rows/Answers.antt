@@ -14,9 +14,14 @@ slice_bounds-rest-start g c = let h = used_within g.C.BitString.bits g.C.PrefixB
 
 pub returns-in-Err : goal.returns-in-Err
 returns-in-Err g c =
-    let (keys, listed, rows) = c.loop-rest.invariant in
-    (keys, c.loop-rest.rest.now, listed, omega (arith, c.len-place.ensures, ap length rows, length-placed 0 keys),
-        λ none. false≢true (c.loop-rest-test.ensures ∙ ap (λ t. length t == 0) none), c.in-Err.ensures.refused)
+    let (keys, listed, rows) = c.loop-rest.invariant in (
+      keys,
+      c.loop-rest.rest.now,
+      listed,
+      omega (arith, c.len-place.ensures, ap length rows, length-placed 0 keys),
+      λ none. false≢true (c.loop-rest-test.ensures ∙ ap (λ t. length t == 0) none),
+      c.in-Err.ensures.refused,
+    )
 
 pub returns-then-is_err : goal.returns-then-is_err
 returns-then-is_err g c =
