@@ -4,8 +4,6 @@
 #[cfg(test)]
 mod comparisons;
 #[cfg(test)]
-mod growths;
-#[cfg(test)]
 mod random_runs;
 #[cfg(test)]
 mod rows;

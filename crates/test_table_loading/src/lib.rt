@@ -2,8 +2,6 @@
 #![tactic(auto)]
 
 #[cfg(test)]
-mod growths;
-#[cfg(test)]
 mod many_prefixes;
 #[cfg(test)]
 mod rows;

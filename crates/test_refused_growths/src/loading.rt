@@ -1,10 +1,16 @@
 //! Where an allocation fails, that is told if the bytes begin with a prefix, and the same call then succeeds.
-//!
-//! With ample memory no allocation fails. `rt try --test --fail-alloc N` fails the one of that number.
-use crate::support::{Places, has};
+use cidr::Ipv4Cidr;
 use cidr::errors::PrefixBytesError;
-use cidr_table::LoadError;
+use cidr_table::{LoadError, LpmTable};
 use std::test::Fail;
+
+/// IPv4 networks, each with its place in the bytes.
+type Places = LpmTable<Ipv4Cidr, usize>;
+
+/// The row of this place: the network of a text, and its place in the bytes.
+fn has(places: &Places, row: usize, text: &str, place: usize) -> Result<bool, Fail> {
+    Ok(places.row(row).copied() == Some((text.parse::<Ipv4Cidr>()?, place)))
+}
 
 #[test]
 fn a_refused_growth_is_told_and_loading_again_succeeds(rt: HostRuntime) -> Result<(), Fail> {
@@ -13,8 +19,11 @@ fn a_refused_growth_is_told_and_loading_again_succeeds(rt: HostRuntime) -> Resul
         Err(LoadError::NoMemory) => Places::load(rt.alloc(), &bytes),
         loaded => loaded,
     };
-    let wanted = [("0.0.0.0/0", 2), ("10.0.0.0/8", 0), ("10.1.0.0/16", 1)];
-    assert!(rt; has(&loaded?, &wanted)?);
+    let places = loaded?;
+    assert_eq!(rt; places.len(), 3);
+    assert!(rt; has(&places, 0, "0.0.0.0/0", 2)?);
+    assert!(rt; has(&places, 1, "10.0.0.0/8", 0)?);
+    assert!(rt; has(&places, 2, "10.1.0.0/16", 1)?);
     Ok(())
 }
 
