@@ -7,8 +7,6 @@ use crate::values::Value;
 use cidr::errors::NetworkParseError;
 use cidr::{AnyIpCidr, Ipv4Cidr, Ipv6Cidr, NetworkBits, PrefixBytes};
 use cidr_table::{LoadError, LpmTable, longest_match};
-use std::fmt::Display;
-use std::num::ParseIntError;
 use std::str::FromStr;
 
 /// The types of keys.
@@ -35,14 +33,17 @@ impl Key for AnyIpCidr {
     }
 }
 
-/// What stands under a key: a number.
-pub trait Number: FromStr<Err = ParseIntError> + Value + Copy + Display {}
+/// Answers the steps on an empty table, and then all its rows.
+pub fn answer(tokens: &mut Tokens<'_>, answer: &mut Answer) -> Outcome {
+    match tokens.kind()? {
+        Kind::V4 => answer_steps::<Ipv4Cidr>(LpmTable::new(tokens.alloc()), tokens, answer),
+        Kind::V6 => answer_steps::<Ipv6Cidr>(LpmTable::new(tokens.alloc()), tokens, answer),
+        Kind::Any => answer_steps::<AnyIpCidr>(LpmTable::new(tokens.alloc()), tokens, answer),
+        Kind::Ip => Err(LineError::Malformed),
+    }
+}
 
-impl Number for u64 {}
-
-impl Number for usize {}
-
-/// Answers the steps on a table that is loaded from prefix bytes, and then all its rows.
+/// Answers the steps on the table that prefix bytes are loaded as, or why they are refused.
 pub fn answer_load(tokens: &mut Tokens<'_>, answer: &mut Answer) -> Outcome {
     match tokens.kind()? {
         Kind::V4 => answer_loaded::<Ipv4Cidr>(tokens, answer),
@@ -58,29 +59,19 @@ fn answer_loaded<C: Key + PrefixBytes>(tokens: &mut Tokens<'_>, answer: &mut Ans
             answer.word("ok")?;
             answer_steps(table, tokens, answer)
         }
-        Err(LoadError::NoMemory) => Err(LineError::OutOfMemory),
-        Err(LoadError::Prefix(place, e)) => {
-            tokens.skip_rest();
+        Err(LoadError::Prefix(place, error)) => {
+            tokens.skip_all();
             answer.word("err")?;
             answer.word("Prefix")?;
             answer.value(&place)?;
-            answer.refusal(&e)
+            answer.refusal(&error)
         }
+        Err(LoadError::NoMemory) => Err(LineError::OutOfMemory),
     }
 }
 
-/// Answers the steps on an empty table, and then all its rows.
-pub fn answer(tokens: &mut Tokens<'_>, answer: &mut Answer) -> Outcome {
-    match tokens.kind()? {
-        Kind::V4 => answer_steps::<Ipv4Cidr, u64>(LpmTable::new(tokens.alloc()), tokens, answer),
-        Kind::V6 => answer_steps::<Ipv6Cidr, u64>(LpmTable::new(tokens.alloc()), tokens, answer),
-        Kind::Any => answer_steps::<AnyIpCidr, u64>(LpmTable::new(tokens.alloc()), tokens, answer),
-        Kind::Ip => Err(LineError::Malformed),
-    }
-}
-
-fn answer_steps<C: Key, V: Number>(
-    mut table: LpmTable<C, V>,
+fn answer_steps<C: Key>(
+    mut table: LpmTable<C, usize>,
     tokens: &mut Tokens<'_>,
     answer: &mut Answer,
 ) -> Outcome {
@@ -98,8 +89,8 @@ fn answer_steps<C: Key, V: Number>(
     Ok(())
 }
 
-fn answer_step<C: Key, V: Number>(
-    table: &mut LpmTable<C, V>,
+fn answer_step<C: Key>(
+    table: &mut LpmTable<C, usize>,
     tokens: &mut Tokens<'_>,
     answer: &mut Answer,
 ) -> Outcome {
@@ -118,11 +109,7 @@ fn answer_step<C: Key, V: Number>(
 }
 
 /// The row of the longest match behind its place.
-fn answer_match<C: Key, V: Number>(
-    table: &LpmTable<C, V>,
-    asked: &C,
-    answer: &mut Answer,
-) -> Outcome {
+fn answer_match<C: Key>(table: &LpmTable<C, usize>, asked: &C, answer: &mut Answer) -> Outcome {
     let Some(place) = longest_match(&mut table.probe(), asked) else {
         return answer.word("none");
     };
@@ -133,7 +120,7 @@ fn answer_match<C: Key, V: Number>(
     more_of_row(row, answer)
 }
 
-fn answer_row<C: Key, V: Number>(row: Option<&(C, V)>, answer: &mut Answer) -> Outcome {
+fn answer_row<C: Key>(row: Option<&(C, usize)>, answer: &mut Answer) -> Outcome {
     match row {
         Some(row) => {
             answer.word("")?;
@@ -144,7 +131,7 @@ fn answer_row<C: Key, V: Number>(row: Option<&(C, V)>, answer: &mut Answer) -> O
 }
 
 /// The rows between brackets, with commas between them.
-fn answer_rows<C: Key, V: Number>(rows: &[(C, V)], answer: &mut Answer) -> Outcome {
+fn answer_rows<C: Key>(rows: &[(C, usize)], answer: &mut Answer) -> Outcome {
     answer.word("[")?;
     for (i, row) in rows.iter().enumerate() {
         if i > 0 {
@@ -156,7 +143,7 @@ fn answer_rows<C: Key, V: Number>(rows: &[(C, V)], answer: &mut Answer) -> Outco
 }
 
 /// Appends a row to the last token.
-fn more_of_row<C: Key, V: Number>(row: &(C, V), answer: &mut Answer) -> Outcome {
+fn more_of_row<C: Key>(row: &(C, usize), answer: &mut Answer) -> Outcome {
     row.0.more_to(answer)?;
     answer.more(&format_args!("={}", row.1))
 }

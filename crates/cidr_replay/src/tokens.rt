@@ -43,8 +43,8 @@ impl<'a> Tokens<'a> {
         self.rest.is_none()
     }
 
-    /// Takes all tokens that are left.
-    pub fn skip_rest(&mut self) {
+    /// Leaves out the tokens that are left.
+    pub fn skip_all(&mut self) {
         self.rest = None;
     }
 

@@ -83,12 +83,6 @@ impl Value for u8 {
     }
 }
 
-impl Value for u64 {
-    fn push_to(&self, answer: &mut Answer) -> Outcome {
-        answer.display(self)
-    }
-}
-
 impl Value for usize {
     fn push_to(&self, answer: &mut Answer) -> Outcome {
         answer.display(self)
