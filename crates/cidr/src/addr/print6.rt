@@ -82,7 +82,7 @@ pub(crate) fn is_mapped(groups: &[u16]) -> bool
     requires { length groups.now ≡ 8 }
     ensures { result ≡ bytes_eq (take 6 groups.now) mapped_groups }
 {
-    groups[..6] == [0, 0, 0, 0, 0, 0xffff]
+    matches!(groups, [0, 0, 0, 0, 0, 0xffff, ..])
 }
 
 /// Appends eight groups, the longest run of two zeros or more as `::`.
