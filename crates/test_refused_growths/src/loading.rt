@@ -1,6 +1,5 @@
-//! Where an allocation fails, that is told if the bytes begin with a prefix, and the same call then succeeds.
+//! Where an allocation fails, that is told, and the same call then succeeds.
 use cidr::Ipv4Cidr;
-use cidr::errors::PrefixBytesError;
 use cidr_table::{LoadError, LpmTable};
 use std::test::Fail;
 
@@ -38,19 +37,5 @@ fn each_growth_may_be_refused(rt: HostRuntime) -> Result<(), Fail> {
         loaded => loaded,
     };
     assert_eq!(rt; loaded?.len(), 80);
-    Ok(())
-}
-
-#[test]
-fn a_growth_comes_before_the_next_prefix_and_after_the_first(rt: HostRuntime) -> Result<(), Fail> {
-    let long = |place| Some(LoadError::Prefix(place, PrefixBytesError::LengthTooLong));
-    let error = Places::load(rt.alloc(), &[8, 10, 33]).err();
-    let is_long = error == long(1);
-    let is_refused = error == Some(LoadError::NoMemory);
-    assert!(rt; is_long || is_refused);
-    let error = Places::load(rt.alloc(), &[33]).err();
-    assert!(rt; error == long(0));
-    let empty = Places::load(rt.alloc(), &[])?;
-    assert!(rt; empty.is_empty());
     Ok(())
 }
