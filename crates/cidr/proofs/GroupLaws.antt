@@ -26,7 +26,8 @@ pub bits-group_halves : (a b c d e f g h : ℕ) → a < 2 ^ 16 → b < 2 ^ 16 �
 bits-group_halves a b c d e f g h ha hb hc hd he hf hg hh = ap (bits 128) (omega arith) ∙ bits-groups a b c d e f g h ha hb hc hd he hf hg hh
 
 pub groups_of-halves : (u l : ℕ) → l < 2 ^ 64
-    → groups_of (bits 128 (joined u l)) ≡ u / 2 ^ 48 % 65536 ∷ u / 2 ^ 32 % 65536 ∷ u / 2 ^ 16 % 65536 ∷ u / 2 ^ 0 % 65536 ∷ l / 2 ^ 48 % 65536 ∷ l / 2 ^ 32 % 65536 ∷ l / 2 ^ 16 % 65536 ∷ l / 2 ^ 0 % 65536 ∷ []
+    → groups_of (bits 128 (joined u l)) ≡ u / 2 ^ 48 % 65536 ∷ u / 2 ^ 32 % 65536 ∷ u / 2 ^ 16 % 65536 ∷ u / 2 ^ 0 % 65536
+    ∷ l / 2 ^ 48 % 65536 ∷ l / 2 ^ 32 % 65536 ∷ l / 2 ^ 16 % 65536 ∷ l / 2 ^ 0 % 65536 ∷ []
 groups_of-halves u l low =
     let n = joined u l in
     let upper : n / 2 ^ 64 ≡ u = shr_high u 64 l low in

@@ -18,7 +18,8 @@ use Rattle.cidr_table.specs.Prefixes.{AreInside}
 use Rattle.cidr_table.proofs.Beginnings.{not_before, begins_between, begins_decides}
 
 -- a key that is there is the first that is not before it
-pub lower_bound_at : {C : Type 0} (cmp : C → C → Ordering) → IsTotalOrder cmp → (keys : List C) (key : C) (end i : ℕ) → end ≡ length keys → IsStrictlySortedBy cmp keys → IsAt cmp keys key end i → IsLowerBound cmp keys key end i
+pub lower_bound_at : {C : Type 0} (cmp : C → C → Ordering) → IsTotalOrder cmp → (keys : List C) (key : C) (end i : ℕ) → end ≡ length keys
+    → IsStrictlySortedBy cmp keys → IsAt cmp keys key end i → IsLowerBound cmp keys key end i
 lower_bound_at cmp o keys key end i size sorted h = record {
   within = omega (arith, h.within);
   before = λ j l.
@@ -60,7 +61,8 @@ module _ {C V : Type 0} (cmp : C → C → Ordering) where
   pub sorted_range : (i n : ℕ) (rows : List (C × V)) → IsStrictlySortedBy cmp (keys_of rows) → IsStrictlySortedBy cmp (keys_of (take n (drop i rows)))
   sorted_range i n rows s = sorted_take n (drop i rows) (sorted_drop i rows s)
 
-module _ {C V : Type 0} (cmp : C → C → Ordering) (bits : C → List Bool) (ordered : (x y : C) → cmp x y ≡ bit_cmp (bits x) (bits y)) (rows : List (C × V)) (sorted : IsStrictlySortedBy cmp (keys_of rows)) (outer : C) (i : ℕ) (b : IsLowerBound cmp (keys_of rows) outer (length rows) i) where
+module _ {C V : Type 0} (cmp : C → C → Ordering) (bits : C → List Bool) (ordered : (x y : C) → cmp x y ≡ bit_cmp (bits x) (bits y))
+    (rows : List (C × V)) (sorted : IsStrictlySortedBy cmp (keys_of rows)) (outer : C) (i : ℕ) (b : IsLowerBound cmp (keys_of rows) outer (length rows) i) where
   abbrev pub in_outer : C × V → Bool
   in_outer row = begins_with (bits row.0) (bits outer)
 
@@ -74,12 +76,15 @@ module _ {C V : Type 0} (cmp : C → C → Ordering) (bits : C → List Bool) (o
         let rk = get_or rows (i + k) d in
         let inner : BeginsWith (bits rk.0) (bits outer) = (begins_decides (bits rk.0) (bits outer)).0 (rw (get_or-drop i rows k d) at inner_there) in
         let low : bit_cmp (bits rj.0) (bits outer) ≢ Less = rw (key_at rows (i + j) outer d (omega arith), ordered rj.0 outer) at (b.behind (i + j) (omega arith) (omega arith)) in
-        let less : cmp rj.0 rk.0 ≡ Less = rw (key_at rows (i + j) outer d (omega arith), key_at rows (i + k) outer d (omega arith)) at (Less-from_sorted cmp (keys_of rows) (i + j) (i + k) outer sorted (omega arith) (omega (arith, length-map rows (λ (x : C × V). x.0)))) in
+        let keys = length-map rows (λ (x : C × V). x.0) in
+        let ascends = Less-from_sorted cmp (keys_of rows) (i + j) (i + k) outer sorted (omega arith) (omega (arith, keys)) in
+        let less : cmp rj.0 rk.0 ≡ Less = rw (key_at rows (i + j) outer d (omega arith), key_at rows (i + k) outer d (omega arith)) at ascends in
         let high : bit_cmp (bits rj.0) (bits rk.0) ≢ Greater = λ g. let f = sym less ∙ (ordered rj.0 rk.0 ∙ g) in (cc) in
         rw (get_or-drop i rows j d) ((begins_decides (bits rj.0) (bits outer)).1 (begins_between (bits outer) (bits rk.0) (bits rj.0) inner low high))
   ]
 
-  pub are_inside : (n : ℕ) → n ≤ length (drop i rows) → AllWithin (λ row. in_outer row ≡ true) (drop i rows) 0 n → AllWithin (λ row. in_outer row ≡ false) (drop i rows) n (length (drop i rows)) → AreInside bits rows (bits outer) (take n (drop i rows))
+  pub are_inside : (n : ℕ) → n ≤ length (drop i rows) → AllWithin (λ row. in_outer row ≡ true) (drop i rows) 0 n
+      → AllWithin (λ row. in_outer row ≡ false) (drop i rows) n (length (drop i rows)) → AreInside bits rows (bits outer) (take n (drop i rows))
   are_inside n fits first rest = λ row. (
     λ h.
         let size = length-drop i rows in

@@ -197,7 +197,10 @@ module _ {C : Type 0} (cmp : C → C → Ordering) (o : IsTotalOrder cmp) (exact
           λ row. (
             λ c. let t = (last row).0 (subst (λ l. Contains l row) is c) in
                 (Contains-permutation (x ∷ xs) old row (IsPermutation-sym old (x ∷ xs) p) t.0, λ other e s. t.1 other (Contains-permutation old (x ∷ xs) other p e) s),
-            λ c. subst (λ l. Contains l row) (sym is) ((last row).1 (Contains-permutation old (x ∷ xs) row p c.0, λ other e s. c.1 other (Contains-permutation (x ∷ xs) old other (IsPermutation-sym old (x ∷ xs) p) e) s)),
+            λ c. subst (λ l. Contains l row) (sym is) ((last row).1 (
+              Contains-permutation old (x ∷ xs) row p c.0,
+              λ other e s. c.1 other (Contains-permutation (x ∷ xs) old other (IsPermutation-sym old (x ∷ xs) p) e) s,
+            )),
           ),
         )
 
@@ -219,7 +222,8 @@ module _ {C : Type 0} where
   at_placed n (k ∷ keys) key (suc i) place e h = contains_later (k, n) (key, place) (placed (n + 1) keys) (at_placed (n + 1) keys key i place (omega (arith, e)) h)
 
   -- the last of the rows of each key has the key's last place
-  pub last_places : (keys : List C) (rows new : List (C × ℕ)) → rows ≡ placed 0 keys → AreLast rows new → (row : C × ℕ) → (Contains new row → IsLastPlace keys row.0 row.1) × (IsLastPlace keys row.0 row.1 → Contains new row)
+  pub last_places : (keys : List C) (rows new : List (C × ℕ)) → rows ≡ placed 0 keys → AreLast rows new → (row : C × ℕ)
+      → (Contains new row → IsLastPlace keys row.0 row.1) × (IsLastPlace keys row.0 row.1 → Contains new row)
   last_places keys rows new e last row = (
     λ c.
         let t = (last row).0 c in
@@ -241,7 +245,9 @@ module _ {C : Type 0} where
   -- one more key after the others
   pub placed_push : (n : ℕ) (keys : List C) (key : C) → placed n (keys ++ key ∷ []) ≡ placed n keys ++ (key, n + length keys) ∷ []
   placed_push n [] key = let e : n ≡ n + 0 = omega arith in ap (λ m. (key, m) ∷ []) e
-  placed_push n (k ∷ keys) key = let e : n + 1 + length keys ≡ n + length (k ∷ keys) = omega arith in ap (λ t. (k, n) ∷ t) (placed_push (n + 1) keys key ∙ ap (λ m. placed (n + 1) keys ++ (key, m) ∷ []) e)
+  placed_push n (k ∷ keys) key =
+      let e : n + 1 + length keys ≡ n + length (k ∷ keys) = omega arith in
+      ap (λ t. (k, n) ∷ t) (placed_push (n + 1) keys key ∙ ap (λ m. placed (n + 1) keys ++ (key, m) ∷ []) e)
 
   pub length-placed : (n : ℕ) (keys : List C) → length (placed n keys) ≡ length keys
   length-placed n [] = refl

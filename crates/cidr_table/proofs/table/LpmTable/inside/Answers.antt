@@ -13,10 +13,13 @@ returns-clause-rows g c =
     let start = c.lower_bound.result in
     let whole : c.deref.result.now ≡ rows = c.deref.ensures.value ∙ c.self.view_is in
     let from : take (length c.deref.result.now - start) (drop start c.deref.result.now) ≡ drop start rows = rw whole (rest_of start rows) in
-    let point = rw from at c.partition_point-len.ensures.partitioned (in_outer g.C.Ord.cmp g.C.BitString.bits g.met.C.NetworkBits.ordered rows c.lower_bound.ensures.sorted c.args.outer.now start c.lower_bound.ensures.bound) (always_returns_same _ _ _ (λ a r f k. search (rules, of_calls))) in
+    let inner = in_outer g.C.Ord.cmp g.C.BitString.bits g.met.C.NetworkBits.ordered rows c.lower_bound.ensures.sorted c.args.outer.now start c.lower_bound.ensures.bound in
+    let point = rw from at c.partition_point-len.ensures.partitioned inner (always_returns_same _ _ _ (λ a r f k. search (rules, of_calls))) in
     let parts = inside_first g.C.Ord.cmp g.C.BitString.bits g.met.C.NetworkBits.ordered rows c.lower_bound.ensures.sorted c.args.outer.now start c.lower_bound.ensures.bound in
     let found = point parts in
-    rw from (are_inside g.C.Ord.cmp g.C.BitString.bits g.met.C.NetworkBits.ordered rows c.lower_bound.ensures.sorted c.args.outer.now start c.lower_bound.ensures.bound c.partition_point-len.result (rw from at c.partition_point-len.ensures.bound) found.0 found.1)
+    let fits = rw from at c.partition_point-len.ensures.bound in
+    rw from (are_inside g.C.Ord.cmp g.C.BitString.bits g.met.C.NetworkBits.ordered rows c.lower_bound.ensures.sorted c.args.outer.now start c.lower_bound.ensures.bound
+    c.partition_point-len.result fits found.0 found.1)
 
 pub returns-clause-sorted : goal.returns-clause-sorted
 returns-clause-sorted g c =

@@ -20,11 +20,13 @@ returns-else-i-lt64-clause-set c =
     let a = c.self.inside in
     let here = c.with_bit-else-i-lt64 in
     let place : c.args.i ≡ 64 + (c.args.i - 64) = omega arith in
-    rw (c.new-else-i-lt64.ensures, place) (with-lower (c.args.i - 64) here.result a.upper a.lower c.args.b (omega arith) c.self.invariant.1 (omega arith) here.ensures.set here.ensures.kept).0
+    let bits = with-lower (c.args.i - 64) here.result a.upper a.lower c.args.b (omega arith) c.self.invariant.1 (omega arith) here.ensures.set here.ensures.kept in
+    rw (c.new-else-i-lt64.ensures, place) bits.0
 
 pub returns-else-i-lt64-clause-kept : goal.returns-else-i-lt64-clause-kept
 returns-else-i-lt64-clause-kept c =
     let a = c.self.inside in
     let here = c.with_bit-else-i-lt64 in
     let place : c.args.i ≡ 64 + (c.args.i - 64) = omega arith in
-    rw (c.new-else-i-lt64.ensures, ← c.self.view_is, place) (with-lower (c.args.i - 64) here.result a.upper a.lower c.args.b (omega arith) c.self.invariant.1 (omega arith) here.ensures.set here.ensures.kept).1
+    let bits = with-lower (c.args.i - 64) here.result a.upper a.lower c.args.b (omega arith) c.self.invariant.1 (omega arith) here.ensures.set here.ensures.kept in
+    rw (c.new-else-i-lt64.ensures, ← c.self.view_is, place) bits.1
