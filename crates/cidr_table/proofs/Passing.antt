@@ -3,6 +3,7 @@ use Rattle.std.proofs.Common.{◌≡◌, ℕ, ◌+◌, ◌-◌, ◌<◌, ◌≤�
 use Rattle.std.proofs.lemmas.Bool.Decides.{not_from_Decides}
 use Rattle.std.proofs.lemmas.List.{map_more, map_push, take_more_set, take_all, get_or_default, get_or-map}
 use Rattle.std.proofs.lemmas.List.Elements.{Contains-push_cases}
+use Rattle.std.proofs.lemmas.Map.Entries.{length-keys_of}
 use Rattle.std.proofs.lemmas.Map.Keys.{Less-from_sorted}
 use Rattle.std.specs.Bool.{Decides}
 use Rattle.std.specs.List.Sorted.{IsStrictlySortedBy}
@@ -97,6 +98,12 @@ pushed w s k h before free within = record {
   within = within;
 }
 
+-- the key of a row
+key_read : {C V : Type 0} (rows : List (C × V)) (i : ℕ) (row : C × V) → i < length rows → row ≡ get_or rows i row
+    → row.0 ≡ get_or (keys_of rows) i row.0
+key_read {C = C} {V = V} rows i row within h = ap (λ (r : C × V). r.0) h
+    ∙ sym (get_or-map (λ (r : C × V). r.0) rows i row row.0 within)
+
 module _ {C : Type 0} (f : C → List Bool) where
   pub top_split : (out : List C) (n : ℕ) (t : C) → 0 < n → n ≤ length out → t ≡ get_or out (n - 1) t
       → map f (take n out) ≡ map f (take (n - 1) out) ++ f t ∷ []
@@ -129,9 +136,21 @@ module _ {C : Type 0} (f : C → List Bool) where
   passed_all w keys out n h = subst (λ (ks : List C). IsLeastCover w (map f ks) (map f (take n out)))
       (take_all (length keys) keys (omega arith)) h.cover
 
-  module _ (cmp : C → C → Ordering) (ordered : (x y : C) → cmp x y ≡ bit_cmp (f x) (f y)) (w : ℕ) (keys : List C)
-      (sorted : IsStrictlySortedBy cmp keys) (out : List C) (i n : ℕ) (h : IsPassed w keys out i n) (key : C)
-      (within : i < length keys) (is : key ≡ get_or keys i key) where
+  module _ {V : Type 0} (cmp : C → C → Ordering) (ordered : (x y : C) → cmp x y ≡ bit_cmp (f x) (f y)) (w : ℕ)
+      (rows : List (C × V)) (sorted : IsStrictlySortedBy cmp (keys_of rows)) (out : List C) (i n : ℕ)
+      (h : IsPassed w (keys_of rows) out i n) (row : C × V) (here : i < length rows) (is_row : row ≡ get_or rows i row) where
+    abbrev keys : List C
+    keys = keys_of rows
+
+    abbrev key : C
+    key = row.0
+
+    within : i < length keys
+    within = omega (arith, here, length-keys_of rows)
+
+    is : key ≡ get_or keys i key
+    is = key_read rows i row here is_row
+
     covers_seen : CoverSame w (map f (take n out)) (map f (take i keys))
     covers_seen = back w (map f (take i keys)) (map f (take n out))
         (exact w (map f (take i keys)) (map f (take n out)) h.cover)
@@ -193,9 +212,3 @@ module _ {C : Type 0} (f : C → List Bool) where
                   | inr g ↦ subst (λ x. bit_cmp x (f (get_or keys j d)) ≡ Less) g (later_behind j d le lt)
                 ]));
           }
-
--- the key of a row
-pub key_read : {C V : Type 0} (rows : List (C × V)) (i : ℕ) (row : C × V) → i < length rows → row ≡ get_or rows i row
-    → row.0 ≡ get_or (keys_of rows) i row.0
-key_read {C = C} {V = V} rows i row within h = ap (λ (r : C × V). r.0) h
-    ∙ sym (get_or-map (λ (r : C × V). r.0) rows i row row.0 within)

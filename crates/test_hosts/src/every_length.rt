@@ -1,5 +1,5 @@
 //! Steps to the neighbours at every prefix length, against the bits of the addresses, octet by octet.
-use cidr::{Ipv4Addr, Ipv4Inet, Ipv6Addr, Ipv6Inet};
+use cidr::{Inet, Ipv4Inet, Ipv6Inet};
 
 /// The octets of the next number, after the last one those of zero.
 fn next_of<const N: usize>(octets: [u8; N]) -> [u8; N] {
@@ -28,31 +28,14 @@ fn spliced<const N: usize>(front: [u8; N], back: [u8; N], len: u8) -> [u8; N] {
 }
 
 /// Whether both steps of this host go to the octets' neighbours, and wrap where all bits of the host part are alike.
-fn ipv4_steps_agree(octets: [u8; 4], len: u8) -> bool {
-    let below = Ipv4Addr::from(octets);
-    let above = Ipv4Addr::from(spliced(octets, next_of(octets), len));
-    let wraps = below == Ipv4Addr::from(spliced(octets, [255; 4], len));
-    match (Ipv4Inet::new(below, len), Ipv4Inet::new(above, len)) {
-        (Ok(low), Ok(high)) => {
-            let mut up = low;
-            let mut down = high;
-            up.increment() == wraps
-                && down.decrement() == wraps
-                && up == high
-                && down == low
-                && low.overflowing_add(1) == (high, wraps)
-                && high.overflowing_sub(1) == (low, wraps)
-        }
-        _ => false,
-    }
-}
-
-/// Whether both steps of this host go to the octets' neighbours, and wrap where all bits of the host part are alike.
-fn ipv6_steps_agree(octets: [u8; 16], len: u8) -> bool {
-    let below = Ipv6Addr::from(octets);
-    let above = Ipv6Addr::from(spliced(octets, next_of(octets), len));
-    let wraps = below == Ipv6Addr::from(spliced(octets, [255; 16], len));
-    match (Ipv6Inet::new(below, len), Ipv6Inet::new(above, len)) {
+fn steps_agree<H: Inet, const N: usize>(octets: [u8; N], len: u8) -> bool
+where
+    H::Address: From<[u8; N]>,
+{
+    let below = H::Address::from(octets);
+    let above = H::Address::from(spliced(octets, next_of(octets), len));
+    let wraps = below == H::Address::from(spliced(octets, [255; N], len));
+    match (H::new(below, len), H::new(above, len)) {
         (Ok(low), Ok(high)) => {
             let mut up = low;
             let mut down = high;
@@ -72,7 +55,7 @@ fn an_ipv4_host_of_each_length_steps_to_its_neighbours(rt: HostRuntime) {
     let addresses = [[0; 4], [255; 4], [192, 0, 2, 255], [10, 171, 255, 255]];
     for octets in addresses {
         for len in 0..33u8 {
-            assert!(rt; ipv4_steps_agree(octets, len), "at {len}");
+            assert!(rt; steps_agree::<Ipv4Inet, 4>(octets, len), "at {len}");
         }
     }
 }
@@ -91,7 +74,7 @@ fn an_ipv6_host_of_each_length_steps_to_its_neighbours(rt: HostRuntime) {
     ];
     for octets in addresses {
         for len in 0..129u8 {
-            assert!(rt; ipv6_steps_agree(octets, len), "at {len}");
+            assert!(rt; steps_agree::<Ipv6Inet, 16>(octets, len), "at {len}");
         }
     }
 }

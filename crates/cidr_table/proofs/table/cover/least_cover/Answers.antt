@@ -1,7 +1,7 @@
 use Rattle.std.proofs.Common.{◌≡◌, ◌<◌, length, subst, arith}
 use Rattle.std.proofs.lemmas.Map.Entries.{length-keys_of}
 use Rattle.std.specs.Map.{keys_of}
-use Rattle.cidr_table.proofs.Passing.{IsPassed, passed_none, passed_all, passed_skip, passed_push, own_cover, key_pushed, key_behind, key_read}
+use Rattle.cidr_table.proofs.Passing.{IsPassed, passed_none, passed_all, passed_skip, passed_push, own_cover, key_pushed, key_behind}
 use Rattle.cidr_table.proofs.table.cover.least_cover.Goals as goal
 use Rattle.cidr_table.proofs.table.cover.least_cover.Goals.{then-not-is_covered, else-not-is_covered}
 
@@ -10,59 +10,38 @@ loop-row-init g c = passed_none g.C.BitString.bits 129 (keys_of c.args.rows.now)
 
 pub is_covered-requires-clause-reduced : goal.is_covered-requires-clause-reduced
 is_covered-requires-clause-reduced g c =
-    let keys = keys_of c.args.rows.now in
-    let i = c.loop-row.row-index in
-    let row = c.row-item.result in
-    let within : i < length keys = omega (arith, c.loop-row-test.true, length-keys_of c.args.rows.now) in
-    let is = key_read c.args.rows.now i row c.loop-row-test.true c.row-item.is in
-    own_cover g.C.BitString.bits g.C.Ord.cmp g.met.C.NetworkBits.ordered 129 keys
-    c.requires.sorted c.loop-row.out i c.loop-row.n c.loop-row.invariant row.0 within is
+    let l = c.loop-row in
+    own_cover g.C.BitString.bits g.C.Ord.cmp g.met.C.NetworkBits.ordered 129 c.args.rows.now
+    c.requires.sorted l.out l.row-index l.n l.invariant c.row-item.result c.loop-row-test.true c.row-item.is
 
 pub is_covered-requires-clause-before : goal.is_covered-requires-clause-before
 is_covered-requires-clause-before g c =
-    let keys = keys_of c.args.rows.now in
-    let i = c.loop-row.row-index in
-    let row = c.row-item.result in
-    let within : i < length keys = omega (arith, c.loop-row-test.true, length-keys_of c.args.rows.now) in
-    let is = key_read c.args.rows.now i row c.loop-row-test.true c.row-item.is in
-    key_behind g.C.BitString.bits g.C.Ord.cmp g.met.C.NetworkBits.ordered 129 keys
-    c.requires.sorted c.loop-row.out i c.loop-row.n c.loop-row.invariant row.0 within is
+    let l = c.loop-row in
+    key_behind g.C.BitString.bits g.C.Ord.cmp g.met.C.NetworkBits.ordered 129 c.args.rows.now
+    c.requires.sorted l.out l.row-index l.n l.invariant c.row-item.result c.loop-row-test.true c.row-item.is
 
 pub merge-n-requires-clause-pushed : goal.merge-n-requires-clause-pushed
 merge-n-requires-clause-pushed g c =
-    let f = g.C.BitString.bits in
-    let keys = keys_of c.args.rows.now in
-    let i = c.loop-row.row-index in
-    let n = c.loop-row.n in
-    let out = c.loop-row.out in
-    let h = c.loop-row.invariant in
-    let row = c.row-item.result in
-    let within : i < length keys = omega (arith, c.loop-row-test.true, length-keys_of c.args.rows.now) in
-    let is = key_read c.args.rows.now i row c.loop-row-test.true c.row-item.is in
-    let room : n < length out = omega (arith, h.fits, c.loop-row.auto.out, c.requires.room, c.loop-row-test.true) in
-    key_pushed f g.C.Ord.cmp g.met.C.NetworkBits.ordered 129 keys c.requires.sorted out i n h row.0 within is room
-    c.is_covered.result c.is_covered.ensures c.if-not-is_covered.true c.known.ensures
+    let l = c.loop-row in
+    let room : l.n < length l.out = omega (arith, l.invariant.fits, l.auto.out, c.requires.room, c.loop-row-test.true) in
+    key_pushed g.C.BitString.bits g.C.Ord.cmp g.met.C.NetworkBits.ordered 129 c.args.rows.now
+    c.requires.sorted l.out l.row-index l.n l.invariant c.row-item.result c.loop-row-test.true c.row-item.is
+    room c.is_covered.result c.is_covered.ensures c.if-not-is_covered.true c.known.ensures
 
 pub loop-row-preserved : goal.loop-row-preserved
 loop-row-preserved g c =
-    let f = g.C.BitString.bits in
-    let keys = keys_of c.args.rows.now in
-    let i = c.loop-row.row-index in
-    let n = c.loop-row.n in
-    let out = c.loop-row.out in
-    let h = c.loop-row.invariant in
-    let row = c.row-item.result in
-    let within : i < length keys = omega (arith, c.loop-row-test.true, length-keys_of c.args.rows.now) in
-    let is = key_read c.args.rows.now i row c.loop-row-test.true c.row-item.is in
-    let room : n < length out = omega (arith, h.fits, c.loop-row.auto.out, c.requires.room, c.loop-row-test.true) in
+    let l = c.loop-row in
+    let room : l.n < length l.out = omega (arith, l.invariant.fits, l.auto.out, c.requires.room, c.loop-row-test.true) in
     elim c.if-not-is_covered.branch [
       | then-not-is_covered w ↦
-          rw (w.out-is, w.n-is) (passed_push f g.C.Ord.cmp g.met.C.NetworkBits.ordered 129 keys
-          c.requires.sorted out i n h row.0 within is room w.merge-n.new.out w.merge-n.result w.merge-n.ensures.fewer
+          rw (w.out-is, w.n-is) (passed_push g.C.BitString.bits g.C.Ord.cmp g.met.C.NetworkBits.ordered 129 c.args.rows.now
+          c.requires.sorted l.out l.row-index l.n l.invariant c.row-item.result c.loop-row-test.true c.row-item.is
+          room w.merge-n.new.out w.merge-n.result w.merge-n.ensures.fewer
           w.merge-n.ensures.cover w.merge-n.ensures.before)
       | else-not-is_covered w ↦
-          rw (w.out-is, w.n-is) (passed_skip f g.C.Ord.cmp g.met.C.NetworkBits.ordered 129 keys
-          c.requires.sorted out i n h row.0 within is (c.is_covered.ensures.0 w.if-not-is_covered.false))
+          rw (w.out-is, w.n-is) (passed_skip g.C.BitString.bits g.C.Ord.cmp g.met.C.NetworkBits.ordered 129 c.args.rows.now
+          c.requires.sorted l.out l.row-index l.n l.invariant c.row-item.result c.loop-row-test.true c.row-item.is
+          (c.is_covered.ensures.0 w.if-not-is_covered.false))
     ]
 
 pub returns-clause-cover : goal.returns-clause-cover
