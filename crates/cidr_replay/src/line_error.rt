@@ -8,7 +8,7 @@ use std::fmt;
 pub enum LineError {
     /// The line is none of the format.
     Malformed,
-    /// The operation's calls do not exist yet, or are another program's.
+    /// The operation is another program's.
     Unsupported,
     /// There is no memory for the line's values or for its answer.
     OutOfMemory,

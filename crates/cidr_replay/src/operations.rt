@@ -12,7 +12,7 @@ use std::str;
 
 /// Replaces what `answer` holds by the answer line to `line`.
 ///
-/// A line that is none of the format gets `malformed`, one whose operation has no calls yet `unsupported`.
+/// A line that is none of the format gets `malformed`, one that is for the program `cidr_tool` `unsupported`.
 pub fn respond(alloc: Global, line: &[u8], answer: &mut Answer) -> Result<(), AllocError> {
     answer.clear();
     if let Err(e) = answer_line(alloc, line, answer) {
