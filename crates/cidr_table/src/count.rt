@@ -1,4 +1,4 @@
-//! A count that contracts alone see, and that takes no bytes.
+//! A count for the contracts alone, of size zero.
 ghost use Rattle.std.specs.Prelude.{◌≡◌, ℕ, ◌+◌};
 ghost use base.Fml.{ftrue};
 
