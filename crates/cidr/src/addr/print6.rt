@@ -12,11 +12,9 @@ fn hex_digit(digit: u16) -> char
     ensures value { result ≡ digit_char digit }
     ensures ascii { result < 128 }
 {
-    if digit < 10 {
-        char::from(b'0' + digit as u8)
-    } else {
-        char::from(b'a' + (digit - 10) as u8)
-    }
+    // Between `9` and `a` are 39 other characters, which only digits from 10 on skip.
+    let letter = (digit + 6) / 16;
+    char::from((u16::from(b'0') + digit + 39 * letter) as u8)
 }
 
 /// Appends the group in hexadecimal, without leading zeros.
