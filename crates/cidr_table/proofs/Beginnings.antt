@@ -29,7 +29,9 @@ bits_same (false ∷ p) = bits_same p
 bits_same (true ∷ p) = bits_same p
 
 -- networks that are equal in their order are the same
-pub cmp_exact : {C : Type 0} (cmp : C → C → Ordering) (bits : C → List Bool) → ((x y : C) → cmp x y ≡ bit_cmp (bits x) (bits y)) → ((x y : C) → bits x ≡ bits y → x ≡ y) → (x y : C) → cmp x y ≡ Equal → x ≡ y
+pub cmp_exact : {C : Type 0} (cmp : C → C → Ordering) (bits : C → List Bool)
+    → ((x y : C) → cmp x y ≡ bit_cmp (bits x) (bits y)) → ((x y : C) → bits x ≡ bits y → x ≡ y)
+    → (x y : C) → cmp x y ≡ Equal → x ≡ y
 cmp_exact cmp bits ordered determined x y e = determined x y (bits_exact (bits x) (bits y) (sym (ordered x y) ∙ e))
 
 -- the bits that begin a list are no more than it has

@@ -1,13 +1,14 @@
 -- The search by halving: what it knows between two comparisons, and that each halves the places left.
-use Rattle.std.proofs.Common.{◌≡◌, refl, ◌∙◌, ap, arith, inl, inr, ℕ, ◌+◌, ◌-◌, ◌^◌, ◌<◌, ◌≤◌, List, length, get_or, suc, zero}
+use Rattle.std.proofs.Common.{◌≡◌, refl, ◌∙◌, ap, arith, inl, inr, ℕ, ◌+◌, ◌-◌, ◌^◌, ◌<◌, ◌≤◌, List, length, get_or, suc, zero, Result, Ok, Err}
 use Rattle.std.proofs.Math.Nat.{pow-suc, pow-zero}
-use Rattle.std.proofs.lemmas.Bool.{cases_eq}
+use Rattle.std.proofs.lemmas.Bool.{cases_eq, cases_lt}
 use Rattle.std.proofs.lemmas.Map.Keys.{Less-from_sorted}
 use Rattle.std.specs.Cmp.{IsTotalOrder}
 use Rattle.std.specs.Ordering.{ordering_reverse}
 use Rattle.std.specs.declared.cmp.Ordering.{Ordering}
 use Rattle.std.specs.declared.cmp.Ordering.TheVariants.{Less, Greater}
 use Rattle.std.specs.List.Sorted.{IsStrictlySortedBy}
+use Rattle.cidr_table.specs.Places.{IsPlace}
 
 -- of d comparisons enough are left for the binary digits of the number of places left
 pub record HasLeft (before now places d : ℕ) : Type 0 where
@@ -16,13 +17,37 @@ pub record HasLeft (before now places d : ℕ) : Type 0 where
   pub small : places < 2 ^ digits
 
 -- the key's place among the first `end` is between two places, and each comparison halved their number
-pub record Halves {C : Type 0} (cmp : C → C → Ordering) (old keys : List C) (key : C) (end before now low high : ℕ) : Type 0 where
+pub record Halves {C : Type 0} (cmp : C → C → Ordering) (old keys : List C) (key : C)
+    (start end before now low high : ℕ) : Type 0 where
   pub same : keys ≡ old
   pub ordered : low ≤ high
   pub within : high ≤ end
   pub lesser : (j : ℕ) → j < low → cmp (get_or old j key) key ≡ Less
   pub greater : (j : ℕ) → high ≤ j → j < end → cmp (get_or old j key) key ≡ Greater
-  pub cost : (d : ℕ) → end < 2 ^ d → HasLeft before now (high - low) d
+  pub cost : (d : ℕ) → end - start < 2 ^ d → HasLeft before now (high - low) d
+
+-- the key's place among the first `end` is not behind `high`, and of the tries some are left
+pub record GoesBack {C : Type 0} (cmp : C → C → Ordering) (old keys : List C) (key : C)
+    (end before now tries high left : ℕ) : Type 0 where
+  pub same : keys ≡ old
+  pub within : high ≤ end
+  pub greater : (j : ℕ) → high ≤ j → j < end → cmp (get_or old j key) key ≡ Greater
+  pub cost : now + left ≤ before + tries
+
+-- the place among fewer keys is the one among all where the others come after the key
+pub place_before : {C : Type 0} (cmp : C → C → Ordering) (keys : List C) (key : C) (end high : ℕ) → high ≤ end
+    → ((j : ℕ) → high ≤ j → j < end → cmp (get_or keys j key) key ≡ Greater)
+    → (r : Result ℕ ℕ) → IsPlace cmp keys key high r → IsPlace cmp keys key end r
+place_before cmp keys key end high le greater (Ok i) h =
+    record { within = omega (arith, h.within); equal = h.equal }
+place_before cmp keys key end high le greater (Err i) h = record {
+  within = omega (arith, h.within);
+  before = h.before;
+  behind = λ j f l. elim (cases_lt j high) [
+    | inl lt ↦ h.behind j f lt
+    | inr from ↦ greater j from l
+  ];
+}
 
 halved_at : (before now s t d k : ℕ) → now + k ≤ before + d → s < 2 ^ k → 0 < s → t + t ≤ s → HasLeft before (now + 1) t d
 halved_at before now s t d zero a b some l = absurd (omega (arith, pow-zero 2))
@@ -50,8 +75,9 @@ module _ {C : Type 0} (cmp : C → C → Ordering) (o : IsTotalOrder cmp) (keys 
         o.antisymm (get_or keys j key) key ∙ ap ordering_reverse (o.trans key (get_or keys mid key) (get_or keys j key) below next)
   ]
 
-  module _ (end before now low high : ℕ) (fits : end ≤ length keys) (h : Halves cmp keys keys key end before now low high) (from : low ≤ mid) (upto : mid < high) where
-    pub right_half : cmp (get_or keys mid key) key ≡ Less → high - (mid + 1) + (high - (mid + 1)) ≤ high - low → Halves cmp keys keys key end before (now + 1) (mid + 1) high
+  module _ (start end before now low high : ℕ) (fits : end ≤ length keys)
+      (h : Halves cmp keys keys key start end before now low high) (from : low ≤ mid) (upto : mid < high) where
+    pub right_half : cmp (get_or keys mid key) key ≡ Less → high - (mid + 1) + (high - (mid + 1)) ≤ high - low → Halves cmp keys keys key start end before (now + 1) (mid + 1) high
     right_half less small = record {
       same = refl;
       ordered = omega arith;
@@ -61,7 +87,7 @@ module _ {C : Type 0} (cmp : C → C → Ordering) (o : IsTotalOrder cmp) (keys 
       cost = λ d p. halved before now (high - low) (high - (mid + 1)) d (h.cost d p) (omega arith) small;
     }
 
-    pub left_half : cmp (get_or keys mid key) key ≡ Greater → mid - low + (mid - low) ≤ high - low → Halves cmp keys keys key end before (now + 1) low mid
+    pub left_half : cmp (get_or keys mid key) key ≡ Greater → mid - low + (mid - low) ≤ high - low → Halves cmp keys keys key start end before (now + 1) low mid
     left_half more small = record {
       same = refl;
       ordered = from;

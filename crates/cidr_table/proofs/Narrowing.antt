@@ -19,18 +19,22 @@ use Rattle.cidr_table.proofs.Beginnings.{bits_exact, bits_same, begins_length, b
 
 -- what begins the asked bits stands before `end` and has at most `len` bits, and of the comparisons that the lengths from
 -- there on may take, d each, `spare` are left over
-pub record Narrowed {C : Type 0} (bits : C → List Bool) (old keys : List C) (asked : C) (before now end len spare d : ℕ) : Type 0 where
+pub record Narrowed {C : Type 0} (bits : C → List Bool) (old keys : List C) (asked : C)
+    (before now end len spare d : ℕ) : Type 0 where
   pub same : keys ≡ old
   pub within : end ≤ length old
   pub shorter : len ≤ length (bits asked)
-  pub left : (j : ℕ) → j < length old → BeginsWith (bits asked) (bits (get_or old j asked)) → (j < end) × (length (bits (get_or old j asked)) ≤ len)
+  pub left : (j : ℕ) → j < length old → BeginsWith (bits asked) (bits (get_or old j asked))
+      → (j < end) × (length (bits (get_or old j asked)) ≤ len)
   pub some : 0 < end → 0 < spare
   pub room : spare + len * d ≤ (length (bits asked) + 1) * d
   pub cost : now + len * d + spare ≤ before + (length (bits asked) + 1) * d
 
-module _ {C : Type 0} (cmp : C → C → Ordering) (o : IsTotalOrder cmp) (bits : C → List Bool) (ordered : (x y : C) → cmp x y ≡ bit_cmp (bits x) (bits y)) (keys : List C) (sorted : IsStrictlySortedBy cmp keys) (asked : C) where
+module _ {C : Type 0} (cmp : C → C → Ordering) (o : IsTotalOrder cmp) (bits : C → List Bool)
+    (ordered : (x y : C) → cmp x y ≡ bit_cmp (bits x) (bits y)) (keys : List C) (sorted : IsStrictlySortedBy cmp keys) (asked : C) where
   -- before the first search
-  pub narrowed_none : (now d : ℕ) → length keys < 2 ^ d → Narrowed bits keys keys asked now now (length keys) (length (bits asked)) d d
+  pub narrowed_none : (now d : ℕ) → length keys < 2 ^ d
+      → Narrowed bits keys keys asked now now (length keys) (length (bits asked)) d d
   narrowed_none now d small = record {
     same = refl;
     within = omega arith;
@@ -45,11 +49,13 @@ module _ {C : Type 0} (cmp : C → C → Ordering) (o : IsTotalOrder cmp) (bits 
       positive d small l = elim (cases_eq d 0) [ inl e ↦ absurd (omega (arith, rw e at small, pow-zero 2)) | inr n ↦ omega arith ]
 
   -- the beginning of the asked bits begins with what is no longer and begins them too
-  begins_clipped : (n : ℕ) (p : List Bool) → BeginsWith (bits asked) p → length p ≤ n → BeginsWith (take n (bits asked)) p
+  begins_clipped : (n : ℕ) (p : List Bool) → BeginsWith (bits asked) p → length p ≤ n
+      → BeginsWith (take n (bits asked)) p
   begins_clipped n p b l = take-take (length p) n (bits asked) l ∙ b
 
   -- a key that was found is the longest
-  pub found : (before now end len spare d i : ℕ) (next : C) → Narrowed bits keys keys asked before now end len spare d → bits next ≡ take len (bits asked) → IsAt cmp keys next end i → IsLongestAt bits (bits asked) keys i
+  pub found : (before now end len spare d i : ℕ) (next : C) → Narrowed bits keys keys asked before now end len spare d
+      → bits next ≡ take len (bits asked) → IsAt cmp keys next end i → IsLongestAt bits (bits asked) keys i
   found before now end len spare d i next t cut h =
       let e : bits (get_or keys i next) ≡ take len (bits asked) = bits_exact (bits (get_or keys i next)) (bits next) (sym (ordered (get_or keys i next) next) ∙ h.equal) ∙ cut in
       record {
@@ -63,21 +69,25 @@ module _ {C : Type 0} (cmp : C → C → Ordering) (o : IsTotalOrder cmp) (bits 
       }
 
   -- a search that finds nothing leaves the rows before that place, and one length less
-  pub not_found : (before now later end len spare d i : ℕ) (next : C) → 0 < len → Narrowed bits keys keys asked before now end len spare d → bits next ≡ take len (bits asked) → IsGap cmp keys next end i → later ≤ now + d
-      → Narrowed bits keys keys asked before later i (len - 1) spare d
-  not_found before now later end len spare d i next some t cut h cost =
+  pub not_found : (before now later end len spare d tries i : ℕ) (next : C) → 0 < len
+      → Narrowed bits keys keys asked before now end len spare d → bits next ≡ take len (bits asked)
+      → IsGap cmp keys next end i → tries < spare → later ≤ now + tries + d
+      → Narrowed bits keys keys asked before later i (len - 1) (spare - tries) d
+  not_found before now later end len spare d tries i next some t cut h kept cost =
       let split : len * d ≡ (len - 1) * d + d = ap (λ k. k * d) (omega arith) ∙ (add-mul (len - 1) 1 d ∙ omega arith) in
       record {
         same = refl;
         within = omega (arith, h.within, t.within);
         shorter = omega (arith, t.shorter);
         left = λ j l b. lesser j l b (t.left j l b);
-        some = λ l. t.some (omega (arith, h.within));
+        some = λ l. omega arith;
         room = omega (arith, t.room);
         cost = omega (arith, t.cost);
       }
     where
-      lesser : (j : ℕ) → j < length keys → BeginsWith (bits asked) (bits (get_or keys j asked)) → (j < end) × (length (bits (get_or keys j asked)) ≤ len) → (j < i) × (length (bits (get_or keys j asked)) ≤ len - 1)
+      lesser : (j : ℕ) → j < length keys → BeginsWith (bits asked) (bits (get_or keys j asked))
+          → (j < end) × (length (bits (get_or keys j asked)) ≤ len)
+          → (j < i) × (length (bits (get_or keys j asked)) ≤ len - 1)
       lesser j l b m =
           let d : get_or keys j next ≡ get_or keys j asked = get_or_default keys j next asked l in
           let p = bits (get_or keys j asked) in
@@ -111,7 +121,8 @@ module _ {C : Type 0} (cmp : C → C → Ordering) (o : IsTotalOrder cmp) (bits 
     ]
 
     -- if it begins them itself, it is the longest
-    pub begins_itself : (n : ℕ) → IsShared (bits (get_or keys (end - 1) asked)) (bits asked) len (Ok n) → IsLongestAt bits (bits asked) keys (end - 1)
+    pub begins_itself : (n : ℕ) → IsShared (bits (get_or keys (end - 1) asked)) (bits asked) len (Ok n)
+        → IsLongestAt bits (bits asked) keys (end - 1)
     begins_itself n h = record {
       key = get_or keys (end - 1) asked;
       here = slice_get-get_or keys (end - 1) asked (omega (arith, t.within));
@@ -133,11 +144,13 @@ module _ {C : Type 0} (cmp : C → C → Ordering) (o : IsTotalOrder cmp) (bits 
           ];
     }
       where
-        begins_of : (k : C) (p : List Bool) → BeginsWith (bits asked) p → length p ≤ length (bits k) → BeginsWith (take (length (bits k)) (bits asked)) p
+        begins_of : (k : C) (p : List Bool) → BeginsWith (bits asked) p → length p ≤ length (bits k)
+            → BeginsWith (take (length (bits k)) (bits asked)) p
         begins_of k p b l = begins_clipped (length (bits k)) p b l
 
     -- otherwise the lengths above the shared one are ruled out, which leaves their comparisons over
-    pub shared_only : (cost n : ℕ) → IsShared (bits (get_or keys (end - 1) asked)) (bits asked) len (Err n) → cost < spare → later ≤ now + cost
+    pub shared_only : (cost n : ℕ) → IsShared (bits (get_or keys (end - 1) asked)) (bits asked) len (Err n)
+        → cost < spare → later ≤ now + cost
         → Narrowed bits keys keys asked before later end n (spare - cost + (len - n) * d) d
     shared_only cost n h paid most =
         let split : len * d ≡ (len - n) * d + n * d = ap (λ k. k * d) (omega (arith, h.0)) ∙ add-mul (len - n) n d in
@@ -161,7 +174,9 @@ module _ {C : Type 0} (cmp : C → C → Ordering) (o : IsTotalOrder cmp) (bits 
         }
 
   -- the key of no bits is found in the first place or in none
-  pub none_left : (before now end spare d : ℕ) (next : C) → Narrowed bits keys keys asked before now end 0 spare d → bits next ≡ [] → cmp (get_or keys 0 next) next ≢ Equal → (k : C) → Contains keys k → ¬ (BeginsWith (bits asked) (bits k))
+  pub none_left : (before now end spare d : ℕ) (next : C) → Narrowed bits keys keys asked before now end 0 spare d
+      → bits next ≡ [] → cmp (get_or keys 0 next) next ≢ Equal → (k : C) → Contains keys k
+      → ¬ (BeginsWith (bits asked) (bits k))
   none_left before now end spare d next t cut other k c b =
       let same : get_or keys c.0 asked ≡ k = get_or_default keys c.0 asked k c.1 ∙ c.2 in
       let m = t.left c.0 c.1 (rw same b) in
@@ -181,7 +196,8 @@ module _ {C : Type 0} (cmp : C → C → Ordering) (o : IsTotalOrder cmp) (bits 
       no_bits (x ∷ p) l = absurd (omega arith)
 
   -- with no rows left there is none
-  pub no_rows_left : (before now len spare d : ℕ) → Narrowed bits keys keys asked before now 0 len spare d → (k : C) → Contains keys k → ¬ (BeginsWith (bits asked) (bits k))
+  pub no_rows_left : (before now len spare d : ℕ) → Narrowed bits keys keys asked before now 0 len spare d → (k : C)
+      → Contains keys k → ¬ (BeginsWith (bits asked) (bits k))
   no_rows_left before now len spare d t k c b =
       let same : get_or keys c.0 asked ≡ k = get_or_default keys c.0 asked k c.1 ∙ c.2 in
       let m = t.left c.0 c.1 (rw same b) in

@@ -16,7 +16,8 @@ pub record Shares {C : Type 0} (old keys : List C) (key asked : List Bool) (most
   pub cost : (d : ℕ) → most < 2 ^ d → HasLeft before now (high - low) d
 
 module _ {C : Type 0} (keys : List C) (key asked : List Bool) (most before now low high mid : ℕ) (h : Shares keys keys key asked most before now low high) (from : low < mid) (upto : mid ≤ high) where
-  pub fewer : bit_cmp key (take mid asked) ≡ Less → mid - 1 - low + (mid - 1 - low) ≤ high - low → Shares keys keys key asked most before (now + 1) low (mid - 1)
+  pub fewer : bit_cmp key (take mid asked) ≡ Less → mid - 1 - low + (mid - 1 - low) ≤ high - low
+      → Shares keys keys key asked most before (now + 1) low (mid - 1)
   fewer less small = record {
     same = refl;
     ordered = omega arith;
@@ -35,7 +36,9 @@ module _ {C : Type 0} (keys : List C) (key asked : List Bool) (most before now l
   }
 
 -- what a comparison with the first asked bits says
-pub compared : {C : Type 0} (cmp : C → C → Ordering) (bits : C → List Bool) → ((x y : C) → cmp x y ≡ bit_cmp (bits x) (bits y)) → (keys : List C) (asked clipped : C) (place mid : ℕ) (r : Ordering)
+pub compared : {C : Type 0} (cmp : C → C → Ordering) (bits : C → List Bool)
+    → ((x y : C) → cmp x y ≡ bit_cmp (bits x) (bits y))
+    → (keys : List C) (asked clipped : C) (place mid : ℕ) (r : Ordering)
     → place < length keys → bits clipped ≡ take mid (bits asked) → r ≡ cmp (get_or keys place clipped) clipped → bit_cmp (bits (get_or keys place asked)) (take mid (bits asked)) ≡ r
 compared cmp bits ordered keys asked clipped place mid r l cut answer =
     rw (get_or_default keys place asked clipped l, sym cut) (sym (ordered (get_or keys place clipped) clipped) ∙ sym answer)

@@ -3,7 +3,7 @@ ghost use Rattle.std.specs.Prelude.{◌≡◌, ℕ, ◌+◌, ◌*◌, ◌^◌, �
 ghost use Rattle.std.specs.List.Sorted.{IsStrictlySortedBy};
 ghost use Rattle.cidr_table.specs.Prefixes.{IsLongestMatch};
 
-use crate::search::{binary_digits, clipped, search, shared_len};
+use crate::search::{binary_digits, clipped, search_back, shared_len};
 use cidr::{BitString, NetworkBits};
 use std::cmp::Ordering;
 
@@ -41,10 +41,14 @@ pub fn longest_match<C: NetworkBits + Copy, P: Probe<C>>(rows: &mut P, asked: &C
     let mut end = rows.len();
     let mut len = asked.len();
     while end > 0 && len > 0 {
-        match search(rows, &clipped(asked, len), end) {
+        // Of keys that are spread evenly, about `step` begin with the same `len` bits.
+        let step = end >> len.min(63);
+        let tries = spare.saturating_sub(digits).min(digits);
+        match search_back(rows, &clipped(asked, len), end, step, tries) {
             Ok(place) => return Some(place),
             Err(place) => end = place,
         }
+        spare -= tries;
         len -= 1;
         let cost = binary_digits(len);
         if end > 0 && cost < spare {

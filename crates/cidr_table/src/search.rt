@@ -1,6 +1,7 @@
 //! The searches by halving: for a key, and for how many of the asked bits a key begins with.
-ghost use Rattle.std.specs.Prelude.{◌≡◌, ℕ, ◌+◌, ◌^◌, ◌<◌, ◌≤◌, length, slice_index_or, take};
+ghost use Rattle.std.specs.Prelude.{◌≡◌, ℕ, ◌+◌, ◌-◌, ◌^◌, ◌<◌, ◌≤◌, length, slice_index_or, take};
 ghost use Rattle.std.specs.List.Sorted.{IsStrictlySortedBy};
+ghost use Rattle.std.specs.declared.cmp.Ordering.TheVariants.{Less};
 ghost use Rattle.cidr_table.specs.Places.{IsPlace, IsShared};
 
 use crate::probe::Probe;
@@ -15,7 +16,25 @@ pub fn search<C: Ord, P: Probe<C>>(rows: &mut P, key: &C, end: usize) -> Result<
     ensures keys { P.keys rows.new ≡ P.keys rows.old }
     ensures cost { (d : ℕ) → end < 2 ^ d → P.count rows.new ≤ P.count rows.old + d }
 {
-    let mut low = 0;
+    search_between(rows, key, 0, end)
+}
+
+/// The same, where the keys before the place `start` are known to come before the key.
+pub fn search_between<C: Ord, P: Probe<C>>(
+    rows: &mut P,
+    key: &C,
+    start: usize,
+    end: usize,
+) -> Result<usize, usize>
+    requires sorted { IsStrictlySortedBy C.cmp (P.keys rows.old) }
+    requires start { start ≤ end }
+    requires end { end ≤ length (P.keys rows.old) }
+    requires lesser { (j : ℕ) → j < start → C.cmp (slice_index_or (P.keys rows.old) j key.now) key.now ≡ Less }
+    ensures place { IsPlace C.cmp (P.keys rows.old) key.now end result }
+    ensures keys { P.keys rows.new ≡ P.keys rows.old }
+    ensures cost { (d : ℕ) → end - start < 2 ^ d → P.count rows.new ≤ P.count rows.old + d }
+{
+    let mut low = start;
     let mut high = end;
     while low < high {
         let mid = low + (high - low) / 2;
@@ -26,6 +45,35 @@ pub fn search<C: Ord, P: Probe<C>>(rows: &mut P, key: &C, end: usize) -> Result<
         }
     }
     Err(low)
+}
+
+/// The same as `search`, for a key that likely stands near the end: first it goes back from there, at least `step` keys
+/// and then each time twice as far or more, but at most `tries` times.
+pub fn search_back<C: Ord, P: Probe<C>>(
+    rows: &mut P,
+    key: &C,
+    end: usize,
+    step: usize,
+    tries: usize,
+) -> Result<usize, usize>
+    requires sorted { IsStrictlySortedBy C.cmp (P.keys rows.old) }
+    requires end { end ≤ length (P.keys rows.old) }
+    ensures place { IsPlace C.cmp (P.keys rows.old) key.now end result }
+    ensures keys { P.keys rows.new ≡ P.keys rows.old }
+    ensures cost { (d : ℕ) → end < 2 ^ d → P.count rows.new ≤ P.count rows.old + tries + d }
+{
+    let mut high = end;
+    let mut left = tries;
+    while high > 0 && left > 0 {
+        let near = high.saturating_sub(step.max(end - high + 1));
+        match rows.compare(near, key) {
+            Ordering::Less => return search_between(rows, key, near + 1, high),
+            Ordering::Equal => return Ok(near),
+            Ordering::Greater => high = near,
+        }
+        left -= 1;
+    }
+    search_between(rows, key, 0, high)
 }
 
 /// How many of the first `most` asked bits the key at a place begins with: `Ok` where it has no others, and else `Err`

@@ -3,7 +3,8 @@ use Rattle.cidr_table.proofs.SharedLengths.{Shares}
 use Rattle.cidr_table.proofs.search.shared_len.Given as goal
 
 abbrev pub invariant-loop-low : goal.invariant-loop-low
-invariant-loop-low g l = Shares (g.P.Probe.keys l.fn.rows) (g.P.Probe.keys l.rows) (g.C.BitString.bits (slice_index_or (g.P.Probe.keys l.fn.rows) l.place l.asked)) (g.C.BitString.bits l.asked) l.most (g.P.Probe.count l.fn.rows) (g.P.Probe.count l.rows) l.low l.high
+invariant-loop-low g l = Shares (g.P.Probe.keys l.fn.rows) (g.P.Probe.keys l.rows)
+    (g.C.BitString.bits (slice_index_or (g.P.Probe.keys l.fn.rows) l.place l.asked)) (g.C.BitString.bits l.asked) l.most (g.P.Probe.count l.fn.rows) (g.P.Probe.count l.rows) l.low l.high
 
 abbrev pub decreases-loop-low : goal.decreases-loop-low
 decreases-loop-low g l = l.high - l.low
