@@ -1,4 +1,8 @@
 //! Steps of a host in its network.
+//!
+//! Each step is of another host than the one before, with another prefix length, so that nothing that hangs on the
+//! length can be made once for a loop. The library makes its masks in each step from the length of the host. The plain
+//! way finds a mask in the host, made before.
 
 use crate::bench::{Bench, Work};
 use crate::masked::{Masked, ipv4_masked, ipv6_masked};
@@ -28,16 +32,15 @@ trait Step: Copy {
     fn low(self) -> u32;
 }
 
-/// Takes small and large steps up, from another host in each round.
+/// Takes small and large steps up, each from another host.
 #[inline(never)]
 fn steps_up<H: Step>(hosts: &[H; COUNT], rounds: u32) -> u32 {
     let mut sum = 0;
     for round in 0..rounds {
-        let mut host = hosts[round as usize % COUNT];
         for part in 0..STEPS {
+            let host = hosts[round.wrapping_add(part) as usize % COUNT];
             let (next, wraps) = host.up(u128::from(round.rotate_left(2 * part)));
-            host = next;
-            sum = mixed(sum, host.low() ^ u32::from(wraps));
+            sum = mixed(sum, next.low() ^ u32::from(wraps));
         }
     }
     sum
@@ -48,11 +51,10 @@ fn steps_up<H: Step>(hosts: &[H; COUNT], rounds: u32) -> u32 {
 fn steps_down<H: Step>(hosts: &[H; COUNT], rounds: u32) -> u32 {
     let mut sum = 0;
     for round in 0..rounds {
-        let mut host = hosts[round as usize % COUNT];
         for part in 0..STEPS {
+            let host = hosts[round.wrapping_add(part) as usize % COUNT];
             let (next, wraps) = host.down(u128::from(round.rotate_left(2 * part)));
-            host = next;
-            sum = mixed(sum, host.low() ^ u32::from(wraps));
+            sum = mixed(sum, next.low() ^ u32::from(wraps));
         }
     }
     sum
