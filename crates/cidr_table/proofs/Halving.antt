@@ -1,14 +1,14 @@
 -- The search by halving: what it knows between two comparisons, and that each halves the places left.
-use Rattle.std.proofs.Common.{◌≡◌, refl, ◌∙◌, ap, arith, inl, inr, ℕ, ◌+◌, ◌-◌, ◌^◌, ◌<◌, ◌≤◌, List, length, get_or, suc, zero, Result, Ok, Err}
+use Rattle.std.proofs.Common.{◌≡◌, refl, sym, ◌∙◌, ap, arith, inl, inr, ℕ, ◌+◌, ◌-◌, ◌^◌, ◌<◌, ◌≤◌, List, length, get_or, suc, zero, Bool, true, false, Result, Ok, Err}
 use Rattle.std.proofs.Math.Nat.{pow-suc, pow-zero}
-use Rattle.std.proofs.lemmas.Bool.{cases_eq, cases_lt}
+use Rattle.std.proofs.lemmas.Bool.{cases_eq, cases_lt, true≢false, false≢true}
 use Rattle.std.proofs.lemmas.Map.Keys.{Less-from_sorted}
 use Rattle.std.specs.Cmp.{IsTotalOrder}
-use Rattle.std.specs.Ordering.{ordering_reverse}
+use Rattle.std.specs.Ordering.{ordering_reverse, is_lt, is_eq}
 use Rattle.std.specs.declared.cmp.Ordering.{Ordering}
-use Rattle.std.specs.declared.cmp.Ordering.TheVariants.{Less, Greater}
+use Rattle.std.specs.declared.cmp.Ordering.TheVariants.{Less, Equal, Greater}
 use Rattle.std.specs.List.Sorted.{IsStrictlySortedBy}
-use Rattle.cidr_table.specs.Places.{IsPlace}
+use Rattle.cidr_table.specs.Places.{IsAt, IsPlace}
 
 -- of d comparisons enough are left for the binary digits of the number of places left
 pub record HasLeft (before now places d : ℕ) : Type 0 where
@@ -25,6 +25,20 @@ pub record Halves {C : Type 0} (cmp : C → C → Ordering) (old keys : List C) 
   pub lesser : (j : ℕ) → j < low → cmp (get_or old j key) key ≡ Less
   pub greater : (j : ℕ) → high ≤ j → j < end → cmp (get_or old j key) key ≡ Greater
   pub cost : (d : ℕ) → end - start < 2 ^ d → HasLeft before now (high - low) d
+
+-- whether the key stands at a place, and where it does not, all from there on are greater
+abbrev pub StandsAt : {C : Type 0} (cmp : C → C → Ordering) (keys : List C) (key : C) (end place : ℕ) → Bool → Type 0
+StandsAt cmp keys key end place true = IsAt cmp keys key end place
+StandsAt cmp keys key end place false = (j : ℕ) → place ≤ j → j < end → cmp (get_or keys j key) key ≡ Greater
+
+-- the key's place among the first `end` is one of the `left` from `low` on or the next one, which is known to be equal or not
+pub record Leaves {C : Type 0} (cmp : C → C → Ordering) (old keys : List C) (key : C)
+    (end before now low left : ℕ) (found : Bool) : Type 0 where
+  pub same : keys ≡ old
+  pub within : low + left ≤ end
+  pub lesser : (j : ℕ) → j < low → cmp (get_or old j key) key ≡ Less
+  pub next : StandsAt cmp old key end (low + left) found
+  pub cost : (d : ℕ) → end < 2 ^ d → HasLeft before now left d
 
 -- the key's place among the first `end` is not behind `high`, and of the tries some are left
 pub record GoesBack {C : Type 0} (cmp : C → C → Ordering) (old keys : List C) (key : C)
@@ -95,4 +109,39 @@ module _ {C : Type 0} (cmp : C → C → Ordering) (o : IsTotalOrder cmp) (keys 
       lesser = h.lesser;
       greater = λ j f l. greater_from more j f (omega arith);
       cost = λ d p. halved before now (high - low) (mid - low) d (h.cost d p) (omega arith) small;
+    }
+
+  module _ (end before now low left half : ℕ) (found : Bool) (fits : end ≤ length keys)
+      (h : Leaves cmp keys keys key end before now low left found) (here : mid ≡ low + half)
+      (some : 0 < left) (small : half + half ≤ left) (large : left ≤ half + half + 1) where
+    -- the half from a lesser key on
+    pub leaves_right : (r : Ordering) → cmp (get_or keys mid key) key ≡ r → true ≡ is_lt r
+        → Leaves cmp keys keys key end before (now + 1) (low + (left - half)) half found
+    leaves_right Less e f =
+        let same_end : low + (left - half) + half ≡ low + left = omega arith in
+        record {
+          same = refl;
+          within = omega (arith, h.within);
+          lesser = λ j l. lesser_upto e j (omega arith);
+          next = rw same_end h.next;
+          cost = λ d p. halved before now left half d (h.cost d p) some small;
+        }
+    leaves_right Equal e f = absurd (true≢false f)
+    leaves_right Greater e f = absurd (true≢false f)
+
+    stands : (r : Ordering) → cmp (get_or keys mid key) key ≡ r → false ≡ is_lt r
+        → StandsAt cmp keys key end mid (is_eq r)
+    stands Less e f = absurd (false≢true f)
+    stands Equal e f = record { within = omega (arith, h.within); equal = e }
+    stands Greater e f = λ j a l. greater_from e j a (omega arith)
+
+    -- the half up to a key that is no lesser one
+    pub leaves_left : (r : Ordering) → cmp (get_or keys mid key) key ≡ r → false ≡ is_lt r
+        → Leaves cmp keys keys key end before (now + 1) low half (is_eq r)
+    leaves_left r e f = record {
+      same = refl;
+      within = omega (arith, h.within);
+      lesser = h.lesser;
+      next = rw (sym here) (stands r e f);
+      cost = λ d p. halved before now left half d (h.cost d p) some small;
     }

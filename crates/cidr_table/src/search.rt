@@ -16,7 +16,21 @@ pub fn search<C: Ord, P: Probe<C>>(rows: &mut P, key: &C, end: usize) -> Result<
     ensures keys { P.keys rows.new ≡ P.keys rows.old }
     ensures cost { (d : ℕ) → end < 2 ^ d → P.count rows.new ≤ P.count rows.old + d }
 {
-    search_between(rows, key, 0, end)
+    // Whatever a comparison answers, `half` places are left, so that the compiler can do without a branch on it.
+    let mut low = 0;
+    let mut left = end;
+    let mut found = false;
+    while left > 0 {
+        let half = left / 2;
+        let order = rows.compare(low + half, key);
+        if order.is_lt() {
+            low += left - half;
+        } else {
+            found = order.is_eq();
+        }
+        left = half;
+    }
+    if found { Ok(low) } else { Err(low) }
 }
 
 /// The same, where the keys before the place `start` are known to come before the key.
@@ -73,7 +87,7 @@ pub fn search_back<C: Ord, P: Probe<C>>(
         }
         left -= 1;
     }
-    search_between(rows, key, 0, high)
+    search(rows, key, high)
 }
 
 /// How many of the first `most` asked bits the key at a place begins with: `Ok` where it has no others, and else `Err`
