@@ -42,7 +42,7 @@ pub fn longest_match<C: NetworkBits + Copy, P: Probe<C>>(rows: &mut P, asked: &C
     let mut len = asked.len();
     while end > 0 && len > 0 {
         // Of keys that are spread evenly, about `step` begin with the same `len` bits.
-        let step = end >> len.min(63);
+        let step = rows.len() >> len.min(63);
         let tries = spare.saturating_sub(digits).min(digits);
         match search_back(rows, &clipped(asked, len), end, step, tries) {
             Ok(place) => return Some(place),
