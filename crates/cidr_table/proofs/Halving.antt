@@ -10,6 +10,21 @@ use Rattle.std.specs.declared.cmp.Ordering.TheVariants.{Less, Equal, Greater}
 use Rattle.std.specs.List.Sorted.{IsStrictlySortedBy}
 use Rattle.cidr_table.specs.Places.{IsAt, IsPlace}
 
+pub is_Less : (r : Ordering) → true ≡ is_lt r → r ≡ Less
+is_Less Less h = refl
+is_Less Equal h = absurd (true≢false h)
+is_Less Greater h = absurd (true≢false h)
+
+pub is_Equal : (r : Ordering) → true ≡ is_eq r → r ≡ Equal
+is_Equal Less h = absurd (true≢false h)
+is_Equal Equal h = refl
+is_Equal Greater h = absurd (true≢false h)
+
+pub is_Greater : (r : Ordering) → false ≡ is_lt r → false ≡ is_eq r → r ≡ Greater
+is_Greater Less h e = absurd (false≢true h)
+is_Greater Equal h e = absurd (false≢true e)
+is_Greater Greater h e = refl
+
 -- of d comparisons enough are left for the binary digits of the number of places left
 pub record HasLeft (before now places d : ℕ) : Type 0 where
   pub digits : ℕ

@@ -6,7 +6,6 @@ ghost use Rattle.cidr_table.specs.Places.{IsPlace, IsShared};
 
 use crate::probe::Probe;
 use cidr::{BitString, NetworkBits};
-use std::cmp::Ordering;
 
 /// Where the key stands among the first `end` keys, or the place before which it would.
 pub fn search<C: Ord, P: Probe<C>>(rows: &mut P, key: &C, end: usize) -> Result<usize, usize>
@@ -52,10 +51,13 @@ pub fn search_between<C: Ord, P: Probe<C>>(
     let mut high = end;
     while low < high {
         let mid = low + (high - low) / 2;
-        match rows.compare(mid, key) {
-            Ordering::Less => low = mid + 1,
-            Ordering::Equal => return Ok(mid),
-            Ordering::Greater => high = mid,
+        let order = rows.compare(mid, key);
+        if order.is_lt() {
+            low = mid + 1;
+        } else if order.is_eq() {
+            return Ok(mid);
+        } else {
+            high = mid;
         }
     }
     Err(low)
@@ -80,10 +82,13 @@ pub fn search_back<C: Ord, P: Probe<C>>(
     let mut left = tries;
     while high > 0 && left > 0 {
         let near = high.saturating_sub(step.max(end - high + 1));
-        match rows.compare(near, key) {
-            Ordering::Less => return search_between(rows, key, near + 1, high),
-            Ordering::Equal => return Ok(near),
-            Ordering::Greater => high = near,
+        let order = rows.compare(near, key);
+        if order.is_lt() {
+            return search_between(rows, key, near + 1, high);
+        } else if order.is_eq() {
+            return Ok(near);
+        } else {
+            high = near;
         }
         left -= 1;
     }
@@ -109,10 +114,13 @@ pub fn shared_len<C: NetworkBits + Copy, P: Probe<C>>(
     let mut high = most;
     while low < high {
         let mid = high - (high - low) / 2;
-        match rows.compare(place, &clipped(asked, mid)) {
-            Ordering::Less => high = mid - 1,
-            Ordering::Equal => return Ok(mid),
-            Ordering::Greater => low = mid,
+        let order = rows.compare(place, &clipped(asked, mid));
+        if order.is_lt() {
+            high = mid - 1;
+        } else if order.is_eq() {
+            return Ok(mid);
+        } else {
+            low = mid;
         }
     }
     Err(low)
