@@ -31,16 +31,6 @@ pub record HasLeft (before now places d : ℕ) : Type 0 where
   pub counted : now + digits ≤ before + d
   pub small : places < 2 ^ digits
 
--- the key's place among the first `end` is between two places, and each comparison halved their number
-pub record Halves {C : Type 0} (cmp : C → C → Ordering) (old keys : List C) (key : C)
-    (start end before now low high : ℕ) : Type 0 where
-  pub same : keys ≡ old
-  pub ordered : low ≤ high
-  pub within : high ≤ end
-  pub lesser : (j : ℕ) → j < low → cmp (get_or old j key) key ≡ Less
-  pub greater : (j : ℕ) → high ≤ j → j < end → cmp (get_or old j key) key ≡ Greater
-  pub cost : (d : ℕ) → end - start < 2 ^ d → HasLeft before now (high - low) d
-
 -- whether the key stands at a place, and where it does not, all from there on are greater
 abbrev pub StandsAt : {C : Type 0} (cmp : C → C → Ordering) (keys : List C) (key : C) (end place : ℕ) → Bool → Type 0
 StandsAt cmp keys key end place true = IsAt cmp keys key end place
@@ -48,12 +38,12 @@ StandsAt cmp keys key end place false = (j : ℕ) → place ≤ j → j < end �
 
 -- the key's place among the first `end` is one of the `left` from `low` on or the next one, which is known to be equal or not
 pub record Leaves {C : Type 0} (cmp : C → C → Ordering) (old keys : List C) (key : C)
-    (end before now low left : ℕ) (found : Bool) : Type 0 where
+    (end places before now low left : ℕ) (found : Bool) : Type 0 where
   pub same : keys ≡ old
   pub within : low + left ≤ end
   pub lesser : (j : ℕ) → j < low → cmp (get_or old j key) key ≡ Less
   pub next : StandsAt cmp old key end (low + left) found
-  pub cost : (d : ℕ) → end < 2 ^ d → HasLeft before now left d
+  pub cost : (d : ℕ) → places < 2 ^ d → HasLeft before now left d
 
 -- the key's place among the first `end` is not behind `high`, and of the tries some are left
 pub record GoesBack {C : Type 0} (cmp : C → C → Ordering) (old keys : List C) (key : C)
@@ -104,34 +94,12 @@ module _ {C : Type 0} (cmp : C → C → Ordering) (o : IsTotalOrder cmp) (keys 
         o.antisymm (get_or keys j key) key ∙ ap ordering_reverse (o.trans key (get_or keys mid key) (get_or keys j key) below next)
   ]
 
-  module _ (start end before now low high : ℕ) (fits : end ≤ length keys)
-      (h : Halves cmp keys keys key start end before now low high) (from : low ≤ mid) (upto : mid < high) where
-    pub right_half : cmp (get_or keys mid key) key ≡ Less → high - (mid + 1) + (high - (mid + 1)) ≤ high - low → Halves cmp keys keys key start end before (now + 1) (mid + 1) high
-    right_half less small = record {
-      same = refl;
-      ordered = omega arith;
-      within = h.within;
-      lesser = lesser_upto less;
-      greater = h.greater;
-      cost = λ d p. halved before now (high - low) (high - (mid + 1)) d (h.cost d p) (omega arith) small;
-    }
-
-    pub left_half : cmp (get_or keys mid key) key ≡ Greater → mid - low + (mid - low) ≤ high - low → Halves cmp keys keys key start end before (now + 1) low mid
-    left_half more small = record {
-      same = refl;
-      ordered = from;
-      within = omega (arith, h.within);
-      lesser = h.lesser;
-      greater = λ j f l. greater_from more j f (omega arith);
-      cost = λ d p. halved before now (high - low) (mid - low) d (h.cost d p) (omega arith) small;
-    }
-
-  module _ (end before now low left half : ℕ) (found : Bool) (fits : end ≤ length keys)
-      (h : Leaves cmp keys keys key end before now low left found) (here : mid ≡ low + half)
+  module _ (end places before now low left half : ℕ) (found : Bool) (fits : end ≤ length keys)
+      (h : Leaves cmp keys keys key end places before now low left found) (here : mid ≡ low + half)
       (some : 0 < left) (small : half + half ≤ left) (large : left ≤ half + half + 1) where
     -- the half from a lesser key on
     pub leaves_right : (r : Ordering) → cmp (get_or keys mid key) key ≡ r → true ≡ is_lt r
-        → Leaves cmp keys keys key end before (now + 1) (low + (left - half)) half found
+        → Leaves cmp keys keys key end places before (now + 1) (low + (left - half)) half found
     leaves_right Less e f =
         let same_end : low + (left - half) + half ≡ low + left = omega arith in
         record {
@@ -152,7 +120,7 @@ module _ {C : Type 0} (cmp : C → C → Ordering) (o : IsTotalOrder cmp) (keys 
 
     -- the half up to a key that is no lesser one
     pub leaves_left : (r : Ordering) → cmp (get_or keys mid key) key ≡ r → false ≡ is_lt r
-        → Leaves cmp keys keys key end before (now + 1) low half (is_eq r)
+        → Leaves cmp keys keys key end places before (now + 1) low half (is_eq r)
     leaves_left r e f = record {
       same = refl;
       within = omega (arith, h.within);

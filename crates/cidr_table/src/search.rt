@@ -48,17 +48,16 @@ pub fn search_between<C: Ord, P: Probe<C>>(
     ensures cost { (d : ℕ) → end - start < 2 ^ d → P.count rows.new ≤ P.count rows.old + d }
 {
     let mut low = start;
-    let mut high = end;
-    while low < high {
-        let mid = low + (high - low) / 2;
-        let order = rows.compare(mid, key);
+    let mut left = end - start;
+    while left > 0 {
+        let rest = left / 2;
+        let order = rows.compare(low + rest, key);
         if order.is_lt() {
-            low = mid + 1;
+            low += left - rest;
         } else if order.is_eq() {
-            return Ok(mid);
-        } else {
-            high = mid;
+            return Ok(low + rest);
         }
+        left = rest;
     }
     Err(low)
 }

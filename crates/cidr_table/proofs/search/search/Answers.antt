@@ -10,7 +10,7 @@ loop-left-preserved-then-is_lt g c =
     let left = c.loop-left.left in
     let next = leaves_right g.C.Ord.cmp g.met.C.Ord.total (g.P.Probe.keys rows) c.requires.sorted c.args.key.now
     (low + left / 2) (omega (arith, h.within, c.requires.end))
-    c.args.end (g.P.Probe.count rows) (g.P.Probe.count c.loop-left.rows) low left (left / 2) c.loop-left.found
+    c.args.end c.args.end (g.P.Probe.count rows) (g.P.Probe.count c.loop-left.rows) low left (left / 2) c.loop-left.found
     c.requires.end (rw h.same at h) refl (omega arith) (omega arith) (omega arith)
     c.compare-order.result (sym (rw h.same at c.compare-order.ensures.answer)) c.if-is_lt.ensures in
     rw (c.compare-order.ensures.keys, h.same, c.compare-order.ensures.count) next
@@ -23,7 +23,7 @@ loop-left-preserved g c =
     let left = c.loop-left.left in
     let next = leaves_left g.C.Ord.cmp g.met.C.Ord.total (g.P.Probe.keys rows) c.requires.sorted c.args.key.now
     (low + left / 2) (omega (arith, h.within, c.requires.end))
-    c.args.end (g.P.Probe.count rows) (g.P.Probe.count c.loop-left.rows) low left (left / 2) c.loop-left.found
+    c.args.end c.args.end (g.P.Probe.count rows) (g.P.Probe.count c.loop-left.rows) low left (left / 2) c.loop-left.found
     c.requires.end (rw h.same at h) refl (omega arith) (omega arith) (omega arith)
     c.compare-order.result (sym (rw h.same at c.compare-order.ensures.answer)) c.if-is_lt.ensures in
     rw (c.compare-order.ensures.keys, h.same, c.compare-order.ensures.count, c.is_eq-found.ensures) next
