@@ -4,7 +4,7 @@ use Rattle.std.proofs.Math.Nat.{pow-suc, pow-zero}
 use Rattle.std.proofs.lemmas.Bool.{cases_eq, cases_lt, true≢false, false≢true}
 use Rattle.std.proofs.lemmas.Map.Keys.{Less-from_sorted}
 use Rattle.std.specs.Cmp.{IsTotalOrder}
-use Rattle.std.specs.Ordering.{ordering_reverse, is_lt, is_eq}
+use Rattle.std.specs.Ordering.{ordering_reverse, is_lt, is_eq, is_gt}
 use Rattle.std.specs.declared.cmp.Ordering.{Ordering}
 use Rattle.std.specs.declared.cmp.Ordering.TheVariants.{Less, Equal, Greater}
 use Rattle.std.specs.List.Sorted.{IsStrictlySortedBy}
@@ -14,6 +14,11 @@ pub is_Less : (r : Ordering) → true ≡ is_lt r → r ≡ Less
 is_Less Less h = refl
 is_Less Equal h = absurd (true≢false h)
 is_Less Greater h = absurd (true≢false h)
+
+pub not_Greater : (r : Ordering) → false ≡ is_gt r → false ≡ is_eq r → r ≡ Less
+not_Greater Less h e = refl
+not_Greater Equal h e = absurd (false≢true e)
+not_Greater Greater h e = absurd (false≢true h)
 
 pub is_Equal : (r : Ordering) → true ≡ is_eq r → r ≡ Equal
 is_Equal Less h = absurd (true≢false h)

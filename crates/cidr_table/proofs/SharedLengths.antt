@@ -7,32 +7,29 @@ use Rattle.cidr.specs.model.Bits.{bit_cmp}
 use Rattle.cidr_table.proofs.Beginnings.{before_longer}
 use Rattle.cidr_table.proofs.Halving.{HasLeft, halved}
 
--- the number is between two, and each comparison halved their difference
-pub record Shares {C : Type 0} (old keys : List C) (key asked : List Bool) (most before now low high : ℕ) : Type 0 where
+-- the number is at most `left` above `low`, and each comparison halved what is left
+pub record Shares {C : Type 0} (old keys : List C) (key asked : List Bool) (most before now low left : ℕ) : Type 0 where
   pub same : keys ≡ old
-  pub ordered : low ≤ high
-  pub within : high ≤ most
-  pub longer : (m : ℕ) → high < m → m ≤ most → bit_cmp key (take m asked) ≡ Less
-  pub cost : (d : ℕ) → most < 2 ^ d → HasLeft before now (high - low) d
+  pub within : low + left ≤ most
+  pub longer : (m : ℕ) → low + left < m → m ≤ most → bit_cmp key (take m asked) ≡ Less
+  pub cost : (d : ℕ) → most < 2 ^ d → HasLeft before now left d
 
-module _ {C : Type 0} (keys : List C) (key asked : List Bool) (most before now low high mid : ℕ) (h : Shares keys keys key asked most before now low high) (from : low < mid) (upto : mid ≤ high) where
-  pub fewer : bit_cmp key (take mid asked) ≡ Less → mid - 1 - low + (mid - 1 - low) ≤ high - low
-      → Shares keys keys key asked most before (now + 1) low (mid - 1)
-  fewer less small = record {
+module _ {C : Type 0} (keys : List C) (key asked : List Bool) (most before now low left half : ℕ) (h : Shares keys keys key asked most before now low left)
+    (some : 0 < left) (small : half + half ≤ left) (large : left ≤ half + half + 1) where
+  pub fewer : bit_cmp key (take (low + (left - half)) asked) ≡ Less → Shares keys keys key asked most before (now + 1) low half
+  fewer less = record {
     same = refl;
-    ordered = omega arith;
     within = omega (arith, h.within);
-    longer = λ m l f. before_longer key asked mid m less (omega arith);
-    cost = λ d p. halved before now (high - low) (mid - 1 - low) d (h.cost d p) (omega arith) small;
+    longer = λ m l f. before_longer key asked (low + (left - half)) m less (omega arith);
+    cost = λ d p. halved before now left half d (h.cost d p) some small;
   }
 
-  pub more : high - mid + (high - mid) ≤ high - low → Shares keys keys key asked most before (now + 1) mid high
-  more small = record {
+  pub more : Shares keys keys key asked most before (now + 1) (low + (left - half)) half
+  more = record {
     same = refl;
-    ordered = upto;
-    within = h.within;
-    longer = h.longer;
-    cost = λ d p. halved before now (high - low) (high - mid) d (h.cost d p) (omega arith) small;
+    within = omega (arith, h.within);
+    longer = λ m l f. h.longer m (omega arith) f;
+    cost = λ d p. halved before now left half d (h.cost d p) some small;
   }
 
 -- what a comparison with the first asked bits says

@@ -110,17 +110,17 @@ pub fn shared_len<C: NetworkBits + Copy, P: Probe<C>>(
     ensures cost { (d : ℕ) → most < 2 ^ d → P.count rows.new ≤ P.count rows.old + d }
 {
     let mut low = 0;
-    let mut high = most;
-    while low < high {
-        let mid = high - (high - low) / 2;
+    let mut left = most;
+    while left > 0 {
+        let next = left / 2;
+        let mid = low + (left - next);
         let order = rows.compare(place, &clipped(asked, mid));
-        if order.is_lt() {
-            high = mid - 1;
+        if order.is_gt() {
+            low = mid;
         } else if order.is_eq() {
             return Ok(mid);
-        } else {
-            low = mid;
         }
+        left = next;
     }
     Err(low)
 }
