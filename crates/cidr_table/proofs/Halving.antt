@@ -52,9 +52,10 @@ pub record Leaves {C : Type 0} (cmp : C → C → Ordering) (old keys : List C) 
 
 -- the key's place among the first `end` is not behind `high`, and of the tries some are left
 pub record GoesBack {C : Type 0} (cmp : C → C → Ordering) (old keys : List C) (key : C)
-    (end before now tries high left : ℕ) : Type 0 where
+    (end before now tries high far left : ℕ) : Type 0 where
   pub same : keys ≡ old
   pub within : high ≤ end
+  pub goes : 0 < far
   pub greater : (j : ℕ) → high ≤ j → j < end → cmp (get_or old j key) key ≡ Greater
   pub cost : now + left ≤ before + tries
 

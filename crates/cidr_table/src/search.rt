@@ -62,8 +62,8 @@ pub fn search_between<C: Ord, P: Probe<C>>(
     Err(low)
 }
 
-/// The same as `search`, for a key that likely stands near the end: first it goes back from there, at least `step` keys
-/// and then each time twice as far or more, but at most `tries` times.
+/// The same as `search`, for a key that likely stands near the end: first it goes back from there, `step` keys and then
+/// each time twice as far, but at most `tries` times.
 pub fn search_back<C: Ord, P: Probe<C>>(
     rows: &mut P,
     key: &C,
@@ -78,9 +78,10 @@ pub fn search_back<C: Ord, P: Probe<C>>(
     ensures cost { (d : ℕ) → end < 2 ^ d → P.count rows.new ≤ P.count rows.old + tries + d }
 {
     let mut high = end;
+    let mut far = step.max(1);
     let mut left = tries;
     while high > 0 && left > 0 {
-        let near = high.saturating_sub(step.max(end - high + 1));
+        let near = high.saturating_sub(far);
         let order = rows.compare(near, key);
         if order.is_lt() {
             return search_between(rows, key, near + 1, high);
@@ -89,6 +90,7 @@ pub fn search_back<C: Ord, P: Probe<C>>(
         } else {
             high = near;
         }
+        far = far.saturating_mul(2);
         left -= 1;
     }
     search(rows, key, high)
