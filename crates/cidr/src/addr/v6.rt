@@ -241,9 +241,12 @@ impl Ord for Ipv6Addr {
 
     ghost matches_eq = { bit_eq_ties };
 
-    #[tactic(auto, using(crate::specs::laws::BitLaws::number_order_laws))]
+    #[tactic(auto, using(crate::proofs::HalfBits::half_laws))]
     fn cmp(&self, other: &Ipv6Addr) -> Ordering {
-        self.halves().order(0, other.halves(), 0)
+        match self.upper.cmp(&other.upper) {
+            Ordering::Equal => self.lower.cmp(&other.lower),
+            unlike => unlike,
+        }
     }
 }
 

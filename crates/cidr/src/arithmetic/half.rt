@@ -1,9 +1,6 @@
 //! The arithmetic of one half: 64 bits of a number of 128.
 ghost use Rattle.std.specs.Prelude.{◌≡◌, ◌≢◌, ◌+◌, ◌-◌, ◌*◌, ◌/◌, ◌%◌, ◌^◌, ◌<◌, ◌≤◌, ◌↔◌, ◌==◌, ℕ, cond};
 ghost use Rattle.std.specs.Int.{bit_at};
-ghost use Rattle.std.specs.Ordering.{nat_cmp};
-
-use std::cmp::Ordering;
 
 /// The greatest number of the bits from `len` on: all ones, and zero where there are none.
 #[tactic(auto, using(crate::proofs::HalfNumbers::ones_laws))]
@@ -35,18 +32,6 @@ pub(crate) fn with_host_part(half: u64, other: u64, len: u8) -> u64
     ensures { result ≡ half / 2 ^ (64 - len) * 2 ^ (64 - len) + other % 2 ^ (64 - len) }
 {
     half - host_part(half, len) + host_part(other, len)
-}
-
-/// The order of two halves that are not the same.
-pub(crate) fn unlike_order(half: u64, other: u64) -> Ordering
-    requires { half ≢ other }
-    ensures { result ≡ nat_cmp half other }
-{
-    if half < other {
-        Ordering::Less
-    } else {
-        Ordering::Greater
-    }
 }
 
 /// How many of the first bits of two halves are the same.

@@ -1,11 +1,9 @@
 //! The arithmetic of networks on numbers of 128 bits, in two halves.
 ghost use Rattle.std.specs.Prelude.{◌≡◌, ◌≢◌, ◌+◌, ◌-◌, ◌*◌, ◌/◌, ◌%◌, ◌^◌, ◌<◌, ◌≤◌, ◌↔◌, ◌==◌, ℕ, cond, IsTrue};
 ghost use Rattle.std.specs.Int.{bit_at};
-ghost use Rattle.std.specs.Ordering.{nat_cmp, ordering_then};
 ghost use Rattle.cidr.specs.internal.Halves.{joined};
 
 use crate::arithmetic::half;
-use std::cmp::Ordering;
 use std::marker::Model;
 
 /// A number of 128 bits in two halves.
@@ -99,22 +97,6 @@ impl Halves {
         ensures { IsTrue result ↔ (self < other) }
     {
         self.join() < other.join()
-    }
-
-    /// The order of two numbers, and where they are the same, that of their lengths.
-    #[tactic(auto, using(crate::proofs::OrderLaws::key_laws))]
-    pub(crate) fn order(self, len: u8, other: Halves, other_len: u8) -> Ordering
-        ensures { result ≡ ordering_then (nat_cmp self other) (nat_cmp len other_len) }
-    {
-        if self.upper != other.upper {
-            half::unlike_order(self.upper, other.upper)
-        } else if self.lower != other.lower {
-            half::unlike_order(self.lower, other.lower)
-        } else if len != other_len {
-            half::unlike_order(u64::from(len), u64::from(other_len))
-        } else {
-            Ordering::Equal
-        }
     }
 
     /// The first `len` bits, and from there on those of the other.
