@@ -1,6 +1,6 @@
-//! The values of hexadecimal digits.
-ghost use Rattle.std.specs.Prelude.{◌<◌};
-ghost use Rattle.std.specs.Char.{digit_value};
+//! Hexadecimal digits and their values.
+ghost use Rattle.std.specs.Prelude.{◌≡◌, ◌<◌};
+ghost use Rattle.std.specs.Char.{digit_char, digit_value};
 ghost use Rattle.std.specs.Option.{SomeIff};
 
 /// The value of each byte as a hexadecimal digit, or 0xff where it is none. A table has no branch to mispredict.
@@ -28,4 +28,17 @@ pub(crate) fn hex_value(byte: u8) -> Option<u8>
 {
     let value = DIGIT_VALUES[usize::from(byte)];
     if value < 16 { Some(value) } else { None }
+}
+
+/// The digits in lower case.
+static DIGITS: [u8; 16] = *b"0123456789abcdef";
+
+/// The hexadecimal digit, in lower case.
+pub(crate) fn hex_digit(digit: u16) -> char
+    requires { digit < 16 }
+    ensures value { result ≡ digit_char digit }
+    ensures ascii { result < 128 }
+{
+    // All are ASCII. The mask tells the compiler so, which else tests how many bytes each takes in UTF-8.
+    char::from(DIGITS[usize::from(digit)] & 0x7f)
 }

@@ -1,21 +1,10 @@
 //! Printing the groups of an IPv6 address into a text of a fixed capacity.
-ghost use Rattle.std.specs.Prelude.{◌≡◌, ◌+◌, ◌*◌, ◌-◌, ◌≤◌, ◌<◌, ◌++◌, length, take, bytes_eq};
-ghost use Rattle.std.specs.Char.{digit_char};
+ghost use Rattle.std.specs.Prelude.{◌≡◌, ◌+◌, ◌*◌, ◌-◌, ◌≤◌, ◌++◌, length, take, bytes_eq};
 ghost use Rattle.std.specs.Net.Text.{hex, groups_text, longest_zero_run, hex_groups_text};
 ghost use Rattle.cidr.specs.texts.Canonical.{mapped_groups};
 
+use crate::addr::hex::hex_digit;
 use arrayvec::ArrayString;
-
-/// The hexadecimal digit, in lower case.
-fn hex_digit(digit: u16) -> char
-    requires { digit < 16 }
-    ensures value { result ≡ digit_char digit }
-    ensures ascii { result < 128 }
-{
-    // Between `9` and `a` are 39 other characters, which only digits from 10 on skip.
-    let letter = (digit + 6) / 16;
-    char::from((u16::from(b'0') + digit + 39 * letter) as u8)
-}
 
 /// Appends the group in hexadecimal, without leading zeros.
 #[tactic(auto, using(crate::proofs::HexPrinting::hex_laws))]
