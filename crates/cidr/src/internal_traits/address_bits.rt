@@ -262,11 +262,9 @@ impl AddressBits for Ipv6Addr {
         (Ipv6Addr::from_halves(stepped), wraps)
     }
 
+    #[tactic(auto, using(crate::specs::laws::BitLaws::number_order_laws))]
     fn order(self, len: u8, other: Ipv6Addr, other_len: u8) -> Ordering {
-        match self.cmp(&other) {
-            Ordering::Equal => len.cmp(&other_len),
-            unlike => unlike,
-        }
+        self.halves().order(len, other.halves(), other_len)
     }
 
     #[tactic(auto, using(crate::proofs::PairNumbers::below_laws))]
