@@ -15,7 +15,7 @@ pub fn search<C: Ord, P: Probe<C>>(rows: &mut P, key: &C, end: usize) -> Result<
     ensures keys { P.keys rows.new ≡ P.keys rows.old }
     ensures cost { (d : ℕ) → end < 2 ^ d → P.count rows.new ≤ P.count rows.old + d }
 {
-    // Whatever a comparison answers, `half` places are left, so that the compiler can do without a branch on it.
+    // Whatever a comparison returns, `half` places are left, so that the compiler can do without a branch on it.
     let mut low = 0;
     let mut left = end;
     let mut found = false;

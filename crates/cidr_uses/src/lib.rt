@@ -1,4 +1,5 @@
-//! Parts of small programs, written by the public calls of `cidr` alone and proved from its public contracts alone.
+//! Parts of small programs, written by the public calls of `cidr` and `cidr_table` alone and proved from their public
+//! contracts alone.
 #![tactic(auto)]
 
 pub mod access_list;
