@@ -1,18 +1,26 @@
 #!/usr/bin/env python3
 """Makes the program's stored run, the files stdin and stdout beside this script.
 
-usage: sample.py FOLDER PROGRAM
+usage: sample.py [FOLDER PROGRAM]
 
 FOLDER has the groups: files NAME.in with operations and NAME.out with the expected answers, line by
 line. PROGRAM is cidr_replay: what it answers with `unsupported` is left out, and nothing else of its
-output is used. docs/REPLAY.md says how the lines are chosen.
+output is used. README.md says how the lines are chosen.
+
+Without arguments it writes nothing, and compares the stored run with all rows that are in no group:
+those in rows/, those of computed.py and those below. The exit status is 1 if any is missing or differs.
 """
-import ipaddress
+import itertools
 import subprocess
 import sys
 from collections import defaultdict
 from pathlib import Path
 
+from computed import computed_rows
+
+HERE = Path(__file__).resolve().parent
+
+# How many lines of the groups there are at most.
 SIZE = 3000
 
 # Worked examples of the groups that stand in the sample besides, each once.
@@ -98,22 +106,6 @@ CHOSEN = [
     b"walk.net v4 1.2.3.4/32 ffbb",
     b"walk.net v6 ::/0 -",
     b"walk.net_hosts ip ::/66 ff",
-]
-
-# Worked by hand: walks over one address, and over all of IPv6.
-WORKED = [
-    (b"walk ip 1::1:0:0:0 1::1:0:0:0 128 fb", b"1::1:0:0:0 none left 0 0 0"),
-    (
-        b"walk.net ip ::/0 fb",
-        b":: ffff:ffff:ffff:ffff:ffff:ffff:ffff:ffff left 18446744073709551615 none none",
-    ),
-    (b"walk.net_hosts ip 0.1.1.0/32 bfbf", b"0.1.1.0/32 none none none left 0 0 0"),
-]
-
-# The address around which every length is tried, and the lengths at which it steps.
-AROUND = [
-    ("v4", ipaddress.ip_address("192.0.2.181"), [0, 1, 8, 24, 31, 32]),
-    ("v6", ipaddress.ip_address("2001:db8:1234:5678:9abc:def0:fedc:ba98"), [0, 1, 63, 64, 65, 127, 128]),
 ]
 
 # The format leaves open what these lines get; this program's answers to them are fixed here.
@@ -285,63 +277,52 @@ def most_that_fit(lines, size):
     return best, each
 
 
-def lengths(kind, address):
-    """Every length: the network around the address as the module `ipaddress` gives it, and the steps at its ends."""
-    for length in range(address.max_prefixlen + 1):
-        net = ipaddress.ip_network((address, length), strict=False)
-        is_full = "true" if length == address.max_prefixlen else "false"
-        parts = [net[0], net[-1], net.netmask, length, f"Ipv{address.version}", is_full]
-        yield f"cidr.show {kind} {net}", " ".join(map(str, parts))
-        yield f"cidr.contains {kind} {net} {address}", "true"
-        first, last = f"{net[0]}/{length}", f"{net[-1]}/{length}"
-        yield f"inet.increment {kind} {last}", f"true {first}"
-        yield f"inet.decrement {kind} {first}", f"true {last}"
-        yield f"inet.next {kind} {last}", "none"
-        yield f"inet.previous {kind} {first}", "none"
+def rows_of_files():
+    """The rows that stand in rows/: an operation, ` -> ` and its result; the facts that they are for stand above."""
+    for file in sorted((HERE / "rows").glob("*.txt")):
+        for line in file.read_bytes().splitlines():
+            if line and not line.startswith(b"#"):
+                yield tuple(line.split(b" -> "))
 
 
-def step_sizes(size):
-    """Steps about the number of addresses and about the limits of 32, 64 and 128 bits."""
-    sizes = {0, 1, size - 1, size, 2**32 - 1, 2**32, 2**64, 2**128 - 1}
-    return sorted(n for n in sizes if n < 2**128)
+def together(*lists):
+    """One list of all rows, each operation once."""
+    sample = {}
+    for operation, expected in itertools.chain(*lists):
+        if sample.setdefault(operation, expected) != expected:
+            sys.exit(f"two results are expected of {operation}")
+    return sample
 
 
-def steps(kind, address, length):
-    """Sums and differences as whole numbers of unlimited size give them."""
-    net = ipaddress.ip_network((address, length), strict=False)
-    size, part = net.num_addresses, int(address) - int(net[0])
-    for step in step_sizes(size):
-        for name, end in [("add", part + step), ("sub", part - step)]:
-            is_inside = 0 <= end < size
-            host = f"{net[end % size]}/{length}"
-            for suffix in ["", "_u32"] if kind == "v4" and step < 2**32 else [""]:
-                words = f"{kind} {address}/{length} {step}"
-                yield f"inet.overflowing_{name}{suffix} {words}", f"{host} {'false' if is_inside else 'true'}"
-                yield f"inet.{name}{suffix} {words}", host if is_inside else "malformed"
+def rows_of_no_group():
+    computed = [(operation.encode(), answer.encode()) for operation, answer in computed_rows()]
+    return itertools.chain(rows_of_files(), computed, OTHER_LINES)
 
 
-def computed_lines():
-    """Lines that are in no group, with answers by Python's own addresses and numbers."""
-    lines = []
-    for kind, address, step_lengths in AROUND:
-        lines += lengths(kind, address)
-        for length in step_lengths:
-            lines += steps(kind, address, length)
-    return [(operation.encode(), answer.encode()) for operation, answer in lines]
+def compare():
+    """Ends with the rows that the stored run does not have."""
+    stored = dict(zip(*((HERE / name).read_bytes().split(b"\n")[:-1] for name in ["stdin", "stdout"])))
+    rows = together(rows_of_no_group())
+    missing = [operation.decode() for operation, expected in rows.items() if stored.get(operation) != expected]
+    if missing:
+        sys.exit("\n".join(["not in the stored run, or with another result:", *missing]))
+    print(f"{len(rows)} rows of no group, as stored")
 
 
 def main():
+    if len(sys.argv) == 1:
+        return compare()
     if len(sys.argv) != 3:
         sys.exit(__doc__)
     lines = read_lines(sys.argv[1], sys.argv[2])
     places, each = most_that_fit(lines, SIZE - len(OTHER_LINES))
     place_of = {operation: place for place, (operation, _) in enumerate(lines)}
     places = sorted({*places, *(place_of[operation] for operation in CHOSEN)})
-    sample = dict([lines[place] for place in places] + WORKED + computed_lines() + OTHER_LINES)
-    here = Path(__file__).resolve().parent
-    (here / "stdin").write_bytes(b"".join(operation + b"\n" for operation in sample))
-    (here / "stdout").write_bytes(b"".join(expected + b"\n" for expected in sample.values()))
+    sample = together((lines[place] for place in places), rows_of_no_group())
+    (HERE / "stdin").write_bytes(b"".join(operation + b"\n" for operation in sample))
+    (HERE / "stdout").write_bytes(b"".join(expected + b"\n" for expected in sample.values()))
     print(f"{len(sample)} lines, {each} for an operation and type")
 
 
-main()
+if __name__ == "__main__":
+    main()

@@ -30,7 +30,8 @@ prints 1 "$no_bytes" "$first_too_long" '[8, 10, 33]: Err(NoMemory)' "$one_prefix
 prints 2 "$no_bytes" "$first_too_long" "$second_too_long" '[8, 10]: Err(NoMemory)'
 prints 3 "$no_bytes" "$first_too_long" "$second_too_long" "$one_prefix"
 
-# The tests: a table of 40 rows or of 80 prefixes allocates fewer than seven times. All of them are to pass.
+# The tests: a table of 40 rows or of 80 prefixes allocates fewer than seven times, and so do the look-ups that are made
+# ready. All of them are to pass.
 for ((n = 1; n <= 7; n++)); do
     if ! output=$(rt try --test --fail-alloc "$n" </dev/null 2>&1); then
         printf '%s\n' "$output" "with allocation $n refused a test fails" >&2

@@ -64,6 +64,13 @@ shown_lone : (a : IpAddr) → shown (lone_network a) ≡ located a
 shown_lone (address.V4 a) = refl
 shown_lone (address.V6 a) = refl
 
+-- what reading a network of either family gives is what reading one or `any` gives, where the text is not `any`
+pub any_of_read : (text : List ℕ) (network : Result IpCidr NetworkParseError) → text ≢ codes "any" → ReadsIpNetwork text network
+    → ReadsAnyNetwork text (seen any_of network)
+any_of_read text (Ok (V4 p)) other h = h
+any_of_read text (Ok (V6 p)) other h = h
+any_of_read text (Err e) other h = any_refused text e other h
+
 module _ (Asked : List ℕ → Result IpAddr AddrParseError → Type 0)
     (known : (text : List ℕ) (returned : Result IpAddr AddrParseError) → Asked text returned → Reads IsIpText ip_error text returned) (text : List ℕ) where
   whole_read : (returned : Result IpAddr AddrParseError) (r : Result IpCidr NetworkParseError) → Lacks 47 text → Asked text returned
@@ -78,17 +85,12 @@ module _ (Asked : List ℕ → Result IpAddr AddrParseError → Type 0)
       ip_slashed_read (MadeBy located shown strict_network) text front back returned r
       (λ a n h. same_result r (ip_network_from a n) (h ∙ sym (shown_new a n))) cut (known front returned asked)
 
-  strictly_read : (r : Result IpCidr NetworkParseError)
+  pub strictly_read : (r : Result IpCidr NetworkParseError)
       → ReadsAround Asked (MadeBy located shown strict_network) (ReadsWhole Asked (MadeAlone located shown (λ a. a))) text r → ReadsIpNetwork text r
   strictly_read r (inl (lacks, (returned, asked, h))) = whole_read returned r lacks asked h
   strictly_read r (inr h) = slashed_read h.front h.back h.returned r h.cut h.asked h.follows
 
-  any_of_read : (network : Result IpCidr NetworkParseError) → text ≢ codes "any" → ReadsIpNetwork text network → ReadsAnyNetwork text (seen any_of network)
-  any_of_read (Ok (V4 p)) other h = h
-  any_of_read (Ok (V6 p)) other h = h
-  any_of_read (Err e) other h = any_refused text e other h
-
   pub any_strictly_read : (r : Result AnyIpCidr NetworkParseError)
       → ReadsAny (ReadsAround Asked (MadeBy located shown strict_network) (ReadsWhole Asked (MadeAlone located shown (λ a. a)))) text r → ReadsAnyNetwork text r
   any_strictly_read r (inl (same, h)) = rw h same
-  any_strictly_read r (inr (other, network, reads, h)) = rw h (any_of_read network other (strictly_read network reads))
+  any_strictly_read r (inr (other, network, reads, h)) = rw h (any_of_read text network other (strictly_read network reads))

@@ -1,5 +1,5 @@
 -- The groups of an IPv6 address beside the octets of its last 32 bits.
-use Rattle.std.proofs.Common.{◌≡◌, ℕ, zero, suc, ◌+◌, ◌*◌, ◌%◌, ◌^◌, Bool, List, [], ◌∷◌, ◌++◌, length, take, drop, flat_map, refl, sym, ap, ap₂, ◌∙◌, arith, take_at, drop_at, length-drop, zero-add}
+use Rattle.std.proofs.Common.{◌≡◌, ℕ, zero, suc, ◌+◌, ◌*◌, ◌%◌, ◌^◌, ◌<◌, Bool, List, [], ◌∷◌, ◌++◌, length, get_or, take, drop, flat_map, refl, sym, ap, ap₂, ◌∙◌, arith, take_at, drop_at, length-drop, zero-add}
 use Rattle.std.proofs.Math.Nat.{suc-add}
 use Rattle.std.proofs.lemmas.List.{drop-drop}
 use Rattle.cidr.specs.model.Bits.{bits, number}
@@ -8,7 +8,7 @@ use Rattle.cidr.specs.model.Address.{parts_of, octet_bits, octets_of, group_bits
 use Rattle.cidr.specs.texts.Ipv4Text.{dot, IsOctetText, IsJoined, IsIpv4Text}
 use Rattle.cidr.specs.texts.Ipv6Text.{IsDottedPair}
 use Rattle.cidr.specs.texts.PrintedAddress.{dotted, ipv4_text}
-use Rattle.cidr.proofs.PartLaws.{FitAll}
+use Rattle.cidr.proofs.PartLaws.{FitAll, all_fit}
 use Rattle.cidr.proofs.GroupNumbers.{groups-octets}
 use Rattle.cidr.proofs.NetworkNumbers.{number-parts, same_from_number}
 use Rattle.cidr.proofs.OctetReading.{decimal-IsOctetText}
@@ -22,6 +22,10 @@ parts_of-flat_map k (d ∷ ds) h =
     let front : number (take k (bits k d ++ flat_map (bits k) ds)) ≡ d = ap number (take_at (bits k d) (flat_map (bits k) ds) k l) ∙ number-bits k d h.0 in
     let back : drop k (bits k d ++ flat_map (bits k) ds) ≡ flat_map (bits k) ds = drop_at (bits k d) (flat_map (bits k) ds) k l in
     ap₂ (λ x t. x ∷ t) front (ap (parts_of k (length ds)) back ∙ parts_of-flat_map k ds h.1)
+
+-- and as many of them as there are
+pub parts_of_these : (k n : ℕ) (ds : List ℕ) → length ds ≡ n → ((i : ℕ) → get_or ds i 0 < 2 ^ k) → ds ≡ parts_of k n (flat_map (bits k) ds)
+parts_of_these k n ds many fit = sym (parts_of-flat_map k ds (all_fit k ds fit)) ∙ ap (λ m. parts_of k m (flat_map (bits k) ds)) many
 
 -- an IPv4 address has one text
 one_ipv4 : (text o : List ℕ) → length o ≡ 4 → IsJoined IsOctetText text o → (text ≡ dotted o) × FitAll 8 o

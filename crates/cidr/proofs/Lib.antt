@@ -52,11 +52,13 @@ pub mod EitherReading
 pub mod EitherParsing
 pub mod ShortParsing
 pub mod EitherTexts
+pub mod RefusedTexts
+pub mod StrictParsing
 pub mod EitherHolding
-pub mod EitherEqualities
 pub mod CompactEither
 pub mod Agreeing
 pub mod WalkLaws
 pub mod WalkOrder
 pub mod NetworkWalks
 pub mod Driven
+pub mod BothEnds

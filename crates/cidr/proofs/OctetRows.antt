@@ -7,7 +7,7 @@ use Rattle.std.specs.Int.{w128, byte_at, bytes_high_first, from_be_bytes, to_be_
 use Rattle.cidr.specs.model.Bits.{bits, number}
 use Rattle.cidr.specs.laws.BitLaws.{bits-number}
 use Rattle.cidr.specs.model.Address.{parts_of, octet_bits}
-use Rattle.cidr.proofs.PartLaws.{FitAll, joined_number, bits-parts, parts_of-bits, parts_of-none}
+use Rattle.cidr.proofs.PartLaws.{FitAll, all_fit, joined_number, bits-parts, parts_of-bits, parts_of-none}
 
 octet_power : (k : ℕ) → 256 ^ k ≡ 2 ^ (8 * k)
 octet_power zero = refl
@@ -35,8 +35,7 @@ pub sixteen_octets : (a : List Bool) → length a ≡ 128 → parts_of 8 16 a �
 sixteen_octets a e = octets_of-address 16 a e
 
 pub octets_fit : (octets : List ℕ) → ((i : ℕ) → get_or octets i 0 < 256) → FitAll 8 octets
-octets_fit [] h = tt
-octets_fit (o ∷ octets) h = (h 0, octets_fit octets (λ i. h (suc i)))
+octets_fit octets h = all_fit 8 octets h
 
 sixteen_joined : (a b c d e f g h i j k l m n o p : ℕ)
     → from_be_bytes w128 (a ∷ b ∷ c ∷ d ∷ e ∷ f ∷ g ∷ h ∷ i ∷ j ∷ k ∷ l ∷ m ∷ n ∷ o ∷ p ∷ []) ≡ joined_number 8 0 (a ∷ b ∷ c ∷ d ∷ e ∷ f ∷ g ∷ h ∷ i ∷ j ∷ k ∷ l ∷ m ∷ n ∷ o ∷ p ∷ [])

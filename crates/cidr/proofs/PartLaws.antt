@@ -19,6 +19,10 @@ abbrev pub FitAll : ℕ → List ℕ → Type 0
 FitAll k [] = Unit {0}
 FitAll k (d ∷ ds) = (d < 2 ^ k) × FitAll k ds
 
+pub all_fit : (k : ℕ) (ds : List ℕ) → ((i : ℕ) → get_or ds i 0 < 2 ^ k) → FitAll k ds
+all_fit k [] h = tt
+all_fit k (d ∷ ds) h = (h 0, all_fit k ds (λ i. h (suc i)))
+
 pub bits-joined_number : (k w x : ℕ) (ds : List ℕ) → FitAll k ds → bits (w + k * length ds) (joined_number k x ds) ≡ bits w x ++ flat_map (bits k) ds
 bits-joined_number k w x [] h = ap (λ n. bits n x) (omega arith) ∙ sym (append-nil (bits w x))
 bits-joined_number k w x (d ∷ ds) h =
@@ -112,3 +116,5 @@ writes-zeros k zero = writes-none k
 writes-zeros k (suc n) =
     let none : 0 * 2 ^ (k * length (replicate {A = ℕ} n 0)) + 0 ≡ 0 = omega arith in
     subst (WritesParts k (0 ∷ replicate n 0)) none (writes-append k (0 ∷ []) (replicate n 0) 0 0 (writes-one k 0 (pow_pos k)) (writes-zeros k n))
+
+pub ruleset part_laws = (flat_map-parts_of)

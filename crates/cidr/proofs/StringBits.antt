@@ -1,10 +1,12 @@
 -- Networks as strings of bits, by their first addresses.
-use Rattle.std.proofs.Common.{◌≡◌, ℕ, zero, suc, ◌+◌, ◌-◌, ◌<◌, ◌≤◌, min, Bool, false, List, [], ◌∷◌, ◌++◌, length, get_or, set, take, slice_get, Some, refl, sym, ap, ap₂, ◌∙◌, arith, take_at, drop_at, length-append}
+use Rattle.std.proofs.Common.{◌≡◌, ℕ, zero, suc, ◌+◌, ◌-◌, ◌<◌, ◌≤◌, min, Bool, false, List, [], ◌∷◌, ◌++◌, length, get_or, set, take, slice_get, Some, refl, sym, ap, ap₂, ◌∙◌, arith, take_at, drop_at, length-append, length-take}
 use Rattle.std.proofs.lemmas.List.{append-nil, take_all, length-set, get_or_append_left, set-append_left, set_at}
 use Rattle.std.proofs.lemmas.Option.{slice_get-get_or}
 use Rattle.cidr.specs.model.BitString.{host_clipped}
 use Rattle.cidr.specs.model.Host.{Host, IsHost, host_of}
-use Rattle.cidr.specs.model.Network.{zeros, first_of, IsFirstAddress}
+use Rattle.cidr.specs.model.Network.{width_of, zeros, first_of, IsFirstAddress}
+use Rattle.cidr.specs.declared.family.Family.{Family}
+use Rattle.cidr.specs.declared.family.Family.TheVariants.{Ipv4, Ipv6}
 use Rattle.cidr.specs.laws.NetworkLaws.{length-first_of}
 
 -- bit i of a network is that of its first address
@@ -83,3 +85,20 @@ take-set zero i b a h = absurd (omega arith)
 take-set (suc n) i b [] h = absurd (omega arith)
 take-set (suc n) zero b (c ∷ a) h = refl
 take-set (suc n) (suc i) b (c ∷ a) h = ap (λ t. c ∷ t) (take-set n i b a (omega arith))
+
+-- an address has 32 bits at least and 128 at most
+pub width_least : (family : Family) → 32 ≤ width_of family
+width_least Ipv4 = omega arith
+width_least Ipv6 = omega arith
+
+pub width_most : (family : Family) → width_of family ≤ 128
+width_most Ipv4 = omega arith
+width_most Ipv6 = omega arith
+
+pub ruleset width_laws = (width_least, width_most)
+
+-- how many bits can be appended where the first k are left, one of them in front of p
+pub room_clipped : (w k : ℕ) (p q : List Bool) → length p ≤ w → 0 < k → q ≡ take (k - 1) p → w - length q ≡ w - length p + (length p + 1 - k)
+room_clipped w k p q fits some same =
+    let size : length q ≡ min (k - 1) (length p) = ap length same ∙ length-take (k - 1) p in
+    omega arith

@@ -6,3 +6,5 @@ pub mod StringLaws
 pub mod PairLaws
 pub mod DecimalLaws
 pub mod HalfLaws
+pub mod EqualLaws
+pub mod TraitLaws

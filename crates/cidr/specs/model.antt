@@ -6,5 +6,6 @@ pub mod Network
 pub mod Host
 pub mod Pair
 pub mod Walk
+pub mod Calls
 pub mod Counted
 pub mod BitString

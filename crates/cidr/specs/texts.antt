@@ -1,4 +1,4 @@
--- Which texts spell which value, what is printed, and which error a text that spells nothing gives.
+-- Which strings represent which value, what is printed, and the error of a string that represents none.
 pub mod Ipv4Text
 pub mod Ipv6Text
 pub mod AddressText
@@ -6,6 +6,7 @@ pub mod NetworkText
 pub mod Refusal
 pub mod HostText
 pub mod Parsing
+pub mod Results
 pub mod Canonical
 pub mod PrintedAddress
 pub mod Printed

@@ -1,4 +1,4 @@
-//! Whether two networks agree: by value, order, address set, printed text and compact bytes alike.
+//! Whether two networks agree: by value, order, address set, printed string and compact bytes alike.
 ghost use Rattle.std.specs.Prelude.{◌↔◌, ℕ, List, Bool, IsTrue, IsFalse};
 ghost use Rattle.cidr.specs.bytes.Agreement.{AllAgree, NoneAgrees, TellsNetwork};
 
@@ -9,8 +9,8 @@ use crate::compact::octets::AddressOctets;
 use crate::internal_traits::address_bits::AddressText;
 use crate::laws::networks::{equal_networks_are_the_same, equal_networks_or_any_are_the_same};
 
-/// A network type of which each of these tells the value: the order, the addresses of a network, its printed text and
-/// its compact bytes.
+/// A network type of which each of these tells the value: the order, the addresses of a network, its printed string and
+/// its compact bytes. `Ipv4Cidr`, `Ipv6Cidr`, `IpCidr` and `AnyIpCidr` implement it.
 pub trait Canonical: Ord {
     /// Holds of every value of the type.
     ghost is_network: { Self → Type 0 };
@@ -18,7 +18,7 @@ pub trait Canonical: Ord {
     /// The addresses of a network, by their bits; of either family with the family bit in front.
     ghost holds: { Self → List Bool → Type 0 };
 
-    /// The printed text.
+    /// The printed string.
     ghost text: { Self → List ℕ };
 
     /// The compact bytes.
@@ -30,10 +30,16 @@ pub trait Canonical: Ord {
         ensures tells { TellsNetwork holds text bytes Self.cmp is_network };
 }
 
-/// Whether two networks of one type agree.
+/// Whether two networks of one type agree. It is `==`, with a contract that says more.
 ///
-/// True says that their values, address sets, printed texts and compact bytes are the same and that `cmp` returns
+/// True says that their values, address sets, printed strings and compact bytes are the same and that `cmp` returns
 /// `Equal`; false says that none of the five holds.
+///
+/// ```
+/// let network = "10.0.0.0/8".parse::<Ipv4Cidr>()?;
+/// agree(&network, &"10.0.0.0/08".parse()?) // true
+/// agree(&network, &"10.0.0.0/9".parse()?) // false
+/// ```
 pub fn agree<N: Canonical>(a: &N, b: &N) -> bool
     ensures all { IsTrue result ↔ AllAgree N.holds N.text N.bytes N.cmp a.now b.now }
     ensures none { IsFalse result ↔ NoneAgrees N.holds N.text N.bytes N.cmp a.now b.now }

@@ -3,3 +3,5 @@
 pub(crate) mod any;
 pub(crate) mod combined;
 pub(crate) mod network;
+mod v4;
+mod v6;

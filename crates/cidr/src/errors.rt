@@ -1,9 +1,9 @@
-//! The errors of networks, hosts and pairs, of their texts, and of compact and prefix bytes.
+//! The errors of networks, hosts and pairs, of their strings, and of compact and prefix bytes.
 ghost use Rattle.std.specs.Prelude.{◌≡◌, ◌≤◌, length, Some};
 ghost use Rattle.cidr.specs.texts.Messages.{limit_message};
 
+use crate::addr::decimal::decimal_text;
 use crate::addr::error::AddrParseError;
-use crate::addr::print::decimal_text;
 use crate::family::Family;
 use arrayvec::ArrayString;
 use std::error::Error;
@@ -11,9 +11,13 @@ use std::fmt;
 
 const INVALID_LENGTH_TEXT: &str = "invalid length text";
 
-/// The text after the slash is no prefix length: an optional `+` and decimal digits of a value up to 255.
+/// What follows the last slash is no prefix length: an optional `+` and decimal digits of a value up to 255.
 ///
-/// Its message is `invalid length text`.
+/// Its message is `invalid length text`, also under `{:?}`.
+///
+/// ```
+/// "::/64x".parse::<Ipv6Cidr>() // Err(couldn't parse length in network: invalid length text)
+/// ```
 #[derive(Clone, Drop, PartialEq, Eq)]
 pub struct ParseIntError {}
 
@@ -41,7 +45,12 @@ impl Error for ParseIntError {}
 
 /// The prefix length is above the width of the family, 32 or 128.
 ///
-/// Its message names both: `Network length 33 is too long for Ipv4 (maximum: 32)`.
+/// Its message names both, also under `{:?}`: `Network length 33 is too long for Ipv4 (maximum: 32)`.
+///
+/// ```
+/// let made = Ipv4Inet::new(Ipv4Addr::new(10, 4, 3, 2), 33);
+/// made // Err(Network length 33 is too long for Ipv4 (maximum: 32))
+/// ```
 #[derive(Clone, Drop, PartialEq, Eq, Hash)]
 pub struct NetworkLengthTooLongError(usize, Family);
 
@@ -100,18 +109,22 @@ impl fmt::Debug for NetworkLengthTooLongError {
 
 impl Error for NetworkLengthTooLongError {}
 
-/// Why a network or the text of a network or a host is refused.
+/// Why a network cannot be made, or a string is not parsed as a network or a host.
 ///
-/// Reading a text returns the first of these errors: the address, the text of the prefix length, a prefix length
-/// above the width, a set bit after the prefix. 10.0.0.1/33 has a prefix length above the width, and 10.0.0.1/8 has
-/// a set bit after the prefix. A host's text is never refused for the last.
+/// Parsing returns the first of these errors: the address, the string of the prefix length, a prefix length above the
+/// width, a set bit after the prefix. Parsing a host never returns the last.
+///
+/// ```
+/// "10.0.0.1/8".parse::<Ipv4Cidr>() // Err(host part of address was not zero)
+/// "10.0.0.1".parse::<Ipv4Cidr>() // Ok(10.0.0.1/32)
+/// ```
 #[derive(Clone, Drop, PartialEq)]
 pub enum NetworkParseError {
     /// A bit after the prefix is set: `host part of address was not zero`.
     InvalidHostPart,
-    /// The text before the last slash, or all of it where there is no slash, is no address.
+    /// What precedes the last slash, or the whole string where there is no slash, is no address.
     AddrParseError(AddrParseError),
-    /// The text after the last slash is no prefix length.
+    /// What follows the last slash is no prefix length.
     NetworkLengthParseError(ParseIntError),
     /// The prefix length is above the width of the family.
     NetworkLengthTooLongError(NetworkLengthTooLongError),
@@ -120,7 +133,12 @@ pub enum NetworkParseError {
 impl NetworkParseError {
     ghost use Rattle.cidr.specs.texts.Messages.{parse_message};
 
-    /// The message, which is what is printed. It has at most 99 bytes.
+    /// The message, as it is printed, in an `ArrayString`, so that nothing is allocated. It has at most 99 bytes.
+    ///
+    /// ```
+    /// let parsed = "10.0.0.1/8".parse::<Ipv4Cidr>();
+    /// parsed.map_err(|e| e.to_text()) // Err("host part of address was not zero")
+    /// ```
     pub fn to_text(&self) -> ArrayString<99>
         ensures { result.bytes ≡ parse_message self.now }
     {
@@ -188,10 +206,16 @@ impl From<NetworkLengthTooLongError> for NetworkParseError {
     }
 }
 
-/// Why two hosts, or two addresses and a prefix length, are refused as a pair.
+/// Why two hosts, or two addresses and a prefix length, are no pair.
+///
+/// ```
+/// let (one, other) = ("10.0.0.1/8".parse()?, "11.0.0.1/8".parse()?);
+/// Ipv4InetPair::new(one, other) // Err(addresses not in shared network)
+/// ```
 #[derive(Clone, Drop, PartialEq)]
 pub enum InetTupleError {
-    /// The families differ, the prefix lengths of two hosts differ, or the two are in different networks.
+    /// The families differ, the prefix lengths of two hosts differ, or the two are in different networks: `addresses
+    /// not in shared network`.
     NotInSharedNetwork,
     /// The prefix length is above the width of the family.
     NetworkLengthTooLongError(NetworkLengthTooLongError),
@@ -234,20 +258,20 @@ impl From<NetworkLengthTooLongError> for InetTupleError {
     }
 }
 
-/// Why bytes are refused as compact bytes.
+/// Why bytes are not parsed as compact bytes.
 ///
-/// Reading returns the first of these that applies: no byte at all (`Truncated`), `InvalidTag`, too few octets
+/// Parsing returns the first of these that applies: no byte at all (`Truncated`), `InvalidTag`, too few octets
 /// (`Truncated`), `InvalidAny`, `InvalidFamily`, `InvalidHostPart`.
 #[derive(Clone, Drop, PartialEq, Eq)]
 pub enum CompactError {
-    /// There is no byte, or there are fewer octets than the tag asks for: `compact bytes end too early`.
+    /// There is no byte, or there are fewer octets than the tag says: `compact bytes end too early`.
     Truncated,
     /// The tag is that of no prefix length in either family, and not that of `any`: `invalid tag`.
     InvalidTag,
-    /// The tag is that of `any`, which only `AnyIpCidr` reads: ``invalid value: `any` ``.
+    /// The tag is that of `any`, which only `AnyIpCidr` has: ``invalid value: `any` ``.
     InvalidAny,
-    /// The tag is of this family, and the type is of the other one: ``invalid type: `Ipv4Addr` `` or
-    /// ``invalid type: `Ipv6Addr` ``.
+    /// The tag is of this family, and the type is of the other one: ``invalid type: `Ipv4Addr` `` or ``invalid type:
+    /// `Ipv6Addr` ``.
     InvalidFamily(Family),
     /// A bit after the prefix is set, and the type is a network: `host part of address was not zero`.
     InvalidHostPart,
@@ -256,7 +280,12 @@ pub enum CompactError {
 impl CompactError {
     ghost use Rattle.cidr.specs.texts.Messages.{compact_message};
 
-    /// The message, which is what is printed. It has at most 33 bytes.
+    /// The message, as it is printed, in an `ArrayString`, so that nothing is allocated. It has at most 33 bytes.
+    ///
+    /// ```
+    /// let parsed = Ipv4Cidr::from_compact(&[64]);
+    /// parsed.map_err(|e| e.to_text()) // Err("compact bytes end too early")
+    /// ```
     pub fn to_text(&self) -> ArrayString<33>
         ensures { result.bytes ≡ compact_message self.now }
     {
@@ -295,22 +324,27 @@ impl fmt::Debug for CompactError {
 
 impl Error for CompactError {}
 
-/// Why bytes are refused as prefix bytes.
+/// Why bytes are not parsed as prefix bytes.
 ///
-/// Reading returns the first of these that applies: no byte at all (`Truncated`), `LengthTooLong`, too few octets
+/// Parsing returns the first of these that applies: no byte at all (`Truncated`), `LengthTooLong`, too few octets
 /// (`Truncated`).
 #[derive(Clone, Drop, PartialEq, Eq)]
 pub enum PrefixBytesError {
     /// The prefix length is above the width of the family, 32 or 128: `prefix length is too long`.
     LengthTooLong,
-    /// There is no byte, or there are fewer octets than the prefix length asks for: `prefix bytes end too early`.
+    /// There is no byte, or there are fewer octets than hold the prefix: `prefix bytes end too early`.
     Truncated,
 }
 
 impl PrefixBytesError {
     ghost use Rattle.cidr.specs.texts.Messages.{prefix_message};
 
-    /// The message, which is what is printed. It has at most 26 bytes.
+    /// The message, as it is printed, in an `ArrayString`, so that nothing is allocated. It has at most 26 bytes.
+    ///
+    /// ```
+    /// let parsed = Ipv4Cidr::from_prefix_bytes(&[33]);
+    /// parsed.map_err(|e| e.to_text()) // Err("prefix length is too long")
+    /// ```
     pub fn to_text(&self) -> ArrayString<26>
         ensures { result.bytes ≡ prefix_message self.now }
     {

@@ -5,7 +5,7 @@ use crate::addr::ip::IpAddr;
 use crate::addr::v4::Ipv4Addr;
 use crate::addr::v6::Ipv6Addr;
 
-/// IPv4 or IPv6. `Ipv4` comes first.
+/// The family of an address: IPv4 or IPv6. `Ipv4` is less than `Ipv6`.
 #[derive(Clone, Copy, Debug, PartialEq, Eq, PartialOrd, Ord, Hash)]
 pub enum Family {
     Ipv4,
@@ -16,7 +16,12 @@ impl Family {
     ghost use Rattle.cidr.specs.either.IpAddress.{unspecified, loopback};
     ghost use Rattle.cidr.specs.model.Network.{width_of};
 
-    /// The number of bits of an address: 32 or 128.
+    /// The number of bits of an address of the family, which is its greatest prefix length: 32 or 128.
+    ///
+    /// ```
+    /// Family::Ipv4.len() // 32
+    /// Family::Ipv6.len() // 128
+    /// ```
     pub fn len(&self) -> u8
         ensures { result ≡ width_of self.now }
     {
@@ -26,7 +31,12 @@ impl Family {
         }
     }
 
-    /// The unspecified address, of zero bits alone: 0.0.0.0 or ::.
+    /// The unspecified address, all of whose bits are zero: 0.0.0.0 (RFC 1122, 3.2.1.3) or :: (RFC 4291, 2.5.2).
+    ///
+    /// ```
+    /// Family::Ipv4.unspecified_address() // 0.0.0.0
+    /// Family::Ipv6.unspecified_address() // ::
+    /// ```
     #[tactic(auto, using(crate::proofs::EitherAddresses::zero_laws))]
     pub fn unspecified_address(&self) -> IpAddr
         ensures { result ≡ unspecified self.now }
@@ -37,7 +47,13 @@ impl Family {
         }
     }
 
-    /// The loopback address: 127.0.0.1 or ::1.
+    /// The loopback address: 127.0.0.1 or ::1 (RFC 4291, 2.5.3). All of 127.0.0.0/8 is for loopback (RFC 1122,
+    /// 3.2.1.3); this is the address that `localhost` usually stands for.
+    ///
+    /// ```
+    /// Family::Ipv4.loopback_address() // 127.0.0.1
+    /// Family::Ipv6.loopback_address() // ::1
+    /// ```
     pub fn loopback_address(&self) -> IpAddr
         ensures { result ≡ loopback self.now }
     {

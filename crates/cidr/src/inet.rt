@@ -2,4 +2,4 @@
 
 pub(crate) mod combined;
 pub(crate) mod host;
-pub(crate) mod v4;
+mod v4;

@@ -5,7 +5,7 @@ ghost use Rattle.std.specs.Iterator.SizeHint.{IsWithinCount};
 ghost use Rattle.cidr.specs.model.Views.{in_family};
 ghost use Rattle.cidr.specs.model.Walk.{pair_hosts, addresses_of, count_of, bounds_of};
 
-use crate::internal_traits::markers::PrivInetPair;
+use crate::internal_traits::sealed::PrivInetPair;
 use crate::num::NumberOfAddresses;
 use crate::traits::{Address, Inet, InetPair};
 use std::alloc::AllocError;
@@ -15,10 +15,19 @@ use std::marker::Model;
 
 pub(crate) mod driving;
 
-/// The hosts of a walk that are left, ascending.
+/// An iterator over the hosts of a network or a pair that are left, ascending. The calls `iter` of networks and pairs
+/// make it.
 ///
-/// `next` takes the first of them and `next_back` the last. Once one end has returned `None`, both return `None`
-/// from then on. The calls `iter` of networks and pairs make it.
+/// `next` takes the lowest of them and `next_back` the highest, in constant time. Once either has returned `None`, both
+/// return `None` from then on. It does not allocate, and `nth`, `last` and the like take one step each: for the number
+/// of addresses use `count`.
+///
+/// ```
+/// let mut hosts = "192.0.2.48/31".parse::<Ipv4Cidr>()?.iter();
+/// hosts.next_back() // Some(192.0.2.49/31)
+/// hosts.next() // Some(192.0.2.48/31)
+/// hosts.next() // None
+/// ```
 #[derive(Drop)]
 pub struct InetIterator<A: Address> {
     state: Option<A::InetPair>,
@@ -59,7 +68,12 @@ impl<A: Address> InetIterator<A> {
         left.size_hint()
     }
 
-    /// How many are left, or `None` where that is 2^64 or more. It takes no step.
+    /// How many are left, or `None` where that is 2^64 or more. It takes no step, unlike `Iterator::count`.
+    ///
+    /// ```
+    /// "10.0.0.0/8".parse::<Ipv4Cidr>()?.iter().count() // Some(16777216)
+    /// "2001:db8::/64".parse::<Ipv6Cidr>()?.iter().count() // None
+    /// ```
     pub fn count(self) -> Option<usize>
         ensures { result ≡ count_of (length self) }
     {
@@ -72,7 +86,12 @@ where
     A::InetPair: InetPair<Address = A>,
     A::Inet: Inet<Address = A>,
 {
-    /// What is left of the walk, as addresses without the prefix length.
+    /// What is left of the hosts, as addresses without the prefix length.
+    ///
+    /// ```
+    /// let network = "192.0.2.48/30".parse::<Ipv4Cidr>()?;
+    /// network.iter().addresses().next() // Some(192.0.2.48)
+    /// ```
     pub fn addresses(self) -> InetAddressIterator<A>
         ensures { result ≡ addresses_of self }
     {
@@ -159,10 +178,16 @@ where
     }
 }
 
-/// The addresses of a walk that are left, ascending.
+/// An iterator over the addresses of a network or a pair that are left, ascending. The call `addresses` of
+/// `InetIterator` makes it.
 ///
-/// `next` takes the first of them and `next_back` the last. Once one end has returned `None`, both return `None`
-/// from then on. The call `addresses` of `InetIterator` makes it.
+/// `next` takes the lowest of them and `next_back` the highest. Once either has returned `None`, both return `None`
+/// from then on.
+///
+/// ```
+/// let network = "192.0.2.48/30".parse::<Ipv4Cidr>()?;
+/// network.iter().addresses().next_back() // Some(192.0.2.51)
+/// ```
 #[derive(Drop)]
 pub struct InetAddressIterator<A: Address> {
     inner: InetIterator<A>,
@@ -179,7 +204,12 @@ impl<A: Address> Model for InetAddressIterator<A> {
 }
 
 impl<A: Address> InetAddressIterator<A> {
-    /// How many are left, or `None` where that is 2^64 or more. It takes no step.
+    /// How many are left, or `None` where that is 2^64 or more. It takes no step, unlike `Iterator::count`.
+    ///
+    /// ```
+    /// let network = "192.0.2.48/28".parse::<Ipv4Cidr>()?;
+    /// network.iter().addresses().count() // Some(16)
+    /// ```
     pub fn count(self) -> Option<usize>
         ensures { result ≡ count_of (length self) }
     {

@@ -2,5 +2,5 @@
 
 pub(crate) mod combined;
 pub(crate) mod host_pair;
-pub(crate) mod v4;
-pub(crate) mod v6;
+mod v4;
+mod v6;

@@ -1,11 +1,8 @@
 //! IPv4 and IPv6 addresses and networks, proved.
 //!
-//! A network is a `Cidr`, as 192.0.2.48/28: all addresses that begin with the same bits, the prefix. A host is an
-//! `Inet`, as 192.0.2.50/28: an address in its network. The names are those of PostgreSQL and of the Rust crate
-//! `cidr`.
-//!
-//! Each call is panic-free, terminating and does not allocate, and its contract says which value it returns.
-//! Texts are printed into an `ArrayString`, a string of fixed capacity.
+//! A network is a `Cidr`, such as 192.0.2.48/28: all addresses that begin with the same bits, the prefix. A host is an
+//! `Inet`, such as 192.0.2.50/28: an address in its network. The names are those of PostgreSQL and of the Rust crate
+//! `cidr`. Each call is panic-free, terminating and does not allocate, and its contract says which value it returns.
 //!
 //! | | IPv4 | IPv6 | either family |
 //! |---|---|---|---|
@@ -13,150 +10,182 @@
 //! | network | `Ipv4Cidr` | `Ipv6Cidr` | `IpCidr`, and `AnyIpCidr` with `any` |
 //! | host | `Ipv4Inet` | `Ipv6Inet` | `IpInet` |
 //! | pair of hosts of one network | `Ipv4InetPair` | `Ipv6InetPair` | `IpInetPair` |
+//! | walk over hosts, over addresses | `InetIterator<Ipv4Addr>`, `InetAddressIterator<..>` | the same | the same |
 //!
-//! `InetIterator` and `InetAddressIterator` are the walks over the addresses of a network or a pair. The traits
-//! `Address`, `Cidr`, `Inet` and `InetPair` are for code that is written once over all families. `errors` has the
-//! errors, `parsers` reads texts in other forms than the types themselves do, `canon` compares networks in five ways at
-//! once, and `laws` has laws for the proofs of callers.
+//! `Address`, `Cidr`, `Inet` and `InetPair` are traits for code that is written once over all families. `errors` has
+//! the errors, `parsers` parses strings in other forms than the types themselves do, `canon` compares networks in five
+//! ways at once, and `laws` has laws for the proofs of callers.
 //!
-//! # Addresses
+//! In the examples, which stand in programs of the repository, a value behind `//` is what its line prints.
+//!
+//! # Addresses and networks
 //!
 //! ```
-//! let address = "2001:DB8:0:0:0:0:0:1".parse::<Ipv6Addr>()?;
-//! address.to_text()                       // 2001:db8::1, the one canonical text
-//! Ipv4Addr::new(192, 0, 2, 1).to_bits()   // 0xc0000201
-//! "192.0.2.01".parse::<Ipv4Addr>()        // Err: an octet has no leading zero
+//! "2001:DB8:0:0:0:0:0:1".parse::<Ipv6Addr>()? // 2001:db8::1
+//! Ipv4Addr::new(192, 0, 2, 1).to_bits() // 0xc0000201
+//! "192.0.2.01".parse::<Ipv4Addr>() // Err(invalid IPv4 address syntax)
 //! ```
-//!
-//! # Networks
 //!
 //! ```
 //! let network = "192.0.2.48/28".parse::<Ipv4Cidr>()?;
-//! network.first_address()                 // 192.0.2.48
-//! network.last_address()                  // 192.0.2.63
-//! network.mask()                          // 255.255.255.240
-//! network.contains(&Ipv4Addr::new(192, 0, 2, 64))   // false
-//! let wide = "2001:db8::/32".parse::<Ipv6Cidr>()?;
-//! wide.contains_cidr(&"2001:db8:1::/48".parse::<Ipv6Cidr>()?)   // true
-//! Ipv4Cidr::new(Ipv4Addr::new(192, 0, 2, 50), 28)   // Err: a bit after the first 28 is set
-//! Ipv4Cidr::new_host(Ipv4Addr::new(192, 0, 2, 1))   // 192.0.2.1/32, which prints as 192.0.2.1
+//! network.first_address() // 192.0.2.48
+//! network.last_address() // 192.0.2.63
+//! network.mask() // 255.255.255.240
+//!
+//! let address = Ipv4Addr::new(192, 0, 2, 50);
+//! network.contains(&address) // true
+//! Ipv4Cidr::new(address, 28) // Err(host part of address was not zero)
+//! ```
+//!
+//! ```
+//! let network = "2001:db8::/32".parse::<Ipv6Cidr>()?;
+//! let inner = "2001:db8:1::/48".parse::<Ipv6Cidr>()?;
+//! network.contains_cidr(&inner) // true
 //! ```
 //!
 //! # Hosts
 //!
 //! ```
 //! let host = "192.0.2.62/28".parse::<Ipv4Inet>()?;
-//! host.network()                          // 192.0.2.48/28
-//! host.next()                             // Some(192.0.2.63/28)
-//! host.overflowing_add(2)                 // (192.0.2.48/28, true): it wrapped
-//! host + 1                                // 192.0.2.63/28; the proof shows that the step stays in the network
+//! host.address() // 192.0.2.62
+//! host.next() // Some(192.0.2.63/28)
+//! host.overflowing_add(2) // (192.0.2.48/28, true)
+//!
+//! let host = "2001:db8::ffff/112".parse::<Ipv6Inet>()?;
+//! host.network() // 2001:db8::/112
+//! host.next() // None
 //! ```
+//!
+//! A step stays in the host's network: `true` tells that it wrapped past the end. `+` and `-` are for steps that the
+//! proof of the caller shows to stay in the network.
 //!
 //! # Pairs and walks
 //!
 //! ```
 //! let first = "192.0.2.49/28".parse::<Ipv4Inet>()?;
 //! let second = "192.0.2.51/28".parse::<Ipv4Inet>()?;
-//! let pair = Ipv4InetPair::new(first, second)?;     // (192.0.2.49/28, 192.0.2.51/28)
+//! let pair = Ipv4InetPair::new(first, second)?;
+//! pair // (192.0.2.49/28, 192.0.2.51/28)
+//!
 //! let mut walk = pair.iter().addresses();
-//! walk.next()                             // Some(192.0.2.49)
-//! walk.next_back()                        // Some(192.0.2.51)
-//! walk.next()                             // Some(192.0.2.50)
-//! walk.next()                             // None, from now on at both ends
+//! walk.next() // Some(192.0.2.49)
+//! walk.next_back() // Some(192.0.2.51)
+//! walk.next() // Some(192.0.2.50)
+//! walk.next() // None
+//! ```
+//!
+//! ```
+//! let first = Ipv6Addr::new(0x2001, 0xdb8, 0, 0, 0, 0, 0, 1);
+//! let last = Ipv6Addr::new(0x2001, 0xdb8, 0, 0, 0, 0, 0, 0xff);
+//! let pair = Ipv6InetPair::new_from_addresses(first, last, 64)?;
+//! pair.network() // 2001:db8::/64
+//! pair.iter().count() // Some(255)
 //! ```
 //!
 //! # Either family
 //!
+//! No network contains an address of the other family, so ::ffff:0.0.0.0/96 contains no IPv4 address.
+//!
 //! ```
 //! let network = "::ffff:0.0.0.0/96".parse::<IpCidr>()?;
 //! let address = "192.0.2.1".parse::<IpAddr>()?;
-//! network.contains(&address)              // false: no network contains an address of the other family
-//! "any".parse::<AnyIpCidr>()?.contains(&address)    // true
+//! network // ::ffff:0.0.0.0/96
+//! network.is_ipv6() // true
+//! network.contains(&address) // false
+//! "any".parse::<AnyIpCidr>()?.contains(&address) // true
 //! ```
 //!
-//! # Parsers around a closure
+//! ```
+//! let first = "2001:db8::1/64".parse::<IpInet>()?;
+//! first.network() // 2001:db8::/64
+//! first.family() // Ipv6
+//! let pair = IpInetPair::new(first, "2001:db8::ff/64".parse()?)?;
+//! pair.iter().count() // Some(255)
+//! IpInetPair::new(first, "192.0.2.1/24".parse()?) // Err(addresses not in shared network)
+//! ```
+//!
+//! # Parsers
+//!
+//! The types parse strictly. `parsers` has IPv4 as POSIX `inet_addr` parses it, networks by their first octets alone,
+//! and parsers around a function of your own for the address, here one that takes `home` for 127.0.0.1:
 //!
 //! ```
-//! let parser = |text: &str| if text == "home" { Ok(Ipv4Addr::new(127, 0, 0, 1)) } else { text.parse() };
-//! parsers::parse_cidr("home", parser)                   // 127.0.0.1/32
-//! parsers::parse_cidr("home/8", parser)                 // Err: a bit after the first 8 is set
-//! parsers::parse_cidr_ignore_hostbits("home/8", parser) // 127.0.0.0/8
+//! inet_addr("127.1") // Some(127.0.0.1)
+//! parse_loose_ip("0x7f000001") // Ok(127.0.0.1)
+//! parse_short_ipv4_address_as_cidr("192.168") // Ok(192.168.0.0/16)
+//! ```
+//!
+//! ```
+//! parse_cidr::<Ipv4Cidr, _>("home", address) // Ok(127.0.0.1/32)
+//! parse_cidr::<Ipv4Cidr, _>("home/8", address) // Err(host part of address was not zero)
+//! parse_cidr_ignore_hostbits::<Ipv4Cidr, _>("home/8", address) // Ok(127.0.0.0/8)
 //! ```
 //!
 //! # Strings of bits
 //!
 //! A network is the string of the bits that its addresses begin with, and a host that of its network: `BitString`.
+//! `NetworkBits` adds that networks are ordered by these bits, which is what a table of networks goes by. Of
+//! `AnyIpCidr` the first bit is the family.
 //!
 //! ```
-//! let mut network = "192.168.0.0/16".parse::<Ipv4Cidr>()?;
-//! network.clip(2)                         // 192.0.0.0/2
-//! network.append(true)                    // 224.0.0.0/3
-//! network.shared_prefix_len(&other)       // how many bits both begin with
-//! let mut either = "192.168.0.0/16".parse::<AnyIpCidr>()?;
-//! either.len()                            // 17: the family bit comes first
-//! either.flip(0)                          // ::/0
+//! let other = "192.168.0.0/24".parse::<Ipv4Cidr>()?;
+//! let mut network = "192.160.0.0/11".parse::<Ipv4Cidr>()?;
+//! network.shared_prefix_len(&other) // 11
+//! network.clip(2);
+//! network // 192.0.0.0/2
+//! network.append(true);
+//! network // 224.0.0.0/3
 //! ```
 //!
-//! `NetworkBits` adds to it that the order is that of the bits, which is what a table of networks goes by.
+//! # Bytes
 //!
-//! # Loose and short texts
-//!
-//! ```
-//! inet_addr("127.1")                      // Some(127.0.0.1), as POSIX has it
-//! parse_loose_ip("0x7f000001")            // Ok(127.0.0.1)
-//! parse_short_ipv4_address_as_cidr("192.168")   // Ok(192.168.0.0/16)
-//! ```
-//!
-//! # Compact bytes
+//! Compact bytes are a tag and the octets of the first address: the prefix length in IPv4, and 64 more than that in
+//! IPv6; 255 is `any`. No value's bytes begin with those of another value of its type, and bytes after them are left
+//! alone.
 //!
 //! ```
 //! let network = "192.0.2.0/24".parse::<Ipv4Cidr>()?;
-//! network.to_compact()                    // 0x18, 0xc0, 0x00, 0x02, 0x00: the tag and the octets
-//! Ipv4Cidr::from_compact(&[8, 10, 0, 0, 0, 99])   // Ok((10.0.0.0/8, 5)): the last byte is left alone
-//! AnyIpCidr::from_compact(&[0xff])        // Ok((any, 1))
-//! Ipv4Cidr::from_compact(&[24, 192, 0])   // Err(Truncated)
+//! network.to_compact() // [24, 192, 0, 2, 0]
+//! Ipv4Cidr::from_compact(&[8, 10, 0, 0, 0, 99]) // Ok((10.0.0.0/8, 5))
+//! AnyIpCidr::from_compact(&[0xff]) // Ok((Any, 1))
+//! Ipv4Cidr::from_compact(&[24, 192, 0]) // Err(compact bytes end too early)
 //! ```
 //!
-//! A tag of 0x00 to 0x20 is an IPv4 prefix length, one of 0x40 to 0xc0 an IPv6 prefix length and 0x40, and 0xff is
-//! `any`. No value's bytes begin with those of another value of its type.
-//!
-//! # Prefix bytes
-//!
-//! `PrefixBytes` writes networks of one family as routing protocols do: the prefix length and then no more octets than
-//! hold the prefix.
+//! `PrefixBytes` writes networks of one family as BGP-4 does (RFC 4271, 4.3): the prefix length and then no more octets
+//! than hold the prefix. Bits after the prefix are ignored.
 //!
 //! ```
 //! let network = "192.0.2.128/25".parse::<Ipv4Cidr>()?;
-//! network.to_prefix_bytes()               // 25, 192, 0, 2, 128
-//! Ipv4Cidr::from_prefix_bytes(&[9, 10, 255, 8])   // Ok((10.128.0.0/9, 3)): bits after the prefix are free
-//! Ipv4Cidr::from_prefix_bytes(&[33])      // Err(LengthTooLong)
-//! Ipv6Cidr::from_prefix_bytes(&[128, 0])  // Err(Truncated)
+//! network.to_prefix_bytes() // [25, 192, 0, 2, 128]
+//! Ipv4Cidr::from_prefix_bytes(&[9, 10, 255, 8]) // Ok((10.128.0.0/9, 3))
+//! Ipv4Cidr::from_prefix_bytes(&[33]) // Err(prefix length is too long)
+//! Ipv6Cidr::from_prefix_bytes(&[128, 0]) // Err(prefix bytes end too early)
 //! ```
 //!
-//! # What is refused
+//! # The order of errors
 //!
-//! Reading the text of a network returns the first of these errors, which the contracts state in this order:
+//! Parsing a network returns the first of these errors:
 //!
-//! 1. `AddrParseError`: what stands before the last slash, or the whole text without one, is no address.
+//! 1. `AddrParseError`: what stands before the last slash, or the whole string without one, is no address.
 //! 2. `NetworkLengthParseError`: what stands after it is no prefix length: an optional `+` and decimal digits of
 //!    a value up to 255.
 //! 3. `NetworkLengthTooLongError`: the prefix length is above 32 or 128.
-//! 4. `InvalidHostPart`: a bit after the prefix is set. The text of a host is never refused for this.
+//! 4. `InvalidHostPart`: a bit after the prefix is set. A host is never rejected for this.
 //!
-//! An address alone is a network or a host of full prefix length. In either family, the first error is that of
-//! the family that has the address. `new` of a network returns the errors 3 and 4, in this order, and `new` of a
-//! host returns error 3. A pair from addresses is refused for two families, then for error 3, then where the
-//! prefixes differ; a pair of hosts for two families, two prefix lengths or two networks.
+//! A string without a slash is a network or a host of full prefix length. In either family, the first error is that of
+//! the family that has the address. `new` of a network returns the errors 3 and 4, in this order, and `new` of a host
+//! error 3. A pair from addresses is rejected for two families, then for error 3, then where the prefixes differ; a
+//! pair of hosts for two families, two prefix lengths or two networks.
 //!
-//! Reading compact bytes returns the first of these errors: no byte (`Truncated`), `InvalidTag`, too few octets
-//! (`Truncated`), `InvalidAny`, `InvalidFamily`, `InvalidHostPart`. The last is of networks alone.
-//!
-//! Reading prefix bytes returns the first of these errors: no byte (`Truncated`), `LengthTooLong`, too few octets
+//! Compact bytes: no byte (`Truncated`), `InvalidTag`, too few octets (`Truncated`), `InvalidAny`, `InvalidFamily`,
+//! and of networks `InvalidHostPart`. Prefix bytes: no byte (`Truncated`), `LengthTooLong`, too few octets
 //! (`Truncated`).
 //!
-//! These calls have a condition on their caller: `+` and `-` on hosts, whose step has to stay in the network;
-//! `drive`, whose two slices have to be of one length; `get`, `set` and `flip` of a bit, whose index has to be below
-//! the length; `append`, which needs room; and the parsers, whose closures can be called for every text.
+//! # Conditions on the caller
+//!
+//! Few calls have one: `+` and `-` on hosts, whose step has to stay in the network; `drive`, whose two slices have to
+//! be of one length; `get`, `set` and `flip` of a bit, whose index has to be below the length; `append`, which needs
+//! room; and the parsers, whose function for the address has to be callable for every string.
 #![tactic(auto)]
 
 mod addr;

@@ -16,7 +16,7 @@ pub enum NumberOfAddresses {
 }
 
 impl NumberOfAddresses {
-    /// How many there are from the first to the last, both counted: none where the first is above the last.
+    /// How many there are from the first to the last, inclusive: none where the first is above the last.
     pub(crate) fn between(first: Halves, last: Halves) -> NumberOfAddresses
         ensures { number_of result ≡ last + 1 - first }
     {

@@ -1,14 +1,14 @@
-//! Readers of texts in other forms than `FromStr` reads.
+//! Parsers of strings in other forms than `FromStr` parses.
 //!
-//! `FromStr` reads strictly. The parsers with `cidr` and `inet` in their names take a parser of the address, which is
-//! `FromStr` of an address, one of the loose readers, or one of your own: it is asked for what stands before the last
-//! slash of a text, or for the whole text where there is none. The `full` forms have a second parser for texts with no
-//! slash; those with `ignore_hostbits` take a set bit after the prefix, and give the network that holds the address;
-//! those with `any` know `any`.
+//! `FromStr` is strict. The parsers with `cidr` and `inet` in their names take a parser of the address, as
+//! `Ipv4Addr::from_str` or a closure around one of the loose parsers or around your own: it gets what precedes the last
+//! slash of a string, or the whole string where there is none. The `full` forms have a second parser for strings with
+//! no slash; those with `ignore_hostbits` ignore set bits after the prefix, and return the network that has the
+//! address; those with `any` know `any`.
 //!
-//! The loose readers take IPv4 addresses as POSIX `inet_addr` has them, the short ones the first octets of a network.
+//! The loose parsers take IPv4 addresses as POSIX `inet_addr` has them, the short ones the first octets of a network.
 
-pub(crate) mod any;
+mod any;
 mod hosts;
 mod ignore_hostbits;
 mod loose;

@@ -16,24 +16,35 @@ mod octets;
 /// multiprotocol extensions (RFC 4760, section 5).
 ///
 /// The prefix length in bits comes first, in one octet, and then as many octets as hold the prefix, the first bits
-/// first: 192.0.2.128/25 is 25, 192, 0, 2, 128, and 0.0.0.0/0 is 0 alone. The family isn't written, so that networks
-/// of either family have no such bytes.
+/// first; 0.0.0.0/0 has no octet but the length. The family isn't written, so that networks of either family have no
+/// such bytes.
 pub trait PrefixBytes: NetworkBits {
     /// The number of bits of an address, which no prefix length passes.
     ghost width: { ℕ };
 
     /// The prefix bytes, at most 5 in IPv4 and 17 in IPv6. The bits of the last octet after the prefix are zero.
     ///
-    /// `from_prefix_bytes` reads them, with anything after them, as this network and exactly their number.
+    /// `from_prefix_bytes` parses them, with anything after them, as this network and exactly their number.
+    ///
+    /// ```
+    /// "10.0.0.0/8".parse::<Ipv4Cidr>()?.to_prefix_bytes() // [8, 10]
+    /// "2001::/16".parse::<Ipv6Cidr>()?.to_prefix_bytes() // [16, 32, 1]
+    /// ```
     fn to_prefix_bytes(&self) -> ArrayVec<u8, 17>
         ensures bytes { result.items ≡ prefix_bytes (Self.bits self.now) }
         ensures spells { SpellsPrefix width result.items (Self.bits self.now) };
 
-    /// The network whose prefix bytes come first, and how many they are. Bytes after them are left alone, and so are
-    /// the bits of the last octet after the prefix.
+    /// The network whose prefix bytes come first, and how many they are. The bytes after them are ignored, and so are
+    /// the bits of the last octet after the prefix (RFC 4271, section 4.3: their value is irrelevant).
     ///
     /// Where no network's bytes come first, it returns the first error of: no byte (`Truncated`), `LengthTooLong`, too
     /// few octets (`Truncated`).
+    ///
+    /// ```
+    /// Ipv4Cidr::from_prefix_bytes(&[9, 10, 255, 8]) // Ok((10.128.0.0/9, 3))
+    /// Ipv4Cidr::from_prefix_bytes(&[33]) // Err(prefix length is too long)
+    /// Ipv6Cidr::from_prefix_bytes(&[128, 0]) // Err(prefix bytes end too early)
+    /// ```
     fn from_prefix_bytes(bytes: &[u8]) -> Result<(Self, usize), PrefixBytesError>
         ensures { ReadsPrefix width bytes.now (seen (λ read. (Self.bits read.0, read.1)) result) };
 }

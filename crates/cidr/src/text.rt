@@ -1,4 +1,4 @@
-//! Reading and printing what the texts of networks, hosts and pairs have in common.
+//! Parsing and printing what the strings of networks, hosts and pairs have in common.
 
 pub(crate) mod print;
 pub(crate) mod read;

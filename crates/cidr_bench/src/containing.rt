@@ -1,162 +1,102 @@
 //! Whether a network contains an address or another network.
 
-use crate::bench::{Bench, Work};
+use crate::bench::{Bench, Call2, Pairs};
 use crate::masked::{AnyMasked, Masked, Number, any_masked, ip_number, ipv4_masked, ipv6_masked};
 use crate::networks::{
     any_networks, ip_addresses, ipv4_addresses, ipv4_networks, ipv6_addresses, ipv6_networks,
 };
-use crate::values::{CALLS, COUNT, ipv4_address, ipv6_address, mixed, partner};
-use cidr::{AnyIpCidr, IpAddr, Ipv4Addr, Ipv4Cidr, Ipv6Addr, Ipv6Cidr};
+use crate::values::{COUNT, ipv4_address, ipv6_address};
+use cidr::{AnyIpCidr, Cidr, IpAddr, Ipv4Cidr};
 use std::array::from_fn;
 use std::io;
 
+#[derive(Drop)]
+struct Contains;
+
+impl<C: Cidr> Call2<C, C::Address> for Contains {
+    fn number(&self, network: &C, address: &C::Address) -> u32 {
+        u32::from(network.contains(address))
+    }
+}
+
+#[derive(Drop)]
+struct AnyContains;
+
+impl Call2<AnyIpCidr, IpAddr> for AnyContains {
+    fn number(&self, network: &AnyIpCidr, address: &IpAddr) -> u32 {
+        u32::from(network.contains(address))
+    }
+}
+
+#[derive(Drop)]
+struct ContainsCidr;
+
+impl Call2<Ipv4Cidr, Ipv4Cidr> for ContainsCidr {
+    fn number(&self, outer: &Ipv4Cidr, inner: &Ipv4Cidr) -> u32 {
+        u32::from(outer.contains_cidr(inner))
+    }
+}
+
+/// Compares by the mask.
+#[derive(Drop)]
+struct ByMask;
+
+impl Call2<Masked<u32>, u32> for ByMask {
+    fn number(&self, network: &Masked<u32>, address: &u32) -> u32 {
+        u32::from(*address & network.mask == network.first)
+    }
+}
+
+impl Call2<Masked<u128>, u128> for ByMask {
+    fn number(&self, network: &Masked<u128>, address: &u128) -> u32 {
+        u32::from(*address & network.mask == network.first)
+    }
+}
+
+impl Call2<AnyMasked, Number> for ByMask {
+    fn number(&self, network: &AnyMasked, address: &Number) -> u32 {
+        match (network, address) {
+            (AnyMasked::Any, _) => 1,
+            (AnyMasked::V4(network), Number::V4(address)) => self.number(network, address),
+            (AnyMasked::V6(network), Number::V6(address)) => self.number(network, address),
+            _ => 0,
+        }
+    }
+}
+
+impl Call2<Masked<u32>, Masked<u32>> for ByMask {
+    fn number(&self, outer: &Masked<u32>, inner: &Masked<u32>) -> u32 {
+        u32::from(outer.mask <= inner.mask && inner.first & outer.mask == outer.first)
+    }
+}
+
 /// Times whether a network contains an address or another network.
 pub fn compare_all(bench: &Bench<'_>) -> io::Result<()> {
-    bench.compare::<ContainsIpv4>()?;
-    bench.compare::<ContainsIpv6>()?;
-    bench.compare::<ContainsAny>()?;
-    bench.compare::<ContainsCidrIpv4>()
-}
-
-/// A network that says of an address, or of another network, whether it contains it.
-trait Holds<T> {
-    fn holds(&self, value: &T) -> bool;
-}
-
-/// Asks each network about a value in a round.
-#[inline(never)]
-fn ask_each<N: Holds<T>, T>(networks: &[N; COUNT], values: &[T; COUNT], rounds: u32) -> u32 {
-    let mut sum = 0;
-    for round in 0..rounds {
-        for (index, network) in networks.iter().enumerate() {
-            let holds = network.holds(&values[partner(round, index)]);
-            sum = mixed(sum, u32::from(holds));
-        }
-    }
-    sum
-}
-
-impl Holds<Ipv4Addr> for Ipv4Cidr {
-    fn holds(&self, value: &Ipv4Addr) -> bool {
-        self.contains(value)
-    }
-}
-
-impl Holds<u32> for Masked<u32> {
-    fn holds(&self, value: &u32) -> bool {
-        *value & self.mask == self.first
-    }
-}
-
-struct ContainsIpv4;
-
-impl Work for ContainsIpv4 {
-    const NAME: &'static str = "contains IPv4";
-
-    const CALLS: u32 = CALLS;
-
-    fn by_library(rounds: u32) -> u32 {
-        ask_each(&ipv4_networks(), &ipv4_addresses(), rounds)
-    }
-
-    fn plainly(rounds: u32) -> u32 {
-        let networks: [Masked<u32>; COUNT] = from_fn(ipv4_masked);
-        let addresses: [u32; COUNT] = from_fn(ipv4_address);
-        ask_each(&networks, &addresses, rounds)
-    }
-}
-
-impl Holds<Ipv6Addr> for Ipv6Cidr {
-    fn holds(&self, value: &Ipv6Addr) -> bool {
-        self.contains(value)
-    }
-}
-
-impl Holds<u128> for Masked<u128> {
-    fn holds(&self, value: &u128) -> bool {
-        *value & self.mask == self.first
-    }
-}
-
-struct ContainsIpv6;
-
-impl Work for ContainsIpv6 {
-    const NAME: &'static str = "contains IPv6";
-
-    const CALLS: u32 = CALLS;
-
-    fn by_library(rounds: u32) -> u32 {
-        ask_each(&ipv6_networks(), &ipv6_addresses(), rounds)
-    }
-
-    fn plainly(rounds: u32) -> u32 {
-        let networks: [Masked<u128>; COUNT] = from_fn(ipv6_masked);
-        let addresses: [u128; COUNT] = from_fn(ipv6_address);
-        ask_each(&networks, &addresses, rounds)
-    }
-}
-
-impl Holds<IpAddr> for AnyIpCidr {
-    fn holds(&self, value: &IpAddr) -> bool {
-        self.contains(value)
-    }
-}
-
-impl Holds<Number> for AnyMasked {
-    fn holds(&self, value: &Number) -> bool {
-        match (self, value) {
-            (AnyMasked::Any, _) => true,
-            (AnyMasked::V4(network), Number::V4(address)) => network.holds(address),
-            (AnyMasked::V6(network), Number::V6(address)) => network.holds(address),
-            _ => false,
-        }
-    }
-}
-
-struct ContainsAny;
-
-impl Work for ContainsAny {
-    const NAME: &'static str = "contains AnyIpCidr";
-
-    const CALLS: u32 = CALLS;
-
-    fn by_library(rounds: u32) -> u32 {
-        ask_each(&any_networks(), &ip_addresses(), rounds)
-    }
-
-    fn plainly(rounds: u32) -> u32 {
-        let networks: [AnyMasked; COUNT] = from_fn(any_masked);
-        let addresses: [Number; COUNT] = from_fn(ip_number);
-        ask_each(&networks, &addresses, rounds)
-    }
-}
-
-impl Holds<Ipv4Cidr> for Ipv4Cidr {
-    fn holds(&self, value: &Ipv4Cidr) -> bool {
-        self.contains_cidr(value)
-    }
-}
-
-impl Holds<Masked<u32>> for Masked<u32> {
-    fn holds(&self, value: &Masked<u32>) -> bool {
-        self.mask <= value.mask && value.first & self.mask == self.first
-    }
-}
-
-struct ContainsCidrIpv4;
-
-impl Work for ContainsCidrIpv4 {
-    const NAME: &'static str = "contains_cidr IPv4";
-
-    const CALLS: u32 = CALLS;
-
-    fn by_library(rounds: u32) -> u32 {
-        let networks = ipv4_networks();
-        ask_each(&networks, &networks, rounds)
-    }
-
-    fn plainly(rounds: u32) -> u32 {
-        let networks: [Masked<u32>; COUNT] = from_fn(ipv4_masked);
-        ask_each(&networks, &networks, rounds)
-    }
+    let (v4, v6) = (ipv4_networks(), ipv6_networks());
+    let masked_v4: [Masked<u32>; COUNT] = from_fn(ipv4_masked);
+    let masked_v6: [Masked<u128>; COUNT] = from_fn(ipv6_masked);
+    let masked_any: [AnyMasked; COUNT] = from_fn(any_masked);
+    let numbers_v4: [u32; COUNT] = from_fn(ipv4_address);
+    let numbers_v6: [u128; COUNT] = from_fn(ipv6_address);
+    let numbers: [Number; COUNT] = from_fn(ip_number);
+    bench.compare(
+        "contains IPv4",
+        Pairs(Contains, &v4, &ipv4_addresses()),
+        Pairs(ByMask, &masked_v4, &numbers_v4),
+    )?;
+    bench.compare(
+        "contains IPv6",
+        Pairs(Contains, &v6, &ipv6_addresses()),
+        Pairs(ByMask, &masked_v6, &numbers_v6),
+    )?;
+    bench.compare(
+        "contains AnyIpCidr",
+        Pairs(AnyContains, &any_networks(), &ip_addresses()),
+        Pairs(ByMask, &masked_any, &numbers),
+    )?;
+    bench.compare(
+        "contains_cidr IPv4",
+        Pairs(ContainsCidr, &v4, &v4),
+        Pairs(ByMask, &masked_v4, &masked_v4),
+    )
 }

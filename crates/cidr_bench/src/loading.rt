@@ -1,41 +1,15 @@
 //! Loading a table from prefix bytes, beside a sort of as many numbers.
 ghost use Rattle.std.specs.Prelude.{◌≤◌};
 
-use crate::bench::Bench;
-use crate::values::{mixed, next};
+use crate::bench::{Bench, Work};
+use crate::values::{mixed, random, random_ipv4};
 use cidr::Ipv4Cidr;
 use cidr_table::LpmTable;
 use std::alloc::{AllocError, Global};
 use std::io;
-use std::time::Instant;
 
 /// How many prefixes the list has, about as many as the routing table of the whole Internet.
-const PREFIXES: u32 = 900_000;
-
-/// Times loading a list in no order, a sort of the same addresses and prefix lengths by std in its place.
-pub fn compare_all(bench: &Bench<'_>) -> io::Result<()> {
-    let name = "load a table";
-    if !name.contains(bench.row) {
-        return Ok(());
-    }
-    let rt = bench.rt;
-    let Ok(list) = List::new(rt.alloc()) else {
-        return println!(rt; "{name}: no memory");
-    };
-    let mut library = 0;
-    let start = Instant::now(rt)?;
-    for _ in 0..bench.rounds {
-        library = mixed(library, loaded(rt.alloc(), list.bytes.as_slice()));
-    }
-    let library_time = start.elapsed(rt)?.as_nanos();
-    let mut plain = 0;
-    let start = Instant::now(rt)?;
-    for _ in 0..bench.rounds {
-        plain = mixed(plain, sorted(rt.alloc(), list.numbers.as_slice()));
-    }
-    let plain_time = start.elapsed(rt)?.as_nanos();
-    bench.print(name, PREFIXES, library_time, plain_time, library == plain)
-}
+const PREFIXES: usize = 900_000;
 
 /// The prefixes as bytes, and as addresses and prefix lengths.
 #[derive(Drop)]
@@ -51,9 +25,9 @@ impl List {
             bytes: Vec::new(alloc),
             numbers: Vec::new(alloc),
         };
-        let mut state = 5;
-        for _ in 0..PREFIXES {
-            list.push(next(&mut state), (8 + next(&mut state) % 17) as u8)?;
+        for index in 0..PREFIXES {
+            let len = (8 + random(index ^ 0x2000_0000) % 17) as u8;
+            list.push(random_ipv4(index), len)?;
         }
         Ok(list)
     }
@@ -77,17 +51,49 @@ impl List {
     }
 }
 
-/// The number of networks that are loaded.
-#[inline(never)]
-fn loaded(alloc: Global, bytes: &[u8]) -> u32 {
-    match LpmTable::<Ipv4Cidr, usize>::load(alloc, bytes) {
-        Ok(table) => (table.len() % 4_294_967_296) as u32,
-        Err(_) => 0,
+/// Loads a table from the bytes.
+#[derive(Drop)]
+struct Load<'a>(Global, &'a [u8]);
+
+impl Work for Load<'_> {
+    fn calls(&self) -> usize {
+        PREFIXES
+    }
+
+    #[inline(never)]
+    fn run(&mut self, rounds: u32) -> u32 {
+        let mut sum = 0;
+        for _ in 0..rounds {
+            let rows = match LpmTable::<Ipv4Cidr, usize>::load(self.0, self.1) {
+                Ok(table) => table.len(),
+                Err(_) => 0,
+            };
+            sum = mixed(sum, (rows % 4_294_967_296) as u32);
+        }
+        sum
+    }
+}
+
+/// Sorts pairs, and counts those that differ from the next.
+#[derive(Drop)]
+struct Sort<'a>(Global, &'a [(u32, u8)]);
+
+impl Work for Sort<'_> {
+    fn calls(&self) -> usize {
+        PREFIXES
+    }
+
+    #[inline(never)]
+    fn run(&mut self, rounds: u32) -> u32 {
+        let mut sum = 0;
+        for _ in 0..rounds {
+            sum = mixed(sum, sorted(self.0, self.1));
+        }
+        sum
     }
 }
 
 /// The number of pairs that differ from the next, after a sort.
-#[inline(never)]
 fn sorted(alloc: Global, numbers: &[(u32, u8)]) -> u32 {
     let mut pairs = Vec::new(alloc);
     if pairs.extend_from_slice(numbers).is_err() {
@@ -103,4 +109,19 @@ fn sorted(alloc: Global, numbers: &[(u32, u8)]) -> u32 {
         }
     }
     count
+}
+
+/// Times loading a list in no order, and beside it a sort of the same addresses and prefix lengths in its place.
+pub fn compare_all(bench: &Bench<'_>) -> io::Result<()> {
+    let name = "load a table";
+    if bench.quiet || !bench.wants(name) {
+        return Ok(());
+    }
+    let alloc = bench.rt.alloc();
+    let list = List::new(alloc)?;
+    bench.compare(
+        name,
+        Load(alloc, list.bytes.as_slice()),
+        Sort(alloc, list.numbers.as_slice()),
+    )
 }

@@ -1,152 +1,79 @@
 //! Which of two networks comes first, alone and in a sort.
 
-use crate::bench::{Bench, Work};
+use crate::bench::{Bench, Call2, Pairs};
 use crate::networks::{any_networks, ipv4_networks, ipv6_networks};
-use crate::values::{CALLS, COUNT, ipv4_network, ipv6_network, is_ipv4, mixed, partner};
+use crate::values::{COUNT, ipv4_network, ipv6_network, is_ipv4, partner, random_ipv4};
+use cidr::AnyIpCidr;
 use std::array::from_fn;
 use std::io;
 
-/// Times the order of two values, and a sort.
-pub fn compare_all(bench: &Bench<'_>) -> io::Result<()> {
-    bench.compare::<CmpIpv4>()?;
-    bench.compare::<CmpIpv6>()?;
-    bench.compare::<CmpAny>()?;
-    bench.compare::<SortIpv4>()?;
-    bench.compare::<SortIpv6>()?;
-    bench.compare::<SortAny>()
-}
+/// Whether one value comes before another, as a sort or a search asks it.
+#[derive(Drop)]
+struct Cmp;
 
-/// Whether each value comes before another one in a round, as a sort or a search asks it.
-#[inline(never)]
-fn cmp_each<T: Ord>(values: &[T; COUNT], rounds: u32) -> u32 {
-    let mut sum = 0;
-    for round in 0..rounds {
-        for (index, value) in values.iter().enumerate() {
-            let order = value.cmp(&values[partner(round, index)]);
-            sum = mixed(sum, u32::from(order.is_lt()));
-        }
-    }
-    sum
-}
-
-struct CmpIpv4;
-
-impl Work for CmpIpv4 {
-    const NAME: &'static str = "cmp IPv4";
-
-    const CALLS: u32 = CALLS;
-
-    fn by_library(rounds: u32) -> u32 {
-        cmp_each(&ipv4_networks(), rounds)
-    }
-
-    fn plainly(rounds: u32) -> u32 {
-        let networks: [(u32, u8); COUNT] = from_fn(ipv4_network);
-        cmp_each(&networks, rounds)
+impl<T: Ord> Call2<T, T> for Cmp {
+    fn number(&self, one: &T, other: &T) -> u32 {
+        u32::from(one.cmp(other).is_lt())
     }
 }
 
-struct CmpIpv6;
+/// Sorts values from another order, and looks one of them up.
+#[derive(Drop)]
+struct Sort;
 
-impl Work for CmpIpv6 {
-    const NAME: &'static str = "cmp IPv6";
-
-    const CALLS: u32 = CALLS;
-
-    fn by_library(rounds: u32) -> u32 {
-        cmp_each(&ipv6_networks(), rounds)
-    }
-
-    fn plainly(rounds: u32) -> u32 {
-        let networks: [(u128, u8); COUNT] = from_fn(ipv6_network);
-        cmp_each(&networks, rounds)
-    }
-}
-
-struct CmpAny;
-
-impl Work for CmpAny {
-    const NAME: &'static str = "cmp AnyIpCidr";
-
-    const CALLS: u32 = CALLS;
-
-    fn by_library(rounds: u32) -> u32 {
-        cmp_each(&any_networks(), rounds)
-    }
-
-    fn plainly(rounds: u32) -> u32 {
-        let networks: [(u8, u128, u8); COUNT] = from_fn(any_key);
-        cmp_each(&networks, rounds)
-    }
-}
-
-/// Sorts the values in a round, each time from another order, and looks one of them up.
-#[inline(never)]
-fn sort_each<T: Ord + Copy>(values: &[T; COUNT], rounds: u32) -> u32 {
-    let mut sum = 0;
-    for round in 0..rounds {
+impl<T: Ord + Copy> Call2<u32, [T; COUNT]> for Sort {
+    fn number(&self, order: &u32, values: &[T; COUNT]) -> u32 {
         let mut sorted = *values;
         for (index, place) in sorted.iter_mut().enumerate() {
-            *place = values[partner(round, index)];
+            *place = values[partner(*order, index)];
         }
         sorted.sort_unstable();
         let found = sorted
-            .binary_search(&values[partner(round, 0)])
+            .binary_search(&values[partner(*order, 0)])
             .unwrap_or(COUNT);
-        sum = mixed(sum, found as u32 & 63);
-    }
-    sum
-}
-
-struct SortIpv4;
-
-impl Work for SortIpv4 {
-    const NAME: &'static str = "sort IPv4";
-
-    const CALLS: u32 = CALLS;
-
-    fn by_library(rounds: u32) -> u32 {
-        sort_each(&ipv4_networks(), rounds)
-    }
-
-    fn plainly(rounds: u32) -> u32 {
-        let networks: [(u32, u8); COUNT] = from_fn(ipv4_network);
-        sort_each(&networks, rounds)
+        found as u32 & 63
     }
 }
 
-struct SortIpv6;
-
-impl Work for SortIpv6 {
-    const NAME: &'static str = "sort IPv6";
-
-    const CALLS: u32 = CALLS;
-
-    fn by_library(rounds: u32) -> u32 {
-        sort_each(&ipv6_networks(), rounds)
-    }
-
-    fn plainly(rounds: u32) -> u32 {
-        let networks: [(u128, u8); COUNT] = from_fn(ipv6_network);
-        sort_each(&networks, rounds)
-    }
-}
-
-struct SortAny;
-
-impl Work for SortAny {
-    const NAME: &'static str = "sort AnyIpCidr";
-
-    const CALLS: u32 = CALLS;
-
-    fn by_library(rounds: u32) -> u32 {
-        sort_each(&any_networks(), rounds)
-    }
-
-    fn plainly(rounds: u32) -> u32 {
-        let networks: [(u8, u128, u8); COUNT] = from_fn(any_key);
-        sort_each(&networks, rounds)
-    }
+/// Times the order of two values, and a sort.
+pub fn compare_all(bench: &Bench<'_>) -> io::Result<()> {
+    let (v4, v6, any) = (ipv4_networks(), ipv6_networks(), any_networks());
+    let plain_v4: [(u32, u8); COUNT] = from_fn(ipv4_network);
+    let plain_v6: [(u128, u8); COUNT] = from_fn(ipv6_network);
+    let plain_any: [(u8, u128, u8); COUNT] = from_fn(any_key);
+    bench.compare(
+        "cmp IPv4",
+        Pairs(Cmp, &v4, &v4),
+        Pairs(Cmp, &plain_v4, &plain_v4),
+    )?;
+    bench.compare(
+        "cmp IPv6",
+        Pairs(Cmp, &v6, &v6),
+        Pairs(Cmp, &plain_v6, &plain_v6),
+    )?;
+    bench.compare(
+        "cmp AnyIpCidr",
+        Pairs(Cmp, &any, &any),
+        Pairs(Cmp, &plain_any, &plain_any),
+    )?;
+    let anys: [[AnyIpCidr; COUNT]; COUNT] = from_fn(|_| any_networks());
+    let orders: [u32; COUNT] = from_fn(random_ipv4);
+    let bench = &bench.slower(16);
+    bench.compare(
+        "sort 64 IPv4",
+        Pairs(Sort, &orders, &[v4; COUNT]),
+        Pairs(Sort, &orders, &[plain_v4; COUNT]),
+    )?;
+    bench.compare(
+        "sort 64 IPv6",
+        Pairs(Sort, &orders, &[v6; COUNT]),
+        Pairs(Sort, &orders, &[plain_v6; COUNT]),
+    )?;
+    bench.compare(
+        "sort 64 AnyIpCidr",
+        Pairs(Sort, &orders, &anys),
+        Pairs(Sort, &orders, &[plain_any; COUNT]),
+    )
 }
 
 /// Numbers that are ordered as the networks of `any_networks`: the family, the first number and the length.

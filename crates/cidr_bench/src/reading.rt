@@ -1,222 +1,218 @@
-//! Reading addresses and networks.
+//! Reading addresses, networks and hosts.
 
-use crate::bench::{Bench, Work};
+use crate::bench::{Bench, Call, Each};
 use crate::masked::{ipv4_mask, ipv6_mask};
-use crate::texts;
-use crate::values::{low, mixed};
-use cidr::{IpAddr, IpCidr, Ipv4Addr, Ipv4Cidr, Ipv6Addr, Ipv6Cidr};
+use crate::numbers::{Number, with_length};
+use crate::samples::Sample;
+use crate::values::MANY;
+use arrayvec::ArrayString;
+use cidr::parsers::parse_cidr_ignore_hostbits;
+use cidr::{AnyIpCidr, IpAddr, IpCidr, Ipv4Addr, Ipv4Cidr, Ipv4Inet, Ipv6Addr, Ipv6Cidr, Ipv6Inet};
+use std::array::from_fn;
+use std::marker::PhantomData;
+use std::str::FromStr;
 use std::{io, net};
 
-/// How many texts are read in a round.
-const CALLS: u32 = 8;
+/// A text that is read.
+type Text = ArrayString<43>;
 
-/// Times reading.
-pub fn compare_all(bench: &Bench<'_>) -> io::Result<()> {
-    bench.compare::<ReadIpv4Address>()?;
-    bench.compare::<ReadIpv6Address>()?;
-    bench.compare::<ReadIpv4Network>()?;
-    bench.compare::<ReadIpv6Network>()?;
-    bench.compare::<ReadEitherNetwork>()
+/// Reads a text as a value of type `T`.
+#[derive(Drop)]
+struct Read<T>(PhantomData<T>);
+
+impl<T: FromStr<Err: Drop> + Number + Drop> Call<Text> for Read<T> {
+    fn number(&self, text: &Text) -> u32 {
+        text.as_str().parse::<T>().ok().number()
+    }
 }
 
-/// A way to read a text. The result hangs on what is read.
-trait Reader {
-    fn read(text: &str) -> Option<u32>;
+/// Reads an IPv4 network, and clears set bits after the prefix.
+#[derive(Drop)]
+struct ClearHostBits;
+
+impl Call<Text> for ClearHostBits {
+    fn number(&self, text: &Text) -> u32 {
+        let parser = |address: &str| address.parse::<Ipv4Addr>();
+        let network = parse_cidr_ignore_hostbits::<Ipv4Cidr, _>(text.as_str(), parser);
+        network.ok().number()
+    }
 }
 
-/// Reads each text in a round.
-#[inline(never)]
-fn read_each<R: Reader>(texts: &[&str; texts::COUNT], rounds: u32) -> u32 {
-    let mut sum = 0;
-    for _ in 0..rounds {
-        for text in texts {
-            sum = mixed(sum, R::read(text).unwrap_or(1));
+/// What becomes of set bits after the prefix.
+#[derive(Clone, Copy)]
+enum HostBits {
+    Refused,
+    Kept,
+    Cleared,
+}
+
+/// An address of the standard library.
+trait PlainAddress: FromStr<Err: Drop> + Number + Drop {
+    /// The number of the first address of its network, where it has a network of this prefix length.
+    fn first(&self, len: u8) -> Option<u32>;
+}
+
+impl PlainAddress for net::Ipv4Addr {
+    fn first(&self, len: u8) -> Option<u32> {
+        (len <= 32).then_some(self.to_bits() & ipv4_mask(len))
+    }
+}
+
+impl PlainAddress for net::Ipv6Addr {
+    fn first(&self, len: u8) -> Option<u32> {
+        let first = net::Ipv6Addr::from_bits(self.to_bits() & ipv6_mask(len));
+        (len <= 128).then_some(first.number())
+    }
+}
+
+impl PlainAddress for net::IpAddr {
+    fn first(&self, len: u8) -> Option<u32> {
+        match self {
+            net::IpAddr::V4(address) => address.first(len),
+            net::IpAddr::V6(address) => address.first(len),
         }
     }
-    sum
 }
 
-/// One number out of a network's first number and length.
-fn told(first: u32, len: u8) -> u32 {
-    first ^ u32::from(len)
-}
+/// Reads a network or a host by the standard library's addresses and a mask.
+#[derive(Drop)]
+struct PlainRead<A>(PhantomData<A>, HostBits);
 
-impl Reader for Ipv4Addr {
-    fn read(text: &str) -> Option<u32> {
-        Some(text.parse::<Ipv4Addr>().ok()?.to_bits())
-    }
-}
-
-impl Reader for net::Ipv4Addr {
-    fn read(text: &str) -> Option<u32> {
-        Some(text.parse::<net::Ipv4Addr>().ok()?.to_bits())
-    }
-}
-
-struct ReadIpv4Address;
-
-impl Work for ReadIpv4Address {
-    const NAME: &'static str = "read IPv4 address";
-
-    const CALLS: u32 = CALLS;
-
-    fn by_library(rounds: u32) -> u32 {
-        read_each::<Ipv4Addr>(&texts::IPV4_ADDRESSES, rounds)
-    }
-
-    fn plainly(rounds: u32) -> u32 {
-        read_each::<net::Ipv4Addr>(&texts::IPV4_ADDRESSES, rounds)
-    }
-}
-
-impl Reader for Ipv6Addr {
-    fn read(text: &str) -> Option<u32> {
-        Some(low(text.parse::<Ipv6Addr>().ok()?.to_bits()))
-    }
-}
-
-impl Reader for net::Ipv6Addr {
-    fn read(text: &str) -> Option<u32> {
-        Some(low(text.parse::<net::Ipv6Addr>().ok()?.to_bits()))
-    }
-}
-
-struct ReadIpv6Address;
-
-impl Work for ReadIpv6Address {
-    const NAME: &'static str = "read IPv6 address";
-
-    const CALLS: u32 = CALLS;
-
-    fn by_library(rounds: u32) -> u32 {
-        read_each::<Ipv6Addr>(&texts::IPV6_ADDRESSES, rounds)
-    }
-
-    fn plainly(rounds: u32) -> u32 {
-        read_each::<net::Ipv6Addr>(&texts::IPV6_ADDRESSES, rounds)
-    }
-}
-
-impl Reader for Ipv4Cidr {
-    fn read(text: &str) -> Option<u32> {
-        let network = text.parse::<Ipv4Cidr>().ok()?;
-        let first = network.first_address().to_bits();
-        Some(told(first, network.network_length()))
-    }
-}
-
-impl Reader for Ipv6Cidr {
-    fn read(text: &str) -> Option<u32> {
-        let network = text.parse::<Ipv6Cidr>().ok()?;
-        let first = low(network.first_address().to_bits());
-        Some(told(first, network.network_length()))
-    }
-}
-
-impl Reader for IpCidr {
-    fn read(text: &str) -> Option<u32> {
-        let network = text.parse::<IpCidr>().ok()?;
-        let first = match network.first_address() {
-            IpAddr::V4(first) => first.to_bits(),
-            IpAddr::V6(first) => low(first.to_bits()),
-        };
-        Some(told(first, network.network_length()))
-    }
-}
-
-/// A network by the standard library's addresses and a mask.
-struct Plain<A>(A);
-
-/// Checks a length and the bits behind it.
-fn ipv4_told(first: u32, len: u8) -> Option<u32> {
-    if len <= 32 && first & !ipv4_mask(len) == 0 {
-        Some(told(first, len))
-    } else {
-        None
-    }
-}
-
-/// The same of IPv6.
-fn ipv6_told(first: u128, len: u8) -> Option<u32> {
-    if len <= 128 && first & !ipv6_mask(len) == 0 {
-        Some(told(low(first), len))
-    } else {
-        None
-    }
-}
-
-impl Reader for Plain<net::Ipv4Addr> {
-    fn read(text: &str) -> Option<u32> {
+impl<A: PlainAddress> PlainRead<A> {
+    fn read(&self, text: &str) -> Option<u32> {
         let (front, back) = text.split_once('/')?;
-        let first = front.parse::<net::Ipv4Addr>().ok()?.to_bits();
-        ipv4_told(first, back.parse::<u8>().ok()?)
-    }
-}
-
-impl Reader for Plain<net::Ipv6Addr> {
-    fn read(text: &str) -> Option<u32> {
-        let (front, back) = text.split_once('/')?;
-        let first = front.parse::<net::Ipv6Addr>().ok()?.to_bits();
-        ipv6_told(first, back.parse::<u8>().ok()?)
-    }
-}
-
-impl Reader for Plain<net::IpAddr> {
-    fn read(text: &str) -> Option<u32> {
-        let (front, back) = text.split_once('/')?;
-        let first = front.parse::<net::IpAddr>().ok()?;
+        let address = front.parse::<A>().ok()?;
         let len = back.parse::<u8>().ok()?;
-        match first {
-            net::IpAddr::V4(first) => ipv4_told(first.to_bits(), len),
-            net::IpAddr::V6(first) => ipv6_told(first.to_bits(), len),
+        let first = address.first(len)?;
+        match self.1 {
+            HostBits::Refused if first != address.number() => None,
+            HostBits::Refused | HostBits::Cleared => Some(with_length(first, len)),
+            HostBits::Kept => Some(with_length(address.number(), len)),
         }
     }
 }
 
-struct ReadIpv4Network;
-
-impl Work for ReadIpv4Network {
-    const NAME: &'static str = "read IPv4 network";
-
-    const CALLS: u32 = CALLS;
-
-    fn by_library(rounds: u32) -> u32 {
-        read_each::<Ipv4Cidr>(&texts::IPV4_NETWORKS, rounds)
-    }
-
-    fn plainly(rounds: u32) -> u32 {
-        read_each::<Plain<net::Ipv4Addr>>(&texts::IPV4_NETWORKS, rounds)
+impl<A: PlainAddress> Call<Text> for PlainRead<A> {
+    fn number(&self, text: &Text) -> u32 {
+        self.read(text.as_str()).unwrap_or(1)
     }
 }
 
-struct ReadIpv6Network;
+/// A value that is printed in full, with its prefix length.
+trait Written: Sample {
+    fn text(&self) -> Text;
+}
 
-impl Work for ReadIpv6Network {
-    const NAME: &'static str = "read IPv6 network";
-
-    const CALLS: u32 = CALLS;
-
-    fn by_library(rounds: u32) -> u32 {
-        read_each::<Ipv6Cidr>(&texts::IPV6_NETWORKS, rounds)
-    }
-
-    fn plainly(rounds: u32) -> u32 {
-        read_each::<Plain<net::Ipv6Addr>>(&texts::IPV6_NETWORKS, rounds)
+impl Written for Ipv4Addr {
+    fn text(&self) -> Text {
+        wide(&self.to_text())
     }
 }
 
-struct ReadEitherNetwork;
-
-impl Work for ReadEitherNetwork {
-    const NAME: &'static str = "read IpCidr";
-
-    const CALLS: u32 = CALLS;
-
-    fn by_library(rounds: u32) -> u32 {
-        read_each::<IpCidr>(&texts::NETWORKS, rounds)
+impl Written for Ipv6Addr {
+    fn text(&self) -> Text {
+        wide(&self.to_text())
     }
+}
 
-    fn plainly(rounds: u32) -> u32 {
-        read_each::<Plain<net::IpAddr>>(&texts::NETWORKS, rounds)
+impl Written for IpAddr {
+    fn text(&self) -> Text {
+        wide(&self.to_text())
     }
+}
+
+impl Written for Ipv4Cidr {
+    fn text(&self) -> Text {
+        self.with_length().to_text()
+    }
+}
+
+impl Written for Ipv6Cidr {
+    fn text(&self) -> Text {
+        self.with_length().to_text()
+    }
+}
+
+impl Written for IpCidr {
+    fn text(&self) -> Text {
+        self.with_length().to_text()
+    }
+}
+
+impl Written for Ipv4Inet {
+    fn text(&self) -> Text {
+        self.with_length().to_text()
+    }
+}
+
+impl Written for Ipv6Inet {
+    fn text(&self) -> Text {
+        self.with_length().to_text()
+    }
+}
+
+/// The text of an address with the room of a network's.
+fn wide(text: &ArrayString<39>) -> Text {
+    let mut wide = Text::new();
+    let _ = wide.try_push_str(text.as_str());
+    wide
+}
+
+/// The texts of random values of type `W`.
+fn texts<W: Written + Drop>() -> [Text; MANY] {
+    from_fn(|index| W::sample(index).text())
+}
+
+/// Times reading of texts of type `W` as values of type `T`, beside the same of type `P`.
+fn compare<W: Written + Drop, T, P>(bench: &Bench<'_>, name: &str) -> io::Result<()>
+where
+    T: FromStr<Err: Drop> + Number + Drop,
+    P: FromStr<Err: Drop> + Number + Drop,
+{
+    let texts = texts::<W>();
+    bench.compare(
+        name,
+        Each(Read::<T>(PhantomData), &texts),
+        Each(Read::<P>(PhantomData), &texts),
+    )
+}
+
+/// Times reading of texts of type `W` as networks or hosts of type `T`, beside addresses of type `A` and a mask.
+fn compare_parts<W: Written + Drop, T, A: PlainAddress>(
+    bench: &Bench<'_>,
+    name: &str,
+    host_bits: HostBits,
+) -> io::Result<()>
+where
+    T: FromStr<Err: Drop> + Number + Drop,
+{
+    let texts = texts::<W>();
+    bench.compare(
+        name,
+        Each(Read::<T>(PhantomData), &texts),
+        Each(PlainRead::<A>(PhantomData, host_bits), &texts),
+    )
+}
+
+/// Times reading of addresses, networks and hosts.
+pub fn compare_all(bench: &Bench<'_>) -> io::Result<()> {
+    let (refused, kept) = (HostBits::Refused, HostBits::Kept);
+    compare::<Ipv4Addr, Ipv4Addr, net::Ipv4Addr>(bench, "read IPv4 address")?;
+    compare::<Ipv6Addr, Ipv6Addr, net::Ipv6Addr>(bench, "read IPv6 address")?;
+    compare::<IpAddr, IpAddr, net::IpAddr>(bench, "read IpAddr")?;
+    compare_parts::<Ipv4Cidr, Ipv4Cidr, net::Ipv4Addr>(bench, "read IPv4 network", refused)?;
+    compare_parts::<Ipv6Cidr, Ipv6Cidr, net::Ipv6Addr>(bench, "read IPv6 network", refused)?;
+    compare_parts::<IpCidr, IpCidr, net::IpAddr>(bench, "read IpCidr", refused)?;
+    compare_parts::<IpCidr, AnyIpCidr, net::IpAddr>(bench, "read AnyIpCidr", refused)?;
+    compare_parts::<Ipv4Inet, Ipv4Inet, net::Ipv4Addr>(bench, "read IPv4 host", kept)?;
+    compare_parts::<Ipv6Inet, Ipv6Inet, net::Ipv6Addr>(bench, "read IPv6 host", kept)?;
+    let texts = texts::<Ipv4Inet>();
+    bench.compare(
+        "read IPv4 network, host bits cleared",
+        Each(ClearHostBits, &texts),
+        Each(
+            PlainRead::<net::Ipv4Addr>(PhantomData, HostBits::Cleared),
+            &texts,
+        ),
+    )
 }

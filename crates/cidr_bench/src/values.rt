@@ -1,11 +1,8 @@
 //! What the work is done on: addresses, networks and texts, as plain numbers.
-ghost use Rattle.std.specs.Prelude.{◌<◌};
+ghost use Rattle.std.specs.Prelude.{◌<◌, ◌≤◌};
 
 /// How many addresses, networks or hosts the work goes over in a round.
 pub const COUNT: usize = 64;
-
-/// The same as a number of calls.
-pub const CALLS: u32 = 64;
 
 /// Four IPv4 addresses whose first two bits differ.
 const IPV4: [u32; 4] = [0x0a01_0203, 0x6440_0a0b, 0xac10_fe01, 0xc633_6407];
@@ -49,11 +46,6 @@ pub fn is_ipv4(index: usize) -> bool {
     index / 4 % 2 == 0
 }
 
-/// The last 32 bits of a number.
-pub fn low(number: u128) -> u32 {
-    (number & 0xffff_ffff) as u32
-}
-
 /// The index that goes with another one in a round: each in turn, in an order that changes with the round.
 pub fn partner(round: u32, index: usize) -> usize
     ensures { result < 64 }
@@ -68,10 +60,60 @@ pub fn mixed(sum: u32, next: u32) -> u32 {
     sum.wrapping_mul(5) ^ next
 }
 
-/// The next of a fixed sequence of numbers (Knuth's linear congruential generator for 64 bits).
-pub fn next(state: &mut u64) -> u32 {
-    *state = state
-        .wrapping_mul(6364136223846793005)
-        .wrapping_add(1442695040888963407);
-    (*state >> 32) as u32
+/// How many different values a row has that takes them one after the other.
+pub const MANY: usize = 1024;
+
+/// How long the prefixes of an IPv4 routing table are: more than half have 24 bits, nearly all others 16 to 23.
+const IPV4_LENGTHS: [u8; 32] = [
+    24, 24, 24, 24, 24, 24, 24, 24, 24, 24, 24, 24, 24, 24, 24, 24, 24, 24, 23, 23, 22, 22, 22, 22,
+    21, 20, 20, 19, 19, 18, 17, 16,
+];
+
+/// The same of IPv6: nearly half have 48 bits, most others 29 to 47.
+const IPV6_LENGTHS: [u8; 32] = [
+    48, 48, 48, 48, 48, 48, 48, 48, 48, 48, 48, 48, 48, 48, 48, 32, 32, 32, 32, 44, 44, 44, 40, 40,
+    40, 36, 36, 46, 47, 29, 42, 64,
+];
+
+/// Number `index` of a fixed sequence in which none can be foreseen from those before it (SplitMix64).
+pub fn random(index: usize) -> u64 {
+    let state = (index as u64)
+        .wrapping_add(1)
+        .wrapping_mul(0x9e37_79b9_7f4a_7c15);
+    let state = (state ^ state >> 30).wrapping_mul(0xbf58_476d_1ce4_e5b9);
+    let state = (state ^ state >> 27).wrapping_mul(0x94d0_49bb_1331_11eb);
+    state ^ state >> 31
+}
+
+/// A random IPv4 address.
+pub fn random_ipv4(index: usize) -> u32 {
+    (random(index) >> 32 & 0xffff_ffff) as u32
+}
+
+/// A random IPv6 address of 2000::/3, as they occur: with a random interface, with a small one, with none, and with
+/// short groups.
+pub fn random_ipv6(index: usize) -> u128 {
+    let high = random(index);
+    let low = random(index ^ 0x4000_0000);
+    let network = u128::from(high >> 3 | 1 << 61) << 64;
+    match low % 4 {
+        0 => network | u128::from(low),
+        1 => network | u128::from(low >> 52),
+        2 => network & (u128::MAX << 80),
+        _ => network & (u128::MAX << 96) | u128::from(low & 0x00ff_000f_0fff_00ff),
+    }
+}
+
+/// A prefix length of IPv4 as they occur.
+pub fn random_ipv4_len(index: usize) -> u8
+    ensures { result ≤ 32 }
+{
+    IPV4_LENGTHS[(random(index ^ 0x2000_0000) % 32) as usize].min(32)
+}
+
+/// The same of IPv6.
+pub fn random_ipv6_len(index: usize) -> u8
+    ensures { result ≤ 128 }
+{
+    IPV6_LENGTHS[(random(index ^ 0x2000_0000) % 32) as usize].min(128)
 }

@@ -1,140 +1,112 @@
 //! All addresses of a network, one after the other.
 
 use crate::bench::{Bench, Work};
-use crate::values::{low, mixed};
-use cidr::{IpAddr, IpCidr, Ipv4Cidr, Ipv6Cidr};
+use crate::numbers::{Number, folded};
+use crate::values::mixed;
+use cidr::{Address, Cidr, Inet, InetPair, IpCidr, Ipv4Addr, Ipv4Cidr, Ipv6Addr, Ipv6Cidr};
 use std::io;
 
-/// Times a walk, for each address of it.
-pub fn compare_all(bench: &Bench<'_>) -> io::Result<()> {
-    bench.compare::<WalkIpv4>()?;
-    bench.compare::<WalkIpv6>()?;
-    bench.compare::<WalkEither>()
-}
+/// How many addresses the networks have.
+const SIZE: u32 = 256;
 
-const IPV4_NETWORK: &str = "192.0.2.0/24";
+/// The first address of the IPv4 network, 192.0.2.0.
+const IPV4_FIRST: u32 = 0xc000_0200;
 
-const IPV6_NETWORK: &str = "2001:db8::/120";
-
-/// The number of its first address.
+/// The first address of the IPv6 network, 2001:db8::.
 const IPV6_FIRST: u128 = 0x2001_0db8_0000_0000_0000_0000_0000_0000;
 
-struct WalkIpv4;
+/// Walks over the networks.
+#[derive(Drop)]
+struct Walk<'a, C>(&'a [C]);
 
-impl Work for WalkIpv4 {
-    const NAME: &'static str = "walk IPv4";
-
-    const CALLS: u32 = 256;
-
-    #[inline(never)]
-    fn by_library(rounds: u32) -> u32 {
-        let mut sum = 0;
-        let Ok(network) = IPV4_NETWORK.parse::<Ipv4Cidr>() else {
-            return sum;
-        };
-        for _ in 0..rounds {
-            for address in network.iter().addresses() {
-                sum = mixed(sum, address.to_bits());
-            }
-        }
-        sum
+impl<A, C> Work for Walk<'_, C>
+where
+    A: Address<InetPair: InetPair<Address = A>, Inet: Inet<Address = A>> + Number,
+    C: Cidr<Address = A>,
+{
+    fn calls(&self) -> usize {
+        self.0.len().saturating_mul(SIZE as usize)
     }
 
     #[inline(never)]
-    fn plainly(rounds: u32) -> u32 {
+    fn run(&mut self, rounds: u32) -> u32 {
         let mut sum = 0;
         for _ in 0..rounds {
-            for number in 0xc000_0200u32..=0xc000_02ff {
-                sum = mixed(sum, number);
-            }
-        }
-        sum
-    }
-}
-
-struct WalkIpv6;
-
-impl Work for WalkIpv6 {
-    const NAME: &'static str = "walk IPv6";
-
-    const CALLS: u32 = 256;
-
-    #[inline(never)]
-    fn by_library(rounds: u32) -> u32 {
-        let mut sum = 0;
-        let Ok(network) = IPV6_NETWORK.parse::<Ipv6Cidr>() else {
-            return sum;
-        };
-        for _ in 0..rounds {
-            for address in network.iter().addresses() {
-                sum = mixed(sum, low(address.to_bits()));
-            }
-        }
-        sum
-    }
-
-    #[inline(never)]
-    fn plainly(rounds: u32) -> u32 {
-        let mut sum = 0;
-        for _ in 0..rounds {
-            for part in 0..256u32 {
-                sum = mixed(sum, low(IPV6_FIRST + u128::from(part)));
-            }
-        }
-        sum
-    }
-}
-
-struct WalkEither;
-
-impl Work for WalkEither {
-    const NAME: &'static str = "walk IpCidr";
-
-    const CALLS: u32 = 512;
-
-    #[inline(never)]
-    fn by_library(rounds: u32) -> u32 {
-        let mut sum = 0;
-        let Some(networks) = both_networks() else {
-            return sum;
-        };
-        for _ in 0..rounds {
-            for network in &networks {
+            for network in self.0 {
                 for address in network.iter().addresses() {
-                    sum = mixed(sum, low_bits(address));
+                    sum = mixed(sum, address.number());
                 }
             }
         }
         sum
     }
+}
+
+/// Counts numbers up, of IPv4, of IPv6 or of both.
+#[derive(Drop)]
+struct CountUp {
+    ipv4: bool,
+    ipv6: bool,
+}
+
+impl Work for CountUp {
+    fn calls(&self) -> usize {
+        match (self.ipv4, self.ipv6) {
+            (true, true) => 2 * SIZE as usize,
+            _ => SIZE as usize,
+        }
+    }
 
     #[inline(never)]
-    fn plainly(rounds: u32) -> u32 {
+    fn run(&mut self, rounds: u32) -> u32 {
         let mut sum = 0;
         for _ in 0..rounds {
-            for number in 0xc000_0200u32..=0xc000_02ff {
-                sum = mixed(sum, number);
+            if self.ipv4 {
+                for part in 0..SIZE {
+                    sum = mixed(sum, IPV4_FIRST + part);
+                }
             }
-            for part in 0..256u32 {
-                sum = mixed(sum, low(IPV6_FIRST + u128::from(part)));
+            if self.ipv6 {
+                for part in 0..SIZE {
+                    sum = mixed(sum, folded(IPV6_FIRST + u128::from(part)));
+                }
             }
         }
         sum
     }
 }
 
-/// The networks of both families.
-fn both_networks() -> Option<[IpCidr; 2]> {
-    Some([
-        IPV4_NETWORK.parse::<IpCidr>().ok()?,
-        IPV6_NETWORK.parse::<IpCidr>().ok()?,
-    ])
-}
-
-/// The last 32 bits of an address.
-fn low_bits(address: IpAddr) -> u32 {
-    match address {
-        IpAddr::V4(address) => address.to_bits(),
-        IpAddr::V6(address) => low(address.to_bits()),
-    }
+/// Times a walk, for each address of it.
+pub fn compare_all(bench: &Bench<'_>) -> io::Result<()> {
+    let (first_v4, first_v6) = (
+        Ipv4Addr::from_bits(IPV4_FIRST),
+        Ipv6Addr::from_bits(IPV6_FIRST),
+    );
+    let v4 = Ipv4Cidr::new(first_v4, 24).unwrap_or(Ipv4Cidr::new_host(first_v4));
+    let v6 = Ipv6Cidr::new(first_v6, 120).unwrap_or(Ipv6Cidr::new_host(first_v6));
+    bench.compare(
+        "walk IPv4",
+        Walk(&[v4]),
+        CountUp {
+            ipv4: true,
+            ipv6: false,
+        },
+    )?;
+    bench.compare(
+        "walk IPv6",
+        Walk(&[v6]),
+        CountUp {
+            ipv4: false,
+            ipv6: true,
+        },
+    )?;
+    let both = [IpCidr::V4(v4), IpCidr::V6(v6)];
+    bench.compare(
+        "walk IpCidr",
+        Walk(&both),
+        CountUp {
+            ipv4: true,
+            ipv6: true,
+        },
+    )
 }

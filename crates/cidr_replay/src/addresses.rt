@@ -2,6 +2,7 @@
 
 use crate::answer::Answer;
 use crate::line_error::{LineError, Outcome};
+use crate::queries;
 use crate::tokens::{Kind, Tokens};
 use crate::values::Value;
 use cidr::{AddrParseError, IpAddr, Ipv4Addr, Ipv6Addr};
@@ -78,22 +79,11 @@ fn answer_ip(name: &str, tokens: &mut Tokens<'_>, answer: &mut Answer) -> Outcom
 /// The operations of every type.
 fn answer_each<A: Address>(name: &str, tokens: &mut Tokens<'_>, answer: &mut Answer) -> Outcome {
     match name {
-        "parse" => parse::<A>(tokens, answer),
-        "cmp" => compare::<A>(tokens, answer),
+        "parse" => queries::parse::<A>(tokens, answer),
+        "cmp" => queries::compare::<A>(tokens, answer),
         "text" => tokens.value::<A>()?.texts(answer),
         _ => Err(LineError::Malformed),
     }
-}
-
-fn parse<A: Address>(tokens: &mut Tokens<'_>, answer: &mut Answer) -> Outcome {
-    let text = tokens.text()?;
-    answer.value(&text.as_str().parse::<A>())
-}
-
-fn compare<A: Address>(tokens: &mut Tokens<'_>, answer: &mut Answer) -> Outcome {
-    let one = tokens.value::<A>()?;
-    let other = tokens.value::<A>()?;
-    answer.value(&one.cmp(&other))
 }
 
 fn new_ipv4(tokens: &mut Tokens<'_>, answer: &mut Answer) -> Outcome {

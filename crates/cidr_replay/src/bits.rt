@@ -1,5 +1,5 @@
 //! Operations on networks and hosts as strings of bits.
-ghost use Rattle.std.specs.Prelude.{◌<◌, length, IsTrue, IfOk};
+ghost use Rattle.std.specs.Prelude.{◌<◌, length, IfOk};
 
 use crate::answer::Answer;
 use crate::line_error::{LineError, Outcome};
@@ -9,14 +9,18 @@ use cidr::errors::NetworkParseError;
 use cidr::{AnyIpCidr, BitString, Ipv4Cidr, Ipv4Inet, Ipv6Cidr, Ipv6Inet};
 use std::str::FromStr;
 
-mod room;
-
 /// The strings of bits of which there are operations.
-pub trait Bits: BitString + FromStr<Err = NetworkParseError> + Value {
-    /// Whether one more bit can be appended.
-    fn has_room(&self) -> bool
-        ensures { IsTrue result → Self.BitString.HasRoom self.now };
-}
+pub trait Bits: BitString + FromStr<Err = NetworkParseError> + Value {}
+
+impl Bits for Ipv4Cidr {}
+
+impl Bits for Ipv6Cidr {}
+
+impl Bits for AnyIpCidr {}
+
+impl Bits for Ipv4Inet {}
+
+impl Bits for Ipv6Inet {}
 
 /// Answers the operation on the bits of networks that has this name.
 pub fn answer(name: &str, tokens: &mut Tokens<'_>, answer: &mut Answer) -> Outcome {
@@ -94,7 +98,7 @@ fn clip<B: Bits>(tokens: &mut Tokens<'_>, answer: &mut Answer) -> Outcome {
 fn append<B: Bits>(tokens: &mut Tokens<'_>, answer: &mut Answer) -> Outcome {
     let mut bits = tokens.value::<B>()?;
     let bit = tokens.truth()?;
-    if !bits.has_room() {
+    if bits.room() == 0 {
         return Err(LineError::Malformed);
     }
     bits.append(bit);

@@ -3,65 +3,67 @@
 use crate::answer::Answer;
 use crate::line_error::{LineError, Outcome};
 use crate::tokens::{Kind, Tokens};
-use crate::values::Value;
 use arrayvec::ArrayVec;
-use cidr::errors::{CompactError, NetworkParseError};
 use cidr::{AnyIpCidr, IpCidr, IpInet, Ipv4Cidr, Ipv4Inet, Ipv6Cidr, Ipv6Inet};
-use std::str::FromStr;
 
 mod agreement;
-mod calls;
-
-/// The types that have compact bytes.
-pub trait Compact: FromStr<Err = NetworkParseError> + Value {
-    fn to_compact(&self) -> ArrayVec<u8, 17>;
-
-    fn from_compact(bytes: &[u8]) -> Result<(Self, usize), CompactError>;
-}
 
 /// Answers the operation of this section that has this name.
 pub fn answer(section: &str, name: &str, tokens: &mut Tokens<'_>, answer: &mut Answer) -> Outcome {
     let kind = tokens.kind()?;
     match section {
-        "compact" => answer_networks(kind, name, tokens, answer),
-        "hostcompact" => answer_hosts(kind, name, tokens, answer),
+        "compact" => match name {
+            "to" => network_to(kind, tokens, answer),
+            "from" => network_from(kind, tokens, answer),
+            _ => Err(LineError::Malformed),
+        },
+        "hostcompact" => match name {
+            "to" => host_to(kind, tokens, answer),
+            "from" => host_from(kind, tokens, answer),
+            _ => Err(LineError::Malformed),
+        },
         _ => agreement::answer(kind, name, tokens, answer),
     }
 }
 
-fn answer_networks(
-    kind: Kind,
-    name: &str,
-    tokens: &mut Tokens<'_>,
-    answer: &mut Answer,
-) -> Outcome {
+fn network_to(kind: Kind, tokens: &mut Tokens<'_>, answer: &mut Answer) -> Outcome {
     match kind {
-        Kind::V4 => answer_each::<Ipv4Cidr>(name, tokens, answer),
-        Kind::V6 => answer_each::<Ipv6Cidr>(name, tokens, answer),
-        Kind::Ip => answer_each::<IpCidr>(name, tokens, answer),
-        Kind::Any => answer_each::<AnyIpCidr>(name, tokens, answer),
+        Kind::V4 => to(&tokens.value::<Ipv4Cidr>()?.to_compact(), answer),
+        Kind::V6 => to(&tokens.value::<Ipv6Cidr>()?.to_compact(), answer),
+        Kind::Ip => to(&tokens.value::<IpCidr>()?.to_compact(), answer),
+        Kind::Any => to(&tokens.value::<AnyIpCidr>()?.to_compact(), answer),
     }
 }
 
-fn answer_hosts(kind: Kind, name: &str, tokens: &mut Tokens<'_>, answer: &mut Answer) -> Outcome {
+fn network_from(kind: Kind, tokens: &mut Tokens<'_>, answer: &mut Answer) -> Outcome {
+    let bytes = tokens.bytes()?;
     match kind {
-        Kind::V4 => answer_each::<Ipv4Inet>(name, tokens, answer),
-        Kind::V6 => answer_each::<Ipv6Inet>(name, tokens, answer),
-        Kind::Ip => answer_each::<IpInet>(name, tokens, answer),
+        Kind::V4 => answer.value(&Ipv4Cidr::from_compact(bytes.as_slice())),
+        Kind::V6 => answer.value(&Ipv6Cidr::from_compact(bytes.as_slice())),
+        Kind::Ip => answer.value(&IpCidr::from_compact(bytes.as_slice())),
+        Kind::Any => answer.value(&AnyIpCidr::from_compact(bytes.as_slice())),
+    }
+}
+
+fn host_to(kind: Kind, tokens: &mut Tokens<'_>, answer: &mut Answer) -> Outcome {
+    match kind {
+        Kind::V4 => to(&tokens.value::<Ipv4Inet>()?.to_compact(), answer),
+        Kind::V6 => to(&tokens.value::<Ipv6Inet>()?.to_compact(), answer),
+        Kind::Ip => to(&tokens.value::<IpInet>()?.to_compact(), answer),
         Kind::Any => Err(LineError::Malformed),
     }
 }
 
-/// The operations of every type.
-fn answer_each<C: Compact>(name: &str, tokens: &mut Tokens<'_>, answer: &mut Answer) -> Outcome {
-    match name {
-        "to" => answer.bytes(tokens.value::<C>()?.to_compact().as_slice()),
-        "from" => from::<C>(tokens, answer),
-        _ => Err(LineError::Malformed),
+fn host_from(kind: Kind, tokens: &mut Tokens<'_>, answer: &mut Answer) -> Outcome {
+    let bytes = tokens.bytes()?;
+    match kind {
+        Kind::V4 => answer.value(&Ipv4Inet::from_compact(bytes.as_slice())),
+        Kind::V6 => answer.value(&Ipv6Inet::from_compact(bytes.as_slice())),
+        Kind::Ip => answer.value(&IpInet::from_compact(bytes.as_slice())),
+        Kind::Any => Err(LineError::Malformed),
     }
 }
 
-fn from<C: Compact>(tokens: &mut Tokens<'_>, answer: &mut Answer) -> Outcome {
-    let bytes = tokens.bytes()?;
-    answer.value(&C::from_compact(bytes.as_slice()))
+fn to(bytes: &ArrayVec<u8, 17>, answer: &mut Answer) -> Outcome {
+    answer.bytes(bytes.as_slice())
 }

@@ -2,14 +2,14 @@
 
 use crate::addresses::Address;
 use crate::answer::Answer;
-use crate::hosts::Host;
 use crate::line_error::{LineError, Outcome};
-use crate::queries::HasAddresses;
 use crate::tokens::{Kind, Tokens};
 use cidr::errors::{InetTupleError, NetworkParseError};
 use cidr::{
-    AnyIpCidr, IpAddr, IpCidr, IpInet, Ipv4Addr, Ipv4Cidr, Ipv4Inet, Ipv6Addr, Ipv6Cidr, Ipv6Inet,
+    AnyIpCidr, Inet, IpAddr, IpCidr, IpInet, Ipv4Addr, Ipv4Cidr, Ipv4Inet, Ipv6Addr, Ipv6Cidr,
+    Ipv6Inet,
 };
+use std::str::FromStr;
 
 /// Answers the operation on refusals that has this name.
 pub fn answer(name: &str, tokens: &mut Tokens<'_>, answer: &mut Answer) -> Outcome {
@@ -31,7 +31,9 @@ fn refusal(tokens: &mut Tokens<'_>) -> Result<NetworkParseError, LineError> {
     }
 }
 
-fn refusal_of<N: HasAddresses>(tokens: &mut Tokens<'_>) -> Result<NetworkParseError, LineError> {
+fn refusal_of<N: FromStr<Err = NetworkParseError> + Drop>(
+    tokens: &mut Tokens<'_>,
+) -> Result<NetworkParseError, LineError> {
     let text = tokens.text()?;
     match text.as_str().parse::<N>() {
         Ok(_) => Err(LineError::Malformed),
@@ -71,7 +73,7 @@ fn from_length(tokens: &mut Tokens<'_>, answer: &mut Answer) -> Outcome {
     }
 }
 
-fn from_length_of<H: Host>(tokens: &mut Tokens<'_>, answer: &mut Answer) -> Outcome {
+fn from_length_of<H: Inet>(tokens: &mut Tokens<'_>, answer: &mut Answer) -> Outcome {
     let address = tokens.value::<H::Address>()?;
     let len = tokens.number::<u8>()?;
     match H::new(address, len) {

@@ -3,38 +3,16 @@
 use crate::answer::Answer;
 use crate::line_error::{LineError, Outcome};
 use crate::queries;
-use crate::queries::HasFamily;
+use crate::queries::HasTexts;
 use crate::tokens::{Kind, Tokens};
 use crate::values::Value;
-use cidr::errors::NetworkLengthTooLongError;
-use cidr::{IpInet, Ipv4Inet, Ipv6Inet};
+use cidr::{Address, Inet, IpAddr, IpInet, Ipv4Addr, Ipv4Inet, Ipv6Addr, Ipv6Inet};
 
-mod calls;
-mod calls_of_combined;
+mod operators;
 mod steps;
 
-/// The calls that only hosts have.
-pub trait Host: HasFamily {
-    type Network: Value;
-
-    fn new(addr: Self::Address, len: u8) -> Result<Self, NetworkLengthTooLongError>;
-
-    fn address(&self) -> Self::Address;
-
-    fn network(&self) -> Self::Network;
-
-    fn increment(&mut self) -> bool;
-
-    fn decrement(&mut self) -> bool;
-
-    fn next(self) -> Option<Self>;
-
-    fn previous(self) -> Option<Self>;
-
-    fn overflowing_add(self, step: u128) -> (Self, bool);
-
-    fn overflowing_sub(self, step: u128) -> (Self, bool);
-
+/// What hosts have beside the calls of `Inet`.
+pub trait Host: Copy + HasTexts + Value {
     /// The host by the operator `+`, if the step stays in the network.
     fn add(self, step: u128) -> Option<Self>;
 
@@ -59,55 +37,82 @@ fn answer_ipv4(name: &str, tokens: &mut Tokens<'_>, answer: &mut Answer) -> Outc
         "sub_u32" => steps::sub_u32(tokens, answer),
         "overflowing_add_u32" => steps::overflowing_add_u32(tokens, answer),
         "overflowing_sub_u32" => steps::overflowing_sub_u32(tokens, answer),
-        _ => answer_each::<Ipv4Inet>(name, tokens, answer),
+        _ => answer_each::<Ipv4Addr>(name, tokens, answer),
     }
 }
 
 fn answer_ipv6(name: &str, tokens: &mut Tokens<'_>, answer: &mut Answer) -> Outcome {
     match name {
         "address_ref" => answer.value(tokens.value::<Ipv6Inet>()?.address_ref()),
-        _ => answer_each::<Ipv6Inet>(name, tokens, answer),
+        _ => answer_each::<Ipv6Addr>(name, tokens, answer),
     }
 }
 
 fn answer_ip(name: &str, tokens: &mut Tokens<'_>, answer: &mut Answer) -> Outcome {
     match name {
         "is" => is_ipv4_and_ipv6(tokens, answer),
-        _ => answer_each::<IpInet>(name, tokens, answer),
+        _ => answer_each::<IpAddr>(name, tokens, answer),
     }
 }
 
-/// The operations of every type.
-fn answer_each<H: Host>(name: &str, tokens: &mut Tokens<'_>, answer: &mut Answer) -> Outcome {
+/// The operations of every type, which is told by its addresses.
+fn answer_each<A: Address + Value>(
+    name: &str,
+    tokens: &mut Tokens<'_>,
+    answer: &mut Answer,
+) -> Outcome
+where
+    A::Cidr: Value,
+    A::Inet: Inet<Address = A> + Host,
+{
     match name {
-        "new" => new::<H>(tokens, answer),
-        "show" => show::<H>(tokens, answer),
-        "ends" => queries::ends::<H>(tokens, answer),
+        "new" => {
+            let address = tokens.value::<A>()?;
+            answer.value(&A::Inet::new(address, tokens.number()?))
+        }
+        "new_host" => answer.value(&A::Inet::new_host(tokens.value::<A>()?)),
+        "contains" => {
+            let host = tokens.value::<A::Inet>()?;
+            answer.value(&host.contains(&tokens.value::<A>()?))
+        }
+        "show" => show::<A>(tokens, answer),
+        "ends" => {
+            let host = tokens.value::<A::Inet>()?;
+            answer.value(&host.first())?;
+            answer.value(&host.last())
+        }
+        "parse" => queries::parse::<A::Inet>(tokens, answer),
+        "cmp" => queries::compare::<A::Inet>(tokens, answer),
+        "text" => tokens.value::<A::Inet>()?.texts(answer),
         "increment" | "decrement" | "next" | "previous" => {
-            steps::answer_single::<H>(name, tokens, answer)
+            steps::answer_single::<A::Inet>(name, tokens, answer)
         }
         "overflowing_add" | "overflowing_sub" | "add" | "sub" => {
-            steps::answer_many::<H>(name, tokens, answer)
+            steps::answer_many::<A::Inet>(name, tokens, answer)
         }
-        _ => queries::answer_each::<H>(name, tokens, answer),
+        _ => Err(LineError::Malformed),
     }
 }
 
-fn new<H: Host>(tokens: &mut Tokens<'_>, answer: &mut Answer) -> Outcome {
-    let address = tokens.value::<H::Address>()?;
-    let len = tokens.number::<u8>()?;
-    answer.value(&H::new(address, len))
-}
-
-fn show<H: Host>(tokens: &mut Tokens<'_>, answer: &mut Answer) -> Outcome {
-    let host = tokens.value::<H>()?;
+/// The address, the network, its ends, the mask, the length, the family, and whether the length is full.
+fn show<A: Address + Value>(tokens: &mut Tokens<'_>, answer: &mut Answer) -> Outcome
+where
+    A::Cidr: Value,
+    A::Inet: Inet<Address = A>,
+{
+    let host = tokens.value::<A::Inet>()?;
     answer.value(&host.address())?;
     answer.value(&host.network())?;
-    queries::queries(&host, answer)
+    answer.value(&host.first_address())?;
+    answer.value(&host.last_address())?;
+    answer.value(&host.mask())?;
+    answer.value(&host.network_length())?;
+    answer.value(&host.family())?;
+    answer.value(&host.is_host_address())
 }
 
 fn is_ipv4_and_ipv6(tokens: &mut Tokens<'_>, answer: &mut Answer) -> Outcome {
     let host = tokens.value::<IpInet>()?;
-    answer.display(&host.is_ipv4())?;
-    answer.display(&host.is_ipv6())
+    answer.value(&host.is_ipv4())?;
+    answer.value(&host.is_ipv6())
 }

@@ -1,6 +1,6 @@
 //! Replays operations on the crates `cidr` and `cidr_table`: it reads one a line and writes an answer line for each.
 //!
-//! docs/REPLAY.md has the format in short.
+//! README.md beside `src` has the format.
 #![tactic(auto)]
 
 mod addresses;

@@ -1,21 +1,44 @@
 //! Operations on networks.
 
 use crate::answer::Answer;
-use crate::line_error::Outcome;
+use crate::line_error::{LineError, Outcome};
 use crate::queries;
-use crate::queries::{HasAddresses, HasFamily};
+use crate::queries::HasTexts;
 use crate::tokens::{Kind, Tokens};
+use crate::values::Value;
 use cidr::errors::NetworkParseError;
-use cidr::{IpCidr, Ipv4Cidr, Ipv6Cidr};
+use cidr::{Address, AnyIpCidr, Cidr, IpAddr, IpCidr, Ipv4Addr, Ipv4Cidr, Ipv6Addr, Ipv6Cidr};
+use std::str::FromStr;
 
 mod any;
-mod calls;
 
-/// The calls that only networks have.
-pub trait Network: HasAddresses {
-    fn new(addr: Self::Address, len: u8) -> Result<Self, NetworkParseError>;
-
+/// What all networks have.
+pub trait Network: Copy + Ord + FromStr<Err = NetworkParseError> + HasTexts + Value {
     fn contains_cidr(&self, other: &Self) -> bool;
+}
+
+impl Network for Ipv4Cidr {
+    fn contains_cidr(&self, other: &Ipv4Cidr) -> bool {
+        Ipv4Cidr::contains_cidr(self, other)
+    }
+}
+
+impl Network for Ipv6Cidr {
+    fn contains_cidr(&self, other: &Ipv6Cidr) -> bool {
+        Ipv6Cidr::contains_cidr(self, other)
+    }
+}
+
+impl Network for IpCidr {
+    fn contains_cidr(&self, other: &IpCidr) -> bool {
+        IpCidr::contains_cidr(self, other)
+    }
+}
+
+impl Network for AnyIpCidr {
+    fn contains_cidr(&self, other: &AnyIpCidr) -> bool {
+        AnyIpCidr::contains_cidr(self, other)
+    }
 }
 
 /// Answers the operation on networks that has this name.
@@ -31,65 +54,84 @@ pub fn answer(name: &str, tokens: &mut Tokens<'_>, answer: &mut Answer) -> Outco
 fn answer_ipv4(name: &str, tokens: &mut Tokens<'_>, answer: &mut Answer) -> Outcome {
     match name {
         "first_address_ref" => answer.value(tokens.value::<Ipv4Cidr>()?.first_address_ref()),
-        _ => answer_family::<Ipv4Cidr>(name, tokens, answer),
+        _ => answer_family::<Ipv4Addr>(name, tokens, answer),
     }
 }
 
 fn answer_ipv6(name: &str, tokens: &mut Tokens<'_>, answer: &mut Answer) -> Outcome {
     match name {
         "first_address_ref" => answer.value(tokens.value::<Ipv6Cidr>()?.first_address_ref()),
-        _ => answer_family::<Ipv6Cidr>(name, tokens, answer),
+        _ => answer_family::<Ipv6Addr>(name, tokens, answer),
     }
 }
 
 fn answer_ip(name: &str, tokens: &mut Tokens<'_>, answer: &mut Answer) -> Outcome {
     match name {
         "is" => is_ipv4_and_ipv6(tokens, answer),
-        _ => answer_family::<IpCidr>(name, tokens, answer),
+        _ => answer_family::<IpAddr>(name, tokens, answer),
     }
 }
 
-/// The operations of the types whose networks always have a family.
-fn answer_family<N: Network + HasFamily>(
+/// The operations of the types whose networks always have a family, each told by its addresses.
+fn answer_family<A: Address + Value>(
     name: &str,
     tokens: &mut Tokens<'_>,
     answer: &mut Answer,
-) -> Outcome {
+) -> Outcome
+where
+    A::Cidr: Cidr<Address = A> + Network,
+    A::Inet: Value,
+{
     match name {
-        "show" => show::<N>(tokens, answer),
-        "ends" => queries::ends::<N>(tokens, answer),
-        _ => answer_each::<N>(name, tokens, answer),
+        "new" => {
+            let address = tokens.value::<A>()?;
+            answer.value(&A::Cidr::new(address, tokens.number()?))
+        }
+        "new_host" => answer.value(&A::Cidr::new_host(tokens.value::<A>()?)),
+        "contains" => {
+            let network = tokens.value::<A::Cidr>()?;
+            answer.value(&network.contains(&tokens.value::<A>()?))
+        }
+        "show" => show::<A>(tokens, answer),
+        "ends" => {
+            let network = tokens.value::<A::Cidr>()?;
+            answer.value(&network.first())?;
+            answer.value(&network.last())
+        }
+        _ => answer_each::<A::Cidr>(name, tokens, answer),
     }
 }
 
 /// The operations of every type.
 fn answer_each<N: Network>(name: &str, tokens: &mut Tokens<'_>, answer: &mut Answer) -> Outcome {
     match name {
-        "new" => new::<N>(tokens, answer),
-        "contains_cidr" => contains_cidr::<N>(tokens, answer),
-        _ => queries::answer_each::<N>(name, tokens, answer),
+        "contains_cidr" => {
+            let network = tokens.value::<N>()?;
+            answer.value(&network.contains_cidr(&tokens.value::<N>()?))
+        }
+        "parse" => queries::parse::<N>(tokens, answer),
+        "cmp" => queries::compare::<N>(tokens, answer),
+        "text" => tokens.value::<N>()?.texts(answer),
+        _ => Err(LineError::Malformed),
     }
 }
 
-fn new<N: Network>(tokens: &mut Tokens<'_>, answer: &mut Answer) -> Outcome {
-    let address = tokens.value::<N::Address>()?;
-    let len = tokens.number::<u8>()?;
-    answer.value(&N::new(address, len))
-}
-
-fn contains_cidr<N: Network>(tokens: &mut Tokens<'_>, answer: &mut Answer) -> Outcome {
-    let network = tokens.value::<N>()?;
-    let other = tokens.value::<N>()?;
-    answer.display(&network.contains_cidr(&other))
-}
-
-fn show<N: HasFamily>(tokens: &mut Tokens<'_>, answer: &mut Answer) -> Outcome {
-    let network = tokens.value::<N>()?;
-    queries::queries(&network, answer)
+/// The ends, the mask, the length, the family, and whether the length is full.
+fn show<A: Address + Value>(tokens: &mut Tokens<'_>, answer: &mut Answer) -> Outcome
+where
+    A::Cidr: Cidr<Address = A>,
+{
+    let network = tokens.value::<A::Cidr>()?;
+    answer.value(&network.first_address())?;
+    answer.value(&network.last_address())?;
+    answer.value(&network.mask())?;
+    answer.value(&network.network_length())?;
+    answer.value(&network.family())?;
+    answer.value(&network.is_host_address())
 }
 
 fn is_ipv4_and_ipv6(tokens: &mut Tokens<'_>, answer: &mut Answer) -> Outcome {
     let network = tokens.value::<IpCidr>()?;
-    answer.display(&network.is_ipv4())?;
-    answer.display(&network.is_ipv6())
+    answer.value(&network.is_ipv4())?;
+    answer.value(&network.is_ipv6())
 }

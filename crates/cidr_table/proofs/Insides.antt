@@ -41,7 +41,7 @@ module _ {C V : Type 0} where
   key_at (e ∷ rows) (suc i) key row l = key_at rows i key row (omega arith)
 
 module _ {C V : Type 0} (cmp : C → C → Ordering) where
-  sorted_drop : (i : ℕ) (rows : List (C × V)) → IsStrictlySortedBy cmp (keys_of rows) → IsStrictlySortedBy cmp (keys_of (drop i rows))
+  pub sorted_drop : (i : ℕ) (rows : List (C × V)) → IsStrictlySortedBy cmp (keys_of rows) → IsStrictlySortedBy cmp (keys_of (drop i rows))
   unfolding IsStrictlySortedBy
   sorted_drop zero rows s = s
   sorted_drop (suc i) [] s = tt

@@ -6,6 +6,8 @@ pub mod Narrowing
 pub mod RowPlaces
 pub mod MapLaws
 pub mod Insides
+pub mod Links
+pub mod Matching
 pub mod PrefixLists
 pub mod LastPlaces
 -- The lemmas of the least cover.

@@ -1,6 +1,6 @@
--- The shortest list of networks that holds exactly the addresses that some networks, the keys, hold: aggregation
--- (RFC 4632, 4). A network is the list of the bits that its addresses begin with. Long lists, of w bits, stand for the
--- addresses: no address is longer.
+-- The minimal aggregate of some networks, here their least cover: the shortest list of networks that has exactly their
+-- addresses (aggregation, RFC 4632, 4). A network is the list of the bits that its addresses begin with. Lists of w
+-- bits stand for the addresses, where no address is longer.
 use Rattle.std.specs.Prelude.{◌≡◌, ◌↔◌, ℕ, ◌-◌, ◌≤◌, ◌⊎◌, Bool, List, [], length, take}
 use Rattle.std.specs.List.{Contains}
 use Rattle.std.specs.List.Sorted.{IsStrictlySortedBy}
@@ -11,7 +11,7 @@ use Rattle.cidr.specs.model.Network.{BeginsWith}
 abbrev pub Covers : List (List Bool) → List Bool → Type 0
 Covers networks a = (p : List Bool) × Contains networks p × BeginsWith a p
 
--- every long list that begins with p is covered
+-- every list of w bits that begins with p is covered, if by several keys together
 abbrev pub IsFull : ℕ → List (List Bool) → List Bool → Type 0
 IsFull w keys p = (a : List Bool) → length a ≡ w → BeginsWith a p → Covers keys a
 

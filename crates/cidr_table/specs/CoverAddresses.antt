@@ -15,6 +15,7 @@ IsIpNetwork [] = Unit {0}
 IsIpNetwork (false ∷ p) = length p ≤ 32
 IsIpNetwork (true ∷ p) = length p ≤ 128
 
+-- each of them is such a network
 abbrev pub AreIpNetworks : List (List Bool) → Type 0
 AreIpNetworks networks = (p : List Bool) → Contains networks p → IsIpNetwork p
 

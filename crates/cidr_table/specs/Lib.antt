@@ -3,6 +3,7 @@
 pub mod FiniteMap
 pub mod Prefixes
 pub mod Places
+pub mod Above
 pub mod Loading
 pub mod Cover
 pub mod CoverAddresses

@@ -1,4 +1,4 @@
-//! A count for the contracts alone, of size zero.
+//! A count for the contracts only, of size zero.
 ghost use Rattle.std.specs.Prelude.{◌≡◌, ℕ, ◌+◌};
 ghost use base.Fml.{ftrue};
 
@@ -14,14 +14,14 @@ impl Model for Count {
     ghost also_owns = { λ _. ftrue };
 }
 
-/// None yet.
+/// The count of no comparison.
 pub fn zero_count() -> Count
     ensures { result.total ≡ 0 }
 {
     Count {}
 }
 
-/// One more.
+/// Counts one comparison more.
 pub fn tick(count: &mut Count)
     ensures { count.new.total ≡ count.old.total + 1 }
 {}

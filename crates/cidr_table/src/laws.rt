@@ -2,3 +2,4 @@
 //! that runs needs none of these.
 
 pub mod covers;
+pub mod loading;

@@ -1,44 +1,101 @@
-//! A longest-prefix table, proved: networks with a value each, and which of them an address or a network is in.
+//! A longest-prefix table, proved: networks with a value each, and the longest of them that an address is in.
 //!
-//! The keys are networks of any type of `cidr` that implements `NetworkBits`: `Ipv4Cidr`, `Ipv6Cidr`, `AnyIpCidr`. The
-//! table is a finite map from them to values, kept in the order of the keys.
+//! The keys are networks of one type of `cidr` that implements `NetworkBits`: `Ipv4Cidr`, `Ipv6Cidr` or `AnyIpCidr`.
+//! The table is a map from them to values, kept in the order of the keys. A key with its value is a row, and a row has
+//! an index, from 0 on in that order.
+//!
+//! `IpCidr` is no key, as networks of both families would have the same bits: `AnyIpCidr::from` makes of one, or of an
+//! address, a key of a table of both.
 //!
 //! ```
-//! let mut routes = LpmTable::<Ipv4Cidr, u32>::new(rt.alloc());
-//! routes.insert("10.0.0.0/8".parse()?, 1)     // Ok(None)
-//! routes.insert("10.1.0.0/16".parse()?, 2)    // Ok(None)
-//! let place = longest_match(&mut routes.probe(), &"10.1.2.3".parse()?)   // Some(1)
-//! routes.row(1)                               // Some((10.1.0.0/16, 2))
-//! routes.inside(&"10.0.0.0/8".parse()?)       // both rows
-//! let mut networks = ["0.0.0.0/0".parse()?; 2];
-//! routes.least_cover(&mut networks)           // 1: the first is 10.0.0.0/8, which has all addresses of the keys
+//! let mut routes = Routes::new(rt.alloc());
+//! routes.insert("0.0.0.0/0".parse()?, Ipv4Addr::new(192, 0, 2, 1))?;
+//! routes.insert("10.0.0.0/8".parse()?, Ipv4Addr::new(192, 0, 2, 2))?;
+//! next_hop(&routes, Ipv4Addr::new(10, 1, 2, 3)) // Some(192.0.2.2)
+//! next_hop(&routes, Ipv4Addr::new(198, 51, 100, 1)) // Some(192.0.2.1)
 //! ```
+//!
+//! `Routes` is `LpmTable<Ipv4Cidr, Ipv4Addr>`, and `next_hop` looks an address up by the network of that address alone:
+//!
+//! ```
+//! fn next_hop(routes: &Routes, address: Ipv4Addr) -> Option<Ipv4Addr> {
+//!     let index = longest_match(&mut routes.probe(), &Ipv4Cidr::new_host(address))?;
+//!     let (_network, next_hop) = routes.row(index)?;
+//!     Some(*next_hop)
+//! }
+//! ```
+//!
+//! `insert` returns the value that the key had before, and `get` and `remove` what the key has:
+//!
+//! ```
+//! let before = routes.insert("10.0.0.0/8".parse()?, Ipv4Addr::new(192, 0, 2, 3))?;
+//! before // Some(192.0.2.2)
+//! routes.get(&"10.0.0.0/8".parse()?) // Some(192.0.2.3)
+//! routes.remove(&"0.0.0.0/0".parse()?) // Some(192.0.2.1)
+//! ```
+//!
+//! Of a new key `insert` and `set`, and `with_capacity`, `reserve`, `lookups`, `clone` and `load` allocate, and no
+//! other call does. Where an allocation fails, `insert` returns the key and the value as its error and leaves the rows
+//! as they were, and `load` returns `NoMemory`. `insert` and `remove` move the rows behind the key, so they take time
+//! in the number of rows; `load` of many rows sorts them once.
+//!
+//! `load` takes prefix bytes, one network after the other, and keeps the index of each as its value. `inside` has the
+//! rows whose key is in a network, and `least_cover` the shortest list of networks with the addresses of all keys:
+//!
+//! ```
+//! let bytes = [9, 10, 0, 9, 10, 128, 24, 192, 0, 2];
+//! let table = LpmTable::<Ipv4Cidr, usize>::load(rt.alloc(), &bytes)?;
+//! ```
+//!
+//! ```
+//! table.inside(&"10.0.0.0/8".parse()?) // [(10.0.0.0/9, 0), (10.128.0.0/9, 1)]
+//!
+//! let mut networks = ["0.0.0.0/0".parse::<Ipv4Cidr>()?; 3];
+//! if table.len() <= networks.len() {
+//!     let count = table.least_cover(&mut networks);
+//!     &networks[..count] // [10.0.0.0/8, 192.0.2.0/24]
+//! }
+//! ```
+//!
+//! Bytes that are no table give the index of the first network that is rejected, and why:
+//!
+//! ```
+//! match LpmTable::<Ipv4Cidr, usize>::load(rt.alloc(), &[8, 10, 40]) {
+//!     Ok(table) => println!(rt; "{} rows", table.len())?,
+//!     Err(LoadError::Prefix(index, error)) => println!(rt; "prefix {index}: {error}")?,
+//!     Err(LoadError::NoMemory) => return Err(Failure::NoMemory),
+//! }
+//! ```
+//!
+//! which prints
+//!
+//! ```text
+//! prefix 1: prefix length is too long
+//! ```
+//!
+//! `lookup` returns the row of the longest key that begins the bits of an address or a network, and `matches` all rows
+//! whose key does, the shortest key first. Who looks up many addresses in rows that stay as they are makes them ready
+//! once by `lookups`, whose result borrows the table: a look-up then takes one search, and from the key that it finds
+//! goes along links, each to the longest key that begins the last one.
 //!
 //! `longest_match` is a function over any `Probe`, which counts the comparisons with keys. With n the number of rows
-//! and d that of the binary digits of n, it makes at most `(len + 1) * d` of them, where `len` is the length of the
-//! asked bits.
-//!
-//! `insert` of a new key and `load` are the only calls that allocate. Where an allocation fails, `insert` returns the
-//! key and the value and leaves the table as it was, and `load` returns `NoMemory`.
-//!
-//! A table of networks of one family is loaded from prefix bytes, one after the other, each with its place:
-//!
-//! ```
-//! LpmTable::<Ipv4Cidr, usize>::load(rt.alloc(), &[8, 10, 16, 10, 1, 0])
-//!                                             // Ok: 0.0.0.0/0 with 2, 10.0.0.0/8 with 0, 10.1.0.0/16 with 1
-//! LpmTable::<Ipv4Cidr, usize>::load(rt.alloc(), &[8, 10, 40])
-//!                                             // Err(Prefix(1, LengthTooLong))
-//! ```
+//! and d that of the binary digits of n, it makes at most `(len + 1) * d` of them, where `len` is the number of bits
+//! that are looked up.
 #![tactic(auto)]
 
 mod count;
 pub mod laws;
+mod lookup;
 mod probe;
 mod rows;
 mod search;
 mod table;
 
-pub use probe::{Probe, longest_match};
+pub use lookup::longest_match;
+pub use probe::Probe;
 pub use rows::Rows;
 pub use table::LpmTable;
+pub use table::iterators::{Keys, Values};
 pub use table::load::LoadError;
+pub use table::lookups::Lookups;
+pub use table::matches::Matches;

@@ -7,7 +7,8 @@ use crate::probe::Probe;
 use std::cmp::Ordering;
 use std::marker::Model;
 
-/// The rows of a table, whose comparisons are counted.
+/// The rows of a table as a [`Probe`](crate::Probe), for `longest_match`. The call `probe` of `LpmTable` makes it. The
+/// count of the comparisons is for the contracts and takes no memory.
 #[derive(Drop)]
 pub struct Rows<'a, C, V> {
     rows: &'a [(C, V)],

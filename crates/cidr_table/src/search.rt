@@ -1,4 +1,4 @@
-//! The searches by halving: for a key, and for how many of the asked bits a key begins with.
+//! The searches by halving: for a key, and for how many bits of the look-up key a key begins with.
 ghost use Rattle.std.specs.Prelude.{◌≡◌, ℕ, ◌+◌, ◌-◌, ◌^◌, ◌<◌, ◌≤◌, length, slice_index_or, take};
 ghost use Rattle.std.specs.List.Sorted.{IsStrictlySortedBy};
 ghost use Rattle.std.specs.declared.cmp.Ordering.TheVariants.{Less};
@@ -7,7 +7,7 @@ ghost use Rattle.cidr_table.specs.Places.{IsPlace, IsShared};
 use crate::probe::Probe;
 use cidr::{BitString, NetworkBits};
 
-/// Where the key stands among the first `end` keys, or the place before which it would.
+/// Where the key stands among the first `end` keys, or the index before which it would.
 pub fn search<C: Ord, P: Probe<C>>(rows: &mut P, key: &C, end: usize) -> Result<usize, usize>
     requires sorted { IsStrictlySortedBy C.cmp (P.keys rows.old) }
     requires end { end ≤ length (P.keys rows.old) }
@@ -15,7 +15,7 @@ pub fn search<C: Ord, P: Probe<C>>(rows: &mut P, key: &C, end: usize) -> Result<
     ensures keys { P.keys rows.new ≡ P.keys rows.old }
     ensures cost { (d : ℕ) → end < 2 ^ d → P.count rows.new ≤ P.count rows.old + d }
 {
-    // Whatever a comparison returns, `half` places are left, so that the compiler can do without a branch on it.
+    // Whatever a comparison returns, `half` indices are left, so that the compiler can do without a branch on it.
     let mut low = 0;
     let mut left = end;
     let mut found = false;
@@ -32,7 +32,7 @@ pub fn search<C: Ord, P: Probe<C>>(rows: &mut P, key: &C, end: usize) -> Result<
     if found { Ok(low) } else { Err(low) }
 }
 
-/// The same, where the keys before the place `start` are known to come before the key.
+/// What `search` returns, where the keys before index `start` are known to come before the key.
 pub fn search_between<C: Ord, P: Probe<C>>(
     rows: &mut P,
     key: &C,
@@ -96,8 +96,8 @@ pub fn search_back<C: Ord, P: Probe<C>>(
     search(rows, key, high)
 }
 
-/// How many of the first `most` asked bits the key at a place begins with: `Ok` where it has no others, and else `Err`
-/// of at least as many, where the key comes before all longer beginnings.
+/// How many of the look-up key's first `most` bits the key at an index begins with: `Ok` where it has no others, and
+/// else `Err` of at least as many, where the key comes before all longer beginnings.
 pub fn shared_len<C: NetworkBits + Copy, P: Probe<C>>(
     rows: &mut P,
     place: usize,

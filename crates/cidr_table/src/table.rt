@@ -1,5 +1,5 @@
 //! The table: its rows ascend by their keys.
-ghost use Rattle.std.specs.Prelude.{◌≡◌, ◌↔◌, ◌<◌, ◌^◌, [], length, slice_get, option_copied, Contains, IfOk, IfErr, OnOk, OnErr, IsOk, IsTrue};
+ghost use Rattle.std.specs.Prelude.{◌≡◌, ◌↔◌, ◌+◌, ◌<◌, ◌≤◌, ◌^◌, [], length, slice_get, option_copied, Contains, IfOk, IfErr, OnOk, OnErr, IsOk, IsTrue};
 ghost use Rattle.std.specs.Slice.Iter.{iter_rest};
 ghost use Rattle.std.specs.Iterator.Adapters.{IterYieldsInOrder, IterYieldsInReverse};
 ghost use Rattle.std.specs.List.Sorted.{IsStrictlySortedBy};
@@ -13,61 +13,126 @@ mod cover;
 use crate::rows::Rows;
 use crate::search::search;
 use cidr::NetworkBits;
-use std::alloc::Global;
+use std::alloc::{AllocError, Global};
 use std::marker::Model;
 use std::mem;
 use std::slice::Iter;
 
+mod clones;
+pub mod iterators;
 pub mod load;
+pub mod lookups;
+mod map_calls;
+pub mod matches;
 
-/// Networks with a value each, in the order of their bits. A network with a value is a row.
+/// A finite map from networks to values, for longest-prefix matching. A key with its value is a row.
+///
+/// The rows are kept in one `Vec`, in the order of the keys, which is that of their bits. `insert` and `remove` of one
+/// key shift the rows after it: O(n). Many prefixes are best loaded at once, by `load`.
 #[derive(Debug, Drop)]
 pub struct LpmTable<C: NetworkBits + Copy, V> {
     rows: Vec<(C, V)>,
 }
 
 impl<C: NetworkBits + Copy, V> Model for LpmTable<C, V> {
-    ghost use Rattle.std.specs.Prelude.{List};
     ghost use Rattle.std.specs.List.Sorted.{IsStrictlySortedBy};
     ghost use Rattle.std.specs.Map.{keys_of};
+    ghost use Rattle.std.specs.Vec.{vec_capacity};
+    ghost use Rattle.cidr_table.specs.FiniteMap.{StoredRows};
 
-    ghost Value = { List (C × V) };
+    ghost Value = { StoredRows C V };
 
-    ghost view = { λ t. t.rows.items };
+    ghost view = { λ t. record { rows = t.rows.items; capacity = vec_capacity t.rows } };
 
     ghost invariant = { λ t. IsStrictlySortedBy C.cmp (keys_of t.rows.items) };
 }
 
 impl<C: NetworkBits + Copy, V> LpmTable<C, V> {
-    /// The empty table, which allocates nothing.
+    /// The empty table. It allocates nothing.
+    ///
+    /// ```
+    /// LpmTable::<Ipv4Cidr, u32>::new(rt.alloc()).is_empty() // true
+    /// ```
     pub fn new(alloc: Global) -> Self
-        ensures { result ≡ [] }
+        ensures rows { result.rows ≡ [] }
+        ensures capacity { result.capacity ≡ 0 }
     {
         LpmTable {
             rows: Vec::new(alloc),
         }
     }
 
-    /// Where the key stands, or the place before which it would.
+    /// The empty table with room for `capacity` rows: up to that number, `insert` allocates nothing.
+    ///
+    /// ```
+    /// let mut routes = Routes::with_capacity(rt.alloc(), 3)?;
+    /// routes.capacity() // 3
+    /// ```
+    pub fn with_capacity(alloc: Global, capacity: usize) -> Result<Self, AllocError>
+        ensures rows { IfOk result (λ table. table.rows ≡ []) }
+        ensures capacity { IfOk result (λ table. table.capacity ≡ capacity) }
+        ensures none { capacity ≡ 0 → IsOk result }
+    {
+        let rows = Vec::with_capacity(alloc, capacity)?;
+        Ok(LpmTable { rows })
+    }
+
+    /// How many rows the table has room for: up to that number, `insert` allocates nothing.
+    ///
+    /// ```
+    /// let mut routes = Routes::with_capacity(rt.alloc(), 3)?;
+    /// routes.capacity() // 3
+    /// ```
+    pub fn capacity(&self) -> usize
+        ensures { result ≡ self.now.capacity }
+    {
+        self.rows.capacity()
+    }
+
+    /// Makes room for `additional` more rows. Where the allocation fails, nothing changes.
+    ///
+    /// ```
+    /// routes.reserve(1)?;
+    /// routes.capacity() > 3 // true
+    /// ```
+    pub fn reserve(&mut self, additional: usize) -> Result<(), AllocError>
+        ensures rows { self.new.rows ≡ self.old.rows }
+        ensures ok { OnOk result (length self.new.rows + additional ≤ self.new.capacity) }
+        ensures err { OnErr result (self.new.capacity ≡ self.old.capacity) }
+        ensures capacity { self.old.capacity ≤ self.new.capacity }
+        ensures room { length self.old.rows + additional ≤ self.old.capacity → IsOk result }
+    {
+        self.rows.reserve(additional)
+    }
+
+    /// The index of the key, or that before which it would stand.
     fn find(&self, key: &C) -> Result<usize, usize>
-        ensures sorted { IsStrictlySortedBy C.cmp (keys_of self.now) }
-        ensures place { IsPlace C.cmp (keys_of self.now) key.now (length self.now) result }
+        ensures sorted { IsStrictlySortedBy C.cmp (keys_of self.now.rows) }
+        ensures place { IsPlace C.cmp (keys_of self.now.rows) key.now (length self.now.rows) result }
     {
         search(&mut self.probe(), key, self.rows.len())
     }
 
-    /// How many keys come before this one.
-    fn lower_bound(&self, key: &C) -> usize
-        ensures sorted { IsStrictlySortedBy C.cmp (keys_of self.now) }
-        ensures bound { IsLowerBound C.cmp (keys_of self.now) key.now (length self.now) result }
+    /// The rows, which ascend.
+    fn ascending(&self) -> &[(C, V)]
+        ensures rows { result.now ≡ self.now.rows }
+        ensures sorted { IsStrictlySortedBy C.cmp (keys_of result.now) }
     {
-        let (Ok(place) | Err(place)) = self.find(key);
-        place
+        self.rows.as_slice()
     }
 
-    /// The value under a key.
+    /// The value under exactly this key, or `None`; for the longest key that an address is in, use
+    /// [`longest_match`](crate::longest_match). Binary search: O(log n).
+    ///
+    /// ```
+    /// let mut routes = LpmTable::<Ipv4Cidr, u32>::new(rt.alloc());
+    /// routes.insert("10.0.0.0/8".parse()?, 1) // Ok(None)
+    /// routes.get(&"10.0.0.0/8".parse()?) // Some(1)
+    /// routes.get(&"10.0.0.0/9".parse()?) // None
+    /// ```
     pub fn get(&self, key: &C) -> Option<&V>
-        ensures { IsUnder self.now key.now (option_copied result) }
+        ensures value { IsUnder self.now.rows key.now (option_copied result) }
+        ensures sorted { IsStrictlySortedBy C.cmp (keys_of self.now.rows) }
     {
         match self.find(key) {
             Ok(place) => {
@@ -80,14 +145,24 @@ impl<C: NetworkBits + Copy, V> LpmTable<C, V> {
 
     /// Sets the value under a key and returns the one that was there.
     ///
-    /// A new key may need memory. Where an allocation fails, the key and the value come back and nothing changes.
+    /// A new key shifts the rows after it, O(n), and allocates where there is no room for one more row, see `capacity`.
+    /// Where an allocation fails, it returns the key and the value as the error and the rows are as they were.
+    /// Replacing a value never fails.
+    ///
+    /// ```
+    /// let mut routes = LpmTable::<Ipv4Cidr, u32>::new(rt.alloc());
+    /// routes.insert("10.0.0.0/8".parse()?, 1) // Ok(None)
+    /// routes.insert("10.0.0.0/8".parse()?, 2) // Ok(Some(1))
+    /// ```
     pub fn insert(&mut self, key: C, value: V) -> Result<Option<V>, (C, V)>
-        ensures before { IfOk result (λ before. IsUnder self.old key before) }
-        ensures ok { OnOk result (IsInserted self.old key value self.new) }
+        ensures before { IfOk result (λ before. IsUnder self.old.rows key before) }
+        ensures ok { OnOk result (IsInserted self.old.rows key value self.new.rows) }
         ensures err { IfErr result (λ pair. pair ≡ (key, value)) }
-        ensures unchanged { OnErr result (self.new ≡ self.old) }
-        ensures present { Contains (keys_of self.old) key → IsOk result }
-        ensures sorted { IsStrictlySortedBy C.cmp (keys_of self.new) }
+        ensures unchanged { OnErr result (self.new.rows ≡ self.old.rows) }
+        ensures present { Contains (keys_of self.old.rows) key → IsOk result }
+        ensures room { length self.old.rows < self.old.capacity → IsOk result }
+        ensures capacity { self.old.capacity ≤ self.new.capacity }
+        ensures sorted { IsStrictlySortedBy C.cmp (keys_of self.new.rows) }
     {
         match self.find(&key) {
             Ok(place) => {
@@ -103,11 +178,20 @@ impl<C: NetworkBits + Copy, V> LpmTable<C, V> {
         }
     }
 
-    /// Removes a key and returns the value that was under it.
+    /// Removes a key and returns the value that was under it, or `None` where there was none. It shifts the rows after
+    /// the key, O(n), and frees no memory.
+    ///
+    /// ```
+    /// let mut routes = LpmTable::<Ipv4Cidr, u32>::new(rt.alloc());
+    /// routes.insert("10.0.0.0/8".parse()?, 1) // Ok(None)
+    /// routes.remove(&"10.0.0.0/8".parse()?) // Some(1)
+    /// routes.remove(&"10.0.0.0/8".parse()?) // None
+    /// ```
     pub fn remove(&mut self, key: &C) -> Option<V>
-        ensures before { IsUnder self.old key.now result }
-        ensures after { IsRemoved self.old key.now self.new }
-        ensures sorted { IsStrictlySortedBy C.cmp (keys_of self.new) }
+        ensures before { IsUnder self.old.rows key.now result }
+        ensures after { IsRemoved self.old.rows key.now self.new.rows }
+        ensures capacity { self.new.capacity ≡ self.old.capacity }
+        ensures sorted { IsStrictlySortedBy C.cmp (keys_of self.new.rows) }
     {
         match self.find(key) {
             Ok(place) => {
@@ -118,55 +202,109 @@ impl<C: NetworkBits + Copy, V> LpmTable<C, V> {
         }
     }
 
-    /// The rows as a probe, for `longest_match`.
+    /// The rows as a probe, for [`longest_match`](crate::longest_match). It borrows the table, copies nothing, and has
+    /// made no comparison.
+    ///
+    /// ```
+    /// let mut routes = LpmTable::<Ipv4Cidr, u32>::new(rt.alloc());
+    /// routes.insert("0.0.0.0/0".parse()?, 1) // Ok(None)
+    /// let mut rows = routes.probe();
+    /// longest_match(&mut rows, &"192.0.2.1".parse()?) // Some(0)
+    /// ```
     pub fn probe(&self) -> Rows<'_, C, V>
-        ensures rows { result.rows ≡ self.now }
+        ensures rows { result.rows ≡ self.now.rows }
         ensures count { result.comparisons ≡ 0 }
-        ensures sorted { IsStrictlySortedBy C.cmp (keys_of self.now) }
+        ensures sorted { IsStrictlySortedBy C.cmp (keys_of self.now.rows) }
     {
         Rows::new(self.rows.as_slice())
     }
 
     /// The number of rows.
+    ///
+    /// ```
+    /// let mut routes = LpmTable::<Ipv4Cidr, u32>::new(rt.alloc());
+    /// routes.insert("10.0.0.0/8".parse()?, 1) // Ok(None)
+    /// routes.len() // 1
+    /// ```
     pub fn len(&self) -> usize
-        ensures { result ≡ length self.now }
+        ensures { result ≡ length self.now.rows }
     {
         self.rows.len()
     }
 
     /// Whether there are no rows.
+    ///
+    /// ```
+    /// let mut routes = LpmTable::<Ipv4Cidr, u32>::new(rt.alloc());
+    /// routes.insert("10.0.0.0/8".parse()?, 1) // Ok(None)
+    /// routes.is_empty() // false
+    /// ```
     pub fn is_empty(&self) -> bool
-        ensures { IsTrue result ↔ (self.now ≡ []) }
+        ensures { IsTrue result ↔ (self.now.rows ≡ []) }
     {
         self.rows.is_empty()
     }
 
-    /// The rows in the order of their keys.
+    /// The rows in the order of their keys: a network before those inside it.
+    ///
+    /// ```
+    /// let mut routes = LpmTable::<Ipv4Cidr, u32>::new(rt.alloc());
+    /// routes.insert("10.0.0.0/8".parse()?, 1) // Ok(None)
+    /// routes.iter().next() // Some((10.0.0.0/8, 1))
+    /// ```
     pub fn iter(&self) -> Iter<'_, (C, V)>
-        ensures rest { iter_rest result ≡ self.now }
+        ensures rest { iter_rest result ≡ self.now.rows }
         ensures bound { length (iter_rest result) < 2 ^ 64 }
         ensures runs { IterYieldsInOrder (C × V) }
         ensures runs_back { IterYieldsInReverse (C × V) }
+        ensures sorted { IsStrictlySortedBy C.cmp (keys_of self.now.rows) }
     {
         self.rows.iter()
     }
 
-    /// The row at a place, counted from 0 in the order of the keys.
+    /// The row at an index, counted from 0 in the order of the keys, or `None` from the number of rows on. The indices
+    /// change with each `insert` of a new key and each `remove`.
+    ///
+    /// ```
+    /// let mut routes = LpmTable::<Ipv4Cidr, u32>::new(rt.alloc());
+    /// routes.insert("10.0.0.0/8".parse()?, 1) // Ok(None)
+    /// routes.row(0) // Some((10.0.0.0/8, 1))
+    /// routes.row(1) // None
+    /// ```
     pub fn row(&self, place: usize) -> Option<&(C, V)>
-        ensures { option_copied result ≡ slice_get self.now place }
+        ensures row { option_copied result ≡ slice_get self.now.rows place }
+        ensures sorted { IsStrictlySortedBy C.cmp (keys_of self.now.rows) }
     {
         self.rows.get(place)
     }
 
-    /// The rows whose key is in the outer network, which may be a key itself, in the order of the keys.
+    /// The rows whose key is in the outer network, which may be a key itself, in the order of the keys. Two binary
+    /// searches: O(log n).
+    ///
+    /// ```
+    /// let mut routes = LpmTable::<Ipv4Cidr, u32>::new(rt.alloc());
+    /// routes.insert("10.0.0.0/8".parse()?, 1) // Ok(None)
+    /// routes.insert("10.1.0.0/16".parse()?, 2) // Ok(None)
+    /// routes.inside(&"10.0.0.0/9".parse()?) // [(10.1.0.0/16, 2)]
+    /// ```
     pub fn inside(&self, outer: &C) -> &[(C, V)]
-        ensures rows { AreInside C.bits self.now (C.bits outer.now) result.now }
+        ensures rows { AreInside C.bits self.now.rows (C.bits outer.now) result.now }
         ensures sorted { IsStrictlySortedBy C.cmp (keys_of result.now) }
     {
-        let from = &self.rows[self.lower_bound(outer)..];
+        let rows = self.ascending();
+        let from = &rows[lower_bound(rows, outer)..];
         let len = from.partition_point(|row| is_inside(&row.0, outer));
         &from[..len]
     }
+}
+
+/// How many keys of rows that ascend come before this one.
+fn lower_bound<C: NetworkBits, V>(rows: &[(C, V)], key: &C) -> usize
+    requires { IsStrictlySortedBy C.cmp (keys_of rows.now) }
+    ensures { IsLowerBound C.cmp (keys_of rows.now) key.now (length rows.now) result }
+{
+    let (Ok(place) | Err(place)) = search(&mut Rows::new(rows), key, rows.len());
+    place
 }
 
 /// Whether the bits of a key begin with those of the outer network.

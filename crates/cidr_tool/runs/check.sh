@@ -61,6 +61,32 @@ rows() {
     run 2 '' "$usage" show 10.0.0.0/8 $'\xff'
 }
 
+# Each command that docs/TOOL.md shows, as a line after `$`, prints the lines that stand below it there, on one stream.
+rows_of_the_page() {
+    local line words='' wanted='' shown_commands=0
+    while IFS= read -r line; do
+        if [[ -n $words && $line == '    '[^$]* ]]; then
+            wanted+=${line#    }$'\n'
+            continue
+        fi
+        if [[ -n $words ]]; then
+            # no word on the page has a space, a quote or a star
+            timeout 60 "$program" $words </dev/null >"$room/page" 2>&1 || true
+            if ! printf '%s' "$wanted" | cmp -s - "$room/page"; then
+                differs=1
+                echo "$build $words: not as docs/TOOL.md has it" >&2
+            fi
+            shown_commands=$((shown_commands + 1))
+        fi
+        words='' wanted=''
+        [[ $line != '    $ cidr_tool '* ]] || words=${line#'    $ cidr_tool '}
+    done < <(cat ../../docs/TOOL.md && echo)
+    if ((!shown_commands)); then
+        differs=1
+        echo "docs/TOOL.md shows no command" >&2
+    fi
+}
+
 # Either stream fails, or both.
 rows_where_a_stream_fails() {
     local output_file=/dev/full
@@ -86,6 +112,7 @@ for build in cidr_tool cidr_tool.by-rattle; do
     cp "out/$build" "$program"
     chmod 755 "$program"
     rows
+    rows_of_the_page
     if [[ -c /dev/full ]]; then
         rows_where_a_stream_fails
     fi

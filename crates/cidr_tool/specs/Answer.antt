@@ -56,12 +56,13 @@ IsUsage arguments = (request : Request) → ¬ (IsRequest arguments request)
 abbrev pub line : List ℕ → List ℕ → List ℕ
 line name value = name ++ value ++ codes "\n"
 
--- the lines of `show`, from the texts of their values
+-- the lines of `show`, from the strings of their values
 unfoldable pub show_lines : List ℕ → List ℕ → List ℕ → List ℕ → List ℕ → List ℕ → List ℕ
 show_lines network first last mask len family =
     line (codes "network ") network ++ line (codes "first ") first ++ line (codes "last ") last
     ++ line (codes "mask ") mask ++ line (codes "length ") len ++ line (codes "family ") family
 
+-- the name of a family, as `show` writes it
 abbrev pub family_name : Family → List ℕ
 family_name Ipv4 = codes "Ipv4"
 family_name Ipv6 = codes "Ipv6"
@@ -92,7 +93,7 @@ hex_byte byte = digit_char (byte / 16) ∷ digit_char (byte % 16) ∷ []
 abbrev pub hex_text : List ℕ → List ℕ
 hex_text bytes = flat_map hex_byte bytes
 
--- the text that a request is answered with
+-- the string that a request is answered with
 abbrev pub IsAnswer : Request → List ℕ → Type 0
 IsAnswer (Show net) text = (network : AnyIpCidr) × IsAnyNetworkText net network × (text ≡ show_text network)
 IsAnswer (Holds net address) text =
@@ -104,15 +105,15 @@ IsAnswer (Walk net ends) text = (network : IpCidr) × IsIpNetworkText net networ
 IsAnswer (Bytes net) text = (network : AnyIpCidr) × IsAnyNetworkText net network × (text ≡ hex_text (any_network_bytes network) ++ codes "\n")
 IsAnswer (Loose spelled) text = (a : IpAddr) × IsLooseIpText spelled a × (text ≡ ip_text a ++ codes "\n")
 
--- no network is spelled, and this is the first error
+-- the string represents no network, and this is the first error
 abbrev pub IsNetRefused : List ℕ → NetworkParseError → Type 0
 IsNetRefused net e = IsIpRefused net e × ((n : AnyIpCidr) → ¬ (IsAnyNetworkText net n))
 
--- a text that spells no address is refused with the error of an address
+-- a string that represents no address gives the error of an address
 abbrev pub IsAddressRefused : (List ℕ → IpAddr → Type 0) → List ℕ → AddrParseError → Type 0
 IsAddressRefused Spells text e = (e ≡ ip_error) × ((a : IpAddr) → ¬ (Spells text a))
 
--- the error that a request is refused with: that of the first argument that is wrong
+-- the error of a request that has no answer: that of the first argument that is wrong
 abbrev pub IsRefusal : Request → Fault → Type 0
 IsRefusal (Show net) (Network e) = IsNetRefused net e
 IsRefusal (Show net) (Address e) = ⊥
@@ -127,7 +128,7 @@ IsRefusal (Bytes net) (Address e) = ⊥
 IsRefusal (Loose text) (Network e) = ⊥
 IsRefusal (Loose text) (Address e) = IsAddressRefused IsLooseIpText text e
 
--- What becomes of a request and of the sink. A refusal writes nothing. A request that has an answer is written
+-- What becomes of a request and of the sink. An error writes nothing. A request that has an answer is written
 -- whole, or the sink has failed and a beginning of the answer was written, none if it had failed before.
 abbrev pub AnswersRequest : Request → State → State → Result (Unit {0}) ToolError → Type 0
 AnswersRequest request old new r =

@@ -3,6 +3,7 @@ use Rattle.cidr_tool.specs.Answer.{Request, Show, Holds, Compare, Walk, Bytes, L
 use Rattle.cidr_tool.specs.declared.commands.Command.{Command}
 use Rattle.cidr_tool.specs.declared.commands.Command.TheVariants as command
 
+-- the same command with the bytes of its arguments
 abbrev pub request_of : Command → Request
 request_of (command.Show net) = Show net.now
 request_of (command.Holds net address) = Holds net.now address.now

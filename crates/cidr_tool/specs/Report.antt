@@ -12,6 +12,7 @@ abbrev pub message_of : Fault → List ℕ
 message_of (Network e) = parse_message e
 message_of (Address e) = address_message e
 
+-- the exit status: 0 done, 1 an argument is in error, 2 usage, 3 the output failed
 abbrev pub status_of : Result (Unit {0}) ToolError → ℕ
 status_of (Ok _) = 0
 status_of (Err (Refused fault)) = 1
@@ -22,16 +23,19 @@ status_of (Err Output) = 3
 abbrev pub Says : State → State → List ℕ → Type 0
 Says old new line = (r : Result (Unit {0}) ToolError) × Answered old new line r
 
+-- the line for arguments that are no command
 abbrev pub usage_line : List ℕ
 usage_line = codes "usage: cidr_tool show NET | in NET ADDR | cmp NET NET | walk NET ENDS | bytes NET | loose TEXT\n"
 
+-- the line for an output that failed
 abbrev pub output_line : List ℕ
 output_line = codes "output failed\n"
 
+-- the line for arguments that there is no memory for
 abbrev pub no_memory_line : List ℕ
 no_memory_line = codes "no memory\n"
 
--- the line of a refusal: the error's message
+-- the line for an argument in error: the error's message
 abbrev pub refusal_line : Fault → List ℕ
 refusal_line fault = message_of fault ++ codes "\n"
 

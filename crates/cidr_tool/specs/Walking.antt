@@ -15,10 +15,11 @@ abbrev pub letter : End → ℕ
 letter Front = 102
 letter Back = 98
 
--- the letters name these ends, one each, and no more than there may be
+-- how many letters there may be
 abbrev pub most_ends : ℕ
 most_ends = 256
 
+-- the letters name these ends, one each, and no more than there may be
 abbrev pub NamesEnds : List ℕ → List End → Type 0
 NamesEnds letters ends = (letters ≡ map letter ends) × (length ends ≤ most_ends)
 

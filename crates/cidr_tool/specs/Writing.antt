@@ -1,3 +1,4 @@
+-- What a sink that bytes are written to tells of itself, and how an answer is written to it.
 use Rattle.std.specs.Prelude.{◌≡◌, ℕ, ◌≤◌, ◌<◌, Bool, true, false, List, [], ◌++◌, length, take, Option, Some, None, Result, Ok, Err}
 use Rattle.cidr_tool.specs.declared.errors.ToolError.{ToolError}
 use Rattle.cidr_tool.specs.declared.errors.ToolError.TheVariants.{Output}
@@ -13,12 +14,12 @@ abbrev pub Takes : State → State → List ℕ → Option ℕ → Type 0
 Takes old new bytes None = Keeps old.taken new.taken × (new.failed ≡ true) × (0 < length bytes)
 Takes old new bytes (Some n) = Appends old.taken new.taken (take n bytes) × (new.failed ≡ old.failed) × (n ≤ length bytes) × (0 < length bytes → 0 < n)
 
--- a whole text was taken, and nothing failed
+-- a whole string was taken, and nothing failed
 pub record Whole (old new : State) (text : List ℕ) : Type 0 where
   pub taken : Appends old.taken new.taken text
   pub fine : new.failed ≡ old.failed
 
--- a beginning of a text was taken, and the sink has failed
+-- a beginning of a string was taken, and the sink has failed
 pub record Part (old new : State) (text : List ℕ) : Type 0 where
   pub front : List ℕ
   pub rest : List ℕ
@@ -26,11 +27,12 @@ pub record Part (old new : State) (text : List ℕ) : Type 0 where
   pub taken : Appends old.taken new.taken front
   pub failed : new.failed ≡ true
 
--- a text was written, or a beginning of it
+-- a string was written, or a beginning of it
 abbrev pub Writes : State → State → List ℕ → Result (Unit {0}) ToolError → Type 0
 Writes old new text (Ok _) = Whole old new text
 Writes old new text (Err e) = (e ≡ Output) × Part old new text
 
+-- a flush: `true` where it succeeded, and `false` where the sink has failed
 abbrev pub Flushes : State → State → Bool → Type 0
 Flushes old new true = Whole old new []
 Flushes old new false = Part old new []

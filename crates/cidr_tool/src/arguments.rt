@@ -17,7 +17,7 @@ pub trait Arguments {
     /// The bytes of each argument, if they are told.
     ghost told: { Self → Option (List (List ℕ)) };
 
-    /// Copies the argument at this place, from 0 on, to the start of `buf`, and returns its length in bytes.
+    /// Copies the argument at this index, from 0 on, to the start of `buf`, and returns its length in bytes.
     fn copy_to(&self, place: usize, buf: &mut [u8]) -> Result<usize, FillError>
         requires { place < 18446744073709551615 }
         ensures bound { WritesAtMost result buf.new }
@@ -60,7 +60,7 @@ impl From<AllocError> for ReadError {
     }
 }
 
-/// The bytes of the argument at this place; `None` past the last one.
+/// The bytes of the argument at this index; `None` past the last one.
 fn bytes_at<A: Arguments>(
     alloc: Global,
     arguments: &A,
@@ -85,7 +85,7 @@ fn bytes_at<A: Arguments>(
     Err(AllocError)
 }
 
-/// The arguments as texts.
+/// The arguments as strings.
 pub fn texts_of<A: Arguments>(alloc: Global, arguments: &A) -> Result<Vec<String>, ReadError>
     ensures { MatchResult result (λ texts. AreArguments (A.told arguments.now) (map string_bytes texts.items))
         (λ e. e ≡ NotText → AreUnreadable (A.told arguments.now)) }

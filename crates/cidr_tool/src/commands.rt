@@ -18,7 +18,7 @@ pub enum Command<'a> {
     Walk(&'a str, Ends),
     /// The compact bytes of a network.
     Bytes(&'a str),
-    /// The address that a loose text spells.
+    /// The address that a loose string is parsed as.
     Loose(&'a str),
 }
 

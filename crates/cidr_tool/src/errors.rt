@@ -1,22 +1,23 @@
 //! Why a run of the program gave no answer.
 ghost use Rattle.std.specs.Prelude.{◌≡◌};
+ghost use Rattle.cidr.specs.either.IpAddress.{TellsEqual};
 
 use cidr::AddrParseError;
 use cidr::errors::NetworkParseError;
 
-/// The error of an argument that was refused.
+/// Why an argument was rejected.
 #[derive(Debug, Drop, PartialEq)]
 pub enum Fault {
-    /// An argument is no network.
+    /// An argument is no network: the error of parsing it.
     Network(NetworkParseError),
-    /// An argument is no address.
+    /// An argument is no address: the error of parsing it.
     Address(AddrParseError),
 }
 
 /// Why `run` gave no answer.
 #[derive(Debug, Drop, PartialEq)]
 pub enum ToolError {
-    /// An argument was refused; nothing was written.
+    /// An argument was rejected; nothing was written.
     Refused(Fault),
     /// The arguments are no command of the program; nothing was written.
     Usage,
@@ -44,4 +45,12 @@ impl From<AddrParseError> for ToolError {
     fn from(e: AddrParseError) -> ToolError {
         ToolError::Refused(Fault::Address(e))
     }
+}
+
+/// Errors are equal exactly where their kind and their contents are the same.
+pub fn equal_errors_are_the_same()
+    ensures fault { TellsEqual ⟦<Fault as PartialEq>⟧.eq }
+    ensures tool { TellsEqual ⟦<ToolError as PartialEq>⟧.eq }
+{
+    cidr::laws::errors::equal_errors_are_the_same();
 }

@@ -209,7 +209,7 @@ fn bytes<S: Sink>(net: &str, out: &mut S) -> Result<(), ToolError>
     write_text(out, hex_line(value.to_compact().as_slice()).as_str())
 }
 
-/// The longest text of an address, and a line feed.
+/// The longest string of an address, and a line feed.
 const MOST_LINE: usize = 40;
 
 /// The line of an address.
@@ -232,7 +232,7 @@ fn loose<S: Sink>(text: &str, out: &mut S) -> Result<(), ToolError>
 
 /// Answers the program's arguments, which come without its name.
 ///
-/// Whether they are a command is found first, then the first argument that is refused, and only then is anything
+/// Whether they are a command is found first, then the first argument that is rejected, and only then is anything
 /// written.
 pub fn run<S: Sink>(words: &[&str], out: &mut S) -> Result<(), ToolError>
     ensures { Answers (map (λ w. w.now) words.now) (S.state out.old) (S.state out.new) result }

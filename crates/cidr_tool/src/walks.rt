@@ -39,7 +39,7 @@ impl Model for Ends {
 }
 
 impl Ends {
-    /// The ends that the text names, letter by letter: `f` is the front and `b` the back.
+    /// The ends that the string names, letter by letter: `f` is the front and `b` the back.
     pub fn named_by(text: &str) -> Option<Ends>
         ensures { MatchOption result ((ends : List AnEnd) → ¬ (NamesEnds text.now ends)) (NamesEnds text.now) }
     {

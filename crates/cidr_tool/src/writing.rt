@@ -1,4 +1,4 @@
-//! Writing a whole text to a sink that may take it in parts.
+//! Writing a whole string to a sink that may take it in parts.
 ghost use Rattle.std.specs.Prelude.{◌≡◌, []};
 ghost use Rattle.cidr_tool.specs.Writing.{Writes, Answered};
 
@@ -30,7 +30,7 @@ fn flush<S: Sink>(out: &mut S) -> Result<(), ToolError>
     }
 }
 
-/// Writes a text, by one call of `write` where the sink takes all of it, and flushes. A sink that has failed before
+/// Writes a string, by one call of `write` where the sink takes all of it, and flushes. A sink that has failed before
 /// gets nothing.
 pub fn write_text<S: Sink>(out: &mut S, text: &str) -> Result<(), ToolError>
     ensures { Answered (S.state out.old) (S.state out.new) text.now result }

@@ -1,7 +1,8 @@
 -- What agreement in all of five or in none says of texts and bytes, and which addresses a mapped walk has.
-use Rattle.std.proofs.Common.{◌≡◌, ◌↔◌, ℕ, zero, suc, ◌<◌, Bool, true, false, not, List, [], ◌∷◌, length, map, get_or, IsTrue, IsFalse, nat_eq, refl, sym, ap, ap₂, ◌∙◌, subst, arith, ◌⊎◌, inl, inr}
+use Rattle.std.proofs.Common.{◌≡◌, ◌↔◌, ℕ, zero, suc, ◌<◌, Bool, true, false, not, List, [], ◌∷◌, length, map, get_or, IsTrue, IsFalse, nat_eq, refl, sym, ap, ap₂, ◌∙◌, subst, arith, ◌⊎◌, inl, inr, slice_get, Some}
 use Rattle.std.proofs.lemmas.List.{get_or-map, length-map}
 use Rattle.std.proofs.lemmas.Cmp.{nat_list_eq_equiv}
+use Rattle.std.proofs.lemmas.Option.{get_or_from_slice_get}
 use Rattle.std.specs.Cmp.Lexicographic.{pointwise, same_text}
 use Rattle.std.specs.List.{Contains, AllByRecursion}
 use Rattle.std.specs.List.Sorted.{IsStrictlySortedBy}
@@ -24,8 +25,28 @@ not_true : (b : Bool) → ¬ (IsTrue b) → IsTrue (not b)
 not_true true h = absurd (h refl)
 not_true false h = refl
 
+iff_of : (same : Bool) (P : Type 0) → (IsTrue same → P) → (IsFalse same → ¬ P) → IsTrue same ↔ P
+iff_of true P if_true if_false = (λ t. if_true t, λ p. refl)
+iff_of false P if_true if_false = (λ t. absurd (cc), λ p. absurd (if_false refl p))
+
 module _ {N : Type 0} (Holds : N → List Bool → Type 0) (text bytes : N → List ℕ) (cmp : N → N → Ordering) (x y : N) (same : Bool)
     (all : IsTrue same ↔ AllAgree Holds text bytes cmp x y) (none : IsFalse same ↔ NoneAgrees Holds text bytes cmp x y) where
+  -- the test says of each of the five whether it holds
+  pub by_value : IsTrue same ↔ (x ≡ y)
+  by_value = iff_of same (x ≡ y) (λ t. (all.0 t).value) (λ f. (none.0 f).value)
+
+  pub by_order : IsTrue same ↔ (cmp x y ≡ Equal)
+  by_order = iff_of same (cmp x y ≡ Equal) (λ t. (all.0 t).order) (λ f. (none.0 f).order)
+
+  pub by_addresses : IsTrue same ↔ SameAddresses (Holds x) (Holds y)
+  by_addresses = iff_of same (SameAddresses (Holds x) (Holds y)) (λ t. (all.0 t).addresses) (λ f. (none.0 f).addresses)
+
+  pub by_texts : IsTrue same ↔ (text x ≡ text y)
+  by_texts = iff_of same (text x ≡ text y) (λ t. (all.0 t).texts) (λ f. (none.0 f).texts)
+
+  pub by_bytes : IsTrue same ↔ (bytes x ≡ bytes y)
+  by_bytes = iff_of same (bytes x ≡ bytes y) (λ t. (all.0 t).compact) (λ f. (none.0 f).compact)
+
   -- the same texts are printed exactly of the same addresses
   pub texts_tell : (s t : List ℕ) → s ≡ text x → t ≡ text y → IsTrue (pointwise nat_eq s t) ↔ SameAddresses (Holds x) (Holds y)
   texts_tell s t e f = elim (same_or_none same) [
@@ -37,7 +58,15 @@ module _ {N : Type 0} (Holds : N → List Bool → Type 0) (text bytes : N → L
         (λ h. absurd (differ.texts (sym e ∙ (told s t).0 h ∙ f)), λ h. absurd (differ.addresses h))
   ]
 
+  -- networks have the same addresses exactly if they are printed alike
+  pub printed_alike : SameAddresses (Holds x) (Holds y) ↔ (text x ≡ text y)
+  printed_alike = (λ h. by_texts.0 (by_addresses.1 h), λ e. by_addresses.0 (by_texts.1 e))
+
   -- what is ordered has other bytes
+  pub bytes_differ : cmp x y ≡ Less → ¬ (bytes x ≡ bytes y)
+  bytes_differ less e = let bad : Less ≡ Equal = sym less ∙ by_order.0 (by_bytes.1 e) in cc
+
+  -- and so has what tells them
   pub bytes_tell : (s t : List ℕ) → s ≡ bytes x → t ≡ bytes y → cmp x y ≡ Less → IsTrue (not (pointwise nat_eq s t))
   bytes_tell s t e f less = elim (same_or_none same) [
     | inl same_all ↦ let bad : Less ≡ Equal = sym less ∙ (all.0 same_all).order in cc
@@ -81,3 +110,7 @@ walk_of_network family network walk e exact a =
     let mapped = contains_mapped (λ x. (family, x)) (λ x y same. ap (λ p. p.1) same) (network_walk family network) a in
     let whole = exact a in
     rw (e ∙ walk_addresses family network) (λ h. whole.0 (mapped.0 h), λ h. mapped.1 (whole.1 h))
+
+-- the item at an index, told in two ways
+pub same_item : {X : Type 0} (xs : List X) (i : ℕ) (x y : X) → x ≡ get_or xs i x → slice_get xs i ≡ Some y → y ≡ x
+same_item xs i x y here got = sym (get_or_from_slice_get xs i y x got) ∙ sym here

@@ -8,3 +8,4 @@ pub mod Agreements
 pub mod Fronts
 pub mod PrefixFronts
 pub mod Routes
+pub mod WalkCalls

@@ -1,5 +1,5 @@
 -- Bytes that begin with a network's own are read as it.
-use Rattle.std.proofs.Common.{◌≡◌, ℕ, Bool, List, ◌++◌, length, take, Result, Ok, Err, refl, sym, ap, ap₂, ◌∙◌, subst, take_at}
+use Rattle.std.proofs.Common.{◌≡◌, ℕ, Bool, List, ◌++◌, length, take, Result, Ok, Err, refl, ap, ap₂, ◌∙◌, subst, take_at}
 use Rattle.cidr.specs.bytes.Prefix.{prefix_bytes, SpellsPrefix, ReadsPrefix}
 use Rattle.cidr.specs.model.Views.{seen}
 use Rattle.cidr.specs.declared.errors.PrefixBytesError.{PrefixBytesError}

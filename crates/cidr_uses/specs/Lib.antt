@@ -4,3 +4,4 @@ pub mod AddressPool
 pub mod ConfigLine
 pub mod Consequences
 pub mod Routing
+pub mod WalkCalls

@@ -1,6 +1,7 @@
 -- Routes: rows of a table, of which the longest key that an address or a network begins with decides.
-use Rattle.std.specs.Prelude.{◌≤◌, Bool, List, length, Contains}
+use Rattle.std.specs.Prelude.{ℕ, ◌≤◌, Bool, List, [], length, Contains, Option, MatchOption}
 use Rattle.cidr.specs.model.Network.{BeginsWith}
+use Rattle.cidr_table.specs.Loading.{IsListed, IsLastPlace}
 
 module _ {C V : Type 0} (bits : C → List Bool) (routes : List (C × V)) (asked : List Bool) where
   -- no key begins the asked bits
@@ -12,3 +13,9 @@ module _ {C V : Type 0} (bits : C → List Bool) (routes : List (C × V)) (asked
     pub there : Contains routes route
     pub begins : BeginsWith asked (bits route.0)
     pub longest : (row : C × V) → Contains routes row → BeginsWith asked (bits row.0) → length (bits row.0) ≤ length (bits route.0)
+
+-- the bytes are a list of prefixes, each written as prefix bytes, and this is the last place of the network in it, or it
+-- isn't there
+abbrev pub IsLastListed : {C : Type 0} → (C → List Bool) → ℕ → List ℕ → C → Option ℕ → Type 0
+IsLastListed {C} bits w bytes network place = (networks : List C) × IsListed bits w networks [] bytes
+    × MatchOption place (¬ (Contains networks network)) (IsLastPlace networks network)

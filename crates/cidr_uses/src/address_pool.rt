@@ -65,7 +65,7 @@ impl AddressPool {
     }
 }
 
-/// Two addresses of a network, the second above the first, or `None` where the network has one address alone.
+/// Two addresses of a network, the second above the first, or `None` where the network has only one address.
 pub fn two_addresses(network: Ipv4Cidr) -> Option<(Ipv4Addr, Ipv4Addr)>
     ensures first { IfSome result (λ p. BeginsWith p.0 network) }
     ensures second { IfSome result (λ p. BeginsWith p.1 network) }

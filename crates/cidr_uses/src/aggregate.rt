@@ -13,14 +13,14 @@ use cidr_table::laws::covers::{cover_is_exact, cover_is_refined_by_others};
 /// Whether the keys of the table together have every address of the network: 10.0.0.0/9 and 10.128.0.0/9 have those of
 /// 10.0.0.0/8, which lies in neither.
 ///
-/// The condition is that `shorter` has as many places as the table has rows.
+/// The caller has to prove that `shorter` has as many elements as the table has rows.
 pub fn has_all<C: NetworkBits + Copy, V>(
     table: &LpmTable<C, V>,
     shorter: &mut [C],
     network: &C,
 ) -> bool
-    requires room { length table.now ≤ length shorter.old }
-    ensures { IsTrue result ↔ IsFull 129 (map C.bits (keys_of table.now)) (C.bits network.now) }
+    requires room { length table.now.rows ≤ length shorter.old }
+    ensures { IsTrue result ↔ IsFull 129 (map C.bits (keys_of table.now.rows)) (C.bits network.now) }
 {
     // the calls tell the proof that the shorter list has the same addresses, and which networks lie in one of it
     cover_is_exact();

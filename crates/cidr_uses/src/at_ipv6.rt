@@ -1,4 +1,4 @@
-//! The calls of the IPv6 types promise, at their types, what the types of both families promise in general.
+//! 24 calls of the IPv6 types promise, at their types, what the types of both families promise in general.
 ghost use Rattle.std.specs.Prelude.{◌≡◌, ◌≤◌, ◌↔◌, length, IsTrue};
 ghost use Rattle.cidr.specs.model.Host.{next_of, previous_of, stepped_up, stepped_down, WrapsUp, WrapsDown, network_of, host_from, lone_host};
 ghost use Rattle.cidr.specs.model.Network.{network_from, HoldsAll, HasWidth, BeginsWith, first_of, last_of, mask_of};
@@ -28,14 +28,14 @@ pub fn lone_network(address: Ipv6Addr) -> Ipv6Cidr
     Ipv6Cidr::new_host(address)
 }
 
-/// The network that a text spells.
+/// The network that a string is parsed as.
 pub fn read_network(text: &str) -> Result<Ipv6Cidr, NetworkParseError>
     ensures { ReadsNetwork Ipv6 text.now result }
 {
     text.parse::<Ipv6Cidr>()
 }
 
-/// The printed text of a network, which spells it.
+/// The printed string of a network, which is parsed as it.
 pub fn network_text(network: &Ipv6Cidr) -> ArrayString<43>
     ensures text { result.bytes ≡ plain_text Ipv6 network.now }
     ensures len { length result.bytes ≤ 43 }
@@ -111,14 +111,14 @@ pub fn lone_host_of(address: Ipv6Addr) -> Ipv6Inet
     Ipv6Inet::new_host(address)
 }
 
-/// The host that a text spells.
+/// The host that a string is parsed as.
 pub fn read_host(text: &str) -> Result<Ipv6Inet, NetworkParseError>
     ensures { ReadsHost Ipv6 text.now result }
 {
     text.parse::<Ipv6Inet>()
 }
 
-/// The printed text of a host, which spells it.
+/// The printed string of a host, which is parsed as it.
 pub fn host_text(host: &Ipv6Inet) -> ArrayString<43>
     ensures text { result.bytes ≡ plain_host_text Ipv6 host.now }
     ensures len { length result.bytes ≤ 43 }
@@ -189,7 +189,7 @@ pub fn network_of_both(pair: &Ipv6InetPair) -> Ipv6Cidr
     pair.network()
 }
 
-/// The printed text of a pair.
+/// The printed string of a pair.
 pub fn text_of_pair(pair: &Ipv6InetPair) -> ArrayString<90>
     ensures text { result.bytes ≡ pair_text (plain_host_text Ipv6) pair.now }
     ensures len { length result.bytes ≤ 90 }

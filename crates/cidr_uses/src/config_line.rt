@@ -14,7 +14,7 @@ use std::fmt;
 pub enum LineError {
     /// The line does not begin with `allow` and a blank.
     NotAllow,
-    /// The text after `allow` and a blank is no network.
+    /// What follows `allow` and a blank is no network.
     Network(NetworkParseError),
 }
 
@@ -47,8 +47,8 @@ impl From<NetworkParseError> for LineError {
 
 /// The network that a line allows. Nothing may stand after the network, and one blank before it.
 ///
-/// Refuses a line that does not begin with `allow` and a blank, and then a text after that which spells no network,
-/// with the error that reading the network gives: `allow 10.0.0.1/8` has a host part that is not zero.
+/// Returns an error for a line that does not begin with `allow` and a blank, and then for a string after that which is
+/// no network, with the error of parsing the network: `allow 10.0.0.1/8` has a host part that is not zero.
 pub fn allowed_network(line: &str) -> Result<AnyIpCidr, LineError>
     ensures { ReadsLine line.now result }
 {
@@ -58,7 +58,7 @@ pub fn allowed_network(line: &str) -> Result<AnyIpCidr, LineError>
     }
 }
 
-/// The message of an error, as a text of its own.
+/// The message of an error, as a string of its own.
 pub fn message(alloc: Global, error: &LineError) -> Result<String, AllocError>
     ensures { IfOk result (λ text. string_bytes text ≡ line_message error.now) }
 {

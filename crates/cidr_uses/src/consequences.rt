@@ -1,6 +1,9 @@
 //! What follows where several promises of the library are taken together.
-ghost use Rattle.std.specs.Prelude.{◌<◌, ◌⊎◌, IsTrue, MatchResult, length};
+ghost use Rattle.std.specs.Prelude.{◌≡◌, ◌≢◌, ◌<◌, ◌⊎◌, IsTrue, MatchResult, Some, length};
+ghost use Rattle.std.specs.List.{slice_get};
 ghost use Rattle.std.specs.List.Sorted.{IsStrictlySortedBy};
+ghost use Rattle.cidr.specs.bytes.Compact.{ip_network_bytes};
+ghost use Rattle.cidr.specs.declared.cidr.combined.IpCidr.{IpCidr};
 ghost use Rattle.cidr.specs.declared.family.Family.TheVariants.{Ipv4};
 ghost use Rattle.cidr.specs.either.IpText.{IsIpRefused};
 ghost use Rattle.cidr.specs.texts.Messages.{ipv4_error};
@@ -11,7 +14,7 @@ use cidr::canon::agree;
 use cidr::errors::NetworkParseError;
 use cidr::{AnyIpCidr, InetAddressIterator, IpCidr, Ipv4Addr, Ipv4Cidr};
 
-/// Whether two texts are of networks with the same addresses: those are printed alike, and no others are.
+/// Whether two strings are of networks with the same addresses: those are printed alike, and no others are.
 pub fn same_addresses(first: &str, second: &str) -> Result<bool, NetworkParseError>
     ensures { MatchResult result (AreCompared first.now second.now)
         (λ e. IsIpRefused first.now e ⊎ IsIpRefused second.now e) }
@@ -24,17 +27,19 @@ pub fn same_addresses(first: &str, second: &str) -> Result<bool, NetworkParseErr
         Ok(network) => network,
         Err(e) => return Err(e),
     };
-    // the call tells the proof that all or none of their values, texts and addresses are the same
+    // the call tells the proof that all or none of their values, strings and addresses are the same
     let _same = agree(&one, &other);
     Ok(one.to_text().as_str() == other.to_text().as_str())
 }
 
-/// Always true: networks in strict order have no compact bytes in common.
+/// Always true: two networks at different indexes of a list in strict order have different compact bytes.
 pub fn bytes_differ(networks: &[IpCidr], i: usize, j: usize) -> bool
     requires sorted { IsStrictlySortedBy ⟦<IpCidr as Ord>⟧.cmp networks.now }
     requires order { i < j }
     requires within { j < length networks.now }
-    ensures { IsTrue result }
+    ensures value { IsTrue result }
+    ensures bytes { (one other : IpCidr) → slice_get networks.now i ≡ Some one → slice_get networks.now j ≡ Some other →
+        ip_network_bytes one ≢ ip_network_bytes other }
 {
     let (one, other) = (networks[i], networks[j]);
     // the call tells the proof that all or none of their order, bytes and addresses are the same
@@ -42,7 +47,7 @@ pub fn bytes_differ(networks: &[IpCidr], i: usize, j: usize) -> bool
     one.to_compact().as_slice() != other.to_compact().as_slice()
 }
 
-/// The walk over the addresses of the network that a text is of: exactly those that `contains` returns true for.
+/// The walk over the addresses of a string's network: exactly those that `contains` returns true for.
 pub fn walk_of_text(text: &str) -> Result<InetAddressIterator<Ipv4Addr>, NetworkParseError>
     ensures { MatchResult result (IsWalkOfText Ipv4 text.now) (IsRefused Ipv4 ipv4_error text.now) }
 {

@@ -1,4 +1,4 @@
-//! A new host has the prefix length that was asked for, and the host of an address alone has the full one.
+//! A new host has the prefix length of the argument, and the host of an address with no prefix length the full one.
 ghost use Rattle.std.specs.Prelude.{◌≡◌, IsTrue, Err, MatchResult};
 ghost use Rattle.cidr.specs.either.IpHost.{ip_host_from};
 ghost use Rattle.cidr.specs.model.Host.{host_from};
@@ -7,7 +7,7 @@ ghost use Rattle.cidr.specs.declared.family.Family.TheVariants.{Ipv4, Ipv6};
 use cidr::errors::NetworkLengthTooLongError;
 use cidr::{Inet, IpAddr, IpInet, Ipv4Addr, Ipv4Inet, Ipv6Addr, Ipv6Inet};
 
-/// Always true: the network of the host of an IPv4 address alone is a single address.
+/// Always true: the network of the host of an IPv4 address with no prefix length is a single address.
 pub fn ipv4_host_is_alone(address: Ipv4Addr) -> bool
     ensures { IsTrue result }
 {
@@ -67,7 +67,7 @@ pub fn host_first<I: Inet>(address: I::Address) -> I::Address
     host.first_address()
 }
 
-/// The prefix length of a new IPv4 host, which is the one that was asked for, or why there is no such host.
+/// The prefix length of a new IPv4 host, which is that of the argument, or why there is no such host.
 pub fn ipv4_host_length(address: Ipv4Addr, len: u8) -> Result<u8, NetworkLengthTooLongError>
     ensures { MatchResult result (λ n. n ≡ len) (λ e. host_from Ipv4 address len ≡ Err e) }
 {

@@ -1,5 +1,5 @@
-//! Parts of small programs, written by the public calls of `cidr` and `cidr_table` alone and proved from their public
-//! contracts alone.
+//! Parts of small programs, written by the public calls of `cidr` and `cidr_table` only and proved from their public
+//! contracts only.
 #![tactic(auto)]
 
 pub mod access_list;
@@ -10,9 +10,13 @@ pub mod at_ipv6;
 pub mod compact;
 pub mod config_line;
 pub mod consequences;
+pub mod five_equalities;
 pub mod host_lengths;
+pub mod look_ups;
+pub mod nesting;
 pub mod network_lengths;
 pub mod prefix_bytes;
 pub mod prefix_tree;
 pub mod read_back;
 pub mod routing_table;
+pub mod walk_calls;

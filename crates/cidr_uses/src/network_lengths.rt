@@ -1,4 +1,4 @@
-//! A new network has the prefix length that was asked for, and the network of an address alone has the full one.
+//! A new network has the prefix length of the argument, and that of an address with no prefix length the full one.
 ghost use Rattle.std.specs.Prelude.{◌≡◌, IsTrue, Err, MatchResult, Some};
 ghost use Rattle.cidr.specs.model.Network.{network_from};
 ghost use Rattle.cidr.specs.either.IpNetwork.{ip_network_from};
@@ -7,7 +7,7 @@ ghost use Rattle.cidr.specs.declared.family.Family.TheVariants.{Ipv4, Ipv6};
 use cidr::errors::NetworkParseError;
 use cidr::{AnyIpCidr, Cidr, IpAddr, IpCidr, Ipv4Addr, Ipv4Cidr, Ipv6Addr, Ipv6Cidr};
 
-/// Always true: the network of an IPv4 address alone is a single address.
+/// Always true: the network of an IPv4 address with no prefix length is a single address.
 pub fn ipv4_network_is_alone(address: Ipv4Addr) -> bool
     ensures { IsTrue result }
 {
@@ -78,7 +78,7 @@ pub fn network_first<C: Cidr>(address: C::Address) -> C::Address
     C::new_host(address).first_address()
 }
 
-/// The prefix length of a new IPv4 network, which is the one that was asked for, or why there is no such network.
+/// The prefix length of a new IPv4 network, which is that of the argument, or why there is no such network.
 pub fn ipv4_network_length(address: Ipv4Addr, len: u8) -> Result<u8, NetworkParseError>
     ensures { MatchResult result (λ n. n ≡ len) (λ e. network_from Ipv4 address len ≡ Err e) }
 {

@@ -1,5 +1,5 @@
 //! Bytes that begin with the prefix bytes of a network are read as that network and exactly their own count, over the
-//! trait alone.
+//! trait only.
 ghost use Rattle.std.specs.Prelude.{◌≡◌, ◌++◌, ℕ, List, length, Ok};
 ghost use Rattle.cidr.specs.bytes.Prefix.{prefix_bytes};
 
@@ -11,7 +11,7 @@ pub fn network<C: PrefixBytes>(network: &C, input: &[u8]) -> Result<(C, usize), 
     requires { (rest : List ℕ) × (input.now ≡ prefix_bytes (C.bits network.now) ++ rest) }
     ensures { result ≡ Ok (network.now, length (prefix_bytes (C.bits network.now))) }
 {
-    // the call tells the proof that the bytes spell the network
+    // the call tells the proof that the bytes are those of the network
     let _bytes = network.to_prefix_bytes();
     C::from_prefix_bytes(input)
 }

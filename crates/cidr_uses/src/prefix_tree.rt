@@ -1,5 +1,5 @@
-//! Networks as the places of a tree of prefixes, over the traits of bit strings alone.
-ghost use Rattle.std.specs.Prelude.{◌≡◌, ◌↔◌, ◌-◌, ◌++◌, ◌∷◌, [], IsTrue, MatchOption, false, length, take, true};
+//! Networks as the nodes of a tree of prefixes, over the traits of bit strings only.
+ghost use Rattle.std.specs.Prelude.{◌≡◌, ◌↔◌, ◌-◌, ◌<◌, ◌++◌, ◌∷◌, [], IsTrue, MatchOption, false, length, take, true};
 ghost use Rattle.cidr.specs.model.BitString.{inverted};
 ghost use Rattle.cidr.specs.model.Network.{BeginsWith};
 
@@ -35,7 +35,7 @@ pub fn sibling<C: NetworkBits + Copy>(network: C) -> Option<C>
 
 /// Both halves of a network that is no single address: of 10.0.0.0/8 they are 10.0.0.0/9 and 10.128.0.0/9.
 pub fn halves<C: NetworkBits + Copy>(network: C) -> (C, C)
-    requires { C.HasRoom network }
+    requires { 0 < C.room network }
     ensures lower { C.bits result.0 ≡ C.bits network ++ false ∷ [] }
     ensures upper { C.bits result.1 ≡ C.bits network ++ true ∷ [] }
 {

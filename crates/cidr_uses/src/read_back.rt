@@ -5,7 +5,7 @@ use cidr::errors::NetworkParseError;
 use cidr::laws::{hosts, networks};
 use cidr::{AnyIpCidr, IpCidr, IpInet, Ipv4Cidr, Ipv4Inet, Ipv6Cidr, Ipv6Inet};
 
-/// Reads back the text of an IPv4 network.
+/// Parses the printed string of an IPv4 network.
 pub fn ipv4_network(network: &Ipv4Cidr) -> Result<Ipv4Cidr, NetworkParseError>
     ensures { result ≡ Ok network.now }
 {
@@ -21,7 +21,7 @@ pub fn ipv4_network_with_length(network: &Ipv4Cidr) -> Result<Ipv4Cidr, NetworkP
     network.with_length().to_text().as_str().parse::<Ipv4Cidr>()
 }
 
-/// Reads back the text of an IPv6 network.
+/// Parses the printed string of an IPv6 network.
 pub fn ipv6_network(network: &Ipv6Cidr) -> Result<Ipv6Cidr, NetworkParseError>
     ensures { result ≡ Ok network.now }
 {
@@ -37,7 +37,7 @@ pub fn ipv6_network_with_length(network: &Ipv6Cidr) -> Result<Ipv6Cidr, NetworkP
     network.with_length().to_text().as_str().parse::<Ipv6Cidr>()
 }
 
-/// Reads back the text of a network of either family.
+/// Parses the printed string of a network of either family.
 pub fn ip_network(network: &IpCidr) -> Result<IpCidr, NetworkParseError>
     ensures { result ≡ Ok network.now }
 {
@@ -53,7 +53,7 @@ pub fn ip_network_with_length(network: &IpCidr) -> Result<IpCidr, NetworkParseEr
     network.with_length().to_text().as_str().parse::<IpCidr>()
 }
 
-/// Reads back the text of a network of either family, or `any`.
+/// Parses the printed string of a network of either family, or `any`.
 pub fn any_network(network: &AnyIpCidr) -> Result<AnyIpCidr, NetworkParseError>
     ensures { result ≡ Ok network.now }
 {
@@ -73,7 +73,7 @@ pub fn any_network_with_length(network: &AnyIpCidr) -> Result<AnyIpCidr, Network
         .parse::<AnyIpCidr>()
 }
 
-/// Reads back the text of an IPv4 host.
+/// Parses the printed string of an IPv4 host.
 pub fn ipv4_host(host: &Ipv4Inet) -> Result<Ipv4Inet, NetworkParseError>
     ensures { result ≡ Ok host.now }
 {
@@ -89,7 +89,7 @@ pub fn ipv4_host_with_length(host: &Ipv4Inet) -> Result<Ipv4Inet, NetworkParseEr
     host.with_length().to_text().as_str().parse::<Ipv4Inet>()
 }
 
-/// Reads back the text of an IPv6 host.
+/// Parses the printed string of an IPv6 host.
 pub fn ipv6_host(host: &Ipv6Inet) -> Result<Ipv6Inet, NetworkParseError>
     ensures { result ≡ Ok host.now }
 {
@@ -105,7 +105,7 @@ pub fn ipv6_host_with_length(host: &Ipv6Inet) -> Result<Ipv6Inet, NetworkParseEr
     host.with_length().to_text().as_str().parse::<Ipv6Inet>()
 }
 
-/// Reads back the text of a host of either family.
+/// Parses the printed string of a host of either family.
 pub fn ip_host(host: &IpInet) -> Result<IpInet, NetworkParseError>
     ensures { result ≡ Ok host.now }
 {

@@ -1,11 +1,12 @@
 //! What a closure is called for, and how often.
+use crate::support::gives;
 use cidr::errors::NetworkParseError;
 use cidr::parsers::{
     parse_any_cidr, parse_any_cidr_full, parse_any_cidr_full_ignore_hostbits,
     parse_any_cidr_ignore_hostbits, parse_cidr, parse_cidr_full, parse_cidr_full_ignore_hostbits,
     parse_cidr_ignore_hostbits, parse_inet, parse_inet_full,
 };
-use cidr::{AddrParseError, IpAddr, IpCidr, Ipv4Addr, Ipv4Cidr, Ipv4Inet};
+use cidr::{AddrParseError, IpAddr, IpCidr, Ipv4Addr, Ipv4Cidr, Ipv4Inet, Ipv6Addr, Ipv6Cidr};
 use std::cell::Cell;
 use std::str::FromStr;
 
@@ -101,4 +102,18 @@ fn a_parser_is_handed_what_stands_before_the_last_slash(rt: HostRuntime) {
         let _network: Result<Ipv4Cidr, NetworkParseError> = parse_cidr(text, parser);
         assert!(rt; same.get(), "{text}");
     }
+}
+
+#[test]
+fn a_closure_may_capture(rt: HostRuntime) {
+    let home = Ipv6Addr::from_bits(1);
+    let parser = |text: &str| -> Result<Ipv6Addr, AddrParseError> {
+        if text == "home" {
+            Ok(home)
+        } else {
+            text.parse::<Ipv6Addr>()
+        }
+    };
+    let read: Result<Ipv6Cidr, NetworkParseError> = parse_cidr("home/128", parser);
+    assert!(rt; gives(rt.alloc(), &read, "::1"));
 }

@@ -1,13 +1,14 @@
-//! Tests of the parsers around a closure that is handed in. The expected values come from outside the library.
+//! Tests of parsers: what the closures that are handed in are called for, and strings of a hundred thousand characters.
+//! The expected values come from outside the library.
 #![tactic(auto)]
 
 #[cfg(test)]
 mod calls;
 #[cfg(test)]
-mod either_family;
+mod errors;
 #[cfg(test)]
-mod one_family;
+mod long_loose_texts;
 #[cfg(test)]
-mod refusals;
+mod long_texts;
 #[cfg(test)]
 mod support;

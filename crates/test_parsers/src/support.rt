@@ -1,7 +1,6 @@
 //! What the tests share.
 use cidr::errors::NetworkParseError;
-use cidr::{AddrParseError, Ipv4Addr};
-use std::alloc::Global;
+use std::alloc::{AllocError, Global};
 use std::fmt::Display;
 
 /// Whether a value or an error was given that prints this text.
@@ -20,16 +19,18 @@ pub fn gives<V: Display>(
     }
 }
 
-/// Knows the name of 127.0.0.1, and reads strictly else.
-pub fn by_name(text: &str) -> Result<Ipv4Addr, AddrParseError> {
-    if text == "localhost" {
-        Ok(Ipv4Addr::new(127, 0, 0, 1))
-    } else {
-        text.parse::<Ipv4Addr>()
-    }
-}
-
 /// Refuses the host part of every text.
 pub fn refuse_host_part<V>(_text: &str) -> Result<V, NetworkParseError> {
     Err(NetworkParseError::InvalidHostPart)
+}
+
+/// The string with a hundred thousand of these between its front and its back.
+pub fn long(alloc: Global, front: &str, middle: char, back: &str) -> Result<String, AllocError> {
+    let mut text = String::new(alloc);
+    text.push_str(front)?;
+    for _ in 0..100_000 {
+        text.push(middle)?;
+    }
+    text.push_str(back)?;
+    Ok(text)
 }

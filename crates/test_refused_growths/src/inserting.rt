@@ -1,6 +1,7 @@
 //! Where an allocation fails, the key and the value come back, and the same call then succeeds.
 use cidr::{AnyIpCidr, Ipv4Addr, Ipv4Cidr};
 use cidr_table::{LpmTable, longest_match};
+use std::alloc::{AllocError, Global};
 use std::test::Fail;
 
 /// A table of networks with a number each.
@@ -81,5 +82,63 @@ fn a_refused_row_comes_back_and_is_inserted_again(rt: HostRuntime) -> Result<(),
         assert_eq!(rt; routes.get(&key).copied(), Some(i));
     }
     assert_eq!(rt; routes.len(), 40);
+    Ok(())
+}
+
+#[test]
+fn room_that_was_made_is_enough(rt: HostRuntime) -> Result<(), Fail> {
+    let mut routes = match LpmTable::with_capacity(rt.alloc(), 3) {
+        Ok(routes) => routes,
+        Err(_) => LpmTable::with_capacity(rt.alloc(), 3)?,
+    };
+    for i in 0_u32..3 {
+        let key = Ipv4Cidr::new_host(Ipv4Addr::from_bits(i));
+        assert_eq!(rt; routes.insert(key, i), Ok(None));
+    }
+    if routes.reserve(2).is_err() {
+        assert_eq!(rt; routes.capacity(), 3);
+        routes.reserve(2)?;
+    }
+    for i in 3_u32..5 {
+        let key = Ipv4Cidr::new_host(Ipv4Addr::from_bits(i));
+        assert_eq!(rt; routes.insert(key, i), Ok(None));
+    }
+    assert_eq!(rt; routes.len(), 5);
+    Ok(())
+}
+
+/// Whether each key is looked up in the rows made ready: those of the first addresses of so many blocks.
+fn are_found(
+    alloc: Global,
+    routes: &LpmTable<Ipv4Cidr, u32>,
+    rows: u32,
+) -> Result<bool, AllocError> {
+    let ready = routes.lookups(alloc)?;
+    for i in 0..rows {
+        let key = Ipv4Cidr::new_host(Ipv4Addr::from_bits(i << 8));
+        if ready.lookup(&key).copied() != Some((key, i)) {
+            return Ok(false);
+        }
+    }
+    Ok(true)
+}
+
+#[test]
+fn look_ups_are_made_ready_whichever_allocation_is_refused(rt: HostRuntime) -> Result<(), Fail> {
+    for rows in [0_u32, 3, 16_384] {
+        let mut routes = match LpmTable::with_capacity(rt.alloc(), rows as usize) {
+            Ok(routes) => routes,
+            Err(_) => LpmTable::with_capacity(rt.alloc(), rows as usize)?,
+        };
+        for i in 0_u32..rows {
+            let key = Ipv4Cidr::new_host(Ipv4Addr::from_bits(i << 8));
+            assert_eq!(rt; routes.insert(key, i), Ok(None));
+        }
+        let found = match are_found(rt.alloc(), &routes, rows) {
+            Ok(found) => found,
+            Err(_) => are_found(rt.alloc(), &routes, rows)?,
+        };
+        assert!(rt; found);
+    }
     Ok(())
 }

@@ -1,9 +1,18 @@
-//! Tests of the longest-prefix table. The expected values come from outside the library.
+//! Tests of the longest-prefix table: how many comparisons a match makes, long runs of calls beside plain lists, long
+//! lists of prefixes that are loaded, and least covers. The expected values come from outside the library.
 #![tactic(auto)]
 
 #[cfg(test)]
 mod comparisons;
 #[cfg(test)]
-mod random_runs;
+mod covers;
 #[cfg(test)]
-mod rows;
+mod large_tables;
+#[cfg(test)]
+mod many_prefixes;
+#[cfg(test)]
+mod map_calls;
+#[cfg(test)]
+mod random_covers;
+#[cfg(test)]
+mod random_runs;

@@ -43,6 +43,18 @@ impl Plain {
         longest
     }
 
+    /// The rows whose network begins the asked one, the shortest first.
+    fn matches(&self, alloc: Global, asked: Prefix) -> Result<Vec<(Prefix, u32)>, AllocError> {
+        let mut found = Vec::new(alloc);
+        for row in &self.rows {
+            if begins(row.0, asked) {
+                found.push(*row)?;
+            }
+        }
+        found.sort_unstable_by_key(|row| row.0.1);
+        Ok(found)
+    }
+
     /// The rows inside, by number and then by length.
     fn inside(&self, alloc: Global, outer: Prefix) -> Result<Vec<(Prefix, u32)>, AllocError> {
         let mut found = Vec::new(alloc);
@@ -64,7 +76,7 @@ fn next(state: &mut u64) -> u32 {
     (*state >> 33) as u32
 }
 
-/// One of the networks of up to 32 bits of which only five may be set, so that many are inside others.
+/// One of the networks of up to 32 bits of which only six may be set, so that many are inside others.
 fn prefix(state: &mut u64) -> Prefix {
     let len = (next(state) % 33) as u8;
     let bits = next(state) & 0x8888_8008;
@@ -91,6 +103,7 @@ fn a_long_run_of_calls_returns_what_a_plain_list_does(rt: HostRuntime) -> Result
     let mut plain = Plain {
         rows: Vec::new(rt.alloc()),
     };
+    assert!(rt; routes.is_empty());
     let mut state = 1;
     for step in 0_u32..20_000 {
         let chosen = prefix(&mut state);
@@ -105,11 +118,25 @@ fn a_long_run_of_calls_returns_what_a_plain_list_does(rt: HostRuntime) -> Result
             plain.remove(chosen);
         }
         assert_eq!(rt; routes.len(), plain.rows.len());
+        assert_eq!(rt; routes.is_empty(), plain.rows.is_empty());
         let asked = prefix(&mut state);
         let place = longest_match(&mut routes.probe(), &network(asked)?);
         let matched = place.and_then(|place| routes.row(place)).map(as_prefix);
         assert_eq!(rt; matched, plain.longest_match(asked), "at step {step}");
+        let looked_up = routes.lookup(&network(asked)?).map(as_prefix);
+        assert_eq!(rt; looked_up, plain.longest_match(asked), "at step {step}");
         if step % 16 == 0 {
+            let ready = routes.lookups(rt.alloc())?;
+            let looked_up = ready.lookup(&network(asked)?).map(as_prefix);
+            assert_eq!(rt; looked_up, plain.longest_match(asked), "at step {step}");
+            let matches = plain.matches(rt.alloc(), asked)?;
+            assert!(rt;
+                routes
+                    .matches(&network(asked)?)
+                    .map(as_prefix)
+                    .eq(matches.iter().copied()),
+                "at step {step}"
+            );
             let inside = plain.inside(rt.alloc(), asked)?;
             let found = routes.inside(&network(asked)?);
             assert!(rt;

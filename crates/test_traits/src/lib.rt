@@ -3,12 +3,16 @@
 #![tactic(auto)]
 
 #[cfg(test)]
+mod covered;
+#[cfg(test)]
 mod either_family;
 #[cfg(test)]
 mod lengths;
 #[cfg(test)]
-mod long_texts;
-#[cfg(test)]
 mod one_family;
+#[cfg(test)]
+mod order_of_bits;
+#[cfg(test)]
+mod over_bits;
 #[cfg(test)]
 mod over_traits;

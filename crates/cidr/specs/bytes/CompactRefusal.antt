@@ -9,31 +9,32 @@ use Rattle.cidr.specs.declared.errors.CompactError.{CompactError}
 use Rattle.cidr.specs.declared.errors.CompactError.TheVariants as compact_error
 use Rattle.cidr.specs.declared.family.Family.{Family}
 
--- the tag is of no family's length, and not of `any`
+-- the tag is of no prefix length of a family, and not that of `Any`
 abbrev pub NamesNothing : ℕ → Type 0
 NamesNothing tag = (tag ≢ any_tag) × ((family : Family) (n : ℕ) → n ≤ width_of family → tag ≢ tag_of family n)
 
--- a tag of the family comes first, and fewer octets after it than an address has
+-- a tag of the family comes first, and after it fewer octets than an address has
 abbrev pub LacksOctets : Family → List ℕ → Type 0
 LacksOctets family input =
     (n : ℕ) × (rest : List ℕ) × (n ≤ width_of family) × (input ≡ tag_of family n ∷ rest) × (length rest < octet_count family)
 
--- the bytes of this host come first
+-- the compact bytes of this host come first
 abbrev pub HasHost : Family → List ℕ → Host → Type 0
 HasHost family input host = IsHost (width_of family) host × (rest : List ℕ) × (input ≡ host_bytes family host ++ rest)
 
--- the tag of `any` comes first
+-- the tag of `Any` comes first
 abbrev pub HasAny : List ℕ → Type 0
 HasAny input = (rest : List ℕ) × (input ≡ any_tag ∷ rest)
 
--- which families a type takes: this one, or both
+-- a type takes this family alone
 abbrev pub Only : Family → Family → Type 0
 Only family other = other ≡ family
 
+-- a type takes both families
 abbrev pub Both : Family → Type 0
 Both family = ⊤
 
--- networks of the families that are taken
+-- the error of an input for networks of the families that are taken (`Takes`)
 abbrev pub IsNetworkBytesRefused : (Family → Type 0) → List ℕ → CompactError → Type 0
 IsNetworkBytesRefused Takes input compact_error.Truncated = (input ≡ []) ⊎ ((family : Family) × LacksOctets family input)
 IsNetworkBytesRefused Takes input compact_error.InvalidTag =
@@ -44,11 +45,11 @@ IsNetworkBytesRefused Takes input compact_error.InvalidHostPart =
     (family : Family) × (host : Host) × HasHost family input host × Takes family
     × (drop host.len host.address ≢ zeros (width_of family - host.len))
 
--- hosts, whose host part is free
+-- the same for hosts: a set bit after the prefix is no error
 abbrev pub IsHostBytesRefused : (Family → Type 0) → List ℕ → CompactError → Type 0
 IsHostBytesRefused Takes input e = IsNetworkBytesRefused Takes input e × (e ≢ compact_error.InvalidHostPart)
 
--- networks of either family and `any`
+-- the same for networks of either family and `Any`: the tag of `Any` is no error
 abbrev pub IsAnyBytesRefused : List ℕ → CompactError → Type 0
 IsAnyBytesRefused input e = IsNetworkBytesRefused Both input e × (e ≢ compact_error.InvalidAny)
 

@@ -11,12 +11,13 @@ use Rattle.cidr.specs.declared.errors.PrefixBytesError.TheVariants.{LengthTooLon
 abbrev pub octets_for : ℕ → ℕ
 octets_for n = (n + 7) / 8
 
--- what is written: after the last bit of the prefix the bits of its last octet are zero
+-- what is written: the prefix length, and then the octets; the bits of the last octet after the prefix are zero
 abbrev pub prefix_bytes : List Bool → List ℕ
 prefix_bytes prefix =
     length prefix ∷ parts_of 8 (octets_for (length prefix)) (first_of (8 * octets_for (length prefix)) prefix)
 
--- the bytes spell this prefix: after its last bit the bits of the last octet are free
+-- what is read as this prefix: the bits of the last octet after the prefix are free (RFC 4271, 4.3: their value is
+-- irrelevant)
 pub record SpellsPrefix (w : ℕ) (bytes : List ℕ) (prefix : List Bool) : Type 0 where
   pub octets : List ℕ
   pub parts : bytes ≡ length prefix ∷ octets
@@ -25,17 +26,18 @@ pub record SpellsPrefix (w : ℕ) (bytes : List ℕ) (prefix : List Bool) : Type
   pub first : BeginsWith (octet_bits octets) prefix
 
 -- ---- reading
--- the first k bytes of the input spell this prefix
+-- the first k bytes of the input are read as this prefix
 abbrev pub HasPrefix : ℕ → List ℕ → List Bool → ℕ → Type 0
 HasPrefix w input prefix k = (bytes : List ℕ) × AreFirst k input bytes × SpellsPrefix w bytes prefix
 
--- the error of an input that begins with no prefix: no byte, then a length above the width, then too few octets
+-- the error of an input that begins with no prefix: a length above the width, or no byte or too few octets for a length
+-- within it
 abbrev pub IsPrefixRefused : ℕ → List ℕ → PrefixBytesError → Type 0
 IsPrefixRefused w input LengthTooLong = (n : ℕ) × (rest : List ℕ) × (input ≡ n ∷ rest) × (w < n)
 IsPrefixRefused w input Truncated =
     (input ≡ []) ⊎ ((n : ℕ) × (rest : List ℕ) × (input ≡ n ∷ rest) × (n ≤ w) × (length rest < octets_for n))
 
--- reading gives a prefix and k exactly where the first k bytes spell it, and else the error
+-- reading gives a prefix and k exactly where the first k bytes are read as it, and else the error
 pub record ReadsPrefix (w : ℕ) (input : List ℕ) (r : Result (List Bool × ℕ) PrefixBytesError) : Type 0 where
   pub exactly : (prefix : List Bool) (k : ℕ) → (r ≡ Ok (prefix, k)) ↔ HasPrefix w input prefix k
   pub refused : IfErr r (IsPrefixRefused w input)

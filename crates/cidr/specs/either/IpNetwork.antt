@@ -1,5 +1,5 @@
 -- Networks of either family. As bits they have the family bit in front, as addresses have it, and `Any` has no bits.
-use Rattle.std.specs.Prelude.{◌≡◌, ℕ, ◌<◌, Bool, true, false, List, [], ◌∷◌, length, Option, Some, None, option_map, MatchOption, Result, ⊤}
+use Rattle.std.specs.Prelude.{◌≡◌, ℕ, ◌-◌, Bool, true, false, List, [], ◌∷◌, length, Option, Some, None, option_map, MatchOption, Result, ⊤}
 use Rattle.std.specs.Option.{option_map_or}
 use Rattle.cidr.specs.model.Network.{width_of, network_from, FitsWidth}
 use Rattle.cidr.specs.model.Views.{seen}
@@ -13,16 +13,17 @@ use Rattle.cidr.specs.declared.errors.NetworkParseError.{NetworkParseError}
 use Rattle.cidr.specs.declared.family.Family.{Family}
 use Rattle.cidr.specs.declared.family.Family.TheVariants.{Ipv4, Ipv6}
 
--- the family, and the bits that the addresses of that family begin with
+-- the family of a network
 abbrev pub network_family : IpCidr → Family
 network_family (V4 p) = Ipv4
 network_family (V6 p) = Ipv6
 
+-- the bits that its addresses begin with, without the family bit
 abbrev pub network_prefix : IpCidr → List Bool
 network_prefix (V4 p) = p
 network_prefix (V6 p) = p
 
--- a list of at most as many bits as an address of its family has
+-- a list of at most as many bits as an address of its family has: what every `IpCidr` is
 abbrev pub IsIpNetwork : IpCidr → Type 0
 IsIpNetwork network = FitsWidth (width_of (network_family network)) (network_prefix network)
 
@@ -31,62 +32,66 @@ abbrev pub network_bits : IpCidr → List Bool
 network_bits (V4 p) = false ∷ p
 network_bits (V6 p) = true ∷ p
 
--- what a function of the width and the bits gives, as an address of the network's family
+-- what a function of the width and the bits gives, as an address of the family of the network
 abbrev pub address_by : (ℕ → List Bool → List Bool) → IpCidr → IpAddr
 address_by f (V4 p) = address.V4 (f 32 p)
 address_by f (V6 p) = address.V6 (f 128 p)
 
--- the network of an address alone, and that of its first n bits
+-- the network of an address alone
 abbrev pub lone_network : IpAddr → IpCidr
 lone_network (address.V4 a) = V4 a
 lone_network (address.V6 a) = V6 a
 
+-- the network of the first n bits of an address, with the errors of its family
 abbrev pub ip_network_from : IpAddr → ℕ → Result IpCidr NetworkParseError
 ip_network_from (address.V4 a) n = seen V4 (network_from Ipv4 a n)
 ip_network_from (address.V6 a) n = seen V6 (network_from Ipv6 a n)
 
--- full length: the network is a single address
+-- full prefix length: the network has a single address
 abbrev pub IsLone : IpCidr → Type 0
 IsLone network = length (network_prefix network) ≡ width_of (network_family network)
 
--- the bits of an address with its family bit
+-- the bits of an address of either family, with the family bit in front
 abbrev pub IsAddressBits : List Bool → Type 0
 IsAddressBits [] = ⊥
 IsAddressBits (false ∷ a) = length a ≡ 32
 IsAddressBits (true ∷ a) = length a ≡ 128
 
 -- ---- every address, or a network
--- the network, which `Any` is not
+-- the network, or none where it is `Any`
 abbrev pub specific : AnyIpCidr → Option IpCidr
 specific any_network.Any = None
 specific (any_network.V4 p) = Some (V4 p)
 specific (any_network.V6 p) = Some (V6 p)
 
+-- `Any`, or a network of the width of its family: what every `AnyIpCidr` is
 abbrev pub IsAnyNetwork : AnyIpCidr → Type 0
 IsAnyNetwork network = MatchOption (specific network) ⊤ IsIpNetwork
 
+-- a network as one that may be `Any`
 abbrev pub any_of : IpCidr → AnyIpCidr
 any_of (V4 p) = any_network.V4 p
 any_of (V6 p) = any_network.V6 p
 
--- `Any` for none
+-- the same, and `Any` for none
 abbrev pub any_or : Option IpCidr → AnyIpCidr
 any_or None = any_network.Any
 any_or (Some network) = any_of network
 
--- the length of a network, which `Any` has not
+-- the prefix length, or none where it is `Any`
 abbrev pub any_length : AnyIpCidr → Option ℕ
 any_length network = option_map (λ n. length (network_prefix n)) (specific network)
 
--- a single address, which `Any` is not
+-- a network of a single address, which `Any` is not
 abbrev pub IsLoneNetwork : AnyIpCidr → Type 0
 IsLoneNetwork network = MatchOption (specific network) ⊥ IsLone
 
+-- the bits with the family bit in front; `Any`, which contains every address of both families, has none
 abbrev pub any_bits : AnyIpCidr → List Bool
 any_bits network = option_map_or network_bits (specific network) []
 
--- one more bit can be appended: `Any` takes the family bit, and a network a bit where its length is not full
-abbrev pub AnyHasRoom : AnyIpCidr → Type 0
-AnyHasRoom any_network.Any = ⊤
-AnyHasRoom (any_network.V4 p) = length p < 32
-AnyHasRoom (any_network.V6 p) = length p < 128
+-- how many bits can be appended, whichever they are: to `Any` the family bit and the 32 of IPv4
+abbrev pub any_room : AnyIpCidr → ℕ
+any_room any_network.Any = 33
+any_room (any_network.V4 p) = 32 - length p
+any_room (any_network.V6 p) = 128 - length p

@@ -38,6 +38,6 @@ IsUnreadable input compact_error.InvalidHostPart = ⊥
 abbrev pub ReadsFront : List ℕ → Result Front CompactError → Type 0
 ReadsFront input r = MatchResult r (IsFront input) (IsUnreadable input)
 
--- the address and the length of the host of the family that comes first, or the refusal
+-- the address and the length of the host of the family that comes first, or the error
 abbrev pub TakesHost : Family → List ℕ → Result (List Bool × ℕ) CompactError → Type 0
 TakesHost family input r = MatchResult r (λ p. HasHost family input (host_of p.0 p.1)) (IsHostBytesRefused (Only family) input)

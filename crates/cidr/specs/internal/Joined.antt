@@ -6,11 +6,11 @@ use Rattle.cidr.specs.texts.NetworkText.{plus}
 use Rattle.cidr.specs.texts.LooseText.{IsLetterX}
 use Rattle.cidr.specs.internal.Reading.{WritesParts}
 
--- all of the text but a plus that it begins with
+-- all of the string but a plus that it begins with
 abbrev pub IsAfterPlus : List ℕ → List ℕ → Type 0
 IsAfterPlus text digits = (text ≡ plus ∷ digits) ⊎ ((digits ≡ text) × ((rest : List ℕ) → text ≢ plus ∷ rest))
 
--- Where a text begins with a loose part, its digits begin there, and have that radix: hexadecimal, octal or decimal.
+-- Where a string begins with a loose part, its digits begin there, and have that radix: hexadecimal, octal or decimal.
 abbrev pub LeadsToDigits : List ℕ → ℕ → List ℕ → Type 0
 LeadsToDigits text radix digits =
     ((radix ≡ 16) × (x : ℕ) × IsLetterX x × (text ≡ digit_zero ∷ x ∷ digits))
@@ -21,7 +21,7 @@ LeadsToDigits text radix digits =
 abbrev pub AreOctets : List ℕ → Type 0
 AreOctets octets = (length octets ≤ 3) × All (λ octet. octet < 256) octets
 
--- The text joins up to three octets and a last number, and nothing else. The octets write a number, and are so many.
+-- The string joins up to three octets and a last number, and nothing else. The octets write a number, and are so many.
 pub record JoinsParts (Part : List ℕ → ℕ → Type 0) (text : List ℕ) (front count last : ℕ) : Type 0 where
   pub octets : List ℕ
   pub many : length octets ≡ count
@@ -30,6 +30,6 @@ pub record JoinsParts (Part : List ℕ → ℕ → Type 0) (text : List ℕ) (fr
   pub joined : IsJoined Part text (octets ++ last ∷ [])
   pub only : (ns : List ℕ) → IsJoined Part text ns → ns ≡ octets ++ last ∷ []
 
--- the text joins no such parts
+-- the string joins no such parts
 abbrev pub JoinsNone : (List ℕ → ℕ → Type 0) → List ℕ → Type 0
 JoinsNone Part text = (octets : List ℕ) (last : ℕ) → AreOctets octets → ¬ (IsJoined Part text (octets ++ last ∷ []))

@@ -1,4 +1,4 @@
--- What the readers of a part of a text promise each other.
+-- What the parsers of a part of a string promise each other.
 use Rattle.std.specs.Prelude.{◌≡◌, ◌≢◌, ℕ, ◌+◌, ◌*◌, ◌^◌, ◌<◌, ◌≤◌, ◌↔◌, ◌⊎◌, Bool, true, List, [], ◌∷◌, ◌++◌, length, flat_map, Option, Some, None, MatchOption, slice_index, Result, Ok}
 use Rattle.std.specs.Borrow.{Bor}
 use Rattle.std.specs.Char.{digit_value}
@@ -20,7 +20,7 @@ NoDigitFirst text = 48 ≤ slice_index text 0 → 57 < slice_index text 0
 abbrev pub TakesDigit : List ℕ → Option (ℕ × Bor (List ℕ)) → Type 0
 TakesDigit text r = MatchOption r (NoDigitFirst text) (λ p. (text ≡ (48 + p.0) ∷ p.1.now) × (p.0 < 10))
 
--- the text is at its end, or a dot comes next
+-- the string is at its end, or a dot comes next
 abbrev pub StopsAtDot : List ℕ → Type 0
 StopsAtDot text = (text ≡ []) ⊎ ((rest : List ℕ) × (text ≡ dot ∷ rest))
 
@@ -38,7 +38,7 @@ NoPartFirst Part text = (t : List ℕ) (m : ℕ) (more : List ℕ) → Part t m 
 abbrev pub TakesPart : (List ℕ → ℕ → Type 0) → List ℕ → Option (ℕ × Bor (List ℕ)) → Type 0
 TakesPart Part text r = MatchOption r (NoPartFirst Part text) (λ p. IsFirstPart Part text p.0 p.1.now)
 
--- an octet and a dot were read: the octets of the text are that one and those of the rest
+-- an octet and a dot were read: the octets of the string are that one and those of the rest
 abbrev pub TakesFirst : List ℕ → Option (ℕ × Bor (List ℕ)) → Type 0
 TakesFirst text r =
     MatchOption r ((n m : ℕ) (ns : List ℕ) → ¬ (IsJoined IsOctetText text (n ∷ m ∷ ns)))
@@ -48,21 +48,21 @@ TakesFirst text r =
 abbrev pub NoHexFirst : List ℕ → Type 0
 NoHexFirst text = 16 ≤ digit_value (slice_index text 0)
 
--- a group text stands first, and no digit follows it
+-- a group stands first, and no digit follows it
 pub record IsFirstGroup (text : List ℕ) (n : ℕ) (rest : List ℕ) : Type 0 where
   pub front : List ℕ
   pub spelled : text ≡ front ++ rest
   pub group : IsGroupText front n
   pub ends : NoHexFirst rest
 
--- no group text that no digit follows stands first
+-- no group that no digit follows stands first
 abbrev pub NoGroupFirst : List ℕ → Type 0
 NoGroupFirst text = (t : List ℕ) (n : ℕ) (more : List ℕ) → IsGroupText t n → NoHexFirst more → text ≢ t ++ more
 
 abbrev pub TakesGroup : List ℕ → Option (ℕ × Bor (List ℕ)) → Type 0
 TakesGroup text r = MatchOption r (NoGroupFirst text) (λ p. IsFirstGroup text p.0 p.1.now)
 
--- the text after a colon, or all of it for the first group
+-- the string after a colon, or all of it for the first group
 abbrev pub TakesSeparator : Bool → List ℕ → Option (Bor (List ℕ)) → Type 0
 TakesSeparator first text r = MatchOption r (None ≡ read_separator first text) (λ group. Some group.now ≡ read_separator first text)
 
@@ -71,7 +71,7 @@ pub record WritesParts (k : ℕ) (parts : List ℕ) (n : ℕ) : Type 0 where
   pub fits : n < 2 ^ (k * length parts)
   pub value : bits (k * length parts) n ≡ flat_map (bits k) parts
 
--- at most so many groups stand first, these and no more, and this is left: nothing, where an IPv4 text stands last
+-- at most so many groups stand first, these and no more, and this is left: nothing, where an IPv4 address stands last
 pub record IsFound (room : ℕ) (text : List ℕ) (n count : ℕ) (rest : List ℕ) : Type 0 where
   pub groups : List ℕ
   pub dotted : Bool

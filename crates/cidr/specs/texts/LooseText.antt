@@ -1,5 +1,5 @@
--- Loose IPv4 text (POSIX, `inet_addr`): one to four numbers joined by dots. Each but the last is an octet, and the last
--- one fills what is left of the 32 bits. The plus before decimal digits is the crate `cidr`'s own.
+-- A loose IPv4 address as a string (POSIX, `inet_addr`): one to four numbers joined by dots. Each but the last is an
+-- octet, and the last fills what is left of the 32 bits. The plus before decimal digits is the crate `cidr`'s own.
 use Rattle.std.specs.Prelude.{◌≡◌, ◌≢◌, ℕ, ◌-◌, ◌*◌, ◌^◌, ◌<◌, ◌≤◌, ◌⊎◌, Bool, List, [], ◌∷◌, ◌++◌, length, slice_index}
 use Rattle.std.specs.List.{All}
 use Rattle.cidr.specs.model.Bits.{bits}
@@ -22,17 +22,17 @@ IsLetterX byte = (byte ≡ 120) ⊎ (byte ≡ 88)
 abbrev pub IsHexPart : List ℕ → ℕ → Type 0
 IsHexPart text n = (x : ℕ) × (digits : List ℕ) × (text ≡ digit_zero ∷ x ∷ digits) × IsLetterX x × IsU32Text 16 digits n
 
--- any other text that begins with `0`: octal digits, so that `0` alone is octal zero
+-- any other string that begins with `0`: octal digits, so that `0` alone is octal zero
 abbrev pub IsOctalPart : List ℕ → ℕ → Type 0
 IsOctalPart text n = (slice_index text 0 ≡ digit_zero) × IsU32Text 8 text n
 
--- a text that begins with another byte: decimal digits, or a plus and decimal digits, where zeros may follow the plus
+-- a string that begins with another byte: decimal digits, or a plus and decimal digits, where zeros may follow the plus
 abbrev pub IsDecimalPart : List ℕ → ℕ → Type 0
 IsDecimalPart text n =
     ((slice_index text 0 ≢ digit_zero) × IsU32Text 10 text n)
     ⊎ ((digits : List ℕ) × (text ≡ plus ∷ digits) × IsU32Text 10 digits n)
 
--- a number below 2^32 in one of the three spellings
+-- a number below 2^32 in one of the three forms
 abbrev pub IsLoosePart : List ℕ → ℕ → Type 0
 IsLoosePart text n = IsHexPart text n ⊎ (IsOctalPart text n ⊎ IsDecimalPart text n)
 
@@ -46,7 +46,7 @@ pub record IsLooseText (text : List ℕ) (address : List Bool) : Type 0 where
   pub joined : IsJoined IsLoosePart text (octets ++ last ∷ [])
   pub value : address ≡ octet_bits octets ++ bits (32 - 8 * length octets) last
 
--- of either family: a loose IPv4 text, or an IPv6 text
+-- of either family: a loose IPv4 address, or an IPv6 address in the strict form; no string is both
 abbrev pub IsLooseIpText : List ℕ → IpAddr → Type 0
 IsLooseIpText text (V4 a) = IsLooseText text a
 IsLooseIpText text (V6 a) = IsIpv6Text text a

@@ -15,24 +15,29 @@ use Rattle.cidr.specs.declared.errors.CompactError.TheVariants as compact_error
 use Rattle.cidr.specs.declared.errors.PrefixBytesError.{PrefixBytesError}
 use Rattle.cidr.specs.declared.errors.PrefixBytesError.TheVariants as prefix_error
 
--- the error of reading an address, by the type that was asked for
+-- the error of parsing an address, by the type that was to be parsed; this one of an `Ipv4Addr`
 abbrev pub ipv4_error : AddrParseError
 ipv4_error = record { 0 = asked.Ipv4 }
 
+-- of an `Ipv6Addr`
 abbrev pub ipv6_error : AddrParseError
 ipv6_error = record { 0 = asked.Ipv6 }
 
+-- of an `IpAddr`
 abbrev pub ip_error : AddrParseError
 ip_error = record { 0 = asked.Ip }
 
+-- the message of each (std's `AddrParseError`)
 abbrev pub kind_message : AddrKind → List ℕ
 kind_message asked.Ipv4 = codes "invalid IPv4 address syntax"
 kind_message asked.Ipv6 = codes "invalid IPv6 address syntax"
 kind_message asked.Ip = codes "invalid IP address syntax"
 
+-- the message of the error of parsing an address
 abbrev pub address_message : AddrParseError → List ℕ
 address_message e = kind_message e.0
 
+-- the message for a prefix length that is no number below 256: this project's own
 abbrev pub length_message : List ℕ
 length_message = codes "invalid length text"
 
@@ -41,24 +46,28 @@ abbrev pub limit_message : Family → List ℕ
 limit_message Ipv4 = codes " is too long for Ipv4 (maximum: 32)"
 limit_message Ipv6 = codes " is too long for Ipv6 (maximum: 128)"
 
+-- the message for a prefix length above the width (the crate `cidr`)
 abbrev pub too_long_message : NetworkLengthTooLongError → List ℕ
 too_long_message e = codes "Network length " ++ (decimal e.0 ++ limit_message e.1)
 
+-- the messages of parsing and making a network (the crate `cidr`)
 abbrev pub parse_message : NetworkParseError → List ℕ
 parse_message parse_error.InvalidHostPart = codes "host part of address was not zero"
 parse_message (parse_error.AddrParseError e) = codes "couldn't parse address in network: " ++ address_message e
 parse_message (parse_error.NetworkLengthParseError e) = codes "couldn't parse length in network: " ++ length_message
 parse_message (parse_error.NetworkLengthTooLongError e) = codes "invalid length for network: " ++ too_long_message e
 
+-- the messages of making a pair (the crate `cidr`)
 abbrev pub pair_message : InetTupleError → List ℕ
 pair_message pair_error.NotInSharedNetwork = codes "addresses not in shared network"
 pair_message (pair_error.NetworkLengthTooLongError e) = codes "invalid length for network: " ++ too_long_message e
 
--- the type that another family's address has
+-- the name of the address type of the other family
 abbrev pub address_type : Family → List ℕ
 address_type Ipv4 = codes "Ipv4Addr"
 address_type Ipv6 = codes "Ipv6Addr"
 
+-- the messages of reading compact bytes (the crate `cidr` and `serde`; `Truncated` is this project's own)
 abbrev pub compact_message : CompactError → List ℕ
 compact_message compact_error.Truncated = codes "compact bytes end too early"
 compact_message compact_error.InvalidTag = codes "invalid tag"
@@ -66,6 +75,7 @@ compact_message compact_error.InvalidAny = codes "invalid value: `any`"
 compact_message (compact_error.InvalidFamily family) = codes "invalid type: `" ++ (address_type family ++ codes "`")
 compact_message compact_error.InvalidHostPart = codes "host part of address was not zero"
 
+-- the messages of reading prefix bytes: this project's own
 abbrev pub prefix_message : PrefixBytesError → List ℕ
 prefix_message prefix_error.LengthTooLong = codes "prefix length is too long"
 prefix_message prefix_error.Truncated = codes "prefix bytes end too early"

@@ -1,4 +1,4 @@
--- Network text: an address, or an address, a slash and a length (RFC 4632, 3.1; the crate `cidr`).
+-- A network as a string: an address, or an address, a slash and a prefix length (RFC 4632, 3.1; the crate `cidr`).
 use Rattle.std.specs.Prelude.{◌≡◌, ℕ, ◌-◌, ◌<◌, ◌≤◌, ◌⊎◌, Bool, List, ◌∷◌, ◌++◌, take, drop}
 use Rattle.std.specs.Str.Parse.{IsNumeral, digits_value}
 use Rattle.cidr.specs.model.Network.{width_of, zeros}
@@ -13,7 +13,7 @@ slash = 47
 abbrev pub plus : ℕ
 plus = 43
 
--- one or more digits of the radix, of a value below the limit
+-- one or more digits of the radix, of a value below the limit; leading zeros are allowed
 abbrev pub IsNumberText : ℕ → ℕ → List ℕ → ℕ → Type 0
 IsNumberText radix limit text n = IsNumeral radix text × (digits_value radix text ≡ n) × (n < limit)
 
@@ -21,11 +21,11 @@ IsNumberText radix limit text n = IsNumeral radix text × (digits_value radix te
 abbrev pub IsByteText : List ℕ → ℕ → Type 0
 IsByteText = IsNumberText 10 256
 
--- the same after an optional plus
+-- a prefix length: the same after an optional plus (std's `u8`, by which the crate `cidr` parses it)
 abbrev pub IsLengthText : List ℕ → ℕ → Type 0
 IsLengthText text n = IsByteText text n ⊎ ((digits : List ℕ) × (text ≡ plus ∷ digits) × IsByteText digits n)
 
--- an address text, a slash and a length text, where the length is within the width and no one stands from it on
+-- an address, a slash and a prefix length, which is within the width and after which no bit of the address is set
 pub record IsSlashed (family : Family) (text : List ℕ) (network : List Bool) : Type 0 where
   pub front : List ℕ
   pub back : List ℕ
@@ -38,6 +38,6 @@ pub record IsSlashed (family : Family) (text : List ℕ) (network : List Bool) :
   pub host : drop len address ≡ zeros (width_of family - len)
   pub value : network ≡ take len address
 
--- an address text alone is the network of full length
+-- the string represents this network: an address alone is the network of that one address
 abbrev pub IsNetworkText : Family → List ℕ → List Bool → Type 0
 IsNetworkText family text network = IsAddressText family text network ⊎ IsSlashed family text network

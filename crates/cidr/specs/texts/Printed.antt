@@ -8,37 +8,38 @@ use Rattle.cidr.specs.texts.PrintedAddress.{address_text}
 use Rattle.cidr.specs.declared.family.Family.{Family}
 use Rattle.cidr.specs.declared.family.Family.TheVariants.{Ipv4, Ipv6}
 
--- a slash and the length
+-- a slash and the prefix length
 abbrev pub length_text : ℕ → List ℕ
 length_text n = slash ∷ decimal n
 
--- the forced text of a host: its address and its length
+-- a host with its prefix length: its address and the length
 abbrev pub forced_host_text : Family → Host → List ℕ
 forced_host_text family host = address_text family host.address ++ length_text host.len
 
--- the plain text, which leaves out a full length
+-- a host as it is printed: the prefix length is left out where it is full
 abbrev pub plain_host_text : Family → Host → List ℕ
 plain_host_text family host =
     address_text family host.address ++ (if host.len == width_of family then [] else length_text host.len)
 
--- the forced text of a network: its first address and its length
+-- a network with its prefix length: its first address and the length
 abbrev pub forced_text : Family → List Bool → List ℕ
 forced_text family network = address_text family (first_of (width_of family) network) ++ length_text (length network)
 
--- the plain text, which leaves out a full length
+-- a network as it is printed: the prefix length is left out where it is full
 abbrev pub plain_text : Family → List Bool → List ℕ
 plain_text family network =
     address_text family (first_of (width_of family) network)
     ++ (if length network == width_of family then [] else length_text (length network))
 
--- the length of the longest text of a network or a host
+-- the length in bytes of the longest string of a network or a host
 abbrev pub longest_text : Family → ℕ
 longest_text Ipv4 = 18
 longest_text Ipv6 = 43
 
--- a pair: its two hosts in parentheses
+-- two strings in parentheses, with a comma and a space between them
 abbrev pub in_parentheses : List ℕ → List ℕ → List ℕ
 in_parentheses first second = codes "(" ++ (first ++ (codes ", " ++ (second ++ codes ")")))
 
+-- a pair as it is printed: both hosts in parentheses, each in this form
 abbrev pub pair_text : (Host → List ℕ) → Pair → List ℕ
 pair_text host_text pair = in_parentheses (host_text (first_of_pair pair)) (host_text (second_of_pair pair))

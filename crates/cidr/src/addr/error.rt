@@ -1,11 +1,11 @@
-//! The error of an address text.
+//! The error of an address string.
 ghost use Rattle.std.specs.Prelude.{◌≡◌, Some};
 
 use arrayvec::ArrayString;
 use std::error::Error;
 use std::fmt;
 
-/// Which type of address was asked for.
+/// Which type of address was parsed.
 #[derive(Clone, Copy, PartialEq, Eq)]
 pub(crate) enum AddrKind {
     Ipv4,
@@ -13,10 +13,15 @@ pub(crate) enum AddrKind {
     Ip,
 }
 
-/// The text is no address of the type that was asked for.
+/// The string is no address of the type that was parsed: `Ipv4Addr`, `Ipv6Addr` or `IpAddr`.
 ///
-/// Its message names that type: `invalid IPv4 address syntax`, `invalid IPv6 address syntax` or
-/// `invalid IP address syntax`. Two such errors are equal if the same type was asked for.
+/// Its message, also under `{:?}`, names the family: `invalid IPv4 address syntax`, `invalid IPv6 address syntax` or
+/// `invalid IP address syntax`. Two such errors are equal if the same type was parsed; the string is not kept.
+///
+/// ```
+/// "192.0.2".parse::<Ipv4Addr>() // Err(invalid IPv4 address syntax)
+/// "192.0.2".parse::<IpAddr>() // Err(invalid IP address syntax)
+/// ```
 #[derive(Clone, Drop, PartialEq, Eq)]
 pub struct AddrParseError(AddrKind);
 
@@ -41,7 +46,12 @@ impl AddrParseError {
         AddrParseError(AddrKind::Ip)
     }
 
-    /// The message, which is what is printed. It has at most 27 bytes.
+    /// The message, as it is printed, in an `ArrayString`, so that nothing is allocated. It has at most 27 bytes.
+    ///
+    /// ```
+    /// let parsed = "::1%1".parse::<Ipv6Addr>();
+    /// parsed.map_err(|e| e.to_text()) // Err("invalid IPv6 address syntax")
+    /// ```
     pub fn to_text(&self) -> ArrayString<27>
         ensures { result.bytes ≡ address_message self.now }
     {

@@ -16,9 +16,15 @@ use std::str::FromStr;
 
 /// An IPv4 or an IPv6 address.
 ///
-/// It reads an IPv4 text as `V4` and an IPv6 text as `V6`; no text is both. All IPv4 addresses come before all IPv6
-/// addresses, and those of one family are ordered by number. ::ffff:192.0.2.1 is an IPv6 address and not equal to
-/// 192.0.2.1.
+/// It parses an IPv4 string as `V4` and an IPv6 string as `V6`; no string is both. All IPv4 addresses come before all
+/// IPv6 addresses, and those of one family are ordered by number. The IPv4-mapped address ::ffff:192.0.2.1 is an IPv6
+/// address and not equal to 192.0.2.1.
+///
+/// ```
+/// "192.0.2.1".parse::<IpAddr>()? // 192.0.2.1
+/// let mapped = "::ffff:192.0.2.1".parse::<IpAddr>()?;
+/// mapped == "192.0.2.1".parse()? // false
+/// ```
 #[derive(Clone, Copy, PartialEq, Eq, PartialOrd, Ord, Hash)]
 pub enum IpAddr {
     V4(Ipv4Addr),
@@ -26,21 +32,34 @@ pub enum IpAddr {
 }
 
 impl IpAddr {
-    /// Whether this is an IPv4 address.
+    /// Whether this is an IPv4 address. An IPv4-mapped IPv6 address is none.
+    ///
+    /// ```
+    /// "192.0.2.1".parse::<IpAddr>()?.is_ipv4() // true
+    /// "::ffff:192.0.2.1".parse::<IpAddr>()?.is_ipv4() // false
+    /// ```
     pub fn is_ipv4(&self) -> bool
         ensures { IsTrue result ↔ (address_family self.now ≡ Ipv4) }
     {
         matches!(self, IpAddr::V4(_))
     }
 
-    /// Whether this is an IPv6 address.
+    /// Whether this is an IPv6 address, IPv4-mapped or not.
+    ///
+    /// ```
+    /// "2001:db8::1".parse::<IpAddr>()?.is_ipv6() // true
+    /// ```
     pub fn is_ipv6(&self) -> bool
         ensures { IsTrue result ↔ (address_family self.now ≡ Ipv6) }
     {
         matches!(self, IpAddr::V6(_))
     }
 
-    /// The printed text, as the address of its family prints: at most 39 bytes.
+    /// The printed string, as the address of its family prints: at most 15 bytes in IPv4 and 39 in IPv6.
+    ///
+    /// ```
+    /// "2001:DB8::1".parse::<IpAddr>()?.to_text() // 2001:db8::1
+    /// ```
     pub fn to_text(&self) -> ArrayString<39>
         ensures text { result.bytes ≡ ip_text self.now }
         ensures len { length result.bytes ≤ 39 }

@@ -10,9 +10,9 @@ ghost use Rattle.cidr.specs.texts.Ipv4Text.{IsIpv4Text};
 ghost use Rattle.cidr.specs.texts.AddressText.{Reads};
 ghost use Rattle.cidr.specs.texts.PrintedAddress.{ipv4_text};
 
+use crate::addr::decimal::push_decimal;
 use crate::addr::error::AddrParseError;
-use crate::addr::print::push_decimal;
-use crate::addr::read::read_ipv4;
+use crate::addr::read_v4::read_ipv4;
 use arrayvec::ArrayString;
 use std::cmp::Ordering;
 use std::fmt;
@@ -22,8 +22,14 @@ use std::str::FromStr;
 
 /// An IPv4 address of 32 bits.
 ///
-/// It is read from and printed as four decimal octets, as in 192.0.2.1. An octet with a leading zero is refused,
-/// since some systems take it as octal. Addresses are ordered by number.
+/// It is parsed from and printed as four decimal octets with dots between them (`IPv4address` of RFC 3986, 3.2.2). An
+/// octet with a leading zero is an error, since some systems take it as octal; [`parsers`](crate::parsers) has looser
+/// parsers. Addresses are ordered by number.
+///
+/// ```
+/// "192.0.2.1".parse::<Ipv4Addr>()? // 192.0.2.1
+/// "192.0.2.01".parse::<Ipv4Addr>() // Err(invalid IPv4 address syntax)
+/// ```
 #[derive(Clone, Copy)]
 pub struct Ipv4Addr {
     raw: u32,
@@ -46,7 +52,11 @@ impl Model for Ipv4Addr {
 }
 
 impl Ipv4Addr {
-    /// The address with these octets, most significant first: `new(192, 0, 2, 1)` is 192.0.2.1.
+    /// The address with these four octets, most significant first.
+    ///
+    /// ```
+    /// Ipv4Addr::new(192, 0, 2, 1) // 192.0.2.1
+    /// ```
     #[tactic(auto, using(crate::proofs::OctetLaws::octet_laws))]
     pub fn new(a: u8, b: u8, c: u8, d: u8) -> Ipv4Addr
         ensures { result ≡ octet_bits (a ∷ b ∷ c ∷ d ∷ []) }
@@ -56,7 +66,11 @@ impl Ipv4Addr {
         }
     }
 
-    /// The four octets, most significant first.
+    /// The four octets, most significant first: the address in network byte order.
+    ///
+    /// ```
+    /// Ipv4Addr::new(192, 0, 2, 1).octets() // [192, 0, 2, 1]
+    /// ```
     #[tactic(auto, using(crate::proofs::OctetLaws::octet_laws))]
     pub fn octets(&self) -> [u8; 4]
         ensures value { result ≡ octets_of self.now }
@@ -65,14 +79,23 @@ impl Ipv4Addr {
         self.raw.to_be_bytes()
     }
 
-    /// The address with this number: `from_bits(256)` is 0.0.1.0.
+    /// The address with this number, whose most significant bits are those of the first octet.
+    ///
+    /// ```
+    /// Ipv4Addr::from_bits(0xc0000201) // 192.0.2.1
+    /// Ipv4Addr::from_bits(256) // 0.0.1.0
+    /// ```
     pub fn from_bits(value: u32) -> Ipv4Addr
         ensures { result ≡ bits 32 value }
     {
         Ipv4Addr { raw: value }
     }
 
-    /// The address as a number: that of 0.0.1.0 is 256.
+    /// The address as a number, whose most significant bits are those of the first octet.
+    ///
+    /// ```
+    /// Ipv4Addr::new(192, 0, 2, 1).to_bits() // 3221225985
+    /// ```
     #[tactic(auto, using(crate::specs::laws::BitLaws::bit_laws))]
     pub fn to_bits(self) -> u32
         ensures value { result ≡ number self }
@@ -81,7 +104,7 @@ impl Ipv4Addr {
         self.raw
     }
 
-    /// Appends the printed text.
+    /// Appends the printed string.
     pub(crate) fn push_to<const CAP: usize>(&self, text: &mut ArrayString<CAP>)
         requires { length text.old.bytes + 15 ≤ CAP }
         ensures bytes { text.new.bytes ≡ text.old.bytes ++ ipv4_text self.now }
@@ -98,7 +121,12 @@ impl Ipv4Addr {
         push_decimal(text, d);
     }
 
-    /// The printed text, four decimal octets: `192.0.2.1`. It has at most 15 bytes.
+    /// The printed string, four decimal octets, in an `ArrayString`, so that nothing is allocated. It has at most 15
+    /// bytes.
+    ///
+    /// ```
+    /// Ipv4Addr::new(192, 0, 2, 1).to_text() // 192.0.2.1
+    /// ```
     #[tactic(auto, using(crate::proofs::Ipv4Printing::ipv4_text_laws))]
     pub fn to_text(&self) -> ArrayString<39>
         ensures text { result.bytes ≡ ipv4_text self.now }

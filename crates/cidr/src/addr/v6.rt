@@ -12,8 +12,8 @@ ghost use Rattle.cidr.specs.texts.Canonical.{IsCanonicalText};
 ghost use Rattle.cidr.specs.texts.PrintedAddress.{ipv6_text};
 
 use crate::addr::error::AddrParseError;
-use crate::addr::print6::{is_mapped, push_hex_groups};
-use crate::addr::read6::read_ipv6;
+use crate::addr::print_v6::{is_mapped, push_hex_groups};
+use crate::addr::read_v6::read_ipv6;
 use crate::addr::v4::Ipv4Addr;
 use crate::arithmetic::halves::Halves;
 use arrayvec::ArrayString;
@@ -25,9 +25,14 @@ use std::str::FromStr;
 
 /// An IPv6 address of 128 bits.
 ///
-/// It is read from each text that RFC 4291, 2.2 allows: 2001:DB8::1, 2001:db8:0:0:0:0:0:1 and ::ffff:192.0.2.1 are
-/// texts; an address with a zone, as fe80::1%1, is none. It is printed as RFC 5952 has it. Addresses are ordered by
-/// number.
+/// It is parsed from each string that RFC 4291, 2.2 allows, in either case, and printed as RFC 5952 has it. A zone, as
+/// in fe80::1%1, and brackets are an error. Addresses are ordered by number. An IPv4-mapped address, as
+/// ::ffff:192.0.2.1, stays an IPv6 address.
+///
+/// ```
+/// "2001:DB8:0:0:0:0:0:1".parse::<Ipv6Addr>()? // 2001:db8::1
+/// "fe80::1%1".parse::<Ipv6Addr>() // Err(invalid IPv6 address syntax)
+/// ```
 #[derive(Clone, Copy)]
 pub struct Ipv6Addr {
     upper: u64,
@@ -55,8 +60,11 @@ impl Model for Ipv6Addr {
 }
 
 impl Ipv6Addr {
-    /// The address with these groups of sixteen bits, most significant first:
-    /// `new(0x2001, 0xdb8, 0, 0, 0, 0, 0, 1)` is 2001:db8::1.
+    /// The address with these eight groups of 16 bits, most significant first.
+    ///
+    /// ```
+    /// Ipv6Addr::new(0x2001, 0xdb8, 0, 0, 0, 0, 0, 1) // 2001:db8::1
+    /// ```
     #[tactic(auto, using(crate::proofs::GroupLaws::group_laws))]
     pub fn new(a: u16, b: u16, c: u16, d: u16, e: u16, f: u16, g: u16, h: u16) -> Ipv6Addr
         ensures { result ≡ group_bits (a ∷ b ∷ c ∷ d ∷ e ∷ f ∷ g ∷ h ∷ []) }
@@ -67,7 +75,11 @@ impl Ipv6Addr {
         }
     }
 
-    /// The eight groups of sixteen bits, most significant first.
+    /// The eight groups of 16 bits, most significant first.
+    ///
+    /// ```
+    /// Ipv6Addr::from_bits(65536).segments() // [0, 0, 0, 0, 0, 0, 1, 0]
+    /// ```
     #[tactic(auto, using(crate::proofs::GroupLaws::group_laws))]
     pub fn segments(&self) -> [u16; 8]
         ensures value { result ≡ groups_of self.now }
@@ -85,7 +97,11 @@ impl Ipv6Addr {
         ]
     }
 
-    /// The sixteen octets, most significant first.
+    /// The sixteen octets, most significant first: the address in network byte order.
+    ///
+    /// ```
+    /// Ipv6Addr::from_bits(258).octets() // [0, 0, 0, 0, 0, 0, 0, 0, 0, 0, 0, 0, 0, 0, 1, 2]
+    /// ```
     #[tactic(auto, using(crate::proofs::OctetRows::sixteen_laws))]
     pub fn octets(&self) -> [u8; 16]
         ensures value { result ≡ parts_of 8 16 self.now }
@@ -94,14 +110,22 @@ impl Ipv6Addr {
         self.to_bits().to_be_bytes()
     }
 
-    /// The address with this number: `from_bits(1)` is ::1.
+    /// The address with this number, whose most significant bits are those of the first group.
+    ///
+    /// ```
+    /// Ipv6Addr::from_bits(1) // ::1
+    /// ```
     pub fn from_bits(value: u128) -> Ipv6Addr
         ensures { result ≡ bits 128 value }
     {
         Ipv6Addr::from_halves(Halves::split(value))
     }
 
-    /// The address as a number: that of ::1:0 is 65536.
+    /// The address as a number, whose most significant bits are those of the first group.
+    ///
+    /// ```
+    /// "::1:0".parse::<Ipv6Addr>()?.to_bits() // 65536
+    /// ```
     #[tactic(auto, using(crate::specs::laws::BitLaws::bit_laws))]
     pub fn to_bits(self) -> u128
         ensures value { result ≡ number self }
@@ -130,7 +154,7 @@ impl Ipv6Addr {
         Halves::new(self.upper, self.lower)
     }
 
-    /// Appends the printed text.
+    /// Appends the printed string.
     pub(crate) fn push_to<const CAP: usize>(&self, text: &mut ArrayString<CAP>)
         requires { length text.old.bytes + 39 ≤ CAP }
         ensures bytes { text.new.bytes ≡ text.old.bytes ++ ipv6_text self.now }
@@ -146,10 +170,15 @@ impl Ipv6Addr {
         }
     }
 
-    /// The printed text: at most 39 bytes.
+    /// The printed string, in an `ArrayString`, so that nothing is allocated. It has at most 39 bytes.
     ///
-    /// It is the canonical text of RFC 5952, of which each address has one: 2001:DB8:0:0:0:0:0:1 is printed as
-    /// `2001:db8::1`, and ::ffff:c000:201 as `::ffff:192.0.2.1`.
+    /// It is the one canonical form of RFC 5952: lower case, no leading zeros, the longest run of two or more zero
+    /// groups as `::`, and an IPv4-mapped address with its last 32 bits as an IPv4 address.
+    ///
+    /// ```
+    /// "2001:db8:0:0:1:0:0:1".parse::<Ipv6Addr>()?.to_text() // 2001:db8::1:0:0:1
+    /// "::FFFF:C000:201".parse::<Ipv6Addr>()?.to_text() // ::ffff:192.0.2.1
+    /// ```
     #[tactic(auto, using(crate::proofs::Ipv6Printing::ipv6_text_laws))]
     pub fn to_text(&self) -> ArrayString<39>
         ensures text { result.bytes ≡ ipv6_text self.now }

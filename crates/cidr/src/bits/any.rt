@@ -1,14 +1,16 @@
 //! Networks of either family, or every address, as strings of bits.
-ghost use Rattle.std.specs.Prelude.{◌≡◌, ◌<◌, ◌∷◌, [], length, refl};
-ghost use Rattle.cidr.specs.either.IpNetwork.{any_bits, AnyHasRoom};
+ghost use Rattle.std.specs.Prelude.{◌≡◌, ◌+◌, ◌-◌, ◌<◌, ◌∷◌, [], length, take, refl};
+ghost use Rattle.cidr.specs.either.IpNetwork.{any_bits, any_room};
 ghost use Rattle.cidr.specs.laws.StringLaws.{any_determined};
 ghost use Rattle.cidr.specs.declared.cidr.any.AnyIpCidr.TheVariants.{Any, V4, V6};
 ghost use Rattle.cidr.specs.model.BitString.{any_with_bit, inverted};
+ghost use Rattle.cidr.specs.model.Network.{width_of};
 
 use crate::bits::network::shared_length;
 use crate::bits::{BitString, NetworkBits};
 use crate::cidr::any::AnyIpCidr;
-use crate::cidr::network::{Ipv4Cidr, Ipv6Cidr};
+use crate::cidr::network::{Ipv4Cidr, Ipv6Cidr, Network};
+use crate::internal_traits::single_bits::SingleBits;
 
 /// The network of all addresses of the family that a bit names: ::/0 for a set one.
 fn of_family(ipv6: bool) -> AnyIpCidr
@@ -21,16 +23,37 @@ fn of_family(ipv6: bool) -> AnyIpCidr
     }
 }
 
+/// Leaves the first `k` bits of a network, of which the family bit in front is one.
+fn clip_behind_family<A: SingleBits>(network: &mut Network<A>, k: usize)
+    requires { 0 < k }
+    ensures bits { network.new ≡ take (k - 1) network.old }
+    ensures room { width_of A.FAMILY - length network.new ≡
+        width_of A.FAMILY - length network.old + (length network.old + 1 - k) }
+    ensures left { k < length network.old + 1 → 0 < width_of A.FAMILY - length network.new }
+{
+    // the call tells the proof that the prefix length fits
+    network.network_length();
+    network.clip(k - 1);
+}
+
 impl BitString for AnyIpCidr {
     ghost bits = { any_bits };
 
-    ghost HasRoom = { AnyHasRoom };
+    ghost room = { any_room };
 
     fn len(&self) -> usize {
         match self {
             AnyIpCidr::Any => 0,
             AnyIpCidr::V4(network) => usize::from(network.network_length()) + 1,
             AnyIpCidr::V6(network) => usize::from(network.network_length()) + 1,
+        }
+    }
+
+    fn room(&self) -> usize {
+        match self {
+            AnyIpCidr::Any => 33,
+            AnyIpCidr::V4(network) => usize::from(32 - network.network_length()),
+            AnyIpCidr::V6(network) => usize::from(128 - network.network_length()),
         }
     }
 
@@ -72,8 +95,8 @@ impl BitString for AnyIpCidr {
         }
         match self {
             AnyIpCidr::Any => {}
-            AnyIpCidr::V4(network) => network.clip(k - 1),
-            AnyIpCidr::V6(network) => network.clip(k - 1),
+            AnyIpCidr::V4(network) => clip_behind_family(network, k),
+            AnyIpCidr::V6(network) => clip_behind_family(network, k),
         }
     }
 

@@ -1,5 +1,5 @@
 //! Hosts of one family as strings of bits: those of their networks.
-ghost use Rattle.std.specs.Prelude.{◌≡◌, ◌+◌, ◌<◌, ◌++◌, ◌∷◌, [], length, set, take};
+ghost use Rattle.std.specs.Prelude.{◌≡◌, ◌+◌, ◌-◌, ◌<◌, ◌≤◌, ◌++◌, ◌∷◌, [], length, set, take};
 ghost use Rattle.cidr.specs.model.BitString.{host_with_bit, host_clipped, host_longer, inverted};
 ghost use Rattle.cidr.specs.model.Host.{network_of};
 ghost use Rattle.cidr.specs.model.Network.{width_of, zeros};
@@ -12,13 +12,20 @@ use std::cmp::min;
 impl<A: SingleBits> BitString for Host<A> {
     ghost bits = { network_of };
 
-    ghost HasRoom = { λ host. host.len < width_of A.FAMILY };
+    ghost room = { λ host. width_of A.FAMILY - host.len };
 
     #[tactic(auto, using(crate::specs::laws::NetworkLaws::taken_laws))]
     fn len(&self) -> usize {
         // the call tells the proof how many bits the address has
         self.address().has_width();
         usize::from(self.network_length())
+    }
+
+    #[tactic(auto, using(crate::specs::laws::NetworkLaws::taken_laws, crate::proofs::StringBits::width_laws))]
+    fn room(&self) -> usize {
+        // the call tells the proof how many bits the address has
+        self.address().has_width();
+        usize::from(A::FAMILY.len() - self.network_length())
     }
 
     fn get(&self, i: usize) -> bool {
@@ -45,7 +52,9 @@ impl<A: SingleBits> BitString for Host<A> {
 
     fn clip(&mut self, k: usize)
         ensures bits { network_of self.new ≡ take k (network_of self.old) }
-        ensures room { k < length (network_of self.old) → self.new.len < width_of A.FAMILY }
+        ensures room { 0 < k → width_of A.FAMILY - self.new.len ≡
+            width_of A.FAMILY - self.old.len + (length (network_of self.old) - k) }
+        ensures left { k < length (network_of self.old) → 0 < width_of A.FAMILY - self.new.len }
         ensures host { self.new ≡ host_clipped (width_of A.FAMILY) k self.old }
     {
         let (address, len) = (self.address(), self.network_length());
@@ -57,8 +66,9 @@ impl<A: SingleBits> BitString for Host<A> {
     }
 
     fn append(&mut self, b: bool)
-        requires { self.old.len < width_of A.FAMILY }
+        requires { 0 < width_of A.FAMILY - self.old.len }
         ensures bits { network_of self.new ≡ network_of self.old ++ b ∷ [] }
+        ensures room { width_of A.FAMILY - self.old.len ≤ width_of A.FAMILY - self.new.len + 1 }
         ensures host { self.new ≡ host_longer b self.old }
     {
         let (address, len) = (self.address(), self.network_length());

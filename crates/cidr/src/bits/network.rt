@@ -1,5 +1,5 @@
 //! Networks of one family as strings of bits.
-ghost use Rattle.std.specs.Prelude.{◌≡◌, ◌+◌, ◌<◌, ◌≤◌, ◌++◌, ◌∷◌, [], Some, length, take, set, slice_get, refl};
+ghost use Rattle.std.specs.Prelude.{◌≡◌, ◌+◌, ◌-◌, ◌<◌, ◌≤◌, ◌++◌, ◌∷◌, [], Some, length, take, set, slice_get, refl};
 ghost use Rattle.cidr.specs.model.BitString.{IsSharedLength, inverted};
 ghost use Rattle.cidr.specs.model.Network.{width_of};
 
@@ -19,10 +19,15 @@ pub(crate) fn shared_length<A: SingleBits>(one: &Network<A>, other: &Network<A>)
 impl<A: SingleBits> BitString for Network<A> {
     ghost bits = { λ n. n };
 
-    ghost HasRoom = { λ n. length n < width_of A.FAMILY };
+    ghost room = { λ n. width_of A.FAMILY - length n };
 
     fn len(&self) -> usize {
         usize::from(self.network_length())
+    }
+
+    #[tactic(auto, using(crate::proofs::StringBits::width_laws))]
+    fn room(&self) -> usize {
+        usize::from(A::FAMILY.len() - self.network_length())
     }
 
     fn get(&self, i: usize) -> bool {

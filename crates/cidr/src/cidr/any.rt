@@ -1,7 +1,10 @@
 //! The network of either family, or every address.
-ghost use Rattle.std.specs.Prelude.{◌≡◌, ◌↔◌, ◌≤◌, length, codes, IsTrue, IfOk, Some, option_map};
+//!
+//! Its compact bytes stand in `compact::either_family`, and the bits that it is a string of in `bits::any`.
+ghost use Rattle.std.specs.Prelude.{◌≡◌, ◌↔◌, ◌≤◌, length, codes, IsTrue, IfOk, IfSome, Some, option_map};
 ghost use Rattle.cidr.specs.either.IpNetwork.{specific, any_of, any_or, any_length, IsLoneNetwork};
 ghost use Rattle.cidr.specs.either.IpText.{IsAnyNetworkText, any_network_text};
+ghost use Rattle.cidr.specs.model.Views.{seen};
 ghost use Rattle.cidr.specs.declared.cidr.any.AnyIpCidr.TheVariants as any_network;
 
 use crate::addr::ip::IpAddr;
@@ -12,7 +15,6 @@ use crate::cidr::network::{Ipv4Cidr, Ipv6Cidr};
 use crate::errors::NetworkParseError;
 use crate::family::Family;
 use crate::inet::combined::IpInet;
-use crate::parsers::any::parse_any_cidr;
 use crate::text::with_length::WithLength;
 use arrayvec::ArrayString;
 use std::fmt;
@@ -20,31 +22,39 @@ use std::str::FromStr;
 
 /// An IPv4 or an IPv6 network, or every address of both families.
 ///
-/// It is the type of an entry of an access list that may say "any". `Any` comes first, then the IPv4 networks, then
-/// the IPv6 networks. `Any` has no family, no prefix length and no first address: the calls that ask for one return
-/// `None`.
+/// It is the type of an entry of an access list that may say `any`. `Any` comes first in the order, then the IPv4
+/// networks, then the IPv6 networks. `Any` has no family, no prefix length and no first address: the calls that return
+/// one of these return `None`.
+///
+/// ```
+/// "any".parse::<AnyIpCidr>()? // any
+/// "any".parse::<AnyIpCidr>()? < "0.0.0.0/0".parse()? // true
+/// ```
 #[derive(Clone, Copy, Debug, PartialEq, Eq, PartialOrd, Ord, Hash)]
 pub enum AnyIpCidr {
-    /// Every address of both families. It is read from and printed as `any`.
+    /// Every address of both families. It is parsed from and printed as `any`, in lower case only.
     Any,
     V4(Ipv4Cidr),
     V6(Ipv6Cidr),
 }
 
 impl AnyIpCidr {
-    ghost use Rattle.cidr.specs.either.IpNetwork.{network_family, network_prefix, any_bits, address_by, lone_network, ip_network_from, IsAddressBits};
+    ghost use Rattle.cidr.specs.either.IpNetwork.{network_family, network_prefix, any_bits, address_by, lone_network, ip_network_from, IsAddressBits, IsAnyNetwork};
     ghost use Rattle.cidr.specs.either.IpHost.{host_at};
     ghost use Rattle.cidr.specs.model.Host.{first_host, last_host};
     ghost use Rattle.cidr.specs.either.IpAddress.{ip_address_bits};
     ghost use Rattle.cidr.specs.model.Network.{first_of, last_of, mask_of, BeginsWith, HoldsAll};
     ghost use Rattle.cidr.specs.texts.Printed.{plain_text};
-    ghost use Rattle.cidr.specs.model.Views.{seen};
     ghost use Rattle.cidr.specs.declared.family.Family.TheVariants.{Ipv4, Ipv6};
 
     /// The network of the first `len` bits of an address, of its family.
     ///
-    /// Refuses a prefix length above the width, 32 or 128, and then an address with a set bit after the first
-    /// `len`.
+    /// Returns `NetworkLengthTooLongError` for a prefix length above the width, 32 or 128, and then `InvalidHostPart`
+    /// for an address with a set bit after the first `len`.
+    ///
+    /// ```
+    /// AnyIpCidr::new("10.0.0.0".parse()?, 8)? // 10.0.0.0/8
+    /// ```
     pub fn new(addr: IpAddr, len: u8) -> Result<AnyIpCidr, NetworkParseError>
         ensures value { result ≡ seen any_of (ip_network_from addr len) }
         ensures len { IfOk result (λ n. any_length n ≡ Some len) }
@@ -52,7 +62,11 @@ impl AnyIpCidr {
         Ok(AnyIpCidr::from(IpCidr::new(addr, len)?))
     }
 
-    /// The network of this address alone, of full prefix length: 192.0.2.1/32 or 2001:db8::1/128.
+    /// The network that has only this address, of full prefix length: /32 in IPv4 and /128 in IPv6.
+    ///
+    /// ```
+    /// AnyIpCidr::new_host("192.0.2.1".parse()?) // 192.0.2.1
+    /// ```
     pub fn new_host(addr: IpAddr) -> AnyIpCidr
         ensures value { result ≡ any_of (lone_network addr) }
         ensures full { IsLoneNetwork result }
@@ -71,7 +85,12 @@ impl AnyIpCidr {
         }
     }
 
-    /// The first address, or `None` for `Any`.
+    /// The first address, in which no bit after the prefix is set, or `None` for `Any`.
+    ///
+    /// ```
+    /// "10.0.0.0/8".parse::<AnyIpCidr>()?.first_address() // Some(10.0.0.0)
+    /// AnyIpCidr::Any.first_address() // None
+    /// ```
     pub fn first_address(&self) -> Option<IpAddr>
         ensures { result ≡ option_map (address_by first_of) (specific self.now) }
     {
@@ -81,7 +100,11 @@ impl AnyIpCidr {
         }
     }
 
-    /// The last address, or `None` for `Any`.
+    /// The last address, in which all bits after the prefix are set, or `None` for `Any`.
+    ///
+    /// ```
+    /// "10.0.0.0/8".parse::<AnyIpCidr>()?.last_address() // Some(10.255.255.255)
+    /// ```
     pub fn last_address(&self) -> Option<IpAddr>
         ensures { result ≡ option_map (address_by last_of) (specific self.now) }
     {
@@ -92,6 +115,10 @@ impl AnyIpCidr {
     }
 
     /// The host at the first address, with the prefix length of the network, or `None` for `Any`.
+    ///
+    /// ```
+    /// "10.0.0.0/8".parse::<AnyIpCidr>()?.first() // Some(V4(10.0.0.0/8))
+    /// ```
     pub fn first(&self) -> Option<IpInet>
         ensures { result ≡ option_map (host_at first_host) (specific self.now) }
     {
@@ -102,6 +129,10 @@ impl AnyIpCidr {
     }
 
     /// The host at the last address, with the prefix length of the network, or `None` for `Any`.
+    ///
+    /// ```
+    /// "10.0.0.0/8".parse::<AnyIpCidr>()?.last() // Some(V4(10.255.255.255/8))
+    /// ```
     pub fn last(&self) -> Option<IpInet>
         ensures { result ≡ option_map (host_at last_host) (specific self.now) }
     {
@@ -112,8 +143,14 @@ impl AnyIpCidr {
     }
 
     /// The prefix length in bits, at most 32 in IPv4 and 128 in IPv6, or `None` for `Any`.
+    ///
+    /// ```
+    /// "10.0.0.0/8".parse::<AnyIpCidr>()?.network_length() // Some(8)
+    /// ```
     pub fn network_length(&self) -> Option<u8>
-        ensures { result ≡ any_length self.now }
+        ensures value { result ≡ any_length self.now }
+        ensures fits { IfSome result (λ len. len ≤ 128) }
+        ensures within { IsAnyNetwork self.now }
     {
         match self.network() {
             None => None,
@@ -121,7 +158,11 @@ impl AnyIpCidr {
         }
     }
 
-    /// The family, or `None` for `Any`.
+    /// The family of its addresses, or `None` for `Any`, which has addresses of both.
+    ///
+    /// ```
+    /// "10.0.0.0/8".parse::<AnyIpCidr>()?.family() // Some(Ipv4)
+    /// ```
     pub fn family(&self) -> Option<Family>
         ensures { result ≡ option_map network_family (specific self.now) }
     {
@@ -131,7 +172,12 @@ impl AnyIpCidr {
         }
     }
 
-    /// Whether the network is a single address, which `Any` is not.
+    /// Whether the network has only one address, that is, whether the prefix length is full. `Any` has more.
+    ///
+    /// ```
+    /// "2001:db8::1".parse::<AnyIpCidr>()?.is_host_address() // true
+    /// AnyIpCidr::Any.is_host_address() // false
+    /// ```
     pub fn is_host_address(&self) -> bool
         ensures { IsTrue result ↔ IsLoneNetwork self.now }
     {
@@ -141,7 +187,11 @@ impl AnyIpCidr {
         }
     }
 
-    /// The mask, or `None` for `Any`.
+    /// The network mask, as many set bits as the prefix length says and then zeros, or `None` for `Any`.
+    ///
+    /// ```
+    /// "10.0.0.0/8".parse::<AnyIpCidr>()?.mask() // Some(255.0.0.0)
+    /// ```
     pub fn mask(&self) -> Option<IpAddr>
         ensures { result ≡ option_map (address_by mask_of) (specific self.now) }
     {
@@ -151,8 +201,15 @@ impl AnyIpCidr {
         }
     }
 
-    /// Whether the address is in the network. `Any` contains every address; no other network contains an address of
-    /// the other family.
+    /// Whether the address is in the network. `Any` contains every address.
+    ///
+    /// No other network contains an address of the other family: an IPv4-mapped IPv6 address is in no IPv4 network.
+    ///
+    /// ```
+    /// AnyIpCidr::Any.contains(&"2001:db8::1".parse()?) // true
+    /// let network = "0.0.0.0/0".parse::<AnyIpCidr>()?;
+    /// network.contains(&"::ffff:192.0.2.1".parse()?) // false
+    /// ```
     pub fn contains(&self, addr: &IpAddr) -> bool
         ensures { IsTrue result ↔ BeginsWith (ip_address_bits addr.now) (any_bits self.now) }
     {
@@ -164,8 +221,12 @@ impl AnyIpCidr {
         }
     }
 
-    /// Whether every address of the other network is in this one. `Any` contains every network, and no other
+    /// Whether every address of the other network is in this one. `Any` contains every network and itself, and no other
     /// network contains `Any`.
+    ///
+    /// ```
+    /// AnyIpCidr::Any.contains_cidr(&"::/0".parse()?) // true
+    /// ```
     #[tactic(auto, using(crate::proofs::EitherHolding::holding_laws))]
     pub fn contains_cidr(&self, other: &AnyIpCidr) -> bool
         ensures begins { IsTrue result ↔ BeginsWith (any_bits other.now) (any_bits self.now) }
@@ -178,7 +239,12 @@ impl AnyIpCidr {
         }
     }
 
-    /// Whether this is `Any`.
+    /// Whether this is `Any`. The networks 0.0.0.0/0 and ::/0 are not.
+    ///
+    /// ```
+    /// "any".parse::<AnyIpCidr>()?.is_any() // true
+    /// "0.0.0.0/0".parse::<AnyIpCidr>()?.is_any() // false
+    /// ```
     pub fn is_any(&self) -> bool
         ensures { IsTrue result ↔ (self.now ≡ any_network.Any) }
     {
@@ -186,6 +252,10 @@ impl AnyIpCidr {
     }
 
     /// Whether this is an IPv4 network, which `Any` is not.
+    ///
+    /// ```
+    /// "0.0.0.0/0".parse::<AnyIpCidr>()?.is_ipv4() // true
+    /// ```
     pub fn is_ipv4(&self) -> bool
         ensures { IsTrue result ↔ (option_map network_family (specific self.now) ≡ Some Ipv4) }
     {
@@ -193,13 +263,22 @@ impl AnyIpCidr {
     }
 
     /// Whether this is an IPv6 network, which `Any` is not.
+    ///
+    /// ```
+    /// "::/0".parse::<AnyIpCidr>()?.is_ipv6() // true
+    /// ```
     pub fn is_ipv6(&self) -> bool
         ensures { IsTrue result ↔ (option_map network_family (specific self.now) ≡ Some Ipv6) }
     {
         matches!(self, AnyIpCidr::V6(_))
     }
 
-    /// The printed text, which is `any` or leaves out a full prefix length: at most 43 bytes.
+    /// The printed string, in an `ArrayString`, so that nothing is allocated: `any`, or the network without a full
+    /// prefix length. It has at most 43 bytes.
+    ///
+    /// ```
+    /// AnyIpCidr::Any.to_text() // any
+    /// ```
     pub fn to_text(&self) -> ArrayString<43>
         ensures text { result.bytes ≡ any_network_text plain_text self.now }
         ensures len { length result.bytes ≤ 43 }
@@ -212,6 +291,10 @@ impl AnyIpCidr {
     }
 
     /// The network, to be printed with its prefix length also where that is full. `Any` stays `any`.
+    ///
+    /// ```
+    /// "192.0.2.1".parse::<AnyIpCidr>()?.with_length() // 192.0.2.1/32
+    /// ```
     pub fn with_length(&self) -> WithLength<AnyIpCidr>
         ensures { result ≡ self.now }
     {
@@ -219,7 +302,7 @@ impl AnyIpCidr {
     }
 }
 
-/// The text of `Any`.
+/// The string of `Any`.
 fn any_text() -> ArrayString<43>
     ensures text { result.bytes ≡ codes "any" }
     ensures len { length result.bytes ≤ 43 }
@@ -229,10 +312,33 @@ fn any_text() -> ArrayString<43>
     text
 }
 
+/// Whether the text is `any`.
+pub(crate) fn is_any(s: &str) -> bool
+    ensures { IsTrue result ↔ (s.now ≡ codes "any") }
+{
+    s == "any"
+}
+
+/// The network of either family as one that may be `Any`.
+pub(crate) fn any_of(
+    network: Result<IpCidr, NetworkParseError>,
+) -> Result<AnyIpCidr, NetworkParseError>
+    ensures { result ≡ seen any_of network }
+{
+    match network {
+        Ok(network) => Ok(AnyIpCidr::from(network)),
+        Err(e) => Err(e),
+    }
+}
+
 impl WithLength<AnyIpCidr> {
     ghost use Rattle.cidr.specs.texts.Printed.{forced_text};
 
-    /// The printed text, which is `any` or has the prefix length: at most 43 bytes.
+    /// The printed string, `any` or the network with its prefix length: at most 43 bytes.
+    ///
+    /// ```
+    /// "::1".parse::<AnyIpCidr>()?.with_length().to_text() // ::1/128
+    /// ```
     pub fn to_text(&self) -> ArrayString<43>
         ensures text { result.bytes ≡ any_network_text forced_text self.now }
         ensures len { length result.bytes ≤ 43 }
@@ -325,7 +431,10 @@ impl FromStr for AnyIpCidr {
     ghost from_str_gives = { ReadsAnyNetwork };
 
     fn from_str(s: &str) -> Result<AnyIpCidr, NetworkParseError> {
-        parse_any_cidr(s, IpAddr::from_str)
+        if is_any(s) {
+            return Ok(AnyIpCidr::Any);
+        }
+        any_of(s.parse::<IpCidr>())
     }
 }
 

@@ -1,4 +1,6 @@
 //! The network of either family.
+//!
+//! Its compact bytes stand in `compact::either_family`.
 ghost use Rattle.std.specs.Prelude.{◌≡◌, ◌↔◌, ◌≤◌, length, IsTrue, IfOk, Some};
 ghost use Rattle.cidr.specs.either.IpNetwork.{network_family, network_prefix, network_bits, IsLone};
 ghost use Rattle.cidr.specs.either.IpText.{IsIpNetworkText, ip_network_text};
@@ -21,8 +23,12 @@ use std::str::FromStr;
 
 /// An IPv4 or an IPv6 network.
 ///
-/// All IPv4 networks come before all IPv6 networks, and those of one family are ordered by first address and then
-/// by prefix length.
+/// Parsing tries IPv4 first; the error is that of the family that has the address. All IPv4 networks come before all
+/// IPv6 networks, and those of one family are ordered by first address and then by prefix length.
+///
+/// ```
+/// "2001:db8::/32".parse::<IpCidr>()? // 2001:db8::/32
+/// ```
 #[derive(Clone, Copy, Debug, PartialEq, Eq, PartialOrd, Ord, Hash)]
 pub enum IpCidr {
     V4(Ipv4Cidr),
@@ -41,8 +47,13 @@ impl IpCidr {
 
     /// The network of the first `len` bits of an address, of its family.
     ///
-    /// Refuses a prefix length above the width, 32 or 128, and then an address with a set bit after the first
-    /// `len`.
+    /// Returns `NetworkLengthTooLongError` for a prefix length above the width, 32 or 128, and then `InvalidHostPart`
+    /// for an address with a set bit after the first `len`.
+    ///
+    /// ```
+    /// IpCidr::new("2001:db8::".parse()?, 32)? // 2001:db8::/32
+    /// IpCidr::new("192.0.2.48".parse()?, 27) // Err(host part of address was not zero)
+    /// ```
     pub fn new(addr: IpAddr, len: u8) -> Result<IpCidr, NetworkParseError>
         ensures value { result ≡ ip_network_from addr len }
         ensures len { IfOk result (λ n. length (network_prefix n) ≡ len) }
@@ -53,7 +64,11 @@ impl IpCidr {
         }
     }
 
-    /// The network of this address alone, of full prefix length: 192.0.2.1/32 or 2001:db8::1/128.
+    /// The network that has only this address, of full prefix length: /32 in IPv4 and /128 in IPv6.
+    ///
+    /// ```
+    /// IpCidr::new_host("192.0.2.1".parse()?) // 192.0.2.1
+    /// ```
     pub fn new_host(addr: IpAddr) -> IpCidr
         ensures value { result ≡ lone_network addr }
         ensures full { IsLone result }
@@ -64,7 +79,11 @@ impl IpCidr {
         }
     }
 
-    /// The first address, in which no bit after the prefix is set.
+    /// The first address, in which no bit after the prefix is set: in IPv4 the network address, up to /30.
+    ///
+    /// ```
+    /// "192.0.2.48/28".parse::<IpCidr>()?.first_address() // 192.0.2.48
+    /// ```
     pub fn first_address(&self) -> IpAddr
         ensures { result ≡ address_by first_of self.now }
     {
@@ -74,7 +93,11 @@ impl IpCidr {
         }
     }
 
-    /// The last address, in which all bits after the prefix are set.
+    /// The last address, in which all bits after the prefix are set: in IPv4 the broadcast address, up to /30.
+    ///
+    /// ```
+    /// "192.0.2.48/28".parse::<IpCidr>()?.last_address() // 192.0.2.63
+    /// ```
     pub fn last_address(&self) -> IpAddr
         ensures { result ≡ address_by last_of self.now }
     {
@@ -85,6 +108,10 @@ impl IpCidr {
     }
 
     /// The host at the first address, with the prefix length of the network.
+    ///
+    /// ```
+    /// "192.0.2.48/28".parse::<IpCidr>()?.first() // 192.0.2.48/28
+    /// ```
     pub fn first(&self) -> IpInet
         ensures { result ≡ host_at first_host self.now }
     {
@@ -95,6 +122,10 @@ impl IpCidr {
     }
 
     /// The host at the last address, with the prefix length of the network.
+    ///
+    /// ```
+    /// "192.0.2.48/28".parse::<IpCidr>()?.last() // 192.0.2.63/28
+    /// ```
     pub fn last(&self) -> IpInet
         ensures { result ≡ host_at last_host self.now }
     {
@@ -104,8 +135,12 @@ impl IpCidr {
         }
     }
 
-    /// The walk over all addresses of the network, ascending, as hosts with its prefix length. None is left out:
-    /// the network address and the broadcast address are among them.
+    /// The hosts at all addresses of the network, ascending, with its prefix length. None is left out: the network
+    /// address and the broadcast address are among them.
+    ///
+    /// ```
+    /// "10.0.0.0/30".parse::<IpCidr>()?.iter().next_back() // Some(V4(10.0.0.3/30))
+    /// ```
     pub fn iter(&self) -> InetIterator<IpAddr>
         ensures walk { result ≡ network_hosts (network_family self.now) (network_prefix self.now) }
         ensures exactly { HasExactly (network_family self.now) (network_prefix self.now)
@@ -118,6 +153,10 @@ impl IpCidr {
     }
 
     /// The prefix length in bits, at most 32 in IPv4 and 128 in IPv6.
+    ///
+    /// ```
+    /// "2001:db8::/32".parse::<IpCidr>()?.network_length() // 32
+    /// ```
     pub fn network_length(&self) -> u8
         ensures value { result ≡ length (network_prefix self.now) }
         ensures fits { result ≤ width_of (network_family self.now) }
@@ -128,7 +167,11 @@ impl IpCidr {
         }
     }
 
-    /// The family.
+    /// The family of its addresses.
+    ///
+    /// ```
+    /// "2001:db8::/32".parse::<IpCidr>()?.family() // Ipv6
+    /// ```
     pub fn family(&self) -> Family
         ensures { result ≡ network_family self.now }
     {
@@ -138,7 +181,13 @@ impl IpCidr {
         }
     }
 
-    /// Whether the network is a single address: whether the prefix length is full, 32 or 128.
+    /// Whether the network has only one address, that is, whether the prefix length is full: 32 in IPv4 and 128 in
+    /// IPv6.
+    ///
+    /// ```
+    /// "2001:db8::/32".parse::<IpCidr>()?.is_host_address() // false
+    /// "::1/128".parse::<IpCidr>()?.is_host_address() // true
+    /// ```
     pub fn is_host_address(&self) -> bool
         ensures { IsTrue result ↔ IsLone self.now }
     {
@@ -148,7 +197,11 @@ impl IpCidr {
         }
     }
 
-    /// The mask: as many set bits as the prefix length says, then zeros.
+    /// The network mask: as many set bits as the prefix length says, then zeros.
+    ///
+    /// ```
+    /// "2001:db8::/32".parse::<IpCidr>()?.mask() // ffff:ffff::
+    /// ```
     pub fn mask(&self) -> IpAddr
         ensures { result ≡ address_by mask_of self.now }
     {
@@ -158,8 +211,16 @@ impl IpCidr {
         }
     }
 
-    /// Whether the address is in the network. No network contains an address of the other family: ::ffff:0.0.0.0/96
-    /// does not contain 192.0.2.1.
+    /// Whether the address is in the network, that is, of its family and begins with its prefix.
+    ///
+    /// No network contains an address of the other family: an IPv4 address is in no IPv6 network, and an IPv4-mapped
+    /// IPv6 address is in no IPv4 network, as in Go's `netip.Prefix.Contains`.
+    ///
+    /// ```
+    /// let network = "::ffff:0:0/96".parse::<IpCidr>()?;
+    /// network.contains(&"::ffff:192.0.2.1".parse()?) // true
+    /// network.contains(&"192.0.2.1".parse()?) // false
+    /// ```
     pub fn contains(&self, addr: &IpAddr) -> bool
         ensures { IsTrue result ↔ BeginsWith (ip_address_bits addr.now) (network_bits self.now) }
     {
@@ -170,7 +231,13 @@ impl IpCidr {
         }
     }
 
-    /// Whether every address of the other network is in this one, which one of the other family never is.
+    /// Whether every address of the other network is in this one, which is never so for two families: ::/0 does not
+    /// contain 192.0.2.0/24. Each network contains itself.
+    ///
+    /// ```
+    /// let network = "2001:db8::/32".parse::<IpCidr>()?;
+    /// network.contains_cidr(&"2001:db8:1::/48".parse()?) // true
+    /// ```
     #[tactic(auto, using(crate::proofs::EitherHolding::holding_laws))]
     pub fn contains_cidr(&self, other: &IpCidr) -> bool
         ensures begins { IsTrue result ↔ BeginsWith (network_bits other.now) (network_bits self.now) }
@@ -186,21 +253,33 @@ impl IpCidr {
     }
 
     /// Whether this is an IPv4 network.
+    ///
+    /// ```
+    /// "192.0.2.48/28".parse::<IpCidr>()?.is_ipv4() // true
+    /// ```
     pub fn is_ipv4(&self) -> bool
         ensures { IsTrue result ↔ (network_family self.now ≡ Ipv4) }
     {
         matches!(self, IpCidr::V4(_))
     }
 
-    /// Whether this is an IPv6 network.
+    /// Whether this is an IPv6 network, also where it holds only IPv4-mapped addresses.
+    ///
+    /// ```
+    /// "::ffff:0:0/96".parse::<IpCidr>()?.is_ipv6() // true
+    /// ```
     pub fn is_ipv6(&self) -> bool
         ensures { IsTrue result ↔ (network_family self.now ≡ Ipv6) }
     {
         matches!(self, IpCidr::V6(_))
     }
 
-    /// The printed text, which leaves out a full prefix length: `192.0.2.48/28`, `192.0.2.1`, `2001:db8::/32`. It
-    /// has at most 43 bytes.
+    /// The printed string, without a full prefix length, in an `ArrayString`, so that nothing is allocated. It has at
+    /// most 18 bytes in IPv4 and 43 in IPv6.
+    ///
+    /// ```
+    /// "192.0.2.1/32".parse::<IpCidr>()?.to_text() // 192.0.2.1
+    /// ```
     pub fn to_text(&self) -> ArrayString<43>
         ensures text { result.bytes ≡ ip_network_text plain_text self.now }
         ensures len { length result.bytes ≤ 43 }
@@ -212,8 +291,11 @@ impl IpCidr {
         }
     }
 
-    /// The network, to be printed with its prefix length also where that is full: `192.0.2.1/32` or
-    /// `2001:db8::1/128`.
+    /// The network, to be printed with its prefix length also where that is full.
+    ///
+    /// ```
+    /// "192.0.2.1".parse::<IpCidr>()?.with_length() // 192.0.2.1/32
+    /// ```
     pub fn with_length(&self) -> WithLength<IpCidr>
         ensures { result ≡ self.now }
     {
@@ -224,7 +306,11 @@ impl IpCidr {
 impl WithLength<IpCidr> {
     ghost use Rattle.cidr.specs.texts.Printed.{forced_text};
 
-    /// The printed text, with the prefix length: at most 43 bytes.
+    /// The printed string, with the prefix length also where that is full: at most 18 bytes in IPv4 and 43 in IPv6.
+    ///
+    /// ```
+    /// "::1".parse::<IpCidr>()?.with_length().to_text() // ::1/128
+    /// ```
     pub fn to_text(&self) -> ArrayString<43>
         ensures text { result.bytes ≡ ip_network_text forced_text self.now }
         ensures len { length result.bytes ≤ 43 }
@@ -238,13 +324,14 @@ impl WithLength<IpCidr> {
 }
 
 impl IntoIterator for IpCidr {
-    ghost use Rattle.cidr.specs.model.Walk.{network_hosts};
+    ghost use Rattle.cidr.specs.model.Walk.{network_hosts, network_walk, HasExactly};
 
     type Item = IpInet;
 
     type IntoIter = InetIterator<IpAddr>;
 
-    ghost into_iter_gives = { λ n it. it ≡ network_hosts (network_family n) (network_prefix n) };
+    ghost into_iter_gives = { λ n it. (it ≡ network_hosts (network_family n) (network_prefix n)) ×
+        HasExactly (network_family n) (network_prefix n) (network_walk (network_family n) (network_prefix n)) };
 
     fn into_iter(self) -> InetIterator<IpAddr> {
         self.iter()

@@ -1,4 +1,7 @@
 //! The networks of one family.
+//!
+//! Their walk, `iter`, stands beside, in `v4` and `v6`; their compact bytes in `compact::one_family`, their prefix
+//! bytes in `prefix_bytes`, and the bits that they are a string of in `bits::network`.
 ghost use Rattle.std.specs.Prelude.{◌≡◌, ◌↔◌, ◌≤◌, length, IsTrue, IfOk, Some, refl};
 ghost use Rattle.std.specs.Cmp.{partial_equiv_from_equiv};
 ghost use Rattle.std.specs.Ordering.{as_partial_cmp};
@@ -25,14 +28,21 @@ use std::hash::{Hash, Hasher};
 use std::marker::Model;
 use std::str::FromStr;
 
-/// A network of one family: all addresses that begin with the same bits, the prefix.
+/// A network of one family: all addresses that begin with the same bits, the prefix. `Ipv4Cidr` and `Ipv6Cidr` are its
+/// two types.
 ///
-/// 192.0.2.48/28 has the addresses from 192.0.2.48 to 192.0.2.63, and 2001:db8::/32 has all that begin with
-/// 2001:db8. The prefix length is at most 32 in IPv4 and 128 in IPv6, and no bit of the first address after the
-/// prefix is set. Networks are ordered by first address and then by prefix length: 10.0.0.0/8 comes before
-/// 10.0.0.0/9, and that before 10.128.0.0/9.
+/// 192.0.2.48/28 has the addresses from 192.0.2.48 to 192.0.2.63. The prefix length is at most 32 in IPv4 and 128 in
+/// IPv6, and no bit of the first address after the prefix is set. It is parsed from an address, a slash and the prefix
+/// length (RFC 4632, 3.1; RFC 4291, 2.3); an address with no slash is the network of full prefix length.
 ///
-/// Its names at a family are `Ipv4Cidr` and `Ipv6Cidr`.
+/// Networks are ordered by first address and then by prefix length, shortest first.
+///
+/// ```
+/// "192.0.2.48/28".parse::<Ipv4Cidr>()? // 192.0.2.48/28
+/// "192.0.2.50/28".parse::<Ipv4Cidr>() // Err(host part of address was not zero)
+/// let network = "10.0.0.0/8".parse::<Ipv4Cidr>()?;
+/// network < "10.0.0.0/9".parse()? // true
+/// ```
 pub struct Network<A: AddressBits> {
     address: A,
     len: u8,
@@ -86,9 +96,13 @@ impl<A: AddressBits> Network<A> {
 
     /// The network of the first `len` bits of an address.
     ///
-    /// Refuses a prefix length above the width, 32 or 128, and then an address with a set bit after the first
-    /// `len`: 192.0.2.48 with 28 is a network, and with 27 it is not; 2001:db8:: with 32 is one, and with 28 it is
-    /// not.
+    /// Returns `NetworkLengthTooLongError` for a prefix length above the width, 32 or 128, and then `InvalidHostPart`
+    /// for an address with a set bit after the first `len`.
+    ///
+    /// ```
+    /// Ipv4Cidr::new(Ipv4Addr::new(192, 0, 2, 48), 28)? // 192.0.2.48/28
+    /// Ipv4Cidr::new(Ipv4Addr::new(192, 0, 2, 48), 27) // Err(host part of address was not zero)
+    /// ```
     #[tactic(auto, using(crate::specs::laws::BitLaws::same_laws, crate::specs::laws::NetworkLaws::taken_laws))]
     pub fn new(addr: A, len: u8) -> Result<Network<A>, NetworkParseError>
         ensures value { result ≡ network_from A.FAMILY (A.bits addr) len }
@@ -106,7 +120,13 @@ impl<A: AddressBits> Network<A> {
         Ok(Network { address: addr, len })
     }
 
-    /// The network of this address alone, of full prefix length: 192.0.2.1/32 or 2001:db8::1/128.
+    /// The network that has only this address, of full prefix length: /32 in IPv4 and /128 in IPv6. It is printed
+    /// without the prefix length.
+    ///
+    /// ```
+    /// Ipv4Cidr::new_host(Ipv4Addr::new(192, 0, 2, 1)) // 192.0.2.1
+    /// Ipv6Cidr::new_host(Ipv6Addr::from_bits(1)) // ::1
+    /// ```
     #[tactic(auto, using(crate::proofs::NetworkNumbers::whole_laws))]
     pub fn new_host(addr: A) -> Network<A>
         ensures value { result ≡ A.bits addr }
@@ -142,7 +162,11 @@ impl<A: AddressBits> Network<A> {
         }
     }
 
-    /// The first address, in which no bit after the prefix is set.
+    /// The first address, in which no bit after the prefix is set: in IPv4 the network address, up to /30.
+    ///
+    /// ```
+    /// "192.0.2.48/28".parse::<Ipv4Cidr>()?.first_address() // 192.0.2.48
+    /// ```
     pub fn first_address(&self) -> A
         ensures { A.bits result ≡ first_of (width_of A.FAMILY) self.now }
     {
@@ -150,30 +174,44 @@ impl<A: AddressBits> Network<A> {
     }
 
     /// The first address, by reference.
+    ///
+    /// ```
+    /// "10.0.0.0/8".parse::<Ipv4Cidr>()?.first_address_ref() // 10.0.0.0
+    /// ```
     pub fn first_address_ref(&self) -> &A
         ensures { A.bits result.now ≡ first_of (width_of A.FAMILY) self.now }
     {
         &self.address
     }
 
-    /// The last address, in which all bits after the prefix are set: that of 192.0.2.48/28 is 192.0.2.63, and that
-    /// of 2001:db8::/32 is 2001:db8:ffff:ffff:ffff:ffff:ffff:ffff.
+    /// The last address, in which all bits after the prefix are set: in IPv4 the broadcast address, up to /30.
+    ///
+    /// ```
+    /// "192.0.2.48/28".parse::<Ipv4Cidr>()?.last_address() // 192.0.2.63
+    /// "2001:db8::/120".parse::<Ipv6Cidr>()?.last_address() // 2001:db8::ff
+    /// ```
     pub fn last_address(&self) -> A
         ensures { A.bits result ≡ last_of (width_of A.FAMILY) self.now }
     {
         self.address.last_in(self.len)
     }
 
-    /// The host at the first address, with the prefix length of the network: that of 192.0.2.48/28 is
-    /// 192.0.2.48/28, and that of 2001:db8::/32 is 2001:db8::/32.
+    /// The host at the first address, with the prefix length of the network.
+    ///
+    /// ```
+    /// "192.0.2.48/28".parse::<Ipv4Cidr>()?.first() // 192.0.2.48/28
+    /// ```
     pub fn first(&self) -> Host<A>
         ensures { result ≡ first_host (width_of A.FAMILY) self.now }
     {
         Host::new_unchecked(self.first_address(), self.network_length())
     }
 
-    /// The host at the last address, with the prefix length of the network: that of 192.0.2.48/28 is 192.0.2.63/28,
-    /// and that of 2001:db8::/32 is 2001:db8:ffff:ffff:ffff:ffff:ffff:ffff/32.
+    /// The host at the last address, with the prefix length of the network.
+    ///
+    /// ```
+    /// "192.0.2.48/28".parse::<Ipv4Cidr>()?.last() // 192.0.2.63/28
+    /// ```
     pub fn last(&self) -> Host<A>
         ensures { result ≡ last_host (width_of A.FAMILY) self.now }
     {
@@ -194,6 +232,10 @@ impl<A: AddressBits> Network<A> {
     }
 
     /// The prefix length in bits, at most 32 in IPv4 and 128 in IPv6.
+    ///
+    /// ```
+    /// "10.0.0.0/8".parse::<Ipv4Cidr>()?.network_length() // 8
+    /// ```
     pub fn network_length(&self) -> u8
         ensures value { result ≡ length self.now }
         ensures fits { result ≤ width_of A.FAMILY }
@@ -201,22 +243,36 @@ impl<A: AddressBits> Network<A> {
         self.len
     }
 
-    /// The family.
+    /// The family of its addresses, which its type tells.
+    ///
+    /// ```
+    /// "192.0.2.48/28".parse::<Ipv4Cidr>()?.family() // Ipv4
+    /// ```
     pub fn family(&self) -> Family
         ensures { result ≡ A.FAMILY }
     {
         A::FAMILY
     }
 
-    /// Whether the network is a single address: whether the prefix length is full, 32 or 128.
+    /// Whether the network has only one address, that is, whether the prefix length is full: 32 in IPv4 and 128 in
+    /// IPv6.
+    ///
+    /// ```
+    /// "10.0.0.1".parse::<Ipv4Cidr>()?.is_host_address() // true
+    /// "::/127".parse::<Ipv6Cidr>()?.is_host_address() // false
+    /// ```
     pub fn is_host_address(&self) -> bool
         ensures { IsTrue result ↔ (length self.now ≡ width_of A.FAMILY) }
     {
         self.len == A::FAMILY.len()
     }
 
-    /// The mask: as many set bits as the prefix length says, then zeros. That of 192.0.2.48/28 is 255.255.255.240,
-    /// and that of 2001:db8::/32 is ffff:ffff::.
+    /// The network mask: as many set bits as the prefix length says, then zeros.
+    ///
+    /// ```
+    /// "192.0.2.48/28".parse::<Ipv4Cidr>()?.mask() // 255.255.255.240
+    /// "2001:db8::/32".parse::<Ipv6Cidr>()?.mask() // ffff:ffff::
+    /// ```
     #[tactic(auto, using(crate::specs::laws::NetworkLaws::taken_laws))]
     pub fn mask(&self) -> A
         ensures { A.bits result ≡ mask_of (width_of A.FAMILY) self.now }
@@ -224,19 +280,33 @@ impl<A: AddressBits> Network<A> {
         A::mask_of(self.len)
     }
 
-    /// Whether the address is in the network, that is, begins with its prefix: 192.0.2.48/28 contains 192.0.2.63
-    /// and not 192.0.2.64, and 2001:db8::/32 contains 2001:db8::1 and not 2001:db9::.
+    /// Whether the address is in the network, that is, begins with its prefix. The first and the last address are in
+    /// it.
+    ///
+    /// An IPv6 network that holds IPv4-mapped addresses, as ::ffff:0:0/96, has no IPv4 address: the argument has to be
+    /// of the network's own family, and nothing is mapped.
+    ///
+    /// ```
+    /// let network = "192.0.2.48/28".parse::<Ipv4Cidr>()?;
+    /// network.contains(&Ipv4Addr::new(192, 0, 2, 63)) // true
+    /// network.contains(&Ipv4Addr::new(192, 0, 2, 64)) // false
+    /// ```
     pub fn contains(&self, addr: &A) -> bool
         ensures { IsTrue result ↔ BeginsWith (A.bits addr.now) self.now }
     {
         self.address.shares(*addr, self.len)
     }
 
-    /// Whether every address of the other network is in this one: 10.0.0.0/8 contains 10.1.0.0/16 and itself, and
-    /// 2001:db8::/32 contains 2001:db8:1::/48 and itself.
+    /// Whether every address of the other network is in this one. Each network contains itself.
     ///
     /// Two networks of which neither contains the other have no address in common, and in their order those inside a
     /// network follow it one after the other: [`laws::networks`](crate::laws::networks) says both.
+    ///
+    /// ```
+    /// let network = "10.0.0.0/8".parse::<Ipv4Cidr>()?;
+    /// network.contains_cidr(&"10.1.0.0/16".parse()?) // true
+    /// network.contains_cidr(&"8.0.0.0/6".parse()?) // false
+    /// ```
     #[tactic(auto, using(crate::proofs::Holding::holding_laws))]
     pub fn contains_cidr(&self, other: &Network<A>) -> bool
         ensures begins { IsTrue result ↔ BeginsWith other.now self.now }
@@ -245,8 +315,11 @@ impl<A: AddressBits> Network<A> {
         self.len <= other.len && self.contains(&other.address)
     }
 
-    /// The network, to be printed with its prefix length also where that is full: `192.0.2.1/32` or
-    /// `2001:db8::1/128`.
+    /// The network, to be printed with its prefix length also where that is full.
+    ///
+    /// ```
+    /// "192.0.2.1".parse::<Ipv4Cidr>()?.with_length() // 192.0.2.1/32
+    /// ```
     pub fn with_length(&self) -> WithLength<Network<A>>
         ensures { result ≡ self.now }
     {
@@ -257,8 +330,13 @@ impl<A: AddressBits> Network<A> {
 impl<A: AddressText> Network<A> {
     ghost use Rattle.cidr.specs.texts.Printed.{plain_text, longest_text};
 
-    /// The printed text, which leaves out a full prefix length: `192.0.2.48/28`, `192.0.2.1`, `2001:db8::/32`. It
-    /// has at most 18 bytes in IPv4 and 43 in IPv6.
+    /// The printed string, without a full prefix length, in an `ArrayString`, so that nothing is allocated. It has at
+    /// most 18 bytes in IPv4 and 43 in IPv6. Parsing it gives the same network.
+    ///
+    /// ```
+    /// "192.0.2.1/32".parse::<Ipv4Cidr>()?.to_text() // 192.0.2.1
+    /// "2001:DB8:0::/32".parse::<Ipv6Cidr>()?.to_text() // 2001:db8::/32
+    /// ```
     #[tactic(auto, using(crate::proofs::NetworkPrinting::network_text_laws))]
     pub fn to_text(&self) -> ArrayString<43>
         ensures text { result.bytes ≡ plain_text A.FAMILY self.now }
@@ -272,7 +350,11 @@ impl<A: AddressText> Network<A> {
 impl<A: AddressText> WithLength<Network<A>> {
     ghost use Rattle.cidr.specs.texts.Printed.{forced_text, longest_text};
 
-    /// The printed text, with the prefix length: at most 18 bytes in IPv4 and 43 in IPv6.
+    /// The printed string, with the prefix length also where that is full: at most 18 bytes in IPv4 and 43 in IPv6.
+    ///
+    /// ```
+    /// "::1".parse::<Ipv6Cidr>()?.with_length().to_text() // ::1/128
+    /// ```
     #[tactic(auto, using(crate::proofs::NetworkPrinting::network_text_laws))]
     pub fn to_text(&self) -> ArrayString<43>
         ensures text { result.bytes ≡ forced_text A.FAMILY self.now }

@@ -15,9 +15,13 @@ use crate::inet::host::{Ipv4Inet, Ipv6Inet};
 use arrayvec::ArrayVec;
 
 impl IpCidr {
-    /// The compact bytes, as the network of its family has them.
+    /// The compact bytes, as the network of its family has them: 5 in IPv4 and 17 in IPv6.
     ///
     /// No other network's bytes begin with them, in either family.
+    ///
+    /// ```
+    /// "10.0.0.0/8".parse::<IpCidr>()?.to_compact() // [8, 10, 0, 0, 0]
+    /// ```
     pub fn to_compact(&self) -> ArrayVec<u8, 17>
         ensures bytes { result.items ≡ ip_network_bytes self.now }
         ensures len { length result.items ≤ 17 }
@@ -29,10 +33,15 @@ impl IpCidr {
         }
     }
 
-    /// The network whose compact bytes come first, and how many they are. Bytes after them are left alone.
+    /// The network whose compact bytes come first, and how many they are. The bytes after them are ignored.
     ///
-    /// Where no network's bytes come first, it returns the first error of: no byte (`Truncated`), `InvalidTag`, too
-    /// few octets (`Truncated`), `InvalidAny`, `InvalidHostPart`.
+    /// Where no network's bytes come first, it returns the first error of: no byte (`Truncated`), `InvalidTag`, too few
+    /// octets (`Truncated`), `InvalidAny`, `InvalidHostPart`.
+    ///
+    /// ```
+    /// IpCidr::from_compact(&[8, 10, 0, 0, 0]) // Ok((V4(10.0.0.0/8), 5))
+    /// IpCidr::from_compact(&[8, 10, 0, 0, 1]) // Err(host part of address was not zero)
+    /// ```
     pub fn from_compact(bytes: &[u8]) -> Result<(IpCidr, usize), CompactError>
         ensures { ReadsCompact IsIpNetwork ip_network_bytes (IsNetworkBytesRefused Both) bytes.now result }
     {
@@ -49,9 +58,13 @@ impl IpCidr {
 }
 
 impl IpInet {
-    /// The compact bytes, as the host of its family has them.
+    /// The compact bytes, as the host of its family has them: 5 in IPv4 and 17 in IPv6.
     ///
     /// No other host's bytes begin with them, in either family.
+    ///
+    /// ```
+    /// "10.4.3.2/8".parse::<IpInet>()?.to_compact() // [8, 10, 4, 3, 2]
+    /// ```
     pub fn to_compact(&self) -> ArrayVec<u8, 17>
         ensures bytes { result.items ≡ ip_host_bytes self.now }
         ensures len { length result.items ≤ 17 }
@@ -63,10 +76,15 @@ impl IpInet {
         }
     }
 
-    /// The host whose compact bytes come first, and how many they are. Bytes after them are left alone.
+    /// The host whose compact bytes come first, and how many they are. The bytes after them are ignored.
     ///
     /// Where no host's bytes come first, it returns the first error of: no byte (`Truncated`), `InvalidTag`, too few
     /// octets (`Truncated`), `InvalidAny`.
+    ///
+    /// ```
+    /// IpInet::from_compact(&[8, 10, 4, 3, 2]) // Ok((V4(10.4.3.2/8), 5))
+    /// IpInet::from_compact(&[255]) // Err(invalid value: `any`)
+    /// ```
     pub fn from_compact(bytes: &[u8]) -> Result<(IpInet, usize), CompactError>
         ensures { ReadsCompact IsIpHost ip_host_bytes (IsHostBytesRefused Both) bytes.now result }
     {
@@ -89,9 +107,13 @@ impl IpInet {
 }
 
 impl AnyIpCidr {
-    /// The compact bytes: 0xff alone for `Any`, and else those of the network.
+    /// The compact bytes: the one byte 0xff for `Any`, and else those of the network.
     ///
     /// No other value's bytes begin with them, in either family.
+    ///
+    /// ```
+    /// AnyIpCidr::Any.to_compact() // [255]
+    /// ```
     pub fn to_compact(&self) -> ArrayVec<u8, 17>
         ensures bytes { result.items ≡ any_network_bytes self.now }
         ensures len { length result.items ≤ 17 }
@@ -104,10 +126,15 @@ impl AnyIpCidr {
         }
     }
 
-    /// The value whose compact bytes come first, and how many they are. Bytes after them are left alone.
+    /// The value whose compact bytes come first, and how many they are. The bytes after them are ignored.
     ///
     /// Where no value's bytes come first, it returns the first error of: no byte (`Truncated`), `InvalidTag`, too few
     /// octets (`Truncated`), `InvalidHostPart`.
+    ///
+    /// ```
+    /// AnyIpCidr::from_compact(&[255, 1]) // Ok((Any, 1))
+    /// AnyIpCidr::from_compact(&[]) // Err(compact bytes end too early)
+    /// ```
     pub fn from_compact(bytes: &[u8]) -> Result<(AnyIpCidr, usize), CompactError>
         ensures { ReadsCompact IsAnyNetwork any_network_bytes IsAnyBytesRefused bytes.now result }
     {

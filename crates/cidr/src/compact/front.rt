@@ -1,4 +1,4 @@
-//! What compact bytes begin with, whatever the type that is asked for.
+//! What compact bytes begin with, whatever the type that they are parsed as.
 ghost use Rattle.std.specs.Prelude.{◌≡◌, ◌+◌};
 ghost use Rattle.cidr.specs.bytes.Compact.{octet_count};
 ghost use Rattle.cidr.specs.internal.Fronts.{TakesOctets, ReadsFront};
@@ -37,7 +37,7 @@ fn ipv6_first(octets: &[u8]) -> Option<Ipv6Addr>
     }
 }
 
-/// Reads what stands at the front, whatever the type that is asked for.
+/// Parses what stands at the front, whatever the type.
 #[inline(always)]
 pub(crate) fn read_front(bytes: &[u8]) -> Result<Front, CompactError>
     ensures { ReadsFront bytes.now result }

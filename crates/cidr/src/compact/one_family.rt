@@ -14,9 +14,13 @@ use arrayvec::ArrayVec;
 
 impl<A: AddressOctets> Network<A> {
     /// The compact bytes: a tag, which is the prefix length, in IPv6 0x40 more, and the 4 or 16 octets of the first
-    /// address. Those of 192.0.2.0/24 are 0x18, 0xc0, 0x00, 0x02, 0x00.
+    /// address. They are 5 bytes in IPv4 and 17 in IPv6.
     ///
     /// No other network's bytes begin with them, so that bytes of several networks may follow each other.
+    ///
+    /// ```
+    /// "192.0.2.0/24".parse::<Ipv4Cidr>()?.to_compact() // [24, 192, 0, 2, 0]
+    /// ```
     pub fn to_compact(&self) -> ArrayVec<u8, 17>
         ensures bytes { result.items ≡ network_bytes A.FAMILY self.now }
         ensures len { length result.items ≤ 17 }
@@ -25,10 +29,15 @@ impl<A: AddressOctets> Network<A> {
         self.first_address().compact(self.network_length())
     }
 
-    /// The network whose compact bytes come first, and how many they are. Bytes after them are left alone.
+    /// The network whose compact bytes come first, and how many they are. The bytes after them are ignored.
     ///
-    /// Where no network's bytes come first, it returns the first error of: no byte (`Truncated`), `InvalidTag`, too
-    /// few octets (`Truncated`), `InvalidAny`, `InvalidFamily`, `InvalidHostPart`.
+    /// Where no network's bytes come first, it returns the first error of: no byte (`Truncated`), `InvalidTag`, too few
+    /// octets (`Truncated`), `InvalidAny`, `InvalidFamily`, `InvalidHostPart`.
+    ///
+    /// ```
+    /// Ipv4Cidr::from_compact(&[8, 10, 0, 0, 0, 99]) // Ok((10.0.0.0/8, 5))
+    /// Ipv4Cidr::from_compact(&[24, 192, 0]) // Err(compact bytes end too early)
+    /// ```
     pub fn from_compact(bytes: &[u8]) -> Result<(Network<A>, usize), CompactError>
         ensures { ReadsCompact (FitsWidth (width_of A.FAMILY)) (network_bytes A.FAMILY)
             (IsNetworkBytesRefused (Only A.FAMILY)) bytes.now result }
@@ -44,10 +53,13 @@ impl<A: AddressOctets> Network<A> {
 }
 
 impl<A: AddressOctets> Host<A> {
-    /// The compact bytes: a tag, which is the prefix length, in IPv6 0x40 more, and the 4 or 16 octets of the
-    /// address. Those of 192.0.2.1/24 are 0x18, 0xc0, 0x00, 0x02, 0x01.
+    /// The compact bytes: a tag, which is the prefix length, in IPv6 0x40 more, and the 4 or 16 octets of the address.
     ///
     /// No other host's bytes begin with them, so that bytes of several hosts may follow each other.
+    ///
+    /// ```
+    /// "192.0.2.1/24".parse::<Ipv4Inet>()?.to_compact() // [24, 192, 0, 2, 1]
+    /// ```
     pub fn to_compact(&self) -> ArrayVec<u8, 17>
         ensures bytes { result.items ≡ host_bytes A.FAMILY self.now }
         ensures len { length result.items ≤ 17 }
@@ -56,10 +68,15 @@ impl<A: AddressOctets> Host<A> {
         self.address().compact(self.network_length())
     }
 
-    /// The host whose compact bytes come first, and how many they are. Bytes after them are left alone.
+    /// The host whose compact bytes come first, and how many they are. The bytes after them are ignored.
     ///
     /// Where no host's bytes come first, it returns the first error of: no byte (`Truncated`), `InvalidTag`, too few
     /// octets (`Truncated`), `InvalidAny`, `InvalidFamily`.
+    ///
+    /// ```
+    /// Ipv4Inet::from_compact(&[8, 10, 4, 3, 2]) // Ok((10.4.3.2/8, 5))
+    /// Ipv4Inet::from_compact(&[33, 10, 4, 3, 2]) // Err(invalid tag)
+    /// ```
     pub fn from_compact(bytes: &[u8]) -> Result<(Host<A>, usize), CompactError>
         ensures { ReadsCompact (IsHost (width_of A.FAMILY)) (host_bytes A.FAMILY)
             (IsHostBytesRefused (Only A.FAMILY)) bytes.now result }

@@ -1,4 +1,6 @@
 //! The host of either family.
+//!
+//! Its compact bytes stand in `compact::either_family`.
 ghost use Rattle.std.specs.Prelude.{◌≡◌, ◌+◌, ◌-◌, ◌<◌, ◌≤◌, ◌↔◌, length, IsTrue, IfSome, Some};
 ghost use Rattle.cidr.specs.either.IpHost.{host_family, host_parts, host_by, lone_ip_host};
 ghost use Rattle.cidr.specs.either.IpText.{IsIpHostText, ip_host_text};
@@ -23,8 +25,12 @@ use std::str::FromStr;
 
 /// An IPv4 or an IPv6 host: an address in its network.
 ///
-/// All IPv4 hosts come before all IPv6 hosts, and those of one family are ordered by address and then by prefix
-/// length. Steps stay in the network.
+/// All IPv4 hosts come before all IPv6 hosts, and those of one family are ordered by address and then by prefix length.
+/// Steps stay in the network.
+///
+/// ```
+/// "2001:db8::5/32".parse::<IpInet>()? // 2001:db8::5/32
+/// ```
 #[derive(Clone, Copy, Debug, PartialEq, Eq, PartialOrd, Ord, Hash)]
 pub enum IpInet {
     V4(Ipv4Inet),
@@ -41,7 +47,12 @@ impl IpInet {
 
     /// The host of an address in the network of its first `len` bits, of its family.
     ///
-    /// Refuses a prefix length above the width, 32 or 128, and nothing else.
+    /// Returns an error only for a prefix length above the width, 32 or 128.
+    ///
+    /// ```
+    /// IpInet::new("2001:db8::5".parse()?, 32)? // 2001:db8::5/32
+    /// IpInet::new("192.0.2.50".parse()?, 33).is_err() // true
+    /// ```
     pub fn new(addr: IpAddr, len: u8) -> Result<IpInet, NetworkLengthTooLongError>
         ensures { result ≡ ip_host_from addr len }
     {
@@ -51,7 +62,11 @@ impl IpInet {
         }
     }
 
-    /// The host of full prefix length, whose network is this address alone: 192.0.2.1/32 or 2001:db8::1/128.
+    /// The host of full prefix length, whose network has only this address: /32 in IPv4 and /128 in IPv6.
+    ///
+    /// ```
+    /// IpInet::new_host("192.0.2.1".parse()?) // 192.0.2.1
+    /// ```
     pub fn new_host(addr: IpAddr) -> IpInet
         ensures { result ≡ lone_ip_host addr }
     {
@@ -61,8 +76,13 @@ impl IpInet {
         }
     }
 
-    /// Steps to the next address of the network. From the last one it wraps to the first, and returns true then:
-    /// 192.0.2.63/28 becomes 192.0.2.48/28, and 2001:db8::ffff/112 becomes 2001:db8::/112.
+    /// Steps to the next address of the network. From the last one it wraps to the first, and returns true.
+    ///
+    /// ```
+    /// let mut host = "192.0.2.63/28".parse::<IpInet>()?;
+    /// host.increment() // true
+    /// host // 192.0.2.48/28
+    /// ```
     pub fn increment(&mut self) -> bool
         ensures stepped { self.new ≡ ip_stepped_up self.old 1 }
         ensures wraps { IsTrue result ↔ IpWrapsUp self.old 1 }
@@ -73,8 +93,13 @@ impl IpInet {
         }
     }
 
-    /// Steps to the previous address of the network. From the first one it wraps to the last, and returns true
-    /// then: 192.0.2.48/28 becomes 192.0.2.63/28, and 2001:db8::/112 becomes 2001:db8::ffff/112.
+    /// Steps to the previous address of the network. From the first one it wraps to the last, and returns true.
+    ///
+    /// ```
+    /// let mut host = "2001:db8::/112".parse::<IpInet>()?;
+    /// host.decrement() // true
+    /// host // 2001:db8::ffff/112
+    /// ```
     pub fn decrement(&mut self) -> bool
         ensures stepped { self.new ≡ ip_stepped_down self.old 1 }
         ensures wraps { IsTrue result ↔ IpWrapsDown self.old 1 }
@@ -85,7 +110,13 @@ impl IpInet {
         }
     }
 
-    /// The host at the next address of the network, or `None` at the last one. `previous` leads back.
+    /// The host at the next address of the network, or `None` at the last one. It takes and returns a value, and is not
+    /// `Iterator::next`.
+    ///
+    /// ```
+    /// "192.0.2.62/28".parse::<IpInet>()?.next() // Some(V4(192.0.2.63/28))
+    /// "192.0.2.63/28".parse::<IpInet>()?.next() // None
+    /// ```
     pub fn next(self) -> Option<IpInet>
         ensures host { result ≡ neighbour_by next_of self }
         ensures back { IfSome result (λ next. neighbour_by previous_of next ≡ Some self) }
@@ -96,7 +127,11 @@ impl IpInet {
         }
     }
 
-    /// The host at the previous address of the network, or `None` at the first one. `next` leads back.
+    /// The host at the previous address of the network, or `None` at the first one.
+    ///
+    /// ```
+    /// "2001:db8::5/32".parse::<IpInet>()?.previous() // Some(V6(2001:db8::4/32))
+    /// ```
     pub fn previous(self) -> Option<IpInet>
         ensures host { result ≡ neighbour_by previous_of self }
         ensures back { IfSome result (λ previous. neighbour_by next_of previous ≡ Some self) }
@@ -107,10 +142,15 @@ impl IpInet {
         }
     }
 
-    /// The host `step` addresses further in the network, and whether it wrapped from the last address to the first:
-    /// 192.0.2.50/28 and 14 give 192.0.2.48/28 and true.
+    /// The host `step` addresses further in the network, and whether it wrapped from the last address to the first.
     ///
-    /// Any step is exact, also one above the number of addresses. Where it does not wrap, `+` may be used as well.
+    /// Any step is exact, also one above the number of addresses, and takes constant time. Where it does not wrap, `+`
+    /// returns the same host.
+    ///
+    /// ```
+    /// let host = "192.0.2.50/28".parse::<IpInet>()?;
+    /// host.overflowing_add(14) // (V4(192.0.2.48/28), true)
+    /// ```
     pub fn overflowing_add(self, step: u128) -> (IpInet, bool)
         ensures stepped { result.0 ≡ ip_stepped_up self step }
         ensures wraps { IsTrue result.1 ↔ IpWrapsUp self step }
@@ -129,10 +169,14 @@ impl IpInet {
         }
     }
 
-    /// The host `step` addresses back in the network, and whether it wrapped from the first address to the last:
-    /// 10.0.0.7/29 and 8 give 10.0.0.7/29 and true.
+    /// The host `step` addresses back in the network, and whether it wrapped from the first address to the last.
     ///
-    /// Any step is exact, also one above the number of addresses. Where it does not wrap, `-` may be used as well.
+    /// Any step is exact, also one above the number of addresses, and takes constant time. Where it does not wrap, `-`
+    /// returns the same host.
+    ///
+    /// ```
+    /// "10.0.0.7/29".parse::<IpInet>()?.overflowing_sub(8) // (V4(10.0.0.7/29), true)
+    /// ```
     pub fn overflowing_sub(self, step: u128) -> (IpInet, bool)
         ensures stepped { result.0 ≡ ip_stepped_down self step }
         ensures wraps { IsTrue result.1 ↔ IpWrapsDown self step }
@@ -151,8 +195,11 @@ impl IpInet {
         }
     }
 
-    /// The network that the host is in: that of 192.0.2.50/28 is 192.0.2.48/28, and that of 2001:db8::5/32 is
-    /// 2001:db8::/32.
+    /// The network that the host is in: the bits after the prefix are unset.
+    ///
+    /// ```
+    /// "2001:db8::5/32".parse::<IpInet>()?.network() // 2001:db8::/32
+    /// ```
     pub fn network(&self) -> IpCidr
         ensures { result ≡ host_network self.now }
     {
@@ -163,6 +210,10 @@ impl IpInet {
     }
 
     /// The address, without the prefix length.
+    ///
+    /// ```
+    /// "2001:db8::5/32".parse::<IpInet>()?.address() // 2001:db8::5
+    /// ```
     pub fn address(&self) -> IpAddr
         ensures value { result ≡ host_address self.now }
         ensures width { length (host_parts self.now).address ≡ width_of (host_family self.now) }
@@ -173,7 +224,12 @@ impl IpInet {
         }
     }
 
-    /// The first address of the network, in which no bit after the prefix is set.
+    /// The first address of the network, in which no bit after the prefix is set: in IPv4 the network address, up to
+    /// /30.
+    ///
+    /// ```
+    /// "192.0.2.50/28".parse::<IpInet>()?.first_address() // 192.0.2.48
+    /// ```
     pub fn first_address(&self) -> IpAddr
         ensures { result ≡ address_by first_of (host_network self.now) }
     {
@@ -183,7 +239,12 @@ impl IpInet {
         }
     }
 
-    /// The last address of the network, in which all bits after the prefix are set.
+    /// The last address of the network, in which all bits after the prefix are set: in IPv4 the broadcast address, up
+    /// to /30.
+    ///
+    /// ```
+    /// "192.0.2.50/28".parse::<IpInet>()?.last_address() // 192.0.2.63
+    /// ```
     pub fn last_address(&self) -> IpAddr
         ensures { result ≡ address_by last_of (host_network self.now) }
     {
@@ -193,7 +254,11 @@ impl IpInet {
         }
     }
 
-    /// The host at the first address of the network: that of 10.4.3.2/8 is 10.0.0.0/8.
+    /// The host at the first address of the network, with the same prefix length.
+    ///
+    /// ```
+    /// "10.4.3.2/8".parse::<IpInet>()?.first() // 10.0.0.0/8
+    /// ```
     pub fn first(&self) -> IpInet
         ensures { result ≡ host_at first_host (host_network self.now) }
     {
@@ -203,7 +268,11 @@ impl IpInet {
         }
     }
 
-    /// The host at the last address of the network: that of 10.4.3.2/8 is 10.255.255.255/8.
+    /// The host at the last address of the network, with the same prefix length.
+    ///
+    /// ```
+    /// "10.4.3.2/8".parse::<IpInet>()?.last() // 10.255.255.255/8
+    /// ```
     pub fn last(&self) -> IpInet
         ensures { result ≡ host_at last_host (host_network self.now) }
     {
@@ -214,6 +283,10 @@ impl IpInet {
     }
 
     /// The prefix length in bits, at most 32 in IPv4 and 128 in IPv6.
+    ///
+    /// ```
+    /// "2001:db8::5/32".parse::<IpInet>()?.network_length() // 32
+    /// ```
     pub fn network_length(&self) -> u8
         ensures value { result ≡ (host_parts self.now).len }
         ensures fits { result ≤ width_of (host_family self.now) }
@@ -224,7 +297,11 @@ impl IpInet {
         }
     }
 
-    /// The family.
+    /// The family of the address.
+    ///
+    /// ```
+    /// "2001:db8::5/32".parse::<IpInet>()?.family() // Ipv6
+    /// ```
     pub fn family(&self) -> Family
         ensures { result ≡ host_family self.now }
     {
@@ -234,7 +311,12 @@ impl IpInet {
         }
     }
 
-    /// Whether the network is a single address: whether the prefix length is full, 32 or 128.
+    /// Whether the network of the host has only one address, that is, whether the prefix length is full: 32 in IPv4 and
+    /// 128 in IPv6.
+    ///
+    /// ```
+    /// "192.0.2.50".parse::<IpInet>()?.is_host_address() // true
+    /// ```
     pub fn is_host_address(&self) -> bool
         ensures { IsTrue result ↔ ((host_parts self.now).len ≡ width_of (host_family self.now)) }
     {
@@ -244,7 +326,11 @@ impl IpInet {
         }
     }
 
-    /// The mask of the network: as many set bits as the prefix length says, then zeros.
+    /// The network mask: as many set bits as the prefix length says, then zeros.
+    ///
+    /// ```
+    /// "192.0.2.50/28".parse::<IpInet>()?.mask() // 255.255.255.240
+    /// ```
     pub fn mask(&self) -> IpAddr
         ensures { result ≡ address_by mask_of (host_network self.now) }
     {
@@ -254,7 +340,15 @@ impl IpInet {
         }
     }
 
-    /// Whether the address is in the network of the host. No network contains an address of the other family.
+    /// Whether the address is in the network of the host, that is, of its family and begins with its prefix.
+    ///
+    /// No network contains an address of the other family: an IPv4-mapped IPv6 address is in no IPv4 network.
+    ///
+    /// ```
+    /// let host = "192.0.2.50/28".parse::<IpInet>()?;
+    /// host.contains(&"192.0.2.63".parse()?) // true
+    /// host.contains(&"::ffff:192.0.2.63".parse()?) // false
+    /// ```
     pub fn contains(&self, addr: &IpAddr) -> bool
         ensures { IsTrue result ↔ BeginsWith (ip_address_bits addr.now) (network_bits (host_network self.now)) }
     {
@@ -266,21 +360,33 @@ impl IpInet {
     }
 
     /// Whether this is an IPv4 host.
+    ///
+    /// ```
+    /// "192.0.2.50/28".parse::<IpInet>()?.is_ipv4() // true
+    /// ```
     pub fn is_ipv4(&self) -> bool
         ensures { IsTrue result ↔ (host_family self.now ≡ Ipv4) }
     {
         matches!(self, IpInet::V4(_))
     }
 
-    /// Whether this is an IPv6 host.
+    /// Whether this is an IPv6 host, also where its address is IPv4-mapped.
+    ///
+    /// ```
+    /// "::ffff:192.0.2.50/124".parse::<IpInet>()?.is_ipv6() // true
+    /// ```
     pub fn is_ipv6(&self) -> bool
         ensures { IsTrue result ↔ (host_family self.now ≡ Ipv6) }
     {
         matches!(self, IpInet::V6(_))
     }
 
-    /// The printed text, which keeps the whole address and leaves out a full prefix length: `10.4.3.2/8`,
-    /// `10.4.3.2`, `2001:db8::5/32`. It has at most 43 bytes.
+    /// The printed string, with all bits of the address and without a full prefix length, in an `ArrayString`, so that
+    /// nothing is allocated. It has at most 18 bytes in IPv4 and 43 in IPv6.
+    ///
+    /// ```
+    /// "10.4.3.2/8".parse::<IpInet>()?.to_text() // 10.4.3.2/8
+    /// ```
     pub fn to_text(&self) -> ArrayString<43>
         ensures text { result.bytes ≡ ip_host_text plain_host_text self.now }
         ensures len { length result.bytes ≤ 43 }
@@ -292,7 +398,11 @@ impl IpInet {
         }
     }
 
-    /// The host, to be printed with its prefix length also where that is full: `10.0.0.1/32` or `2001:db8::1/128`.
+    /// The host, to be printed with its prefix length also where that is full.
+    ///
+    /// ```
+    /// "10.0.0.1".parse::<IpInet>()?.with_length() // 10.0.0.1/32
+    /// ```
     pub fn with_length(&self) -> WithLength<IpInet>
         ensures { result ≡ self.now }
     {
@@ -301,7 +411,11 @@ impl IpInet {
 }
 
 impl WithLength<IpInet> {
-    /// The printed text, with the prefix length: at most 43 bytes.
+    /// The printed string, with the prefix length also where that is full: at most 18 bytes in IPv4 and 43 in IPv6.
+    ///
+    /// ```
+    /// "::1".parse::<IpInet>()?.with_length().to_text() // ::1/128
+    /// ```
     pub fn to_text(&self) -> ArrayString<43>
         ensures text { result.bytes ≡ ip_host_text forced_host_text self.now }
         ensures len { length result.bytes ≤ 43 }
@@ -398,7 +512,8 @@ impl fmt::Display for WithLength<IpInet> {
     }
 }
 
-/// The host `step` addresses further. The step has to stay in the network; `overflowing_add` tells whether it does.
+/// The host `step` addresses further in the network, as `overflowing_add` returns it. The caller has to prove that the
+/// step does not wrap; `overflowing_add` and `next` tell whether it does.
 impl Add<u128> for IpInet {
     type Output = IpInet;
 
@@ -414,7 +529,8 @@ impl Add<u128> for IpInet {
     }
 }
 
-/// The host `step` addresses back. The step has to stay in the network; `overflowing_sub` tells whether it does.
+/// The host `step` addresses back in the network, as `overflowing_sub` returns it. The caller has to prove that the
+/// step does not wrap; `overflowing_sub` and `previous` tell whether it does.
 impl Sub<u128> for IpInet {
     type Output = IpInet;
 

@@ -1,4 +1,7 @@
 //! The hosts of one family.
+//!
+//! The steps of IPv4 hosts that are a `u32` stand beside, in `v4`; the compact bytes in `compact::one_family`, and the
+//! bits of a host's network as a string in `bits::host`.
 ghost use Rattle.std.specs.Prelude.{◌≡◌, ◌+◌, ◌-◌, ◌<◌, ◌≤◌, ◌↔◌, length, IsTrue, IfSome, Some, refl};
 ghost use Rattle.std.specs.Cmp.{partial_equiv_from_equiv};
 ghost use Rattle.std.specs.Ordering.{as_partial_cmp};
@@ -24,13 +27,17 @@ use std::marker::Model;
 use std::ops::{Add, Sub};
 use std::str::FromStr;
 
-/// A host of one family: an address in its network, as 192.0.2.50/28 or 2001:db8::5/32.
+/// A host of one family: an address in its network, as 192.0.2.50/28 or 2001:db8::5/32. `Ipv4Inet` and `Ipv6Inet` are
+/// its two types; PostgreSQL's type `inet` is alike.
 ///
-/// It keeps all bits of the address, and its prefix length, at most 32 in IPv4 and 128 in IPv6, names the network.
-/// Hosts are ordered by address and then by prefix length. Steps stay in the network: they change the bits after
-/// the prefix and leave the prefix.
+/// It keeps all bits of the address, and its prefix length, at most 32 in IPv4 and 128 in IPv6, says which network it
+/// is in. Steps stay in the network: they change the bits after the prefix only. Hosts are ordered by address and then
+/// by prefix length. A string with no slash is parsed as a host of full prefix length.
 ///
-/// Its names at a family are `Ipv4Inet` and `Ipv6Inet`.
+/// ```
+/// "192.0.2.50/28".parse::<Ipv4Inet>()? // 192.0.2.50/28
+/// "192.0.2.50/33".parse::<Ipv4Inet>().is_err() // true
+/// ```
 pub struct Host<A: AddressBits> {
     address: A,
     len: u8,
@@ -73,9 +80,14 @@ impl<A: AddressBits> Host<A> {
     ghost use Rattle.cidr.specs.model.Network.{first_of, last_of, mask_of, BeginsWith};
     ghost use Rattle.cidr.specs.model.Host.{network_of, first_host, last_host, lone_host, host_from, stepped_up, WrapsUp, stepped_down, WrapsDown, next_of, previous_of};
 
-    /// The host of an address in the network of its first `len` bits: 192.0.2.50 with 28, or 2001:db8::5 with 32.
+    /// The host of an address in the network of its first `len` bits.
     ///
-    /// Refuses a prefix length above the width, 32 or 128, and nothing else.
+    /// Returns an error only for a prefix length above the width, 32 or 128.
+    ///
+    /// ```
+    /// Ipv4Inet::new(Ipv4Addr::new(192, 0, 2, 50), 28)? // 192.0.2.50/28
+    /// Ipv6Inet::new(Ipv6Addr::from_bits(1), 129).is_err() // true
+    /// ```
     pub fn new(addr: A, len: u8) -> Result<Host<A>, NetworkLengthTooLongError>
         ensures { result ≡ host_from A.FAMILY (A.bits addr) len }
     {
@@ -95,15 +107,26 @@ impl<A: AddressBits> Host<A> {
         Host { address: addr, len }
     }
 
-    /// The host of full prefix length, whose network is this address alone: 192.0.2.1/32 or 2001:db8::1/128.
+    /// The host of full prefix length, whose network has only this address: /32 in IPv4 and /128 in IPv6. It is printed
+    /// without the prefix length.
+    ///
+    /// ```
+    /// Ipv4Inet::new_host(Ipv4Addr::new(192, 0, 2, 1)) // 192.0.2.1
+    /// Ipv6Inet::new_host(Ipv6Addr::from_bits(1)) // ::1
+    /// ```
     pub fn new_host(addr: A) -> Host<A>
         ensures { result ≡ lone_host (width_of A.FAMILY) (A.bits addr) }
     {
         Host::new_unchecked(addr, A::FAMILY.len())
     }
 
-    /// Steps to the next address of the network. From the last one it wraps to the first, and returns true then:
-    /// 192.0.2.63/28 becomes 192.0.2.48/28, and 2001:db8::ffff/112 becomes 2001:db8::/112.
+    /// Steps to the next address of the network. From the last one it wraps to the first, and returns true.
+    ///
+    /// ```
+    /// let mut host = "192.0.2.63/28".parse::<Ipv4Inet>()?;
+    /// host.increment() // true
+    /// host // 192.0.2.48/28
+    /// ```
     pub fn increment(&mut self) -> bool
         ensures stepped { self.new ≡ stepped_up (width_of A.FAMILY) self.old 1 }
         ensures wraps { IsTrue result ↔ WrapsUp (width_of A.FAMILY) self.old 1 }
@@ -113,8 +136,13 @@ impl<A: AddressBits> Host<A> {
         wraps
     }
 
-    /// Steps to the previous address of the network. From the first one it wraps to the last, and returns true
-    /// then: 192.0.2.48/28 becomes 192.0.2.63/28, and 2001:db8::/112 becomes 2001:db8::ffff/112.
+    /// Steps to the previous address of the network. From the first one it wraps to the last, and returns true.
+    ///
+    /// ```
+    /// let mut host = "2001:db8::/112".parse::<Ipv6Inet>()?;
+    /// host.decrement() // true
+    /// host // 2001:db8::ffff/112
+    /// ```
     pub fn decrement(&mut self) -> bool
         ensures stepped { self.new ≡ stepped_down (width_of A.FAMILY) self.old 1 }
         ensures wraps { IsTrue result ↔ WrapsDown self.old 1 }
@@ -124,7 +152,13 @@ impl<A: AddressBits> Host<A> {
         wraps
     }
 
-    /// The host at the next address of the network, or `None` at the last one. `previous` leads back.
+    /// The host at the next address of the network, or `None` at the last one. It takes and returns a value, and is not
+    /// `Iterator::next`.
+    ///
+    /// ```
+    /// "192.0.2.62/28".parse::<Ipv4Inet>()?.next() // Some(192.0.2.63/28)
+    /// "192.0.2.63/28".parse::<Ipv4Inet>()?.next() // None
+    /// ```
     #[tactic(auto, using(crate::proofs::HostSteps::neighbour_laws))]
     pub fn next(self) -> Option<Host<A>>
         ensures host { result ≡ next_of (width_of A.FAMILY) self }
@@ -134,7 +168,12 @@ impl<A: AddressBits> Host<A> {
         if wraps { None } else { Some(stepped) }
     }
 
-    /// The host at the previous address of the network, or `None` at the first one. `next` leads back.
+    /// The host at the previous address of the network, or `None` at the first one.
+    ///
+    /// ```
+    /// "192.0.2.49/28".parse::<Ipv4Inet>()?.previous() // Some(192.0.2.48/28)
+    /// "192.0.2.48/28".parse::<Ipv4Inet>()?.previous() // None
+    /// ```
     #[tactic(auto, using(crate::proofs::HostSteps::neighbour_laws))]
     pub fn previous(self) -> Option<Host<A>>
         ensures host { result ≡ previous_of (width_of A.FAMILY) self }
@@ -144,10 +183,16 @@ impl<A: AddressBits> Host<A> {
         if wraps { None } else { Some(stepped) }
     }
 
-    /// The host `step` addresses further in the network, and whether it wrapped from the last address to the first:
-    /// 192.0.2.50/28 and 14 give 192.0.2.48/28 and true, 2001:db8::5/32 and 1 give 2001:db8::6/32 and false.
+    /// The host `step` addresses further in the network, and whether it wrapped from the last address to the first.
     ///
-    /// Any step is exact, also one above the number of addresses. Where it does not wrap, `+` may be used as well.
+    /// Any step is exact, also one above the number of addresses, and takes constant time. Where it does not wrap, `+`
+    /// returns the same host.
+    ///
+    /// ```
+    /// let host = "192.0.2.50/28".parse::<Ipv4Inet>()?;
+    /// host.overflowing_add(5) // (192.0.2.55/28, false)
+    /// host.overflowing_add(14) // (192.0.2.48/28, true)
+    /// ```
     #[tactic(auto, using(crate::proofs::HostSteps::undone_laws))]
     pub fn overflowing_add(self, step: u128) -> (Host<A>, bool)
         ensures stepped { result.0 ≡ stepped_up (width_of A.FAMILY) self step }
@@ -159,10 +204,16 @@ impl<A: AddressBits> Host<A> {
         (Host::new_unchecked(stepped, self.len), wraps)
     }
 
-    /// The host `step` addresses back in the network, and whether it wrapped from the first address to the last:
-    /// 10.0.0.7/29 and 8 give 10.0.0.7/29 and true, 2001:db8::5/32 and 1 give 2001:db8::4/32 and false.
+    /// The host `step` addresses back in the network, and whether it wrapped from the first address to the last.
     ///
-    /// Any step is exact, also one above the number of addresses. Where it does not wrap, `-` may be used as well.
+    /// Any step is exact, also one above the number of addresses, and takes constant time. Where it does not wrap, `-`
+    /// returns the same host.
+    ///
+    /// ```
+    /// let host = "10.0.0.7/29".parse::<Ipv4Inet>()?;
+    /// host.overflowing_sub(7) // (10.0.0.0/29, false)
+    /// host.overflowing_sub(8) // (10.0.0.7/29, true)
+    /// ```
     #[tactic(auto, using(crate::proofs::HostSteps::undone_laws))]
     pub fn overflowing_sub(self, step: u128) -> (Host<A>, bool)
         ensures stepped { result.0 ≡ stepped_down (width_of A.FAMILY) self step }
@@ -174,8 +225,11 @@ impl<A: AddressBits> Host<A> {
         (Host::new_unchecked(stepped, self.len), wraps)
     }
 
-    /// The network that the host is in: that of 192.0.2.50/28 is 192.0.2.48/28, and that of 2001:db8::5/32 is
-    /// 2001:db8::/32.
+    /// The network that the host is in: the bits after the prefix are unset.
+    ///
+    /// ```
+    /// "192.0.2.50/28".parse::<Ipv4Inet>()?.network() // 192.0.2.48/28
+    /// ```
     pub fn network(&self) -> Network<A>
         ensures { result ≡ network_of self.now }
     {
@@ -183,6 +237,10 @@ impl<A: AddressBits> Host<A> {
     }
 
     /// The address, without the prefix length.
+    ///
+    /// ```
+    /// "192.0.2.50/28".parse::<Ipv4Inet>()?.address() // 192.0.2.50
+    /// ```
     pub fn address(&self) -> A
         ensures value { A.bits result ≡ self.now.address }
         ensures width { length (A.bits result) ≡ width_of A.FAMILY }
@@ -191,36 +249,56 @@ impl<A: AddressBits> Host<A> {
     }
 
     /// The address, by reference.
+    ///
+    /// ```
+    /// "192.0.2.50/28".parse::<Ipv4Inet>()?.address_ref() // 192.0.2.50
+    /// ```
     pub fn address_ref(&self) -> &A
         ensures { A.bits result.now ≡ self.now.address }
     {
         &self.address
     }
 
-    /// The first address of the network, in which no bit after the prefix is set.
+    /// The first address of the network, in which no bit after the prefix is set: in IPv4 the network address, up to
+    /// /30.
+    ///
+    /// ```
+    /// "192.0.2.50/28".parse::<Ipv4Inet>()?.first_address() // 192.0.2.48
+    /// ```
     pub fn first_address(&self) -> A
         ensures { A.bits result ≡ first_of (width_of A.FAMILY) (network_of self.now) }
     {
         self.address.first_in(self.len)
     }
 
-    /// The last address of the network, in which all bits after the prefix are set.
+    /// The last address of the network, in which all bits after the prefix are set: in IPv4 the broadcast address, up
+    /// to /30.
+    ///
+    /// ```
+    /// "192.0.2.50/28".parse::<Ipv4Inet>()?.last_address() // 192.0.2.63
+    /// ```
     pub fn last_address(&self) -> A
         ensures { A.bits result ≡ last_of (width_of A.FAMILY) (network_of self.now) }
     {
         self.address.last_in(self.len)
     }
 
-    /// The host at the first address of the network: that of 10.4.3.2/8 is 10.0.0.0/8, and that of 2001:db8::5/32
-    /// is 2001:db8::/32.
+    /// The host at the first address of the network, with the same prefix length.
+    ///
+    /// ```
+    /// "10.4.3.2/8".parse::<Ipv4Inet>()?.first() // 10.0.0.0/8
+    /// ```
     pub fn first(&self) -> Host<A>
         ensures { result ≡ first_host (width_of A.FAMILY) (network_of self.now) }
     {
         Host::new_unchecked(self.first_address(), self.len)
     }
 
-    /// The host at the last address of the network: that of 10.4.3.2/8 is 10.255.255.255/8, and that of
-    /// 2001:db8::5/32 is 2001:db8:ffff:ffff:ffff:ffff:ffff:ffff/32.
+    /// The host at the last address of the network, with the same prefix length.
+    ///
+    /// ```
+    /// "10.4.3.2/8".parse::<Ipv4Inet>()?.last() // 10.255.255.255/8
+    /// ```
     pub fn last(&self) -> Host<A>
         ensures { result ≡ last_host (width_of A.FAMILY) (network_of self.now) }
     {
@@ -228,6 +306,10 @@ impl<A: AddressBits> Host<A> {
     }
 
     /// The prefix length in bits, at most 32 in IPv4 and 128 in IPv6.
+    ///
+    /// ```
+    /// "::5/32".parse::<Ipv6Inet>()?.network_length() // 32
+    /// ```
     pub fn network_length(&self) -> u8
         ensures value { result ≡ self.now.len }
         ensures fits { result ≤ width_of A.FAMILY }
@@ -235,21 +317,35 @@ impl<A: AddressBits> Host<A> {
         self.len
     }
 
-    /// The family.
+    /// The family of the address, which its type tells.
+    ///
+    /// ```
+    /// "2001:db8::5/32".parse::<Ipv6Inet>()?.family() // Ipv6
+    /// ```
     pub fn family(&self) -> Family
         ensures { result ≡ A.FAMILY }
     {
         A::FAMILY
     }
 
-    /// Whether the network is a single address: whether the prefix length is full, 32 or 128.
+    /// Whether the network of the host has only one address, that is, whether the prefix length is full: 32 in IPv4 and
+    /// 128 in IPv6.
+    ///
+    /// ```
+    /// "192.0.2.50".parse::<Ipv4Inet>()?.is_host_address() // true
+    /// "10.4.3.2/8".parse::<Ipv4Inet>()?.is_host_address() // false
+    /// ```
     pub fn is_host_address(&self) -> bool
         ensures { IsTrue result ↔ (self.now.len ≡ width_of A.FAMILY) }
     {
         self.len == A::FAMILY.len()
     }
 
-    /// The mask of the network: as many set bits as the prefix length says, then zeros.
+    /// The network mask: as many set bits as the prefix length says, then zeros.
+    ///
+    /// ```
+    /// "192.0.2.50/28".parse::<Ipv4Inet>()?.mask() // 255.255.255.240
+    /// ```
     #[tactic(auto, using(crate::specs::laws::NetworkLaws::taken_laws))]
     pub fn mask(&self) -> A
         ensures { A.bits result ≡ mask_of (width_of A.FAMILY) (network_of self.now) }
@@ -257,15 +353,25 @@ impl<A: AddressBits> Host<A> {
         A::mask_of(self.len)
     }
 
-    /// Whether the address is in the network of the host: that of 192.0.2.50/28 contains 192.0.2.63, and that of
-    /// 2001:db8::5/32 contains 2001:db8::1.
+    /// Whether the address is in the network of the host, that is, begins with its prefix. Nothing is mapped: an IPv6
+    /// host contains no IPv4 address.
+    ///
+    /// ```
+    /// let host = "192.0.2.50/28".parse::<Ipv4Inet>()?;
+    /// host.contains(&Ipv4Addr::new(192, 0, 2, 63)) // true
+    /// host.contains(&Ipv4Addr::new(192, 0, 2, 64)) // false
+    /// ```
     pub fn contains(&self, addr: &A) -> bool
         ensures { IsTrue result ↔ BeginsWith (A.bits addr.now) (network_of self.now) }
     {
         self.address.shares(*addr, self.len)
     }
 
-    /// The host, to be printed with its prefix length also where that is full: `10.0.0.1/32` or `2001:db8::1/128`.
+    /// The host, to be printed with its prefix length also where that is full.
+    ///
+    /// ```
+    /// "10.0.0.1".parse::<Ipv4Inet>()?.with_length() // 10.0.0.1/32
+    /// ```
     pub fn with_length(&self) -> WithLength<Host<A>>
         ensures { result ≡ self.now }
     {
@@ -277,8 +383,12 @@ impl<A: AddressText> Host<A> {
     ghost use Rattle.cidr.specs.texts.HostText.{IsHostText};
     ghost use Rattle.cidr.specs.texts.Printed.{plain_host_text, longest_text};
 
-    /// The printed text, which keeps the whole address and leaves out a full prefix length: `10.4.3.2/8`,
-    /// `10.4.3.2`, `2001:db8::5/32`. It has at most 18 bytes in IPv4 and 43 in IPv6.
+    /// The printed string, with all bits of the address and without a full prefix length, in an `ArrayString`, so that
+    /// nothing is allocated. It has at most 18 bytes in IPv4 and 43 in IPv6. Parsing it gives the same host.
+    ///
+    /// ```
+    /// "2001:DB8::5/32".parse::<Ipv6Inet>()?.to_text() // 2001:db8::5/32
+    /// ```
     #[tactic(auto, using(crate::proofs::NetworkPrinting::host_text_laws))]
     pub fn to_text(&self) -> ArrayString<43>
         ensures text { result.bytes ≡ plain_host_text A.FAMILY self.now }
@@ -293,7 +403,11 @@ impl<A: AddressText> WithLength<Host<A>> {
     ghost use Rattle.cidr.specs.texts.HostText.{IsHostText};
     ghost use Rattle.cidr.specs.texts.Printed.{forced_host_text, longest_text};
 
-    /// The printed text, with the prefix length: at most 18 bytes in IPv4 and 43 in IPv6.
+    /// The printed string, with the prefix length also where that is full: at most 18 bytes in IPv4 and 43 in IPv6.
+    ///
+    /// ```
+    /// "::1".parse::<Ipv6Inet>()?.with_length().to_text() // ::1/128
+    /// ```
     #[tactic(auto, using(crate::proofs::NetworkPrinting::host_text_laws))]
     pub fn to_text(&self) -> ArrayString<43>
         ensures text { result.bytes ≡ forced_host_text A.FAMILY self.now }
@@ -420,7 +534,8 @@ impl<A: AddressText> fmt::Debug for Host<A> {
     }
 }
 
-/// The host `step` addresses further. The step has to stay in the network; `overflowing_add` tells whether it does.
+/// The host `step` addresses further in the network, as `overflowing_add` returns it. The caller has to prove that the
+/// step does not wrap; `overflowing_add` and `next` tell whether it does.
 impl<A: AddressBits> Add<u128> for Host<A> {
     type Output = Host<A>;
 
@@ -434,7 +549,8 @@ impl<A: AddressBits> Add<u128> for Host<A> {
     }
 }
 
-/// The host `step` addresses back. The step has to stay in the network; `overflowing_sub` tells whether it does.
+/// The host `step` addresses back in the network, as `overflowing_sub` returns it. The caller has to prove that the
+/// step does not wrap; `overflowing_sub` and `previous` tell whether it does.
 impl<A: AddressBits> Sub<u128> for Host<A> {
     type Output = Host<A>;
 

@@ -6,20 +6,25 @@ ghost use Rattle.cidr.specs.model.Walk.{answers_to, without, fronts, backs};
 use crate::inet_iterator::InetAddressIterator;
 use crate::traits::{Address, Inet, InetPair};
 
-/// An end of a walk.
+/// An end of an iterator over addresses.
 #[derive(Clone, Copy)]
 pub enum End {
-    /// Where the walk begins: the least address that is left.
+    /// The lowest address that is left, which `next` takes.
     Front,
-    /// Where the walk ends: the greatest address that is left.
+    /// The highest address that is left, which `next_back` takes.
     Back,
 }
 
-/// Calls `next` for each `Front` of `ends` and `next_back` for each `Back`, and writes what they return to
-/// `answers`, in this order.
+/// Calls `next` for each `Front` of `ends` and `next_back` for each `Back`, and writes what they return to `answers`,
+/// in this order. The caller has to prove that the two slices have the same length.
 ///
-/// The two slices have to be of one length. Over the walk of 192.0.2.48/30, front, back, back, front and front give
-/// 192.0.2.48, 192.0.2.51, 192.0.2.50, 192.0.2.49 and `None`.
+/// ```
+/// let mut addresses = "192.0.2.48/31".parse::<Ipv4Cidr>()?.iter().addresses();
+/// let mut answers = [None; 3];
+/// let ends = [End::Back, End::Front, End::Front];
+/// drive(&mut addresses, &ends, &mut answers);
+/// answers // [Some(192.0.2.49), Some(192.0.2.48), None]
+/// ```
 pub fn drive<A: Address>(iter: &mut InetAddressIterator<A>, ends: &[End], answers: &mut [Option<A>])
 where
     A::InetPair: InetPair<Address = A>,

@@ -17,8 +17,13 @@ use std::fmt;
 
 /// Two addresses of one IPv4 or IPv6 network, and the prefix length of that network.
 ///
-/// The walk goes from the first to the second, both counted. The first may be above the second; the walk is empty
-/// then.
+/// It is a range of addresses, from the first to the second inclusive. The first may be above the second; the range has
+/// no address then. It is printed and not parsed, and has no order.
+///
+/// ```
+/// let host = "2001:db8::1/127".parse::<IpInet>()?;
+/// IpInetPair::new(host.first(), host)? // (2001:db8::/127, 2001:db8::1/127)
+/// ```
 #[derive(Clone, Copy, Debug, PartialEq, Eq, Hash)]
 pub enum IpInetPair {
     V4(Ipv4InetPair),
@@ -35,8 +40,13 @@ impl IpInetPair {
     ghost use Rattle.cidr.specs.model.Walk.{pair_hosts};
     ghost use Rattle.cidr.specs.declared.family.Family.TheVariants.{Ipv4, Ipv6};
 
-    /// The pair of two hosts. Refuses hosts of different families, of different prefix lengths, and of different
-    /// networks.
+    /// The pair of two hosts. Returns `NotInSharedNetwork` for hosts of different families, of different prefix lengths
+    /// or of different networks.
+    ///
+    /// ```
+    /// let (first, second) = ("10.0.0.1/8".parse()?, "10.0.0.3/8".parse()?);
+    /// IpInetPair::new(first, second)? // (10.0.0.1/8, 10.0.0.3/8)
+    /// ```
     pub fn new(first: IpInet, second: IpInet) -> Result<IpInetPair, InetTupleError>
         ensures value { seen pair_parts result ≡
             of_one_family (host_family first) (host_family second) (pair_of (host_parts first) (host_parts second)) }
@@ -55,8 +65,14 @@ impl IpInetPair {
 
     /// The pair of two addresses in a network of this prefix length.
     ///
-    /// Refuses two families, whatever the prefix length; then a prefix length above the width, 32 or 128; then
-    /// addresses whose first `len` bits differ.
+    /// Returns `NotInSharedNetwork` for two families, whatever the prefix length; then `NetworkLengthTooLongError` for
+    /// a prefix length above the width, 32 or 128; then `NotInSharedNetwork` for addresses whose first `len` bits
+    /// differ.
+    ///
+    /// ```
+    /// let (first, second) = ("192.0.2.1".parse()?, "2001:db8::1".parse()?);
+    /// IpInetPair::new_from_addresses(first, second, 0) // Err(addresses not in shared network)
+    /// ```
     pub fn new_from_addresses(
         first: IpAddr,
         second: IpAddr,
@@ -81,6 +97,11 @@ impl IpInetPair {
     }
 
     /// The first address, as a host with the prefix length of the pair.
+    ///
+    /// ```
+    /// let host = "192.0.2.49/28".parse::<IpInet>()?;
+    /// IpInetPair::new(host, host.last())?.first() // 192.0.2.49/28
+    /// ```
     pub fn first(&self) -> IpInet
         ensures value { result ≡ pair_host first_of_pair self.now }
         ensures pair { IsPair (width_of (pair_family self.now)) (pair_parts self.now) }
@@ -92,6 +113,11 @@ impl IpInetPair {
     }
 
     /// The second address, as a host with the prefix length of the pair.
+    ///
+    /// ```
+    /// let host = "192.0.2.49/28".parse::<IpInet>()?;
+    /// IpInetPair::new(host, host.last())?.second() // 192.0.2.63/28
+    /// ```
     pub fn second(&self) -> IpInet
         ensures value { result ≡ pair_host second_of_pair self.now }
         ensures pair { IsPair (width_of (pair_family self.now)) (pair_parts self.now) }
@@ -102,7 +128,13 @@ impl IpInetPair {
         }
     }
 
-    /// The network that both addresses are in.
+    /// The network that both addresses are in, of the prefix length of the pair. It may have more addresses than the
+    /// pair.
+    ///
+    /// ```
+    /// let host = "192.0.2.49/28".parse::<IpInet>()?;
+    /// IpInetPair::new(host, host)?.network() // 192.0.2.48/28
+    /// ```
     pub fn network(&self) -> IpCidr
         ensures { result ≡ pair_network self.now }
     {
@@ -113,6 +145,11 @@ impl IpInetPair {
     }
 
     /// The prefix length in bits, at most 32 in IPv4 and 128 in IPv6.
+    ///
+    /// ```
+    /// let host = "192.0.2.49/28".parse::<IpInet>()?;
+    /// IpInetPair::new(host, host)?.network_length() // 28
+    /// ```
     pub fn network_length(&self) -> u8
         ensures value { result ≡ (pair_parts self.now).len }
         ensures fits { result ≤ width_of (pair_family self.now) }
@@ -123,7 +160,12 @@ impl IpInetPair {
         }
     }
 
-    /// The family.
+    /// The family of both addresses.
+    ///
+    /// ```
+    /// let host = "192.0.2.49/28".parse::<IpInet>()?;
+    /// IpInetPair::new(host, host)?.family() // Ipv4
+    /// ```
     pub fn family(&self) -> Family
         ensures { result ≡ pair_family self.now }
     {
@@ -134,6 +176,11 @@ impl IpInetPair {
     }
 
     /// Whether this is a pair of IPv4 addresses.
+    ///
+    /// ```
+    /// let host = "192.0.2.49/28".parse::<IpInet>()?;
+    /// IpInetPair::new(host, host)?.is_ipv4() // true
+    /// ```
     pub fn is_ipv4(&self) -> bool
         ensures { IsTrue result ↔ (pair_family self.now ≡ Ipv4) }
     {
@@ -141,22 +188,37 @@ impl IpInetPair {
     }
 
     /// Whether this is a pair of IPv6 addresses.
+    ///
+    /// ```
+    /// let host = "192.0.2.49/28".parse::<IpInet>()?;
+    /// IpInetPair::new(host, host)?.is_ipv6() // false
+    /// ```
     pub fn is_ipv6(&self) -> bool
         ensures { IsTrue result ↔ (pair_family self.now ≡ Ipv6) }
     {
         matches!(self, IpInetPair::V6(_))
     }
 
-    /// The walk from the first address to the second, both counted, ascending, as hosts with the prefix length of
-    /// the pair. It is empty where the first is above the second.
+    /// The hosts from the first address to the second inclusive, ascending, with the prefix length of the pair. There
+    /// are none where the first is above the second.
+    ///
+    /// ```
+    /// let host = "192.0.2.49/28".parse::<IpInet>()?;
+    /// IpInetPair::new(host, host.last())?.iter().count() // Some(15)
+    /// ```
     pub fn iter(self) -> InetIterator<IpAddr>
         ensures { result ≡ pair_hosts (pair_family self) (pair_parts self) }
     {
         InetIterator::_new(self)
     }
 
-    /// The printed text, both hosts in parentheses, which leaves out a full prefix length:
-    /// `(10.0.0.1/8, 10.0.0.3/8)` or `(2001:db8::1, 2001:db8::1)`. It has at most 90 bytes.
+    /// The printed string, both hosts in parentheses and without a full prefix length, in an `ArrayString`, so that
+    /// nothing is allocated. It has at most 90 bytes.
+    ///
+    /// ```
+    /// let host = "192.0.2.1".parse::<IpInet>()?;
+    /// IpInetPair::new(host, host)?.to_text() // (192.0.2.1, 192.0.2.1)
+    /// ```
     pub fn to_text(&self) -> ArrayString<90>
         ensures text { result.bytes ≡ ip_pair_text plain_host_text self.now }
         ensures len { length result.bytes ≤ 90 }
@@ -168,6 +230,11 @@ impl IpInetPair {
     }
 
     /// The pair, to be printed with its prefix lengths also where they are full.
+    ///
+    /// ```
+    /// let host = "192.0.2.1".parse::<IpInet>()?;
+    /// IpInetPair::new(host, host)?.with_length() // (192.0.2.1/32, 192.0.2.1/32)
+    /// ```
     pub fn with_length(&self) -> WithLength<IpInetPair>
         ensures { result ≡ self.now }
     {
@@ -176,7 +243,13 @@ impl IpInetPair {
 }
 
 impl WithLength<IpInetPair> {
-    /// The printed text, with the prefix lengths: at most 90 bytes.
+    /// The printed string, with the prefix lengths also where they are full: at most 90 bytes.
+    ///
+    /// ```
+    /// let host = "::1".parse::<IpInet>()?;
+    /// let pair = IpInetPair::new(host, host)?;
+    /// pair.with_length().to_text() // (::1/128, ::1/128)
+    /// ```
     pub fn to_text(&self) -> ArrayString<90>
         ensures text { result.bytes ≡ ip_pair_text forced_host_text self.now }
         ensures len { length result.bytes ≤ 90 }

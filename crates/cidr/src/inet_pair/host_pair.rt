@@ -1,4 +1,6 @@
 //! The pairs of addresses of one family.
+//!
+//! Their walk, `iter`, stands beside, in `v4` and `v6`.
 ghost use Rattle.std.specs.Prelude.{◌≡◌, ◌+◌, ◌*◌, ◌≤◌, length, Some};
 ghost use Rattle.std.specs.Cmp.{partial_equiv_from_equiv};
 ghost use Rattle.cidr.specs.model.Network.{width_of};
@@ -21,12 +23,17 @@ use std::fmt;
 use std::hash::{Hash, Hasher};
 use std::marker::Model;
 
-/// Two addresses of one network, and the prefix length of that network.
+/// Two addresses of one network, and the prefix length of that network. `Ipv4InetPair` and `Ipv6InetPair` are its two
+/// types.
 ///
-/// It is a range of addresses with its walk, which goes from the first to the second, both counted. The first may
-/// be above the second; the walk is empty then. The prefix length is at most 32 in IPv4 and 128 in IPv6.
+/// It is a range of addresses, from the first to the second inclusive. The first may be above the second; the range has
+/// no address then. The prefix length is at most 32 in IPv4 and 128 in IPv6. It is printed and not parsed, and has no
+/// order.
 ///
-/// Its names at a family are `Ipv4InetPair` and `Ipv6InetPair`.
+/// ```
+/// let host = "192.0.2.49/28".parse::<Ipv4Inet>()?;
+/// Ipv4InetPair::new(host, host.last())? // (192.0.2.49/28, 192.0.2.63/28)
+/// ```
 pub struct HostPair<A: AddressBits> {
     first: A,
     second: A,
@@ -71,7 +78,13 @@ impl<A: AddressBits> Copy for HostPair<A> {}
 impl<A: AddressBits> HostPair<A> {
     ghost use Rattle.cidr.specs.model.Pair.{first_of_pair, second_of_pair, network_of_pair, shared_pair, pair_of, pair_from};
 
-    /// The pair of two hosts. Refuses hosts of different prefix lengths, and hosts of different networks.
+    /// The pair of two hosts. Returns `NotInSharedNetwork` for hosts of different prefix lengths or of different
+    /// networks.
+    ///
+    /// ```
+    /// let (first, second) = ("10.0.0.1/8".parse()?, "10.0.0.3/8".parse()?);
+    /// Ipv4InetPair::new(first, second)? // (10.0.0.1/8, 10.0.0.3/8)
+    /// ```
     pub fn new(first: Host<A>, second: Host<A>) -> Result<HostPair<A>, InetTupleError>
         ensures { result ≡ pair_of first second }
     {
@@ -83,9 +96,14 @@ impl<A: AddressBits> HostPair<A> {
 
     /// The pair of two addresses in a network of this prefix length.
     ///
-    /// Refuses a prefix length above the width, 32 or 128, and then addresses whose first `len` bits differ:
-    /// 192.0.2.1 and 192.0.2.129 are a pair with 24, and with 25 they are not; 2001:db8::1 and 2001:db9::1 are one
-    /// with 31, and with 32 they are not.
+    /// Returns `NetworkLengthTooLongError` for a prefix length above the width, 32 or 128, and then
+    /// `NotInSharedNetwork` for addresses whose first `len` bits differ.
+    ///
+    /// ```
+    /// let (first, last) = ("192.0.2.1".parse()?, "192.0.2.129".parse()?);
+    /// Ipv4InetPair::new_from_addresses(first, last, 24)? // (192.0.2.1/24, 192.0.2.129/24)
+    /// Ipv4InetPair::new_from_addresses(first, last, 25) // Err(addresses not in shared network)
+    /// ```
     pub fn new_from_addresses(first: A, second: A, len: u8) -> Result<HostPair<A>, InetTupleError>
         ensures { result ≡ pair_from A.FAMILY (A.bits first) (A.bits second) len }
     {
@@ -131,6 +149,11 @@ impl<A: AddressBits> HostPair<A> {
     }
 
     /// The first address, as a host with the prefix length of the pair.
+    ///
+    /// ```
+    /// let host = "192.0.2.49/28".parse::<Ipv4Inet>()?;
+    /// Ipv4InetPair::new(host, host.last())?.first() // 192.0.2.49/28
+    /// ```
     pub fn first(&self) -> Host<A>
         ensures value { result ≡ first_of_pair self.now }
         ensures pair { IsPair (width_of A.FAMILY) self.now }
@@ -139,6 +162,11 @@ impl<A: AddressBits> HostPair<A> {
     }
 
     /// The second address, as a host with the prefix length of the pair.
+    ///
+    /// ```
+    /// let host = "192.0.2.49/28".parse::<Ipv4Inet>()?;
+    /// Ipv4InetPair::new(host, host.last())?.second() // 192.0.2.63/28
+    /// ```
     pub fn second(&self) -> Host<A>
         ensures value { result ≡ second_of_pair self.now }
         ensures pair { IsPair (width_of A.FAMILY) self.now }
@@ -146,7 +174,13 @@ impl<A: AddressBits> HostPair<A> {
         Host::new_unchecked(self.second, self.len)
     }
 
-    /// The network that both addresses are in.
+    /// The network that both addresses are in, of the prefix length of the pair. It may have more addresses than the
+    /// pair.
+    ///
+    /// ```
+    /// let host = "192.0.2.49/28".parse::<Ipv4Inet>()?;
+    /// Ipv4InetPair::new(host, host)?.network() // 192.0.2.48/28
+    /// ```
     pub fn network(&self) -> Network<A>
         ensures { result ≡ network_of_pair self.now }
     {
@@ -154,6 +188,11 @@ impl<A: AddressBits> HostPair<A> {
     }
 
     /// The prefix length in bits, at most 32 in IPv4 and 128 in IPv6.
+    ///
+    /// ```
+    /// let host = "192.0.2.49/28".parse::<Ipv4Inet>()?;
+    /// Ipv4InetPair::new(host, host)?.network_length() // 28
+    /// ```
     pub fn network_length(&self) -> u8
         ensures value { result ≡ self.now.len }
         ensures fits { result ≤ width_of A.FAMILY }
@@ -161,7 +200,12 @@ impl<A: AddressBits> HostPair<A> {
         self.len
     }
 
-    /// The family.
+    /// The family of both addresses, which its type tells.
+    ///
+    /// ```
+    /// let host = "192.0.2.49/28".parse::<Ipv4Inet>()?;
+    /// Ipv4InetPair::new(host, host)?.family() // Ipv4
+    /// ```
     pub fn family(&self) -> Family
         ensures { result ≡ A.FAMILY }
     {
@@ -169,6 +213,11 @@ impl<A: AddressBits> HostPair<A> {
     }
 
     /// The pair, to be printed with its prefix lengths also where they are full.
+    ///
+    /// ```
+    /// let host = "192.0.2.1".parse::<Ipv4Inet>()?;
+    /// Ipv4InetPair::new(host, host)?.with_length() // (192.0.2.1/32, 192.0.2.1/32)
+    /// ```
     pub fn with_length(&self) -> WithLength<HostPair<A>>
         ensures { result ≡ self.now }
     {
@@ -179,8 +228,13 @@ impl<A: AddressBits> HostPair<A> {
 impl<A: AddressText> HostPair<A> {
     ghost use Rattle.cidr.specs.texts.Printed.{plain_host_text, longest_text};
 
-    /// The printed text, both hosts in parentheses, which leaves out a full prefix length:
-    /// `(10.0.0.1/8, 10.0.0.3/8)` or `(2001:db8::1, 2001:db8::1)`. It has at most 40 bytes in IPv4 and 90 in IPv6.
+    /// The printed string, both hosts in parentheses and without a full prefix length, in an `ArrayString`, so that
+    /// nothing is allocated. It has at most 40 bytes in IPv4 and 90 in IPv6.
+    ///
+    /// ```
+    /// let host = "192.0.2.1".parse::<Ipv4Inet>()?;
+    /// Ipv4InetPair::new(host, host)?.to_text() // (192.0.2.1, 192.0.2.1)
+    /// ```
     #[tactic(auto, using(crate::proofs::NetworkPrinting::longest_laws))]
     pub fn to_text(&self) -> ArrayString<90>
         ensures text { result.bytes ≡ pair_text (plain_host_text A.FAMILY) self.now }
@@ -195,7 +249,13 @@ impl<A: AddressText> HostPair<A> {
 impl<A: AddressText> WithLength<HostPair<A>> {
     ghost use Rattle.cidr.specs.texts.Printed.{forced_host_text, longest_text};
 
-    /// The printed text, with the prefix lengths: at most 40 bytes in IPv4 and 90 in IPv6.
+    /// The printed string, with the prefix lengths also where they are full: at most 40 bytes in IPv4 and 90 in IPv6.
+    ///
+    /// ```
+    /// let host = "::1".parse::<Ipv6Inet>()?;
+    /// let pair = Ipv6InetPair::new(host, host)?;
+    /// pair.with_length().to_text() // (::1/128, ::1/128)
+    /// ```
     #[tactic(auto, using(crate::proofs::NetworkPrinting::longest_laws))]
     pub fn to_text(&self) -> ArrayString<90>
         ensures text { result.bytes ≡ pair_text (forced_host_text A.FAMILY) self.now }

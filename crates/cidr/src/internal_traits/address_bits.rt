@@ -31,7 +31,7 @@ use std::hash::Hash;
 /// No other crate can name this trait, so that there are two families. Its clauses speak of lists of bits alone;
 /// numbers and masks are found in the two implementations.
 pub trait AddressBits: Copy + Ord + Hash {
-    /// The family, which fixes the width, the texts and the error of a text.
+    /// The family, which fixes the width, the strings and the error of a string.
     ghost FAMILY: { Family };
 
     /// The bits, most significant first.
@@ -95,7 +95,7 @@ pub trait AddressBits: Copy + Ord + Hash {
     fn is_below(self, other: Self) -> bool
         ensures { result ≡ is_lt (bit_cmp (bits self) (bits other)) };
 
-    /// How many addresses there are from this one to the last, both counted.
+    /// How many addresses there are from this one to the last, inclusive.
     fn count_to(self, last: Self) -> NumberOfAddresses
         ensures { number_of result ≡ length (walk_between (width_of FAMILY) (bits self) (bits last)) };
 
@@ -109,13 +109,13 @@ pub trait AddressBits: Copy + Ord + Hash {
     ghost hashes: { (a : Self) → Self.hash_input a ≡ address_hash FAMILY (bits a) };
 }
 
-/// The texts of such an address.
+/// The strings of such an address.
 pub trait AddressText: AddressBits + Debug {
-    /// The address that a text spells.
+    /// The address that a string is parsed as.
     fn read(text: &str) -> Result<Self, AddrParseError>
         ensures { Reads (IsAddressText Self.FAMILY) (address_error Self.FAMILY) text.now (seen Self.bits result) };
 
-    /// Appends the printed text.
+    /// Appends the printed string.
     fn push_to(&self, text: &mut ArrayString<43>)
         requires { length text.old.bytes + 39 ≤ 43 }
         ensures bytes { text.new.bytes ≡ text.old.bytes ++ address_text Self.FAMILY (Self.bits self.now) }

@@ -1,4 +1,4 @@
-//! What holds of addresses and of their texts, each as the contract of a function that does nothing.
+//! What holds of addresses and of their strings, each as the contract of a function that does nothing.
 ghost use Rattle.std.specs.Prelude.{◌≡◌, ℕ, Bool, List, length};
 ghost use Rattle.std.specs.Ordering.{nat_cmp};
 ghost use Rattle.cidr.specs.model.Bits.{number, bit_cmp};
@@ -27,6 +27,14 @@ pub fn order_is_by_family_and_bits()
     ensures { IsOrderOfBits ip_address_bits ⟦<IpAddr as Ord>⟧.cmp }
 {}
 
+/// Addresses of one family are equal, and tie in their order, exactly where they are the same.
+pub fn equal_addresses_of_one_family_are_the_same()
+    ensures ipv4 { TellsEqual ⟦<Ipv4Addr as PartialEq>⟧.eq }
+    ensures ipv6 { TellsEqual ⟦<Ipv6Addr as PartialEq>⟧.eq }
+    ensures ipv4_cmp { TiesEqual ⟦<Ipv4Addr as Ord>⟧.cmp }
+    ensures ipv6_cmp { TiesEqual ⟦<Ipv6Addr as Ord>⟧.cmp }
+{}
+
 /// Addresses of either family are equal, and tie in their order, exactly where they are the same.
 pub fn equal_addresses_are_the_same()
     ensures eq { TellsEqual ⟦<IpAddr as PartialEq>⟧.eq }
@@ -38,7 +46,7 @@ pub fn ipv4_comes_first()
     ensures { ⟦<Family as Ord>⟧.cmp Ipv4 Ipv6 ≡ Less }
 {}
 
-/// The printed text of an IPv6 address is its canonical text (RFC 5952), and its only one.
+/// The printed string of an IPv6 address is its canonical form (RFC 5952), of which it has one.
 pub fn printed_ipv6_text_is_canonical()
     ensures canonical { (a : List Bool) → length a ≡ 128 → IsCanonicalText (ipv6_text a) a }
     ensures only { (text : List ℕ) (a : List Bool) → IsCanonicalText text a → text ≡ ipv6_text a }
@@ -51,17 +59,17 @@ pub fn equal_hash_inputs_are_of_equal_addresses()
     ensures ip { IsHashedApart IsIpAddress ⟦<IpAddr as Hash>⟧.hash_input }
 {}
 
-/// A text spells one IPv4 address at most.
+/// A string is parsed as one IPv4 address at most.
 pub fn ipv4_text_spells_one()
     ensures { SpellsOne IsIpv4Text }
 {}
 
-/// A text spells one IPv6 address at most.
+/// A string is parsed as one IPv6 address at most.
 pub fn ipv6_text_spells_one()
     ensures { SpellsOne IsIpv6Text }
 {}
 
-/// A text spells one address of either family at most: none is an IPv4 text and an IPv6 text.
+/// A string is parsed as one address of either family at most: none is an IPv4 string and an IPv6 string.
 pub fn ip_text_spells_one()
     ensures { SpellsOne IsIpText }
 {}

@@ -3,6 +3,10 @@ ghost use Rattle.std.specs.Prelude.{ℕ};
 ghost use Rattle.cidr.specs.either.IpAddress.{TellsEqual};
 ghost use Rattle.cidr.specs.bytes.CompactRefusal.{Only, Both, HasOneError, IsNetworkBytesRefused, IsHostBytesRefused, IsAnyBytesRefused};
 ghost use Rattle.cidr.specs.bytes.Prefix.{IsPrefixRefused};
+ghost use Rattle.cidr.specs.either.IpText.{IsIpRefused, IsIpHostRefused};
+ghost use Rattle.cidr.specs.texts.HostText.{IsHostRefused};
+ghost use Rattle.cidr.specs.texts.Messages.{ipv4_error, ipv6_error};
+ghost use Rattle.cidr.specs.texts.Refusal.{IsRefused};
 ghost use Rattle.cidr.specs.declared.family.Family.TheVariants.{Ipv4, Ipv6};
 
 use crate::addr::error::AddrParseError;
@@ -22,7 +26,17 @@ pub fn equal_errors_are_the_same()
     ensures prefix { TellsEqual ⟦<PrefixBytesError as PartialEq>⟧.eq }
 {}
 
-/// Bytes that are refused as compact bytes have one error, of each type.
+/// A string that is rejected as a network or as a host has one error, of each type.
+pub fn refused_texts_have_one_error()
+    ensures ipv4 { HasOneError (IsRefused Ipv4 ipv4_error) }
+    ensures ipv6 { HasOneError (IsRefused Ipv6 ipv6_error) }
+    ensures ip { HasOneError IsIpRefused }
+    ensures ipv4_host { HasOneError (IsHostRefused Ipv4 ipv4_error) }
+    ensures ipv6_host { HasOneError (IsHostRefused Ipv6 ipv6_error) }
+    ensures ip_host { HasOneError IsIpHostRefused }
+{}
+
+/// Bytes that are not parsed as compact bytes have one error, of each type.
 pub fn compact_bytes_have_one_error()
     ensures ipv4 { HasOneError (IsNetworkBytesRefused (Only Ipv4)) }
     ensures ipv6 { HasOneError (IsNetworkBytesRefused (Only Ipv6)) }
@@ -33,7 +47,7 @@ pub fn compact_bytes_have_one_error()
     ensures ip_host { HasOneError (IsHostBytesRefused Both) }
 {}
 
-/// Bytes that are refused as prefix bytes have one error, whatever the width.
+/// Bytes that are not parsed as prefix bytes have one error, whatever the width.
 pub fn prefix_bytes_have_one_error()
     ensures { (w : ℕ) → HasOneError (IsPrefixRefused w) }
 {}

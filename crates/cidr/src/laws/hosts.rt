@@ -1,4 +1,4 @@
-//! What holds of hosts and of their texts, each as the contract of a function that does nothing.
+//! What holds of hosts and of their strings, each as the contract of a function that does nothing.
 ghost use Rattle.cidr.specs.model.Network.{IsHashedApart};
 ghost use Rattle.cidr.specs.model.Host.{IsHost};
 ghost use Rattle.cidr.specs.model.Pair.{IsPair};
@@ -20,10 +20,24 @@ pub fn order_is_by_family_address_and_length()
     ensures { IsOrderOfHosts ⟦<IpInet as Ord>⟧.cmp }
 {}
 
+/// Hosts of one family are equal, and tie in their order, exactly where they are the same.
+pub fn equal_hosts_of_one_family_are_the_same()
+    ensures ipv4 { TellsEqual ⟦<Ipv4Inet as PartialEq>⟧.eq }
+    ensures ipv6 { TellsEqual ⟦<Ipv6Inet as PartialEq>⟧.eq }
+    ensures ipv4_cmp { TiesEqual ⟦<Ipv4Inet as Ord>⟧.cmp }
+    ensures ipv6_cmp { TiesEqual ⟦<Ipv6Inet as Ord>⟧.cmp }
+{}
+
 /// Hosts of either family are equal, and tie in their order, exactly where they are the same.
 pub fn equal_hosts_are_the_same()
     ensures eq { TellsEqual ⟦<IpInet as PartialEq>⟧.eq }
     ensures cmp { TiesEqual ⟦<IpInet as Ord>⟧.cmp }
+{}
+
+/// Pairs of one family are equal exactly where they are the same.
+pub fn equal_pairs_of_one_family_are_the_same()
+    ensures ipv4 { TellsEqual ⟦<Ipv4InetPair as PartialEq>⟧.eq }
+    ensures ipv6 { TellsEqual ⟦<Ipv6InetPair as PartialEq>⟧.eq }
 {}
 
 /// Pairs of either family are equal exactly where they are the same.
@@ -45,7 +59,7 @@ pub fn equal_hash_inputs_are_of_equal_pairs()
     ensures ip { IsHashedApart IsIpPair ⟦<IpInetPair as Hash>⟧.hash_input }
 {}
 
-/// A text spells one host at most.
+/// A string is parsed as one host at most.
 pub fn host_text_spells_one()
     ensures ipv4 { SpellsOne (IsHostText Ipv4) }
     ensures ipv6 { SpellsOne (IsHostText Ipv6) }

@@ -1,4 +1,4 @@
-//! What holds of loose and short IPv4 texts, each as the contract of a function that does nothing.
+//! What holds of loose and short IPv4 strings, each as the contract of a function that does nothing.
 ghost use Rattle.std.specs.Prelude.{◌≡◌, ◌-◌, ◌*◌, ◌≤◌, ◌++◌, ℕ, Bool, List, length, replicate};
 ghost use Rattle.cidr.specs.model.Address.{octet_bits};
 ghost use Rattle.cidr.specs.model.Network.{first_of};
@@ -9,25 +9,25 @@ ghost use Rattle.cidr.specs.either.IpAddress.{IsIpText, SpellsOne};
 ghost use Rattle.cidr.specs.either.IpNetwork.{lone_network};
 ghost use Rattle.cidr.specs.declared.addr.ip.IpAddr.{IpAddr};
 
-/// A loose text spells one address at most, and so does one of either family.
+/// A loose string is parsed as one address at most, and so is one of either family.
 pub fn loose_text_spells_one()
     ensures ipv4 { SpellsOne IsLooseText }
     ensures ip { SpellsOne IsLooseIpText }
 {}
 
-/// A strict text is a loose text of the same address.
+/// A strict string is a loose string of the same address.
 pub fn strict_text_is_loose()
     ensures ipv4 { (text : List ℕ) (a : List Bool) → IsIpv4Text text a → IsLooseText text a }
     ensures ip { (text : List ℕ) (a : IpAddr) → IsIpText text a → IsLooseIpText text a }
 {}
 
-/// A short text spells one network at most, and so does one of either family.
+/// A short string is parsed as one network at most, and so is one of either family.
 pub fn short_text_spells_one()
     ensures ipv4 { SpellsOne IsShortText }
     ensures ip { SpellsOne IsShortIpText }
 {}
 
-/// A strict text is a short text of the network of its address alone.
+/// A strict string is a short string of the network that has only its address.
 pub fn strict_text_is_short()
     ensures ipv4 { (text : List ℕ) (a : List Bool) → IsIpv4Text text a → IsShortText text a }
     ensures ip { (text : List ℕ) (a : IpAddr) → IsIpText text a → IsShortIpText text (lone_network a) }

@@ -1,4 +1,4 @@
-//! What holds of networks and of their texts, each as the contract of a function that does nothing.
+//! What holds of networks and of their strings, each as the contract of a function that does nothing.
 ghost use Rattle.std.specs.Prelude.{Bool, List};
 ghost use Rattle.cidr.specs.model.Network.{BeginsWith, FitsWidth, AreApart, IsConsecutive, IsHashedApart};
 ghost use Rattle.cidr.specs.either.IpNetwork.{network_bits, any_bits, IsIpNetwork, IsAnyNetwork};
@@ -17,9 +17,17 @@ pub fn order_is_by_family_and_bits()
     ensures { IsOrderOfBits network_bits ⟦<IpCidr as Ord>⟧.cmp }
 {}
 
-/// The same with `Any`, which has no bits and so comes first.
+/// The order of `AnyIpCidr` is that of bits with the family bit in front too: `Any` has no bits and so comes first.
 pub fn order_begins_with_any()
     ensures { IsOrderOfBits any_bits ⟦<AnyIpCidr as Ord>⟧.cmp }
+{}
+
+/// Networks of one family are equal, and tie in their order, exactly where they are the same.
+pub fn equal_networks_of_one_family_are_the_same()
+    ensures ipv4 { TellsEqual ⟦<Ipv4Cidr as PartialEq>⟧.eq }
+    ensures ipv6 { TellsEqual ⟦<Ipv6Cidr as PartialEq>⟧.eq }
+    ensures ipv4_cmp { TiesEqual ⟦<Ipv4Cidr as Ord>⟧.cmp }
+    ensures ipv6_cmp { TiesEqual ⟦<Ipv6Cidr as Ord>⟧.cmp }
 {}
 
 /// Networks of either family are equal, and tie in their order, exactly where they are the same.
@@ -28,7 +36,7 @@ pub fn equal_networks_are_the_same()
     ensures cmp { TiesEqual ⟦<IpCidr as Ord>⟧.cmp }
 {}
 
-/// The same with `Any`.
+/// Values of `AnyIpCidr` are equal, and tie in their order, exactly where they are the same.
 pub fn equal_networks_or_any_are_the_same()
     ensures eq { TellsEqual ⟦<AnyIpCidr as PartialEq>⟧.eq }
     ensures cmp { TiesEqual ⟦<AnyIpCidr as Ord>⟧.cmp }
@@ -42,7 +50,7 @@ pub fn equal_hash_inputs_are_of_equal_networks()
     ensures any { IsHashedApart IsAnyNetwork ⟦<AnyIpCidr as Hash>⟧.hash_input }
 {}
 
-/// A text spells one network at most.
+/// A string is parsed as one network at most.
 pub fn network_text_spells_one()
     ensures ipv4 { SpellsOne (IsNetworkText Ipv4) }
     ensures ipv6 { SpellsOne (IsNetworkText Ipv6) }

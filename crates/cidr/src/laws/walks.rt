@@ -1,7 +1,10 @@
 //! What holds of walks, each as the contract of a function that does nothing.
-ghost use Rattle.std.specs.Prelude.{◌≡◌, ◌↔◌, ℕ, Bool, List, length};
+ghost use Rattle.std.specs.Prelude.{◌≡◌, ◌≤◌, ◌↔◌, ℕ, Bool, List, length};
 ghost use Rattle.std.specs.List.{Contains};
-ghost use Rattle.cidr.specs.model.Walk.{walk_between, IsAscending, LiesBetween};
+ghost use Rattle.cidr.specs.model.Walk.{walk_between, IsAscending, LiesBetween, answers_to};
+ghost use Rattle.cidr.specs.model.Calls.{HasOnce, GivesOnly, GivesOnce, GivesEach};
+ghost use Rattle.cidr.specs.declared.family.Family.{Family};
+ghost use Rattle.cidr.specs.declared.inet_iterator.driving.End.{End};
 
 /// A walk ascends, and so has each address once.
 pub fn walk_ascends()
@@ -14,4 +17,21 @@ pub fn walk_is_between()
     ensures { (w : ℕ) (first second a : List Bool) → length first ≡ w →
         length second ≡ w → Contains (walk_between w first second) a ↔
         LiesBetween w first second a }
+{}
+
+/// Whatever calls are made at both ends of a walk, only items of it are returned.
+pub fn calls_return_only_items()
+    ensures { (items : List (Family × List Bool)) (ends : List End) → GivesOnly items (answers_to items ends) }
+{}
+
+/// Whatever calls are made at both ends of a walk, no item is returned twice.
+pub fn calls_return_items_once()
+    ensures { (items : List (Family × List Bool)) (ends : List End) → HasOnce items →
+        GivesOnce (answers_to items ends) }
+{}
+
+/// After as many calls as there are items, at whichever ends, each item has been returned.
+pub fn enough_calls_return_each_item()
+    ensures { (items : List (Family × List Bool)) (ends : List End) → length items ≤ length ends →
+        GivesEach items (answers_to items ends) }
 {}

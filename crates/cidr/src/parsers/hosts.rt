@@ -1,4 +1,4 @@
-//! Hosts, by parsers of the parts of a text.
+//! Hosts, by parsers of the parts of a string.
 ghost use Rattle.std.specs.Fn.{FnReturnsAt, FnOnceReturnsAt};
 ghost use Rattle.cidr.specs.model.Views.{in_family};
 ghost use Rattle.cidr.specs.texts.Parsing.{MadeBy, MadeAlone, ReadsAround, ReadsWhole, made_host, lone_made};
@@ -8,11 +8,17 @@ use crate::errors::NetworkParseError;
 use crate::text::read::read_at_slash;
 use crate::traits::{Address, Inet};
 
-/// The host that a text with a slash spells, where `address_parser` reads what stands before the last slash. A text
-/// with no slash is handed to `host_parser`, and what that returns is returned.
+/// The host of a string with a slash, of which `address_parser` parses what precedes the last slash. A string with no
+/// slash is passed to `host_parser`, and its result is returned.
 ///
-/// Of a text with a slash the address's error comes first, then `NetworkLengthParseError` for what follows the slash,
-/// then a prefix length above the width.
+/// The first error is returned: that of `address_parser`; `NetworkLengthParseError` for what follows the slash;
+/// `NetworkLengthTooLongError`.
+///
+/// ```
+/// let loose = |s: &str| parse_loose_ipv4(s);
+/// let host = parse_inet_full("127.1/8", loose, Ipv4Inet::from_str)?;
+/// host // 127.0.0.1/8
+/// ```
 pub fn parse_inet_full<I, AP, HP>(
     s: &str,
     address_parser: AP,
@@ -35,11 +41,17 @@ where
     }
 }
 
-/// The host that a text spells, where `address_parser` reads what stands before the last slash, or the whole text
-/// where it has none. An address with no slash is the host of full prefix length.
+/// The host of a string, of which `address_parser` parses what precedes the last slash, or the whole string where there
+/// is none. An address with no slash is the host of full prefix length.
 ///
-/// The address's error comes first, then `NetworkLengthParseError` for what follows the slash, then a prefix length
-/// above the width.
+/// The first error is returned: that of `address_parser`; `NetworkLengthParseError` for what follows the slash;
+/// `NetworkLengthTooLongError`.
+///
+/// ```
+/// let loose = |s: &str| parse_loose_ipv4(s);
+/// let host: Ipv4Inet = parse_inet("127.1/8", loose)?;
+/// host // 127.0.0.1/8
+/// ```
 pub fn parse_inet<I, AP>(s: &str, address_parser: AP) -> Result<I, NetworkParseError>
 where
     I: Inet,

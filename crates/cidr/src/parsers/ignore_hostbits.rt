@@ -1,4 +1,4 @@
-//! Networks, by parsers of the parts of a text. A set bit after the prefix is ignored.
+//! Networks, by parsers of the parts of a string. A set bit after the prefix is ignored.
 ghost use Rattle.std.specs.Fn.{FnReturnsAt, FnOnceReturnsAt};
 ghost use Rattle.cidr.specs.model.Views.{in_family};
 ghost use Rattle.cidr.specs.texts.Parsing.{MadeBy, MadeAlone, ReadsAround, ReadsWhole, holding_network};
@@ -8,9 +8,15 @@ use crate::errors::NetworkParseError;
 use crate::text::read::read_at_slash;
 use crate::traits::{Address, Cidr, Inet};
 
-/// As `parse_cidr_full`, but set bits after the prefix are ignored: the network is that which holds the address.
+/// As `parse_cidr_full`, but set bits after the prefix are ignored: the network is that which has the address.
 ///
-/// What `host_parser` refuses stays refused.
+/// The result of `host_parser` is returned as it is, also where it is `InvalidHostPart`.
+///
+/// ```
+/// let short = |s: &str| parse_short_ipv4_cidr(s);
+/// let network = parse_cidr_full_ignore_hostbits("10.0.0.7/8", Ipv4Addr::from_str, short)?;
+/// network // 10.0.0.0/8
+/// ```
 pub fn parse_cidr_full_ignore_hostbits<C, AP, HP>(
     s: &str,
     address_parser: AP,
@@ -35,7 +41,13 @@ where
     }
 }
 
-/// As `parse_cidr`, but set bits after the prefix are ignored: the network is that which holds the address.
+/// As `parse_cidr`, but set bits after the prefix are ignored: the network is that which has the address.
+///
+/// ```
+/// let loose = |s: &str| parse_loose_ipv4(s);
+/// let network: Ipv4Cidr = parse_cidr_ignore_hostbits("10.7/8", loose)?;
+/// network // 10.0.0.0/8
+/// ```
 pub fn parse_cidr_ignore_hostbits<C, AP>(
     s: &str,
     address_parser: AP,

@@ -1,4 +1,4 @@
-//! Loose IPv4 texts, as POSIX `inet_addr` reads them.
+//! Loose IPv4 strings, as POSIX `inet_addr` parses them.
 ghost use Rattle.std.specs.Prelude.{List, Bool, MatchOption};
 ghost use Rattle.cidr.specs.texts.AddressText.{Reads};
 ghost use Rattle.cidr.specs.internal.Joined.{LeadsToDigits};
@@ -7,14 +7,14 @@ ghost use Rattle.cidr.specs.texts.Messages.{ipv4_error, ip_error};
 
 use crate::addr::error::AddrParseError;
 use crate::addr::ip::IpAddr;
-use crate::addr::read::take_byte;
+use crate::addr::read_v4::take_byte;
 use crate::addr::v4::Ipv4Addr;
 use crate::parsers::parts::{Part, after_plus, read_parts, take_number};
 
 /// A decimal, octal or hexadecimal number below 2^32.
 struct LoosePart;
 
-/// The radix of the number at the front, and the text from its digits on.
+/// The radix of the number at the front, and the string from its digits on.
 fn radix_and_digits(text: &[u8]) -> (u8, &[u8])
     ensures { LeadsToDigits text.now result.0 result.1.now }
 {
@@ -34,13 +34,19 @@ impl Part for LoosePart {
     }
 }
 
-/// The IPv4 address that a loose text spells: one to four numbers joined by dots, as POSIX `inet_addr` reads them.
+/// The IPv4 address of a loose string: one to four numbers joined by dots, as POSIX `inet_addr` parses it.
 ///
-/// The last number fills what the octets before it leave of the 32 bits: `127.1` is 127.0.0.1, `10.0x20.513` is
-/// 10.32.2.1, and `3221225985` is 192.0.2.1. A number that begins with `0x` or `0X` is hexadecimal, any other that
-/// begins with `0` is octal, and the rest are decimal: `010` is 8, and `08` is refused. A decimal number may have a
-/// plus before it, which is the crate's own, and then zeros: `+010` is 10. There may be any number of leading zeros,
-/// and no number wraps: `4294967296`, `256.1` and `1.16777216` are refused.
+/// The last number fills what the octets before it leave of the 32 bits. A number that begins with `0x` or `0X` is
+/// hexadecimal, any other that begins with `0` is octal, and the rest are decimal: `010` is 8, and `08` is no number. A
+/// decimal number may have a plus before it, as in the crate `cidr`, and then zeros: `+010` is 10. There may be any
+/// number of leading zeros, and no number wraps: for `4294967296`, `256.1` and `1.16777216` it returns `None`.
+///
+/// ```
+/// inet_addr("127.1") // Some(127.0.0.1)
+/// inet_addr("10.0x20.513") // Some(10.32.2.1)
+/// inet_addr("3221225985") // Some(192.0.2.1)
+/// inet_addr("08.1.1.1") // None
+/// ```
 pub fn inet_addr(s: &str) -> Option<Ipv4Addr>
     ensures { MatchOption result ((a : List Bool) → ¬ (IsLooseText s.now a)) (IsLooseText s.now) }
 {
@@ -53,9 +59,14 @@ pub fn inet_addr(s: &str) -> Option<Ipv4Addr>
     Some(Ipv4Addr::from_bits(((u64::from(parts.front) << free) + last) as u32))
 }
 
-/// The IPv4 address of a text, strict or loose: what `Ipv4Addr` reads, and else what [`inet_addr`] reads.
+/// The IPv4 address of a string, strict or loose: what `Ipv4Addr` parses, and else what [`inet_addr`] parses.
 ///
-/// A strict text is a loose text of the same address. The error is that of `Ipv4Addr`.
+/// A strict string is a loose string of the same address. The error is that of `Ipv4Addr`.
+///
+/// ```
+/// parse_loose_ipv4("127.1")? // 127.0.0.1
+/// parse_loose_ipv4("256.1") // Err(invalid IPv4 address syntax)
+/// ```
 pub fn parse_loose_ipv4(s: &str) -> Result<Ipv4Addr, AddrParseError>
     ensures { Reads IsLooseText ipv4_error s.now result }
 {
@@ -65,9 +76,15 @@ pub fn parse_loose_ipv4(s: &str) -> Result<Ipv4Addr, AddrParseError>
     }
 }
 
-/// The address of a text of either family: what `IpAddr` reads, and else the IPv4 address that [`inet_addr`] reads.
+/// The address of a string of either family: what `IpAddr` parses, and else the IPv4 address that [`inet_addr`] parses.
+/// IPv6 strings are not parsed loosely.
 ///
 /// The error is that of `IpAddr`.
+///
+/// ```
+/// parse_loose_ip("0x7f000001")? // 127.0.0.1
+/// parse_loose_ip("::1")? // ::1
+/// ```
 pub fn parse_loose_ip(s: &str) -> Result<IpAddr, AddrParseError>
     ensures { Reads IsLooseIpText ip_error s.now result }
 {

@@ -1,4 +1,4 @@
-//! Networks, by parsers of the parts of a text. A set bit after the prefix is refused.
+//! Networks, by parsers of the parts of a string. A set bit after the prefix is an error.
 ghost use Rattle.std.specs.Fn.{FnReturnsAt, FnOnceReturnsAt};
 ghost use Rattle.cidr.specs.model.Views.{in_family};
 ghost use Rattle.cidr.specs.texts.Parsing.{MadeBy, MadeAlone, ReadsAround, ReadsWhole, strict_network};
@@ -8,11 +8,17 @@ use crate::errors::NetworkParseError;
 use crate::text::read::read_at_slash;
 use crate::traits::{Address, Cidr};
 
-/// The network that a text with a slash spells, where `address_parser` reads what stands before the last slash. A
-/// text with no slash is handed to `host_parser`, and what that returns is returned.
+/// The network of a string with a slash, of which `address_parser` parses what precedes the last slash. A string with
+/// no slash is passed to `host_parser`, and its result is returned.
 ///
-/// Of a text with a slash the address's error comes first, then `NetworkLengthParseError` for what follows the slash,
-/// then the refusals of `Cidr::new`: a prefix length above the width, and a set bit after the prefix.
+/// The first error is returned: that of `address_parser`; `NetworkLengthParseError` for what follows the slash; then
+/// those of `Cidr::new`, `NetworkLengthTooLongError` and `InvalidHostPart`.
+///
+/// ```
+/// let short = |s: &str| parse_short_ipv4_cidr(s);
+/// let network = parse_cidr_full("10.7", Ipv4Addr::from_str, short)?;
+/// network // 10.7.0.0/16
+/// ```
 pub fn parse_cidr_full<C, AP, HP>(
     s: &str,
     address_parser: AP,
@@ -35,11 +41,17 @@ where
     }
 }
 
-/// The network that a text spells, where `address_parser` reads what stands before the last slash, or the whole text
-/// where it has none. An address with no slash is the network of full prefix length.
+/// The network of a string, of which `address_parser` parses what precedes the last slash, or the whole string where
+/// there is none. An address with no slash is the network of full prefix length.
 ///
-/// The address's error comes first, then `NetworkLengthParseError` for what follows the slash, then the refusals of
-/// `Cidr::new`: a prefix length above the width, and a set bit after the prefix.
+/// The first error is returned: that of `address_parser`; `NetworkLengthParseError` for what follows the slash; then
+/// those of `Cidr::new`, `NetworkLengthTooLongError` and `InvalidHostPart`.
+///
+/// ```
+/// let loose = |s: &str| parse_loose_ipv4(s);
+/// let network: Ipv4Cidr = parse_cidr("0x0a000000/8", loose)?;
+/// network // 10.0.0.0/8
+/// ```
 pub fn parse_cidr<C, AP>(s: &str, address_parser: AP) -> Result<C, NetworkParseError>
 where
     C: Cidr,

@@ -5,11 +5,11 @@ ghost use Rattle.cidr.specs.internal.Reading.{TakesPart};
 ghost use Rattle.cidr.specs.internal.Joined.{IsAfterPlus, JoinsParts, JoinsNone};
 
 use crate::addr::hex::hex_value;
-use crate::addr::read::take_byte;
+use crate::addr::read_v4::take_byte;
 
-/// A spelling of the numbers that stand between dots.
+/// A form of the numbers that stand between dots.
 pub(crate) trait Part {
-    /// Which text spells which number.
+    /// Which string is parsed as which number.
     ghost spells: { List ℕ → ℕ → Type 0 };
 
     /// The number at the front, and what follows it.
@@ -17,7 +17,7 @@ pub(crate) trait Part {
         ensures { TakesPart spells text.now result };
 }
 
-/// The numbers of a text.
+/// The numbers of a string.
 #[derive(Clone, Copy)]
 pub(crate) struct Parts {
     /// The octets before the last number, as a number.
@@ -28,7 +28,7 @@ pub(crate) struct Parts {
     pub(crate) last: u32,
 }
 
-/// The text after its plus, or all of it where it begins with none.
+/// What follows the plus, or the whole string where it begins with none.
 pub(crate) fn after_plus(text: &[u8]) -> &[u8]
     ensures { IsAfterPlus text.now result.now }
 {
@@ -68,7 +68,7 @@ pub(crate) fn take_number(text: &[u8], radix: u8, most: u32) -> Option<(u32, &[u
     }
 }
 
-/// The one to four numbers of a text, of which all but the last are octets.
+/// The one to four numbers of a string, of which all but the last are octets.
 #[inline(always)]
 pub(crate) fn read_parts<P: Part>(text: &[u8]) -> Option<Parts>
     ensures { MatchOption result (JoinsNone P.spells text.now)

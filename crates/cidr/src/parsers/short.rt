@@ -1,4 +1,4 @@
-//! Short IPv4 texts, which leave out octets at the end.
+//! Short IPv4 strings, which leave out octets at the end.
 ghost use Rattle.std.specs.Prelude.{List, Bool, MatchOption};
 ghost use Rattle.cidr.specs.texts.AddressText.{Reads};
 ghost use Rattle.cidr.specs.texts.NetworkText.{IsLengthText};
@@ -32,7 +32,7 @@ impl Part for ShortPart {
     }
 }
 
-/// The network of the one to four octets of a text.
+/// The network of the one to four octets of a string.
 fn read_short(text: &[u8]) -> Option<Ipv4Cidr>
     ensures { MatchOption result ((p : List Bool) → ¬ (IsShortText text.now p)) (IsShortText text.now) }
 {
@@ -43,12 +43,16 @@ fn read_short(text: &[u8]) -> Option<Ipv4Cidr>
     Some(Ipv4Cidr::holding(first, 32 - missing))
 }
 
-/// The network of the octets that a short IPv4 text spells: `10` is 10.0.0.0/8, `192.168` is 192.168.0.0/16, and
-/// `192.0.2.1` is 192.0.2.1/32.
+/// The network of the one to four octets of a short IPv4 string. The prefix length has eight bits for each octet.
 ///
-/// Each octet is decimal, and may have a plus and zeros before it. The prefix length has eight bits for each octet.
-/// [`inet_addr`](super::inet_addr) reads the same texts as other addresses: `192.168` as 192.0.0.168. A text with a
-/// slash is refused. The error is the `AddrParseError` of `Ipv4Addr`.
+/// Each octet is decimal, and may have a plus and zeros before it. [`inet_addr`](super::inet_addr) parses the same
+/// strings as other addresses: `192.168` as 192.0.0.168. A string with a slash is an error, and the error is the
+/// `AddrParseError` of `Ipv4Addr`.
+///
+/// ```
+/// parse_short_ipv4_address_as_cidr("192.168")? // 192.168.0.0/16
+/// parse_short_ipv4_address_as_cidr("192.0.2.1")? // 192.0.2.1
+/// ```
 pub fn parse_short_ipv4_address_as_cidr(s: &str) -> Result<Ipv4Cidr, NetworkParseError>
     ensures { Reads IsShortText (parse_error.AddrParseError ipv4_error) s.now result }
 {
@@ -58,10 +62,15 @@ pub fn parse_short_ipv4_address_as_cidr(s: &str) -> Result<Ipv4Cidr, NetworkPars
     }
 }
 
-/// The network of an address of either family alone, or the network of a short IPv4 text, as
-/// [`parse_short_ipv4_address_as_cidr`] reads it.
+/// The network of full prefix length of an address of either family, or the network of a short IPv4 string, as
+/// [`parse_short_ipv4_address_as_cidr`] parses it.
 ///
-/// A text with a slash is refused. The error is the `AddrParseError` of `IpAddr`.
+/// A string with a slash is an error, and the error is the `AddrParseError` of `IpAddr`.
+///
+/// ```
+/// parse_short_ip_address_as_cidr("10")? // 10.0.0.0/8
+/// parse_short_ip_address_as_cidr("::1")? // ::1
+/// ```
 pub fn parse_short_ip_address_as_cidr(s: &str) -> Result<IpCidr, NetworkParseError>
     ensures { Reads IsShortIpText (parse_error.AddrParseError ip_error) s.now result }
 {
@@ -74,25 +83,36 @@ pub fn parse_short_ip_address_as_cidr(s: &str) -> Result<IpCidr, NetworkParseErr
     }
 }
 
-/// The network of a text with a slash, read strictly as `Ipv4Cidr` reads it, or of a short text:
-/// `10.0.0.0/9` is 10.0.0.0/9, and `10.7` is 10.7.0.0/16.
+/// The network of a string with a slash, as `Ipv4Cidr` parses it, or else of a short string. With a slash there have to
+/// be four octets.
 ///
-/// The octets before a slash have to be four.
+/// ```
+/// parse_short_ipv4_cidr("10.0.0.0/9")? // 10.0.0.0/9
+/// parse_short_ipv4_cidr("10.7")? // 10.7.0.0/16
+/// ```
 pub fn parse_short_ipv4_cidr(s: &str) -> Result<Ipv4Cidr, NetworkParseError>
     ensures { ReadsShort (Reads IsShortText (parse_error.AddrParseError ipv4_error)) (ReadsNetwork Ipv4) s.now result }
 {
     parse_cidr_full(s, Ipv4Addr::from_str, parse_short_ipv4_address_as_cidr)
 }
 
-/// The network of a text with a slash, read strictly as `IpCidr` reads it, or what [`parse_short_ip_address_as_cidr`]
-/// reads.
+/// The network of a string with a slash, as `IpCidr` parses it, or what [`parse_short_ip_address_as_cidr`] parses.
+///
+/// ```
+/// parse_short_ip_cidr("10.7")? // 10.7.0.0/16
+/// ```
 pub fn parse_short_ip_cidr(s: &str) -> Result<IpCidr, NetworkParseError>
     ensures { ReadsShort (Reads IsShortIpText (parse_error.AddrParseError ip_error)) ReadsIpNetwork s.now result }
 {
     parse_cidr_full(s, IpAddr::from_str, parse_short_ip_address_as_cidr)
 }
 
-/// `Any` for the text `any`, and for every other what [`parse_short_ip_cidr`] reads.
+/// `Any` for the string `any`, and for every other what [`parse_short_ip_cidr`] parses.
+///
+/// ```
+/// parse_short_any_ip_cidr("any")? // any
+/// parse_short_any_ip_cidr("10.7")? // 10.7.0.0/16
+/// ```
 pub fn parse_short_any_ip_cidr(s: &str) -> Result<AnyIpCidr, NetworkParseError>
     ensures { ReadsAny (ReadsShort (Reads IsShortIpText (parse_error.AddrParseError ip_error)) ReadsIpNetwork)
         s.now result }

@@ -4,7 +4,7 @@ ghost use Rattle.cidr.specs.model.Host.{host_of};
 ghost use Rattle.cidr.specs.model.Network.{width_of};
 ghost use Rattle.cidr.specs.texts.Printed.{length_text, plain_host_text, forced_host_text, longest_text, in_parentheses};
 
-use crate::addr::print::push_decimal;
+use crate::addr::decimal::push_decimal;
 use crate::internal_traits::address_bits::AddressText;
 use arrayvec::ArrayString;
 
@@ -48,7 +48,7 @@ pub(crate) fn plain<A: AddressText>(address: A, len: u8) -> ArrayString<43>
     text
 }
 
-/// Two texts in parentheses, with a comma and a space between them.
+/// Two strings in parentheses, with a comma and a space between them.
 pub(crate) fn parenthesized(first: &str, second: &str) -> ArrayString<90>
     requires first { length first.now ≤ 43 }
     requires second { length second.now ≤ 43 }

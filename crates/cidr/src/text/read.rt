@@ -1,4 +1,4 @@
-//! Reading the parts of a network text.
+//! Parsing the parts of a network's string.
 ghost use Rattle.std.specs.Prelude.{◌≡◌, ◌<◌, ℕ, MatchOption};
 ghost use Rattle.std.specs.Fn.{FnOnceReturnsAt};
 ghost use Rattle.cidr.specs.texts.AddressText.{Reads};
@@ -8,10 +8,10 @@ ghost use Rattle.cidr.specs.texts.Parsing.{ReadsSlashed, ReadsCut};
 ghost use Rattle.cidr.specs.internal.Reading.{AreParts};
 
 use crate::addr::error::AddrParseError;
-use crate::addr::read::take_byte;
+use crate::addr::read_v4::take_byte;
 use crate::errors::{NetworkParseError, ParseIntError};
 
-/// The text before the last slash, and the bytes after it, if there is one.
+/// What precedes the last slash, and the bytes after it, if there is one.
 pub(crate) fn cut_at_last_slash(s: &str) -> Option<(&str, &[u8])>
     ensures { MatchOption result (Lacks slash s.now) (λ x. CutsAtLastSlash s.now x.0.now x.1.now) }
 {
@@ -45,7 +45,7 @@ fn read_digits(digits: &[u8]) -> Option<u8>
     Some(value)
 }
 
-/// The number of a length text.
+/// The number of a prefix length's string.
 pub(crate) fn read_length(text: &[u8]) -> Result<u8, ParseIntError>
     ensures { Reads IsLengthText (record {}) text.now result }
 {
@@ -56,8 +56,8 @@ pub(crate) fn read_length(text: &[u8]) -> Result<u8, ParseIntError>
     digits.ok_or(ParseIntError {})
 }
 
-/// The address and the number of the length text that follows it, where reading the address gave `address`. Its error
-/// comes first.
+/// The address and the prefix length that follows it, where parsing the address returned `address`. Its error comes
+/// first.
 #[inline(always)]
 pub(crate) fn with_length_text<A: Copy>(
     address: Result<A, AddrParseError>,
@@ -74,7 +74,7 @@ pub(crate) fn with_length_text<A: Copy>(
     }
 }
 
-/// What both parts of a text with a slash give, where `address_parser` reads what stands before the last one.
+/// What both parts of a string with a slash are parsed as, by `address_parser` what precedes the last one.
 #[inline(always)]
 pub(crate) fn read_at_slash<A, AP>(
     s: &str,

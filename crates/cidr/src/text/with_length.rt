@@ -3,10 +3,10 @@ ghost use Rattle.std.specs.Prelude.{◌≡◌};
 
 use std::marker::Model;
 
-/// A value that is always printed with its prefix length, also where that is full.
+/// A value that is always printed with its prefix length, also where that is full: /32 in IPv4 and /128 in IPv6.
 ///
-/// The calls `with_length` of networks, hosts and pairs make it: 192.0.2.1/32 is printed as `192.0.2.1`, and as
-/// `192.0.2.1/32` through this.
+/// The calls `with_length` of networks, hosts and pairs make it, and `to_text` or `{}` prints it. 192.0.2.1/32 is
+/// printed as `192.0.2.1`, and through this as `192.0.2.1/32`.
 #[derive(Clone, Copy)]
 pub struct WithLength<T> {
     value: T,

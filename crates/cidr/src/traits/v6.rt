@@ -1,4 +1,9 @@
 //! The IPv6 types by the traits.
+ghost use Rattle.std.specs.Prelude.{refl};
+ghost use Rattle.cidr.specs.laws.BitLaws.{bit_eq_Decides};
+ghost use Rattle.cidr.specs.laws.EqualLaws.{host_eq_Decides, pair_eq_Decides};
+ghost use Rattle.cidr.specs.laws.TraitLaws.{reads_address, reads_network, reads_host};
+ghost use Rattle.cidr.specs.declared.family.Family.TheVariants.{Ipv6};
 
 use crate::addr::v6::Ipv6Addr;
 use crate::cidr::network::Ipv6Cidr;
@@ -15,6 +20,16 @@ impl Address for Ipv6Addr {
     type Cidr = Ipv6Cidr;
 
     type InetPair = Ipv6InetPair;
+
+    ghost equal = { bit_eq_Decides };
+
+    ghost known = { λ _ _ _ h. h };
+
+    ghost ordered = { λ _ _. refl };
+
+    ghost reads = { reads_address Ipv6 };
+
+    ghost prints = { λ _. refl };
 }
 
 #[tactic(auto, using(crate::proofs::Views::view_laws))]
@@ -68,6 +83,16 @@ impl Cidr for Ipv6Cidr {
     fn contains(&self, addr: &Ipv6Addr) -> bool {
         self.contains(addr)
     }
+
+    ghost equal = { bit_eq_Decides };
+
+    ghost known = { λ _ _ _ h. h };
+
+    ghost ordered = { λ _ _. refl };
+
+    ghost reads = { reads_network Ipv6 };
+
+    ghost prints = { λ _. refl };
 }
 
 #[tactic(auto, using(crate::proofs::Views::view_laws))]
@@ -149,6 +174,16 @@ impl Inet for Ipv6Inet {
     fn contains(&self, addr: &Ipv6Addr) -> bool {
         self.contains(addr)
     }
+
+    ghost equal = { host_eq_Decides };
+
+    ghost known = { λ _ _ _ h. h };
+
+    ghost ordered = { λ _ _. refl };
+
+    ghost reads = { reads_host Ipv6 };
+
+    ghost prints = { λ _. refl };
 }
 
 #[tactic(auto, using(crate::proofs::Views::view_laws))]
@@ -190,4 +225,8 @@ impl InetPair for Ipv6InetPair {
     fn iter(self) -> InetIterator<Ipv6Addr> {
         self.iter()
     }
+
+    ghost equal = { pair_eq_Decides };
+
+    ghost known = { λ _ _ _ h. h };
 }

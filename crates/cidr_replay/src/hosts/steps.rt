@@ -5,10 +5,14 @@ use crate::hosts::Host;
 use crate::line_error::{LineError, Outcome};
 use crate::tokens::Tokens;
 use crate::values::Value;
-use cidr::Ipv4Inet;
+use cidr::{Inet, Ipv4Inet};
 
 /// The steps to a neighbour.
-pub fn answer_single<H: Host>(name: &str, tokens: &mut Tokens<'_>, answer: &mut Answer) -> Outcome {
+pub fn answer_single<H: Inet + Value>(
+    name: &str,
+    tokens: &mut Tokens<'_>,
+    answer: &mut Answer,
+) -> Outcome {
     let mut host = tokens.value::<H>()?;
     match name {
         "next" => answer.value(&host.next()),
@@ -26,7 +30,11 @@ pub fn answer_single<H: Host>(name: &str, tokens: &mut Tokens<'_>, answer: &mut 
 }
 
 /// The steps by a number.
-pub fn answer_many<H: Host>(name: &str, tokens: &mut Tokens<'_>, answer: &mut Answer) -> Outcome {
+pub fn answer_many<H: Inet + Host>(
+    name: &str,
+    tokens: &mut Tokens<'_>,
+    answer: &mut Answer,
+) -> Outcome {
     let host = tokens.value::<H>()?;
     let step = tokens.number::<u128>()?;
     match name {

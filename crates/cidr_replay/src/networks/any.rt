@@ -4,7 +4,7 @@ use crate::answer::Answer;
 use crate::line_error::Outcome;
 use crate::networks::answer_each;
 use crate::tokens::Tokens;
-use cidr::AnyIpCidr;
+use cidr::{AnyIpCidr, IpAddr};
 
 /// Answers the operation on such networks that has this name.
 pub fn answer(name: &str, tokens: &mut Tokens<'_>, answer: &mut Answer) -> Outcome {
@@ -12,6 +12,15 @@ pub fn answer(name: &str, tokens: &mut Tokens<'_>, answer: &mut Answer) -> Outco
         "show" => show(tokens, answer),
         "ends" => ends(tokens, answer),
         "is" => is_any_ipv4_and_ipv6(tokens, answer),
+        "new" => {
+            let address = tokens.value::<IpAddr>()?;
+            answer.value(&AnyIpCidr::new(address, tokens.number()?))
+        }
+        "new_host" => answer.value(&AnyIpCidr::new_host(tokens.value::<IpAddr>()?)),
+        "contains" => {
+            let network = tokens.value::<AnyIpCidr>()?;
+            answer.value(&network.contains(&tokens.value::<IpAddr>()?))
+        }
         _ => answer_each::<AnyIpCidr>(name, tokens, answer),
     }
 }

@@ -1,4 +1,5 @@
-//! What holds of the least cover of some networks, the keys, each as the contract of a function that does nothing.
+//! What holds of the least cover (the minimal aggregate) of some networks, the keys, each as the contract of a
+//! function that does nothing.
 //!
 //! The laws are on lists of bits alone. At 129 bits they are those of each family and of both: that to cover the same
 //! long lists is to hold the same addresses is `covers_are_address_sets`.
@@ -13,13 +14,13 @@ pub fn cover_exists()
     ensures { (w : ℕ) (keys : List (List Bool)) → (cover : List (List Bool)) × IsLeastCover w keys cover }
 {}
 
-/// And no more than one.
+/// A list of networks has one least cover at most.
 pub fn cover_is_unique()
     ensures { (w : ℕ) (keys cover other : List (List Bool)) → IsLeastCover w keys cover → IsLeastCover w keys other
         → cover ≡ other }
 {}
 
-/// It covers exactly what the keys cover.
+/// The least cover covers exactly what the keys cover.
 pub fn cover_is_exact()
     ensures { (w : ℕ) (keys cover : List (List Bool)) → IsLeastCover w keys cover → CoverSame w keys cover }
 {}
@@ -31,7 +32,7 @@ pub fn cover_is_refined_by_others()
         → CoverSame w keys networks → IsRefinement cover networks }
 {}
 
-/// So no list that covers the same is shorter.
+/// No list that covers the same is shorter than the least cover.
 pub fn cover_is_shortest()
     ensures { (w : ℕ) (keys cover networks : List (List Bool)) → IsLeastCover w keys cover → AreNetworks w networks
         → CoverSame w keys networks → length cover ≤ length networks }

@@ -12,18 +12,30 @@ use crate::table::{LpmTable, is_inside};
 use cidr::{BitString, NetworkBits};
 
 impl<C: NetworkBits + Copy, V> LpmTable<C, V> {
-    /// Writes the shortest list of networks that holds the same addresses as the keys into the first places of `out`,
-    /// ascending, and returns how many there are (aggregation, RFC 4632, 4).
+    /// Writes the minimal aggregate of the keys to the first elements of `out`, ascending, and returns how many there
+    /// are: the shortest list of networks that has the same addresses as the keys (aggregation, RFC 4632, 4). The
+    /// proofs call it the least cover.
     ///
-    /// A key inside another is left out, and the two halves of a network become that network, as far up as it goes:
-    /// 10.0.0.0/9, 10.128.0.0/9 and 11.0.0.0/8 become 10.0.0.0/7. Of `AnyIpCidr`, 0.0.0.0/0 and ::/0 become `Any`.
+    /// A key inside another is left out, and the two halves of a network become that network, as far up as it goes. Of
+    /// `AnyIpCidr`, 0.0.0.0/0 and ::/0 become `Any`. The values play no part.
     ///
-    /// The condition is that `out` has at least as many places as there are rows. What is in the places behind the
-    /// list is left open. It takes one pass over the rows and allocates nothing.
+    /// The caller has to prove that `out` has at least as many elements as there are rows. The contract leaves open
+    /// what is in `out` after the list. It takes one pass over the rows and allocates nothing.
+    ///
+    /// ```
+    /// let mut routes = LpmTable::<Ipv4Cidr, u32>::new(rt.alloc());
+    /// routes.insert("10.0.0.0/9".parse()?, 1) // Ok(None)
+    /// routes.insert("10.128.0.0/9".parse()?, 2) // Ok(None)
+    /// let mut networks = ["0.0.0.0/0".parse::<Ipv4Cidr>()?; 2];
+    /// if routes.len() <= 2 {
+    ///     routes.least_cover(&mut networks) // 1
+    /// }
+    /// networks.first() // Some(10.0.0.0/8)
+    /// ```
     pub fn least_cover(&self, out: &mut [C]) -> usize
-        requires room { length self.now ≤ length out.old }
-        ensures fits { result ≤ length self.now }
-        ensures cover { IsLeastCover 129 (map C.bits (keys_of self.now)) (map C.bits (take result out.new)) }
+        requires room { length self.now.rows ≤ length out.old }
+        ensures fits { result ≤ length self.now.rows }
+        ensures cover { IsLeastCover 129 (map C.bits (keys_of self.now.rows)) (map C.bits (take result out.new)) }
     {
         least_cover(self.rows.as_slice(), out)
     }
@@ -31,8 +43,8 @@ impl<C: NetworkBits + Copy, V> LpmTable<C, V> {
 
 /// The least cover of the keys of rows that ascend by them.
 ///
-/// The networks so far stand in `out` as a stack: a key that the last one holds is skipped, any other is put behind it,
-/// and while the last two are the halves of one network, that takes their place. So there are no more merges than keys.
+/// The networks so far stand in `out` as a stack: a key inside the last one is skipped, any other is pushed, and while
+/// the last two are the halves of one network, that replaces them. So there are no more merges than keys.
 fn least_cover<C: NetworkBits + Copy, V>(rows: &[(C, V)], out: &mut [C]) -> usize
     requires sorted { IsStrictlySortedBy C.cmp (keys_of rows.now) }
     requires room { length rows.now ≤ length out.old }
@@ -68,7 +80,7 @@ fn is_covered<C: NetworkBits>(out: &[C], count: usize, key: &C) -> bool
     count > 0 && is_inside(key, &out[count - 1])
 }
 
-/// Puts one network in the place of the last two while they are its halves, and returns how many are left.
+/// Replaces the last two networks by one while they are its halves, and returns how many are left.
 fn merge<C: BitString>(out: &mut [C], count: usize) -> usize
     requires within { count ≤ length out.old }
     requires pushed { IsPushed 129 (map C.bits (take count out.old)) }

@@ -12,22 +12,30 @@ use std::alloc::Global;
 /// Why bytes are not loaded as a table.
 #[derive(Debug, Drop, PartialEq)]
 pub enum LoadError {
-    /// The bytes at the prefix with this place, counted from 0, are refused.
+    /// The prefix at this index, counted from 0, is not parsed.
     Prefix(usize, PrefixBytesError),
     /// An allocation failed.
     NoMemory,
 }
 
 impl<C: PrefixBytes + Copy> LpmTable<C, usize> {
-    /// The table of the prefixes that are written one after the other, each with its place, counted from 0. Of equal
-    /// prefixes the last place counts: 10.0.0.0/8, 11.0.0.0/8, 10.0.0.0/8 are loaded as 10.0.0.0/8 with 2 and
-    /// 11.0.0.0/8 with 1.
+    /// The table of prefixes written one after the other as prefix bytes, each with its index, counted from 0. Of equal
+    /// prefixes the last one's index is kept.
     ///
-    /// Returns the first failure in the order of the bytes: a prefix that is refused, with its place, or an allocation
-    /// that fails. No bytes are the empty table. The rows are allocated as the prefixes are read, and sorted once.
+    /// Returns the first error in the order of the bytes: a prefix that is not parsed, with its index, or an allocation
+    /// that fails. No bytes are the empty table. The rows are allocated as the prefixes are parsed, and sorted once,
+    /// while each `insert` of a new key shifts rows.
+    ///
+    /// ```
+    /// let routes = LpmTable::<Ipv4Cidr, usize>::load(rt.alloc(), &[8, 10, 8, 11, 8, 10])?;
+    /// routes.iter().next() // Some((10.0.0.0/8, 2))
+    /// routes.len() // 2
+    /// let loaded = LpmTable::<Ipv4Cidr, usize>::load(rt.alloc(), &[33]);
+    /// loaded.is_err() // true
+    /// ```
     pub fn load(alloc: Global, bytes: &[u8]) -> Result<Self, LoadError>
         ensures loaded { IsLoaded C.bits C.width bytes.now result }
-        ensures sorted { IfOk result (λ table. IsStrictlySortedBy C.cmp (keys_of table)) }
+        ensures sorted { IfOk result (λ table. IsStrictlySortedBy C.cmp (keys_of table.rows)) }
     {
         let mut rows = read_rows(alloc, bytes)?;
         keep_last(&mut rows);
@@ -35,7 +43,7 @@ impl<C: PrefixBytes + Copy> LpmTable<C, usize> {
     }
 }
 
-/// The prefixes in the order of the bytes, each with its place.
+/// The prefixes in the order of the bytes, each with its index.
 fn read_rows<C: PrefixBytes + Copy>(
     alloc: Global,
     bytes: &[u8],
@@ -59,7 +67,7 @@ fn read_rows<C: PrefixBytes + Copy>(
     Ok(rows)
 }
 
-/// Puts the rows in the order of their keys, and leaves of those of one key the one with the greatest place.
+/// Puts the rows in the order of their keys, and leaves of those of one key the one with the greatest index.
 fn keep_last<C: NetworkBits + Copy>(rows: &mut Vec<(C, usize)>)
     ensures sorted { IsStrictlySortedBy C.cmp (keys_of rows.new.items) }
     ensures last { AreLast rows.old.items rows.new.items }

@@ -5,7 +5,7 @@ use std::env::{Env, FillError};
 use std::io;
 use std::io::{ErrorKind, Write};
 
-/// A system that gives a program's name and texts as arguments, perhaps with one more that is no text.
+/// A system that gives a program's name and strings as arguments, perhaps with one more that is no string.
 #[derive(Clone, Copy)]
 pub struct System<'a> {
     pub name: &'a [u8],
@@ -54,12 +54,12 @@ pub fn with_arguments<'a>(texts: &'a [&'a str]) -> System<'a> {
     }
 }
 
-/// Three texts of one lifetime.
+/// Three strings of one lifetime.
 pub fn three<'a>(first: &'a str, second: &'a str, third: &'a str) -> [&'a str; 3] {
     [first, second, third]
 }
 
-/// A text of one letter, so many times.
+/// A string of one letter, so many times.
 pub fn repeated(alloc: Global, letter: char, times: usize) -> Result<String, AllocError> {
     let mut text = String::new(alloc);
     for _ in 0..times {

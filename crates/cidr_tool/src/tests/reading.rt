@@ -46,6 +46,24 @@ fn an_argument_that_is_no_text_is_usage(rt: HostRuntime) {
     }
 }
 
+/// More arguments than any command has: none of them is left out, and there is memory for all.
+#[test]
+fn too_many_arguments_are_usage(rt: HostRuntime) {
+    try_system(&rt, &with_arguments(&["show"; 20]), "", USAGE, 2);
+    try_system(&rt, &with_arguments(&["192.0.2.48/28"; 300]), "", USAGE, 2);
+}
+
+/// 127 in octal digits, with zeros before it.
+#[test]
+fn an_argument_of_300_bytes_is_read_whole(rt: HostRuntime) -> Result<(), Fail> {
+    let mut text = repeated(rt.alloc(), '0', 295)?;
+    text.push_str("177.1")?;
+    assert_eq!(rt; text.len(), 300);
+    let texts = ["loose", text.as_str()];
+    try_system(&rt, &with_arguments(&texts), "127.0.0.1\n", "", 0);
+    Ok(())
+}
+
 /// A prefix length with 1,000 zeros before it.
 #[test]
 fn a_long_argument_is_read_whole(rt: HostRuntime) -> Result<(), Fail> {

@@ -7,7 +7,7 @@ use Rattle.cidr_uses.proofs.aggregate.has_all.Goals as goal
 pub returns : goal.returns
 returns g c =
     let bits = g.C.BitString.bits in
-    let keys = map bits (keys_of c.args.table.now) in
+    let keys = map bits (keys_of c.args.table.now.rows) in
     let networks = take c.least_cover-count.result c.least_cover-count.new.out in
     let p = bits c.args.network.now in
     let cover = c.least_cover-count.ensures.cover in

@@ -1,6 +1,6 @@
 -- The same texts are printed exactly of networks with the same addresses.
 use Rattle.std.proofs.Common.{◌∙◌}
-use Rattle.cidr_uses.proofs.Agreements.{texts_tell}
+use Rattle.cidr_uses.proofs.Agreements.{texts_tell, printed_alike}
 use Rattle.cidr_uses.proofs.consequences.same_addresses.Goals as goal
 
 pub returns : goal.returns
@@ -14,4 +14,5 @@ returns c =
       other_spelled = c.in-Ok-parse.ensures.value;
       exactly = rw c.eq.ensures (texts_tell _ _ _ _ c.in-Ok.network c.in-Ok-parse.network c.agree-same.result
           c.agree-same.ensures.all c.agree-same.ensures.none c.as_str.result.now c.as_str-2.result.now here there);
+      printed = printed_alike _ _ _ _ c.in-Ok.network c.in-Ok-parse.network c.agree-same.result c.agree-same.ensures.all c.agree-same.ensures.none;
     }

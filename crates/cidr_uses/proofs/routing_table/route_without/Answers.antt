@@ -10,5 +10,7 @@ other_key : {C V : Type 0} (bits : C → List _) (old routes : List (C × V)) (a
 other_key bits old routes asked key h None m = tt
 other_key bits old routes asked key h (Some row) m = ((h row).0 m.there).0
 
-pub returns : goal.returns
-returns g c = other_key g.C.BitString.bits c.args.routes.now c.remove.new.self (g.C.BitString.bits c.args.asked.now) c.args.withdrawn.now c.remove.ensures.after c.route.result c.route.ensures
+pub returns-clause-other : goal.returns-clause-other
+returns-clause-other g c =
+    other_key g.C.BitString.bits c.args.routes.now.rows c.remove.new.self.rows (g.C.BitString.bits c.args.asked.now) c.args.withdrawn.now c.remove.ensures.after
+    c.route.result c.route.ensures

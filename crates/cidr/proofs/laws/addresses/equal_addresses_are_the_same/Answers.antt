@@ -1,6 +1,6 @@
 -- Equal addresses of either family are those of one family with the same bits.
 use Rattle.cidr.specs.model.Bits.{bit_eq, bit_cmp}
-use Rattle.cidr.proofs.EitherEqualities.{bits_told, bits_tied, told_in, tied_in, apart, apart_less, apart_greater}
+use Rattle.cidr.specs.laws.EqualLaws.{bits_told, bits_tied, told_in, tied_in, apart, apart_less, apart_greater}
 use Rattle.cidr.specs.declared.addr.ip.IpAddr.TheVariants.{V4, V6}
 use Rattle.cidr.proofs.laws.addresses.equal_addresses_are_the_same.Goals as goal
 

@@ -1,6 +1,6 @@
 -- Equal hosts of either family are those of one family with the same address and length.
 use Rattle.cidr.specs.model.Host.{host_eq, host_cmp}
-use Rattle.cidr.proofs.EitherEqualities.{hosts_told, hosts_tied, told_in, tied_in, apart, apart_less, apart_greater}
+use Rattle.cidr.specs.laws.EqualLaws.{hosts_told, hosts_tied, told_in, tied_in, apart, apart_less, apart_greater}
 use Rattle.cidr.specs.declared.inet.combined.IpInet.TheVariants.{V4, V6}
 use Rattle.cidr.proofs.laws.hosts.equal_hosts_are_the_same.Goals as goal
 

@@ -1,6 +1,6 @@
 -- Equal pairs of either family are those of one family with the same addresses and length.
 use Rattle.cidr.specs.model.Pair.{pair_eq}
-use Rattle.cidr.proofs.EitherEqualities.{pairs_told, told_in, apart}
+use Rattle.cidr.specs.laws.EqualLaws.{pairs_told, told_in, apart}
 use Rattle.cidr.specs.declared.inet_pair.combined.IpInetPair.TheVariants.{V4, V6}
 use Rattle.cidr.proofs.laws.hosts.equal_pairs_are_the_same.Goals as goal
 

@@ -1,7 +1,7 @@
 -- The same with `Any`.
 use Rattle.std.proofs.Common.{refl}
 use Rattle.cidr.specs.model.Bits.{bit_eq, bit_cmp}
-use Rattle.cidr.proofs.EitherEqualities.{bits_told, bits_tied, told_in, tied_in, apart, apart_less, apart_greater}
+use Rattle.cidr.specs.laws.EqualLaws.{bits_told, bits_tied, told_in, tied_in, apart, apart_less, apart_greater}
 use Rattle.cidr.specs.declared.cidr.any.AnyIpCidr.TheVariants.{Any, V4, V6}
 use Rattle.cidr.proofs.laws.networks.equal_networks_or_any_are_the_same.Goals as goal
 

@@ -1,4 +1,0 @@
-use Rattle.cidr.proofs.addr.print.+decimal_text.Given as goal
-
-abbrev pub decreases-decimal_text : goal.decreases-decimal_text
-decreases-decimal_text l = l.n

@@ -1,0 +1,10 @@
+-- The groups so far are printed.
+use Rattle.std.proofs.Common.{◌≡◌, ◌+◌, ◌*◌, ◌≤◌, ◌∷◌, ◌++◌, length, get_or, take}
+use Rattle.std.specs.Net.Text.{groups_text}
+use Rattle.cidr.proofs.addr.print_v6.push_groups.Given as goal
+
+abbrev pub invariant-loop-group : goal.invariant-loop-group
+invariant-loop-group g l = record {
+  bytes : l.text.bytes ≡ l.fn.text.bytes ++ groups_text (get_or l.groups 0 0 ∷ take l.group-index l.rest);
+  len : length l.text.bytes ≤ length l.fn.text.bytes + 4 + 5 * l.group-index;
+}

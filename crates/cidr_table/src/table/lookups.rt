@@ -1,0 +1,262 @@
+//! Look-ups of the longest match in rows that stay as they are.
+ghost use Rattle.std.specs.Prelude.{◌≡◌, ℕ, ◌-◌, ◌<◌, ◌≤◌, length, slice_index_or, option_copied, IfOk, IsTrue};
+ghost use Rattle.std.specs.List.Sorted.{IsStrictlySortedBy};
+ghost use Rattle.std.specs.Map.{keys_of};
+ghost use Rattle.std.specs.declared.cmp.Ordering.TheVariants.{Less, Greater};
+ghost use Rattle.cidr.specs.model.Network.{BeginsWith};
+ghost use Rattle.cidr_table.specs.Above.{IsReached, AreLinks};
+ghost use Rattle.cidr_table.specs.Prefixes.{IsLookedUp};
+
+use crate::rows::Rows;
+use crate::search::{clipped, search, search_back, search_between};
+use crate::table::{LpmTable, is_inside};
+use cidr::{BitString, NetworkBits};
+use std::alloc::{AllocError, Global};
+use std::marker::Model;
+
+/// The rows of a table, made ready for many look-ups: each takes one search, however many keys contain the look-up key.
+#[derive(Drop)]
+pub struct Lookups<'a, C: NetworkBits + Copy, V> {
+    rows: &'a [(C, V)],
+    /// For each row, how many rows there are up to that of the longest key above its own, or 0 where there is none.
+    above: Vec<usize>,
+    /// For each number of 16 bits, about how many keys begin with a lower one. A look-up tests what it takes from here.
+    starts: Vec<usize>,
+}
+
+impl<'a, C: NetworkBits + Copy, V> Model for Lookups<'a, C, V> {
+    ghost use Rattle.std.specs.Prelude.{◌≡◌, List, length};
+    ghost use Rattle.std.specs.List.Sorted.{IsStrictlySortedBy};
+    ghost use Rattle.std.specs.Map.{keys_of};
+    ghost use Rattle.cidr_table.specs.Above.{AreLinks};
+
+    ghost Value = { List (C × V) };
+
+    ghost view = { λ t. t.rows.now };
+
+    ghost invariant = { λ t. IsStrictlySortedBy C.cmp (keys_of t.rows.now)
+        × (length t.above.items ≡ length t.rows.now)
+        × AreLinks C.bits (keys_of t.rows.now) t.above.items (length t.above.items) };
+}
+
+impl<C: NetworkBits + Copy, V> LpmTable<C, V> {
+    /// The row of the longest key that contains the look-up key, or `None` where none does: the longest match of a
+    /// forwarding table (RFC 1812, 5.2.4.3). An address is looked up as the network of full prefix length. It allocates
+    /// nothing; who looks up many addresses in rows that stay calls `lookups` once.
+    ///
+    /// ```
+    /// routes.lookup(&"10.1.2.3".parse()?) // Some((10.1.0.0/16, 3))
+    /// routes.lookup(&"10.2.0.0/16".parse()?) // Some((10.0.0.0/8, 2))
+    /// ```
+    pub fn lookup(&self, asked: &C) -> Option<&(C, V)>
+        ensures { IsLookedUp C.bits (C.bits asked.now) self.now.rows (option_copied result) }
+    {
+        let rows = self.ascending();
+        let mut end = upto(rows, rows.len(), asked);
+        while end > 0 {
+            let row = &rows[end - 1];
+            if is_inside(asked, &row.0) {
+                return Some(row);
+            }
+            // A key that begins the look-up key begins this one's too: it is no longer than what they share.
+            let shared = asked.shared_prefix_len(&row.0);
+            end = upto_back(rows, end - 1, &clipped(asked, shared));
+        }
+        None
+    }
+
+    /// The rows, made ready for many look-ups. Allocates one number for each row, and from 16,384 rows on 65,537 more.
+    /// The result borrows the table, which cannot change meanwhile.
+    ///
+    /// ```
+    /// let ready = routes.lookups(rt.alloc())?;
+    /// ready.lookup(&"10.1.2.4".parse()?) // Some((10.1.0.0/16, 3))
+    /// ```
+    pub fn lookups(&self, alloc: Global) -> Result<Lookups<'_, C, V>, AllocError>
+        ensures { IfOk result (λ rows. rows ≡ self.now.rows) }
+    {
+        let rows = self.ascending();
+        let mut above = Vec::with_capacity(alloc, rows.len())?;
+        for place in 0..rows.len() {
+            let row = &rows[place];
+            let end = nearest(rows, &above, place, &row.0);
+            above.push(end)?;
+        }
+        let starts = starts_of(alloc, rows)?;
+        Ok(Lookups {
+            rows,
+            above,
+            starts,
+        })
+    }
+}
+
+impl<'a, C: NetworkBits + Copy, V> Lookups<'a, C, V> {
+    /// The row of the longest key that contains the look-up key, or `None` where none does, by one search and a few
+    /// links.
+    ///
+    /// ```
+    /// ready.lookup(&"10.1.2.4".parse()?) // Some((10.1.0.0/16, 3))
+    /// ```
+    pub fn lookup(&self, asked: &C) -> Option<&'a (C, V)>
+        ensures { IsLookedUp C.bits (C.bits asked.now) self.now (option_copied result) }
+    {
+        let place = self.upto(asked);
+        let end = nearest(self.rows, &self.above, place, asked);
+        if end == 0 {
+            None
+        } else {
+            let row = &self.rows[end - 1];
+            Some(row)
+        }
+    }
+
+    /// How many keys there are up to the look-up key in the order.
+    fn upto(&self, asked: &C) -> usize
+        ensures within { result ≤ length self.now }
+        ensures reached { (any : C) →
+            IsReached C.bits (keys_of self.now) any (C.bits asked.now) (length self.now) result }
+    {
+        if self.starts.is_empty() {
+            return upto(self.rows, self.rows.len(), asked);
+        }
+        let first = leading(asked);
+        let from = self.starts.get(first).copied().unwrap_or(0);
+        let to = self
+            .starts
+            .get(first.wrapping_add(1))
+            .copied()
+            .unwrap_or(self.rows.len());
+        upto_near(self.rows, from, to, asked)
+    }
+}
+
+/// How many of the first `end` keys there are up to the look-up key in the order: those that begin its bits are among
+/// them.
+fn upto<C: NetworkBits, V>(rows: &[(C, V)], end: usize, asked: &C) -> usize
+    requires sorted { IsStrictlySortedBy C.cmp (keys_of rows.now) }
+    requires end { end ≤ length rows.now }
+    ensures within { result ≤ end }
+    ensures reached { (any : C) → IsReached C.bits (keys_of rows.now) any (C.bits asked.now) end result }
+{
+    match search(&mut Rows::new(rows), asked, end) {
+        Ok(place) => place + 1,
+        Err(place) => place,
+    }
+}
+
+/// The same, for a look-up key that likely stands near the end.
+fn upto_back<C: NetworkBits, V>(rows: &[(C, V)], end: usize, asked: &C) -> usize
+    requires sorted { IsStrictlySortedBy C.cmp (keys_of rows.now) }
+    requires end { end ≤ length rows.now }
+    ensures within { result ≤ end }
+    ensures reached { (any : C) → IsReached C.bits (keys_of rows.now) any (C.bits asked.now) end result }
+{
+    // Of keys that are spread evenly, about `step` begin with the same bits.
+    let step = rows.len() >> asked.len().min(63);
+    match search_back(&mut Rows::new(rows), asked, end, step, 64) {
+        Ok(place) => place + 1,
+        Err(place) => place,
+    }
+}
+
+/// For each number of 16 bits, how many keys begin with a lower one; for few keys nothing.
+fn starts_of<C: NetworkBits, V>(alloc: Global, rows: &[(C, V)]) -> Result<Vec<usize>, AllocError> {
+    if rows.len() < 16384 {
+        return Ok(Vec::new(alloc));
+    }
+    let mut starts = Vec::with_capacity(alloc, 65537)?;
+    for place in 0..rows.len() {
+        let row = &rows[place];
+        for _ in starts.len()..leading(&row.0).saturating_add(1) {
+            starts.push(place)?;
+        }
+    }
+    for _ in starts.len()..65537 {
+        starts.push(rows.len())?;
+    }
+    Ok(starts)
+}
+
+/// The number that the first 16 bits write, where bits that are missing count as unset.
+fn leading<C: BitString>(key: &C) -> usize {
+    let len = key.len();
+    let mut number: usize = 0;
+    for i in 0..16 {
+        number = number
+            .wrapping_mul(2)
+            .wrapping_add(usize::from(i < len && key.get(i)));
+    }
+    number
+}
+
+/// How many keys there are up to the look-up key in the order, where there are likely at least `from` and at most `to`.
+fn upto_near<C: NetworkBits, V>(rows: &[(C, V)], from: usize, to: usize, asked: &C) -> usize
+    requires sorted { IsStrictlySortedBy C.cmp (keys_of rows.now) }
+    ensures within { result ≤ length rows.now }
+    ensures reached { (any : C) → IsReached C.bits (keys_of rows.now) any (C.bits asked.now) (length rows.now) result }
+{
+    if from > to
+        || to > rows.len()
+        || !are_before(rows, from, asked)
+        || !are_behind(rows, to, asked)
+    {
+        return upto(rows, rows.len(), asked);
+    }
+    match search_between(&mut Rows::new(rows), asked, from, to) {
+        Ok(place) => place + 1,
+        Err(place) => place,
+    }
+}
+
+/// Whether the first `end` keys come before the look-up key.
+fn are_before<C: NetworkBits, V>(rows: &[(C, V)], end: usize, asked: &C) -> bool
+    requires sorted { IsStrictlySortedBy C.cmp (keys_of rows.now) }
+    requires end { end ≤ length rows.now }
+    ensures { IsTrue result → (j : ℕ) → j < end →
+        C.cmp (slice_index_or (keys_of rows.now) j asked.now) asked.now ≡ Less }
+{
+    if end == 0 {
+        return true;
+    }
+    let row = &rows[end - 1];
+    row.0.cmp(asked).is_lt()
+}
+
+/// Whether the keys from `start` on come after the look-up key.
+fn are_behind<C: NetworkBits, V>(rows: &[(C, V)], start: usize, asked: &C) -> bool
+    requires sorted { IsStrictlySortedBy C.cmp (keys_of rows.now) }
+    requires start { start ≤ length rows.now }
+    ensures { IsTrue result → (j : ℕ) → start ≤ j → j < length rows.now →
+        C.cmp (slice_index_or (keys_of rows.now) j asked.now) asked.now ≡ Greater }
+{
+    if start == rows.len() {
+        return true;
+    }
+    let row = &rows[start];
+    row.0.cmp(asked).is_gt()
+}
+
+/// Goes along the chain from the key before `end`, to the first key that begins the look-up key: it stands before
+/// the result. 0 is the end of the chain.
+fn nearest<C: NetworkBits, V>(rows: &[(C, V)], above: &[usize], end: usize, asked: &C) -> usize
+    requires size { length above.now ≤ length rows.now }
+    requires links { AreLinks C.bits (keys_of rows.now) above.now (length above.now) }
+    requires end { end ≤ length above.now }
+    ensures within { result ≤ end }
+    ensures reached { (any : C) → (bound : ℕ) →
+        IsReached C.bits (keys_of rows.now) any (C.bits asked.now) bound end →
+        IsReached C.bits (keys_of rows.now) any (C.bits asked.now) bound result }
+    ensures begins { (any : C) → 0 < result →
+        BeginsWith (C.bits asked.now) (C.bits (slice_index_or (keys_of rows.now) (result - 1) any)) }
+{
+    let mut at = end;
+    while at > 0 {
+        let row = &rows[at - 1];
+        if is_inside(asked, &row.0) {
+            return at;
+        }
+        at = above[at - 1];
+    }
+    0
+}

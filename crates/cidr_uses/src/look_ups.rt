@@ -1,0 +1,47 @@
+//! Look-ups in a table, whose contracts speak of rows, so that a caller needs no proof of its own.
+ghost use Rattle.std.specs.Prelude.{◌≡◌, ◌≤◌, ◌⊎◌, Contains, IfOk, IfSome, length};
+ghost use Rattle.cidr.specs.model.Network.{BeginsWith};
+ghost use Rattle.cidr_table.specs.Prefixes.{IsLookedUp, AreMatching};
+
+use cidr::NetworkBits;
+use cidr_table::LpmTable;
+use std::alloc::{AllocError, Global};
+
+/// The row of the longest match, copied.
+pub fn matched_row<C: NetworkBits + Copy, V: Copy>(
+    routes: &LpmTable<C, V>,
+    asked: &C,
+) -> Option<(C, V)>
+    ensures { IsLookedUp C.bits (C.bits asked.now) routes.now.rows result }
+{
+    routes.lookup(asked).copied()
+}
+
+/// That row, or a default route. No row whose network holds the asked one has a longer prefix.
+pub fn row_or_default<C: NetworkBits + Copy, V: Copy>(
+    routes: &LpmTable<C, V>,
+    asked: &C,
+    default: (C, V),
+) -> (C, V)
+    ensures { ((row : C × V) → Contains routes.now.rows row → BeginsWith (C.bits asked.now) (C.bits row.0)
+        → length (C.bits row.0) ≤ length (C.bits result.0)) ⊎ (result ≡ default) }
+{
+    match routes.lookup(asked) {
+        Some(row) => *row,
+        None => default,
+    }
+}
+
+/// The rows of the longest matches of two networks, for which the table is made ready once.
+pub fn two_rows<C: NetworkBits + Copy, V: Copy>(
+    alloc: Global,
+    routes: &LpmTable<C, V>,
+    one: &C,
+    other: &C,
+) -> Result<(Option<(C, V)>, Option<(C, V)>), AllocError>
+    ensures one { IfOk result (λ rows. IsLookedUp C.bits (C.bits one.now) routes.now.rows rows.0) }
+    ensures other { IfOk result (λ rows. IsLookedUp C.bits (C.bits other.now) routes.now.rows rows.1) }
+{
+    let ready = routes.lookups(alloc)?;
+    Ok((ready.lookup(one).copied(), ready.lookup(other).copied()))
+}

@@ -1,0 +1,100 @@
+//! Routes: the longest match with its value, all routes that cover an address, and the calls that every map has.
+#![tactic(auto)]
+
+use cidr::errors::NetworkParseError;
+use cidr::{AnyIpCidr, IpAddr, IpCidr, Ipv4Cidr, Ipv6Addr};
+use cidr_table::LpmTable;
+use std::alloc::AllocError;
+use std::io;
+
+type Routes = LpmTable<Ipv4Cidr, u32>;
+
+fn main(rt: HostRuntime) -> Result<(), Failure> {
+    let mut routes = Routes::with_capacity(rt.alloc(), 3)?;
+    println!(rt; "{}", routes.capacity())?; // 3
+    routes.set("0.0.0.0/0".parse()?, 1)?;
+    routes.set("10.0.0.0/8".parse()?, 2)?;
+    routes.set("10.1.0.0/16".parse()?, 3)?;
+    look_up(&rt, &routes)?;
+    list(&rt, &routes)?;
+    change(&rt, &mut routes)?;
+    both_families(&rt)
+}
+
+/// The route of an address, and all routes that cover it.
+fn look_up(rt: &HostRuntime, routes: &Routes) -> Result<(), Failure> {
+    println!(rt; "{:?}", routes.lookup(&"10.1.2.3".parse()?))?; // Some((10.1.0.0/16, 3))
+    println!(rt; "{:?}", routes.lookup(&"10.2.0.0/16".parse()?))?; // Some((10.0.0.0/8, 2))
+    println!(rt; "{:?}", routes.lookup(&"192.0.2.1".parse()?))?; // Some((0.0.0.0/0, 1))
+    let ready = routes.lookups(rt.alloc())?;
+    println!(rt; "{:?}", ready.lookup(&"10.1.2.4".parse()?))?; // Some((10.1.0.0/16, 3))
+    let mut covering = routes.matches(&"10.2.0.1".parse()?);
+    println!(rt; "{:?}", covering.next())?; // Some((0.0.0.0/0, 1))
+    println!(rt; "{:?}", covering.next())?; // Some((10.0.0.0/8, 2))
+    println!(rt; "{:?}", covering.next())?; // None
+    Ok(())
+}
+
+/// The rows in the order of their keys.
+fn list(rt: &HostRuntime, routes: &Routes) -> Result<(), Failure> {
+    println!(rt; "{}", routes.contains_key(&"10.0.0.0/8".parse()?))?; // true
+    println!(rt; "{:?}", routes.first_key_value())?; // Some((0.0.0.0/0, 1))
+    println!(rt; "{:?}", routes.last_key_value())?; // Some((10.1.0.0/16, 3))
+    let mut keys = routes.keys();
+    println!(rt; "{:?}", keys.next_back())?; // Some(10.1.0.0/16)
+    let mut values = routes.values();
+    println!(rt; "{:?}", values.next())?; // Some(1)
+    Ok(())
+}
+
+/// Rows that are set and removed.
+fn change(rt: &HostRuntime, routes: &mut Routes) -> Result<(), Failure> {
+    println!(rt; "{:?}", routes.set("10.1.0.0/16".parse()?, 4)?)?; // Some(3)
+    routes.reserve(1)?;
+    println!(rt; "{}", routes.capacity() > 3)?; // true
+    println!(rt; "{}", routes.remove_inside(&"10.0.0.0/8".parse()?))?; // 2
+    routes.retain(|row| row.1 != 1);
+    println!(rt; "{}", routes.len())?; // 0
+    routes.set("192.0.2.0/24".parse()?, 5)?;
+    routes.clear();
+    println!(rt; "{}", routes.is_empty())?; // true
+    Ok(())
+}
+
+/// A table of both families has keys of `AnyIpCidr`, which an `IpCidr` and an address become.
+fn both_families(rt: &HostRuntime) -> Result<(), Failure> {
+    let mut routes = LpmTable::<AnyIpCidr, u32>::new(rt.alloc());
+    routes.set("10.0.0.0/8".parse()?, 1)?;
+    routes.set("2001:db8::/32".parse()?, 2)?;
+    let network = "10.1.0.0/16".parse::<IpCidr>()?;
+    println!(rt; "{:?}", routes.lookup(&AnyIpCidr::from(network)))?; // Some((V4(10.0.0.0/8), 1))
+    let address = IpAddr::V6(Ipv6Addr::new(0x2001, 0xdb8, 0, 0, 0, 0, 0, 1));
+    println!(rt; "{:?}", routes.lookup(&AnyIpCidr::new_host(address)))?; // Some((V6(2001:db8::/32), 2))
+    Ok(())
+}
+
+/// What this program fails by.
+#[derive(Debug, Drop)]
+enum Failure {
+    Network(NetworkParseError),
+    NoMemory,
+    Output(io::Error),
+}
+
+impl From<NetworkParseError> for Failure {
+    fn from(error: NetworkParseError) -> Failure {
+        Failure::Network(error)
+    }
+}
+
+impl From<AllocError> for Failure {
+    fn from(_error: AllocError) -> Failure {
+        Failure::NoMemory
+    }
+}
+
+impl From<io::Error> for Failure {
+    fn from(error: io::Error) -> Failure {
+        Failure::Output(error)
+    }
+}

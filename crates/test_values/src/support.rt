@@ -1,0 +1,44 @@
+//! What the tests share.
+use cidr::{IpInet, IpInetPair};
+use std::alloc::Global;
+use std::fmt::{Debug, Display};
+use std::process::Abort;
+use std::str::FromStr;
+
+/// The value of a string.
+pub fn read<V: FromStr>(rt: &impl Abort, text: &str) -> V
+where
+    V::Err: Drop,
+{
+    text.parse::<V>().ok().expect(rt, text)
+}
+
+/// Whether `Display` prints this.
+pub fn displays<D: Display>(alloc: Global, value: &D, text: &str) -> bool {
+    match format!(in alloc; "{value}") {
+        Ok(printed) => printed.as_str() == text,
+        Err(_) => false,
+    }
+}
+
+/// Whether `Debug` prints this.
+pub fn debugs<D: Debug>(alloc: Global, value: &D, text: &str) -> bool {
+    match format!(in alloc; "{value:?}") {
+        Ok(printed) => printed.as_str() == text,
+        Err(_) => false,
+    }
+}
+
+/// Whether what `Debug` prints begins so.
+pub fn debug_begins<D: Debug>(alloc: Global, value: &D, beginning: &str) -> bool {
+    match format!(in alloc; "{value:?}") {
+        Ok(printed) => printed.as_str().starts_with(beginning),
+        Err(_) => false,
+    }
+}
+
+/// The pair of two hosts.
+pub fn pair(rt: &impl Abort, first: &str, second: &str) -> IpInetPair {
+    let (first, second) = (read::<IpInet>(rt, first), read::<IpInet>(rt, second));
+    IpInetPair::new(first, second).ok().expect(rt, "a pair")
+}
