@@ -11,7 +11,7 @@ use Rattle.cidr.specs.texts.Parsing.{strict_network, MadeBy, MadeAlone, ReadsSla
 use Rattle.cidr.specs.texts.Refusal.{Lacks, CutsAtLastSlash}
 use Rattle.cidr.proofs.EitherReading.{ip_no_address, ip_slashed_read, any_refused}
 use Rattle.cidr.proofs.Views.{seen_injective}
-use Rattle.cidr.specs.declared.addr.error.AddrParseError.{AddrParseError}
+use Rattle.cidr.specs.model.Errors.{AddressError}
 use Rattle.cidr.specs.declared.addr.ip.IpAddr.{IpAddr}
 use Rattle.cidr.specs.declared.addr.ip.IpAddr.TheVariants as address
 use Rattle.cidr.specs.declared.cidr.any.AnyIpCidr.{AnyIpCidr}
@@ -71,15 +71,15 @@ any_of_read text (Ok (V4 p)) other h = h
 any_of_read text (Ok (V6 p)) other h = h
 any_of_read text (Err e) other h = any_refused text e other h
 
-module _ (Asked : List ℕ → Result IpAddr AddrParseError → Type 0)
-    (known : (text : List ℕ) (returned : Result IpAddr AddrParseError) → Asked text returned → Reads IsIpText ip_error text returned) (text : List ℕ) where
-  whole_read : (returned : Result IpAddr AddrParseError) (r : Result IpCidr NetworkParseError) → Lacks 47 text → Asked text returned
+module _ (Asked : List ℕ → Result IpAddr AddressError → Type 0)
+    (known : (text : List ℕ) (returned : Result IpAddr AddressError) → Asked text returned → Reads IsIpText ip_error text returned) (text : List ℕ) where
+  whole_read : (returned : Result IpAddr AddressError) (r : Result IpCidr NetworkParseError) → Lacks 47 text → Asked text returned
       → MadeAlone located shown (λ a. a) returned r → ReadsIpNetwork text r
   whole_read (Ok a) r lacks asked h = rw (same_result r (Ok (lone_network a)) (h ∙ sym (ap Ok (shown_lone a)))) (lone_spelled text a (known text (Ok a) asked))
   whole_read (Err x) r lacks asked h =
       rw (same_result r (Err (parse_error.AddrParseError x)) h) (ip_no_address text text x (inl (lacks, refl)) (known text (Err x) asked))
 
-  pub slashed_read : (front back : List ℕ) (returned : Result IpAddr AddrParseError) (r : Result IpCidr NetworkParseError) → CutsAtLastSlash text front back → Asked front returned
+  pub slashed_read : (front back : List ℕ) (returned : Result IpAddr AddressError) (r : Result IpCidr NetworkParseError) → CutsAtLastSlash text front back → Asked front returned
       → ReadsSlashed (MadeBy located shown strict_network) returned back r → ReadsIpNetwork text r
   slashed_read front back returned r cut asked =
       ip_slashed_read (MadeBy located shown strict_network) text front back returned r

@@ -19,14 +19,14 @@ use Rattle.cidr.proofs.Cuts.{not_lacking, one_cut}
 use Rattle.cidr.proofs.EitherAddresses.{one_family}
 use Rattle.cidr.proofs.NetworkReading.{ReadsNetworkAs, ReadsHostAs, reads_no_length, reads_new, host_no_length, host_too_long}
 use Rattle.cidr.proofs.NetworkTexts.{whole_not_cut, same_cut, some_host, refused_none, refused_no_host}
-use Rattle.cidr.specs.declared.addr.error.AddrParseError.{AddrParseError}
+use Rattle.cidr.specs.model.Errors.{AddressError}
 use Rattle.cidr.specs.declared.addr.ip.IpAddr.{IpAddr}
 use Rattle.cidr.specs.declared.addr.ip.IpAddr.TheVariants as address
 use Rattle.cidr.specs.declared.cidr.any.AnyIpCidr.{AnyIpCidr}
 use Rattle.cidr.specs.declared.cidr.any.AnyIpCidr.TheVariants as any_network
 use Rattle.cidr.specs.declared.cidr.combined.IpCidr.{IpCidr}
 use Rattle.cidr.specs.declared.cidr.combined.IpCidr.TheVariants.{V4, V6}
-use Rattle.cidr.specs.declared.errors.NetworkLengthTooLongError.{NetworkLengthTooLongError}
+use Rattle.cidr.specs.model.Errors.{LengthError}
 use Rattle.cidr.specs.declared.errors.NetworkParseError.{NetworkParseError}
 use Rattle.cidr.specs.declared.errors.NetworkParseError.TheVariants as parse_error
 use Rattle.cidr.specs.declared.errors.ParseIntError.{ParseIntError}
@@ -45,7 +45,7 @@ host_text_of text (host.V4 h) k = k
 host_text_of text (host.V6 h) k = k
 
 -- an error other than the address's is that of the address's family
-refused_in : (family : Family) (text : List ℕ) (e : NetworkParseError) → IsRefused family ip_error text e → ((a : AddrParseError) → e ≢ parse_error.AddrParseError a) → IsIpRefused text e
+refused_in : (family : Family) (text : List ℕ) (e : NetworkParseError) → IsRefused family ip_error text e → ((a : AddressError) → e ≢ parse_error.AddrParseError a) → IsIpRefused text e
 refused_in family text (parse_error.AddrParseError a) h other = absurd (other a refl)
 refused_in family text (parse_error.NetworkLengthParseError a) h other = (family, h)
 refused_in family text (parse_error.NetworkLengthTooLongError a) h other = (family, h)
@@ -58,7 +58,7 @@ module _ (text front back : List ℕ) (family : Family) (a : List Bool) (cut : C
   same_family other host (inr s) =
       one_family front other family host.address a (subst (λ t. IsAddressText other t host.address) (sym (same_cut other text front back host s cut).0) s.front_text) h
 
-  address_found : (e : AddrParseError) → ¬ (IsRefused family ip_error text (parse_error.AddrParseError e))
+  address_found : (e : AddressError) → ¬ (IsRefused family ip_error text (parse_error.AddrParseError e))
   address_found e (_, part, inl (lacks, same), none) = not_lacking 47 front back (subst (Lacks 47) cut.0 lacks)
   address_found e (_, part, inr (behind, other), none) =
       let same = one_cut 47 front back part behind (sym cut.0 ∙ other.0) cut.1 other.1 in
@@ -89,12 +89,12 @@ module _ (text front back : List ℕ) (family : Family) (a : List Bool) (cut : C
 
 -- ---- the exits of the readers
 -- neither family has an address there
-refused_address : (text part : List ℕ) (e : AddrParseError) → IsAddressPart text part → Reads IsIpText ip_error part (Err e)
+refused_address : (text part : List ℕ) (e : AddressError) → IsAddressPart text part → Reads IsIpText ip_error part (Err e)
     → (family : Family) → IsRefused family ip_error text (parse_error.AddrParseError e)
 refused_address text part e is h Ipv4 = (h.0, part, is, λ a. h.1 (address.V4 a))
 refused_address text part e is h Ipv6 = (h.0, part, is, λ a. h.1 (address.V6 a))
 
-pub ip_no_address : (text part : List ℕ) (e : AddrParseError) → IsAddressPart text part → Reads IsIpText ip_error part (Err e) → ReadsIpNetwork text (Err (parse_error.AddrParseError e))
+pub ip_no_address : (text part : List ℕ) (e : AddressError) → IsAddressPart text part → Reads IsIpText ip_error part (Err e) → ReadsIpNetwork text (Err (parse_error.AddrParseError e))
 ip_no_address text part e is h =
     let refused = refused_address text part e is h in
     (refused, λ n t. refused_none (network_family n) ip_error text (parse_error.AddrParseError e) (network_prefix n) (refused (network_family n)) (network_text_of text n t))
@@ -118,13 +118,13 @@ MakesIpNetwork a n r = r ≡ ip_network_from a n
 
 -- a text with a slash, by what reading the part before it gave
 pub ip_slashed_read : (Makes : IpAddr → ℕ → Result IpCidr NetworkParseError → Type 0) (text front back : List ℕ)
-    (returned : Result IpAddr AddrParseError) (r : Result IpCidr NetworkParseError) → ((a : IpAddr) (n : ℕ) → Makes a n r → MakesIpNetwork a n r)
+    (returned : Result IpAddr AddressError) (r : Result IpCidr NetworkParseError) → ((a : IpAddr) (n : ℕ) → Makes a n r → MakesIpNetwork a n r)
     → CutsAtLastSlash text front back → Reads IsIpText ip_error front returned → ReadsSlashed Makes returned back r → ReadsIpNetwork text r
 ip_slashed_read Makes text front back (Err x) r made cut known h = rw h (ip_no_address text front x (inr (back, cut)) known)
 ip_slashed_read Makes text front back (Ok a) r made cut known (inl (n, l, h)) = rw (made a n h) (ip_reads_new text front back a n cut known l)
 ip_slashed_read Makes text front back (Ok a) r made cut known (inr (none, h)) = rw h (ip_no_length text front back a (record {}) cut known (refl, none))
 
-pub ip_host_no_address : (text part : List ℕ) (e : AddrParseError) → IsAddressPart text part → Reads IsIpText ip_error part (Err e) → ReadsIpHost text (Err (parse_error.AddrParseError e))
+pub ip_host_no_address : (text part : List ℕ) (e : AddressError) → IsAddressPart text part → Reads IsIpText ip_error part (Err e) → ReadsIpHost text (Err (parse_error.AddrParseError e))
 ip_host_no_address text part e is h =
     let refused = refused_address text part e is h in
     ((refused, λ x. cc), λ h t. refused_no_host (host_family h) ip_error text (parse_error.AddrParseError e) (host_parts h) (refused (host_family h), λ x. cc) (host_text_of text h t))
@@ -140,7 +140,7 @@ same_refusal : {N V E : Type 0} (view : N → V) (r : Result N E) (e : E) → se
 same_refusal view (Ok x) e h = absurd (cc)
 same_refusal view (Err d) e h = cc
 
-pub ip_host_too_long : (text front back : List ℕ) (a : IpAddr) (n : ℕ) (e : NetworkLengthTooLongError) → CutsAtLastSlash text front back
+pub ip_host_too_long : (text front back : List ℕ) (a : IpAddr) (n : ℕ) (e : LengthError) → CutsAtLastSlash text front back
     → IsIpText front a → IsLengthText back n → ip_host_from a n ≡ Err e → ReadsIpHost text (Err (parse_error.NetworkLengthTooLongError e))
 ip_host_too_long text front back (address.V4 a) n e cut h l refused =
     let same = same_refusal host.V4 (host_from Ipv4 a n) e refused in

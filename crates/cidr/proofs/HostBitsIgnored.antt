@@ -7,7 +7,7 @@ use Rattle.cidr.specs.model.Views.{seen}
 use Rattle.cidr.specs.texts.Parsing.{ReadsSlashed, MadeBy, MendsHostPart, strict_network, holding_network}
 use Rattle.cidr.proofs.Cuts.{one_length}
 use Rattle.cidr.proofs.Views.{seen-itself}
-use Rattle.cidr.specs.declared.addr.error.AddrParseError.{AddrParseError}
+use Rattle.cidr.specs.model.Errors.{AddressError}
 use Rattle.cidr.specs.declared.errors.NetworkParseError.{NetworkParseError}
 use Rattle.cidr.specs.declared.errors.NetworkParseError.TheVariants as parse_error
 use Rattle.cidr.specs.declared.family.Family.{Family}
@@ -23,7 +23,7 @@ mends_new a n =
     ]
 
 module _ (back : List ℕ) (strict mended : Result (Family × List Bool) NetworkParseError) where
-  pub mends : (returned : Result (Family × List Bool) AddrParseError) → ReadsSlashed (MadeBy (λ a. a) (λ n. n) strict_network) returned back strict
+  pub mends : (returned : Result (Family × List Bool) AddressError) → ReadsSlashed (MadeBy (λ a. a) (λ n. n) strict_network) returned back strict
       → ReadsSlashed (MadeBy (λ a. a) (λ n. n) holding_network) returned back mended → MendsHostPart strict mended
   mends (Err x) h k = rw (h, k) refl
   mends (Ok a) (inl (n, l, h)) (inl (m, s, k)) =

@@ -6,7 +6,7 @@ use Rattle.cidr.specs.texts.AddressText.{IsAddressText}
 use Rattle.cidr.specs.texts.NetworkText.{slash, IsLengthText, IsSlashed, IsNetworkText}
 use Rattle.cidr.specs.texts.Refusal.{Lacks, CutsAtLastSlash, HasAddress, IsRefused, ReadsNetwork}
 use Rattle.cidr.specs.texts.HostText.{IsSlashedHost, IsHostText, IsHostRefused}
-use Rattle.cidr.specs.declared.addr.error.AddrParseError.{AddrParseError}
+use Rattle.cidr.specs.model.Errors.{AddressError}
 use Rattle.cidr.specs.declared.errors.NetworkParseError.{NetworkParseError}
 use Rattle.cidr.specs.declared.errors.NetworkParseError.TheVariants as parse_error
 use Rattle.cidr.specs.declared.family.Family.{Family}
@@ -44,7 +44,7 @@ module _ (family : Family) where
       one_length s.back n host.len (subst (λ t. IsLengthText t n) (same_address text back a host h s).1 l) s.back_text
 
   -- a text that is refused for another fault than its host part spells no host
-  pub refused_no_host : (error : AddrParseError) (text : List ℕ) (e : NetworkParseError) (host : Host) → IsHostRefused family error text e → ¬ (IsHostText family text host)
+  pub refused_no_host : (error : AddressError) (text : List ℕ) (e : NetworkParseError) (host : Host) → IsHostRefused family error text e → ¬ (IsHostText family text host)
   refused_no_host error text (parse_error.AddrParseError e) host ((_, part, inl (lacks, same), none), _) (inl whole) = none host.address (rw same whole.0)
   refused_no_host error text (parse_error.AddrParseError e) host ((_, part, inl (lacks, same), none), _) (inr s) =
       not_lacking slash s.front s.back (subst (Lacks slash) s.spelled lacks)
@@ -82,7 +82,7 @@ module _ (family : Family) where
   some_host text p (inr s) = (record { address = s.address; len = s.len }, inr (as_host text p s))
 
   -- a refused text spells no network
-  pub refused_none : (error : AddrParseError) (text : List ℕ) (e : NetworkParseError) (p : List Bool) → IsRefused family error text e → ¬ (IsNetworkText family text p)
+  pub refused_none : (error : AddressError) (text : List ℕ) (e : NetworkParseError) (p : List Bool) → IsRefused family error text e → ¬ (IsNetworkText family text p)
   refused_none error text (parse_error.AddrParseError e) p r k =
       let (host, t) = some_host text p k in refused_no_host error text (parse_error.AddrParseError e) host (r, λ x. cc) t
   refused_none error text (parse_error.NetworkLengthParseError e) p r k =

@@ -4,7 +4,7 @@ use Rattle.cidr.specs.texts.NetworkText.{IsLengthText}
 use Rattle.cidr.specs.model.Views.{seen, in_family}
 use Rattle.cidr.specs.texts.Parsing.{ReadsSlashed, ReadsCut}
 use Rattle.cidr.specs.internal.Reading.{AreParts}
-use Rattle.cidr.specs.declared.addr.error.AddrParseError.{AddrParseError}
+use Rattle.cidr.specs.model.Errors.{AddressError}
 use Rattle.cidr.specs.declared.errors.NetworkParseError.{NetworkParseError}
 use Rattle.cidr.specs.declared.errors.NetworkParseError.TheVariants as parse_error
 use Rattle.cidr.specs.declared.family.Family.{Family}
@@ -24,19 +24,19 @@ module _ {A : Type 0} (parts : Result (A × ℕ) NetworkParseError) where
   not_both e p h k = absurd (cc)
 
   module _ {R : Type 0} (Makes : A → ℕ → Result R NetworkParseError → Type 0) where
-    pub refused_follows : (returned : Result A AddrParseError) (back : List ℕ) (e : NetworkParseError) → parts ≡ Err e → ReadsSlashed AreParts returned back parts
+    pub refused_follows : (returned : Result A AddressError) (back : List ℕ) (e : NetworkParseError) → parts ≡ Err e → ReadsSlashed AreParts returned back parts
         → ReadsSlashed Makes returned back (Err e)
     refused_follows (Err x) back e is h = same_error e (parse_error.AddrParseError x) is h
     refused_follows (Ok a) back e is (inl (n, l, h)) = not_both e (a, n) is h
     refused_follows (Ok a) back e is (inr (none, h)) = inr (none, same_error e (parse_error.NetworkLengthParseError (record {})) is h)
 
-    pub made_follows : (returned : Result A AddrParseError) (back : List ℕ) (p : A × ℕ) (r : Result R NetworkParseError) → parts ≡ Ok p → Makes p.0 p.1 r
+    pub made_follows : (returned : Result A AddressError) (back : List ℕ) (p : A × ℕ) (r : Result R NetworkParseError) → parts ≡ Ok p → Makes p.0 p.1 r
         → ReadsSlashed AreParts returned back parts → ReadsSlashed Makes returned back r
     made_follows (Err x) back p r is made h = not_both (parse_error.AddrParseError x) p h is
     made_follows (Ok b) back p r is made (inl (m, l, h)) = inl (m, l, subst (λ q. Makes q.0 q.1 r) (same_parts p (b, m) is h) made)
     made_follows (Ok b) back p r is made (inr (none, h)) = not_both (parse_error.NetworkLengthParseError (record {})) p h is
 
-  module _ {Asked : List ℕ → Result A AddrParseError → Type 0} (text : List ℕ) (h : ReadsCut Asked AreParts text parts) where
+  module _ {Asked : List ℕ → Result A AddressError → Type 0} (text : List ℕ) (h : ReadsCut Asked AreParts text parts) where
     pub cut_refused : {R : Type 0} (Makes : A → ℕ → Result R NetworkParseError → Type 0) (e : NetworkParseError) → parts ≡ Err e → ReadsCut Asked Makes text (Err e)
     cut_refused Makes e is = record {
       front = h.front;
@@ -59,9 +59,9 @@ module _ {A : Type 0} (parts : Result (A × ℕ) NetworkParseError) where
     }
 
 -- the part was asked for in another way too
-pub asked_as : {A R : Type 0} {Asked Known : List ℕ → Result A AddrParseError → Type 0} {Makes : A → ℕ → Result R NetworkParseError → Type 0}
+pub asked_as : {A R : Type 0} {Asked Known : List ℕ → Result A AddressError → Type 0} {Makes : A → ℕ → Result R NetworkParseError → Type 0}
     {text : List ℕ} {r : Result R NetworkParseError}
-    → ((front : List ℕ) (returned : Result A AddrParseError) → Asked front returned → Known front returned) → ReadsCut Asked Makes text r → ReadsCut Known Makes text r
+    → ((front : List ℕ) (returned : Result A AddressError) → Asked front returned → Known front returned) → ReadsCut Asked Makes text r → ReadsCut Known Makes text r
 asked_as known h = record {
   front = h.front;
   back = h.back;
@@ -72,7 +72,7 @@ asked_as known h = record {
 }
 
 -- ---- what an address and a length text gave
-pub both_read : {A : Type 0} (returned : Result A AddrParseError) (back : List ℕ) (p : A × ℕ) → ReadsSlashed AreParts returned back (Ok p) → (returned ≡ Ok p.0) × IsLengthText back p.1
+pub both_read : {A : Type 0} (returned : Result A AddressError) (back : List ℕ) (p : A × ℕ) → ReadsSlashed AreParts returned back (Ok p) → (returned ≡ Ok p.0) × IsLengthText back p.1
 both_read (Err x) back p h = not_both (Ok p) (parse_error.AddrParseError x) p h refl
 both_read (Ok b) back p (inl (m, l, h)) =
     let same = same_parts (Ok p) (b, m) p h refl in
@@ -80,10 +80,10 @@ both_read (Ok b) back p (inl (m, l, h)) =
 both_read (Ok b) back p (inr (none, h)) = not_both (Ok p) (parse_error.NetworkLengthParseError (record {})) p h refl
 
 -- the address's error, or that of the length text
-module _ {A : Type 0} (Known : Result A AddrParseError → Type 0) (P : NetworkParseError → Type 0) (back : List ℕ)
-    (no_address : (x : AddrParseError) → Known (Err x) → P (parse_error.AddrParseError x))
+module _ {A : Type 0} (Known : Result A AddressError → Type 0) (P : NetworkParseError → Type 0) (back : List ℕ)
+    (no_address : (x : AddressError) → Known (Err x) → P (parse_error.AddrParseError x))
     (no_length : (a : A) → Known (Ok a) → ((n : ℕ) → ¬ (IsLengthText back n)) → P (parse_error.NetworkLengthParseError (record {}))) where
-  pub by_part_error : (returned : Result A AddrParseError) (e : NetworkParseError) → Known returned → ReadsSlashed AreParts returned back (Err e) → P e
+  pub by_part_error : (returned : Result A AddressError) (e : NetworkParseError) → Known returned → ReadsSlashed AreParts returned back (Err e) → P e
   by_part_error (Err x) e known h = subst P (error_is {A = A} (Err e) (parse_error.AddrParseError x) e h refl) (no_address x known)
   by_part_error (Ok b) e known (inl (m, l, h)) = not_both (Err e) e (b, m) refl h
   by_part_error (Ok b) e known (inr (none, h)) =

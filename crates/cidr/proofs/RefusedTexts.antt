@@ -11,7 +11,7 @@ use Rattle.cidr.specs.texts.Refusal.{Lacks, CutsAtLastSlash, IsAddressPart, HasA
 use Rattle.cidr.proofs.Cuts.{not_lacking, one_cut, one_length}
 use Rattle.cidr.proofs.EitherAddresses.{one_family}
 use Rattle.cidr.proofs.NetworkTexts.{address_grammar}
-use Rattle.cidr.specs.declared.addr.error.AddrParseError.{AddrParseError}
+use Rattle.cidr.specs.model.Errors.{AddressError}
 use Rattle.cidr.specs.declared.errors.NetworkParseError.{NetworkParseError}
 use Rattle.cidr.specs.declared.errors.NetworkParseError.TheVariants as parse_error
 use Rattle.cidr.specs.declared.family.Family.{Family}
@@ -47,7 +47,7 @@ module _ (family : Family) (text : List ℕ) where
       → width_of family < m → n ≤ width_of family → ⊥
   over_and_within b d x y m n h k l s over within = let same = same_length b d x y m n h k l s in omega arith
 
-  module _ (error : AddrParseError) where
+  module _ (error : AddressError) where
     pub one_refusal : (d e : NetworkParseError) → IsRefused family error text d → IsRefused family error text e → d ≡ e
     one_refusal (parse_error.AddrParseError d) (parse_error.AddrParseError e) h k = ap parse_error.AddrParseError (h.0 ∙ sym k.0)
     one_refusal (parse_error.AddrParseError d) (parse_error.NetworkLengthParseError e) (_, part, is, none) (b, x, k, _) = absurd (part_is_address b part x k is none)
@@ -71,15 +71,15 @@ module _ (family : Family) (text : List ℕ) where
 
 -- ---- either family
 -- an error that is not the address's comes after an address of its family
-has_address : (family : Family) (text : List ℕ) (e : NetworkParseError) → ((x : AddrParseError) → e ≢ parse_error.AddrParseError x)
+has_address : (family : Family) (text : List ℕ) (e : NetworkParseError) → ((x : AddressError) → e ≢ parse_error.AddrParseError x)
     → IsRefused family ip_error text e → (b : List ℕ) × (x : List Bool) × HasAddress family text b x
 has_address family text (parse_error.AddrParseError e) other h = absurd (other e refl)
 has_address family text (parse_error.NetworkLengthParseError e) other (b, x, h, _) = (b, x, h)
 has_address family text (parse_error.NetworkLengthTooLongError e) other (b, x, n, h, _, _, _) = (b, x, h)
 has_address family text parse_error.InvalidHostPart other (b, x, n, h, _, _, _) = (b, x, h)
 
-in_two_families : (text : List ℕ) (f g : Family) (d e : NetworkParseError) → ((x : AddrParseError) → d ≢ parse_error.AddrParseError x)
-    → ((x : AddrParseError) → e ≢ parse_error.AddrParseError x) → IsRefused f ip_error text d → IsRefused g ip_error text e → d ≡ e
+in_two_families : (text : List ℕ) (f g : Family) (d e : NetworkParseError) → ((x : AddressError) → d ≢ parse_error.AddrParseError x)
+    → ((x : AddressError) → e ≢ parse_error.AddrParseError x) → IsRefused f ip_error text d → IsRefused g ip_error text e → d ≡ e
 in_two_families text f g d e other another h k =
     let (b, x, at) = has_address f text d other h in
     let (c, y, also) = has_address g text e another k in

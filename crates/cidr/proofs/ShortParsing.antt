@@ -14,7 +14,7 @@ use Rattle.cidr.specs.texts.ShortText.{IsShortIpText, ReadsShort}
 use Rattle.cidr.proofs.EitherParsing.{slashed_read}
 use Rattle.cidr.proofs.NetworkReading.{network_slashed_read}
 use Rattle.cidr.proofs.Views.{seen-itself, seen_injective}
-use Rattle.cidr.specs.declared.addr.error.AddrParseError.{AddrParseError}
+use Rattle.cidr.specs.model.Errors.{AddressError}
 use Rattle.cidr.specs.declared.addr.ip.IpAddr.{IpAddr}
 use Rattle.cidr.specs.declared.cidr.combined.IpCidr.{IpCidr}
 use Rattle.cidr.specs.declared.errors.NetworkParseError.{NetworkParseError}
@@ -28,7 +28,7 @@ in_ipv4 p = (Ipv4, p)
 same_bits : (r s : Result (List Bool) NetworkParseError) → seen in_ipv4 r ≡ seen in_ipv4 s → r ≡ s
 same_bits = seen_injective in_ipv4 (λ p q h. ap (λ x. x.1) h)
 
-pub ipv4_slashed_read : (text front back : List ℕ) (returned : Result (List Bool) AddrParseError) (r : Result (List Bool) NetworkParseError)
+pub ipv4_slashed_read : (text front back : List ℕ) (returned : Result (List Bool) AddressError) (r : Result (List Bool) NetworkParseError)
     → CutsAtLastSlash text front back → Reads (IsAddressText Ipv4) ipv4_error front returned
     → ReadsSlashed (MadeBy in_ipv4 in_ipv4 strict_network) returned back r → ReadsNetwork Ipv4 text r
 ipv4_slashed_read text front back returned r cut known =
@@ -40,10 +40,10 @@ ipv4_slashed_read text front back returned r cut known =
 abbrev CalledAt : {R : Type 0} → (List ℕ → R → Type 0) → List ℕ → R → Type 0
 CalledAt Gives text r = (p : Bor (List ℕ)) × Gives p.now r × (p.now ≡ text)
 
-pub short_ip_read : {Asked : List ℕ → Result IpAddr AddrParseError → Type 0} {Whole : List ℕ → Result IpCidr NetworkParseError → Type 0}
+pub short_ip_read : {Asked : List ℕ → Result IpAddr AddressError → Type 0} {Whole : List ℕ → Result IpCidr NetworkParseError → Type 0}
     (text : List ℕ) (r : Result IpCidr NetworkParseError)
     → ReadsAround Asked (MadeBy (in_family address_family plain_bits) (in_family network_family network_prefix) strict_network) Whole text r
-    → ((text : List ℕ) (returned : Result IpAddr AddrParseError) → Asked text returned → CalledAt (Reads IsIpText ip_error) text returned)
+    → ((text : List ℕ) (returned : Result IpAddr AddressError) → Asked text returned → CalledAt (Reads IsIpText ip_error) text returned)
     → ((text : List ℕ) (r : Result IpCidr NetworkParseError) → Whole text r → CalledAt (Reads IsShortIpText (parse_error.AddrParseError ip_error)) text r)
     → ReadsShort (Reads IsShortIpText (parse_error.AddrParseError ip_error)) ReadsIpNetwork text r
 short_ip_read text r (inl (lacks, h)) asked whole =

@@ -2,7 +2,7 @@
 use Rattle.std.proofs.Common.{◌≡◌, ℕ, ◌<◌, ◌≤◌, Bool, List, Result, Ok, Err, refl, sym, ap, ◌∙◌, inl, inr}
 use Rattle.std.proofs.lemmas.Bool.{cases_lt, lt-ltb, le-ltb}
 use Rattle.cidr.specs.either.IpAddress.{IsIpText, address_family, plain_bits}
-use Rattle.cidr.specs.either.IpHost.{host_family, host_parts, lone_ip_host, ip_host_from}
+use Rattle.cidr.specs.either.IpHost.{host_family, host_parts, lone_ip_host}
 use Rattle.cidr.specs.either.IpText.{ReadsIpHost}
 use Rattle.cidr.specs.model.Host.{Host, lone_host, host_from, host_of}
 use Rattle.cidr.specs.model.Network.{width_of, network_from, too_long}
@@ -17,7 +17,7 @@ use Rattle.cidr.specs.texts.Results.{ParsesAround}
 use Rattle.cidr.proofs.EitherReading.{ip_host_no_address, ip_host_no_length, ip_host_too_long}
 use Rattle.cidr.proofs.NetworkReading.{reads_no_address, network_slashed_read, host_no_address, host_no_front, host_no_length, host_too_long}
 use Rattle.cidr.proofs.Views.{seen-itself, seen_injective}
-use Rattle.cidr.specs.declared.addr.error.AddrParseError.{AddrParseError}
+use Rattle.cidr.specs.model.Errors.{AddressError}
 use Rattle.cidr.specs.declared.addr.ip.IpAddr.{IpAddr}
 use Rattle.cidr.specs.declared.addr.ip.IpAddr.TheVariants as address
 use Rattle.cidr.specs.declared.errors.NetworkParseError.{NetworkParseError}
@@ -51,22 +51,22 @@ module _ (family : Family) where
               rw (same_result r (Ok (host_of a n)) (e ∙ made)) (inr (record { front = front; back = back; spelled = cut.0; front_text = h; back_text = l; fits = within }))
         ]
 
-    host_slashed : (returned : Result (List Bool) AddrParseError) (r : Result Host NetworkParseError) → Reads (IsAddressText family) (address_error family) front returned
+    host_slashed : (returned : Result (List Bool) AddressError) (r : Result Host NetworkParseError) → Reads (IsAddressText family) (address_error family) front returned
         → ReadsSlashed (MadeBy shown shown made_host) returned back r → ReadsHost family text r
     host_slashed (Err x) r known h = rw h (host_no_front family (address_error family) text front back x cut known)
     host_slashed (Ok a) r known (inl (n, l, h)) = host_made a n r known l h
     host_slashed (Ok a) r known (inr (none, h)) = rw h (host_no_length family (address_error family) text front back a (record {}) cut known (refl, none))
 
-    network_slashed : (returned : Result (List Bool) AddrParseError) (r : Result (List Bool) NetworkParseError) → Reads (IsAddressText family) (address_error family) front returned
+    network_slashed : (returned : Result (List Bool) AddressError) (r : Result (List Bool) NetworkParseError) → Reads (IsAddressText family) (address_error family) front returned
         → ReadsSlashed (MadeBy shown shown strict_network) returned back r → ReadsNetwork family text r
     network_slashed returned r known =
         network_slashed_read family (address_error family) (λ a. a) (MadeBy shown shown strict_network) text front back returned r
         (λ a n h. same_result r (network_from family a n) h) cut (rw (seen-itself returned) known)
 
-  module _ (Asked : List ℕ → Result (List Bool) AddrParseError → Type 0)
-      (known : (text : List ℕ) (returned : Result (List Bool) AddrParseError) → Asked text returned → Reads (IsAddressText family) (address_error family) text returned)
+  module _ (Asked : List ℕ → Result (List Bool) AddressError → Type 0)
+      (known : (text : List ℕ) (returned : Result (List Bool) AddressError) → Asked text returned → Reads (IsAddressText family) (address_error family) text returned)
       (text : List ℕ) where
-    network_whole : (returned : Result (List Bool) AddrParseError) (r : Result (List Bool) NetworkParseError) → Lacks 47 text → Asked text returned
+    network_whole : (returned : Result (List Bool) AddressError) (r : Result (List Bool) NetworkParseError) → Lacks 47 text → Asked text returned
         → MadeAlone shown shown (λ a. a) returned r → ReadsNetwork family text r
     network_whole (Ok a) r lacks asked h = rw (same_result r (Ok a) h) (inl (known text (Ok a) asked))
     network_whole (Err x) r lacks asked h =
@@ -76,7 +76,7 @@ module _ (family : Family) where
     network_parsed r (inl (lacks, (returned, asked, h))) = network_whole returned r lacks asked h
     network_parsed r (inr h) = network_slashed text h.front h.back h.cut h.returned r (known h.front h.returned h.asked) h.follows
 
-    host_whole : (returned : Result (List Bool) AddrParseError) (r : Result Host NetworkParseError) → Lacks 47 text → Asked text returned
+    host_whole : (returned : Result (List Bool) AddressError) (r : Result Host NetworkParseError) → Lacks 47 text → Asked text returned
         → MadeAlone shown shown lone_made returned r → ReadsHost family text r
     host_whole (Ok a) r lacks asked h = rw (same_result r (Ok (lone_host (width_of family) a)) h) (inl (known text (Ok a) asked, refl))
     host_whole (Err x) r lacks asked h =
@@ -149,15 +149,15 @@ module _ (text front back : List ℕ) (cut : CutsAtLastSlash text front back) wh
             rw (same_ip_result r (Ok (ip_host_of a n)) (e ∙ made ∙ sym (ap Ok (shown_of a n)))) (ip_within a n h l within)
       ]
 
-  ip_slashed : (returned : Result IpAddr AddrParseError) (r : Result IpInet NetworkParseError) → Reads IsIpText ip_error front returned
+  ip_slashed : (returned : Result IpAddr AddressError) (r : Result IpInet NetworkParseError) → Reads IsIpText ip_error front returned
       → ReadsSlashed (MadeBy located parts made_host) returned back r → ReadsIpHost text r
   ip_slashed (Err x) r known h = rw h (ip_host_no_address text front x (inr (back, cut)) known)
   ip_slashed (Ok a) r known (inl (n, l, h)) = ip_made a n r known l h
   ip_slashed (Ok a) r known (inr (none, h)) = rw h (ip_host_no_length text front back a (record {}) cut known (refl, none))
 
-module _ (Asked : List ℕ → Result IpAddr AddrParseError → Type 0)
-    (known : (text : List ℕ) (returned : Result IpAddr AddrParseError) → Asked text returned → Reads IsIpText ip_error text returned) (text : List ℕ) where
-  ip_whole : (returned : Result IpAddr AddrParseError) (r : Result IpInet NetworkParseError) → Lacks 47 text → Asked text returned
+module _ (Asked : List ℕ → Result IpAddr AddressError → Type 0)
+    (known : (text : List ℕ) (returned : Result IpAddr AddressError) → Asked text returned → Reads IsIpText ip_error text returned) (text : List ℕ) where
+  ip_whole : (returned : Result IpAddr AddressError) (r : Result IpInet NetworkParseError) → Lacks 47 text → Asked text returned
       → MadeAlone located parts lone_made returned r → ReadsIpHost text r
   ip_whole (Ok a) r lacks asked h = rw (same_ip_result r (Ok (lone_ip_host a)) (h ∙ sym (ap Ok (shown_lone a)))) (lone_ip_spelled text a (known text (Ok a) asked))
   ip_whole (Err x) r lacks asked h =

@@ -9,3 +9,4 @@ pub mod Walk
 pub mod Calls
 pub mod Counted
 pub mod BitString
+pub mod Errors

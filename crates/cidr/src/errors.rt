@@ -8,6 +8,7 @@ use crate::family::Family;
 use arrayvec::ArrayString;
 use std::error::Error;
 use std::fmt;
+use std::marker::Model;
 
 const INVALID_LENGTH_TEXT: &str = "invalid length text";
 
@@ -52,7 +53,20 @@ impl Error for ParseIntError {}
 /// made // Err(Network length 33 is too long for Ipv4 (maximum: 32))
 /// ```
 #[derive(Clone, Drop, PartialEq, Eq, Hash)]
-pub struct NetworkLengthTooLongError(usize, Family);
+pub struct NetworkLengthTooLongError {
+    len: usize,
+    family: Family,
+}
+
+impl Model for NetworkLengthTooLongError {
+    ghost use Rattle.cidr.specs.model.Errors.{LengthError};
+
+    ghost Value = { LengthError };
+
+    ghost view = { λ e. (e.len, e.family) };
+
+    ghost inverse = { λ e. record { len = e.0; family = e.1 } };
+}
 
 impl NetworkLengthTooLongError {
     ghost use Rattle.cidr.specs.model.Network.{too_long};
@@ -61,7 +75,7 @@ impl NetworkLengthTooLongError {
     pub(crate) fn new(len: usize, family: Family) -> NetworkLengthTooLongError
         ensures { result ≡ too_long len family }
     {
-        NetworkLengthTooLongError(len, family)
+        NetworkLengthTooLongError { len, family }
     }
 
     /// The message, with room for the 20 digits that a `usize` may have.
@@ -70,8 +84,8 @@ impl NetworkLengthTooLongError {
     {
         let mut text = ArrayString::new();
         text.push_str("Network length ");
-        text.push_str(decimal_text(self.0).as_str());
-        text.push_str(limit_text(self.1));
+        text.push_str(decimal_text(self.len).as_str());
+        text.push_str(limit_text(self.family));
         text
     }
 }

@@ -13,6 +13,10 @@ fn reading(rt: &HostRuntime) -> Result<(), ExampleError> {
     println!(rt; "{}", "192.168.0.0/16".parse::<Ipv4Cidr>()?.len())?; // 16
     println!(rt; "{}", "192.168.0.0/16".parse::<AnyIpCidr>()?.len())?; // 17
     println!(rt; "{}", "192.168.0.0/16".parse::<Ipv4Cidr>()?.room())?; // 16
+    println!(rt;
+        "{}",
+        "192.168.0.0/16".parse::<Ipv4Cidr>()?.first_bits() >> 48
+    )?; // 49320
     let network = Ipv4Cidr::new(Ipv4Addr::new(192, 168, 0, 0), 16)?;
     println!(rt; "{}", network.get(2))?; // false
     println!(rt; "{}", Ipv6Cidr::null())?; // ::/0

@@ -61,7 +61,7 @@ fn a_walk_has_the_pair_that_is_left(rt: HostRuntime) {
 #[test]
 fn an_error_has_its_length_and_its_family(rt: HostRuntime) {
     for (name, size, wanted) in [
-        ("AddrParseError", size_of::<AddrParseError>(), 1),
+        ("AddrParseError", size_of::<AddrParseError>(), 2),
         ("ParseIntError", size_of::<ParseIntError>(), 0),
         ("of a length", size_of::<NetworkLengthTooLongError>(), 16),
         ("NetworkParseError", size_of::<NetworkParseError>(), 24),

@@ -11,7 +11,7 @@ use Rattle.cidr.specs.declared.addr.ip.IpAddr.{IpAddr}
 use Rattle.cidr.specs.declared.addr.ip.IpAddr.TheVariants as address
 use Rattle.cidr.specs.declared.cidr.combined.IpCidr.{IpCidr}
 use Rattle.cidr.specs.declared.cidr.combined.IpCidr.TheVariants as network
-use Rattle.cidr.specs.declared.errors.NetworkLengthTooLongError.{NetworkLengthTooLongError}
+use Rattle.cidr.specs.model.Errors.{LengthError}
 use Rattle.cidr.specs.declared.family.Family.{Family}
 use Rattle.cidr.specs.declared.family.Family.TheVariants.{Ipv4, Ipv6}
 use Rattle.cidr.specs.declared.inet.combined.IpInet.{IpInet}
@@ -58,7 +58,7 @@ lone_ip_host (address.V4 a) = V4 (lone_host 32 a)
 lone_ip_host (address.V6 a) = V6 (lone_host 128 a)
 
 -- the host of an address and a prefix length, or an error where the length is above the width of the family
-abbrev pub ip_host_from : IpAddr → ℕ → Result IpInet NetworkLengthTooLongError
+abbrev pub ip_host_from : IpAddr → ℕ → Result IpInet LengthError
 ip_host_from (address.V4 a) n = seen V4 (host_from Ipv4 a n)
 ip_host_from (address.V6 a) n = seen V6 (host_from Ipv6 a n)
 

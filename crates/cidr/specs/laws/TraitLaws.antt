@@ -1,5 +1,5 @@
 -- What the four traits say of values, at the types of one family and at those of either.
-use Rattle.std.proofs.Common.{◌≡◌, ◌↔◌, ℕ, Bool, true, false, List, Option, Some, Result, Ok, Err, IsTrue, refl, sym, ap}
+use Rattle.std.proofs.Common.{◌≡◌, ◌↔◌, ℕ, Bool, false, List, Some, Ok, Err, IsTrue, refl, sym, ap}
 use Rattle.cidr.specs.either.ByFamily.{IsKnownBy, ReadsByFamily, PrintsByFamily}
 use Rattle.cidr.specs.either.IpAddress.{IsIpText, address_family, plain_bits}
 use Rattle.cidr.specs.either.IpHost.{host_family, host_parts}

@@ -7,7 +7,7 @@ use Rattle.std.specs.Hash as fed
 use Rattle.cidr.specs.model.Bits.{bits, number, bit_cmp, bit_eq}
 use Rattle.cidr.specs.model.Network.{width_of, first_of, last_of, too_long, address_hash}
 use Rattle.cidr.specs.declared.family.Family.{Family}
-use Rattle.cidr.specs.declared.errors.NetworkLengthTooLongError.{NetworkLengthTooLongError}
+use Rattle.cidr.specs.model.Errors.{LengthError}
 
 -- an address, by its bits, and a prefix length
 pub record Host : Type 0 where
@@ -51,7 +51,7 @@ abbrev pub lone_host : ℕ → List Bool → Host
 lone_host w a = record { address = a; len = w }
 
 -- the host of an address and a prefix length, or an error where the length is above the width (the crate `cidr`, `new`)
-abbrev pub host_from : Family → List Bool → ℕ → Result Host NetworkLengthTooLongError
+abbrev pub host_from : Family → List Bool → ℕ → Result Host LengthError
 host_from family a n = if nat_lt (width_of family) n then Err (too_long n family) else Ok (record { address = a; len = n })
 
 -- h, the number that the bits after the prefix are: which address of the network it is, counted from 0

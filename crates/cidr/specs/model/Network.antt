@@ -5,7 +5,7 @@ use Rattle.std.specs.declared.cmp.Ordering.TheVariants.{Greater}
 use Rattle.cidr.specs.model.Bits.{number, bit_cmp, bit_eq}
 use Rattle.cidr.specs.declared.family.Family.{Family}
 use Rattle.cidr.specs.declared.family.Family.TheVariants.{Ipv4, Ipv6}
-use Rattle.cidr.specs.declared.errors.NetworkLengthTooLongError.{NetworkLengthTooLongError}
+use Rattle.cidr.specs.model.Errors.{LengthError}
 use Rattle.cidr.specs.declared.errors.NetworkParseError.{NetworkParseError}
 use Rattle.cidr.specs.declared.errors.NetworkParseError.TheVariants as parse_error
 
@@ -65,8 +65,8 @@ abbrev pub IsConsecutive : List Bool → List Bool → Type 0
 IsConsecutive p q = (bit_cmp p q ≢ Greater) × ((r : List Bool) → bit_cmp p r ≢ Greater → bit_cmp r q ≢ Greater → BeginsWith r p)
 
 -- the error of a prefix length above the width, with that length and the family
-abbrev pub too_long : ℕ → Family → NetworkLengthTooLongError
-too_long n family = record { 0 = n; 1 = family }
+abbrev pub too_long : ℕ → Family → LengthError
+too_long n family = (n, family)
 
 -- the network of the first n bits of an address, or an error: first where n is above the width, then where a bit from n
 -- on is set (the crate `cidr`, `new`)

@@ -3,7 +3,7 @@ use Rattle.std.specs.Prelude.{◌≡◌, ℕ, Bool, List, Result, MatchResult}
 use Rattle.cidr.specs.texts.Ipv4Text.{IsIpv4Text}
 use Rattle.cidr.specs.texts.Ipv6Text.{IsIpv6Text}
 use Rattle.cidr.specs.texts.Messages.{ipv4_error, ipv6_error}
-use Rattle.cidr.specs.declared.addr.error.AddrParseError.{AddrParseError}
+use Rattle.cidr.specs.model.Errors.{AddressError}
 use Rattle.cidr.specs.declared.family.Family.{Family}
 use Rattle.cidr.specs.declared.family.Family.TheVariants.{Ipv4, Ipv6}
 
@@ -13,7 +13,7 @@ IsAddressText Ipv4 = IsIpv4Text
 IsAddressText Ipv6 = IsIpv6Text
 
 -- the error of parsing an address of the family
-abbrev pub address_error : Family → AddrParseError
+abbrev pub address_error : Family → AddressError
 address_error Ipv4 = ipv4_error
 address_error Ipv6 = ipv6_error
 

@@ -7,7 +7,7 @@ use Rattle.cidr.specs.texts.AddressText.{IsAddressText, address_error}
 use Rattle.cidr.specs.texts.NetworkText.{slash, IsLengthText}
 use Rattle.cidr.specs.texts.Refusal.{IsRefused}
 use Rattle.cidr.specs.declared.family.Family.{Family}
-use Rattle.cidr.specs.declared.addr.error.AddrParseError.{AddrParseError}
+use Rattle.cidr.specs.model.Errors.{AddressError}
 use Rattle.cidr.specs.declared.errors.NetworkParseError.{NetworkParseError}
 use Rattle.cidr.specs.declared.errors.NetworkParseError.TheVariants as parse_error
 
@@ -25,7 +25,7 @@ abbrev pub IsHostText : Family → List ℕ → Host → Type 0
 IsHostText family text host = (IsAddressText family text host.address × (host.len ≡ width_of family)) ⊎ IsSlashedHost family text host
 
 -- the first error, as for a network; a set bit after the prefix is none
-abbrev pub IsHostRefused : Family → AddrParseError → List ℕ → NetworkParseError → Type 0
+abbrev pub IsHostRefused : Family → AddressError → List ℕ → NetworkParseError → Type 0
 IsHostRefused family error text e = IsRefused family error text e × (e ≢ parse_error.InvalidHostPart)
 
 -- of a string and the result of parsing it: the host that it represents; or the first error, and then it represents no

@@ -1,11 +1,8 @@
 -- The messages of the errors, byte for byte (the crate `cidr` and std).
-use Rattle.std.specs.Prelude.{ℕ, List, ◌++◌, codes, decimal}
+use Rattle.std.specs.Prelude.{ℕ, List, ◌++◌, codes, decimal, Some, None}
 use Rattle.cidr.specs.declared.family.Family.{Family}
 use Rattle.cidr.specs.declared.family.Family.TheVariants.{Ipv4, Ipv6}
-use Rattle.cidr.specs.declared.addr.error.AddrKind.{AddrKind}
-use Rattle.cidr.specs.declared.addr.error.AddrKind.TheVariants as asked
-use Rattle.cidr.specs.declared.addr.error.AddrParseError.{AddrParseError}
-use Rattle.cidr.specs.declared.errors.NetworkLengthTooLongError.{NetworkLengthTooLongError}
+use Rattle.cidr.specs.model.Errors.{AddressError, LengthError}
 use Rattle.cidr.specs.declared.errors.NetworkParseError.{NetworkParseError}
 use Rattle.cidr.specs.declared.errors.NetworkParseError.TheVariants as parse_error
 use Rattle.cidr.specs.declared.errors.InetTupleError.{InetTupleError}
@@ -16,26 +13,22 @@ use Rattle.cidr.specs.declared.errors.PrefixBytesError.{PrefixBytesError}
 use Rattle.cidr.specs.declared.errors.PrefixBytesError.TheVariants as prefix_error
 
 -- the error of parsing an address, by the type that was to be parsed; this one of an `Ipv4Addr`
-abbrev pub ipv4_error : AddrParseError
-ipv4_error = record { 0 = asked.Ipv4 }
+abbrev pub ipv4_error : AddressError
+ipv4_error = Some Ipv4
 
 -- of an `Ipv6Addr`
-abbrev pub ipv6_error : AddrParseError
-ipv6_error = record { 0 = asked.Ipv6 }
+abbrev pub ipv6_error : AddressError
+ipv6_error = Some Ipv6
 
 -- of an `IpAddr`
-abbrev pub ip_error : AddrParseError
-ip_error = record { 0 = asked.Ip }
+abbrev pub ip_error : AddressError
+ip_error = None
 
 -- the message of each (std's `AddrParseError`)
-abbrev pub kind_message : AddrKind → List ℕ
-kind_message asked.Ipv4 = codes "invalid IPv4 address syntax"
-kind_message asked.Ipv6 = codes "invalid IPv6 address syntax"
-kind_message asked.Ip = codes "invalid IP address syntax"
-
--- the message of the error of parsing an address
-abbrev pub address_message : AddrParseError → List ℕ
-address_message e = kind_message e.0
+abbrev pub address_message : AddressError → List ℕ
+address_message (Some Ipv4) = codes "invalid IPv4 address syntax"
+address_message (Some Ipv6) = codes "invalid IPv6 address syntax"
+address_message None = codes "invalid IP address syntax"
 
 -- the message for a prefix length that is no number below 256: this project's own
 abbrev pub length_message : List ℕ
@@ -47,8 +40,8 @@ limit_message Ipv4 = codes " is too long for Ipv4 (maximum: 32)"
 limit_message Ipv6 = codes " is too long for Ipv6 (maximum: 128)"
 
 -- the message for a prefix length above the width (the crate `cidr`)
-abbrev pub too_long_message : NetworkLengthTooLongError → List ℕ
-too_long_message e = codes "Network length " ++ (decimal e.0 ++ limit_message e.1)
+abbrev pub too_long_message : LengthError → List ℕ
+too_long_message (len, family) = codes "Network length " ++ (decimal len ++ limit_message family)
 
 -- the messages of parsing and making a network (the crate `cidr`)
 abbrev pub parse_message : NetworkParseError → List ℕ

@@ -6,7 +6,7 @@ use Rattle.cidr.specs.model.Network.{width_of, network_from, too_long}
 use Rattle.cidr.specs.model.Views.{seen}
 use Rattle.cidr.specs.texts.NetworkText.{slash, IsLengthText}
 use Rattle.cidr.specs.texts.Refusal.{Lacks, CutsAtLastSlash}
-use Rattle.cidr.specs.declared.addr.error.AddrParseError.{AddrParseError}
+use Rattle.cidr.specs.model.Errors.{AddressError}
 use Rattle.cidr.specs.declared.errors.NetworkParseError.{NetworkParseError}
 use Rattle.cidr.specs.declared.errors.NetworkParseError.TheVariants as parse_error
 use Rattle.cidr.specs.declared.family.Family.{Family}
@@ -35,41 +35,41 @@ MadeBy address made make a n r = seen made r ≡ make (address a) n
 
 -- the result where the string has a slash: the error that the closure returned; or where the part after the slash is no
 -- prefix length, the error of that; or what the address and the length make (`Makes`)
-abbrev pub ReadsSlashed : {A R : Type 0} → (A → ℕ → Result R NetworkParseError → Type 0) → Result A AddrParseError → List ℕ → Result R NetworkParseError → Type 0
+abbrev pub ReadsSlashed : {A R : Type 0} → (A → ℕ → Result R NetworkParseError → Type 0) → Result A AddressError → List ℕ → Result R NetworkParseError → Type 0
 ReadsSlashed Makes (Err e) back r = r ≡ Err (parse_error.AddrParseError e)
 ReadsSlashed Makes (Ok a) back r =
     ((n : ℕ) × IsLengthText back n × Makes a n r)
     ⊎ (((n : ℕ) → ¬ (IsLengthText back n)) × (r ≡ Err (parse_error.NetworkLengthParseError (record {}))))
 
 -- the result where a whole string is parsed as an address: its error, or what the address alone makes
-abbrev pub lone_from : {V W : Type 0} → (V → W) → Result V AddrParseError → Result W NetworkParseError
+abbrev pub lone_from : {V W : Type 0} → (V → W) → Result V AddressError → Result W NetworkParseError
 lone_from lone (Err e) = Err (parse_error.AddrParseError e)
 lone_from lone (Ok a) = Ok (lone a)
 
 -- the result is what `lone_from` gives for what the closure returned, compared by their views
-abbrev pub MadeAlone : {A V R W : Type 0} → (A → V) → (R → W) → (V → W) → Result A AddrParseError → Result R NetworkParseError → Type 0
+abbrev pub MadeAlone : {A V R W : Type 0} → (A → V) → (R → W) → (V → W) → Result A AddressError → Result R NetworkParseError → Type 0
 MadeAlone address made lone returned r = seen made r ≡ lone_from lone (seen address returned)
 
 -- the string has a slash, the closure returned `returned` for the part before the last one, and the result follows from
 -- that
-pub record ReadsCut {A R : Type 0} (Asked : List ℕ → Result A AddrParseError → Type 0) (Makes : A → ℕ → Result R NetworkParseError → Type 0)
+pub record ReadsCut {A R : Type 0} (Asked : List ℕ → Result A AddressError → Type 0) (Makes : A → ℕ → Result R NetworkParseError → Type 0)
     (text : List ℕ) (r : Result R NetworkParseError) : Type 0 where
   pub front : List ℕ
   pub back : List ℕ
-  pub returned : Result A AddrParseError
+  pub returned : Result A AddressError
   pub cut : CutsAtLastSlash text front back
   pub asked : Asked front returned
   pub follows : ReadsSlashed Makes returned back r
 
 -- what a parser around a closure returns: of a string without a slash as `Whole` says, of any other as `ReadsCut` says;
 -- `Asked` holds of a string and what the closure may return for it
-abbrev pub ReadsAround : {A R : Type 0} → (List ℕ → Result A AddrParseError → Type 0) → (A → ℕ → Result R NetworkParseError → Type 0)
+abbrev pub ReadsAround : {A R : Type 0} → (List ℕ → Result A AddressError → Type 0) → (A → ℕ → Result R NetworkParseError → Type 0)
     → (List ℕ → Result R NetworkParseError → Type 0) → List ℕ → Result R NetworkParseError → Type 0
 ReadsAround Asked Makes Whole text r = (Lacks slash text × Whole text r) ⊎ ReadsCut Asked Makes text r
 
 -- the closure was called for the whole string, and the result is made of what it returned
-abbrev pub ReadsWhole : {A R : Type 0} → (List ℕ → Result A AddrParseError → Type 0) → (Result A AddrParseError → R → Type 0) → List ℕ → R → Type 0
-ReadsWhole {A} Asked Makes text r = (returned : Result A AddrParseError) × Asked text returned × Makes returned r
+abbrev pub ReadsWhole : {A R : Type 0} → (List ℕ → Result A AddressError → Type 0) → (Result A AddressError → R → Type 0) → List ℕ → R → Type 0
+ReadsWhole {A} Asked Makes text r = (returned : Result A AddressError) × Asked text returned × Makes returned r
 
 -- of two results for one string: the second is the value of the first; a value where the first is `InvalidHostPart`;
 -- and any other error is that of the first

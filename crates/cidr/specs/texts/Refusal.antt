@@ -5,7 +5,7 @@ use Rattle.cidr.specs.model.Network.{width_of, zeros, too_long}
 use Rattle.cidr.specs.texts.AddressText.{IsAddressText, address_error}
 use Rattle.cidr.specs.texts.NetworkText.{slash, IsLengthText, IsNetworkText}
 use Rattle.cidr.specs.declared.family.Family.{Family}
-use Rattle.cidr.specs.declared.addr.error.AddrParseError.{AddrParseError}
+use Rattle.cidr.specs.model.Errors.{AddressError}
 use Rattle.cidr.specs.declared.errors.NetworkParseError.{NetworkParseError}
 use Rattle.cidr.specs.declared.errors.NetworkParseError.TheVariants as parse_error
 
@@ -29,7 +29,7 @@ pub record HasAddress (family : Family) (text : List ℕ) (back : List ℕ) (add
 
 -- the first error, where `error` is that of an address: no address; else no prefix length after the slash; else a
 -- length above the width; else a set bit after the prefix
-abbrev pub IsRefused : Family → AddrParseError → List ℕ → NetworkParseError → Type 0
+abbrev pub IsRefused : Family → AddressError → List ℕ → NetworkParseError → Type 0
 IsRefused family error text (parse_error.AddrParseError e) =
     (e ≡ error) × (part : List ℕ) × IsAddressPart text part × ((a : List Bool) → ¬ (IsAddressText family part a))
 IsRefused family error text (parse_error.NetworkLengthParseError e) =

@@ -1,17 +1,11 @@
 //! The error of an address string.
 ghost use Rattle.std.specs.Prelude.{◌≡◌, Some};
 
+use crate::family::Family;
 use arrayvec::ArrayString;
 use std::error::Error;
 use std::fmt;
-
-/// Which type of address was parsed.
-#[derive(Clone, Copy, PartialEq, Eq)]
-pub(crate) enum AddrKind {
-    Ipv4,
-    Ipv6,
-    Ip,
-}
+use std::marker::Model;
 
 /// The string is no address of the type that was parsed: `Ipv4Addr`, `Ipv6Addr` or `IpAddr`.
 ///
@@ -23,7 +17,20 @@ pub(crate) enum AddrKind {
 /// "192.0.2".parse::<IpAddr>() // Err(invalid IP address syntax)
 /// ```
 #[derive(Clone, Drop, PartialEq, Eq)]
-pub struct AddrParseError(AddrKind);
+pub struct AddrParseError {
+    /// The family that was parsed; `None` where either was.
+    family: Option<Family>,
+}
+
+impl Model for AddrParseError {
+    ghost use Rattle.cidr.specs.model.Errors.{AddressError};
+
+    ghost Value = { AddressError };
+
+    ghost view = { λ e. e.family };
+
+    ghost inverse = { λ family. record { family = family } };
+}
 
 impl AddrParseError {
     ghost use Rattle.cidr.specs.texts.Messages.{ipv4_error, ipv6_error, ip_error, address_message};
@@ -31,19 +38,23 @@ impl AddrParseError {
     pub(crate) fn ipv4() -> AddrParseError
         ensures { result ≡ ipv4_error }
     {
-        AddrParseError(AddrKind::Ipv4)
+        AddrParseError {
+            family: Some(Family::Ipv4),
+        }
     }
 
     pub(crate) fn ipv6() -> AddrParseError
         ensures { result ≡ ipv6_error }
     {
-        AddrParseError(AddrKind::Ipv6)
+        AddrParseError {
+            family: Some(Family::Ipv6),
+        }
     }
 
     pub(crate) fn ip() -> AddrParseError
         ensures { result ≡ ip_error }
     {
-        AddrParseError(AddrKind::Ip)
+        AddrParseError { family: None }
     }
 
     /// The message, as it is printed, in an `ArrayString`, so that nothing is allocated. It has at most 27 bytes.
@@ -56,10 +67,10 @@ impl AddrParseError {
         ensures { result.bytes ≡ address_message self.now }
     {
         let mut text = ArrayString::new();
-        text.push_str(match self.0 {
-            AddrKind::Ipv4 => "invalid IPv4 address syntax",
-            AddrKind::Ipv6 => "invalid IPv6 address syntax",
-            AddrKind::Ip => "invalid IP address syntax",
+        text.push_str(match self.family {
+            Some(Family::Ipv4) => "invalid IPv4 address syntax",
+            Some(Family::Ipv6) => "invalid IPv6 address syntax",
+            None => "invalid IP address syntax",
         });
         text
     }

@@ -15,7 +15,7 @@ use crate::family::Family;
 use crate::inet::combined::IpInet;
 use crate::inet_iterator::InetIterator;
 use crate::inet_pair::combined::IpInetPair;
-use crate::text::read::{cut_at_last_slash, with_length_text};
+use crate::text::read::read_either_family;
 use crate::text::with_length::WithLength;
 use arrayvec::ArrayString;
 use std::fmt;
@@ -388,15 +388,10 @@ impl FromStr for IpCidr {
     ghost from_str_gives = { ReadsIpNetwork };
 
     fn from_str(s: &str) -> Result<IpCidr, NetworkParseError> {
-        match cut_at_last_slash(s) {
-            None => match s.parse::<IpAddr>() {
-                Ok(addr) => Ok(IpCidr::new_host(addr)),
-                Err(e) => Err(NetworkParseError::AddrParseError(e)),
-            },
-            Some((front, back)) => match with_length_text(front.parse::<IpAddr>(), back) {
-                Ok((addr, len)) => IpCidr::new(addr, len),
-                Err(first_error) => Err(first_error),
-            },
+        match read_either_family(s) {
+            None => Ok(IpCidr::new_host(s.parse::<IpAddr>()?)),
+            Some(Ok((address, len))) => IpCidr::new(address, len),
+            Some(Err(e)) => Err(e),
         }
     }
 }

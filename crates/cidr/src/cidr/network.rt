@@ -18,7 +18,7 @@ use crate::inet::host::Host;
 use crate::inet_pair::host_pair::HostPair;
 use crate::internal_traits::address_bits::{AddressBits, AddressText};
 use crate::text::print::{forced, plain};
-use crate::text::read::{cut_at_last_slash, with_length_text};
+use crate::text::read::read_one_family;
 use crate::text::with_length::WithLength;
 use arrayvec::ArrayString;
 use std::alloc::AllocError;
@@ -436,15 +436,10 @@ impl<A: AddressText> FromStr for Network<A> {
     ghost from_str_gives = { ReadsNetwork A.FAMILY };
 
     fn from_str(s: &str) -> Result<Network<A>, NetworkParseError> {
-        match cut_at_last_slash(s) {
-            None => match A::read(s) {
-                Ok(addr) => Ok(Network::new_host(addr)),
-                Err(e) => Err(NetworkParseError::AddrParseError(e)),
-            },
-            Some((front, back)) => match with_length_text(A::read(front), back) {
-                Ok((addr, len)) => Network::new(addr, len),
-                Err(first_error) => Err(first_error),
-            },
+        match read_one_family(s) {
+            None => Ok(Network::new_host(A::read(s)?)),
+            Some(Ok((address, len))) => Network::new(address, len),
+            Some(Err(e)) => Err(e),
         }
     }
 }

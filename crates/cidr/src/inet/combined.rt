@@ -16,7 +16,7 @@ use crate::cidr::combined::IpCidr;
 use crate::errors::{NetworkLengthTooLongError, NetworkParseError};
 use crate::family::Family;
 use crate::inet::host::{Ipv4Inet, Ipv6Inet};
-use crate::text::read::{cut_at_last_slash, with_length_text};
+use crate::text::read::read_either_family;
 use crate::text::with_length::WithLength;
 use arrayvec::ArrayString;
 use std::fmt;
@@ -480,18 +480,10 @@ impl FromStr for IpInet {
     ghost from_str_gives = { ReadsIpHost };
 
     fn from_str(s: &str) -> Result<IpInet, NetworkParseError> {
-        match cut_at_last_slash(s) {
-            None => match s.parse::<IpAddr>() {
-                Ok(addr) => Ok(IpInet::new_host(addr)),
-                Err(e) => Err(NetworkParseError::AddrParseError(e)),
-            },
-            Some((front, back)) => match with_length_text(front.parse::<IpAddr>(), back) {
-                Ok((addr, len)) => match IpInet::new(addr, len) {
-                    Ok(host) => Ok(host),
-                    Err(too_long) => Err(NetworkParseError::NetworkLengthTooLongError(too_long)),
-                },
-                Err(first_error) => Err(first_error),
-            },
+        match read_either_family(s) {
+            None => Ok(IpInet::new_host(s.parse::<IpAddr>()?)),
+            Some(Ok((address, len))) => Ok(IpInet::new(address, len)?),
+            Some(Err(e)) => Err(e),
         }
     }
 }

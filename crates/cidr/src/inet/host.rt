@@ -16,7 +16,7 @@ use crate::errors::{NetworkLengthTooLongError, NetworkParseError};
 use crate::family::Family;
 use crate::internal_traits::address_bits::{AddressBits, AddressText};
 use crate::text::print::{forced, plain};
-use crate::text::read::{cut_at_last_slash, with_length_text};
+use crate::text::read::read_one_family;
 use crate::text::with_length::WithLength;
 use arrayvec::ArrayString;
 use std::alloc::AllocError;
@@ -488,18 +488,10 @@ impl<A: AddressText> FromStr for Host<A> {
     ghost from_str_gives = { ReadsHost A.FAMILY };
 
     fn from_str(s: &str) -> Result<Host<A>, NetworkParseError> {
-        match cut_at_last_slash(s) {
-            None => match A::read(s) {
-                Ok(addr) => Ok(Host::new_host(addr)),
-                Err(e) => Err(NetworkParseError::AddrParseError(e)),
-            },
-            Some((front, back)) => match with_length_text(A::read(front), back) {
-                Ok((addr, len)) => match Host::new(addr, len) {
-                    Ok(host) => Ok(host),
-                    Err(too_long) => Err(NetworkParseError::NetworkLengthTooLongError(too_long)),
-                },
-                Err(first_error) => Err(first_error),
-            },
+        match read_one_family(s) {
+            None => Ok(Host::new_host(A::read(s)?)),
+            Some(Ok((address, len))) => Ok(Host::new(address, len)?),
+            Some(Err(e)) => Err(e),
         }
     }
 }

@@ -1,6 +1,6 @@
 //! Single bits of an address, and how many bits two addresses begin with alike.
 ghost use Rattle.std.specs.Prelude.{◌≡◌, ◌<◌, false, get_or, set};
-ghost use Rattle.cidr.specs.model.BitString.{IsSharedLength};
+ghost use Rattle.cidr.specs.model.BitString.{IsSharedLength, leading};
 ghost use Rattle.cidr.specs.model.Network.{width_of};
 
 use crate::addr::v4::Ipv4Addr;
@@ -20,6 +20,10 @@ pub trait SingleBits: AddressBits {
         requires { i < width_of Self.FAMILY }
         ensures { Self.bits result ≡ set (Self.bits self) i b };
 
+    /// The number that the first 64 bits are; bits that are missing count as unset.
+    fn first_64(self) -> u64
+        ensures { result ≡ leading (Self.bits self) };
+
     /// How many bits both begin with.
     fn shared_len(self, other: Self) -> u8
         ensures { IsSharedLength (Self.bits self) (Self.bits other) result };
@@ -35,6 +39,10 @@ impl SingleBits for Ipv4Addr {
         Ipv4Addr::from_bits(with_bit(self.to_bits(), i, b))
     }
 
+    fn first_64(self) -> u64 {
+        u64::from(self.to_bits()) << 32
+    }
+
     fn shared_len(self, other: Ipv4Addr) -> u8 {
         shared_len(self.to_bits(), other.to_bits())
     }
@@ -48,6 +56,11 @@ impl SingleBits for Ipv6Addr {
     #[tactic(auto, using(crate::proofs::SingleBits::single_bit_laws))]
     fn with_bit(self, i: u8, b: bool) -> Ipv6Addr {
         Ipv6Addr::from_halves(self.halves().with_bit(i, b))
+    }
+
+    #[tactic(auto, using(crate::proofs::LeadingBits::leading_laws))]
+    fn first_64(self) -> u64 {
+        self.halves().upper()
     }
 
     fn shared_len(self, other: Ipv6Addr) -> u8 {

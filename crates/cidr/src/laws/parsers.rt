@@ -15,7 +15,7 @@ ghost use Rattle.cidr.specs.texts.Parsing.{ReadsSlashed, MadeBy, MendsHostPart, 
 ghost use Rattle.cidr.specs.texts.Refusal.{Lacks, CutsAtLastSlash, ReadsNetwork};
 ghost use Rattle.cidr.specs.texts.Results.{HasOneResult, ParsesAround, ReadsAlso};
 ghost use Rattle.cidr.specs.declared.family.Family.TheVariants.{Ipv4, Ipv6};
-ghost use Rattle.cidr.specs.declared.addr.error.AddrParseError.{AddrParseError};
+ghost use Rattle.cidr.specs.model.Errors.{AddressError};
 ghost use Rattle.cidr.specs.declared.errors.NetworkParseError.{NetworkParseError};
 ghost use Rattle.cidr.specs.declared.family.Family.{Family};
 
@@ -27,7 +27,7 @@ use crate::addr::v6::Ipv6Addr;
 /// Of a string with a slash, for the same address parsed before it: a parser that ignores host bits returns the network
 /// of the strict one, accepts besides exactly what that rejects with `InvalidHostPart`, and returns its other errors.
 pub fn ignoring_host_bits_accepts_them()
-    ensures { (returned : Result (Family × List Bool) AddrParseError) (back : List ℕ)
+    ensures { (returned : Result (Family × List Bool) AddressError) (back : List ℕ)
         (strict mended : Result (Family × List Bool) NetworkParseError) →
         ReadsSlashed (MadeBy (λ a. a) (λ n. n) strict_network) returned back strict →
         ReadsSlashed (MadeBy (λ a. a) (λ n. n) holding_network) returned back mended → MendsHostPart strict mended }

@@ -77,8 +77,5 @@ where
     ensures { MadeBy (in_family I.Address.family_of I.Address.bits) (in_family I.family_of I.host)
         made_host address len result }
 {
-    match I::new(address, len) {
-        Ok(host) => Ok(host),
-        Err(e) => Err(NetworkParseError::NetworkLengthTooLongError(e)),
-    }
+    Ok(I::new(address, len)?)
 }

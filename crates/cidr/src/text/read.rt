@@ -1,15 +1,20 @@
 //! Parsing the parts of a network's string.
 ghost use Rattle.std.specs.Prelude.{◌≡◌, ◌<◌, ℕ, MatchOption};
 ghost use Rattle.std.specs.Fn.{FnOnceReturnsAt};
-ghost use Rattle.cidr.specs.texts.AddressText.{Reads};
+ghost use Rattle.cidr.specs.either.IpAddress.{IsIpText};
+ghost use Rattle.cidr.specs.model.Views.{seen};
+ghost use Rattle.cidr.specs.texts.AddressText.{IsAddressText, Reads, address_error};
+ghost use Rattle.cidr.specs.texts.Messages.{ip_error};
 ghost use Rattle.cidr.specs.texts.NetworkText.{slash, IsByteText, IsLengthText};
 ghost use Rattle.cidr.specs.texts.Refusal.{Lacks, CutsAtLastSlash};
 ghost use Rattle.cidr.specs.texts.Parsing.{ReadsSlashed, ReadsCut};
 ghost use Rattle.cidr.specs.internal.Reading.{AreParts};
 
 use crate::addr::error::AddrParseError;
+use crate::addr::ip::IpAddr;
 use crate::addr::read_v4::take_byte;
 use crate::errors::{NetworkParseError, ParseIntError};
+use crate::internal_traits::address_bits::AddressText;
 
 /// What precedes the last slash, and the bytes after it, if there is one.
 pub(crate) fn cut_at_last_slash(s: &str) -> Option<(&str, &[u8])>
@@ -89,4 +94,27 @@ where
 {
     let (front, back) = cut_at_last_slash(s)?;
     Some(with_length_text(address_parser(front), back))
+}
+
+/// What both parts of a string with a slash are parsed as, the address strictly and of one family.
+#[inline(always)]
+pub(crate) fn read_one_family<A: AddressText>(s: &str) -> Option<Result<(A, u8), NetworkParseError>>
+    ensures { MatchOption result (Lacks slash s.now) (ReadsCut (λ text r.
+        Reads (IsAddressText A.FAMILY) (address_error A.FAMILY) text (seen A.bits r)) AreParts s.now) }
+{
+    let address = |text: &str| -> Result<A, AddrParseError>
+        ensures { Reads (IsAddressText A.FAMILY) (address_error A.FAMILY) text.now (seen A.bits result) }
+    { A::read(text) };
+    read_at_slash(s, address)
+}
+
+/// What both parts of a string with a slash are parsed as, the address strictly and of either family.
+#[inline(always)]
+pub(crate) fn read_either_family(s: &str) -> Option<Result<(IpAddr, u8), NetworkParseError>>
+    ensures { MatchOption result (Lacks slash s.now) (ReadsCut (Reads IsIpText ip_error) AreParts s.now) }
+{
+    let address = |text: &str| -> Result<IpAddr, AddrParseError>
+        ensures { Reads IsIpText ip_error text.now result }
+    { text.parse::<IpAddr>() };
+    read_at_slash(s, address)
 }
