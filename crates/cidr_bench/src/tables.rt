@@ -5,7 +5,7 @@ use crate::routes::{Route, asked_inside, asked_outside, rows_like_routes, some_k
 use crate::values::mixed;
 use arrayvec::ArrayString;
 use cidr::{BitString, Ipv4Cidr, Ipv6Cidr, NetworkBits};
-use cidr_table::{LpmTable, longest_match};
+use cidr_table::{Lookups, LpmTable, longest_match};
 use std::alloc::{AllocError, Global};
 use std::collections::BTreeMap;
 use std::fmt::Write;
@@ -25,6 +25,40 @@ impl<C: NetworkBits + Copy> Call<C> for Match<'_, C> {
         let place = longest_match(&mut self.0.probe(), asked);
         let row = place.and_then(|place| self.0.row(place));
         value_number(row.map(|row| row.1))
+    }
+}
+
+/// The longest match as a row.
+#[derive(Drop)]
+struct Lookup<'a, C: NetworkBits + Copy>(&'a LpmTable<C, u32>);
+
+impl<C: NetworkBits + Copy> Call<C> for Lookup<'_, C> {
+    fn number(&self, asked: &C) -> u32 {
+        value_number(self.0.lookup(asked).map(|row| row.1))
+    }
+}
+
+/// The longest match as a row, of rows made ready.
+#[derive(Drop)]
+struct ReadyLookup<'a, C: NetworkBits + Copy>(Lookups<'a, C, u32>);
+
+impl<C: NetworkBits + Copy> Call<C> for ReadyLookup<'_, C> {
+    fn number(&self, asked: &C) -> u32 {
+        value_number(self.0.lookup(asked).map(|row| row.1))
+    }
+}
+
+/// All matches: the sum of their values.
+#[derive(Drop)]
+struct Matches<'a, C: NetworkBits + Copy>(&'a LpmTable<C, u32>);
+
+impl<C: NetworkBits + Copy> Call<C> for Matches<'_, C> {
+    fn number(&self, asked: &C) -> u32 {
+        let mut sum = 0;
+        for row in self.0.matches(asked) {
+            sum = mixed(sum, row.1);
+        }
+        sum
     }
 }
 
@@ -198,10 +232,19 @@ impl<C: Route> Tables<C> {
             Each(Match(&self.table), asked),
             Each(SearchByLengths(rows), asked),
         )?;
-        let name = named(name, "beside a BTreeMap");
         bench.compare(
-            name.as_str(),
+            named(name, "beside a BTreeMap").as_str(),
             Each(Match(&self.table), asked),
+            Each(MapWalk(&self.map), asked),
+        )?;
+        bench.compare(
+            named(name, "by lookup").as_str(),
+            Each(Lookup(&self.table), asked),
+            Each(MapWalk(&self.map), asked),
+        )?;
+        bench.compare(
+            named(name, "by lookups").as_str(),
+            Each(ReadyLookup(self.table.lookups(bench.rt.alloc())?), asked),
             Each(MapWalk(&self.map), asked),
         )
     }
@@ -219,6 +262,10 @@ impl<C: Route> Tables<C> {
             named("get", of).as_str(),
             Each(Get(&self.table), keys),
             Each(Search(self.rows.as_slice()), keys),
+        )?;
+        bench.alone(
+            named("all matches", of).as_str(),
+            Each(Matches(&self.table), self.inside.as_slice()),
         )?;
         bench.alone(
             named("inside", of).as_str(),

@@ -1,19 +1,20 @@
--- Rows in the order of their keys and places, of which the last of each key stay.
-use Rattle.std.proofs.Common.{◌≡◌, ◌≢◌, ◌⊎◌, ℕ, zero, suc, ◌+◌, ◌<◌, ◌≤◌, Bool, true, false, cond, List, [], ◌∷◌, ◌++◌, length, get_or, slice_get, Some, refl, sym, ap, ap₂, ◌∙◌, subst, arith, inl, inr, true≢false}
+-- Rows in the order of their keys and places, of which the last of each key stays.
+use Rattle.std.proofs.Common.{◌≡◌, ◌≢◌, ◌⊎◌, ℕ, zero, suc, ◌+◌, ◌<◌, ◌≤◌, false, List, [], ◌∷◌, ◌++◌, length, get_or, slice_get, Some, refl, sym, ap, ap₂, ◌∙◌, subst, arith, inl, inr, true≢false}
 use Rattle.std.proofs.lemmas.List.Sorted.{sorted_far, Contains-permutation, IsPermutation-sym}
 use Rattle.std.proofs.lemmas.List.MinMax.{ranks_by}
 use Rattle.std.proofs.lemmas.Cmp.{on_total, then_total, nat_cmp_total}
-use Rattle.std.specs.Bool.{MatchBool}
 use Rattle.std.specs.Cmp.{IsTotalOrder, ranks}
-use Rattle.std.specs.List.{Contains, AllByRecursion}
-use Rattle.std.specs.List.Retain.{DedupsFrom, IsDeduped}
-use Rattle.std.specs.List.Sorted.{IsStrictlySortedBy, IsSorted, IsPermutation}
+use Rattle.std.specs.List.{Contains}
+use Rattle.std.specs.List.Sorted.{IsSorted, IsPermutation}
 use Rattle.std.specs.Map.{keys_of}
-use Rattle.std.specs.Ordering.{is_lt, is_eq, nat_cmp, ordering_then, ordering_reverse, MatchOrdering}
+use Rattle.std.specs.Ordering.{is_lt, nat_cmp, ordering_then, ordering_reverse, MatchOrdering}
 use Rattle.std.specs.declared.cmp.Ordering.{Ordering}
 use Rattle.std.specs.declared.cmp.Ordering.TheVariants.{Less, Equal, Greater}
 use Rattle.cidr_table.specs.Loading.{placed, IsLastPlace, AreLast}
-use Rattle.cidr_table.proofs.MapLaws.{contains_first, contains_later, contains_cases, contains_nothing}
+use Rattle.cidr_table.specs.LastRows.{AreLastRows}
+use Rattle.cidr_table.proofs.LastRows.{EndsAt, end_of, last_row, end_contains, no_key}
+use Rattle.cidr_table.proofs.MapLaws.{contains_first, contains_later, contains_cases, contains_nothing, contains_key}
+use Rattle.cidr_table.proofs.Merging.{any_of}
 
 not_below : (m n : ℕ) → is_lt (nat_cmp m n) ≡ false → n ≤ m
 not_below m n h = elim (nat_cmp m n) as (λ r. MatchOrdering r (m < n) (m ≡ n) (n < m) → is_lt r ≡ false → n ≤ m) [
@@ -69,140 +70,60 @@ module _ {C : Type 0} (cmp : C → C → Ordering) (o : IsTotalOrder cmp) (exact
   pub ascends_sorted : (xs : List (C × ℕ)) → IsSorted row_cmp xs → Ascends xs
   ascends_sorted xs h = ascends xs (sorted_far (λ x y. is_lt (row_cmp x y)) (ranks_by (then_total (on_total (λ (x : C × ℕ). x.0) o) (on_total (λ (x : C × ℕ). x.1) nat_cmp_total)) (λ x. x)) xs h)
 
-  -- what stays of k and the rows behind it: the last place takes the one before
-  abbrev pub last_from : C × ℕ → List (C × ℕ) → List (C × ℕ)
-  last_from k [] = k ∷ []
-  last_from k (x ∷ xs) = cond (is_eq (cmp x.0 k.0)) (last_from (k.0, x.1) xs) (k ∷ last_from x xs)
-
-  only : (k y : C × ℕ) → Contains (k ∷ []) y → k ≡ y
-  only k y c = elim (contains_cases k y [] c) [ inl e ↦ e | inr later ↦ absurd (contains_nothing y later) ]
-
-  -- the row before has the same key and no greater place
-  joined : (k x : C × ℕ) (xs zs : List (C × ℕ)) → k.0 ≡ x.0 → k.1 ≤ x.1 → AreLast (x ∷ xs) zs → AreLast (k ∷ x ∷ xs) zs
-  joined k x xs zs key place last = λ row. (
-    λ h.
-        let (c, m) = (last row).0 h in (
-          contains_later k row (x ∷ xs) c,
-          λ other d s. elim (contains_cases k other (x ∷ xs) d) [
-            | inl e ↦ let most = m x (contains_first x xs) (sym key ∙ ap (λ (r : C × ℕ). r.0) e ∙ s) in omega (arith, most, place, ap (λ (r : C × ℕ). r.1) e)
-            | inr later ↦ m other later s
-          ],
-        ),
-    λ h.
-        let behind = λ (other : C × ℕ) (d : Contains (x ∷ xs) other) (s : other.0 ≡ row.0). h.1 other (contains_later k other (x ∷ xs) d) s in
-        elim (contains_cases k row (x ∷ xs) h.0) [
-          | inl e ↦
-              let same = sym key ∙ ap (λ (r : C × ℕ). r.0) e in
-              let most = behind x (contains_first x xs) same in
-              let places : x.1 ≡ row.1 = omega (arith, most, place, ap (λ (r : C × ℕ). r.1) e) in
-              let whole : x ≡ row = ap₂ (λ c n. (c, n)) same places in
-              (last row).1 (subst (Contains (x ∷ xs)) whole (contains_first x xs), behind)
-          | inr later ↦ (last row).1 (later, behind)
-        ],
-  )
-
-  -- the rows behind have greater keys
-  parted : (k : C × ℕ) (xs zs : List (C × ℕ)) → ((y : C × ℕ) → Contains xs y → cmp k.0 y.0 ≡ Less) → AreLast xs zs → AreLast (k ∷ xs) (k ∷ zs)
-  parted k xs zs less last = λ row. (
-    λ h. elim (contains_cases k row zs h) [
-      | inl e ↦ (
-        subst (Contains (k ∷ xs)) e (contains_first k xs),
-        λ other d s. elim (contains_cases k other xs d) [
-          | inl f ↦ omega (arith, ap (λ (r : C × ℕ). r.1) e, ap (λ (r : C × ℕ). r.1) f)
-          | inr later ↦ absurd (below_apart k.0 other.0 (less other later) (ap (λ (r : C × ℕ). r.0) e ∙ sym s))
-        ],
-      )
-      | inr later ↦
-          let (c, m) = (last row).0 later in (
-            contains_later k row xs c,
-            λ other d s. elim (contains_cases k other xs d) [
-              | inl f ↦ absurd (below_apart k.0 row.0 (less row c) (ap (λ (r : C × ℕ). r.0) f ∙ s))
-              | inr behind ↦ m other behind s
-            ],
-          )
-    ],
-    λ h. elim (contains_cases k row xs h.0) [
-      | inl e ↦ subst (Contains (k ∷ zs)) e (contains_first k zs)
-      | inr later ↦ contains_later k row zs ((last row).1 (later, λ other d s. h.1 other (contains_later k other xs d) s))
-    ],
-  )
-
-  -- a greater key comes before all that stand behind it
-  module _ (k x : C × ℕ) (xs : List (C × ℕ)) (a : Ascends (k ∷ x ∷ xs)) (q : cmp x.0 k.0 ≡ Greater) where
-    less : cmp k.0 x.0 ≡ Less
-    less = o.antisymm k.0 x.0 ∙ ap ordering_reverse q
-
-    less_all : (y : C × ℕ) → Contains (x ∷ xs) y → cmp k.0 y.0 ≡ Less
-    less_all y c = elim (contains_cases x y xs c) [
-      | inl e ↦ subst (λ (r : C × ℕ). cmp k.0 r.0 ≡ Less) e less
-      | inr later ↦ elim (a.1.0 y later) [ inl l ↦ o.trans k.0 x.0 y.0 less l | inr s ↦ subst (λ z. cmp k.0 z ≡ Less) s.0 less ]
+  -- the last row of a key has its greatest place
+  end_greatest : (xs : List (C × ℕ)) (row : C × ℕ) → Ascends xs → EndsAt xs row → (other : C × ℕ) → Contains xs other → other.0 ≡ row.0 → other.1 ≤ row.1
+  end_greatest [] row a e other c s = absurd e
+  end_greatest (x ∷ xs) row a (inl (same, none)) other c s = elim (contains_cases x other xs c) [
+    | inl e ↦ omega (arith, ap (λ (r : C × ℕ). r.1) e, ap (λ (r : C × ℕ). r.1) same)
+    | inr later ↦ absurd (none (subst (Contains (keys_of xs)) s (contains_key xs other later)))
+  ]
+  end_greatest (x ∷ xs) row a (inr e) other c s = elim (contains_cases x other xs c) [
+    | inl d ↦ elim (a.0 row (end_contains xs row e)) [
+      | inl l ↦ absurd (below_apart x.0 row.0 l (ap (λ (r : C × ℕ). r.0) d ∙ s))
+      | inr t ↦ omega (arith, t.1, ap (λ (r : C × ℕ). r.1) d)
     ]
+    | inr later ↦ end_greatest xs row a.1 e other later s
+  ]
 
-  same_place : (k x : C × ℕ) (xs : List (C × ℕ)) → Ascends (k ∷ x ∷ xs) → cmp x.0 k.0 ≡ Equal → k.1 ≤ x.1
-  same_place k x xs a q = elim (a.0 x (contains_first x xs)) [ inl l ↦ absurd (below_apart k.0 x.0 l (sym (exact x.0 k.0 q))) | inr s ↦ s.1 ]
+  -- a row with the greatest place of its key is the last
+  greatest_end : (xs : List (C × ℕ)) (row : C × ℕ) → Ascends xs → Contains xs row → ((other : C × ℕ) → Contains xs other → other.0 ≡ row.0 → other.1 ≤ row.1) → EndsAt xs row
+  greatest_end [] row a c most = absurd (contains_nothing row c)
+  greatest_end (x ∷ xs) row a c most =
+      let here = contains_cases x row xs c in
+      let behind = λ (other : C × ℕ) (d : Contains xs other) (s : other.0 ≡ row.0). most other (contains_later x other xs d) s in
+      elim (any_of cmp row.0 xs) as (λ _. EndsAt (x ∷ xs) row) [
+        | inl none ↦ elim here [
+          | inl e ↦ inl (e, no_key cmp o exact row.0 xs none)
+          | inr later ↦ inr (greatest_end xs row a.1 later behind)
+        ]
+        | inr found ↦ elim here [
+          | inl e ↦
+              let y = found.0 in
+              let key : y.0 ≡ row.0 = exact y.0 row.0 found.2 in
+              let places : row.1 ≤ y.1 = elim (a.0 y found.1) [
+                | inl l ↦ absurd (below_apart x.0 y.0 l (ap (λ (r : C × ℕ). r.0) e ∙ sym key))
+                | inr t ↦ omega (arith, t.1, ap (λ (r : C × ℕ). r.1) e)
+              ] in
+              let most_there = behind y found.1 key in
+              let place : y.1 ≡ row.1 = omega (arith, places, most_there) in
+              let whole : y ≡ row = ap₂ (λ k n. (k, n)) key place in
+              inr (greatest_end xs row a.1 (subst (Contains xs) whole found.1) behind)
+          | inr later ↦ inr (greatest_end xs row a.1 later behind)
+        ]
+      ]
 
-  last_stay : (k : C × ℕ) (xs : List (C × ℕ)) → Ascends (k ∷ xs) → AreLast (k ∷ xs) (last_from k xs)
-  last_stay k [] a = λ row. (λ h. (h, λ other d s. omega (arith, ap (λ (r : C × ℕ). r.1) (only k row h), ap (λ (r : C × ℕ). r.1) (only k other d))), λ h. h.0)
-  last_stay k (x ∷ xs) a = elim (cmp x.0 k.0) as (λ r. cmp x.0 k.0 ≡ r → AreLast (k ∷ x ∷ xs) (cond (is_eq r) (last_from (k.0, x.1) xs) (k ∷ last_from x xs))) [
-    | Less ↦ λ q. absurd (not_back k x (a.0 x (contains_first x xs)) q)
-    | Equal ↦ λ q.
-        let key = exact x.0 k.0 q in
-        subst (λ c. AreLast (k ∷ x ∷ xs) (last_from (c, x.1) xs)) key (joined k x xs (last_from x xs) (sym key) (same_place k x xs a q) (last_stay x xs a.1))
-    | Greater ↦ λ q. parted k (x ∷ xs) (last_from x xs) (less_all k x xs a q) (last_stay x xs a.1)
-  ] refl
-
-  all_keys : (k : C) (zs : List (C × ℕ)) → ((y : C × ℕ) → Contains zs y → cmp k y.0 ≡ Less) → AllByRecursion (λ z. cmp k z ≡ Less) (keys_of zs)
-  all_keys k [] h = tt
-  all_keys k (z ∷ zs) h = (h z (contains_first z zs), all_keys k zs (λ y c. h y (contains_later z y zs c)))
-
-  stay_sorted : (k : C × ℕ) (xs : List (C × ℕ)) → Ascends (k ∷ xs) → IsStrictlySortedBy cmp (keys_of (last_from k xs))
-  unfolding IsStrictlySortedBy
-  stay_sorted k [] a = (tt, tt)
-  stay_sorted k (x ∷ xs) a = elim (cmp x.0 k.0) as (λ r. cmp x.0 k.0 ≡ r → IsStrictlySortedBy cmp (keys_of (cond (is_eq r) (last_from (k.0, x.1) xs) (k ∷ last_from x xs)))) [
-    | Less ↦ λ q. absurd (not_back k x (a.0 x (contains_first x xs)) q)
-    | Equal ↦ λ q. subst (λ c. IsStrictlySortedBy cmp (keys_of (last_from (c, x.1) xs))) (exact x.0 k.0 q) (stay_sorted x xs a.1)
-    | Greater ↦ λ q. (all_keys k.0 (last_from x xs) (λ y c. less_all k x xs a q y ((last_stay x xs a.1 y).0 c).0), stay_sorted x xs a.1)
-  ] refl
-
-  -- ---- what `dedup_by` leaves, where the row that goes gives its place to the one before
-  module _ (eq : C → C → Bool) (ties : (x y : C) → eq x y ≡ is_eq (cmp x y)) {S : Type 0} (R : S → C × ℕ → C × ℕ → Bool → S → C × ℕ → C × ℕ → Type 0)
-      (f : (s : S) (x k : C × ℕ) (b : Bool) (t : S) (x' k' : C × ℕ) → R s x k b t x' k' → (b ≡ eq x.0 k.0) × (x' ≡ x) × (k' ≡ cond b (k.0, x.1) k)) where
-    left_from : (xs : List (C × ℕ)) (s : S) (k : C × ℕ) (ys : List (C × ℕ)) → DedupsFrom R s k xs ys → ys ≡ last_from k xs
-    left_from [] s k ys h = h
-    left_from (x ∷ xs) s k ys h =
-        let said = f s x k h.0 h.1 h.2 h.3 h.4 in
-        elim h.0 as (λ b. h.3 ≡ cond b (k.0, x.1) k → MatchBool b (DedupsFrom R h.1 h.3 xs ys) ((zs : List (C × ℕ)) × DedupsFrom R h.1 h.2 xs zs × (ys ≡ h.3 ∷ zs))
-        → ys ≡ cond b (last_from (k.0, x.1) xs) (k ∷ last_from x xs)) [
-          | true ↦ λ e m. left_from xs h.1 h.3 ys m ∙ ap (λ v. last_from v xs) e
-          | false ↦ λ e m. m.2 ∙ ap₂ (λ u v. u ∷ v) e (left_from xs h.1 h.2 m.0 m.1 ∙ ap (λ v. last_from v xs) said.1)
-        ] said.2 h.5
-        ∙ ap (λ b. cond b (last_from (k.0, x.1) xs) (k ∷ last_from x xs)) (said.0 ∙ ties x.0 k.0)
-
-    -- of rows that were sorted
-    pub left_last : (s : S) (old xs ys : List (C × ℕ)) → IsPermutation old xs → IsSorted row_cmp xs → IsDeduped R s xs ys
-        → IsStrictlySortedBy cmp (keys_of ys) × AreLast old ys
-    unfolding IsStrictlySortedBy
-    left_last s old [] ys p h d = (
-      subst (λ l. IsStrictlySortedBy cmp (keys_of l)) (sym d.told) tt,
-      λ row. (
-        λ c. absurd (contains_nothing row (subst (λ l. Contains l row) d.told c)),
-        λ c. absurd (contains_nothing row (Contains-permutation old [] row p c.0)),
-      ),
-    )
-    left_last s old (x ∷ xs) ys p h d =
-        let is = left_from xs s x ys d.told in
-        let a = ascends_sorted (x ∷ xs) h in
-        let last = last_stay x xs a in (
-          subst (λ l. IsStrictlySortedBy cmp (keys_of l)) (sym is) (stay_sorted x xs a),
-          λ row. (
-            λ c. let t = (last row).0 (subst (λ l. Contains l row) is c) in
-                (Contains-permutation (x ∷ xs) old row (IsPermutation-sym old (x ∷ xs) p) t.0, λ other e s. t.1 other (Contains-permutation old (x ∷ xs) other p e) s),
-            λ c. subst (λ l. Contains l row) (sym is) ((last row).1 (
-              Contains-permutation old (x ∷ xs) row p c.0,
-              λ other e s. c.1 other (Contains-permutation (x ∷ xs) old other (IsPermutation-sym old (x ∷ xs) p) e) s,
-            )),
-          ),
-        )
+  -- of rows that were sorted, the last of each key has its greatest place
+  pub sorted_last : (old xs new : List (C × ℕ)) → IsPermutation old xs → IsSorted row_cmp xs → AreLastRows xs new → AreLast old new
+  sorted_last old xs new p h last row =
+      let a = ascends_sorted xs h in
+      let back = IsPermutation-sym old xs p in (
+        λ c.
+            let e = end_of xs row ((last row).0 c) in (
+              Contains-permutation xs old row back (end_contains xs row e),
+              λ other d s. end_greatest xs row a e other (Contains-permutation old xs other p d) s,
+            ),
+        λ c. (last row).1 (last_row xs row (greatest_end xs row a (Contains-permutation old xs row p c.0) (λ other d s. c.1 other (Contains-permutation xs old other back d) s))),
+      )
 
 -- ---- keys with their places
 module _ {C : Type 0} where

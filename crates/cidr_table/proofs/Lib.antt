@@ -5,10 +5,14 @@ pub mod SharedLengths
 pub mod Narrowing
 pub mod RowPlaces
 pub mod MapLaws
+pub mod Writes
+pub mod Printed
 pub mod Insides
 pub mod Links
 pub mod Matching
 pub mod PrefixLists
+pub mod Merging
+pub mod LastRows
 pub mod LastPlaces
 -- The lemmas of the least cover.
 pub mod Halves
@@ -24,3 +28,4 @@ pub mod Uniqueness
 pub mod SharedHalves
 pub mod Stacks
 pub mod Passing
+pub mod InPlace

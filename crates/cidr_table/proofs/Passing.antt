@@ -98,8 +98,11 @@ pushed w s k h before free within = record {
   within = within;
 }
 
--- the key of a row
-key_read : {C V : Type 0} (rows : List (C × V)) (i : ℕ) (row : C × V) → i < length rows → row ≡ get_or rows i row
+-- the key of a row, and its place
+pub key_within : {C V : Type 0} (rows : List (C × V)) (i : ℕ) → i < length rows → i < length (keys_of rows)
+key_within rows i h = omega (arith, h, length-keys_of rows)
+
+pub key_read : {C V : Type 0} (rows : List (C × V)) (i : ℕ) (row : C × V) → i < length rows → row ≡ get_or rows i row
     → row.0 ≡ get_or (keys_of rows) i row.0
 key_read {C = C} {V = V} rows i row within h = ap (λ (r : C × V). r.0) h
     ∙ sym (get_or-map (λ (r : C × V). r.0) rows i row row.0 within)
@@ -136,21 +139,9 @@ module _ {C : Type 0} (f : C → List Bool) where
   passed_all w keys out n h = subst (λ (ks : List C). IsLeastCover w (map f ks) (map f (take n out)))
       (take_all (length keys) keys (omega arith)) h.cover
 
-  module _ {V : Type 0} (cmp : C → C → Ordering) (ordered : (x y : C) → cmp x y ≡ bit_cmp (f x) (f y)) (w : ℕ)
-      (rows : List (C × V)) (sorted : IsStrictlySortedBy cmp (keys_of rows)) (out : List C) (i n : ℕ)
-      (h : IsPassed w (keys_of rows) out i n) (row : C × V) (here : i < length rows) (is_row : row ≡ get_or rows i row) where
-    abbrev keys : List C
-    keys = keys_of rows
-
-    abbrev key : C
-    key = row.0
-
-    within : i < length keys
-    within = omega (arith, here, length-keys_of rows)
-
-    is : key ≡ get_or keys i key
-    is = key_read rows i row here is_row
-
+  module _ (cmp : C → C → Ordering) (ordered : (x y : C) → cmp x y ≡ bit_cmp (f x) (f y)) (w : ℕ)
+      (keys : List C) (sorted : IsStrictlySortedBy cmp keys) (out : List C) (i n : ℕ)
+      (h : IsPassed w keys out i n) (key : C) (within : i < length keys) (is : key ≡ get_or keys i key) where
     covers_seen : CoverSame w (map f (take n out)) (map f (take i keys))
     covers_seen = back w (map f (take i keys)) (map f (take n out))
         (exact w (map f (take i keys)) (map f (take n out)) h.cover)

@@ -12,6 +12,7 @@ use Rattle.std.proofs.lemmas.List.{length-map}
 use Rattle.std.proofs.lemmas.Cmp.{tied_back, alike_right}
 use Rattle.std.proofs.lemmas.Map.Keys.{Less-from_sorted}
 use Rattle.cidr_table.specs.Places.{IsAt, IsGap}
+use Rattle.cidr_table.specs.LentRows.{with_value_at}
 
 pub sorted_none : {C : Type 0} (cmp : C → C → Ordering) → IsStrictlySortedBy cmp []
 unfolding IsStrictlySortedBy
@@ -74,6 +75,12 @@ module _ {C V : Type 0} (cmp : C → C → Ordering) (o : IsTotalOrder cmp) (k :
   set_at [] i v x d s h e = absurd (omega (arith, h.within))
   set_at (e ∷ es) zero v x d s h q = rw (tied_back o e.0 k h.equal) (ap (λ (y : C). (y, v) ∷ es) q)
   set_at (e ∷ es) (suc i) v x d s h q = rw (head_before e es i s h) (ap (λ xs. e ∷ xs) (set_at es i v x d (sorted_tail e es s) (at_tail e es i h) q))
+
+  pub write_at : (es : List (C × V)) (i : ℕ) (v : V) → IsStrictlySortedBy cmp (keys_of es)
+      → IsAt cmp (keys_of es) k (length es) i → with_value_at es i v ≡ insert_entry cmp es k v
+  write_at [] i v s h = absurd (omega (arith, h.within))
+  write_at (e ∷ es) zero v s h = rw (tied_back o e.0 k h.equal) refl
+  write_at (e ∷ es) (suc i) v s h = rw (head_before e es i s h) (ap (λ xs. e ∷ xs) (write_at es i v (sorted_tail e es s) (at_tail e es i h)))
 
   pub insert_gap : (es : List (C × V)) (i : ℕ) (v : V) → IsGap cmp (keys_of es) k (length es) i
       → insert es i (k, v) ≡ insert_entry cmp es k v

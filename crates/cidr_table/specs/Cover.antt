@@ -30,6 +30,10 @@ pub record IsLeastCover (w : ℕ) (keys cover : List (List Bool)) : Type 0 where
   pub ascending : IsStrictlySortedBy bit_cmp cover
   pub members : (p : List Bool) → Contains cover p ↔ IsMember w keys p
 
+-- none can be left out and no two put together: they are their own least cover
+abbrev pub IsReduced : ℕ → List (List Bool) → Type 0
+IsReduced w networks = IsLeastCover w networks networks
+
 -- ---- what its laws say
 -- the same long lists are covered
 abbrev pub CoverSame : ℕ → List (List Bool) → List (List Bool) → Type 0

@@ -3,7 +3,8 @@ use Rattle.std.specs.Prelude.{◌≡◌, ℕ, ◌≤◌, Bool, true, false, List
 use Rattle.std.specs.List.{Contains}
 use Rattle.std.specs.declared.cmp.Ordering.TheVariants.{Less}
 use Rattle.cidr.specs.model.Bits.{bit_cmp}
-use Rattle.cidr_table.specs.Cover.{Covers, IsLeastCover}
+use Rattle.cidr_table.specs.Cover.{Covers}
+pub use Rattle.cidr_table.specs.Cover.{IsReduced}
 
 -- the two halves of one network, the lower first
 abbrev pub AreHalves : List Bool → List Bool → Type 0
@@ -12,10 +13,6 @@ AreHalves lower upper = (q : List Bool) × (lower ≡ q ++ false ∷ []) × (upp
 -- all networks come before k
 abbrev pub AreBefore : List (List Bool) → List Bool → Type 0
 AreBefore networks k = (p : List Bool) → Contains networks p → bit_cmp p k ≡ Less
-
--- none can be left out and no two put together: they are their own least cover
-abbrev pub IsReduced : ℕ → List (List Bool) → Type 0
-IsReduced w networks = IsLeastCover w networks networks
 
 -- such networks, and one behind them that they don't hold, which may be the half of the last
 pub record IsPushed (w : ℕ) (networks : List (List Bool)) : Type 0 where

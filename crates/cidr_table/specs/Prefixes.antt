@@ -1,6 +1,7 @@
 -- Which keys of a table begin a look-up key, and which are inside a network. The look-up key is a list of bits: an
 -- address or a network.
 use Rattle.std.specs.Prelude.{◌≡◌, ◌↔◌, ℕ, ◌≤◌, Bool, List, length, map, Contains, slice_get, Option, Some, None}
+use Rattle.std.specs.Option.{option_map}
 use Rattle.std.specs.List.Sorted.{IsStrictlyIncreasing}
 use Rattle.cidr.specs.model.Network.{BeginsWith}
 
@@ -32,6 +33,10 @@ module _ {C : Type 0} (bits : C → List Bool) where
   abbrev pub IsLookedUp : {V : Type 0} → List Bool → List (C × V) → Option (C × V) → Type 0
   IsLookedUp asked rows (Some row) = IsLongestRow asked rows row
   IsLookedUp {V} asked rows None = (row : C × V) → Contains rows row → ¬ (BeginsWith asked (bits row.0))
+
+  -- the value of that row, or none
+  abbrev pub IsValueLookedUp : {V : Type 0} → List Bool → List (C × V) → Option V → Type 0
+  IsValueLookedUp {V} asked rows value = (row : Option (C × V)) × IsLookedUp asked rows row × (value ≡ option_map (λ row. row.1) row)
 
   -- the rows whose key begins the asked bits, which are all routes that cover them
   abbrev pub AreMatching : {V : Type 0} → List Bool → List (C × V) → List (C × V) → Type 0

@@ -37,7 +37,7 @@
 //! Of a new key `insert` and `set`, and `with_capacity`, `reserve`, `lookups`, `clone` and `load` allocate, and no
 //! other call does. Where an allocation fails, `insert` returns the key and the value as its error and leaves the rows
 //! as they were, and `load` returns `NoMemory`. `insert` and `remove` move the rows behind the key, so they take time
-//! in the number of rows; `load` of many rows sorts them once.
+//! in the number of rows; `from_rows` and `load` sort many rows once.
 //!
 //! `load` takes prefix bytes, one network after the other, and keeps the index of each as its value. `inside` has the
 //! rows whose key is in a network, and `least_cover` the shortest list of networks with the addresses of all keys:
@@ -78,6 +78,9 @@
 //! once by `lookups`, whose result borrows the table: a look-up then takes one search, and from the key that it finds
 //! goes along links, each to the longest key that begins the last one.
 //!
+//! `get_mut`, `lookup_mut` and `value_mut` return a reference to a value, for writing in its row: no key changes, and
+//! nothing is allocated.
+//!
 //! `longest_match` is a function over any `Probe`, which counts the comparisons with keys. With n the number of rows
 //! and d that of the binary digits of n, it makes at most `(len + 1) * d` of them, where `len` is the number of bits
 //! that are looked up.
@@ -89,13 +92,15 @@ mod lookup;
 mod probe;
 mod rows;
 mod search;
+mod sorting;
 mod table;
 
 pub use lookup::longest_match;
 pub use probe::Probe;
 pub use rows::Rows;
 pub use table::LpmTable;
-pub use table::iterators::{Keys, Values};
+pub use table::cover::least_cover_in_place;
+pub use table::iterators::{IntoIter, Keys, Values};
 pub use table::load::LoadError;
 pub use table::lookups::Lookups;
 pub use table::matches::Matches;

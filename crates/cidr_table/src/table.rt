@@ -8,8 +8,6 @@ ghost use Rattle.cidr_table.specs.FiniteMap.{IsUnder, IsInserted, IsRemoved};
 ghost use Rattle.cidr_table.specs.Prefixes.{AreInside};
 ghost use Rattle.cidr_table.specs.Places.{IsPlace, IsLowerBound, begins_with};
 
-mod cover;
-
 use crate::rows::Rows;
 use crate::search::search;
 use cidr::NetworkBits;
@@ -19,7 +17,12 @@ use std::mem;
 use std::slice::Iter;
 
 mod clones;
+pub mod cover;
+mod debug;
+mod from_rows;
+mod hints;
 pub mod iterators;
+mod lends;
 pub mod load;
 pub mod lookups;
 mod map_calls;
@@ -29,7 +32,7 @@ pub mod matches;
 ///
 /// The rows are kept in one `Vec`, in the order of the keys, which is that of their bits. `insert` and `remove` of one
 /// key shift the rows after it: O(n). Many prefixes are best loaded at once, by `load`.
-#[derive(Debug, Drop)]
+#[derive(Drop)]
 pub struct LpmTable<C: NetworkBits + Copy, V> {
     rows: Vec<(C, V)>,
 }

@@ -17,7 +17,10 @@ fn main(rt: HostRuntime) -> Result<(), Failure> {
     routes.set("10.1.0.0/16".parse()?, 3)?;
     look_up(&rt, &routes)?;
     list(&rt, &routes)?;
+    write(&rt, &mut routes)?;
     change(&rt, &mut routes)?;
+    each_row(&rt)?;
+    from_rows(&rt)?;
     both_families(&rt)
 }
 
@@ -47,6 +50,19 @@ fn list(rt: &HostRuntime, routes: &Routes) -> Result<(), Failure> {
     Ok(())
 }
 
+/// Values that are written in their rows.
+fn write(rt: &HostRuntime, routes: &mut Routes) -> Result<(), Failure> {
+    if let Some(value) = routes.get_mut(&"10.1.0.0/16".parse()?) {
+        *value = 3;
+    }
+    println!(rt; "{:?}", routes.get(&"10.1.0.0/16".parse()?))?; // Some(3)
+    if let Some(hits) = routes.lookup_mut(&"10.2.0.1".parse()?) {
+        *hits = hits.wrapping_add(7);
+    }
+    println!(rt; "{:?}", routes.get(&"10.0.0.0/8".parse()?))?; // Some(9)
+    Ok(())
+}
+
 /// Rows that are set and removed.
 fn change(rt: &HostRuntime, routes: &mut Routes) -> Result<(), Failure> {
     println!(rt; "{:?}", routes.set("10.1.0.0/16".parse()?, 4)?)?; // Some(3)
@@ -58,6 +74,36 @@ fn change(rt: &HostRuntime, routes: &mut Routes) -> Result<(), Failure> {
     routes.set("192.0.2.0/24".parse()?, 5)?;
     routes.clear();
     println!(rt; "{}", routes.is_empty())?; // true
+    Ok(())
+}
+
+/// All values written, and then all rows taken out of a table.
+fn each_row(rt: &HostRuntime) -> Result<(), Failure> {
+    let mut routes = Routes::new(rt.alloc());
+    routes.set("0.0.0.0/0".parse()?, 0)?;
+    routes.set("10.0.0.0/8".parse()?, 1)?;
+    for index in 0..routes.len() {
+        if let Some(hits) = routes.value_mut(index) {
+            *hits = hits.wrapping_add(1);
+        }
+    }
+    println!(rt; "{routes:?}")?; // {0.0.0.0/0: 1, 10.0.0.0/8: 2}
+    let mut rows = routes.into_iter();
+    println!(rt; "{:?}", rows.next_back())?; // Some((10.0.0.0/8, 2))
+    println!(rt; "{}", rows.len())?; // 1
+    for (network, value) in rows {
+        println!(rt; "{network} {value}")?;
+    }
+    Ok(())
+}
+
+/// A table of rows in any order, of which the last one of a key counts.
+fn from_rows(rt: &HostRuntime) -> Result<(), Failure> {
+    let (one, other) = ("10.1.0.0/16".parse()?, "10.0.0.0/8".parse()?);
+    let rows = vec![in rt.alloc(); (one, 1), (other, 2), (one, 3)].map_err(|_| AllocError)?;
+    let routes = Routes::from_rows(rows);
+    println!(rt; "{}", routes.len())?; // 2
+    println!(rt; "{:?}", routes.iter().last())?; // Some((10.1.0.0/16, 3))
     Ok(())
 }
 

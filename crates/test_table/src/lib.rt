@@ -7,6 +7,8 @@ mod comparisons;
 #[cfg(test)]
 mod covers;
 #[cfg(test)]
+mod from_rows;
+#[cfg(test)]
 mod large_tables;
 #[cfg(test)]
 mod many_prefixes;

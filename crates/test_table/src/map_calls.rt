@@ -115,3 +115,55 @@ fn a_clone_is_equal_until_a_row_differs(rt: HostRuntime) -> Result<(), Fail> {
     assert!(rt; routes != copy);
     Ok(())
 }
+
+#[test]
+fn a_value_is_written_in_its_row_alone(rt: HostRuntime) -> Result<(), Fail> {
+    let mut routes = filled(rt.alloc(), INSERTED)?;
+    let capacity = routes.capacity();
+    assert_eq!(rt; routes.get_mut(&network("10.0.0.0/9")?).copied(), None);
+    match routes.get_mut(&network("10.0.0.0/8")?) {
+        Some(value) => *value = 30,
+        None => return Err(Fail::new("no value under a key")),
+    }
+    // the longest of its keys is that of the IPv4 networks
+    match routes.lookup_mut(&network("192.0.2.1")?) {
+        Some(value) => *value = 10,
+        None => return Err(Fail::new("no value for an address")),
+    }
+    assert_eq!(rt; routes.capacity(), capacity);
+    assert_eq!(rt;
+        routes,
+        filled(
+            rt.alloc(),
+            &[("0.0.0.0/0", 10), ("any", 2), ("10.0.0.0/8", 30)]
+        )?
+    );
+    match routes.value_mut(2) {
+        Some(value) => *value = 31,
+        None => return Err(Fail::new("no value in the last row")),
+    }
+    assert_eq!(rt; routes.row(2).copied(), Some((network("10.0.0.0/8")?, 31)));
+    assert_eq!(rt; routes.value_mut(3).copied(), None);
+    assert_eq!(rt; routes.remove(&network("any")?), Some(2));
+    assert_eq!(rt; routes.lookup_mut(&network("::1")?).copied(), None);
+    assert_eq!(rt; routes.len(), 2);
+    Ok(())
+}
+
+#[test]
+fn rows_by_value_ascend_from_both_ends(rt: HostRuntime) -> Result<(), Fail> {
+    let mut rows = filled(rt.alloc(), INSERTED)?.into_iter();
+    assert_eq!(rt; rows.len(), 3);
+    assert_eq!(rt; rows.next(), Some((network("any")?, 2)));
+    assert_eq!(rt; rows.next_back(), Some((network("10.0.0.0/8")?, 3)));
+    assert_eq!(rt; rows.next(), Some((network("0.0.0.0/0")?, 1)));
+    assert_eq!(rt; rows.next_back(), None);
+    assert_eq!(rt; rows.next(), None);
+    assert_eq!(rt; rows.len(), 0);
+    let mut sum: u32 = 0;
+    for (_, value) in filled(rt.alloc(), INSERTED)? {
+        sum = sum.wrapping_add(value);
+    }
+    assert_eq!(rt; sum, 6);
+    Ok(())
+}

@@ -1,5 +1,5 @@
 //! The shortest list of networks that holds the same addresses as the keys of a table.
-ghost use Rattle.std.specs.Prelude.{◌≡◌, ◌≤◌, Bool, List, length, take, map};
+ghost use Rattle.std.specs.Prelude.{◌≡◌, ◌≤◌, Bool, List, length, take, drop, map};
 ghost use Rattle.std.specs.Bool.{Decides};
 ghost use Rattle.std.specs.List.Sorted.{IsStrictlySortedBy};
 ghost use Rattle.std.specs.Map.{keys_of};
@@ -39,6 +39,28 @@ impl<C: NetworkBits + Copy, V> LpmTable<C, V> {
     {
         least_cover(self.rows.as_slice(), out)
     }
+}
+
+/// Writes the minimal aggregate of networks to the first elements of their own slice, ascending, and returns how many
+/// there are: the shortest list of networks that has the same addresses (aggregation, RFC 4632, 4).
+///
+/// The caller has to prove that the networks ascend with no repeats, as after `sort_unstable` and `dedup`. The contract
+/// leaves open what is in the slice after the list. It takes one pass over the networks and allocates nothing.
+pub fn least_cover_in_place<C: NetworkBits + Copy>(networks: &mut [C]) -> usize
+    requires { IsStrictlySortedBy C.cmp networks.old }
+    ensures fits { result ≤ length networks.old }
+    ensures cover { IsLeastCover 129 (map C.bits networks.old) (map C.bits (take result networks.new)) }
+{
+    let mut n = 0;
+    for i in 0..networks.len() {
+        let key = networks[i];
+        known(&key);
+        if !is_covered(networks, n, &key) {
+            networks[n] = key;
+            n = merge(networks, n + 1);
+        }
+    }
+    n
 }
 
 /// The least cover of the keys of rows that ascend by them.
@@ -88,6 +110,7 @@ fn merge<C: BitString>(out: &mut [C], count: usize) -> usize
     ensures cover { IsLeastCover 129 (map C.bits (take count out.old)) (map C.bits (take result out.new)) }
     ensures before { (k : List Bool) → AreBefore (map C.bits (take count out.old)) k
         → AreBefore (map C.bits (take result out.new)) k }
+    ensures rest { drop count out.new ≡ drop count out.old }
 {
     let mut n = count;
     while n >= 2 && are_halves(&out[n - 2], &out[n - 1]) {

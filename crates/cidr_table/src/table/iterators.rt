@@ -10,9 +10,11 @@ ghost use Rattle.std.specs.Slice.Iter.{iter_rest};
 
 use crate::table::LpmTable;
 use cidr::NetworkBits;
+use std::alloc::Global;
 use std::iter::FusedIterator;
 use std::marker::Model;
 use std::slice::Iter;
+use std::vec;
 
 /// The keys of a table that are left, ascending. The call `keys` makes it.
 #[derive(Drop)]
@@ -96,6 +98,50 @@ impl<'a, C, V> DoubleEndedIterator for Values<'a, C, V> {
 
 impl<'a, C, V> FusedIterator for Values<'a, C, V> {}
 
+/// The rows of a table that are left, by value, in the order of their keys. The call `into_iter` of `LpmTable` makes
+/// it.
+#[derive(Drop)]
+pub struct IntoIter<C, V> {
+    rows: vec::IntoIter<(C, V), Global>,
+}
+
+impl<C, V> Model for IntoIter<C, V> {
+    ghost use Rattle.std.specs.Prelude.{List};
+    ghost use Rattle.std.specs.Vec.Iter.{into_iter_items};
+
+    ghost Value = { List (C × V) };
+
+    ghost view = { λ left. into_iter_items left.rows };
+}
+
+impl<C: Drop, V: Drop> Iterator for IntoIter<C, V> {
+    type Item = (C, V);
+
+    ghost next_gives = { YieldsFirstBy (λ row. row) (λ rows. rows) };
+
+    ghost remaining = { item_count (λ rows. rows) };
+
+    fn next(&mut self) -> Option<(C, V)> {
+        self.rows.next()
+    }
+}
+
+impl<C: Drop, V: Drop> DoubleEndedIterator for IntoIter<C, V> {
+    ghost next_back_gives = { YieldsLastBy (λ row. row) (λ rows. rows) };
+
+    fn next_back(&mut self) -> Option<(C, V)> {
+        self.rows.next_back()
+    }
+}
+
+impl<C: Drop, V: Drop> ExactSizeIterator for IntoIter<C, V> {
+    fn len(&self) -> usize {
+        self.rows.len()
+    }
+}
+
+impl<C: Drop, V: Drop> FusedIterator for IntoIter<C, V> {}
+
 impl<C: NetworkBits + Copy, V> LpmTable<C, V> {
     /// The keys, ascending, from both ends.
     ///
@@ -138,6 +184,29 @@ impl<'a, C: NetworkBits + Copy, V> IntoIterator for &'a LpmTable<C, V> {
 
     fn into_iter(self) -> Iter<'a, (C, V)> {
         self.iter()
+    }
+}
+
+impl<C: NetworkBits + Copy, V: Drop> IntoIterator for LpmTable<C, V> {
+    type Item = (C, V);
+
+    type IntoIter = IntoIter<C, V>;
+
+    ghost into_iter_gives = { λ table rows. (rows ≡ table.rows) × (length rows < 2 ^ 64)
+        × IsStrictlySortedBy C.cmp (keys_of table.rows) };
+
+    /// The rows by value, in the order of their keys, from both ends. It allocates nothing.
+    ///
+    /// ```
+    /// let mut rows = routes.into_iter();
+    /// rows.next_back() // Some((10.0.0.0/8, 2))
+    /// rows.len() // 1
+    /// ```
+    fn into_iter(self) -> IntoIter<C, V> {
+        let LpmTable { rows } = self;
+        IntoIter {
+            rows: rows.into_iter(),
+        }
     }
 }
 

@@ -1,5 +1,5 @@
 //! A table loaded from prefix bytes.
-ghost use Rattle.std.specs.Prelude.{◌≡◌, cond, MatchResult, IfOk};
+ghost use Rattle.std.specs.Prelude.{MatchResult, IfOk};
 ghost use Rattle.std.specs.List.Sorted.{IsStrictlySortedBy};
 ghost use Rattle.std.specs.Map.{keys_of};
 ghost use Rattle.cidr_table.specs.Loading.{IsLoaded, IsLoadRefused, IsRead, AreLast};
@@ -37,9 +37,8 @@ impl<C: PrefixBytes + Copy> LpmTable<C, usize> {
         ensures loaded { IsLoaded C.bits C.width bytes.now result }
         ensures sorted { IfOk result (λ table. IsStrictlySortedBy C.cmp (keys_of table.rows)) }
     {
-        let mut rows = read_rows(alloc, bytes)?;
-        keep_last(&mut rows);
-        Ok(LpmTable { rows })
+        let rows = read_rows(alloc, bytes)?;
+        Ok(of_last_places(rows))
     }
 }
 
@@ -67,23 +66,13 @@ fn read_rows<C: PrefixBytes + Copy>(
     Ok(rows)
 }
 
-/// Puts the rows in the order of their keys, and leaves of those of one key the one with the greatest index.
-fn keep_last<C: NetworkBits + Copy>(rows: &mut Vec<(C, usize)>)
-    ensures sorted { IsStrictlySortedBy C.cmp (keys_of rows.new.items) }
-    ensures last { AreLast rows.old.items rows.new.items }
+/// The table of the rows, where of those of one key the one with the greatest index counts.
+///
+/// They are sorted by key and index first, which takes fewer moves than the stable sort of `from_rows`.
+fn of_last_places<C: NetworkBits + Copy>(mut rows: Vec<(C, usize)>) -> LpmTable<C, usize>
+    ensures sorted { IsStrictlySortedBy C.cmp (keys_of result.rows) }
+    ensures last { AreLast rows.items result.rows }
 {
     rows.sort_unstable();
-    rows.dedup_by(
-        |row, kept|
-            ensures same { result ≡ C.eq row.old.0 kept.old.0 }
-            ensures row { row.new ≡ row.old }
-            ensures place { kept.new ≡ cond result (kept.old.0, row.old.1) kept.old }
-        {
-            let same = row.0 == kept.0;
-            if same {
-                kept.1 = row.1;
-            }
-            same
-        },
-    );
+    LpmTable::from_rows(rows)
 }

@@ -9,23 +9,26 @@ ghost use Rattle.cidr_table.specs.Prefixes.{IsLookedUp};
 
 use crate::rows::Rows;
 use crate::search::{clipped, search, search_back, search_between};
+use crate::table::hints::Hints;
 use crate::table::{LpmTable, is_inside};
-use cidr::{BitString, NetworkBits};
+use cidr::NetworkBits;
 use std::alloc::{AllocError, Global};
 use std::marker::Model;
 
-/// The rows of a table, made ready for many look-ups: each takes one search, however many keys contain the look-up key.
+/// The rows of a table, made ready for many look-ups: each takes a few comparisons, however many rows there are and
+/// however many keys contain the look-up key.
 #[derive(Drop)]
 pub struct Lookups<'a, C: NetworkBits + Copy, V> {
     rows: &'a [(C, V)],
     /// For each row, how many rows there are up to that of the longest key above its own, or 0 where there is none.
-    above: Vec<usize>,
-    /// For each number of 16 bits, about how many keys begin with a lower one. A look-up tests what it takes from here.
-    starts: Vec<usize>,
+    /// Empty for more rows than a `u32` counts.
+    above: Vec<u32>,
+    /// About where keys stand. A look-up tests what it takes from here.
+    hints: Hints,
 }
 
 impl<'a, C: NetworkBits + Copy, V> Model for Lookups<'a, C, V> {
-    ghost use Rattle.std.specs.Prelude.{◌≡◌, List, length};
+    ghost use Rattle.std.specs.Prelude.{◌≡◌, ◌≤◌, List, length};
     ghost use Rattle.std.specs.List.Sorted.{IsStrictlySortedBy};
     ghost use Rattle.std.specs.Map.{keys_of};
     ghost use Rattle.cidr_table.specs.Above.{AreLinks};
@@ -35,7 +38,7 @@ impl<'a, C: NetworkBits + Copy, V> Model for Lookups<'a, C, V> {
     ghost view = { λ t. t.rows.now };
 
     ghost invariant = { λ t. IsStrictlySortedBy C.cmp (keys_of t.rows.now)
-        × (length t.above.items ≡ length t.rows.now)
+        × (length t.above.items ≤ length t.rows.now)
         × AreLinks C.bits (keys_of t.rows.now) t.above.items (length t.above.items) };
 }
 
@@ -51,22 +54,11 @@ impl<C: NetworkBits + Copy, V> LpmTable<C, V> {
     pub fn lookup(&self, asked: &C) -> Option<&(C, V)>
         ensures { IsLookedUp C.bits (C.bits asked.now) self.now.rows (option_copied result) }
     {
-        let rows = self.ascending();
-        let mut end = upto(rows, rows.len(), asked);
-        while end > 0 {
-            let row = &rows[end - 1];
-            if is_inside(asked, &row.0) {
-                return Some(row);
-            }
-            // A key that begins the look-up key begins this one's too: it is no longer than what they share.
-            let shared = asked.shared_prefix_len(&row.0);
-            end = upto_back(rows, end - 1, &clipped(asked, shared));
-        }
-        None
+        longest(self.ascending(), asked)
     }
 
-    /// The rows, made ready for many look-ups. Allocates one number for each row, and from 16,384 rows on 65,537 more.
-    /// The result borrows the table, which cannot change meanwhile.
+    /// The rows, made ready for many look-ups: it goes a few times through them, and allocates up to seven bytes for
+    /// each. The result borrows the table, which cannot change meanwhile.
     ///
     /// ```
     /// let ready = routes.lookups(rt.alloc())?;
@@ -76,18 +68,9 @@ impl<C: NetworkBits + Copy, V> LpmTable<C, V> {
         ensures { IfOk result (λ rows. rows ≡ self.now.rows) }
     {
         let rows = self.ascending();
-        let mut above = Vec::with_capacity(alloc, rows.len())?;
-        for place in 0..rows.len() {
-            let row = &rows[place];
-            let end = nearest(rows, &above, place, &row.0);
-            above.push(end)?;
-        }
-        let starts = starts_of(alloc, rows)?;
-        Ok(Lookups {
-            rows,
-            above,
-            starts,
-        })
+        let above = links_of(alloc, rows)?;
+        let hints = Hints::of(alloc, rows)?;
+        Ok(Lookups { rows, above, hints })
     }
 }
 
@@ -101,6 +84,9 @@ impl<'a, C: NetworkBits + Copy, V> Lookups<'a, C, V> {
     pub fn lookup(&self, asked: &C) -> Option<&'a (C, V)>
         ensures { IsLookedUp C.bits (C.bits asked.now) self.now (option_copied result) }
     {
+        if self.above.len() < self.rows.len() {
+            return longest(self.rows, asked);
+        }
         let place = self.upto(asked);
         let end = nearest(self.rows, &self.above, place, asked);
         if end == 0 {
@@ -117,18 +103,47 @@ impl<'a, C: NetworkBits + Copy, V> Lookups<'a, C, V> {
         ensures reached { (any : C) →
             IsReached C.bits (keys_of self.now) any (C.bits asked.now) (length self.now) result }
     {
-        if self.starts.is_empty() {
-            return upto(self.rows, self.rows.len(), asked);
+        match self.hints.around(asked.first_bits()) {
+            Some((from, to)) => upto_near(self.rows, from, to, asked),
+            None => upto(self.rows, self.rows.len(), asked),
         }
-        let first = leading(asked);
-        let from = self.starts.get(first).copied().unwrap_or(0);
-        let to = self
-            .starts
-            .get(first.wrapping_add(1))
-            .copied()
-            .unwrap_or(self.rows.len());
-        upto_near(self.rows, from, to, asked)
     }
+}
+
+/// The row of the longest key that contains the look-up key.
+fn longest<'a, C: NetworkBits + Copy, V>(rows: &'a [(C, V)], asked: &C) -> Option<&'a (C, V)>
+    requires sorted { IsStrictlySortedBy C.cmp (keys_of rows.now) }
+    ensures { IsLookedUp C.bits (C.bits asked.now) rows.now (option_copied result) }
+{
+    let mut end = upto(rows, rows.len(), asked);
+    while end > 0 {
+        let row = &rows[end - 1];
+        if is_inside(asked, &row.0) {
+            return Some(row);
+        }
+        // A key that begins the look-up key begins this one's too: it is no longer than what they share.
+        let shared = asked.shared_prefix_len(&row.0);
+        end = upto_back(rows, end - 1, &clipped(asked, shared));
+    }
+    None
+}
+
+/// For each row, how many rows there are up to that of the longest key above its own, or 0 where there is none.
+fn links_of<C: NetworkBits, V>(alloc: Global, rows: &[(C, V)]) -> Result<Vec<u32>, AllocError>
+    requires sorted { IsStrictlySortedBy C.cmp (keys_of rows.now) }
+    ensures { IfOk result (λ above. (length above.items ≤ length rows.now)
+        × AreLinks C.bits (keys_of rows.now) above.items (length above.items)) }
+{
+    if rows.len() > u32::MAX as usize {
+        return Ok(Vec::new(alloc));
+    }
+    let mut above = Vec::with_capacity(alloc, rows.len())?;
+    for place in 0..rows.len() {
+        let row = &rows[place];
+        let end = nearest(rows, &above, place, &row.0);
+        above.push(end as u32)?;
+    }
+    Ok(above)
 }
 
 /// How many of the first `end` keys there are up to the look-up key in the order: those that begin its bits are among
@@ -158,36 +173,6 @@ fn upto_back<C: NetworkBits, V>(rows: &[(C, V)], end: usize, asked: &C) -> usize
         Ok(place) => place + 1,
         Err(place) => place,
     }
-}
-
-/// For each number of 16 bits, how many keys begin with a lower one; for few keys nothing.
-fn starts_of<C: NetworkBits, V>(alloc: Global, rows: &[(C, V)]) -> Result<Vec<usize>, AllocError> {
-    if rows.len() < 16384 {
-        return Ok(Vec::new(alloc));
-    }
-    let mut starts = Vec::with_capacity(alloc, 65537)?;
-    for place in 0..rows.len() {
-        let row = &rows[place];
-        for _ in starts.len()..leading(&row.0).saturating_add(1) {
-            starts.push(place)?;
-        }
-    }
-    for _ in starts.len()..65537 {
-        starts.push(rows.len())?;
-    }
-    Ok(starts)
-}
-
-/// The number that the first 16 bits write, where bits that are missing count as unset.
-fn leading<C: BitString>(key: &C) -> usize {
-    let len = key.len();
-    let mut number: usize = 0;
-    for i in 0..16 {
-        number = number
-            .wrapping_mul(2)
-            .wrapping_add(usize::from(i < len && key.get(i)));
-    }
-    number
 }
 
 /// How many keys there are up to the look-up key in the order, where there are likely at least `from` and at most `to`.
@@ -239,7 +224,7 @@ fn are_behind<C: NetworkBits, V>(rows: &[(C, V)], start: usize, asked: &C) -> bo
 
 /// Goes along the chain from the key before `end`, to the first key that begins the look-up key: it stands before
 /// the result. 0 is the end of the chain.
-fn nearest<C: NetworkBits, V>(rows: &[(C, V)], above: &[usize], end: usize, asked: &C) -> usize
+fn nearest<C: NetworkBits, V>(rows: &[(C, V)], above: &[u32], end: usize, asked: &C) -> usize
     requires size { length above.now ≤ length rows.now }
     requires links { AreLinks C.bits (keys_of rows.now) above.now (length above.now) }
     requires end { end ≤ length above.now }
@@ -256,7 +241,7 @@ fn nearest<C: NetworkBits, V>(rows: &[(C, V)], above: &[usize], end: usize, aske
         if is_inside(asked, &row.0) {
             return at;
         }
-        at = above[at - 1];
+        at = above[at - 1] as usize;
     }
     0
 }

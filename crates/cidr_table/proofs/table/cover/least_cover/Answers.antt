@@ -1,7 +1,7 @@
 use Rattle.std.proofs.Common.{◌≡◌, ◌<◌, length, subst, arith}
 use Rattle.std.proofs.lemmas.Map.Entries.{length-keys_of}
 use Rattle.std.specs.Map.{keys_of}
-use Rattle.cidr_table.proofs.Passing.{IsPassed, passed_none, passed_all, passed_skip, passed_push, own_cover, key_pushed, key_behind}
+use Rattle.cidr_table.proofs.Passing.{IsPassed, passed_none, passed_all, passed_skip, passed_push, own_cover, key_pushed, key_behind, key_within, key_read}
 use Rattle.cidr_table.proofs.table.cover.least_cover.Goals as goal
 use Rattle.cidr_table.proofs.table.cover.least_cover.Goals.{then-not-is_covered, else-not-is_covered}
 
@@ -11,21 +11,24 @@ loop-row-init g c = passed_none g.C.BitString.bits 129 (keys_of c.args.rows.now)
 pub is_covered-requires-clause-reduced : goal.is_covered-requires-clause-reduced
 is_covered-requires-clause-reduced g c =
     let l = c.loop-row in
-    own_cover g.C.BitString.bits g.C.Ord.cmp g.met.C.NetworkBits.ordered 129 c.args.rows.now
-    c.requires.sorted l.out l.row-index l.n l.invariant c.row-item.result c.loop-row-test.true c.row-item.is
+    own_cover g.C.BitString.bits g.C.Ord.cmp g.met.C.NetworkBits.ordered 129 (keys_of c.args.rows.now)
+    c.requires.sorted l.out l.row-index l.n l.invariant c.row-item.result.0 (key_within c.args.rows.now l.row-index c.loop-row-test.true)
+    (key_read c.args.rows.now l.row-index c.row-item.result c.loop-row-test.true c.row-item.is)
 
 pub is_covered-requires-clause-before : goal.is_covered-requires-clause-before
 is_covered-requires-clause-before g c =
     let l = c.loop-row in
-    key_behind g.C.BitString.bits g.C.Ord.cmp g.met.C.NetworkBits.ordered 129 c.args.rows.now
-    c.requires.sorted l.out l.row-index l.n l.invariant c.row-item.result c.loop-row-test.true c.row-item.is
+    key_behind g.C.BitString.bits g.C.Ord.cmp g.met.C.NetworkBits.ordered 129 (keys_of c.args.rows.now)
+    c.requires.sorted l.out l.row-index l.n l.invariant c.row-item.result.0 (key_within c.args.rows.now l.row-index c.loop-row-test.true)
+    (key_read c.args.rows.now l.row-index c.row-item.result c.loop-row-test.true c.row-item.is)
 
 pub merge-n-requires-clause-pushed : goal.merge-n-requires-clause-pushed
 merge-n-requires-clause-pushed g c =
     let l = c.loop-row in
     let room : l.n < length l.out = omega (arith, l.invariant.fits, l.auto.out, c.requires.room, c.loop-row-test.true) in
-    key_pushed g.C.BitString.bits g.C.Ord.cmp g.met.C.NetworkBits.ordered 129 c.args.rows.now
-    c.requires.sorted l.out l.row-index l.n l.invariant c.row-item.result c.loop-row-test.true c.row-item.is
+    key_pushed g.C.BitString.bits g.C.Ord.cmp g.met.C.NetworkBits.ordered 129 (keys_of c.args.rows.now)
+    c.requires.sorted l.out l.row-index l.n l.invariant c.row-item.result.0 (key_within c.args.rows.now l.row-index c.loop-row-test.true)
+    (key_read c.args.rows.now l.row-index c.row-item.result c.loop-row-test.true c.row-item.is)
     room c.is_covered.result c.is_covered.ensures c.if-not-is_covered.true c.known.ensures
 
 pub loop-row-preserved : goal.loop-row-preserved
@@ -34,13 +37,15 @@ loop-row-preserved g c =
     let room : l.n < length l.out = omega (arith, l.invariant.fits, l.auto.out, c.requires.room, c.loop-row-test.true) in
     elim c.if-not-is_covered.branch [
       | then-not-is_covered w ↦
-          rw (w.out-is, w.n-is) (passed_push g.C.BitString.bits g.C.Ord.cmp g.met.C.NetworkBits.ordered 129 c.args.rows.now
-          c.requires.sorted l.out l.row-index l.n l.invariant c.row-item.result c.loop-row-test.true c.row-item.is
+          rw (w.out-is, w.n-is) (passed_push g.C.BitString.bits g.C.Ord.cmp g.met.C.NetworkBits.ordered 129 (keys_of c.args.rows.now)
+          c.requires.sorted l.out l.row-index l.n l.invariant c.row-item.result.0 (key_within c.args.rows.now l.row-index c.loop-row-test.true)
+          (key_read c.args.rows.now l.row-index c.row-item.result c.loop-row-test.true c.row-item.is)
           room w.merge-n.new.out w.merge-n.result w.merge-n.ensures.fewer
           w.merge-n.ensures.cover w.merge-n.ensures.before)
       | else-not-is_covered w ↦
-          rw (w.out-is, w.n-is) (passed_skip g.C.BitString.bits g.C.Ord.cmp g.met.C.NetworkBits.ordered 129 c.args.rows.now
-          c.requires.sorted l.out l.row-index l.n l.invariant c.row-item.result c.loop-row-test.true c.row-item.is
+          rw (w.out-is, w.n-is) (passed_skip g.C.BitString.bits g.C.Ord.cmp g.met.C.NetworkBits.ordered 129 (keys_of c.args.rows.now)
+          c.requires.sorted l.out l.row-index l.n l.invariant c.row-item.result.0 (key_within c.args.rows.now l.row-index c.loop-row-test.true)
+          (key_read c.args.rows.now l.row-index c.row-item.result c.loop-row-test.true c.row-item.is)
           (c.is_covered.ensures.0 w.if-not-is_covered.false))
     ]
 

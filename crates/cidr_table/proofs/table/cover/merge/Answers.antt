@@ -1,5 +1,5 @@
 use Rattle.std.proofs.Common.{◌≤◌, ◌<◌, length, take, map, ◌-◌, ◌∙◌, refl, arith, length-take}
-use Rattle.std.proofs.lemmas.List.{length-set, length-map}
+use Rattle.std.proofs.lemmas.List.{length-set, length-map, drop-set-lt}
 use Rattle.std.proofs.lemmas.Bool.Decides.{not_from_Decides}
 use Rattle.cidr_table.specs.CoverStack.{AreHalves}
 use Rattle.cidr_table.proofs.Passing.{merging_none, merging_done, two_read, clipped_is, still_merging}
@@ -11,6 +11,7 @@ loop-n-init g c =
     record {
       fewer = omega arith;
       places = refl;
+      rest = refl;
       merging = merging_none 129
           (map g.C.BitString.bits (take c.args.count c.args.out.now)) c.requires.pushed;
     }
@@ -78,6 +79,7 @@ loop-n-preserved g c =
     record {
       fewer = omega (arith, h.fewer);
       places = length-set out (n - 2) x ∙ h.places;
+      rest = drop-set-lt c.args.count out (n - 2) x (omega (arith, h.fewer, c.loop-n-test.true)) ∙ h.rest;
       merging = still_merging f out n c.loop-n-test.true within 129 old h.merging u v x
           c.index-out-n.is c.index-out-n-in-loop-n.is halves clipped;
     }

@@ -1,4 +1,4 @@
-use Rattle.std.proofs.Common.{◌≡◌, ◌≤◌, length, take, map}
+use Rattle.std.proofs.Common.{◌≡◌, ◌≤◌, length, take, drop, map}
 use Rattle.cidr_table.proofs.Passing.{IsMerging}
 use Rattle.cidr_table.proofs.table.cover.merge.Given as goal
 
@@ -8,6 +8,7 @@ invariant-loop-n g l =
     record {
       fewer : l.n ≤ l.count;
       places : length l.out ≡ length l.fn.out;
+      rest : drop l.count l.out ≡ drop l.count l.fn.out;
       merging : IsMerging 129 (map bits (take l.count l.fn.out)) (map bits (take l.n l.out));
     }
 

@@ -5,4 +5,4 @@ use Rattle.cidr_table.proofs.table.load.LpmTable+C+usize.load.Goals as goal
 pub returns-clause-loaded : goal.returns-clause-loaded
 returns-clause-loaded g c =
     let (keys, listed, rows) = c.in_ok-rows.ensures in
-    (keys, listed, last_places keys c.in_ok-rows.rows.items c.keep_last.new.rows.items rows c.keep_last.ensures.last)
+    (keys, listed, last_places keys c.in_ok-rows.rows.items c.of_last_places.result.rows rows c.of_last_places.ensures.last)

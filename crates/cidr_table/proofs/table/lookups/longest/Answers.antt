@@ -4,7 +4,7 @@ use Rattle.std.specs.Map.{keys_of}
 use Rattle.cidr_table.proofs.Beginnings.{begins_decides}
 use Rattle.cidr_table.proofs.Insides.{key_at}
 use Rattle.cidr_table.proofs.Links.{reached_shorter, longest_row, no_row}
-use Rattle.cidr_table.proofs.table.LpmTable.lookup.Goals as goal
+use Rattle.cidr_table.proofs.table.lookups.longest.Goals as goal
 
 pub offset_bounds-rows-end : goal.offset_bounds-rows-end
 offset_bounds-rows-end g c = omega (arith, (c.loop-end.invariant c.args.asked.now).within)
@@ -18,7 +18,7 @@ upto_back-end-requires-clause-end g c = omega (arith, (c.loop-end.invariant c.ar
 -- the key doesn't begin the asked bits: on to the keys up to those that it shares with them
 pub loop-end-preserved : goal.loop-end-preserved
 loop-end-preserved g c = λ any.
-    let rows = c.ascending-rows.result.now in
+    let rows = c.args.rows.now in
     let a = g.C.BitString.bits c.args.asked.now in
     let place = c.loop-end.end - 1 in
     let row = c.index-rows-end.result in
@@ -31,17 +31,17 @@ loop-end-preserved g c = λ any.
 
 pub returns-then-is_inside : goal.returns-then-is_inside
 returns-then-is_inside g c =
-    let rows = c.ascending-rows.result.now in
+    let rows = c.args.rows.now in
     let a = g.C.BitString.bits c.args.asked.now in
     let row = c.index-rows-end.result in
     let h = c.loop-end.invariant row.0 in
     let key : get_or (keys_of rows) (c.loop-end.end - 1) row.0 ≡ row.0 = key_at rows (c.loop-end.end - 1) row.0 row (omega (arith, h.within)) ∙ ap (λ x. x.0) (sym c.index-rows-end.is) in
-    rw (sym c.ascending-rows.ensures.rows) (longest_row g.C.BitString.bits rows a c.loop-end.end row (omega arith) h (sym c.index-rows-end.is)
+    (longest_row g.C.BitString.bits rows a c.loop-end.end row (omega arith) h (sym c.index-rows-end.is)
     (rw key ((begins_decides a (g.C.BitString.bits row.0)).0 (sym c.is_inside.ensures ∙ c.if-is_inside.true))))
 
 pub returns : goal.returns
 returns g c =
-    let rows = c.ascending-rows.result.now in
+    let rows = c.args.rows.now in
     let none : c.loop-end.end ≡ 0 = omega arith in
-    rw (sym c.ascending-rows.ensures.rows) (no_row g.C.BitString.bits rows (g.C.BitString.bits c.args.asked.now) c.args.asked.now
+    (no_row g.C.BitString.bits rows (g.C.BitString.bits c.args.asked.now) c.args.asked.now
     (rw none at (c.loop-end.invariant c.args.asked.now)))
