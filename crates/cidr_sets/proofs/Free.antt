@@ -1,0 +1,269 @@
+-- Free networks: in one network, and in several that ascend.
+use Rattle.std.proofs.Common.{◌≡◌, ◌≢◌, ℕ, zero, suc, ◌+◌, ◌-◌, ◌<◌, ◌≤◌, ◌⊎◌, Bool, true, false, List, [], ◌∷◌, ◌++◌, length, get_or, take, drop, map, length-append, refl, sym, ap, ◌∙◌, subst, arith, inl, inr, Option, Some, None}
+use Rattle.std.proofs.lemmas.Bool.{cases_lt, cases_eq, false≢true, true≢false}
+use Rattle.std.proofs.lemmas.List.{get_or-map, length-map, get_or_default, length-replicate, append_assoc, append-nil, take_at}
+use Rattle.std.proofs.lemmas.Map.Keys.{Less-from_sorted}
+use Rattle.std.specs.Option.{option_map}
+use Rattle.std.specs.Ordering.{ordering_reverse}
+use Rattle.std.specs.declared.cmp.Ordering.TheVariants.{Less, Greater}
+use Rattle.cidr.specs.model.Bits.{bit_cmp}
+use Rattle.cidr.specs.model.Network.{BeginsWith, zeros}
+use Rattle.cidr.specs.laws.BitLaws.{bit_cmp_total}
+use Rattle.cidr_table.specs.Cover.{Covers}
+use Rattle.cidr_table.specs.Cover.{IsReduced}
+use Rattle.cidr_table.proofs.Beginnings.{bits_same, begins_length, begins_between, not_before}
+use Rattle.cidr_table.proofs.Halves.{either_half}
+use Rattle.cidr_table.proofs.MapLaws.{contains_first, contains_cases, contains_nothing}
+use Rattle.cidr_table.proofs.Order.{halves_less}
+use Rattle.cidr_sets.specs.Pools.{IsFree, IsFirstFree, IsBestFree, IsSmaller, IsRoom}
+use Rattle.cidr_sets.proofs.Addresses.{covers_by, covers_to, map_contains, map_contained}
+
+-- ---- the lowest network in another
+pub lowest_first : (p a : List Bool) (k : ℕ) → BeginsWith a p → length a ≡ length p + k
+    → bit_cmp (p ++ zeros k) a ≢ Greater
+lowest_first [] [] zero h s g = cc
+lowest_first [] (b ∷ a) zero h s g = omega (arith, s)
+lowest_first [] [] (suc k) h s g = omega (arith, s)
+lowest_first [] (true ∷ a) (suc k) h s g = cc
+lowest_first [] (false ∷ a) (suc k) h s g = lowest_first [] a k refl (omega (arith, s)) g
+lowest_first (b ∷ p) [] k h s g = omega (arith, s)
+lowest_first (true ∷ p) (true ∷ a) k h s g = lowest_first p a k (ap (drop 1) h) (omega (arith, s)) g
+lowest_first (false ∷ p) (false ∷ a) k h s g = lowest_first p a k (ap (drop 1) h) (omega (arith, s)) g
+lowest_first (true ∷ p) (false ∷ a) k h s g = false≢true (ap (λ t. get_or t 0 true) h)
+lowest_first (false ∷ p) (true ∷ a) k h s g = true≢false (ap (λ t. get_or t 0 true) h)
+
+-- a network that becomes the lowest of n bits, once the missing ones are appended
+pub record IsBegun (p now : List Bool) (n room : ℕ) : Type 0 where
+  pub same : now ++ zeros (n - length now) ≡ p ++ zeros (n - length p)
+  pub within : length now ≤ n
+  pub left : n ≤ length now + room
+
+pub begun_more : (p now new : List Bool) (n r s : ℕ) → IsBegun p now n r → length now < n → r ≤ s + 1
+    → new ≡ now ++ false ∷ [] → IsBegun p new n s
+begun_more p now new n r s h short left e =
+    let size : length new ≡ length now + 1 = ap length e ∙ length-append now (false ∷ []) in
+    let one_less : n - length now ≡ suc (n - length new) = omega (arith, size, short) in
+    record {
+      same = ap (λ x. x ++ zeros (n - length new)) e ∙ append_assoc now (false ∷ []) (zeros (n - length new))
+          ∙ ap (λ k. now ++ zeros k) (sym one_less) ∙ h.same;
+      within = omega (arith, size, short);
+      left = omega (arith, size, short, left, h.left);
+    }
+
+pub begun_whole : (p now : List Bool) (n r : ℕ) → IsBegun p now n r → n ≤ length now → now ≡ p ++ zeros (n - length p)
+begun_whole p now n r h long =
+    let none : n - length now ≡ 0 = omega (arith, long) in
+    sym (append-nil now) ∙ ap (λ k. now ++ zeros k) (sym none) ∙ h.same
+
+-- ---- in one network
+pub in_one : (q p : List Bool) → Covers (q ∷ []) p → BeginsWith p q
+in_one q p c = elim (contains_cases q c.0 [] c.1) [
+  | inl e ↦ subst (BeginsWith p) (sym e) c.2
+  | inr d ↦ absurd (contains_nothing c.0 d)
+]
+
+pub of_one : (q p : List Bool) → BeginsWith p q → Covers (q ∷ []) p
+of_one q p b = (q, contains_first q [], b)
+
+module _ (IsNetwork : List Bool → Type 0) (n : ℕ) where
+  module _ (q : List Bool) where
+    pub too_long : n < length q → (p : List Bool) → ¬ (IsFree IsNetwork (q ∷ []) n p)
+    too_long short p h = omega (arith, short, h.len, begins_length p q (in_one q p h.inside))
+
+    pub too_deep : (room : ℕ) → IsRoom IsNetwork q room → 0 < length q → length q + room < n
+        → (p : List Bool) → ¬ (IsFree IsNetwork (q ∷ []) n p)
+    too_deep room law some deep p h = omega (arith, deep, h.len, law p h.network some (in_one q p h.inside))
+
+    pub lowest_free : (x : List Bool) → length q ≤ n → x ≡ q ++ zeros (n - length q)
+        → IsFirstFree IsNetwork (q ∷ []) n (Some x)
+    lowest_free x fits e =
+        let size : length x ≡ n = omega (arith, fits, ap length e, length-append q (zeros (n - length q)), length-replicate (n - length q) false) in (
+          size,
+          of_one q x (ap (take (length q)) e ∙ take_at q (zeros (n - length q)) (length q) refl),
+          λ y h. subst (λ z. bit_cmp z y ≢ Greater) (sym e)
+              (lowest_first q y (n - length q) (in_one q y h.inside) (omega (arith, fits, h.len))),
+        )
+
+  -- ---- in both halves of the network of no bits
+  pub in_lower : (x : List Bool) → 0 < n → IsFirstFree IsNetwork ((false ∷ []) ∷ []) n (Some x)
+      → IsFirstFree IsNetwork ([] ∷ []) n (Some x)
+  in_lower x some h = (
+    h.0,
+    of_one [] x refl,
+    λ y k. elim (either_half y [] refl (omega (arith, some, k.len))) [
+      | inl b ↦ h.2 y (record { network = k.network; len = k.len; inside = of_one (false ∷ []) y b })
+      | inr b ↦ λ g. (let e = sym (halves_less [] x y (in_one (false ∷ []) x h.1) b) ∙ g in (cc))
+    ],
+  )
+
+  only_upper : 0 < n → ((p : List Bool) → ¬ (IsFree IsNetwork ((false ∷ []) ∷ []) n p)) → (y : List Bool)
+      → IsFree IsNetwork ([] ∷ []) n y → IsFree IsNetwork ((true ∷ []) ∷ []) n y
+  only_upper some none y k = elim (either_half y [] refl (omega (arith, some, k.len))) [
+    | inl b ↦ absurd (none y (record { network = k.network; len = k.len; inside = of_one (false ∷ []) y b }))
+    | inr b ↦ record { network = k.network; len = k.len; inside = of_one (true ∷ []) y b }
+  ]
+
+  pub in_upper : 0 < n → ((p : List Bool) → ¬ (IsFree IsNetwork ((false ∷ []) ∷ []) n p)) → (r : Option (List Bool))
+      → IsFirstFree IsNetwork ((true ∷ []) ∷ []) n r → IsFirstFree IsNetwork ([] ∷ []) n r
+  in_upper some none (Some x) h = (h.0, of_one [] x refl, λ y k. h.2 y (only_upper some none y k))
+  in_upper some none None h = λ y k. h y (only_upper some none y k)
+
+  -- ---- in several
+  -- p is the first in q, and y is in a network that comes later
+  pub first_later : (p y q r : List Bool) → BeginsWith p q → BeginsWith y r → bit_cmp q r ≡ Less
+      → (BeginsWith y q → bit_cmp p y ≢ Greater) → bit_cmp p y ≢ Greater
+  first_later p y q r b c less h g =
+      let below : bit_cmp y p ≡ Less = bit_cmp_total.antisymm y p ∙ ap ordering_reverse g in
+      let low : bit_cmp y q ≢ Less = λ l. not_before y r c (bit_cmp_total.trans y q r l less) in
+      h (begins_between q p y b low (λ e. (let d = sym below ∙ e in (cc)))) g
+
+  module _ {C : Type 0} (f : C → List Bool) (xs : List C) where
+    -- nothing is free in the first i
+    abbrev pub NoneBefore : ℕ → Type 0
+    NoneBefore i = (j : ℕ) (x : C) → j < i → get_or xs j x ≡ x → (p : List Bool) → ¬ (IsFree IsNetwork (f x ∷ []) n p)
+
+    pub none_more : (i : ℕ) (x : C) → i < length xs → x ≡ get_or xs i x → NoneBefore i
+        → ((p : List Bool) → ¬ (IsFree IsNetwork (f x ∷ []) n p)) → NoneBefore (i + 1)
+    none_more i x here is before none j y lt e = elim (cases_eq j i) [
+      | inl s ↦
+          let same : x ≡ y = is ∙ get_or_default xs i x y here ∙ ap (λ k. get_or xs k y) (sym s) ∙ e in
+          subst (λ z. (p : List Bool) → ¬ (IsFree IsNetwork (f z ∷ []) n p)) same none
+      | inr d ↦ before j y (omega (arith, lt)) e
+    ]
+
+    pub none_at_all : (i : ℕ) → length xs ≤ i → NoneBefore i → (p : List Bool) → ¬ (IsFree IsNetwork (map f xs) n p)
+    none_at_all i all none p h =
+        let (x, c, b) = covers_by f xs p h.inside in
+        none c.0 x (omega (arith, all, c.1)) c.2 p (record { network = h.network; len = h.len; inside = of_one (f x) p b })
+
+    pub first_of_all : (i : ℕ) (x : C) (p : List Bool) → i < length xs → x ≡ get_or xs i x → IsReduced 129 (map f xs)
+        → NoneBefore i → IsFirstFree IsNetwork (f x ∷ []) n (Some p) → IsFirstFree IsNetwork (map f xs) n (Some p)
+    first_of_all i x p here is h none k =
+        let held : BeginsWith p (f x) = in_one (f x) p k.1 in (
+          k.0,
+          covers_to f xs x p (i, here, sym is) held,
+          λ y u.
+              let (z, c, b) = covers_by f xs y u.inside in
+              let j = c.0 in
+              let alone : BeginsWith y (f x) → bit_cmp p y ≢ Greater = λ t. k.2 y (record { network = u.network; len = u.len; inside = of_one (f x) y t }) in
+              elim (cases_lt j i) [
+                | inl lt ↦ absurd (none j z lt c.2 y (record { network = u.network; len = u.len; inside = of_one (f z) y b }))
+                | inr le ↦ elim (cases_eq j i) [
+                  | inl s ↦
+                      let same : z ≡ x = sym c.2 ∙ get_or_default xs j z x c.1 ∙ ap (λ m. get_or xs m x) s ∙ sym is in
+                      alone (subst (λ m. BeginsWith y (f m)) same b)
+                  | inr d ↦
+                      let at_i : get_or (map f xs) i [] ≡ f x = get_or-map f xs i x [] here ∙ ap f (sym is) in
+                      let at_j : get_or (map f xs) j [] ≡ f z = get_or-map f xs j z [] c.1 ∙ ap f c.2 in
+                      let less : bit_cmp (get_or (map f xs) i []) (get_or (map f xs) j []) ≡ Less =
+                      Less-from_sorted bit_cmp (map f xs) i j [] h.ascending (omega (arith, le)) (omega (arith, c.1, length-map xs f)) in
+                      first_later p y (f x) (f z) held b (rw (at_i, at_j) at less) alone
+                ]
+              ],
+        )
+
+    -- ---- the smallest that has one
+    -- of the first i networks none that has one inside is smaller than this one
+    abbrev pub NoneSmaller : ℕ → List Bool → Type 0
+    NoneSmaller i b = (j : ℕ) (y : C) → j < i → get_or xs j y ≡ y → (p : List Bool) → IsFree IsNetwork (f y ∷ []) n p
+        → (length (f y) < length b) ⊎ ((length (f y) ≡ length b) × (bit_cmp b (f y) ≢ Greater))
+
+    -- the best of the first i, with the first network inside, or none
+    abbrev pub IsBestSoFar : ℕ → Option (C × C) → Type 0
+    IsBestSoFar i None = NoneBefore i
+    IsBestSoFar i (Some best) = ((k : ℕ) × (k < i) × (i ≤ length xs) × (get_or xs k best.0 ≡ best.0))
+        × IsFirstFree IsNetwork (f best.0 ∷ []) n (Some (f best.1)) × NoneSmaller i (f best.0)
+
+    abbrev pub network_bits : Option (C × C) → Option (List Bool)
+    network_bits best = option_map (λ pair. f pair.0) best
+
+    module _ (i : ℕ) (x : C) (here : i < length xs) (is : x ≡ get_or xs i x) where
+      same_at : (j : ℕ) (y : C) → j ≡ i → get_or xs j y ≡ y → x ≡ y
+      same_at j y s e = is ∙ get_or_default xs i x y here ∙ ap (λ k. get_or xs k y) (sym s) ∙ e
+
+      itself : (y : C) → x ≡ y → (length (f y) < length (f x)) ⊎ ((length (f y) ≡ length (f x)) × (bit_cmp (f x) (f y) ≢ Greater))
+      itself y e = inr (ap (λ z. length (f z)) (sym e), λ g. (let d = sym (bits_same (f x)) ∙ ap (λ z. bit_cmp (f x) (f z)) e ∙ g in (cc)))
+
+      pub best_new : (old : Option (C × C)) (p : C) → IsBestSoFar i old → IsSmaller (network_bits old) (f x)
+          → IsFirstFree IsNetwork (f x ∷ []) n (Some (f p)) → IsBestSoFar (i + 1) (Some (x, p))
+      best_new None p h smaller k = (
+        (i, omega arith, omega (arith, here), sym is),
+        k,
+        λ j y lt e q u. elim (cases_eq j i) [
+          | inl s ↦ itself y (same_at j y s e)
+          | inr d ↦ absurd (h j y (omega (arith, lt)) e q u)
+        ],
+      )
+      best_new (Some b) p h smaller k = (
+        (i, omega arith, omega (arith, here), sym is),
+        k,
+        λ j y lt e q u. elim (cases_eq j i) [
+          | inl s ↦ itself y (same_at j y s e)
+          | inr d ↦ elim (h.2 j y (omega (arith, lt)) e q u) [
+            | inl less ↦ inl (omega (arith, less, smaller))
+            | inr tie ↦ inl (omega (arith, tie.0, smaller))
+          ]
+        ],
+      )
+
+      -- nothing is free in this one
+      pub best_kept : (old : Option (C × C)) → IsBestSoFar i old
+          → ((p : List Bool) → ¬ (IsFree IsNetwork (f x ∷ []) n p)) → IsBestSoFar (i + 1) old
+      best_kept None h none = none_more i x here is h none
+      best_kept (Some b) h none = (
+        (h.0.0, omega (arith, h.0.1), omega (arith, here), h.0.3),
+        h.1,
+        λ j y lt e q u. elim (cases_eq j i) [
+          | inl s ↦ absurd (subst (λ z. (p : List Bool) → ¬ (IsFree IsNetwork (f z ∷ []) n p)) (same_at j y s e) none q u)
+          | inr d ↦ h.2 j y (omega (arith, lt)) e q u
+        ],
+      )
+
+      -- this one isn't smaller
+      pub best_stays : (old : Option (C × C)) → IsReduced 129 (map f xs) → IsBestSoFar i old
+          → ¬ (IsSmaller (network_bits old) (f x)) → IsBestSoFar (i + 1) old
+      best_stays None r h large = absurd (large tt)
+      best_stays (Some b) r h large = (
+        (h.0.0, omega (arith, h.0.1), omega (arith, here), h.0.3),
+        h.1,
+        λ j y lt e q u. elim (cases_eq j i) [
+          | inl s ↦ subst (λ z. (length (f z) < length (f b.0)) ⊎ ((length (f z) ≡ length (f b.0)) × (bit_cmp (f b.0) (f z) ≢ Greater)))
+              (same_at j y s e) not_smaller
+          | inr d ↦ h.2 j y (omega (arith, lt)) e q u
+        ],
+      )
+        where
+          k : ℕ
+          k = h.0.0
+
+          at_k : get_or (map f xs) k [] ≡ f b.0
+          at_k = get_or-map f xs k b.0 [] (omega (arith, h.0.1, here)) ∙ ap f h.0.3
+
+          at_i : get_or (map f xs) i [] ≡ f x
+          at_i = get_or-map f xs i x [] here ∙ ap f (sym is)
+
+          less : bit_cmp (f b.0) (f x) ≡ Less
+          less = rw (at_k, at_i) at (Less-from_sorted bit_cmp (map f xs) k i [] r.ascending h.0.1 (omega (arith, here, length-map xs f)))
+
+          not_smaller : (length (f x) < length (f b.0)) ⊎ ((length (f x) ≡ length (f b.0)) × (bit_cmp (f b.0) (f x) ≢ Greater))
+          not_smaller = elim (cases_lt (length (f x)) (length (f b.0))) [
+            | inl lt ↦ inl lt
+            | inr le ↦ elim (cases_lt (length (f b.0)) (length (f x))) [
+              | inl gt ↦ absurd (large gt)
+              | inr ge ↦ inr (omega (arith, le, ge), λ g. (let d = sym less ∙ g in (cc)))
+            ]
+          ]
+
+    pub best_of_all : (i : ℕ) (b p : C) → length xs ≤ i → IsBestSoFar i (Some (b, p))
+        → IsBestFree IsNetwork (map f xs) n (Some (f p))
+    best_of_all i b p all h = (
+      f b,
+      record {
+        here = map_contains f xs b (h.0.0, omega (arith, h.0.1, h.0.2), h.0.3);
+        tightest = λ r q c u.
+            let (y, d, e) = map_contained f xs r c in
+            subst (λ z. (length z < length (f b)) ⊎ ((length z ≡ length (f b)) × (bit_cmp (f b) z ≢ Greater))) e
+            (h.2 d.0 y (omega (arith, all, d.1)) d.2 q (subst (λ z. IsFree IsNetwork (z ∷ []) n q) (sym e) u));
+      },
+      h.1,
+    )

@@ -1,0 +1,32 @@
+-- Addresses: none begins with another one, and the first and the last one of a network.
+use Rattle.std.proofs.Common.{ℕ, ◌-◌, ◌≤◌, Bool, true, false, List, [], ◌∷◌, length, get_or, drop, refl, sym, ap, ◌∙◌, arith}
+use Rattle.std.proofs.lemmas.Bool.{false≢true, true≢false}
+use Rattle.std.proofs.lemmas.List.{take_all}
+use Rattle.cidr.specs.model.Network.{HasWidth, first_of, last_of}
+use Rattle.cidr_table.specs.CoverAddresses.{IsIpAddress}
+use Rattle.cidr_sets.specs.Ranges.{AreBeginless, IsPadded, any_first, any_last}
+
+pub plain_beginless : (w : ℕ) → AreBeginless (HasWidth w)
+plain_beginless w a b ha hb h = sym (take_all (length b) a (omega (arith, ha, hb))) ∙ h
+
+pub ip_beginless : AreBeginless IsIpAddress
+ip_beginless [] b ha hb h = absurd ha
+ip_beginless (x ∷ a) [] ha hb h = absurd hb
+ip_beginless (false ∷ a) (false ∷ b) ha hb h = ap (λ t. false ∷ t) (plain_beginless 32 a b ha hb (ap (drop 1) h))
+ip_beginless (true ∷ a) (true ∷ b) ha hb h = ap (λ t. true ∷ t) (plain_beginless 128 a b ha hb (ap (drop 1) h))
+ip_beginless (true ∷ a) (false ∷ b) ha hb h = absurd (true≢false (ap (λ t. get_or t 0 true) h))
+ip_beginless (false ∷ a) (true ∷ b) ha hb h = absurd (false≢true (ap (λ t. get_or t 0 true) h))
+
+pub plain_ends : (w : ℕ) → w ≤ 129 → (p : List Bool) → length p ≤ 129 → IsPadded false p (first_of w p) × IsPadded true p (last_of w p)
+plain_ends w fits p short = ((w - length p, refl, omega (arith, fits, short)), (w - length p, refl, omega (arith, fits, short)))
+
+pub any_ends : (p : List Bool) → length p ≤ 129 → IsPadded false p (any_first p) × IsPadded true p (any_last p)
+any_ends [] short = ((33, refl, omega arith), (129, refl, omega arith))
+any_ends (false ∷ p) short = ((32 - length p, refl, omega (arith, short)), (32 - length p, refl, omega (arith, short)))
+any_ends (true ∷ p) short = ((128 - length p, refl, omega (arith, short)), (128 - length p, refl, omega (arith, short)))
+
+pub v4_fits : 32 ≤ 129
+v4_fits = omega arith
+
+pub v6_fits : 128 ≤ 129
+v6_fits = omega arith

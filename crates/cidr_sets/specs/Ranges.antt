@@ -1,0 +1,78 @@
+-- Ranges of addresses: all from a first to a last one, in the order of their bits.
+use Rattle.std.specs.Prelude.{◌≡◌, ◌≢◌, ◌↔◌, ℕ, suc, ◌+◌, ◌≤◌, Bool, true, false, ◌&&◌, if◌then◌else◌, List, [], ◌∷◌, ◌++◌, length, take, replicate, Some}
+use Rattle.std.specs.Bool.{beq}
+use Rattle.std.specs.List.{Contains, slice_get}
+use Rattle.std.specs.declared.cmp.Ordering.TheVariants.{Greater}
+use Rattle.cidr.specs.model.Bits.{bit_cmp}
+use Rattle.cidr.specs.model.Network.{BeginsWith, zeros, ones, first_of, last_of}
+
+-- not before the first address, and not after the last; the first bits of a longer list tell
+abbrev pub IsBetween : List Bool → List Bool → List Bool → Type 0
+IsBetween first last a = (bit_cmp first a ≢ Greater) × (bit_cmp (take (length last) a) last ≢ Greater)
+
+-- an address is after the last address of a range and before the first of another
+abbrev pub IsGap : ℕ → List Bool → List Bool → Type 0
+IsGap w last first = (a : List Bool) × (length a ≡ w)
+    × (bit_cmp (take (length last) a) last ≡ Greater) × (bit_cmp first a ≡ Greater)
+
+-- the longest ranges of a set, ascending: none is empty, an address is in one of them exactly if it is in the set, and
+-- between a range and the next there is an address, so that no two touch
+pub record AreRanges (w : ℕ) (IsIn : List Bool → Type 0) (ranges : List (List Bool × List Bool)) : Type 0 where
+  pub some : (r : List Bool × List Bool) → Contains ranges r → (a : List Bool) × (length a ≡ w) × IsBetween r.0 r.1 a
+  pub exact : (a : List Bool) → length a ≡ w
+      → IsIn a ↔ ((r : List Bool × List Bool) × Contains ranges r × IsBetween r.0 r.1 a)
+  pub apart : (i : ℕ) (r s : List Bool × List Bool) → slice_get ranges i ≡ Some r → slice_get ranges (suc i) ≡ Some s
+      → IsGap w r.1 s.0
+
+-- ---- what a trait and private functions promise
+-- no address begins with another
+abbrev pub AreBeginless : (List Bool → Type 0) → Type 0
+AreBeginless IsAddress = (a b : List Bool) → IsAddress a → IsAddress b → BeginsWith a b → a ≡ b
+
+-- the bits, and behind them k times b, 129 at most
+abbrev pub IsPadded : Bool → List Bool → List Bool → Type 0
+IsPadded b p a = (k : ℕ) × (a ≡ p ++ replicate k b) × (length p + k ≤ 129)
+
+-- the first and the last address of a network with the family bit in front, or of the one of no bits: 0.0.0.0 and
+-- ffff:ffff:ffff:ffff:ffff:ffff:ffff:ffff
+abbrev pub any_first : List Bool → List Bool
+any_first [] = false ∷ zeros 32
+any_first (false ∷ p) = false ∷ first_of 32 p
+any_first (true ∷ p) = true ∷ first_of 128 p
+
+abbrev pub any_last : List Bool → List Bool
+any_last [] = true ∷ ones 128
+any_last (false ∷ p) = false ∷ last_of 32 p
+any_last (true ∷ p) = true ∷ last_of 128 p
+
+-- the list begins with the edge, or has the bit `up` where it first differs
+unfoldable pub Reaches : Bool → List Bool → List Bool → Type 0
+Reaches up [] a = Unit {0}
+Reaches up (x ∷ e) [] = ⊥
+Reaches up (true ∷ e) (true ∷ a) = Reaches up e a
+Reaches up (false ∷ e) (false ∷ a) = Reaches up e a
+Reaches up (false ∷ e) (true ∷ a) = up ≡ true
+Reaches up (true ∷ e) (false ∷ a) = up ≡ false
+
+-- each bit is b
+unfoldable pub all_bits : Bool → List Bool → Bool
+all_bits b [] = true
+all_bits b (x ∷ p) = beq x b && all_bits b p
+
+-- where both first differ, p has only set bits behind and q only unset ones: no address is between them
+unfoldable pub touches : List Bool → List Bool → Bool
+touches [] q = false
+touches (x ∷ p) [] = false
+touches (true ∷ p) (true ∷ q) = touches p q
+touches (false ∷ p) (false ∷ q) = touches p q
+touches (false ∷ p) (true ∷ q) = all_bits true p && all_bits false q
+touches (true ∷ p) (false ∷ q) = false
+
+-- networks from a first to a last one, each range as these two
+unfoldable pub join : List Bool → List (List Bool × List Bool) → List (List Bool × List Bool)
+join p [] = (p, p) ∷ []
+join p (r ∷ rs) = if touches p r.0 then (p, r.1) ∷ rs else (p, p) ∷ r ∷ rs
+
+unfoldable pub joined : List (List Bool) → List (List Bool × List Bool)
+joined [] = []
+joined (p ∷ ps) = join p (joined ps)

@@ -1,0 +1,16 @@
+-- Where a network stands among networks that ascend.
+use Rattle.std.specs.Prelude.{◌≡◌, ◌≢◌, ℕ, ◌<◌, ◌≤◌, Bool, List, length, slice_index_or, Contains, Option, Some, None}
+use Rattle.std.specs.declared.cmp.Ordering.TheVariants.{Greater}
+use Rattle.cidr.specs.model.Bits.{bit_cmp}
+use Rattle.cidr.specs.model.Network.{BeginsWith}
+
+-- those below the place come before the asked one or are the same, and the others come after it
+pub record IsUpto (networks : List (List Bool)) (asked : List Bool) (place : ℕ) : Type 0 where
+  pub within : place ≤ length networks
+  pub before : (j : ℕ) → j < place → bit_cmp (slice_index_or networks j asked) asked ≢ Greater
+  pub behind : (j : ℕ) → place ≤ j → j < length networks → bit_cmp (slice_index_or networks j asked) asked ≡ Greater
+
+-- a network that lies in the outer one, or none where no network does
+abbrev pub IsFirstInside : List (List Bool) → List Bool → Option (List Bool) → Type 0
+IsFirstInside networks outer (Some q) = Contains networks q × BeginsWith q outer × (length outer < length q)
+IsFirstInside networks outer None = (q : List Bool) → Contains networks q → ¬ (BeginsWith q outer)

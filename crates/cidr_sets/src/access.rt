@@ -1,0 +1,134 @@
+//! Access lists: rules in order, each of which permits or denies the addresses of a network.
+ghost use Rattle.std.specs.Prelude.{◌≡◌, ◌↔◌, ◌<◌, ℕ, Bool, List, length, map, Contains, IfOk, Some};
+ghost use Rattle.std.specs.List.{slice_get};
+ghost use Rattle.std.specs.List.Sorted.{IsStrictlyIncreasing};
+ghost use Rattle.cidr.specs.model.Network.{BeginsWith};
+ghost use Rattle.cidr_sets.specs.Sets.{IsSetOf};
+ghost use Rattle.cidr_sets.specs.FirstRules.{IsFirst, IsPermitted, IsDeciding, IsShadowed};
+ghost use Rattle.cidr_sets.specs.declared.access.Action.{Action};
+
+use crate::set::NetworkSet;
+use cidr::NetworkBits;
+use std::alloc::{AllocError, Global};
+
+/// What a rule does with the addresses of its network.
+#[derive(Debug, Clone, Copy, Drop, PartialEq, Eq)]
+pub enum Action {
+    /// The addresses are permitted.
+    Permit,
+    /// The addresses are denied.
+    Deny,
+}
+
+/// A rule of an access list.
+#[derive(Debug, Clone, Copy, Drop)]
+pub struct Rule<C: NetworkBits + Copy> {
+    /// What the rule does with an address of its network, where no earlier rule's network contains the address.
+    pub action: Action,
+    /// The network.
+    pub network: C,
+}
+
+/// The addresses that an access list permits.
+///
+/// The first rule whose network contains an address decides. An address in none of the networks is denied, so that
+/// a list without rules permits none.
+///
+/// It goes from the last rule to the first and adds the network of each to the set or removes it, which takes time
+/// that grows with the square of the number of rules. Where an allocation fails, it returns the error.
+///
+/// ```
+/// permitted(rt.alloc(), &rules)?.as_slice() // [10.128.0.0/9]
+/// ```
+pub fn permitted<C: NetworkBits + Copy>(
+    alloc: Global,
+    rules: &[Rule<C>],
+) -> Result<NetworkSet<C>, AllocError>
+    ensures { IfOk result (λ set. IsSetOf 129
+        (IsPermitted (map (λ r. C.bits r.network) rules.now) (map (λ r. r.action) rules.now)) (map C.bits set)) }
+{
+    let mut set = NetworkSet::new(alloc);
+    for i in (0..rules.len()).rev() {
+        let rule = &rules[i];
+        match rule.action {
+            Action::Permit => set.insert(rule.network)?,
+            Action::Deny => set.remove(&rule.network)?,
+        }
+    }
+    Ok(set)
+}
+
+/// The indices of the rules that no address reaches, ascending: each address of such a rule's network is in the network
+/// of an earlier rule, which decides.
+///
+/// Where an allocation fails, it returns the error.
+///
+/// ```
+/// shadowed(rt.alloc(), &rules)? // [2]
+/// ```
+pub fn shadowed<C: NetworkBits + Copy>(
+    alloc: Global,
+    rules: &[Rule<C>],
+) -> Result<Vec<usize>, AllocError>
+    ensures indices { IfOk result (λ out. (i : ℕ)
+        → Contains out.items i ↔ IsShadowed 129 (map (λ r. C.bits r.network) rules.now) i) }
+    ensures ascending { IfOk result (λ out. IsStrictlyIncreasing out.items) }
+{
+    let mut earlier = NetworkSet::new(alloc);
+    let mut out = Vec::new(alloc);
+    for (i, rule) in rules.iter().enumerate() {
+        if earlier.contains(&rule.network) {
+            out.push(i)?;
+        }
+        earlier.insert(rule.network)?;
+    }
+    Ok(out)
+}
+
+/// The indices of the rules that decide the addresses of a network, ascending: each is the first rule whose network
+/// contains some address of this one.
+///
+/// Of the network of a rule that [`shadowed`] returns, they are the earlier rules that together contain all of its
+/// addresses. Where an allocation fails, it returns the error.
+///
+/// ```
+/// deciding(rt.alloc(), &rules, &rules[2].network)? // [0]
+/// deciding(rt.alloc(), &rules, &rules[1].network)? // [0, 1]
+/// ```
+pub fn deciding<C: NetworkBits + Copy>(
+    alloc: Global,
+    rules: &[Rule<C>],
+    network: &C,
+) -> Result<Vec<usize>, AllocError>
+    ensures indices { IfOk result (λ out. (i : ℕ) → Contains out.items i
+        ↔ IsDeciding 129 (map (λ r. C.bits r.network) rules.now) (C.bits network.now) i) }
+    ensures ascending { IfOk result (λ out. IsStrictlyIncreasing out.items) }
+{
+    let mut rest = NetworkSet::new(alloc);
+    rest.insert(*network)?;
+    let mut out = Vec::new(alloc);
+    for (i, rule) in rules.iter().enumerate() {
+        if rest.overlaps(&rule.network) {
+            out.push(i)?;
+            rest.remove(&rule.network)?;
+        }
+    }
+    Ok(out)
+}
+
+/// Each address of a rule's network is decided by some rule, and where no address reaches the rule, only by earlier
+/// ones. This function does nothing: after a call, a caller's proof has the law.
+pub fn shadowed_rules_are_decided_earlier()
+    ensures some { (networks : List (List Bool)) (i : ℕ) (p a : List Bool) → slice_get networks i ≡ Some p
+        → BeginsWith a p → (j : ℕ) × IsFirst networks a j }
+    ensures earlier { (w : ℕ) (networks : List (List Bool)) (i j : ℕ) (p : List Bool) → slice_get networks i ≡ Some p
+        → IsShadowed w networks i → IsDeciding w networks p j → j < i }
+{}
+
+/// Two access lists permit the same addresses exactly if their sets, as [`permitted`] returns them, are equal. This
+/// function does nothing: after a call, a caller's proof has the law.
+pub fn equal_sets_permit_the_same()
+    ensures { (w : ℕ) (these those : List (List Bool)) (actions others : List Action) (set other : List (List Bool))
+        → IsSetOf w (IsPermitted these actions) set → IsSetOf w (IsPermitted those others) other
+        → (set ≡ other) ↔ ((a : List Bool) → length a ≡ w → IsPermitted these actions a ↔ IsPermitted those others a) }
+{}

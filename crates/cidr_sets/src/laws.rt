@@ -1,0 +1,41 @@
+//! Laws, each as the contract of a function that does nothing. After a call, a caller's proof has the law; a program
+//! that runs needs none of these.
+ghost use Rattle.std.specs.Prelude.{◌≡◌, ◌↔◌, ◌≤◌, [], ℕ, Bool, List, length, map};
+ghost use Rattle.std.specs.Cmp.Lexicographic.{pointwise};
+ghost use Rattle.cidr.specs.either.IpAddress.{TellsEqual};
+ghost use Rattle.cidr_table.specs.Cover.{Covers, CoverSame, IsFull};
+ghost use Rattle.cidr_table.specs.Cover.{IsReduced};
+ghost use Rattle.cidr_sets.specs.Counts.{AreAddresses};
+
+use cidr::NetworkBits;
+
+/// Sets of the same addresses are the same lists of networks.
+pub fn equal_sets_are_equal_lists()
+    ensures { (w : ℕ) (these those : List (List Bool)) → IsReduced w these → IsReduced w those
+        → CoverSame w these those → these ≡ those }
+{}
+
+/// Sets are `==` exactly if they are the same list of networks, and lists of networks of the same bits are the same.
+pub fn equal_sets_are_the_same<C: NetworkBits + Copy>()
+    ensures eq { TellsEqual (pointwise C.eq) }
+    ensures bits { (these those : List C) → map C.bits these ≡ map C.bits those → these ≡ those }
+{}
+
+/// A set without addresses has no networks.
+pub fn sets_without_addresses_are_empty()
+    ensures { (w : ℕ) (set : List (List Bool)) → IsReduced w set
+        → ((a : List Bool) → length a ≡ w → ¬ (Covers set a)) → set ≡ [] }
+{}
+
+/// A set has all addresses of a network exactly if one of its networks contains it.
+pub fn full_networks_lie_in_one()
+    ensures { (w : ℕ) (set : List (List Bool)) (p : List Bool) → IsReduced w set → length p ≤ w
+        → IsFull w set p ↔ Covers set p }
+{}
+
+/// Networks have one list of addresses, so that the calls of a set that tell of it by its count, by an index or one by
+/// one tell of the same list.
+pub fn addresses_are_one_list()
+    ensures { (w : ℕ) (networks these those : List (List Bool)) → AreAddresses w networks these
+        → AreAddresses w networks those → these ≡ those }
+{}

@@ -1,0 +1,15 @@
+//! Sets of addresses, proved: union, intersection and difference of sets that are lists of networks.
+#![tactic(auto)]
+
+pub mod access;
+pub mod laws;
+mod pools;
+mod ranges;
+mod search;
+mod set;
+mod walk;
+
+pub use pools::Subnets;
+pub use ranges::{AddressRange, Addressed, Ranges};
+pub use set::NetworkSet;
+pub use walk::{AddressSpace, SetAddresses};

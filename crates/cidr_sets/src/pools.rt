@@ -1,0 +1,148 @@
+//! Free networks of a set: pools.
+ghost use Rattle.std.specs.Prelude.{◌≡◌, ◌+◌, ◌-◌, ◌≤◌, ◌∷◌, ◌++◌, [], Bool, List, length, map};
+ghost use Rattle.std.specs.Bool.{Decides};
+ghost use Rattle.std.specs.Option.{option_map};
+ghost use Rattle.cidr.specs.model.Network.{FitsWidth, zeros};
+ghost use Rattle.cidr_table.specs.CoverAddresses.{IsIpNetwork};
+ghost use Rattle.cidr_table.specs.Cover.{IsReduced};
+ghost use Rattle.cidr_sets.specs.Pools.{IsFirstFree, IsBestFree, IsRoom, IsSmaller};
+ghost use Rattle.cidr_sets.specs.PoolLaws.{plain_room, any_room_exact};
+
+use crate::set::NetworkSet;
+use cidr::{AnyIpCidr, BitString, Ipv4Cidr, Ipv6Cidr, NetworkBits};
+
+/// Networks of which it is known how long those inside them are. `Ipv4Cidr`, `Ipv6Cidr` and `AnyIpCidr` implement it.
+pub trait Subnets: NetworkBits {
+    /// Whether a list of bits is that of a network.
+    ghost IsNetwork: { List Bool → Type 0 };
+
+    /// No network inside another one is longer than `room` of that lets.
+    ghost deepest: { (q : Self) → IsRoom IsNetwork (Self.bits q) (Self.room q) };
+}
+
+impl Subnets for Ipv4Cidr {
+    ghost IsNetwork = { FitsWidth 32 };
+
+    ghost deepest = { plain_room 32 };
+}
+
+impl Subnets for Ipv6Cidr {
+    ghost IsNetwork = { FitsWidth 128 };
+
+    ghost deepest = { plain_room 128 };
+}
+
+impl Subnets for AnyIpCidr {
+    ghost IsNetwork = { IsIpNetwork };
+
+    ghost deepest = { any_room_exact };
+}
+
+impl<C: Subnets + Copy> NetworkSet<C> {
+    /// The first network of `len` bits all of whose addresses are in the set, or `None` where there is none.
+    ///
+    /// `len` is the prefix length, and for `AnyIpCidr` one more, as `BitString::len` counts. It looks at each network
+    /// of the set once: O(n).
+    ///
+    /// ```
+    /// free.as_slice() // [10.0.0.0/24, 10.0.1.64/26, 10.0.2.0/23]
+    /// free.first_free(26) // Some(10.0.0.0/26)
+    /// ```
+    pub fn first_free(&self, len: usize) -> Option<C>
+        ensures first { IsFirstFree C.IsNetwork (map C.bits self.now) len (option_map C.bits result) }
+        ensures reduced { IsReduced 129 (map C.bits self.now) }
+    {
+        for network in self.as_slice() {
+            if let Some(first) = first_subnet(network, len) {
+                return Some(first);
+            }
+        }
+        None
+    }
+
+    /// The first network of `len` bits in the smallest network of the set that has one, of equally small ones in the
+    /// first, or `None` where there is none. So what is large stays whole.
+    ///
+    /// `len` is the prefix length, and for `AnyIpCidr` one more, as `BitString::len` counts, and the smallest network
+    /// is the longest. It looks at each network of the set once: O(n).
+    ///
+    /// ```
+    /// free.as_slice() // [10.0.0.0/24, 10.0.1.64/26, 10.0.2.0/23]
+    /// free.first_free(26) // Some(10.0.0.0/26)
+    /// free.best_free(26) // Some(10.0.1.64/26)
+    /// ```
+    pub fn best_free(&self, len: usize) -> Option<C>
+        ensures best { IsBestFree C.IsNetwork (map C.bits self.now) len (option_map C.bits result) }
+        ensures reduced { IsReduced 129 (map C.bits self.now) }
+    {
+        let mut best: Option<(C, C)> = None;
+        for network in self.as_slice() {
+            if is_smaller(network, &best) {
+                if let Some(first) = first_subnet(network, len) {
+                    best = Some((*network, first));
+                }
+            }
+        }
+        match &best {
+            Some((_, first)) => Some(*first),
+            None => None,
+        }
+    }
+}
+
+/// Whether a network is smaller than the best so far, if there is one.
+fn is_smaller<C: BitString>(network: &C, best: &Option<(C, C)>) -> bool
+    ensures { Decides result (IsSmaller (option_map (λ pair. C.bits pair.0) best.now) (C.bits network.now)) }
+{
+    match best {
+        Some((best, _)) => best.len() < network.len(),
+        None => true,
+    }
+}
+
+/// The first network of `len` bits in a network, or `None` where there is none.
+///
+/// `Any` has room only for what both families have room for, so that its two halves are asked.
+fn first_subnet<C: Subnets + Copy>(network: &C, len: usize) -> Option<C>
+    ensures { IsFirstFree C.IsNetwork (C.bits network.now ∷ []) len (option_map C.bits result) }
+{
+    if len < network.len() {
+        return None;
+    }
+    if len <= network.len() + network.room() {
+        return Some(lowest(network, len));
+    }
+    if network.len() > 0 {
+        return None;
+    }
+    match first_in_half(false, len) {
+        Some(first) => Some(first),
+        None => first_in_half(true, len),
+    }
+}
+
+/// The first network of `len` bits in the lower or upper half of the network of no bits, or `None` where there is none.
+fn first_in_half<C: Subnets + Copy>(upper: bool, len: usize) -> Option<C>
+    ensures { IsFirstFree C.IsNetwork ((upper ∷ []) ∷ []) len (option_map C.bits result) }
+{
+    let mut half = C::null();
+    half.append(upper);
+    if len > 0 && len <= 1 + half.room() {
+        Some(lowest(&half, len))
+    } else {
+        None
+    }
+}
+
+/// The first network of `len` bits in a network that has room for it.
+fn lowest<C: BitString + Copy>(network: &C, len: usize) -> C
+    requires longer { length (C.bits network.now) ≤ len }
+    requires room { len ≤ length (C.bits network.now) + C.room network.now }
+    ensures { C.bits result ≡ C.bits network.now ++ zeros (len - length (C.bits network.now)) }
+{
+    let mut lowest = *network;
+    while lowest.len() < len {
+        lowest.append(false);
+    }
+    lowest
+}

@@ -1,0 +1,328 @@
+//! Ranges of addresses: from a first to a last one.
+ghost use Rattle.std.specs.Prelude.{◌≡◌, ◌↔◌, ◌⊎◌, ◌+◌, ◌-◌, ◌≤◌, ◌<◌, ◌++◌, ◌∷◌, [], Bool, List, Some, length, take, drop, true, false, slice_get, replicate, not, map, IfOk, OnOk};
+ghost use Rattle.std.specs.Iterator.{YieldsFirstBy, item_count};
+ghost use Rattle.cidr.specs.model.Network.{BeginsWith, HasWidth, first_of, last_of};
+ghost use Rattle.cidr.specs.either.IpAddress.{ip_address_bits};
+ghost use Rattle.cidr_table.specs.Cover.{Covers};
+ghost use Rattle.cidr_table.specs.CoverAddresses.{IsIpAddress};
+ghost use Rattle.cidr_sets.specs.Ranges.{AreBeginless, AreRanges, IsBetween, IsPadded, Reaches, all_bits, any_first, any_last, touches};
+ghost use Rattle.cidr_sets.specs.RangeLaws.{plain_beginless, ip_beginless, plain_ends, any_ends, v4_fits, v6_fits};
+ghost use Rattle.cidr_sets.specs.Sets.{IsSetOf};
+
+use crate::search::known;
+use crate::set::{NetworkSet, reduced};
+use cidr::{AnyIpCidr, BitString, IpAddr, Ipv4Addr, Ipv4Cidr, Ipv6Addr, Ipv6Cidr, NetworkBits};
+use std::alloc::{AllocError, Global};
+use std::cmp::Ordering;
+use std::iter::FusedIterator;
+use std::marker::Model;
+
+/// Networks and the type of their addresses. `Ipv4Cidr`, `Ipv6Cidr` and `AnyIpCidr` implement it.
+pub trait Addressed: NetworkBits {
+    /// The addresses: `Ipv4Addr`, `Ipv6Addr` or `IpAddr`.
+    type Address: Copy;
+
+    /// Whether a list of bits is that of an address.
+    ghost IsAddress: { List Bool → Type 0 };
+
+    /// The bits of an address, in `AnyIpCidr` with the family bit in front.
+    ghost address_bits: { Self.Address → List Bool };
+
+    /// No address begins with the bits of another.
+    ghost beginless: { AreBeginless IsAddress };
+
+    /// The bits of the first and the last address of a network, by the bits of the network.
+    ghost first_bits: { List Bool → List Bool };
+
+    ghost last_bits: { List Bool → List Bool };
+
+    /// They are those of the network, and behind them unset or set ones.
+    ghost ends: { (p : List Bool) → length p ≤ 129 → IsPadded false p (first_bits p) × IsPadded true p (last_bits p) };
+
+    /// The network that has only this address.
+    fn single(address: Self::Address) -> Self
+        ensures bits { Self.bits result ≡ address_bits address }
+        ensures address { IsAddress (address_bits address) }
+        ensures long { 32 ≤ length (address_bits address) };
+
+    /// The lowest address of the network; of `Any` that is 0.0.0.0.
+    fn lowest(&self) -> Self::Address
+        ensures { address_bits result ≡ first_bits (Self.bits self.now) };
+
+    /// The highest address of the network; of `Any` that is ffff:ffff:ffff:ffff:ffff:ffff:ffff:ffff.
+    fn highest(&self) -> Self::Address
+        ensures { address_bits result ≡ last_bits (Self.bits self.now) };
+}
+
+impl Addressed for Ipv4Cidr {
+    type Address = Ipv4Addr;
+
+    ghost IsAddress = { HasWidth 32 };
+
+    ghost address_bits = { λ a. a };
+
+    ghost beginless = { plain_beginless 32 };
+
+    ghost first_bits = { first_of 32 };
+
+    ghost last_bits = { last_of 32 };
+
+    ghost ends = { plain_ends 32 v4_fits };
+
+    fn single(address: Ipv4Addr) -> Ipv4Cidr {
+        Ipv4Cidr::new_host(address)
+    }
+
+    fn lowest(&self) -> Ipv4Addr {
+        self.first_address()
+    }
+
+    fn highest(&self) -> Ipv4Addr {
+        self.last_address()
+    }
+}
+
+impl Addressed for Ipv6Cidr {
+    type Address = Ipv6Addr;
+
+    ghost IsAddress = { HasWidth 128 };
+
+    ghost address_bits = { λ a. a };
+
+    ghost beginless = { plain_beginless 128 };
+
+    ghost first_bits = { first_of 128 };
+
+    ghost last_bits = { last_of 128 };
+
+    ghost ends = { plain_ends 128 v6_fits };
+
+    fn single(address: Ipv6Addr) -> Ipv6Cidr {
+        Ipv6Cidr::new_host(address)
+    }
+
+    fn lowest(&self) -> Ipv6Addr {
+        self.first_address()
+    }
+
+    fn highest(&self) -> Ipv6Addr {
+        self.last_address()
+    }
+}
+
+impl Addressed for AnyIpCidr {
+    type Address = IpAddr;
+
+    ghost IsAddress = { IsIpAddress };
+
+    ghost address_bits = { ip_address_bits };
+
+    ghost beginless = { ip_beginless };
+
+    ghost first_bits = { any_first };
+
+    ghost last_bits = { any_last };
+
+    ghost ends = { any_ends };
+
+    fn single(address: IpAddr) -> AnyIpCidr {
+        AnyIpCidr::new_host(address)
+    }
+
+    fn lowest(&self) -> IpAddr {
+        match self {
+            AnyIpCidr::Any => IpAddr::V4(Ipv4Cidr::null().first_address()),
+            AnyIpCidr::V4(network) => IpAddr::V4(network.first_address()),
+            AnyIpCidr::V6(network) => IpAddr::V6(network.first_address()),
+        }
+    }
+
+    fn highest(&self) -> IpAddr {
+        match self {
+            AnyIpCidr::Any => IpAddr::V6(Ipv6Cidr::null().last_address()),
+            AnyIpCidr::V4(network) => IpAddr::V4(network.last_address()),
+            AnyIpCidr::V6(network) => IpAddr::V6(network.last_address()),
+        }
+    }
+}
+
+impl<C: Addressed + Copy> NetworkSet<C> {
+    /// The set of the addresses from the first to the last, both included, as `first..=last` has them: empty where the
+    /// last comes before the first.
+    ///
+    /// It has at most 62 networks in IPv4 and 254 in IPv6. Of `AnyIpCidr`, the addresses of IPv4 come before those of
+    /// IPv6. Where an allocation fails, it returns the error.
+    ///
+    /// ```
+    /// let (first, last) = (Ipv4Addr::new(10, 0, 0, 1), Ipv4Addr::new(10, 0, 0, 6));
+    /// let set = NetworkSet::<Ipv4Cidr>::from_range(rt.alloc(), first, last)?;
+    /// set.as_slice() // [10.0.0.1/32, 10.0.0.2/31, 10.0.0.4/31, 10.0.0.6/32]
+    /// ```
+    pub fn from_range(
+        alloc: Global,
+        first: C::Address,
+        last: C::Address,
+    ) -> Result<Self, AllocError>
+        ensures set { IfOk result (λ set.
+            IsSetOf 129 (IsBetween (C.address_bits first) (C.address_bits last)) (map C.bits set)) }
+        ensures fits { IfOk result (λ set.
+            length set + 2 ≤ length (C.address_bits first) + length (C.address_bits last)) }
+    {
+        let (first, last) = (C::single(first), C::single(last));
+        known(&first);
+        known(&last);
+        let mut networks = Vec::new(alloc);
+        match first.cmp(&last) {
+            Ordering::Less => {
+                let len = first.shared_prefix_len(&last) + 1;
+                push_side(&mut networks, &first, len, true)?;
+                push_side(&mut networks, &last, len, false)?;
+            }
+            Ordering::Equal => networks.push(first)?,
+            Ordering::Greater => {}
+        }
+        Ok(reduced(networks))
+    }
+
+    /// The longest ranges of addresses in the set, ascending. No two touch: between one and the next is an address that
+    /// isn't in the set.
+    ///
+    /// It allocates nothing, and looks at each network once. Of `AnyIpCidr`, a range can go from 255.255.255.255 on to
+    /// ::, which comes next.
+    ///
+    /// ```
+    /// set.ranges().next() // Some(AddressRange { first: 10.0.0.1, last: 10.0.0.6 })
+    /// ```
+    pub fn ranges(&self) -> Ranges<'_, C>
+        ensures { AreRanges 129 (Covers (map C.bits self.now)) result }
+    {
+        let networks = self.as_slice();
+        Ranges { networks }
+    }
+}
+
+/// Addresses from a first to a last one, both included.
+#[derive(Debug, Clone, Copy, Drop, PartialEq, Eq)]
+pub struct AddressRange<A: Copy> {
+    /// The first address.
+    pub first: A,
+    /// The last address.
+    pub last: A,
+}
+
+/// The longest ranges of a set that are left, ascending. The call `ranges` makes it.
+#[derive(Drop)]
+pub struct Ranges<'a, C: Addressed + Copy> {
+    networks: &'a [C],
+}
+
+impl<'a, C: Addressed + Copy> Model for Ranges<'a, C> {
+    ghost use Rattle.std.specs.Prelude.{List, Bool, map};
+    ghost use Rattle.cidr_sets.specs.Ranges.{joined};
+
+    ghost Value = { List (List Bool × List Bool) };
+
+    ghost view = { λ left. map (λ r. (C.first_bits r.0, C.last_bits r.1)) (joined (map C.bits left.networks.now)) };
+}
+
+impl<'a, C: Addressed + Copy> Iterator for Ranges<'a, C> {
+    type Item = AddressRange<C::Address>;
+
+    ghost next_gives = { YieldsFirstBy (λ r. (C.address_bits r.first, C.address_bits r.last)) (λ s. s) };
+
+    ghost remaining = { item_count (λ s. s) };
+
+    fn next(&mut self) -> Option<AddressRange<C::Address>> {
+        let (first, mut behind) = self.networks.split_first()?;
+        let mut last = first;
+        while let Some((next, rest)) = behind.split_first() {
+            if !touches(last, next) {
+                break;
+            }
+            last = next;
+            behind = rest;
+        }
+        self.networks = behind;
+        Some(AddressRange {
+            first: first.lowest(),
+            last: last.highest(),
+        })
+    }
+}
+
+impl<'a, C: Addressed + Copy> FusedIterator for Ranges<'a, C> {}
+
+/// Whether no address is between two networks, of which the first comes before the other.
+fn touches<C: BitString>(network: &C, next: &C) -> bool
+    ensures { result ≡ touches (C.bits network.now) (C.bits next.now) }
+{
+    known(network);
+    let shared = network.shared_prefix_len(next);
+    if shared >= network.len() || shared >= next.len() {
+        return false;
+    }
+    if network.get(shared) {
+        return false;
+    }
+    all_from(network, shared + 1, true) && all_from(next, shared + 1, false)
+}
+
+/// Whether each bit of a network from an index on is `bit`.
+fn all_from<C: BitString>(network: &C, from: usize, bit: bool) -> bool
+    ensures { result ≡ all_bits bit (drop from (C.bits network.now)) }
+{
+    for i in from..network.len() {
+        if network.get(i) != bit {
+            return false;
+        }
+    }
+    true
+}
+
+/// Pushes networks of the addresses that begin with the first `len` bits of an edge and, where they first differ from
+/// it, have the bit `up`: those from the edge on, or those up to it.
+fn push_side<C: BitString + Copy>(
+    out: &mut Vec<C>,
+    edge: &C,
+    len: usize,
+    up: bool,
+) -> Result<(), AllocError>
+    requires { len ≤ length (C.bits edge.now) }
+    ensures side { OnOk result ((a : List Bool) → length a ≡ 129 → Covers (map C.bits out.new.items) a
+        ↔ (Covers (map C.bits out.old.items) a
+        ⊎ (BeginsWith a (take len (C.bits edge.now)) × Reaches up (C.bits edge.now) a))) }
+    ensures fits { OnOk result (length out.new.items
+        ≤ length out.old.items + 1 + (length (C.bits edge.now) - (len + 1))) }
+{
+    known(edge);
+    let mut block = trimmed(edge, len, up);
+    out.push(block)?;
+    let start = block.len();
+    while block.len() > len {
+        let last = block.len() - 1;
+        let bit = block.get(last);
+        block.clip(last);
+        if bit != up {
+            let mut sibling = block;
+            sibling.append(up);
+            out.push(sibling)?;
+        }
+    }
+    Ok(())
+}
+
+/// The network of an edge without its last bits, down to `len` bits, that aren't `up`.
+fn trimmed<C: BitString + Copy>(edge: &C, len: usize, up: bool) -> C
+    requires { len ≤ length (C.bits edge.now) }
+    ensures bits { C.bits edge.now ≡ C.bits result
+        ++ replicate (length (C.bits edge.now) - length (C.bits result)) (not up) }
+    ensures within { len ≤ length (C.bits result) }
+    ensures upto { length (C.bits result) ≤ length (C.bits edge.now) }
+    ensures tight { (length (C.bits result) ≡ len) ⊎ (slice_get (C.bits result) (length (C.bits result) - 1) ≡ Some up) }
+{
+    let mut block = *edge;
+    while block.len() > len && block.get(block.len() - 1) != up {
+        block.clip(block.len() - 1);
+    }
+    block
+}

@@ -1,0 +1,309 @@
+//! Union, intersection and difference.
+ghost use Rattle.std.specs.Prelude.{◌≡◌, ◌↔◌, ◌⊎◌, ◌+◌, ◌≤◌, ◌<◌, ◌++◌, ◌∷◌, [], Bool, List, length, map, Contains, IfOk, OnOk, OnErr, IsTrue, true, false};
+ghost use Rattle.std.specs.Bool.{Decides};
+ghost use Rattle.cidr.specs.model.Network.{BeginsWith};
+ghost use Rattle.cidr_table.specs.Cover.{Covers};
+ghost use Rattle.cidr_table.specs.Cover.{IsReduced};
+ghost use Rattle.cidr_sets.specs.Searches.{IsFirstInside};
+ghost use Rattle.std.specs.Option.{option_map};
+ghost use Rattle.cidr_sets.specs.Sets.{IsUnion, IsIntersection, IsDifference, IsSymmetricDifference, IsComplement, Meets, IsSubset, AreDisjoint};
+
+use crate::search::{covers, is_inside, known, upto};
+use crate::set::{NetworkSet, reduced};
+use cidr::{BitString, NetworkBits};
+use std::alloc::AllocError;
+
+impl<C: NetworkBits + Copy> NetworkSet<C> {
+    /// The addresses that one of two sets has, or both. Both stay as they were.
+    ///
+    /// It allocates room for as many networks as both have together. Where an allocation fails, it returns the error.
+    ///
+    /// ```
+    /// half.union(&other)?.as_slice() // [10.128.0.0/9, 192.0.2.0/24]
+    /// ```
+    pub fn union(&self, other: &NetworkSet<C>) -> Result<NetworkSet<C>, AllocError>
+        ensures set { IfOk result (λ set. IsUnion 129 (map C.bits self.now) (map C.bits other.now) (map C.bits set)) }
+        ensures fits { IfOk result (λ set. length set ≤ length self.now + length other.now) }
+    {
+        let mut both = Vec::from_slice(self.networks.allocator().clone()?, self.as_slice())?;
+        both.extend_from_slice(other.as_slice())?;
+        Ok(reduced(both))
+    }
+
+    /// The addresses that both of two sets have. Both stay as they were.
+    ///
+    /// It looks each network of one set up in the other. Where an allocation fails, it returns the error.
+    ///
+    /// ```
+    /// set.intersection(&half)?.as_slice() // [10.128.0.0/9]
+    /// ```
+    pub fn intersection(&self, other: &NetworkSet<C>) -> Result<NetworkSet<C>, AllocError>
+        ensures set { IfOk result (λ set.
+            IsIntersection 129 (map C.bits self.now) (map C.bits other.now) (map C.bits set)) }
+    {
+        let (these, those) = (self.as_slice(), other.as_slice());
+        let mut both = Vec::new(self.networks.allocator().clone()?);
+        push_covered(&mut both, these, those)?;
+        push_covered(&mut both, those, these)?;
+        Ok(reduced(both))
+    }
+
+    /// The addresses of this set that the other has not. Both stay as they were.
+    ///
+    /// Where an allocation fails, it returns the error.
+    ///
+    /// ```
+    /// set.difference(&half)?.as_slice() // [10.0.0.0/9]
+    /// ```
+    pub fn difference(&self, other: &NetworkSet<C>) -> Result<NetworkSet<C>, AllocError>
+        ensures set { IfOk result (λ set.
+            IsDifference 129 (map C.bits self.now) (map C.bits other.now) (map C.bits set)) }
+    {
+        let mut rest = Vec::new(self.networks.allocator().clone()?);
+        push_rests(&mut rest, self.as_slice(), other.as_slice())?;
+        Ok(reduced(rest))
+    }
+
+    /// Whether the set has all addresses of some networks. Binary search for each: O(k log n) for k networks.
+    ///
+    /// ```
+    /// set.contains_all(&["10.0.0.0/24".parse()?, "10.1.0.0/24".parse()?]) // true
+    /// ```
+    pub fn contains_all(&self, networks: &[C]) -> bool
+        ensures { IsTrue result ↔ IsSubset 129 (map C.bits networks.now) (map C.bits self.now) }
+    {
+        are_covered(networks, self.as_slice())
+    }
+
+    /// Whether the set has an address of a network. Binary search: O(log n).
+    ///
+    /// ```
+    /// half.overlaps(&"10.0.0.0/8".parse()?) // true
+    /// half.overlaps(&"10.0.0.0/9".parse()?) // false
+    /// ```
+    pub fn overlaps(&self, network: &C) -> bool
+        ensures { IsTrue result ↔ Meets 129 (map C.bits self.now) (C.bits network.now) }
+    {
+        meets(self.as_slice(), network)
+    }
+
+    /// Whether the other set has all addresses of this one.
+    ///
+    /// ```
+    /// half.is_subset(&set) // true
+    /// ```
+    pub fn is_subset(&self, other: &NetworkSet<C>) -> bool
+        ensures { IsTrue result ↔ IsSubset 129 (map C.bits self.now) (map C.bits other.now) }
+    {
+        are_covered(self.as_slice(), other.as_slice())
+    }
+
+    /// The addresses that exactly one of two sets has. Both stay as they were.
+    ///
+    /// Where an allocation fails, it returns the error.
+    ///
+    /// ```
+    /// set.symmetric_difference(&half)?.as_slice() // [10.0.0.0/9]
+    /// ```
+    pub fn symmetric_difference(&self, other: &NetworkSet<C>) -> Result<NetworkSet<C>, AllocError>
+        ensures { IfOk result (λ set.
+            IsSymmetricDifference 129 (map C.bits self.now) (map C.bits other.now) (map C.bits set)) }
+    {
+        let these = self.difference(other)?;
+        let those = other.difference(self)?;
+        these.union(&those)
+    }
+
+    /// The addresses of a network that the set has not.
+    ///
+    /// Where an allocation fails, it returns the error.
+    ///
+    /// ```
+    /// half.complement_in(&"10.0.0.0/8".parse()?)?.as_slice() // [10.0.0.0/9]
+    /// ```
+    pub fn complement_in(&self, network: &C) -> Result<NetworkSet<C>, AllocError>
+        ensures { IfOk result (λ set.
+            IsComplement 129 (C.bits network.now) (map C.bits self.now) (map C.bits set)) }
+    {
+        let mut rest = Vec::new(self.networks.allocator().clone()?);
+        push_rest(&mut rest, network, self.as_slice())?;
+        Ok(reduced(rest))
+    }
+
+    /// Adds the addresses of a network. Where an allocation fails, the set stays as it was.
+    ///
+    /// ```
+    /// let mut pool = NetworkSet::new(rt.alloc());
+    /// pool.insert("10.0.0.0/8".parse::<Ipv4Cidr>()?)?;
+    /// pool.as_slice() // [10.0.0.0/8]
+    /// ```
+    pub fn insert(&mut self, network: C) -> Result<(), AllocError>
+        ensures ok { OnOk result (IsUnion 129 (map C.bits self.old) (C.bits network ∷ []) (map C.bits self.new)) }
+        ensures err { OnErr result (self.new ≡ self.old) }
+    {
+        let mut both = Vec::from_slice(self.networks.allocator().clone()?, self.as_slice())?;
+        both.push(network)?;
+        *self = reduced(both);
+        Ok(())
+    }
+
+    /// Removes the addresses of a network. Where an allocation fails, the set stays as it was.
+    ///
+    /// ```
+    /// pool.remove(&"10.64.0.0/10".parse()?)?;
+    /// pool.as_slice() // [10.0.0.0/10, 10.128.0.0/9]
+    /// ```
+    pub fn remove(&mut self, network: &C) -> Result<(), AllocError>
+        ensures ok { OnOk result
+            (IsDifference 129 (map C.bits self.old) (C.bits network.now ∷ []) (map C.bits self.new)) }
+        ensures err { OnErr result (self.new ≡ self.old) }
+    {
+        let mut single = NetworkSet::new(self.networks.allocator().clone()?);
+        single.insert(*network)?;
+        let rest = self.difference(&single)?;
+        *self = rest;
+        Ok(())
+    }
+
+    /// Whether no address is in both sets.
+    ///
+    /// ```
+    /// set.is_disjoint(&half) // false
+    /// ```
+    pub fn is_disjoint(&self, other: &NetworkSet<C>) -> bool
+        ensures { IsTrue result ↔ AreDisjoint 129 (map C.bits self.now) (map C.bits other.now) }
+    {
+        are_apart(self.as_slice(), other.as_slice())
+    }
+}
+
+/// Pushes those networks that lie in one of the others.
+fn push_covered<C: NetworkBits + Copy>(
+    out: &mut Vec<C>,
+    networks: &[C],
+    others: &[C],
+) -> Result<(), AllocError>
+    requires { IsReduced 129 (map C.bits others.now) }
+    ensures { OnOk result ((x : C) → Contains out.new.items x
+        ↔ (Contains out.old.items x ⊎ (Contains networks.now x × Covers (map C.bits others.now) (C.bits x)))) }
+{
+    for network in networks {
+        if covers(others, network) {
+            out.push(*network)?;
+        }
+    }
+    Ok(())
+}
+
+/// Pushes networks of the addresses that the networks have and the others have not.
+fn push_rests<C: NetworkBits + Copy>(
+    out: &mut Vec<C>,
+    networks: &[C],
+    others: &[C],
+) -> Result<(), AllocError>
+    requires { IsReduced 129 (map C.bits others.now) }
+    ensures { OnOk result ((a : List Bool) → length a ≡ 129 → Covers (map C.bits out.new.items) a
+        ↔ (Covers (map C.bits out.old.items) a
+        ⊎ (Covers (map C.bits networks.now) a × ¬ (Covers (map C.bits others.now) a)))) }
+{
+    for network in networks {
+        push_rest(out, network, others)?;
+    }
+    Ok(())
+}
+
+/// Pushes networks of the addresses of a network that the others have not.
+///
+/// A network that one of the others contains has none, and one that contains none of the others is pushed itself. Any
+/// other is halved.
+fn push_rest<C: NetworkBits + Copy>(
+    out: &mut Vec<C>,
+    network: &C,
+    others: &[C],
+) -> Result<(), AllocError>
+    requires { IsReduced 129 (map C.bits others.now) }
+    ensures { OnOk result ((a : List Bool) → length a ≡ 129 → Covers (map C.bits out.new.items) a
+        ↔ (Covers (map C.bits out.old.items) a
+        ⊎ (BeginsWith a (C.bits network.now) × ¬ (Covers (map C.bits others.now) a)))) }
+{
+    if covers(others, network) {
+        return Ok(());
+    }
+    match first_inside(others, network) {
+        Some(inner) => {
+            let lower = half(network, &inner, false);
+            push_rest(out, &lower, others)?;
+            let upper = half(network, &inner, true);
+            push_rest(out, &upper, others)?;
+            Ok(())
+        }
+        None => {
+            out.push(*network)?;
+            Ok(())
+        }
+    }
+}
+
+/// The first of the networks that lie in one that none of them contains.
+fn first_inside<C: NetworkBits + Copy>(networks: &[C], outer: &C) -> Option<C>
+    requires reduced { IsReduced 129 (map C.bits networks.now) }
+    requires apart { ¬ (Covers (map C.bits networks.now) (C.bits outer.now)) }
+    ensures { IsFirstInside (map C.bits networks.now) (C.bits outer.now) (option_map C.bits result) }
+{
+    let place = upto(networks, outer);
+    if place < networks.len() && is_inside(&networks[place], outer) {
+        Some(networks[place])
+    } else {
+        None
+    }
+}
+
+/// A half of a network that has another inside.
+fn half<C: BitString + Copy>(network: &C, inner: &C, upper: bool) -> C
+    requires begins { BeginsWith (C.bits inner.now) (C.bits network.now) }
+    requires longer { length (C.bits network.now) < length (C.bits inner.now) }
+    ensures bits { C.bits result ≡ C.bits network.now ++ upper ∷ [] }
+    ensures room { length (C.bits network.now) < 129 }
+{
+    known(inner);
+    let mut half = *inner;
+    half.clip(network.len());
+    half.append(upper);
+    half
+}
+
+/// Whether each of the networks lies in one of the others.
+fn are_covered<C: NetworkBits>(networks: &[C], others: &[C]) -> bool
+    requires { IsReduced 129 (map C.bits others.now) }
+    ensures { IsTrue result ↔ IsSubset 129 (map C.bits networks.now) (map C.bits others.now) }
+{
+    for network in networks {
+        known(network);
+        if !covers(others, network) {
+            return false;
+        }
+    }
+    true
+}
+
+/// Whether none of the networks has an address in common with one of the others.
+fn are_apart<C: NetworkBits + Copy>(networks: &[C], others: &[C]) -> bool
+    requires { IsReduced 129 (map C.bits others.now) }
+    ensures { IsTrue result ↔ AreDisjoint 129 (map C.bits networks.now) (map C.bits others.now) }
+{
+    for network in networks {
+        if meets(others, network) {
+            return false;
+        }
+    }
+    true
+}
+
+/// Whether one of the networks has an address in common with this one.
+fn meets<C: NetworkBits + Copy>(networks: &[C], network: &C) -> bool
+    requires { IsReduced 129 (map C.bits networks.now) }
+    ensures { Decides result (Meets 129 (map C.bits networks.now) (C.bits network.now)) }
+{
+    known(network);
+    covers(networks, network) || first_inside(networks, network).is_some()
+}
