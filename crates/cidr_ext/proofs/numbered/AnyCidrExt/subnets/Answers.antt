@@ -1,0 +1,8 @@
+use Rattle.std.proofs.Common.{arith}
+use Rattle.cidr_ext.proofs.Inside.{exactly}
+use Rattle.cidr_ext.proofs.numbered.AnyCidrExt.subnets.Goals as goal
+
+pub returns-clause-exactly : goal.returns-clause-exactly
+returns-clause-exactly g c =
+    exactly (g.C.PrivCidr.family_of c.args.self.now) (g.C.PrivCidr.prefix c.args.self.now) c.args.len
+    (omega (arith, c.network_length.ensures.value, c.in_ok-more.ensures.0)) c._new.result c._new.ensures

@@ -1,0 +1,37 @@
+//! Calls on networks and addresses beyond those of the crate `cidr`, proved from its public contracts.
+//!
+//! They are traits, which a `use` brings in. `NetworkExt` has networks as the nodes of a tree (`parent`, `halves`,
+//! `sibling`, `supernet`, `overlaps`, `spanning`), `CidrExt` what is counted (`subnets`, `next_network`, `host_mask`,
+//! `nth`, `position`, `usable_hosts`), `AddressExt` numbers and masks of addresses, and `SpecialAddress` what addresses
+//! are for (`special_entry`, `is_global`, `is_private`). Each call has one body for both families.
+//!
+//! ```
+//! let network = "2001:db8::/48".parse::<Ipv6Cidr>()?;
+//! network.subnet(64, 255) // Some(2001:db8:0:ff::/64)
+//! network.sibling() // Some(2001:db8:1::/48)
+//! ```
+//!
+//! No call allocates. What can fail returns `None`, and its contract says exactly where.
+#![tactic(auto)]
+
+mod address;
+mod families;
+mod inside_ipv6;
+pub mod laws;
+mod network;
+mod numbered;
+mod registry;
+mod reverse;
+mod reverse_read;
+mod shifts;
+mod special;
+mod subnets;
+
+pub use address::AddressExt;
+pub use inside_ipv6::{Ipv4AddrExt, Ipv4CidrExt, Ipv6AddrExt, Ipv6CidrExt};
+pub use network::NetworkExt;
+pub use numbered::CidrExt;
+pub use registry::{IPV4_ENTRIES, IPV6_ENTRIES, Purpose, SpecialEntry};
+pub use reverse::{AddressReverseName, CidrReverseName};
+pub use special::SpecialAddress;
+pub use subnets::Subnets;
