@@ -17,7 +17,7 @@ use Rattle.cidr.specs.texts.LooseText.{IsLooseIpText}
 use Rattle.cidr.specs.texts.Messages.{ip_error}
 use Rattle.cidr.specs.declared.family.Family.{Family}
 use Rattle.cidr.specs.declared.family.Family.TheVariants.{Ipv4, Ipv6}
-use Rattle.cidr.specs.declared.addr.error.AddrParseError.{AddrParseError}
+use Rattle.cidr.specs.model.Errors.{AddressError}
 use Rattle.cidr.specs.declared.addr.ip.IpAddr.{IpAddr}
 use Rattle.cidr.specs.declared.cidr.combined.IpCidr.{IpCidr}
 use Rattle.cidr.specs.declared.cidr.any.AnyIpCidr.{AnyIpCidr}
@@ -110,7 +110,7 @@ abbrev pub IsNetRefused : List ℕ → NetworkParseError → Type 0
 IsNetRefused net e = IsIpRefused net e × ((n : AnyIpCidr) → ¬ (IsAnyNetworkText net n))
 
 -- a string that represents no address gives the error of an address
-abbrev pub IsAddressRefused : (List ℕ → IpAddr → Type 0) → List ℕ → AddrParseError → Type 0
+abbrev pub IsAddressRefused : (List ℕ → IpAddr → Type 0) → List ℕ → AddressError → Type 0
 IsAddressRefused Spells text e = (e ≡ ip_error) × ((a : IpAddr) → ¬ (Spells text a))
 
 -- the error of a request that has no answer: that of the first argument that is wrong

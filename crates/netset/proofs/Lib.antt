@@ -1,0 +1,5 @@
+pub mod LineFeeds
+pub mod Progress
+pub mod Blocks
+pub mod Several
+pub mod Arguments

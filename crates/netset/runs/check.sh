@@ -1,0 +1,103 @@
+#!/usr/bin/env bash
+# Runs the built program, as each compiler has built it, and compares the exit status, standard output and standard
+# error of each run, byte by byte, with what is wanted. Prints nothing where all runs are as wanted.
+set -euo pipefail
+export LC_ALL=C
+cd "$(dirname "$0")/.."
+
+usage=$'usage: netset merge [FILE..] | --help | --version\n'
+
+room=$(mktemp -d)
+trap 'rm -rf "$room"' EXIT
+differs=0
+
+# has FILE TEXT: whether the file has exactly this text. A device keeps no text.
+has() {
+    [[ -c $1 ]] || printf '%s' "$2" | cmp -s - "$1"
+}
+
+# run STATUS OUTPUT ERROR INPUT [ARGUMENT..]: runs the program on this input with these arguments, and says in what it
+# differs.
+run() {
+    local wanted=$1 output=$2 error=$3 input=$4 status=0 wrong=() part
+    shift 4
+    printf '%b' "$input" | (cd "$room" && timeout 60 "$program" "$@") >"$output_file" 2>"$error_file" || status=$?
+    ((status == wanted)) || wrong+=("exit status $status, not $wanted")
+    has "$output_file" "$output" || wrong+=("standard output")
+    has "$error_file" "$error" || wrong+=("standard error")
+    for part in "${wrong[@]}"; do
+        differs=1
+        echo "$build ${*@Q}: not as wanted: $part" >&2
+    done
+}
+
+# Lines in each form, each exit status, and that all files count.
+rows() {
+    run 0 $'10.0.0.0/8\n' '' '10.128.0.0/9\n10.0.0.0/9\n10.1.0.0/16\n' merge
+    run 0 $'10.0.0.0/8\n' '' '10.128.0.0/9\r\n \t10.0.0.0/9 ; lower\r\n\r\n# nothing' merge -
+    run 0 $'192.0.2.4/31\n192.0.2.7\n::1\n2001:db8::/32\n' '' \
+        '2001:db8::/32\n192.0.2.7\n::1\n192.0.2.5\n192.0.2.4#x\n2001:DB8:1::/48' merge
+    run 0 $'0.0.0.0/0\n::/0\n' '' '::/0\n0.0.0.0/1\n128.0.0.0/1' merge
+    run 0 '' '' '' merge
+    run 0 '' '' '\n \n#\n;' merge
+    run 0 $'10.0.0.0/7\n' '' '11.0.0.0/8' merge ten -
+    run 0 $'10.0.0.0/8\n' '' '11.0.0.0/8' merge ten ten
+    run 2 '' $'-:3: host part of address was not zero\n' '10.0.0.0/8\n\n10.0.0.1/8\nx' merge
+    run 2 '' $'-:1: couldn\'t parse address in network: invalid IP address syntax\n' '010.0.0.0/8' merge
+    run 2 '' $'-:2: couldn\'t parse address in network: invalid IP address syntax\n' '10.0.0.1\n10.0.0.1 10.0.0.2' merge
+    run 2 '' $'bad:1: couldn\'t parse length in network: invalid length text\n' '' merge ten bad missing
+    run 2 '' $'-:1: not UTF-8\n' '\xff' merge
+    run 2 '' $'missing: cannot be read\n' '' merge missing
+    run 2 '' $'.: cannot be read\n' '' merge .
+    run 2 '' "$usage" ''
+    run 2 '' "$usage" '' merged
+    run 2 '' "$usage" '' merge -k
+    run 2 '' "$usage" '' merge ten --help
+    run 2 '' "$usage" '' --help ten
+    run 2 '' "$usage" '' merge $'\xff'
+    run 0 $'netset 0.1.0\n' '' '' --version
+}
+
+# More than one block of 8192 bytes, in order.
+long_list() {
+    local input output
+    input=$(seq 0 2 65535 | awk '{ print "10.1." int($1 / 256) "." $1 % 256 }')
+    output=$input$'\n'
+    run 0 "$output" '' "$input" merge
+}
+
+# Either stream fails, or both.
+rows_where_a_stream_fails() {
+    local output_file=/dev/full
+    run 3 '' $'output failed\n' '10.0.0.0/8' merge
+    run 2 '' $'-:1: host part of address was not zero\n' '10.0.0.1/8' merge
+    run 3 '' $'output failed\n' '' --help
+    local error_file=/dev/full
+    run 3 '' '' '10.0.0.0/8' merge
+    output_file=$room/output
+    run 0 $'10.0.0.0/8\n' '' '10.0.0.0/8' merge
+    run 2 '' '' 'x' merge
+}
+
+printf '10.0.0.0/8\n' >"$room/ten"
+printf '10.0.0.0/x\n' >"$room/bad"
+output_file=$room/output
+error_file=$room/error
+tried=0
+for build in netset netset.by-rattle; do
+    [[ -f out/$build ]] || continue
+    tried=1
+    program=$room/$build
+    cp "out/$build" "$program"
+    chmod 755 "$program"
+    rows
+    long_list
+    if [[ -c /dev/full ]]; then
+        rows_where_a_stream_fails
+    fi
+done
+if ((!tried)); then
+    echo "no built program in $PWD/out: run 'rt ci' first" >&2
+    exit 1
+fi
+exit "$differs"

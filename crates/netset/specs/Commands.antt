@@ -1,0 +1,69 @@
+-- The commands, their arguments and what each answers.
+use Rattle.std.specs.Prelude.{◌≡◌, ℕ, ◌==◌, nat_lt, Bool, false, ◌&&◌, List, [], ◌∷◌, ◌++◌, length, codes, Option, Some}
+use Rattle.std.specs.List.{AllZip, flat_map, list_any, slice_index}
+use Rattle.cidr.specs.declared.cidr.combined.IpCidr.{IpCidr}
+use Rattle.cidr.specs.declared.family.Family.{Family}
+use Rattle.cidr_table.specs.Cover.{Covers}
+use Rattle.cidr_sets.specs.Sets.{IsSetOf}
+use Rattle.netset.specs.Lists.{ListSays, networks_in}
+use Rattle.netset.specs.Sets.{printed_sets}
+
+-- a command and its arguments
+pub data Request : Type 0 where
+  Merge : List (List ℕ) → Request
+  Help : Request
+  Version : Request
+
+-- - and something behind it
+abbrev pub is_option : List ℕ → Bool
+is_option word = nat_lt 1 (length word) && (slice_index word 0 == 45)
+
+-- the arguments are this request; no file has the name of an option
+abbrev pub IsRequest : List (List ℕ) → Request → Type 0
+IsRequest words (Merge files) = (words ≡ codes "merge" ∷ files) × (list_any is_option files ≡ false)
+IsRequest words Help = words ≡ codes "--help" ∷ []
+IsRequest words Version = words ≡ codes "--version" ∷ []
+
+-- the arguments are no request
+abbrev pub IsUsage : List (List ℕ) → Type 0
+IsUsage words = (request : Request) → ¬ (IsRequest words request)
+
+-- the files that are read: those named, or the standard input, whose name is -
+abbrev pub read_files : List (List ℕ) → List (List ℕ)
+read_files [] = codes "-" ∷ []
+read_files (file ∷ files) = file ∷ files
+
+-- these are the bytes of the files of these names
+abbrev pub AreTold : (List ℕ → Option (List ℕ)) → List (List ℕ) → List (List ℕ) → Type 0
+AreTold told names texts = AllZip (λ name text. told name ≡ Some text) names texts
+
+-- the shortest list of networks of each family that has these addresses, as it is printed
+abbrev pub IsListOf : (Family → List Bool → Type 0) → List ℕ → Type 0
+IsListOf IsIn text =
+    (sets : Family → List (List Bool)) × ((family : Family) → IsSetOf 129 (IsIn family) (sets family)) × (text ≡ printed_sets sets)
+
+-- the addresses of all the lists
+abbrev pub IsMerged : List (List ℕ) → List ℕ → Type 0
+IsMerged texts answer =
+    (said : List (List (Option IpCidr))) × AllZip ListSays texts said × IsListOf (λ family. Covers (flat_map (networks_in family) said)) answer
+
+-- what `--help` writes
+abbrev pub help_text : List ℕ
+help_text =
+    codes "netset merge [FILE..]   the shortest list of networks that has the addresses of all the lists\n"
+    ++ codes "netset --help           this page\n"
+    ++ codes "netset --version        the version\n"
+    ++ codes "\n"
+    ++ codes "A line of a list is a network or an address, and may end in a comment from # or ; on. The\n"
+    ++ codes "file - is the standard input, which is also read where no file is named.\n"
+    ++ codes "Status: 0 done, 2 usage, a file that cannot be read or a line in error, 3 output or memory.\n"
+
+-- what `--version` writes
+abbrev pub version_text : List ℕ
+version_text = codes "netset 0.1.0\n"
+
+-- what a request is answered with, from what is told of the files
+abbrev pub IsAnswer : (List ℕ → Option (List ℕ)) → Request → List ℕ → Type 0
+IsAnswer told (Merge files) answer = (texts : List (List ℕ)) → AreTold told (read_files files) texts → IsMerged texts answer
+IsAnswer told Help answer = answer ≡ help_text
+IsAnswer told Version answer = answer ≡ version_text

@@ -1,0 +1,10 @@
+-- What has to be believed: what lists say, what commands answer, and a run of the program. `Reading`, `Printing`, `Command`
+-- and `Answering` are what private functions promise.
+pub mod Lists
+pub mod Reading
+pub mod Printing
+pub mod Sets
+pub mod Commands
+pub mod Command
+pub mod Program
+pub mod Answering

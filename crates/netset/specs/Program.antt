@@ -1,0 +1,88 @@
+-- What a run of the program does with its arguments, the files, standard output and standard error.
+use Rattle.std.specs.Prelude.{◌≡◌, ℕ, List, [], ◌∷◌, ◌++◌, ◌⊎◌, codes, decimal, Option, Some, Result, Ok, Err, Contains}
+use Rattle.std.specs.List.{AllZip}
+use Rattle.cidr.specs.texts.Messages.{parse_message}
+use Rattle.cidr.specs.declared.cidr.combined.IpCidr.{IpCidr}
+use Rattle.cidr_io.specs.Arguments.{AreArguments, AreUnreadable}
+use Rattle.cidr_io.specs.Writing.{State, Answered, Says}
+use Rattle.cidr_io.specs.declared.sink.OutputFailed.{OutputFailed}
+use Rattle.netset.specs.Lists.{ListSays, IsFirstError}
+use Rattle.netset.specs.Commands.{Request, Merge, Help, Version, IsRequest, IsUsage, read_files, AreTold, IsAnswer}
+use Rattle.netset.specs.declared.errors.LineError.{LineError}
+use Rattle.netset.specs.declared.errors.LineError.TheVariants.{NotUtf8, NoNetwork}
+use Rattle.netset.specs.declared.errors.CommandError.{CommandError}
+use Rattle.netset.specs.declared.errors.CommandError.TheVariants as error
+
+-- why the lists of these names are not read: the first line in error of the first list that has one, a file that can't
+-- be read, or memory
+abbrev pub IsUnread : (List ℕ → Option (List ℕ)) → List (List ℕ) → CommandError → Type 0
+IsUnread told names error.Usage = ⊥
+IsUnread told names (error.Line name number e) =
+    (before : List (List ℕ)) × (after : List (List ℕ)) × (names ≡ before ++ name.now ∷ after)
+    × ((texts : List (List ℕ)) → AreTold told before texts → (said : List (List (Option IpCidr))) × AllZip ListSays texts said)
+    × ((text : List ℕ) → told name.now ≡ Some text → IsFirstError text number e)
+IsUnread told names (error.Input name) = Contains names name.now
+IsUnread told names error.NoMemory = Unit {0}
+IsUnread told names error.Output = ⊥
+
+-- the same of a request and its result
+abbrev pub IsRefused : (List ℕ → Option (List ℕ)) → Request → Result (Unit {0}) CommandError → Type 0
+IsRefused told request (Ok _) = ⊥
+IsRefused told (Merge files) (Err e) = IsUnread told (read_files files) e
+IsRefused told Help (Err e) = ⊥
+IsRefused told Version (Err e) = ⊥
+
+-- an output that failed is the error
+abbrev pub by_output : Result (Unit {0}) OutputFailed → Result (Unit {0}) CommandError
+by_output (Ok u) = Ok u
+by_output (Err e) = Err error.Output
+
+-- What becomes of a request and of the sink: nothing is written where its lists are not read. Else its answer is
+-- written whole, or the sink has failed and a beginning of the answer was written, none if it had failed before.
+abbrev pub AnswersRequest : (List ℕ → Option (List ℕ)) → Request → State → State → Result (Unit {0}) CommandError → Type 0
+AnswersRequest told request old new r =
+    ((new ≡ old) × IsRefused told request r)
+    ⊎ ((answer : List ℕ) × (written : Result (Unit {0}) OutputFailed) × IsAnswer told request answer
+    × Answered old new answer written × (r ≡ by_output written))
+
+-- other arguments are usage, and nothing is written
+abbrev pub Answers : (List ℕ → Option (List ℕ)) → List (List ℕ) → State → State → Result (Unit {0}) CommandError → Type 0
+Answers told words old new r =
+    (IsUsage words × (r ≡ Err error.Usage) × (new ≡ old))
+    ⊎ ((request : Request) × IsRequest words request × AnswersRequest told request old new r)
+
+-- the message of a line in error
+abbrev pub line_message : LineError → List ℕ
+line_message NotUtf8 = codes "not UTF-8"
+line_message (NoNetwork e) = parse_message e
+
+-- the line that is written to standard error
+abbrev pub error_line : CommandError → List ℕ
+error_line error.Usage = codes "usage: netset merge [FILE..] | --help | --version\n"
+error_line (error.Line name number e) =
+    name.now ++ (codes ":" ++ (decimal number ++ (codes ": " ++ (line_message e ++ codes "\n"))))
+error_line (error.Input name) = name.now ++ codes ": cannot be read\n"
+error_line error.NoMemory = codes "no memory\n"
+error_line error.Output = codes "output failed\n"
+
+-- nothing for an answer, and else one line
+abbrev pub Reports : Result (Unit {0}) CommandError → State → State → Type 0
+Reports (Ok _) old new = new ≡ old
+Reports (Err e) old new = Says old new (error_line e)
+
+-- the exit status: 0 done, 2 usage, reading or a line in error, 3 output or memory
+abbrev pub status_of : Result (Unit {0}) CommandError → ℕ
+status_of (Ok _) = 0
+status_of (Err error.Usage) = 2
+status_of (Err (error.Line name number e)) = 2
+status_of (Err (error.Input name)) = 2
+status_of (Err error.NoMemory) = 3
+status_of (Err error.Output) = 3
+
+-- A run, from the arguments and the files to the exit status.
+abbrev pub Runs : Option (List (List ℕ)) → (List ℕ → Option (List ℕ)) → State → State → State → State → ℕ → Type 0
+Runs words told out new_out err new_err status =
+    (r : Result (Unit {0}) CommandError) × Reports r err new_err × (status ≡ status_of r)
+    × (((given : List (List ℕ)) × AreArguments words given × Answers told given out new_out r)
+    ⊎ ((AreUnreadable words × (r ≡ Err error.Usage) × (new_out ≡ out))
+    ⊎ ((r ≡ Err error.NoMemory) × (new_out ≡ out))))

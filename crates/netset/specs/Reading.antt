@@ -1,0 +1,62 @@
+-- What functions that read a list promise, about bytes that are known.
+use Rattle.std.specs.Prelude.{◌≡◌, ◌≢◌, ℕ, Bool, true, false, List, [], ◌∷◌, ◌++◌, Option, Some, None, Result, Ok, Err, All}
+use Rattle.cidr.specs.declared.cidr.combined.IpCidr.{IpCidr}
+use Rattle.cidr.specs.declared.family.Family.{Family}
+use Rattle.cidr.specs.declared.family.Family.TheVariants.{Ipv4, Ipv6}
+use Rattle.netset.specs.Lists.{lines_of, LineSays, IsInError, ListSays, IsFirstError, network_in, networks_in}
+use Rattle.netset.specs.declared.errors.LineError.{LineError}
+use Rattle.netset.specs.declared.errors.ReadError.{ReadError}
+use Rattle.netset.specs.declared.errors.ReadError.TheVariants.{Line, Input, NoMemory}
+use Rattle.netset.specs.declared.lists.Lists.{Lists}
+
+-- the first line of a text; if it is not the last, the others are what the reader has left
+abbrev pub IsNextLine : List ℕ → List ℕ → Bool → Option (List ℕ) → Type 0
+IsNextLine text line true left = (rest : List ℕ) × (left ≡ Some rest) × (lines_of text ≡ line ∷ lines_of rest)
+IsNextLine text line false left = lines_of text ≡ line ∷ []
+
+-- a line feed at the end is dropped, if there is one
+abbrev pub DropsLineFeed : List ℕ → List ℕ → Bool → Type 0
+DropsLineFeed old new true = old ≡ new ++ 10 ∷ []
+DropsLineFeed old new false = (new ≡ old) × ((line : List ℕ) → old ≢ line ++ 10 ∷ [])
+
+-- what the line says, or its error
+abbrev pub ReadsLine : List ℕ → Result (Option IpCidr) LineError → Type 0
+ReadsLine line (Ok said) = LineSays line said
+ReadsLine line (Err e) = IsInError line e
+
+-- no line is in error
+abbrev pub IsStopped : ReadError → Type 0
+IsStopped (Line number e) = ⊥
+IsStopped Input = Unit {0}
+IsStopped NoMemory = Unit {0}
+
+-- the first line in error, or nothing of the text where reading has stopped
+abbrev pub IsReadError : List ℕ → ReadError → Type 0
+IsReadError text (Line number e) = IsFirstError text number e
+IsReadError text Input = Unit {0}
+IsReadError text NoMemory = Unit {0}
+
+-- the networks of a family
+abbrev pub listed : Lists → Family → List (List Bool)
+listed lists Ipv4 = lists.v4.items
+listed lists Ipv6 = lists.v6.items
+
+-- further networks of each family
+abbrev pub Grows : Lists → Lists → (Family → List (List Bool)) → Type 0
+Grows old new more = (family : Family) → listed new family ≡ listed old family ++ more family
+
+-- the error is that of this line, or the line is not known to have one
+abbrev pub IsLineError : List ℕ → ℕ → ReadError → Type 0
+IsLineError line number (Line n e) = (n ≡ number) × IsInError line e
+IsLineError line number Input = Unit {0}
+IsLineError line number NoMemory = Unit {0}
+
+-- the network that a line says, if it says one, comes behind those before
+abbrev pub AddsLine : List ℕ → ℕ → Lists → Lists → Result (Unit {0}) ReadError → Type 0
+AddsLine line number old new (Ok _) = (said : Option IpCidr) × LineSays line said × Grows old new (λ family. network_in family said)
+AddsLine line number old new (Err e) = IsLineError line number e
+
+-- the networks that a text says come behind those before
+abbrev pub ReadsList : List ℕ → Lists → Lists → Result (Unit {0}) ReadError → Type 0
+ReadsList text old new (Ok _) = (said : List (Option IpCidr)) × ListSays text said × Grows old new (λ family. networks_in family said)
+ReadsList text old new (Err e) = IsReadError text e

@@ -1,0 +1,85 @@
+//! Why a list can't be read, and why a command gave no answer.
+use cidr::errors::NetworkParseError;
+use std::alloc::{AllocError, AllocFailed};
+use std::io;
+
+/// Why a line is in error.
+#[derive(Debug, Drop)]
+pub enum LineError {
+    /// It is not UTF-8.
+    NotUtf8,
+    /// It is neither a network nor an address: the error of parsing it.
+    NoNetwork(NetworkParseError),
+}
+
+/// Why a list can't be read.
+#[derive(Debug, Drop)]
+pub enum ReadError {
+    /// The first line in error, counted from 1.
+    Line(u64, LineError),
+    /// The file or the standard input can't be read.
+    Input,
+    /// There is no memory for its networks.
+    NoMemory,
+}
+
+/// Why a command gave no answer.
+#[derive(Debug, Drop)]
+pub enum CommandError<'a> {
+    /// The arguments are no command of the program; nothing was written.
+    Usage,
+    /// The first line in error of this file, counted from 1; nothing was written.
+    Line(&'a str, u64, LineError),
+    /// This file can't be read; nothing was written.
+    Input(&'a str),
+    /// There is no memory; nothing was written.
+    NoMemory,
+    /// The output has failed; a beginning of the answer was written.
+    Output,
+}
+
+impl From<AllocError> for CommandError<'_> {
+    ghost use Rattle.std.specs.Prelude.{◌≡◌};
+    ghost use Rattle.netset.specs.declared.errors.CommandError.TheVariants.{NoMemory};
+
+    ghost from_gives = { λ _ e. e ≡ NoMemory };
+
+    fn from(_error: AllocError) -> Self {
+        CommandError::NoMemory
+    }
+}
+
+impl From<io::Error> for ReadError {
+    ghost use Rattle.netset.specs.Reading.{IsStopped};
+
+    ghost from_gives = { λ _ e. IsStopped e };
+
+    fn from(error: io::Error) -> ReadError {
+        match error.kind() {
+            io::ErrorKind::OutOfMemory => ReadError::NoMemory,
+            _ => ReadError::Input,
+        }
+    }
+}
+
+impl From<AllocError> for ReadError {
+    ghost use Rattle.std.specs.Prelude.{◌≡◌};
+    ghost use Rattle.netset.specs.declared.errors.ReadError.TheVariants.{NoMemory};
+
+    ghost from_gives = { λ _ e. e ≡ NoMemory };
+
+    fn from(_error: AllocError) -> ReadError {
+        ReadError::NoMemory
+    }
+}
+
+impl<T: Drop> From<AllocFailed<T>> for ReadError {
+    ghost use Rattle.std.specs.Prelude.{◌≡◌};
+    ghost use Rattle.netset.specs.declared.errors.ReadError.TheVariants.{NoMemory};
+
+    ghost from_gives = { λ _ e. e ≡ NoMemory };
+
+    fn from(_error: AllocFailed<T>) -> ReadError {
+        ReadError::NoMemory
+    }
+}

@@ -1,0 +1,24 @@
+//! A program for lists of networks.
+#![tactic(auto)]
+
+mod commands;
+mod errors;
+mod files;
+mod lines;
+mod lists;
+mod printing;
+mod program;
+mod report;
+mod sets;
+
+use cidr_io::arguments::Given;
+use cidr_io::sink::Tracked;
+use files::System;
+use program::program;
+use std::process::ExitCode;
+
+fn main(rt: HostRuntime) -> ExitCode {
+    let (mut out, mut err) = (Tracked::new(rt.stdout()), Tracked::new(rt.stderr()));
+    let (arguments, sources) = (Given { system: &rt }, System { runtime: &rt });
+    ExitCode::from(program(rt.alloc(), &arguments, &sources, &mut out, &mut err))
+}

@@ -1,0 +1,145 @@
+//! A run of the program, from its arguments to its exit status.
+ghost use Rattle.std.specs.Prelude.{◌≡◌, map};
+ghost use Rattle.std.specs.String.{string_bytes};
+ghost use Rattle.netset.specs.Commands.{read_files, Merge};
+ghost use Rattle.netset.specs.Answering.{AddsFile, AnswersTexts, ReadsAll};
+ghost use Rattle.netset.specs.Program.{Answers, AnswersRequest, Runs, by_output};
+
+use crate::commands::{Command, command_of};
+use crate::errors::{CommandError, ReadError};
+use crate::files::Sources;
+use crate::lists::{Lists, read_list};
+use crate::report::report;
+use crate::sets::Sets;
+use cidr_io::arguments::{Arguments, ReadError as Unreadable, borrowed, texts_of};
+use cidr_io::sink::{OutputFailed, Sink};
+use cidr_io::writing::write_text;
+use std::alloc::Global;
+
+/// The page of the commands.
+const HELP: &str =
+    "netset merge [FILE..]   the shortest list of networks that has the addresses of all the lists\nnetset --help           this page\nnetset --version        the version\n\nA line of a list is a network or an address, and may end in a comment from # or ; on. The\nfile - is the standard input, which is also read where no file is named.\nStatus: 0 done, 2 usage, a file that cannot be read or a line in error, 3 output or memory.\n";
+
+const VERSION: &str = "netset 0.1.0\n";
+
+/// Reads the list of a file, and adds its networks.
+fn add_file<'a, F: Sources>(
+    alloc: Global,
+    sources: &F,
+    file: &'a str,
+    lists: &mut Lists,
+) -> Result<(), CommandError<'a>>
+    ensures { AddsFile (F.told sources.now file.now) file.now lists.old lists.new result }
+{
+    let Some(reader) = sources.open(file) else {
+        return Err(CommandError::Input(file));
+    };
+    match read_list(alloc, reader, lists) {
+        Ok(()) => Ok(()),
+        Err(ReadError::Line(number, e)) => Err(CommandError::Line(file, number, e)),
+        Err(ReadError::Input) => Err(CommandError::Input(file)),
+        Err(ReadError::NoMemory) => Err(CommandError::NoMemory),
+    }
+}
+
+/// Reads the lists of some files.
+fn read_all<'a, F: Sources>(
+    alloc: Global,
+    sources: &F,
+    files: &[&'a str],
+) -> Result<Lists, CommandError<'a>>
+    ensures { ReadsAll (F.told sources.now) (map (λ file. file.now) files.now) result }
+{
+    let mut lists = Lists::new(alloc);
+    for file in files {
+        add_file(alloc, sources, file, &mut lists)?;
+    }
+    Ok(lists)
+}
+
+/// The files that are read: the standard input, if none is named.
+fn sources_of<'a>(files: &'a [&'a str]) -> &'a [&'a str]
+    ensures { map (λ file. file.now) result.now ≡ read_files (map (λ file. file.now) files.now) }
+{
+    if files.is_empty() { &["-"] } else { files }
+}
+
+/// The command `merge`.
+fn merge<'a, F: Sources, O: Sink>(
+    alloc: Global,
+    sources: &F,
+    files: &'a [&'a str],
+    out: &mut O,
+) -> Result<(), CommandError<'a>>
+    ensures { AnswersRequest (F.told sources.now) (Merge (map (λ file. file.now) files.now)) (O.state out.old) (O.state out.new) result }
+{
+    let lists = read_all(alloc, sources, sources_of(files))?;
+    let sets = Sets::of_lists(alloc, &lists)?;
+    by_output(sets.write(out))
+}
+
+/// What an output that failed is to a command.
+fn by_output<'a>(written: Result<(), OutputFailed>) -> Result<(), CommandError<'a>>
+    ensures { result ≡ by_output written }
+{
+    match written {
+        Ok(()) => Ok(()),
+        Err(_) => Err(CommandError::Output),
+    }
+}
+
+/// Answers the program's arguments, which come without its name.
+fn answer<'a, F: Sources, O: Sink>(
+    alloc: Global,
+    sources: &F,
+    words: &'a [&'a str],
+    out: &mut O,
+) -> Result<(), CommandError<'a>>
+    ensures { Answers (F.told sources.now) (map (λ w. w.now) words.now) (O.state out.old) (O.state out.new) result }
+{
+    let Some(command) = command_of(words) else {
+        return Err(CommandError::Usage);
+    };
+    match command {
+        Command::Merge(files) => merge(alloc, sources, files, out),
+        Command::Help => by_output(write_text(out, HELP)),
+        Command::Version => by_output(write_text(out, VERSION)),
+    }
+}
+
+/// Answers the arguments as strings, reports and returns the exit status.
+fn answer_texts<F: Sources, O: Sink, E: Sink>(
+    alloc: Global,
+    sources: &F,
+    texts: &[String],
+    out: &mut O,
+    err: &mut E,
+) -> u8
+    ensures { AnswersTexts (F.told sources.now) (map string_bytes texts.now) (O.state out.old) (O.state out.new)
+        (E.state err.old) (E.state err.new) result }
+{
+    let Ok(words) = borrowed(alloc, texts) else {
+        return report(&Err(CommandError::NoMemory), err);
+    };
+    report(&answer(alloc, sources, words.as_slice(), out), err)
+}
+
+/// Answers the arguments on `out`, writes the line that belongs to the answer, if there is one, to `err`, and returns
+/// the exit status: 0 for an answer, 2 for usage, a file that can't be read and a line in error, 3 where the output
+/// failed or there is no memory.
+pub fn program<A: Arguments, F: Sources, O: Sink, E: Sink>(
+    alloc: Global,
+    arguments: &A,
+    sources: &F,
+    out: &mut O,
+    err: &mut E,
+) -> u8
+    ensures { Runs (A.told arguments.now) (F.told sources.now) (O.state out.old) (O.state out.new)
+        (E.state err.old) (E.state err.new) result }
+{
+    match texts_of(alloc, arguments) {
+        Ok(texts) => answer_texts(alloc, sources, texts.as_slice(), out, err),
+        Err(Unreadable::NotText) => report(&Err(CommandError::Usage), err),
+        Err(Unreadable::NoMemory) => report(&Err(CommandError::NoMemory), err),
+    }
+}

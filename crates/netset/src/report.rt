@@ -1,0 +1,91 @@
+//! The exit status, and what is written to standard error.
+ghost use Rattle.std.specs.Prelude.{◌≡◌};
+ghost use Rattle.std.specs.List.{flat_map};
+ghost use Rattle.cidr_io.specs.Writing.{Answered, Says, Writes};
+ghost use Rattle.netset.specs.Program.{Reports, status_of, error_line, line_message};
+
+use crate::errors::{CommandError, LineError};
+use arrayvec::ArrayString;
+use cidr_io::sink::{OutputFailed, Sink};
+use cidr_io::writing::{flush, write_all};
+use itoa::Buffer;
+
+const USAGE: &str = "usage: netset merge [FILE..] | --help | --version\n";
+
+/// The longest message of an error.
+const MOST_MESSAGE: usize = 99;
+
+/// The message of a line in error.
+fn message_of(error: &LineError) -> ArrayString<MOST_MESSAGE>
+    ensures { result.bytes ≡ line_message error.now }
+{
+    match error {
+        LineError::NotUtf8 => {
+            let mut text = ArrayString::new();
+            text.push_str("not UTF-8");
+            text
+        }
+        LineError::NoNetwork(e) => e.to_text(),
+    }
+}
+
+/// Writes strings behind one another.
+fn write_parts<S: Sink>(out: &mut S, parts: &[&str]) -> Result<(), OutputFailed>
+    ensures { Writes (S.state out.old) (S.state out.new) (flat_map (λ part. part.now) parts.now) result }
+{
+    for part in parts {
+        write_all(out, part.as_bytes())?;
+    }
+    Ok(())
+}
+
+/// Writes a line of several parts, and flushes. A sink that has failed before gets nothing.
+fn write_line<S: Sink>(out: &mut S, parts: &[&str]) -> Result<(), OutputFailed>
+    ensures { Answered (S.state out.old) (S.state out.new) (flat_map (λ part. part.now) parts.now) result }
+{
+    if out.failed() {
+        return Err(OutputFailed);
+    }
+    write_parts(out, parts)?;
+    flush(out)
+}
+
+/// Writes the line of an error, as far as the sink takes it.
+fn say<E: Sink>(error: &CommandError<'_>, err: &mut E)
+    ensures { Says (E.state err.old) (E.state err.new) (error_line error.now) }
+{
+    let _ = match error {
+        CommandError::Usage => write_line(err, &[USAGE]),
+        CommandError::Line(name, number, e) => write_line(
+            err,
+            &[
+                name,
+                ":",
+                Buffer::new().format(*number),
+                ": ",
+                message_of(e).as_str(),
+                "\n",
+            ],
+        ),
+        CommandError::Input(name) => write_line(err, &[name, ": cannot be read\n"]),
+        CommandError::NoMemory => write_line(err, &["no memory\n"]),
+        CommandError::Output => write_line(err, &["output failed\n"]),
+    };
+}
+
+/// Writes the line that belongs to an answer, if there is one, and returns the exit status whatever the sink does: 0
+/// for an answer, 2 for usage, a file that can't be read and a line in error, 3 where the output failed or there is no
+/// memory.
+pub fn report<E: Sink>(answer: &Result<(), CommandError<'_>>, err: &mut E) -> u8
+    ensures status { result ≡ status_of answer.now }
+    ensures says { Reports answer.now (E.state err.old) (E.state err.new) }
+{
+    let Err(error) = answer else {
+        return 0;
+    };
+    say(error, err);
+    match error {
+        CommandError::Usage | CommandError::Line(_, _, _) | CommandError::Input(_) => 2,
+        CommandError::NoMemory | CommandError::Output => 3,
+    }
+}
