@@ -6,7 +6,7 @@ use Rattle.std.specs.List.{Any, Contains}
 use Rattle.cidr.specs.model.Network.{BeginsWith}
 use Rattle.cidr_table.specs.Cover.{Covers, CoverSame, AreNetworks, IsFull, IsLeastCover, IsRefinement}
 
-begins_begins : (a p q : List Bool) → BeginsWith a p → BeginsWith p q → BeginsWith a q
+pub begins_begins : (a p q : List Bool) → BeginsWith a p → BeginsWith p q → BeginsWith a q
 begins_begins a p q h k =
     let within : length q ≤ length p = omega (arith, ap length k, length-take (length q) p) in
     sym (take-take (length q) (length p) a within) ∙ ap (take (length q)) h ∙ k

@@ -1,11 +1,15 @@
 -- What is read back is what was printed, what a pool gives, which lines are refused, what bytes begin with, the rows of
--- a table, and which network lies in a list made shorter.
+-- a table, which network lies in a list made shorter, what is left of a pool, and which rules decide.
+pub mod AccessLists
 pub mod Aggregates
+pub mod FreeNetworkSets
 pub mod ReadBack
+pub mod Readings
 pub mod Pools
 pub mod ConfigLines
 pub mod Agreements
 pub mod Fronts
 pub mod PrefixFronts
 pub mod Routes
+pub mod RouteHits
 pub mod WalkCalls

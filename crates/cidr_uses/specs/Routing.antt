@@ -1,6 +1,7 @@
 -- Routes: rows of a table, of which the longest key that an address or a network begins with decides.
-use Rattle.std.specs.Prelude.{ℕ, ◌≤◌, Bool, List, [], length, Contains, Option, MatchOption}
+use Rattle.std.specs.Prelude.{◌≡◌, ℕ, ◌+◌, ◌-◌, ◌^◌, ◌≤◌, min, Bool, List, [], length, Contains, Option, MatchOption}
 use Rattle.cidr.specs.model.Network.{BeginsWith}
+use Rattle.cidr_table.specs.FiniteMap.{IsInserted}
 use Rattle.cidr_table.specs.Loading.{IsListed, IsLastPlace}
 
 module _ {C V : Type 0} (bits : C → List Bool) (routes : List (C × V)) (asked : List Bool) where
@@ -13,6 +14,14 @@ module _ {C V : Type 0} (bits : C → List Bool) (routes : List (C × V)) (asked
     pub there : Contains routes route
     pub begins : BeginsWith asked (bits route.0)
     pub longest : (row : C × V) → Contains routes row → BeginsWith asked (bits row.0) → length (bits row.0) ≤ length (bits route.0)
+
+-- the route of the asked bits had one hit less, unless it has the most that a u32 counts, and all other routes have theirs
+pub record IsHit {C : Type 0} (bits : C → List Bool) (old : List (C × ℕ)) (asked : List Bool) (hits : ℕ) (new : List (C × ℕ)) : Type 0 where
+  pub network : C
+  pub before : ℕ
+  pub route : IsRoute bits old asked (network, before)
+  pub counted : hits ≡ min (before + 1) (2 ^ 32 - 1)
+  pub after : IsInserted old network hits new
 
 -- the bytes are a list of prefixes, each written as prefix bytes, and this is the last place of the network in it, or it
 -- isn't there

@@ -1,9 +1,10 @@
-//! Parts of small programs, written by the public calls of `cidr` and `cidr_table` only and proved from their public
-//! contracts only.
+//! Parts of small programs, written by the public calls of `cidr`, `cidr_table` and `cidr_sets` only and proved from
+//! their public contracts only.
 #![tactic(auto)]
 
 pub mod access_list;
 pub mod address_pool;
+pub mod address_sets;
 pub mod aggregate;
 pub mod at_ipv4;
 pub mod at_ipv6;
@@ -18,5 +19,8 @@ pub mod network_lengths;
 pub mod prefix_bytes;
 pub mod prefix_tree;
 pub mod read_back;
+pub mod reading;
+pub mod route_hits;
 pub mod routing_table;
+pub mod strings;
 pub mod walk_calls;

@@ -1,0 +1,52 @@
+//! Sets of addresses: what is left of a pool, and laws of sets as callers see them.
+ghost use Rattle.std.specs.Prelude.{◌≡◌, [], true, map, IfOk};
+ghost use Rattle.std.specs.Option.{option_map};
+ghost use Rattle.cidr_uses.specs.FreeNetworks.{IsFirstAvailable};
+
+use cidr::NetworkBits;
+use cidr_sets::laws::{
+    equal_sets_are_equal_lists, equal_sets_are_the_same, full_networks_lie_in_one,
+    sets_without_addresses_are_empty,
+};
+use cidr_sets::{NetworkSet, Subnets};
+use std::alloc::AllocError;
+
+/// The first network of `len` bits of which every address is in the pool and none is used, or `None` where there is
+/// none.
+pub fn first_available<C: Subnets + Copy>(
+    pool: &NetworkSet<C>,
+    used: &NetworkSet<C>,
+    len: usize,
+) -> Result<Option<C>, AllocError>
+    ensures { IfOk result (λ first. IsFirstAvailable C.IsNetwork (map C.bits pool.now) (map C.bits used.now) len
+        (option_map C.bits first)) }
+{
+    // the call tells the proof that what is free as a whole lies in one network
+    full_networks_lie_in_one();
+    let free = pool.difference(used)?;
+    Ok(free.first_free(len))
+}
+
+/// What a set has that it has not itself, which is nothing.
+pub fn minus_itself<C: NetworkBits + Copy>(set: &NetworkSet<C>) -> Result<NetworkSet<C>, AllocError>
+    ensures { IfOk result (λ rest. rest ≡ []) }
+{
+    sets_without_addresses_are_empty();
+    equal_sets_are_the_same::<C>();
+    let rest = set.difference(set)?;
+    Ok(rest)
+}
+
+/// Whether the unions of two sets in either order are equal, which they are.
+pub fn unions_are_equal<C: NetworkBits + Copy>(
+    set: &NetworkSet<C>,
+    other: &NetworkSet<C>,
+) -> Result<bool, AllocError>
+    ensures { IfOk result (λ same. same ≡ true) }
+{
+    equal_sets_are_equal_lists();
+    equal_sets_are_the_same::<C>();
+    let union = set.union(other)?;
+    let turned = other.union(set)?;
+    Ok(union == turned)
+}
