@@ -71,10 +71,10 @@ pub trait Address: Copy
     /// They are ordered by family and then by bits, which is by number.
     ghost ordered: { IsOrderByFamily Self.family_of Self.bits Self.cmp };
 
-    /// A text that is accepted spells the value, and one that is rejected spells none of the type.
+    /// A string that parses represents the value, and one that is rejected represents none of the type.
     ghost reads: { ReadsByFamily IsAddressText Self.family_of Self.bits Self.from_str_gives };
 
-    /// The printed text, by the family and the bits.
+    /// The printed string, by the family and the bits.
     ghost prints: { PrintsByFamily address_text Self.family_of Self.bits Self.output };
 }
 
@@ -177,10 +177,10 @@ pub trait Cidr: Copy + Debug + Display + FromStr<Err = NetworkParseError> + Ord 
     /// They are ordered by family and then by bits: a beginning comes first.
     ghost ordered: { IsOrderByFamily Self.family_of Self.prefix Self.cmp };
 
-    /// A text that is accepted spells the value, and one that is rejected spells none of the type.
+    /// A string that parses represents the value, and one that is rejected represents none of the type.
     ghost reads: { ReadsByFamily IsNetworkText Self.family_of Self.prefix Self.from_str_gives };
 
-    /// The printed text, by the family and the bits.
+    /// The printed string, by the family and the bits.
     ghost prints: { PrintsByFamily plain_text Self.family_of Self.prefix Self.output };
 }
 
@@ -327,7 +327,7 @@ pub trait Inet: Copy + Debug + Display + FromStr<Err = NetworkParseError> + Ord 
     /// They are ordered by family and then by address and prefix length.
     ghost ordered: { IsHostOrderByFamily Self.family_of Self.host Self.cmp };
 
-    /// A text that is accepted spells the value, and one that is rejected spells none of the type.
+    /// A string that parses represents the value, and one that is rejected represents none of the type.
     ghost reads: { ReadsByFamily IsHostText Self.family_of Self.host Self.from_str_gives };
 
     /// The printed text, by the family and the host.
