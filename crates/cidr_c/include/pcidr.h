@@ -1,0 +1,212 @@
+/* IPv4 and IPv6 networks: the proved library `cidr` for C and C++.
+ *
+ * Values go by value: a call takes and writes a `pcidr_value`, keeps no pointer and has no state, so that any number of
+ * threads may call, each on memory of its own or on memory that none of them writes. No call ends the program, for
+ * whatever values and strings it is given. What the caller owes:
+ *
+ * - A pointer to a value, a count or an index points to one that may be read, and written where it is not const.
+ * - A pointer and the number behind it name so many elements in a row. Where the number is 0, the pointer may be null.
+ * - What a call writes overlaps nothing else that the same call gets.
+ * - A call marked "allocates" takes memory by `malloc` and gives all of it back. `malloc`, `realloc` and `free` are of
+ *   one allocator, which aligns blocks as the C standard asks. Such a call does not go into a signal handler.
+ *
+ * A string is a pointer and a length in bytes, needs no 0 at its end, and may hold any bytes.
+ */
+#ifndef PCIDR_H
+#define PCIDR_H
+
+#include <stddef.h>
+#include <stdint.h>
+
+#ifdef __cplusplus
+extern "C" {
+#endif
+
+/* The version of this header, as `pcidr_version` returns that of the library: 65536 * major + 256 * minor + patch. */
+#define PCIDR_VERSION 0x000100u
+
+/* An address, a host or a network.
+ *
+ * `tag` is the prefix length in IPv4, 0 to 32, and 64 more than it in IPv6, 64 to 192; 255 is `any`, the network of all
+ * addresses. `high` and `low` are the two halves of the address as a number; in IPv4 `high` is 0, of `any` both are 0.
+ *
+ * - A host is any address with a prefix length: 10.0.0.5/8.
+ * - A network is a host with no bit set after the prefix, 10.0.0.0/8, or `any`.
+ * - An address is a host of full prefix length: 32 in IPv4 and 192 in IPv6. It is the network of itself alone.
+ *
+ * So each address is a network, and each network but `any` is a host. Each call says which of them it takes, and returns
+ * `PCIDR_NO_VALUE` for any other value.
+ */
+typedef struct pcidr_value {
+    uint64_t high;
+    uint64_t low;
+    uint8_t tag;
+} pcidr_value;
+
+#if defined(__cplusplus) && __cplusplus >= 201103L
+#define PCIDR_ASSERT(holds) static_assert(holds, "pcidr_value is laid out otherwise")
+#elif defined(__STDC_VERSION__) && __STDC_VERSION__ >= 201112L
+#define PCIDR_ASSERT(holds) _Static_assert(holds, "pcidr_value is laid out otherwise")
+#else
+#define PCIDR_JOINED(a, b) a##b
+#define PCIDR_NAMED(line) PCIDR_JOINED(pcidr_assert_, line)
+#define PCIDR_ASSERT(holds) typedef char PCIDR_NAMED(__LINE__)[(holds) ? 1 : -1]
+#endif
+PCIDR_ASSERT(sizeof(pcidr_value) == 24);
+PCIDR_ASSERT(offsetof(pcidr_value, high) == 0);
+PCIDR_ASSERT(offsetof(pcidr_value, low) == 8);
+PCIDR_ASSERT(offsetof(pcidr_value, tag) == 16);
+PCIDR_ASSERT(sizeof(size_t) == 8);
+
+/* What calls return: 0, or the first error that applies. `pcidr_message` has a string for each. */
+enum {
+    PCIDR_OK = 0,
+    PCIDR_NOT_UTF8 = 1,        /* the string is not UTF-8 */
+    PCIDR_ADDRESS = 2,         /* what is before the last slash, or the whole string, is no address */
+    PCIDR_LENGTH = 3,          /* what is after the last slash is no prefix length */
+    PCIDR_LENGTH_TOO_LONG = 4, /* the prefix length is above 32 or 128 */
+    PCIDR_HOST_PART = 5,       /* a bit after the prefix is set */
+    PCIDR_TRUNCATED = 6,       /* the compact bytes end too early */
+    PCIDR_TAG = 7,             /* the first compact byte is no tag */
+    PCIDR_ANY = 8,             /* the compact bytes are those of `any`, which is no host */
+    PCIDR_FAMILY = 9,          /* the compact bytes are of the other family; no call returns this yet */
+    PCIDR_NO_VALUE = 10,       /* a value is none that the call takes */
+    PCIDR_NO_ROOM = 11,        /* there is too little room for the answer */
+    PCIDR_NO_MEMORY = 12,      /* there is no memory */
+    PCIDR_WRAPPED = 13         /* the step leaves the network; its result is there all the same */
+};
+
+/* Room that is enough for any string of a value, and for any message, with the 0 behind it. */
+#define PCIDR_TEXT_ROOM 44
+#define PCIDR_MESSAGE_ROOM 100
+/* Room for the compact bytes of any value. */
+#define PCIDR_BYTES_ROOM 17
+
+/* The version of the library. */
+uint32_t pcidr_version(void);
+
+/* ---- strings into values: PCIDR_OK and the value in `out`, or the error, and then `out` is as it was */
+
+/* An address, as 192.0.2.1 or 2001:db8::1. Errors: NOT_UTF8, ADDRESS. */
+uint32_t pcidr_read_address(const char *text, size_t text_len, pcidr_value *out);
+
+/* The same, and also what `inet_addr` takes, as 127.1 or 0x7f000001. Errors: NOT_UTF8, ADDRESS. */
+uint32_t pcidr_read_loose_address(const char *text, size_t text_len, pcidr_value *out);
+
+/* An address with or without a prefix length, as 10.0.0.5/8. Errors: NOT_UTF8, ADDRESS, LENGTH, LENGTH_TOO_LONG. */
+uint32_t pcidr_read_host(const char *text, size_t text_len, pcidr_value *out);
+
+/* A network, as 10.0.0.0/8, an address alone, or `any`. Errors: NOT_UTF8, ADDRESS, LENGTH, LENGTH_TOO_LONG, HOST_PART. */
+uint32_t pcidr_read_network(const char *text, size_t text_len, pcidr_value *out);
+
+/* The same, but one to four octets without a slash are a network of so many octets: 10.7 is 10.7.0.0/16. */
+uint32_t pcidr_read_short_network(const char *text, size_t text_len, pcidr_value *out);
+
+/* Reads a text of networks, one a line, as `pcidr_read_network` does, into the front of `out`. Lines are separated by
+ * line feeds; the last one has none behind it, so that a text with one at its end has an empty last line, which is no
+ * network. `count` becomes how many lines were read. PCIDR_NO_ROOM, where `out` is full before the text has ended; else
+ * the error of line `count`, counted from 0. */
+uint32_t pcidr_read_lines(const char *text, size_t text_len, pcidr_value *out, size_t out_len, size_t *count);
+
+/* ---- values into strings: the length of the string, or 0 for a value that the call does not take
+ *
+ * Where `out_len` is above the length, the string is in `out` with a 0 behind it; else `out` is as it was. So a call with
+ * room 0 asks for the length. */
+
+/* An address. */
+size_t pcidr_print_address(const pcidr_value *address, char *out, size_t out_len);
+
+/* A host, without a full prefix length: 10.0.0.5/8, or 10.0.0.5 for 10.0.0.5/32. */
+size_t pcidr_print_host(const pcidr_value *host, char *out, size_t out_len);
+
+/* A network, without a full prefix length. */
+size_t pcidr_print_network(const pcidr_value *network, char *out, size_t out_len);
+
+/* A network, always with its prefix length: 10.0.0.5/32. */
+size_t pcidr_print_network_with_length(const pcidr_value *network, char *out, size_t out_len);
+
+/* Prints networks, each with a line feed behind it and without a full prefix length. PCIDR_OK and `count` bytes in `out`;
+ * PCIDR_NO_ROOM, or PCIDR_NO_VALUE for a value that is no network, and then what `out` has is not specified and `count`
+ * is as it was. 44 bytes for each network are enough. */
+uint32_t pcidr_print_lines(const pcidr_value *networks, size_t networks_len, char *out, size_t out_len, size_t *count);
+
+/* The message of an error, or 0 for a number that is none. */
+size_t pcidr_message(uint32_t code, char *out, size_t out_len);
+
+/* ---- compact bytes: the tag, and the address in network byte order; 1, 5 or 17 bytes */
+
+/* How many bytes it are, or 0 for another value. They are in `out` if there is room for them, else it is as it was. */
+size_t pcidr_network_to_bytes(const pcidr_value *network, uint8_t *out, size_t out_len);
+size_t pcidr_host_to_bytes(const pcidr_value *host, uint8_t *out, size_t out_len);
+
+/* The value whose bytes come first, and how many they are. Errors: TRUNCATED, TAG, TRUNCATED, ANY (a host), HOST_PART (a
+ * network); then `out` and `used` are as they were. */
+uint32_t pcidr_network_from_bytes(const uint8_t *bytes, size_t bytes_len, pcidr_value *out, size_t *used);
+uint32_t pcidr_host_from_bytes(const uint8_t *bytes, size_t bytes_len, pcidr_value *out, size_t *used);
+
+/* ---- parts of a host, or of a network but `any`: PCIDR_OK, or PCIDR_NO_VALUE, and then `out` is as it was */
+
+/* The first and the last address of its network, and the mask as an address. */
+uint32_t pcidr_first(const pcidr_value *host, pcidr_value *out);
+uint32_t pcidr_last(const pcidr_value *host, pcidr_value *out);
+uint32_t pcidr_mask(const pcidr_value *host, pcidr_value *out);
+
+/* Its address, and its network. */
+uint32_t pcidr_address(const pcidr_value *host, pcidr_value *out);
+uint32_t pcidr_network(const pcidr_value *host, pcidr_value *out);
+
+/* The host 2^64 * high + low addresses further, or back, in its network. Where that is beyond an end, it goes on from the
+ * other one, and PCIDR_WRAPPED is returned. */
+uint32_t pcidr_step_up(const pcidr_value *host, uint64_t high, uint64_t low, pcidr_value *out);
+uint32_t pcidr_step_down(const pcidr_value *host, uint64_t high, uint64_t low, pcidr_value *out);
+
+/* The host at position 2^64 * high + low of its network, counted from 0 at the first address, so that a walk is a loop
+ * over numbers up to PCIDR_WRAPPED. */
+uint32_t pcidr_at(const pcidr_value *host, uint64_t high, uint64_t low, pcidr_value *out);
+
+/* ---- networks beside one another */
+
+/* 1 where the second network, or address, is in the first, 0 where not; PCIDR_NO_VALUE. */
+uint32_t pcidr_contains(const pcidr_value *outer, const pcidr_value *inner);
+
+/* 0, 1 or 2, where the first network comes before the second, is the same, or comes after it; PCIDR_NO_VALUE. `any` comes
+ * first, then IPv4, then IPv6; in a family the lower first address, and then the shorter prefix. */
+uint32_t pcidr_compare(const pcidr_value *one, const pcidr_value *other);
+
+/* The same for `qsort` and `bsearch` over networks: below, at or above 0. */
+static inline int pcidr_order(const void *one, const void *other) {
+    return (int)pcidr_compare((const pcidr_value *)one, (const pcidr_value *)other) - 1;
+}
+
+/* ---- many networks
+ *
+ * A set is the shortest list of networks that has its addresses, ascending, in memory of the caller. Any list of networks
+ * is taken for the set of its addresses, in any order; networks may repeat and overlap. */
+
+/* Replaces networks by the set of their addresses: the first `count` of them; what is behind is not specified. Errors:
+ * NO_MEMORY, NO_VALUE; then all is as it was. Allocates. */
+uint32_t pcidr_cover(pcidr_value *networks, size_t networks_len, size_t *count);
+
+/* The set of the addresses that one list has or the other (union), that both have (intersection), that the first has and
+ * the second has not (difference), or that exactly one has (symmetric difference): the first `count` of `out`. Where
+ * `out_len` is too small, PCIDR_NO_ROOM, and `count` is how many are needed. Errors: NO_MEMORY, NO_VALUE, NO_ROOM; then
+ * `out` is as it was. Allocates. */
+uint32_t pcidr_union(const pcidr_value *these, size_t these_len, const pcidr_value *those, size_t those_len,
+                     pcidr_value *out, size_t out_len, size_t *count);
+uint32_t pcidr_intersection(const pcidr_value *these, size_t these_len, const pcidr_value *those, size_t those_len,
+                            pcidr_value *out, size_t out_len, size_t *count);
+uint32_t pcidr_difference(const pcidr_value *these, size_t these_len, const pcidr_value *those, size_t those_len,
+                          pcidr_value *out, size_t out_len, size_t *count);
+uint32_t pcidr_symmetric_difference(const pcidr_value *these, size_t these_len, const pcidr_value *those,
+                                    size_t those_len, pcidr_value *out, size_t out_len, size_t *count);
+
+/* For each of the asked networks or addresses, 1 where the list has all of its addresses, and 0 where not, at the same
+ * index of `out`. Errors: NO_MEMORY, NO_VALUE, NO_ROOM; then what `out` has is not specified. Allocates. */
+uint32_t pcidr_contains_each(const pcidr_value *networks, size_t networks_len, const pcidr_value *asked,
+                             size_t asked_len, uint8_t *out, size_t out_len);
+
+#ifdef __cplusplus
+}
+#endif
+
+#endif

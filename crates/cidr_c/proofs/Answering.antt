@@ -1,0 +1,72 @@
+-- Asked values that are answered one after another.
+use Rattle.std.proofs.Common.{◌≡◌, ◌≢◌, ◌↔◌, ℕ, ◌+◌, ◌<◌, ◌≤◌, Bool, List, length, get_or, set, slice_get, Some, map, inl, inr, refl, sym, ap, ◌∙◌, arith, subst}
+use Rattle.std.proofs.lemmas.Bool.{cases_eq, cases_lt}
+use Rattle.std.proofs.lemmas.List.{length-set, get_or-set_same, get_or-set_other}
+use Rattle.std.proofs.lemmas.Option.{get_or_from_slice_get, slice_get_within, slice_get_past, slice_get-get_or}
+use Rattle.cidr.specs.either.IpNetwork.{any_bits}
+use Rattle.cidr.specs.declared.cidr.any.AnyIpCidr.{AnyIpCidr}
+use Rattle.cidr_table.specs.Cover.{Covers, IsFull}
+use Rattle.cidr_sets.specs.Sets.{IsSetOf}
+use Rattle.cidr_c.specs.Calls.{IsAnswer}
+use Rattle.cidr_c.specs.Batches.{AreNetworks, bits_in}
+use Rattle.cidr_c.specs.Lookups.{AreAnswered, AreContained}
+use Rattle.cidr_c.specs.Values.{IsNetwork, network_in}
+use Rattle.cidr_c.specs.declared.values.CValue.{CValue}
+
+-- the first n are answered
+abbrev pub AreFirst : (AnyIpCidr → ℕ → Type 0) → ℕ → List CValue → List ℕ → Type 0
+AreFirst Answers n asked out =
+    (i : ℕ) (v : CValue) → i < n → slice_get asked i ≡ Some v
+    → IsNetwork v × (answer : ℕ) × (slice_get out i ≡ Some answer) × Answers (network_in v) answer
+
+slice_get-set_here : (out : List ℕ) (n a : ℕ) → n < length out → slice_get (set out n a) n ≡ Some a
+slice_get-set_here out n a h =
+    slice_get-get_or (set out n a) n 0 (omega (arith, length-set out n a, h)) ∙ ap Some (get_or-set_same out n a 0 h)
+
+slice_get-set_other : (out : List ℕ) (n i a : ℕ) → i ≢ n → slice_get (set out n a) i ≡ slice_get out i
+slice_get-set_other out n i a other =
+    let size = length-set out n a in
+    elim (cases_lt i (length out)) [
+      | inl lt ↦
+          slice_get-get_or (set out n a) i 0 (omega (arith, size, lt)) ∙ (ap Some (get_or-set_other out n i a 0 other)
+          ∙ sym (slice_get-get_or out i 0 lt))
+      | inr past ↦ slice_get_past (set out n a) i (omega (arith, size, past)) ∙ sym (slice_get_past out i past)
+    ]
+
+pub one_more : (Answers : AnyIpCidr → ℕ → Type 0) (n : ℕ) (d : CValue) (asked : List CValue) (out : List ℕ) (a : ℕ)
+    → AreFirst Answers n asked out → n < length out → IsNetwork (get_or asked n d) → Answers (network_in (get_or asked n d)) a
+    → AreFirst Answers (n + 1) asked (set out n a)
+one_more Answers n d asked out a first fits here answers i v lt found =
+    elim (cases_eq i n) [
+      | inl e ↦
+          let same : get_or asked n d ≡ v = ap (λ (k : ℕ). get_or asked k d) (sym e) ∙ get_or_from_slice_get asked i v d found in
+          (subst IsNetwork same here, a, ap (slice_get (set out n a)) e ∙ slice_get-set_here out n a fits, subst (λ (w : CValue). Answers (network_in w) a) same answers)
+      | inr other ↦
+          let old = first i v (omega (arith, lt, other)) found in
+          (old.0, old.1, slice_get-set_other out n i a other ∙ old.2, old.3)
+    ]
+
+all : (Answers : AnyIpCidr → ℕ → Type 0) (n : ℕ) (asked : List CValue) (out : List ℕ) → length asked ≤ n → AreFirst Answers n asked out
+    → AreAnswered Answers asked out
+all Answers n asked out past first i v found = first i v (omega (arith, past, slice_get_within asked i v found)) found
+
+pub contained : (values asked : List CValue) (set : List AnyIpCidr) (out : List ℕ) (n : ℕ) → AreNetworks values
+    → IsSetOf 129 (Covers (bits_in values)) (map any_bits set) → length asked ≤ n
+    → AreFirst (λ n answer. IsAnswer answer (IsFull 129 (map any_bits set) (any_bits n))) n asked out → AreContained values asked out 0
+contained values asked set out n fine is_set past first = record {
+  networks = λ _. fine;
+  answers = λ _. all (λ n answer. IsAnswer answer (IsFull 129 (bits_in values) (any_bits n))) n asked out past
+      (λ i v lt found.
+      let old = first i v lt found in (
+        old.0,
+        old.1,
+        old.2,
+        (
+          old.3.0,
+          (
+            λ one a l begins. (is_set.exact a l).0 (old.3.1.0 one a l begins),
+            λ full. old.3.1.1 (λ a l begins. (is_set.exact a l).1 (full a l begins)),
+          ),
+        ),
+      ));
+}

@@ -1,0 +1,6 @@
+pub mod Answering
+pub mod Bits
+pub mod LineSteps
+pub mod NetworkLists
+pub mod Networks
+pub mod Readings

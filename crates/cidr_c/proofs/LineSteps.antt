@@ -1,0 +1,180 @@
+-- Lines that are read one after another.
+use Rattle.std.proofs.Common.{rules, ◌≡◌, ◌≢◌, ◌⊎◌, ℕ, zero, suc, ◌+◌, ◌<◌, ◌≤◌, Bool, true, false, List, [], ◌∷◌, ◌++◌, length, take, drop, set, slice_index_or, slice_get, get_or, map, ◌-◌, Some, cond, inl, inr, refl, sym, ap, ◌∙◌, arith, append_assoc, length-append, length-drop, add-one, subst}
+use Rattle.std.specs.List.{AllZip, slice_split, All, flat_map}
+use Rattle.std.proofs.lemmas.List.{take_more, take_more_set, take-set, append-nil, take-append-drop, length-set, get_or-take, length-take-le}
+use Rattle.std.proofs.lemmas.Grind.{get_or_default_zero}
+use Rattle.std.proofs.lemmas.Bool.{cases_eq}
+use Rattle.std.proofs.lemmas.List.Splits.{slice_split_at, slice_split_none}
+use Rattle.std.proofs.Math.Seq.{take-append_seam, drop-cons, take-length}
+use Rattle.cidr.specs.declared.errors.NetworkParseError.{NetworkParseError}
+use Rattle.cidr.specs.declared.errors.NetworkParseError.TheVariants as parse_error
+use borrow.Rule.Slice.PartMut.{put_mid}
+use Rattle.std.proofs.lemmas.Slice.{take-put_mid, overwrites}
+use Rattle.std.proofs.lemmas.List.Concat.{flat_map-append}
+use Rattle.cidr.specs.either.IpText.{any_network_text}
+use Rattle.cidr.specs.texts.Printed.{plain_text}
+use Rattle.cidr_c.proofs.NetworkLists.{networks_more}
+use Rattle.cidr_c.specs.Batches.{AreNetworks}
+use Rattle.cidr_c.specs.Values.{IsNetwork, network_in}
+use Rattle.cidr_c.specs.Codes.{no_room, parse_code}
+use Rattle.cidr_c.specs.Lines.{lines_of, is_line_feed, Says, IsInError, IsFirstLine, IsLineRead, AreLinesRead, lines_in}
+use Rattle.cidr_c.specs.declared.values.CValue.{CValue}
+
+-- the lines that are left
+abbrev pub lines_left : List ℕ → Bool → List (List ℕ)
+lines_left rest true = lines_of rest
+lines_left rest false = []
+
+-- the first n lines are read, and the others are left
+pub record AreSoFar (text rest : List ℕ) (more : Bool) (old : List CValue) (n : ℕ) (out : List CValue) : Type 0 where
+  pub done : List (List ℕ)
+  pub split : lines_of text ≡ done ++ lines_left rest more
+  pub count : n ≡ length done
+  pub fits : n ≤ length out
+  pub kept : length out ≡ length old
+  pub said : AllZip Says done (take n out)
+
+pub none_yet : (text : List ℕ) (out : List CValue) → AreSoFar text text true out 0 out
+none_yet text out = record { done = []; split = refl; count = refl; fits = omega arith; kept = refl; said = tt }
+
+left_behind : (rest line behind : List ℕ) (more : Bool) → IsFirstLine rest line behind more → lines_of rest ≡ line ∷ lines_left behind more
+left_behind rest line behind true first = first.0
+left_behind rest line behind false first = first
+
+says_more : (done : List (List ℕ)) (values : List CValue) (line : List ℕ) (value : CValue) → AllZip Says done values → Says line value
+    → AllZip Says (done ++ line ∷ []) (values ++ value ∷ [])
+says_more [] [] line value said here = (here, tt)
+says_more [] (v ∷ values) line value said here = absurd said
+says_more (d ∷ done) [] line value said here = absurd said
+says_more (d ∷ done) (v ∷ values) line value said here = (said.0, says_more done values line value said.1 here)
+
+below_room : (e : NetworkParseError) → parse_code e < 11
+below_room (parse_error.AddrParseError e) = omega arith
+below_room (parse_error.NetworkLengthParseError e) = omega arith
+below_room (parse_error.NetworkLengthTooLongError e) = omega arith
+below_room parse_error.InvalidHostPart = omega arith
+
+line_at : (done : List (List ℕ)) (line : List ℕ) (others : List (List ℕ)) → slice_get (done ++ line ∷ others) (length done) ≡ Some line
+line_at [] line others = refl
+line_at (d ∷ done) line others = line_at done line others
+
+module _ (text rest : List ℕ) (old : List CValue) (n : ℕ) (out : List CValue) (so_far : AreSoFar text rest true old n out)
+    (line behind : List ℕ) (more : Bool) (first : IsFirstLine rest line behind more) where
+  next_split : lines_of text ≡ so_far.done ++ line ∷ lines_left behind more
+  next_split = so_far.split ∙ ap (λ (t : List (List ℕ)). so_far.done ++ t) (left_behind rest line behind more first)
+
+  front : take n (lines_of text) ≡ so_far.done
+  front =
+      ap (take n) next_split ∙ (ap (λ (k : ℕ). take k (so_far.done ++ line ∷ lines_left behind more)) so_far.count
+      ∙ take-append_seam so_far.done (line ∷ lines_left behind more))
+
+  said_so_far : (new : List CValue) → take n new ≡ take n out → AllZip Says (take n (lines_of text)) (take n new)
+  said_so_far new same =
+      subst (λ (t : List (List ℕ)). AllZip Says t (take n new)) (sym front) (subst (AllZip Says so_far.done) (sym same) so_far.said)
+
+  -- a line that was read
+  pub one_more : (new : List CValue) (code : ℕ) → code ≡ 0 → IsLineRead line n out new code → AreSoFar text behind more old (n + 1) new
+  one_more new code ok (inl full) = absurd (omega (arith, ok, full.1))
+  one_more new code ok (inr (fits, value, is, read)) =
+      let same : length new ≡ length out = ap length is ∙ length-set out n value in record {
+        done = so_far.done ++ line ∷ [];
+        split = next_split ∙ sym (append_assoc so_far.done (line ∷ []) (lines_left behind more));
+        count = omega (arith, so_far.count, length-append so_far.done (line ∷ []));
+        fits = omega (arith, same, fits);
+        kept = same ∙ so_far.kept;
+        said = subst (AllZip Says (so_far.done ++ line ∷ [])) (sym (ap (take (n + 1)) is ∙ take_more_set out n value fits)) (says_more so_far.done (take n out) line value so_far.said (read.value ok));
+      }
+
+  -- a line in error, or no more room
+  pub stopped : (new : List CValue) (code : ℕ) → code ≢ 0 → IsLineRead line n out new code → AreLinesRead text old new n code
+  stopped new code other (inl (past, full, same)) = record {
+    fits = omega (arith, so_far.fits, so_far.kept);
+    said = said_so_far new (ap (take n) same);
+    all = λ z. absurd (other z);
+    room = λ _. (omega (arith, so_far.fits, so_far.kept, past), rw next_split (omega (arith, so_far.count, length-append so_far.done (line ∷ lines_left behind more))));
+    error = λ _ none. absurd (none full);
+  }
+  stopped new code other (inr (fits, value, is, read)) = record {
+    fits = omega (arith, so_far.fits, so_far.kept);
+    said = said_so_far new (ap (take n) is ∙ take-set out n value);
+    all = λ z. absurd (other z);
+    room = λ full. let (e, is_code, _) = read.error (omega (arith, full)) in absurd (omega (arith, full, is_code, below_room e));
+    error = λ _ _. (
+      line,
+      rw (next_split, so_far.count) (line_at so_far.done line (lines_left behind more)),
+      elim (cases_eq code 1) [ inl e ↦ inl (e, read.utf8.0 e) | inr ne ↦ inr (read.error (omega (arith, ne, other))) ],
+    );
+  }
+
+pub all_read : (text rest : List ℕ) (old : List CValue) (n : ℕ) (out : List CValue) → AreSoFar text rest false old n out
+    → AreLinesRead text old out n 0
+all_read text rest old n out so_far =
+    let all : lines_of text ≡ so_far.done = so_far.split ∙ append-nil so_far.done in
+    record {
+      fits = omega (arith, so_far.fits, so_far.kept);
+      said = subst (λ (t : List (List ℕ)). AllZip Says t (take n out))
+          (sym (ap (take n) all ∙ (ap (λ (k : ℕ). take k so_far.done) so_far.count ∙ take-length so_far.done))) so_far.said;
+      all = λ _. rw all so_far.count;
+      room = λ z. absurd (omega (arith, z));
+      error = λ other _. absurd (other refl);
+    }
+
+-- ---- the first line
+-- the text is cut at its first line feed
+pub cut : (text : List ℕ) (place : ℕ) → ((k : ℕ) → k < place → is_line_feed (slice_index_or text k 0) ≡ false)
+    → place < length text → is_line_feed (slice_index_or text place 0) ≡ true
+    → IsFirstLine text (take place text) (drop (place + 1) text) true
+cut text place before within here =
+    let behind = drop (place + 1) text in
+    let y = slice_index_or text place 0 in
+    let tail : drop place text ≡ y ∷ behind = rw add-one (drop-cons text place 0 within) in
+    let whole : take place text ++ (y ∷ behind) ≡ text = ap (λ (t : List ℕ). take place text ++ t) (sym tail) ∙ take-append-drop place text in
+    let none : All (λ x. is_line_feed x ≡ false) (take place text) =
+    λ k d lt.
+    let below : k < place = omega (arith, lt, length-take-le place text (omega arith)) in
+    let inside : k < length text = omega arith in
+    ap is_line_feed (get_or-take place text k d below ∙ get_or_default_zero text k d inside) ∙ before k below in (
+      ap (slice_split is_line_feed) (sym whole) ∙ slice_split_at is_line_feed (take place text) y behind none here,
+      omega (arith, length-drop (place + 1) text, within),
+    )
+
+pub uncut : (text : List ℕ) (place : ℕ) → ((k : ℕ) → k < place → is_line_feed (slice_index_or text k 0) ≡ false)
+    → length text ≤ place → (behind : List ℕ) → IsFirstLine text text behind false
+uncut text place before past behind =
+    slice_split_none is_line_feed text (λ k d lt. ap is_line_feed (get_or_default_zero text k d lt) ∙ before k (omega (arith, lt, past)))
+
+-- ---- printed lines
+put_mid-length : (at n : ℕ) (out ys : List ℕ) (k : ℕ) → k ≡ n → length ys ≡ n → at + n ≤ length out → length (put_mid at k out ys) ≡ length out
+put_mid-length at n out ys k e l fits = search (rules, overwrites)
+
+-- a string and a line feed are put to a place
+pub line_put : (at : ℕ) (out ys text : List ℕ) → ys ≡ text → at + length text < length out
+    → (at + length text + 1 ≤ length (set (put_mid at (at + length text - at) out ys) (at + length text) 10))
+    × (take (at + length text + 1) (set (put_mid at (at + length text - at) out ys) (at + length text) 10) ≡ take at out ++ (text ++ 10 ∷ []))
+line_put at out ys text same fits =
+    let mid = put_mid at (at + length text - at) out ys in
+    let lens : length ys ≡ length text = ap length same in
+    let size : length mid ≡ length out = put_mid-length at (length text) out ys (at + length text - at) (omega arith) lens (omega arith) in
+    let within : at + length text < length mid = omega (arith, size, fits) in
+    let front : take (at + length text) mid ≡ take at out ++ text =
+    take-put_mid at (at + length text - at) out ys (at + length text) (omega (arith, lens)) (omega (arith, fits)) ∙ ap (λ (t : List ℕ). take at out ++ t) same in (
+      omega (arith, size, fits, length-set mid (at + length text) 10),
+      take_more_set mid (at + length text) 10 within ∙ (ap (λ (t : List ℕ). t ++ 10 ∷ []) front ∙ append_assoc (take at out) text (10 ∷ [])),
+    )
+
+line_more : (values : List CValue) (i : ℕ) (d : CValue) → i < length values
+    → lines_in (take (i + 1) values) ≡ lines_in (take i values) ++ (any_network_text plain_text (network_in (get_or values i d)) ++ 10 ∷ [])
+line_more values i d lt =
+    let f : CValue → List ℕ = λ v. any_network_text plain_text (network_in v) ++ 10 ∷ [] in
+    ap lines_in (take_more values i d lt) ∙ (flat_map-append f (take i values) (get_or values i d ∷ [])
+    ∙ ap (λ (t : List ℕ). lines_in (take i values) ++ t) (append-nil (f (get_or values i d))))
+
+-- one line more
+pub line_printed : (values : List CValue) (i : ℕ) (d : CValue) (text out new : List ℕ) (end next : ℕ) → i < length values
+    → AreNetworks (take i values) → take end out ≡ lines_in (take i values)
+    → IsNetwork (get_or values i d) → text ≡ any_network_text plain_text (network_in (get_or values i d))
+    → (next ≤ length new) × (take next new ≡ take end out ++ (text ++ 10 ∷ []))
+    → (next ≤ length new) × AreNetworks (take (i + 1) values) × (take next new ≡ lines_in (take (i + 1) values))
+line_printed values i d text out new end next lt fine so_far here is put =
+    let more = networks_more values i d (map network_in (take i values)) lt fine refl here in
+    (put.0, more.0, put.1 ∙ (ap (λ (t : List ℕ). t ++ (text ++ 10 ∷ [])) so_far ∙ (ap (λ (t : List ℕ). lines_in (take i values) ++ (t ++ 10 ∷ [])) is ∙ sym (line_more values i d lt))))

@@ -1,0 +1,55 @@
+-- What making a network from an address and a prefix length tells of a value.
+use Rattle.std.proofs.Common.{◌≡◌, ◌≢◌, ℕ, ◌-◌, ◌≤◌, ◌<◌, Bool, List, take, drop, Result, Ok, Err, arith, inl, inr, sym, ap}
+use Rattle.std.proofs.lemmas.Bool.Decides.{nat_tests}
+use Rattle.cidr.specs.laws.BitLaws.{same_bits, bit_eq_Decides}
+use Rattle.cidr.specs.model.Bits.{bits}
+use Rattle.cidr.specs.model.Network.{width_of, zeros, network_from}
+use Rattle.cidr.specs.declared.family.Family.{Family}
+use Rattle.cidr.specs.declared.errors.NetworkParseError.{NetworkParseError}
+use Rattle.cidr.specs.declared.cidr.any.AnyIpCidr.TheVariants.{V4, V6}
+use Rattle.cidr_c.specs.Values.{number_in, IsLow, IsNetwork, network_in}
+use Rattle.cidr_c.specs.declared.values.CValue.{CValue}
+
+-- no bit of the address after the prefix is set
+abbrev pub IsFirst : ℕ → ℕ → List Bool → Type 0
+IsFirst w n a = (n ≤ w) × (drop n a ≡ zeros (w - n))
+
+pub from_ok : (family : Family) (a p : List Bool) (n : ℕ) → Ok p ≡ network_from family a n
+    → IsFirst (width_of family) n a × (p ≡ take n a)
+from_ok family a p n h = grind (arith, nat_tests, same_bits)
+
+pub from_err : (family : Family) (a : List Bool) (e : NetworkParseError) (n : ℕ) → Err e ≡ network_from family a n
+    → IsFirst (width_of family) n a → ⊥
+from_err family a e n h first = grind (arith, nat_tests, (bit_eq_Decides (drop n a) (zeros (width_of family - n))).1)
+
+pub ipv4_in_value : (v : CValue) → v.tag < 64 → network_in v ≡ V4 (take v.tag (bits 32 v.low))
+ipv4_in_value v h = grind (arith, nat_tests)
+
+pub ipv6_in_value : (v : CValue) → v.tag < 255 → 64 ≤ v.tag → network_in v ≡ V6 (take (v.tag - 64) (bits 128 (number_in v)))
+ipv6_in_value v any h = grind (arith, nat_tests)
+
+pub ipv4_network : (v : CValue) (a p : List Bool) → v.tag < 64 → IsLow v → a ≡ bits 32 v.low
+    → IsFirst 32 v.tag a × (p ≡ take v.tag a) → IsNetwork v × (V4 p ≡ network_in v)
+ipv4_network v a p h low e made =
+    let bare = rw e at made in
+    (inr (inl ((bare.0.0, low), bare.0.1)), rw (ipv4_in_value v h) (ap V4 bare.1))
+
+pub no_ipv4 : (v : CValue) (a : List Bool) → v.tag < 64 → a ≡ bits 32 v.low → (IsFirst 32 v.tag a → ⊥) → IsNetwork v → ⊥
+no_ipv4 v a h e none (inl any) = omega (arith, any.0)
+no_ipv4 v a h e none (inr (inl low)) = none (low.0.0, rw e low.1)
+no_ipv4 v a h e none (inr (inr high)) = omega (arith, high.0.0)
+
+pub ipv6_network : (v : CValue) (a p : List Bool) → v.tag ≢ 255 → 64 ≤ v.tag → a ≡ bits 128 (number_in v)
+    → IsFirst 128 (v.tag - 64) a × (p ≡ take (v.tag - 64) a) → IsNetwork v × (V6 p ≡ network_in v)
+ipv6_network v a p any h e made =
+    let bare = rw e at made in
+    let fits : v.tag ≤ 192 = omega (arith, bare.0.0) in
+    (inr (inr ((h, fits), bare.0.1)), rw (ipv6_in_value v (omega arith) h) (ap V6 bare.1))
+
+pub no_ipv6 : (v : CValue) (a : List Bool) → v.tag ≢ 255 → 64 ≤ v.tag → a ≡ bits 128 (number_in v)
+    → (IsFirst 128 (v.tag - 64) a → ⊥) → IsNetwork v → ⊥
+no_ipv6 v a any h e none (inl whole) = any whole.0
+no_ipv6 v a any h e none (inr (inl low)) = omega (arith, low.0.0)
+no_ipv6 v a any h e none (inr (inr high)) =
+    let fits : v.tag - 64 ≤ 128 = omega (arith, high.0.1) in
+    none (fits, rw e high.1)

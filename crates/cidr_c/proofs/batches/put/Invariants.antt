@@ -1,0 +1,7 @@
+use Rattle.std.proofs.Common.{◌≡◌, map, take}
+use Rattle.cidr_c.specs.Batches.{AreNetworks}
+use Rattle.cidr_c.specs.Values.{network_in}
+use Rattle.cidr_c.proofs.batches.put.Given as goal
+
+abbrev pub invariant-loop-i : goal.invariant-loop-i
+invariant-loop-i l = AreNetworks (take l.i l.out) × (map network_in (take l.i l.out) ≡ take l.i l.networks)

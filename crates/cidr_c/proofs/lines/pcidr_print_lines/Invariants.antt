@@ -1,0 +1,9 @@
+use Rattle.std.proofs.Common.{◌≡◌, ◌≤◌, length, take}
+use Rattle.cidr_c.specs.Batches.{AreNetworks}
+use Rattle.cidr_c.specs.Lines.{lines_in}
+use Rattle.cidr_c.proofs.lines.pcidr_print_lines.Given as goal
+
+abbrev pub invariant-loop-value : goal.invariant-loop-value
+invariant-loop-value l =
+    (l.end ≤ length l.out) × AreNetworks (take l.value-index l.networks)
+    × (take l.end l.out ≡ lines_in (take l.value-index l.networks))

@@ -1,0 +1,64 @@
+-- What calls on many values return and leave.
+use Rattle.std.specs.Prelude.{◌≡◌, ◌≢◌, ◌↔◌, ◌⊎◌, ℕ, ◌^◌, ◌-◌, ◌<◌, ◌≤◌, ◌==◌, Bool, List, All, map, length, take, slice_get, Some, Result, Ok, Err}
+use Rattle.std.specs.List.{AllZip, slice_split}
+use Rattle.cidr.specs.either.IpNetwork.{any_bits}
+use Rattle.cidr.specs.either.IpText.{IsAnyNetworkText, ReadsAnyNetwork}
+use Rattle.cidr.specs.declared.cidr.any.AnyIpCidr.{AnyIpCidr}
+use Rattle.cidr_table.specs.Cover.{Covers}
+use Rattle.cidr_sets.specs.Sets.{IsSetOf}
+use Rattle.cidr_c.specs.Calls.{IsAnswer}
+use Rattle.cidr_c.specs.Codes.{no_memory, no_room, no_value}
+use Rattle.cidr_c.specs.Values.{IsNetwork, network_in}
+use Rattle.cidr_c.specs.declared.values.CValue.{CValue}
+
+-- each value is a network
+abbrev pub AreNetworks : List CValue → Type 0
+AreNetworks values = All IsNetwork values
+
+-- the networks that they are, by their bits
+abbrev pub bits_in : List CValue → List (List Bool)
+bits_in values = map (λ v. any_bits (network_in v)) values
+
+-- what is left of the caller's networks: the first `count` of them are networks for which Holds is true; or there is an
+-- error, and all is as it was
+pub record IsLeft (Holds : List (List Bool) → Type 0) (old new : List CValue) (count count_new : ℕ) (code : ℕ) : Type 0 where
+  pub networks : code ≡ 0 → AreNetworks old
+  pub fits : code ≡ 0 → count_new ≤ length old
+  pub left : code ≡ 0 → AreNetworks (take count_new new)
+  pub holds : code ≡ 0 → Holds (bits_in (take count_new new))
+  pub value : code ≡ no_value → ¬ (AreNetworks old)
+  pub codes : (code ≡ 0) ⊎ ((code ≡ no_value) ⊎ (code ≡ no_memory))
+  pub stays : code ≢ 0 → (new ≡ old) × (count_new ≡ count)
+
+-- the set of two lists of networks in the caller's room, of which the first `count` are networks for which Holds is true;
+-- or there is an error, and the room is as it was. Where there is too little of it, the count tells how much is needed
+pub record IsPut (these those : List CValue) (Holds : List (List Bool) → Type 0) (old new : List CValue) (count count_new : ℕ)
+    (code : ℕ) : Type 0 where
+  pub networks : code ≡ 0 → AreNetworks these × AreNetworks those
+  pub fits : code ≡ 0 → count_new ≤ length old
+  pub left : code ≡ 0 → AreNetworks (take count_new new)
+  pub holds : code ≡ 0 → Holds (bits_in (take count_new new))
+  pub value : code ≡ no_value → ¬ (AreNetworks these × AreNetworks those)
+  pub room : code ≡ no_room → length old < count_new
+  pub codes : (code ≡ 0) ⊎ ((code ≡ no_value) ⊎ ((code ≡ no_room) ⊎ (code ≡ no_memory)))
+  pub stays : code ≢ 0 → new ≡ old
+  pub count_stays : code ≢ 0 → code ≢ no_room → count_new ≡ count
+
+-- the set of the addresses of some values that are networks, or the number of the error
+abbrev pub IsSetRead : List CValue → Result (List AnyIpCidr) ℕ → Type 0
+IsSetRead values (Ok set) =
+    AreNetworks values × IsSetOf 129 (Covers (bits_in values)) (map any_bits set) × (length set ≤ length values)
+IsSetRead values (Err code) = ((code ≡ no_value) × ¬ (AreNetworks values)) ⊎ (code ≡ no_memory)
+
+-- the same of two lists
+abbrev pub AreSetsRead : List CValue → List CValue → Result (List AnyIpCidr × List AnyIpCidr) ℕ → Type 0
+AreSetsRead these those (Ok (one, other)) = IsSetRead these (Ok one) × IsSetRead those (Ok other)
+AreSetsRead these those (Err code) = ((code ≡ no_value) × ¬ (AreNetworks these × AreNetworks those)) ⊎ (code ≡ no_memory)
+
+-- a set in the caller's room, or the number of the error
+abbrev pub IsDelivered : {E : Type 0} → Result (List AnyIpCidr) E → List CValue → List CValue → ℕ → ℕ → ℕ → Type 0
+IsDelivered (Ok set) old new count count_new code =
+    ((code ≡ 0) × (count_new ≡ length set) × (length set ≤ length old) × AreNetworks (take count_new new)
+    × (map network_in (take count_new new) ≡ set))
+    ⊎ ((code ≡ no_room) × (count_new ≡ length set) × (length old < length set) × (new ≡ old))
+IsDelivered (Err e) old new count count_new code = (code ≡ no_memory) × (new ≡ old) × (count_new ≡ count)

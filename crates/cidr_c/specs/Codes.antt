@@ -1,0 +1,71 @@
+-- The numbers of the errors, one each, in the order in which parsing returns them.
+use Rattle.std.specs.Prelude.{ℕ, List, [], codes, ◌==◌, if◌then◌else◌}
+use Rattle.std.specs.declared.cmp.Ordering.{Ordering}
+use Rattle.std.specs.declared.cmp.Ordering.TheVariants.{Less, Equal, Greater}
+use Rattle.cidr.specs.model.Errors.{AddressError}
+use Rattle.cidr.specs.declared.errors.CompactError.{CompactError}
+use Rattle.cidr.specs.declared.errors.CompactError.TheVariants as compact_error
+use Rattle.cidr.specs.declared.errors.NetworkParseError.{NetworkParseError}
+use Rattle.cidr.specs.declared.errors.NetworkParseError.TheVariants as parse_error
+
+-- a string is not UTF-8
+abbrev pub not_utf8 : ℕ
+not_utf8 = 1
+
+-- the errors of parsing
+abbrev pub address_code : AddressError → ℕ
+address_code e = 2
+
+abbrev pub parse_code : NetworkParseError → ℕ
+parse_code (parse_error.AddrParseError e) = 2
+parse_code (parse_error.NetworkLengthParseError e) = 3
+parse_code (parse_error.NetworkLengthTooLongError e) = 4
+parse_code parse_error.InvalidHostPart = 5
+
+-- the errors of compact bytes, of which the last is one of parsing too
+abbrev pub compact_code : CompactError → ℕ
+compact_code compact_error.Truncated = 6
+compact_code compact_error.InvalidTag = 7
+compact_code compact_error.InvalidAny = 8
+compact_code (compact_error.InvalidFamily e) = 9
+compact_code compact_error.InvalidHostPart = 5
+
+-- a value is none that the call takes
+abbrev pub no_value : ℕ
+no_value = 10
+
+-- there is too little room for the answer
+abbrev pub no_room : ℕ
+no_room = 11
+
+-- there is no memory
+abbrev pub no_memory : ℕ
+no_memory = 12
+
+-- a step leaves the network
+abbrev pub wrapped : ℕ
+wrapped = 13
+
+-- a comparison as a number
+abbrev pub order_code : Ordering → ℕ
+order_code Less = 0
+order_code Equal = 1
+order_code Greater = 2
+
+-- the message of each number, and no text for any other
+abbrev pub message : ℕ → List ℕ
+message code =
+    if code == 1 then codes "string is not UTF-8"
+    else (if code == 2 then codes "couldn't parse address in network: invalid IP address syntax"
+    else (if code == 3 then codes "couldn't parse length in network: invalid length text"
+    else (if code == 4 then codes "invalid length for network: it is too long for the family"
+    else (if code == 5 then codes "host part of address was not zero"
+    else (if code == 6 then codes "compact bytes end too early"
+    else (if code == 7 then codes "invalid tag"
+    else (if code == 8 then codes "invalid value: `any`"
+    else (if code == 9 then codes "invalid type: other family"
+    else (if code == 10 then codes "value is not of the kind that the call takes"
+    else (if code == 11 then codes "too little room for the answer"
+    else (if code == 12 then codes "no memory"
+    else (if code == 13 then codes "step leaves the network"
+    else []))))))))))))

@@ -1,0 +1,6 @@
+pub mod Batches
+pub mod Calls
+pub mod Codes
+pub mod Lines
+pub mod Lookups
+pub mod Values

@@ -1,0 +1,61 @@
+-- Values as C has them: a number in two halves, and a tag, which tells the family and the prefix length as that of the
+-- compact bytes does.
+use Rattle.std.specs.Prelude.{◌≡◌, ℕ, ◌+◌, ◌-◌, ◌*◌, ◌^◌, ◌<◌, ◌≤◌, ◌⊎◌, ◌==◌, List, take, drop, nat_lt, if◌then◌else◌}
+use Rattle.cidr.specs.model.Bits.{bits}
+use Rattle.cidr.specs.model.Network.{zeros}
+use Rattle.cidr.specs.model.Host.{host_of}
+use Rattle.cidr.specs.declared.addr.ip.IpAddr.{IpAddr}
+use Rattle.cidr.specs.declared.addr.ip.IpAddr.TheVariants as address
+use Rattle.cidr.specs.declared.cidr.any.AnyIpCidr.{AnyIpCidr}
+use Rattle.cidr.specs.declared.cidr.any.AnyIpCidr.TheVariants as network
+use Rattle.cidr.specs.declared.inet.combined.IpInet.{IpInet}
+use Rattle.cidr.specs.declared.inet.combined.IpInet.TheVariants as host
+use Rattle.cidr_c.specs.declared.values.CValue.{CValue}
+
+-- the number that the halves are
+abbrev pub number_in : CValue → ℕ
+number_in v = v.high * 2 ^ 64 + v.low
+
+-- the number is below 2^32, as that of an IPv4 address is
+abbrev pub IsLow : CValue → Type 0
+IsLow v = (v.high ≡ 0) × (v.low < 2 ^ 32)
+
+-- the tag is of an IPv4 prefix length, 0 to 32, and the number that of an IPv4 address
+abbrev pub IsIpv4 : CValue → Type 0
+IsIpv4 v = (v.tag ≤ 32) × IsLow v
+
+-- the tag is of an IPv6 prefix length: 64 for 0, to 192 for 128
+abbrev pub IsIpv6 : CValue → Type 0
+IsIpv6 v = (64 ≤ v.tag) × (v.tag ≤ 192)
+
+-- a host: an address and a prefix length
+abbrev pub IsHost : CValue → Type 0
+IsHost v = IsIpv4 v ⊎ IsIpv6 v
+
+-- the host that such a value is
+abbrev pub host_in : CValue → IpInet
+host_in v =
+    if nat_lt v.tag 64 then host.V4 (host_of (bits 32 v.low) v.tag)
+    else host.V6 (host_of (bits 128 (number_in v)) (v.tag - 64))
+
+-- an address: a host of full prefix length, 32 or 128
+abbrev pub IsAddress : CValue → Type 0
+IsAddress v = ((v.tag ≡ 32) × IsLow v) ⊎ (v.tag ≡ 192)
+
+-- the address that such a value is, or that of a host
+abbrev pub address_in : CValue → IpAddr
+address_in v = if nat_lt v.tag 64 then address.V4 (bits 32 v.low) else address.V6 (bits 128 (number_in v))
+
+-- a network: `Any`, whose tag is 255 and whose halves are zero, or a host with no bit after the prefix set
+abbrev pub IsNetwork : CValue → Type 0
+IsNetwork v =
+    ((v.tag ≡ 255) × (v.high ≡ 0) × (v.low ≡ 0))
+    ⊎ ((IsIpv4 v × (drop v.tag (bits 32 v.low) ≡ zeros (32 - v.tag)))
+    ⊎ (IsIpv6 v × (drop (v.tag - 64) (bits 128 (number_in v)) ≡ zeros (128 - (v.tag - 64)))))
+
+-- the network that such a value is, or that a host is in
+abbrev pub network_in : CValue → AnyIpCidr
+network_in v =
+    if v.tag == 255 then network.Any
+    else (if nat_lt v.tag 64 then network.V4 (take v.tag (bits 32 v.low))
+    else network.V6 (take (v.tag - 64) (bits 128 (number_in v))))

@@ -1,0 +1,41 @@
+//! Many networks at once.
+ghost use Rattle.std.specs.Prelude.{◌≡◌, ◌⊎◌, ◌≤◌, length, map, take, MatchResult};
+ghost use Rattle.cidr_c.specs.Batches.{AreNetworks};
+ghost use Rattle.cidr_c.specs.Codes.{no_memory, no_value};
+ghost use Rattle.cidr_c.specs.Values.{network_in};
+
+use crate::codes::{NO_MEMORY, NO_VALUE};
+use crate::values::{CValue, network_of, network_value};
+use cidr::AnyIpCidr;
+use std::alloc::Global;
+
+/// The networks that values are, or the number of the error.
+pub fn networks_of(alloc: Global, values: &[CValue]) -> Result<Vec<AnyIpCidr>, u32>
+    ensures { MatchResult result
+        (λ networks. AreNetworks values.now × (networks.items ≡ map network_in values.now))
+        (λ code. ((code ≡ no_value) × ¬ (AreNetworks values.now)) ⊎ (code ≡ no_memory)) }
+{
+    let Ok(mut networks) = Vec::with_capacity(alloc, values.len()) else {
+        return Err(NO_MEMORY);
+    };
+    for value in values {
+        let Some(network) = network_of(value) else {
+            return Err(NO_VALUE);
+        };
+        let Ok(()) = networks.push(network) else {
+            return Err(NO_MEMORY);
+        };
+    }
+    Ok(networks)
+}
+
+/// Puts networks to the front of a room for values.
+pub fn put(networks: &[AnyIpCidr], out: &mut [CValue])
+    requires { length networks.now ≤ length out.old }
+    ensures networks { AreNetworks (take (length networks.now) out.new) }
+    ensures values { map network_in (take (length networks.now) out.new) ≡ networks.now }
+{
+    for i in 0..networks.len() {
+        out[i] = network_value(&networks[i]);
+    }
+}

@@ -1,0 +1,95 @@
+//! The numbers of the errors.
+ghost use Rattle.std.specs.Prelude.{◌≡◌, ◌<◌};
+ghost use Rattle.cidr_c.specs.Codes.{compact_code, message, not_utf8, order_code, parse_code};
+
+use cidr::errors::{CompactError, NetworkParseError};
+use std::cmp::Ordering;
+
+/// There is no error.
+pub const OK: u32 = 0;
+/// A string is not UTF-8.
+pub const NOT_UTF8: u32 = 1;
+/// A string has no address.
+pub const ADDRESS: u32 = 2;
+/// A string has no prefix length.
+pub const LENGTH: u32 = 3;
+/// The prefix length is above 32 or 128.
+pub const LENGTH_TOO_LONG: u32 = 4;
+/// A bit after the prefix is set.
+pub const HOST_PART: u32 = 5;
+/// Compact bytes end too early.
+pub const TRUNCATED: u32 = 6;
+/// The tag of compact bytes is none.
+pub const TAG: u32 = 7;
+/// Compact bytes are those of `any`.
+pub const ANY: u32 = 8;
+/// Compact bytes are of the other family.
+pub const FAMILY: u32 = 9;
+/// A value is none that the call takes.
+pub const NO_VALUE: u32 = 10;
+/// There is too little room for the answer.
+pub const NO_ROOM: u32 = 11;
+/// There is no memory.
+pub const NO_MEMORY: u32 = 12;
+/// A step leaves the network.
+pub const WRAPPED: u32 = 13;
+
+/// The number of an error of parsing.
+pub fn parse_code(error: &NetworkParseError) -> u32
+    ensures value { result ≡ parse_code error.now }
+    ensures above { not_utf8 < result }
+{
+    match error {
+        NetworkParseError::AddrParseError(_) => ADDRESS,
+        NetworkParseError::NetworkLengthParseError(_) => LENGTH,
+        NetworkParseError::NetworkLengthTooLongError(_) => LENGTH_TOO_LONG,
+        NetworkParseError::InvalidHostPart => HOST_PART,
+    }
+}
+
+/// The number of an error of compact bytes.
+pub fn compact_code(error: &CompactError) -> u32
+    ensures value { result ≡ compact_code error.now }
+    ensures above { not_utf8 < result }
+{
+    match error {
+        CompactError::Truncated => TRUNCATED,
+        CompactError::InvalidTag => TAG,
+        CompactError::InvalidAny => ANY,
+        CompactError::InvalidFamily(_) => FAMILY,
+        CompactError::InvalidHostPart => HOST_PART,
+    }
+}
+
+/// A comparison as a number: 0 for less, 1 for equal and 2 for greater.
+pub fn order_code(order: Ordering) -> u32
+    ensures { result ≡ order_code order }
+{
+    match order {
+        Ordering::Less => 0,
+        Ordering::Equal => 1,
+        Ordering::Greater => 2,
+    }
+}
+
+/// The message of a number, and no text for one that is none.
+pub fn message(code: u32) -> &'static str
+    ensures { result.now ≡ message code }
+{
+    match code {
+        1 => "string is not UTF-8",
+        2 => "couldn't parse address in network: invalid IP address syntax",
+        3 => "couldn't parse length in network: invalid length text",
+        4 => "invalid length for network: it is too long for the family",
+        5 => "host part of address was not zero",
+        6 => "compact bytes end too early",
+        7 => "invalid tag",
+        8 => "invalid value: `any`",
+        9 => "invalid type: other family",
+        10 => "value is not of the kind that the call takes",
+        11 => "too little room for the answer",
+        12 => "no memory",
+        13 => "step leaves the network",
+        _ => "",
+    }
+}

@@ -1,0 +1,171 @@
+//! Parts of values, and answers about them.
+ghost use Rattle.std.specs.Prelude.{◌≡◌, ◌+◌, ◌*◌, ◌^◌, ◌↔◌};
+ghost use Rattle.cidr.specs.model.Bits.{bit_cmp};
+ghost use Rattle.cidr.specs.model.Network.{BeginsWith, first_of, last_of, mask_of};
+ghost use Rattle.cidr.specs.model.Host.{first_host};
+ghost use Rattle.cidr.specs.either.IpHost.{IpWrapsDown, IpWrapsUp, host_address, host_at, host_network, ip_stepped_down, ip_stepped_up};
+ghost use Rattle.cidr.specs.either.IpNetwork.{address_by, any_bits, any_of};
+ghost use Rattle.cidr_c.specs.Calls.{IsAnswer, IsMade, IsStepped};
+ghost use Rattle.cidr_c.specs.Codes.{no_value, order_code};
+ghost use Rattle.cidr_c.specs.Values.{IsAddress, IsHost, IsNetwork, address_in, host_in, network_in};
+
+use crate::codes::{NO_VALUE, OK, WRAPPED, order_code};
+use crate::values::{CValue, address_value, host_of, host_value, network_of, network_value};
+use cidr::{AnyIpCidr, NetworkBits};
+
+/// The first address of the network of a host.
+#[unsafe(no_mangle)]
+pub extern "C" fn pcidr_first(host: &CValue, out: &mut CValue) -> u32
+    ensures { IsMade (IsHost host.now) IsAddress address_in (address_by first_of (host_network (host_in host.now)))
+        out.old out.new result }
+{
+    let Some(host) = host_of(host) else {
+        return NO_VALUE;
+    };
+    *out = address_value(&host.first_address());
+    OK
+}
+
+/// The last address of the network of a host.
+#[unsafe(no_mangle)]
+pub extern "C" fn pcidr_last(host: &CValue, out: &mut CValue) -> u32
+    ensures { IsMade (IsHost host.now) IsAddress address_in (address_by last_of (host_network (host_in host.now)))
+        out.old out.new result }
+{
+    let Some(host) = host_of(host) else {
+        return NO_VALUE;
+    };
+    *out = address_value(&host.last_address());
+    OK
+}
+
+/// The mask of the network of a host, as an address.
+#[unsafe(no_mangle)]
+pub extern "C" fn pcidr_mask(host: &CValue, out: &mut CValue) -> u32
+    ensures { IsMade (IsHost host.now) IsAddress address_in (address_by mask_of (host_network (host_in host.now)))
+        out.old out.new result }
+{
+    let Some(host) = host_of(host) else {
+        return NO_VALUE;
+    };
+    *out = address_value(&host.mask());
+    OK
+}
+
+/// The address of a host.
+#[unsafe(no_mangle)]
+pub extern "C" fn pcidr_address(host: &CValue, out: &mut CValue) -> u32
+    ensures { IsMade (IsHost host.now) IsAddress address_in (host_address (host_in host.now)) out.old out.new result }
+{
+    let Some(host) = host_of(host) else {
+        return NO_VALUE;
+    };
+    *out = address_value(&host.address());
+    OK
+}
+
+/// The network of a host.
+#[unsafe(no_mangle)]
+pub extern "C" fn pcidr_network(host: &CValue, out: &mut CValue) -> u32
+    ensures { IsMade (IsHost host.now) IsNetwork network_in (any_of (host_network (host_in host.now)))
+        out.old out.new result }
+{
+    let Some(host) = host_of(host) else {
+        return NO_VALUE;
+    };
+    *out = network_value(&AnyIpCidr::from(host.network()));
+    OK
+}
+
+/// 1 where every address of the second network is in the first, and 0 where not. An address is the network of itself.
+#[unsafe(no_mangle)]
+pub extern "C" fn pcidr_contains(outer: &CValue, inner: &CValue) -> u32
+    ensures networks { IsNetwork outer.now → IsNetwork inner.now →
+        IsAnswer result (BeginsWith (any_bits (network_in inner.now)) (any_bits (network_in outer.now))) }
+    ensures other { ¬ (IsNetwork outer.now × IsNetwork inner.now) → result ≡ no_value }
+{
+    match (network_of(outer), network_of(inner)) {
+        (Some(outer), Some(inner)) => answer(&outer, &inner),
+        _ => NO_VALUE,
+    }
+}
+
+/// 1 where the first network contains the second, and 0 where not.
+fn answer(outer: &AnyIpCidr, inner: &AnyIpCidr) -> u32
+    ensures { IsAnswer result (BeginsWith (any_bits inner.now) (any_bits outer.now)) }
+{
+    if outer.contains_cidr(inner) { 1 } else { 0 }
+}
+
+/// How two networks compare, by their bits.
+fn compared<C: NetworkBits>(one: &C, other: &C) -> u32
+    ensures { result ≡ order_code (bit_cmp (C.bits one.now) (C.bits other.now)) }
+{
+    order_code(one.cmp(other))
+}
+
+/// 0, 1 or 2: the first network comes before the second, is the same, or comes after it. IPv4 comes before IPv6, and
+/// `any` before both; in a family the lower first address comes first, and then the shorter prefix.
+#[unsafe(no_mangle)]
+pub extern "C" fn pcidr_compare(one: &CValue, other: &CValue) -> u32
+    ensures networks { IsNetwork one.now → IsNetwork other.now →
+        result ≡ order_code (bit_cmp (any_bits (network_in one.now)) (any_bits (network_in other.now))) }
+    ensures other { ¬ (IsNetwork one.now × IsNetwork other.now) → result ≡ no_value }
+{
+    match (network_of(one), network_of(other)) {
+        (Some(one), Some(other)) => compared(&one, &other),
+        _ => NO_VALUE,
+    }
+}
+
+/// The host so many addresses further in its network, of which the count is high * 2^64 + low. Where that is beyond the
+/// last address, it goes on from the first, and the number of `wrapped` is returned.
+#[unsafe(no_mangle)]
+pub extern "C" fn pcidr_step_up(host: &CValue, high: u64, low: u64, out: &mut CValue) -> u32
+    ensures { IsStepped (IsHost host.now) (IpWrapsUp (host_in host.now) (high * 2 ^ 64 + low)) IsHost host_in
+        (ip_stepped_up (host_in host.now) (high * 2 ^ 64 + low)) out.old out.new result }
+{
+    let Some(host) = host_of(host) else {
+        return NO_VALUE;
+    };
+    let (host, wraps) = host.overflowing_add(joined(high, low));
+    *out = host_value(&host);
+    if wraps { WRAPPED } else { OK }
+}
+
+/// The host so many addresses back in its network, as `pcidr_step_up` goes further.
+#[unsafe(no_mangle)]
+pub extern "C" fn pcidr_step_down(host: &CValue, high: u64, low: u64, out: &mut CValue) -> u32
+    ensures { IsStepped (IsHost host.now) (IpWrapsDown (host_in host.now) (high * 2 ^ 64 + low)) IsHost host_in
+        (ip_stepped_down (host_in host.now) (high * 2 ^ 64 + low)) out.old out.new result }
+{
+    let Some(host) = host_of(host) else {
+        return NO_VALUE;
+    };
+    let (host, wraps) = host.overflowing_sub(joined(high, low));
+    *out = host_value(&host);
+    if wraps { WRAPPED } else { OK }
+}
+
+/// The host at a position of the network of a host, counted from 0 at the first address: a walk by position.
+#[unsafe(no_mangle)]
+pub extern "C" fn pcidr_at(host: &CValue, high: u64, low: u64, out: &mut CValue) -> u32
+    ensures { IsStepped (IsHost host.now)
+        (IpWrapsUp (host_at first_host (host_network (host_in host.now))) (high * 2 ^ 64 + low)) IsHost host_in
+        (ip_stepped_up (host_at first_host (host_network (host_in host.now))) (high * 2 ^ 64 + low))
+        out.old out.new result }
+{
+    let Some(host) = host_of(host) else {
+        return NO_VALUE;
+    };
+    let (host, wraps) = host.first().overflowing_add(joined(high, low));
+    *out = host_value(&host);
+    if wraps { WRAPPED } else { OK }
+}
+
+/// The number of two halves.
+fn joined(high: u64, low: u64) -> u128
+    ensures { result ≡ high * 2 ^ 64 + low }
+{
+    u128::from(high) * (1 << 64) + u128::from(low)
+}

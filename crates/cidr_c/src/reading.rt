@@ -1,0 +1,105 @@
+//! Strings into values.
+ghost use Rattle.cidr.specs.either.IpAddress.{IsIpText};
+ghost use Rattle.cidr.specs.either.IpText.{ReadsAny, ReadsAnyNetwork, ReadsIpHost, ReadsIpNetwork};
+ghost use Rattle.cidr.specs.texts.AddressText.{Reads};
+ghost use Rattle.cidr.specs.texts.LooseText.{IsLooseIpText};
+ghost use Rattle.cidr.specs.texts.Messages.{ip_error};
+ghost use Rattle.cidr.specs.texts.ShortText.{IsShortIpText, ReadsShort};
+ghost use Rattle.cidr.specs.declared.errors.NetworkParseError.TheVariants as parse_error;
+ghost use Rattle.cidr_c.specs.Calls.{IsRead};
+ghost use Rattle.cidr_c.specs.Codes.{address_code, parse_code};
+ghost use Rattle.cidr_c.specs.Values.{IsAddress, IsHost, IsNetwork, address_in, host_in, network_in};
+
+use crate::codes::{ADDRESS, NOT_UTF8, OK, parse_code};
+use crate::values::{CValue, address_value, host_value, network_value};
+use cidr::parsers::{parse_loose_ip, parse_short_any_ip_cidr};
+use cidr::{AnyIpCidr, IpAddr, IpInet};
+use std::str::FromStr;
+
+/// Reads an address: 0 and the address in `out`, or the number of the error.
+#[unsafe(no_mangle)]
+pub extern "C" fn pcidr_read_address(text: &[u8], out: &mut CValue) -> u32
+    ensures { IsRead (Reads IsIpText ip_error) address_code IsAddress address_in text.now out.old out.new result }
+{
+    let Ok(text) = str::from_utf8(text) else {
+        return NOT_UTF8;
+    };
+    match IpAddr::from_str(text) {
+        Ok(address) => {
+            *out = address_value(&address);
+            OK
+        }
+        Err(_) => ADDRESS,
+    }
+}
+
+/// Reads an address as `pcidr_read_address` does, and also what `inet_addr` takes: up to four numbers with dots, each
+/// decimal, octal or hexadecimal, of which the last fills the octets that are missing.
+#[unsafe(no_mangle)]
+pub extern "C" fn pcidr_read_loose_address(text: &[u8], out: &mut CValue) -> u32
+    ensures { IsRead (Reads IsLooseIpText ip_error) address_code IsAddress address_in text.now out.old out.new result }
+{
+    let Ok(text) = str::from_utf8(text) else {
+        return NOT_UTF8;
+    };
+    match parse_loose_ip(text) {
+        Ok(address) => {
+            *out = address_value(&address);
+            OK
+        }
+        Err(_) => ADDRESS,
+    }
+}
+
+/// Reads a host, an address with or without a prefix length: 0 and the host in `out`, or the number of the first error.
+#[unsafe(no_mangle)]
+pub extern "C" fn pcidr_read_host(text: &[u8], out: &mut CValue) -> u32
+    ensures { IsRead ReadsIpHost parse_code IsHost host_in text.now out.old out.new result }
+{
+    let Ok(text) = str::from_utf8(text) else {
+        return NOT_UTF8;
+    };
+    match IpInet::from_str(text) {
+        Ok(host) => {
+            *out = host_value(&host);
+            OK
+        }
+        Err(e) => parse_code(&e),
+    }
+}
+
+/// Reads a network, or `any`: 0 and the network in `out`, or the number of the first error.
+#[unsafe(no_mangle)]
+pub extern "C" fn pcidr_read_network(text: &[u8], out: &mut CValue) -> u32
+    ensures { IsRead ReadsAnyNetwork parse_code IsNetwork network_in text.now out.old out.new result }
+{
+    let Ok(text) = str::from_utf8(text) else {
+        return NOT_UTF8;
+    };
+    match AnyIpCidr::from_str(text) {
+        Ok(network) => {
+            *out = network_value(&network);
+            OK
+        }
+        Err(e) => parse_code(&e),
+    }
+}
+
+/// Reads a network as `pcidr_read_network` does, but takes one to four octets without a slash as the network of so many
+/// whole octets: 10.7 is 10.7.0.0/16.
+#[unsafe(no_mangle)]
+pub extern "C" fn pcidr_read_short_network(text: &[u8], out: &mut CValue) -> u32
+    ensures { IsRead (ReadsAny (ReadsShort (Reads IsShortIpText (parse_error.AddrParseError ip_error)) ReadsIpNetwork))
+        parse_code IsNetwork network_in text.now out.old out.new result }
+{
+    let Ok(text) = str::from_utf8(text) else {
+        return NOT_UTF8;
+    };
+    match parse_short_any_ip_cidr(text) {
+        Ok(network) => {
+            *out = network_value(&network);
+            OK
+        }
+        Err(e) => parse_code(&e),
+    }
+}

@@ -1,0 +1,148 @@
+//! Sets of addresses as lists of networks, in memory of the caller.
+ghost use Rattle.std.specs.Prelude.{map};
+ghost use Rattle.cidr.specs.either.IpNetwork.{any_bits};
+ghost use Rattle.cidr_table.specs.Cover.{Covers};
+ghost use Rattle.cidr_sets.specs.Sets.{IsDifference, IsIntersection, IsSetOf, IsSymmetricDifference, IsUnion};
+ghost use Rattle.cidr_c.specs.Batches.{AreSetsRead, IsDelivered, IsLeft, IsPut, IsSetRead, bits_in};
+
+use crate::batches::{networks_of, put};
+use crate::codes::{NO_MEMORY, NO_ROOM, OK};
+use crate::values::CValue;
+use cidr::AnyIpCidr;
+use cidr_sets::NetworkSet;
+use std::alloc::{AllocError, Global};
+
+/// The set of the addresses of some networks, or the number of the error.
+pub fn set_of(alloc: Global, values: &[CValue]) -> Result<NetworkSet<AnyIpCidr>, u32>
+    ensures { IsSetRead values.now result }
+{
+    let networks = networks_of(alloc, values)?;
+    match NetworkSet::from_networks(alloc, networks.as_slice()) {
+        Ok(set) => Ok(set),
+        Err(_) => Err(NO_MEMORY),
+    }
+}
+
+/// Replaces networks, in any order, by the shortest list of networks with the same addresses, ascending: the first
+/// `count` of the slice. What is behind them is not specified.
+///
+/// It allocates, and puts the networks in order: O(n log n).
+#[unsafe(no_mangle)]
+pub extern "C" fn pcidr_cover(alloc: Global, networks: &mut [CValue], count: &mut usize) -> u32
+    ensures { IsLeft (IsSetOf 129 (Covers (bits_in networks.old))) networks.old networks.new count.old count.new result }
+{
+    match set_of(alloc, networks) {
+        Ok(set) => {
+            put(set.as_slice(), networks);
+            *count = set.len();
+            OK
+        }
+        Err(code) => code,
+    }
+}
+
+/// The networks of two lists as sets, or the number of the error.
+fn both_of(
+    alloc: Global,
+    these: &[CValue],
+    those: &[CValue],
+) -> Result<(NetworkSet<AnyIpCidr>, NetworkSet<AnyIpCidr>), u32>
+    ensures { AreSetsRead these.now those.now result }
+{
+    Ok((set_of(alloc, these)?, set_of(alloc, those)?))
+}
+
+/// Puts a set into a room, or says how much room it needs.
+fn deliver(
+    set: Result<NetworkSet<AnyIpCidr>, AllocError>,
+    out: &mut [CValue],
+    count: &mut usize,
+) -> u32
+    ensures { IsDelivered set out.old out.new count.old count.new result }
+{
+    let Ok(set) = set else {
+        return NO_MEMORY;
+    };
+    *count = set.len();
+    if set.len() > out.len() {
+        return NO_ROOM;
+    }
+    put(set.as_slice(), out);
+    OK
+}
+
+/// The addresses that one of two lists of networks has, or both, as a set in a room, of which `count` becomes the number of networks; where there is too little room, it becomes
+/// how many are needed.
+#[unsafe(no_mangle)]
+pub extern "C" fn pcidr_union(
+    alloc: Global,
+    these: &[CValue],
+    those: &[CValue],
+    out: &mut [CValue],
+    count: &mut usize,
+) -> u32
+    ensures { IsPut these.now those.now (IsUnion 129 (bits_in these.now) (bits_in those.now))
+        out.old out.new count.old count.new result }
+{
+    match both_of(alloc, these, those) {
+        Ok((these, those)) => deliver(these.union(&those), out, count),
+        Err(code) => code,
+    }
+}
+
+/// The addresses that both of two lists of networks have, as a set in a room, of which `count` becomes the number of networks; where there is too little room, it becomes
+/// how many are needed.
+#[unsafe(no_mangle)]
+pub extern "C" fn pcidr_intersection(
+    alloc: Global,
+    these: &[CValue],
+    those: &[CValue],
+    out: &mut [CValue],
+    count: &mut usize,
+) -> u32
+    ensures { IsPut these.now those.now (IsIntersection 129 (bits_in these.now) (bits_in those.now))
+        out.old out.new count.old count.new result }
+{
+    match both_of(alloc, these, those) {
+        Ok((these, those)) => deliver(these.intersection(&those), out, count),
+        Err(code) => code,
+    }
+}
+
+/// The addresses that the first of two lists of networks has and the second has not, as a set in a room, of which `count` becomes the number of networks; where there is too little room, it becomes
+/// how many are needed.
+#[unsafe(no_mangle)]
+pub extern "C" fn pcidr_difference(
+    alloc: Global,
+    these: &[CValue],
+    those: &[CValue],
+    out: &mut [CValue],
+    count: &mut usize,
+) -> u32
+    ensures { IsPut these.now those.now (IsDifference 129 (bits_in these.now) (bits_in those.now))
+        out.old out.new count.old count.new result }
+{
+    match both_of(alloc, these, those) {
+        Ok((these, those)) => deliver(these.difference(&those), out, count),
+        Err(code) => code,
+    }
+}
+
+/// The addresses that exactly one of two lists of networks has, as a set in a room, of which `count` becomes the number of networks; where there is too little room, it becomes
+/// how many are needed.
+#[unsafe(no_mangle)]
+pub extern "C" fn pcidr_symmetric_difference(
+    alloc: Global,
+    these: &[CValue],
+    those: &[CValue],
+    out: &mut [CValue],
+    count: &mut usize,
+) -> u32
+    ensures { IsPut these.now those.now (IsSymmetricDifference 129 (bits_in these.now) (bits_in those.now))
+        out.old out.new count.old count.new result }
+{
+    match both_of(alloc, these, those) {
+        Ok((these, those)) => deliver(these.symmetric_difference(&those), out, count),
+        Err(code) => code,
+    }
+}
