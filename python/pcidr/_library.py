@@ -1,0 +1,162 @@
+"""The shared library: where it is found, and its calls."""
+import ctypes
+import ctypes.util
+import os
+
+VERSION = 0x000100
+TEXT_ROOM = 44
+MESSAGE_ROOM = 100
+NO_ROOM = 11
+NO_MEMORY = 12
+
+
+class Value(ctypes.Structure):
+    """`pcidr_value` of the header: an address, a host or a network."""
+
+    _fields_ = [("high", ctypes.c_uint64), ("low", ctypes.c_uint64), ("tag", ctypes.c_uint8)]
+
+
+SIZE, CODE, BYTES, TEXT = ctypes.c_size_t, ctypes.c_uint32, ctypes.c_void_p, ctypes.c_char_p
+VALUE, COUNT = ctypes.POINTER(Value), ctypes.POINTER(ctypes.c_size_t)
+# of each call that is used here the result and the parameters
+CALLS = {
+    "version": (CODE, []),
+    "read_address": (CODE, [TEXT, SIZE, VALUE]),
+    "read_host": (CODE, [TEXT, SIZE, VALUE]),
+    "read_network": (CODE, [TEXT, SIZE, VALUE]),
+    "read_lines": (CODE, [TEXT, SIZE, VALUE, SIZE, COUNT]),
+    "print_address": (SIZE, [VALUE, TEXT, SIZE]),
+    "print_host": (SIZE, [VALUE, TEXT, SIZE]),
+    "print_network": (SIZE, [VALUE, TEXT, SIZE]),
+    "print_network_with_length": (SIZE, [VALUE, TEXT, SIZE]),
+    "print_lines": (CODE, [VALUE, SIZE, TEXT, SIZE, COUNT]),
+    "message": (SIZE, [CODE, TEXT, SIZE]),
+    "first": (CODE, [VALUE, VALUE]),
+    "last": (CODE, [VALUE, VALUE]),
+    "mask": (CODE, [VALUE, VALUE]),
+    "address": (CODE, [VALUE, VALUE]),
+    "network": (CODE, [VALUE, VALUE]),
+    "at": (CODE, [VALUE, ctypes.c_uint64, ctypes.c_uint64, VALUE]),
+    "contains": (CODE, [VALUE, VALUE]),
+    "compare": (CODE, [VALUE, VALUE]),
+    "cover": (CODE, [VALUE, SIZE, COUNT]),
+    "union": (CODE, [VALUE, SIZE, VALUE, SIZE, VALUE, SIZE, COUNT]),
+    "intersection": (CODE, [VALUE, SIZE, VALUE, SIZE, VALUE, SIZE, COUNT]),
+    "difference": (CODE, [VALUE, SIZE, VALUE, SIZE, VALUE, SIZE, COUNT]),
+    "symmetric_difference": (CODE, [VALUE, SIZE, VALUE, SIZE, VALUE, SIZE, COUNT]),
+    "contains_each": (CODE, [VALUE, SIZE, VALUE, SIZE, BYTES, SIZE]),
+}
+
+
+def _find() -> str:
+    """The file of the library: PCIDR_LIBRARY, else the one beside this file, else what the system finds."""
+    named = os.environ.get("PCIDR_LIBRARY")
+    if named:
+        return named
+    beside = os.path.join(os.path.dirname(os.path.abspath(__file__)), "libpcidr.so")
+    if os.path.exists(beside):
+        return beside
+    found = ctypes.util.find_library("pcidr")
+    if found:
+        return found
+    raise ImportError("there is no libpcidr.so: build it by crates/cidr_c/build, and set PCIDR_LIBRARY to it")
+
+
+class _Calls:
+    """The calls of the library, without the `pcidr_` before their names."""
+
+    def __init__(self) -> None:
+        loaded = ctypes.CDLL(_find())
+        for name, (result, parameters) in CALLS.items():
+            call = getattr(loaded, f"pcidr_{name}")
+            call.restype, call.argtypes = result, parameters
+            setattr(self, name, call)
+
+
+calls = _Calls()
+if calls.version() >> 8 != VERSION >> 8:
+    raise ImportError(f"libpcidr.so is of version {calls.version():#08x}, and this module wants {VERSION:#08x}")
+
+
+def message(code: int) -> str:
+    """The library's message of an error."""
+    room = ctypes.create_string_buffer(MESSAGE_ROOM)
+    count = calls.message(code, room, MESSAGE_ROOM)
+    return room.raw[:count].decode()
+
+
+def check(code: int) -> None:
+    """Raises the exception of an error."""
+    if code == NO_MEMORY:
+        raise MemoryError(message(code))
+    if code:
+        raise ValueError(message(code))
+
+
+def read(call, text: str) -> Value:
+    """The value of a string."""
+    given = text.encode("utf-8", "surrogatepass")
+    value = Value()
+    code = call(given, len(given), value)
+    if code:
+        raise ValueError(f"{message(code)}: {text!r}")
+    return value
+
+
+def printed(call, value: Value) -> str:
+    """The string of a value."""
+    room = ctypes.create_string_buffer(TEXT_ROOM)
+    count = call(value, room, TEXT_ROOM)
+    return room.raw[:count].decode()
+
+
+def array(values) -> ctypes.Array:
+    """An array of values."""
+    values = list(values)
+    return (Value * len(values))(*values)
+
+
+def read_all(texts) -> ctypes.Array:
+    """The networks of a list of strings, by one call."""
+    out = (Value * len(texts))()
+    if not texts:
+        return out
+    joined = "\n".join(texts)
+    given = joined.encode("utf-8", "surrogatepass")
+    if joined.count("\n") != len(texts) - 1:
+        bad = next(text for text in texts if "\n" in text)
+        raise ValueError(f"{message(2)}: {bad!r}")
+    count = ctypes.c_size_t()
+    code = calls.read_lines(given, len(given), out, len(texts), count)
+    if code:
+        raise ValueError(f"{message(code)}: {texts[count.value]!r}")
+    return out
+
+
+def print_all(values: ctypes.Array, count: int) -> "list[str]":
+    """The strings of the first networks of an array, by one call."""
+    if not count:
+        return []
+    room = ctypes.create_string_buffer(count * TEXT_ROOM)
+    end = ctypes.c_size_t()
+    check(calls.print_lines(values, count, room, len(room), end))
+    return ctypes.string_at(room, end.value - 1).decode().split("\n")
+
+
+def cover(values: ctypes.Array) -> int:
+    """Replaces networks by the shortest list of the same addresses, and returns how many these are."""
+    count = ctypes.c_size_t()
+    check(calls.cover(values, len(values), count))
+    return count.value
+
+
+def combined(call, these: ctypes.Array, those: ctypes.Array) -> ctypes.Array:
+    """The set that a call makes of two sets."""
+    room, count = len(these) + len(those), ctypes.c_size_t()
+    while True:
+        out = (Value * room)()
+        code = call(these, len(these), those, len(those), out, room, count)
+        if code != NO_ROOM:
+            check(code)
+            return (Value * count.value).from_buffer_copy(out)
+        room = count.value

@@ -1,0 +1,188 @@
+"""The module beside `ipaddress`, on random inputs where both have the call."""
+import ipaddress
+import random
+import unittest
+
+import pcidr
+from pcidr import Address, Host, Network, NetworkSet, Table
+
+RANDOM = random.Random(4)
+
+
+def random_network():
+    """A network of `ipaddress`, of either family."""
+    width = RANDOM.choice((32, 128))
+    length = RANDOM.randint(0, width)
+    bits = RANDOM.getrandbits(width) >> (width - length) << (width - length) if length else 0
+    kind = ipaddress.IPv4Network if width == 32 else ipaddress.IPv6Network
+    return kind((bits, length))
+
+
+def near_networks(count):
+    """IPv4 networks that often nest and touch."""
+    return [ipaddress.IPv4Network((RANDOM.randrange(64) << 24 + 2, 6 + RANDOM.randrange(2)), strict=False) for _ in range(count)]
+
+
+def long_text(network):
+    """The string of a network as this module prints it: without a full length."""
+    return str(network.network_address) if network.prefixlen == network.max_prefixlen else str(network)
+
+
+class Values(unittest.TestCase):
+    def test_networks_are_those_of_ipaddress(self):
+        for _ in range(2000):
+            theirs = random_network()
+            ours = Network(str(theirs))
+            self.assertEqual(str(ours), long_text(theirs))
+            self.assertEqual(ours.with_length, str(theirs))
+            self.assertEqual(str(ours.first), str(theirs[0]))
+            self.assertEqual(str(ours.last), str(theirs[-1]))
+            self.assertEqual(str(ours.mask), str(theirs.netmask))
+            self.assertEqual(ours.length, theirs.prefixlen)
+            self.assertEqual(ours.family, theirs.version)
+            self.assertEqual(ours.count, theirs.num_addresses)
+            place = RANDOM.randrange(theirs.num_addresses)
+            self.assertEqual(str(ours[place]), str(theirs[place]))
+            self.assertEqual(int(ours[place]), int(theirs[place]))
+
+    def test_hosts_are_those_of_ipaddress(self):
+        for _ in range(1000):
+            network = random_network()
+            address = network[RANDOM.randrange(network.num_addresses)]
+            theirs = ipaddress.ip_interface(f"{address}/{network.prefixlen}")
+            ours = Host(str(theirs))
+            self.assertEqual(str(ours.address), str(theirs.ip))
+            self.assertEqual(ours.network, Network(str(theirs.network)))
+            self.assertIn(ours.address, ours.network)
+
+    def test_strings_that_are_none(self):
+        for text in ("", "10.0.0.1/8", "10.0.0.0/33", "10.0.0/8", "::/129", "x", "10.0.0.0/8 ", "::1%1", "\ud800", "\n"):
+            with self.assertRaises(ValueError):
+                Network(text)
+        with self.assertRaisesRegex(ValueError, "host part of address was not zero"):
+            Network("10.0.0.1/8")
+
+    def test_random_strings(self):
+        for _ in range(5000):
+            text = "".join(RANDOM.choice("0123456789./:af") for _ in range(RANDOM.randint(1, 12)))
+            try:
+                theirs = long_text(ipaddress.ip_network(text))
+            except ValueError:
+                theirs = None
+            head, slash, tail = text.partition("/")
+            if theirs is not None and slash and not tail.isdigit():
+                continue  # `ipaddress` also takes masks
+            try:
+                ours = str(Network(text))
+            except ValueError:
+                ours = None
+            self.assertEqual(ours, theirs, text)
+
+    def test_order_and_hash(self):
+        theirs = [random_network() for _ in range(300)] + near_networks(100)
+        ours = sorted(Network(str(network)) for network in theirs)
+        wanted = sorted(theirs, key=lambda n: (n.version, int(n[0]), n.prefixlen))
+        self.assertEqual([str(network) for network in ours], [long_text(network) for network in wanted])
+        self.assertEqual(len(set(ours)), len(set(theirs)))
+        self.assertEqual(repr(Network("10.0.0.0/8")), "Network('10.0.0.0/8')")
+        self.assertLess(Network("any"), Network("0.0.0.0/0"))
+        self.assertLess(Host("10.0.0.5/8"), Host("10.0.0.5/9"))
+
+    def test_containment(self):
+        networks = near_networks(60)
+        for one in networks:
+            for other in networks:
+                self.assertEqual(Network(str(other)) in Network(str(one)), other.subnet_of(one))
+        self.assertIn(Address("10.0.0.1"), Network("10.0.0.0/8"))
+        self.assertNotIn("::ffff:10.0.0.1", Network("10.0.0.0/8"))
+        self.assertIn("::1", Network("any"))
+
+    def test_walks_from_both_ends(self):
+        network = Network("192.0.2.252/30")
+        addresses = ["192.0.2.252", "192.0.2.253", "192.0.2.254", "192.0.2.255"]
+        self.assertEqual([str(address) for address in network], addresses)
+        self.assertEqual([str(address) for address in reversed(network)], addresses[::-1])
+        self.assertEqual(str(network[-1]), "192.0.2.255")
+        with self.assertRaises(IndexError):
+            network[4]
+
+
+class Sets(unittest.TestCase):
+    def test_merging_is_that_of_ipaddress(self):
+        for count in (0, 1, 5, 200):
+            for _ in range(20):
+                theirs = near_networks(count)
+                wanted = [long_text(network) for network in ipaddress.collapse_addresses(theirs)]
+                self.assertEqual(pcidr.merge(map(str, theirs)), wanted)
+
+    def test_algebra_is_that_of_sets_of_addresses(self):
+        for _ in range(200):
+            texts = [[f"192.0.2.{RANDOM.randrange(64) << 2}/30" for _ in range(RANDOM.randrange(20))] for _ in range(2)]
+            one, other = (NetworkSet(part) for part in texts)
+            mine, theirs = ({str(a) for text in part for a in Network(text)} for part in texts)
+
+            def addresses(made):
+                return {str(address) for network in made for address in network}
+
+            self.assertEqual(addresses(one | other), mine | theirs)
+            self.assertEqual(addresses(one & other), mine & theirs)
+            self.assertEqual(addresses(one - other), mine - theirs)
+            self.assertEqual(addresses(one ^ other), mine ^ theirs)
+            self.assertEqual(one <= other, mine <= theirs)
+            self.assertEqual(one == other, mine == theirs)
+            self.assertEqual(one.count, len(mine))
+            asked = [f"192.0.2.{i}" for i in range(256)]
+            self.assertEqual(one.contains_each(asked), [address in mine for address in asked])
+            self.assertEqual("192.0.2.7" in one, "192.0.2.7" in mine)
+
+    def test_a_difference_may_have_more_networks(self):
+        rest = NetworkSet(["::/0"]) - NetworkSet(["::1"])
+        self.assertEqual(len(rest), 128)
+        self.assertEqual(rest.count, 2**128 - 1)
+        self.assertEqual(rest | NetworkSet(["::1"]), NetworkSet(["::/0"]))
+
+
+class Tables(unittest.TestCase):
+    def test_lookups(self):
+        for _ in range(50):
+            theirs = {network: i for i, network in enumerate(set(near_networks(RANDOM.randrange(30))))}
+            ours = Table({str(network): value for network, value in theirs.items()})
+            asked = [ipaddress.IPv4Address(RANDOM.getrandbits(32)) for _ in range(100)]
+            wanted = []
+            for address in asked:
+                found = [network for network in theirs if address in network]
+                best = max(found, key=lambda n: n.prefixlen, default=None)
+                wanted.append(None if best is None else (Network(str(best)), theirs[best]))
+            self.assertEqual(ours.lookup_each(map(str, asked)), wanted)
+            self.assertEqual(ours.lookup(str(asked[0])), wanted[0])
+            self.assertEqual(list(ours), sorted(Network(str(network)) for network in theirs))
+
+    def test_the_rows_of_a_dict(self):
+        table = Table({"10.0.0.0/8": 1})
+        table["10.1.0.0/16"] = 2
+        self.assertEqual(table.lookup("10.1.2.3"), (Network("10.1.0.0/16"), 2))
+        table["10.1.0.0/16"] = 3
+        self.assertEqual(table["10.1.0.0/16"], 3)
+        del table["10.1.0.0/16"]
+        self.assertEqual(table.lookup("10.1.2.3"), (Network("10.0.0.0/8"), 1))
+        self.assertIsNone(table.lookup("11.0.0.1"))
+        self.assertEqual(len(table), 1)
+
+
+class Batches(unittest.TestCase):
+    def test_the_first_bad_string_is_named(self):
+        with self.assertRaisesRegex(ValueError, "host part of address was not zero: '10.0.0.1/8'"):
+            pcidr.parse_networks(["10.0.0.0/8", "10.0.0.1/8", "x"])
+        with self.assertRaises(ValueError):
+            pcidr.parse_networks(["10.0.0.0/8\n11.0.0.0/8"])
+
+    def test_what_is_read_is_printed(self):
+        theirs = [random_network() for _ in range(500)]
+        read = pcidr.parse_networks(map(str, theirs))
+        self.assertEqual(pcidr.print_networks(read), [long_text(network) for network in theirs])
+        self.assertEqual(pcidr.parse_networks([]), [])
+        self.assertEqual(pcidr.print_networks([]), [])
+
+
+if __name__ == "__main__":
+    unittest.main()
