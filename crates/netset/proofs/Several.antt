@@ -18,6 +18,8 @@ use Rattle.cidr_table.specs.Cover.{Covers}
 use Rattle.cidr_sets.specs.Sets.{IsSetOf}
 use Rattle.netset.specs.Answering.{IsFileError, AddsFile, ReadsAll}
 use Rattle.netset.specs.declared.errors.LineError.{LineError}
+use Rattle.netset.specs.declared.answers.Verdict.{Verdict}
+use Rattle.netset.specs.declared.answers.Verdict.TheVariants.{Yes}
 use Rattle.netset.specs.declared.errors.CommandError.{CommandError}
 use Rattle.netset.specs.declared.errors.CommandError.TheVariants as error
 use Rattle.netset.specs.declared.lists.Lists.{Lists}
@@ -111,16 +113,20 @@ all_read_at told files i lists past h = all_read told (bytes_of files) (take i (
 
 -- the addresses of the lists, as a set that was written
 pub merge_written : (told : List ℕ → Option (List ℕ)) (files names : List (List ℕ)) (lists : Lists) (sets : Sets) (s t : State) (w : Result (Unit {0}) OutputFailed)
-    (r : Result (Unit {0}) CommandError) → names ≡ read_files files → ReadsAll told names (Ok lists)
-    → ((family : Family) → IsSetOf 129 (Covers (listed lists family)) (held sets family)) → Answered s t (printed_sets (held sets)) w → r ≡ by_output w
+    (r : Result Verdict CommandError) → names ≡ read_files files → ReadsAll told names (Ok lists)
+    → ((family : Family) → IsSetOf 129 (Covers (listed lists family)) (held sets family)) → Answered s t (printed_sets (held sets)) w → r ≡ by_output Yes w
     → AnswersRequest told (Merge files) s t r
 merge_written told files names lists sets s t w r which read set written is =
     inr (
       printed_sets (held sets),
+      Yes,
       w,
-      λ texts are.
-          let (said, says, lists_are) = read texts (subst (λ (k : List (List ℕ)). AreTold told k texts) (sym which) are) in
-          (said, says, (held sets, (λ family. subst (λ (k : List (List Bool)). IsSetOf 129 (Covers k) (held sets family)) (lists_are family) (set family)), refl)),
+      (
+        λ texts are.
+            let (said, says, lists_are) = read texts (subst (λ (k : List (List ℕ)). AreTold told k texts) (sym which) are) in
+            (said, says, (held sets, (λ family. subst (λ (k : List (List Bool)). IsSetOf 129 (Covers k) (held sets family)) (lists_are family) (set family)), refl)),
+        refl,
+      ),
       written,
       is,
     )

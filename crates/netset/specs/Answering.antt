@@ -8,6 +8,7 @@ use Rattle.netset.specs.Reading.{Grows, listed}
 use Rattle.netset.specs.Commands.{AreTold}
 use Rattle.netset.specs.Program.{IsUnread, Answers, Reports, status_of}
 use Rattle.cidr_io.specs.Writing.{State}
+use Rattle.netset.specs.declared.answers.Verdict.{Verdict}
 use Rattle.netset.specs.declared.errors.CommandError.{CommandError}
 use Rattle.netset.specs.declared.errors.CommandError.TheVariants as error
 use Rattle.netset.specs.declared.lists.Lists.{Lists}
@@ -35,5 +36,5 @@ ReadsAll told names (Err e) = IsUnread told names e
 -- a run whose arguments are these, or have no memory
 abbrev pub AnswersTexts : (List ℕ → Option (List ℕ)) → List (List ℕ) → State → State → State → State → ℕ → Type 0
 AnswersTexts told words out new_out err new_err status =
-    (r : Result (Unit {0}) CommandError) × Reports r err new_err × (status ≡ status_of r)
+    (r : Result Verdict CommandError) × Reports r err new_err × (status ≡ status_of r)
     × (Answers told words out new_out r ⊎ ((r ≡ Err error.NoMemory) × (new_out ≡ out)))

@@ -7,6 +7,8 @@ use Rattle.cidr_table.specs.Cover.{Covers}
 use Rattle.cidr_sets.specs.Sets.{IsSetOf}
 use Rattle.netset.specs.Lists.{ListSays, networks_in}
 use Rattle.netset.specs.Sets.{printed_sets}
+use Rattle.netset.specs.declared.answers.Verdict.{Verdict}
+use Rattle.netset.specs.declared.answers.Verdict.TheVariants.{Yes}
 
 -- a command and its arguments
 pub data Request : Type 0 where
@@ -62,8 +64,9 @@ help_text =
 abbrev pub version_text : List ℕ
 version_text = codes "netset 0.1.0\n"
 
--- what a request is answered with, from what is told of the files
-abbrev pub IsAnswer : (List ℕ → Option (List ℕ)) → Request → List ℕ → Type 0
-IsAnswer told (Merge files) answer = (texts : List (List ℕ)) → AreTold told (read_files files) texts → IsMerged texts answer
-IsAnswer told Help answer = answer ≡ help_text
-IsAnswer told Version answer = answer ≡ version_text
+-- what a request is answered with, and whether the answer is none or no, from what is told of the files
+abbrev pub IsAnswer : (List ℕ → Option (List ℕ)) → Request → List ℕ → Verdict → Type 0
+IsAnswer told (Merge files) answer verdict =
+    ((texts : List (List ℕ)) → AreTold told (read_files files) texts → IsMerged texts answer) × (verdict ≡ Yes)
+IsAnswer told Help answer verdict = (answer ≡ help_text) × (verdict ≡ Yes)
+IsAnswer told Version answer verdict = (answer ≡ version_text) × (verdict ≡ Yes)

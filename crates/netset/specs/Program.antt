@@ -10,6 +10,8 @@ use Rattle.netset.specs.Lists.{ListSays, IsFirstError}
 use Rattle.netset.specs.Commands.{Request, Merge, Help, Version, IsRequest, IsUsage, read_files, AreTold, IsAnswer}
 use Rattle.netset.specs.declared.errors.LineError.{LineError}
 use Rattle.netset.specs.declared.errors.LineError.TheVariants.{NotUtf8, NoNetwork}
+use Rattle.netset.specs.declared.answers.Verdict.{Verdict}
+use Rattle.netset.specs.declared.answers.Verdict.TheVariants.{Yes, No}
 use Rattle.netset.specs.declared.errors.CommandError.{CommandError}
 use Rattle.netset.specs.declared.errors.CommandError.TheVariants as error
 
@@ -26,27 +28,27 @@ IsUnread told names error.NoMemory = Unit {0}
 IsUnread told names error.Output = ⊥
 
 -- the same of a request and its result
-abbrev pub IsRefused : (List ℕ → Option (List ℕ)) → Request → Result (Unit {0}) CommandError → Type 0
-IsRefused told request (Ok _) = ⊥
+abbrev pub IsRefused : (List ℕ → Option (List ℕ)) → Request → Result Verdict CommandError → Type 0
+IsRefused told request (Ok verdict) = ⊥
 IsRefused told (Merge files) (Err e) = IsUnread told (read_files files) e
 IsRefused told Help (Err e) = ⊥
 IsRefused told Version (Err e) = ⊥
 
 -- an output that failed is the error
-abbrev pub by_output : Result (Unit {0}) OutputFailed → Result (Unit {0}) CommandError
-by_output (Ok u) = Ok u
-by_output (Err e) = Err error.Output
+abbrev pub by_output : Verdict → Result (Unit {0}) OutputFailed → Result Verdict CommandError
+by_output verdict (Ok _) = Ok verdict
+by_output verdict (Err e) = Err error.Output
 
 -- What becomes of a request and of the sink: nothing is written where its lists are not read. Else its answer is
 -- written whole, or the sink has failed and a beginning of the answer was written, none if it had failed before.
-abbrev pub AnswersRequest : (List ℕ → Option (List ℕ)) → Request → State → State → Result (Unit {0}) CommandError → Type 0
+abbrev pub AnswersRequest : (List ℕ → Option (List ℕ)) → Request → State → State → Result Verdict CommandError → Type 0
 AnswersRequest told request old new r =
     ((new ≡ old) × IsRefused told request r)
-    ⊎ ((answer : List ℕ) × (written : Result (Unit {0}) OutputFailed) × IsAnswer told request answer
-    × Answered old new answer written × (r ≡ by_output written))
+    ⊎ ((answer : List ℕ) × (verdict : Verdict) × (written : Result (Unit {0}) OutputFailed) × IsAnswer told request answer verdict
+    × Answered old new answer written × (r ≡ by_output verdict written))
 
 -- other arguments are usage, and nothing is written
-abbrev pub Answers : (List ℕ → Option (List ℕ)) → List (List ℕ) → State → State → Result (Unit {0}) CommandError → Type 0
+abbrev pub Answers : (List ℕ → Option (List ℕ)) → List (List ℕ) → State → State → Result Verdict CommandError → Type 0
 Answers told words old new r =
     (IsUsage words × (r ≡ Err error.Usage) × (new ≡ old))
     ⊎ ((request : Request) × IsRequest words request × AnswersRequest told request old new r)
@@ -66,13 +68,14 @@ error_line error.NoMemory = codes "no memory\n"
 error_line error.Output = codes "output failed\n"
 
 -- nothing for an answer, and else one line
-abbrev pub Reports : Result (Unit {0}) CommandError → State → State → Type 0
-Reports (Ok _) old new = new ≡ old
+abbrev pub Reports : Result Verdict CommandError → State → State → Type 0
+Reports (Ok verdict) old new = new ≡ old
 Reports (Err e) old new = Says old new (error_line e)
 
--- the exit status: 0 done, 2 usage, reading or a line in error, 3 output or memory
-abbrev pub status_of : Result (Unit {0}) CommandError → ℕ
-status_of (Ok _) = 0
+-- the exit status: 0 done or yes, 1 none, no or findings, 2 usage, reading or a line in error, 3 output or memory
+abbrev pub status_of : Result Verdict CommandError → ℕ
+status_of (Ok Yes) = 0
+status_of (Ok No) = 1
 status_of (Err error.Usage) = 2
 status_of (Err (error.Line name number e)) = 2
 status_of (Err (error.Input name)) = 2
@@ -82,7 +85,7 @@ status_of (Err error.Output) = 3
 -- A run, from the arguments and the files to the exit status.
 abbrev pub Runs : Option (List (List ℕ)) → (List ℕ → Option (List ℕ)) → State → State → State → State → ℕ → Type 0
 Runs words told out new_out err new_err status =
-    (r : Result (Unit {0}) CommandError) × Reports r err new_err × (status ≡ status_of r)
+    (r : Result Verdict CommandError) × Reports r err new_err × (status ≡ status_of r)
     × (((given : List (List ℕ)) × AreArguments words given × Answers told given out new_out r)
     ⊎ ((AreUnreadable words × (r ≡ Err error.Usage) × (new_out ≡ out))
     ⊎ ((r ≡ Err error.NoMemory) × (new_out ≡ out))))

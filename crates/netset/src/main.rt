@@ -1,6 +1,7 @@
 //! A program for lists of networks.
 #![tactic(auto)]
 
+mod answers;
 mod commands;
 mod errors;
 mod files;

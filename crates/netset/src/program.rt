@@ -3,8 +3,9 @@ ghost use Rattle.std.specs.Prelude.{◌≡◌, map};
 ghost use Rattle.std.specs.String.{string_bytes};
 ghost use Rattle.netset.specs.Commands.{read_files, Merge};
 ghost use Rattle.netset.specs.Answering.{AddsFile, AnswersTexts, ReadsAll};
-ghost use Rattle.netset.specs.Program.{Answers, AnswersRequest, Runs, by_output};
+ghost use Rattle.netset.specs.Program.{Answers, AnswersRequest, Runs};
 
+use crate::answers::{Verdict, by_output};
 use crate::commands::{Command, command_of};
 use crate::errors::{CommandError, ReadError};
 use crate::files::Sources;
@@ -12,7 +13,7 @@ use crate::lists::{Lists, read_list};
 use crate::report::report;
 use crate::sets::Sets;
 use cidr_io::arguments::{Arguments, ReadError as Unreadable, borrowed, texts_of};
-use cidr_io::sink::{OutputFailed, Sink};
+use cidr_io::sink::Sink;
 use cidr_io::writing::write_text;
 use std::alloc::Global;
 
@@ -70,22 +71,12 @@ fn merge<'a, F: Sources, O: Sink>(
     sources: &F,
     files: &'a [&'a str],
     out: &mut O,
-) -> Result<(), CommandError<'a>>
+) -> Result<Verdict, CommandError<'a>>
     ensures { AnswersRequest (F.told sources.now) (Merge (map (λ file. file.now) files.now)) (O.state out.old) (O.state out.new) result }
 {
     let lists = read_all(alloc, sources, sources_of(files))?;
     let sets = Sets::of_lists(alloc, &lists)?;
-    by_output(sets.write(out))
-}
-
-/// What an output that failed is to a command.
-fn by_output<'a>(written: Result<(), OutputFailed>) -> Result<(), CommandError<'a>>
-    ensures { result ≡ by_output written }
-{
-    match written {
-        Ok(()) => Ok(()),
-        Err(_) => Err(CommandError::Output),
-    }
+    by_output(Verdict::Yes, sets.write(out))
 }
 
 /// Answers the program's arguments, which come without its name.
@@ -94,7 +85,7 @@ fn answer<'a, F: Sources, O: Sink>(
     sources: &F,
     words: &'a [&'a str],
     out: &mut O,
-) -> Result<(), CommandError<'a>>
+) -> Result<Verdict, CommandError<'a>>
     ensures { Answers (F.told sources.now) (map (λ w. w.now) words.now) (O.state out.old) (O.state out.new) result }
 {
     let Some(command) = command_of(words) else {
@@ -102,8 +93,8 @@ fn answer<'a, F: Sources, O: Sink>(
     };
     match command {
         Command::Merge(files) => merge(alloc, sources, files, out),
-        Command::Help => by_output(write_text(out, HELP)),
-        Command::Version => by_output(write_text(out, VERSION)),
+        Command::Help => by_output(Verdict::Yes, write_text(out, HELP)),
+        Command::Version => by_output(Verdict::Yes, write_text(out, VERSION)),
     }
 }
 
@@ -125,7 +116,7 @@ fn answer_texts<F: Sources, O: Sink, E: Sink>(
 }
 
 /// Answers the arguments on `out`, writes the line that belongs to the answer, if there is one, to `err`, and returns
-/// the exit status: 0 for an answer, 2 for usage, a file that can't be read and a line in error, 3 where the output
+/// the exit status: 0 for an answer, 1 for none, no or findings, 2 for usage, a file that can't be read and a line in error, 3 where the output
 /// failed or there is no memory.
 pub fn program<A: Arguments, F: Sources, O: Sink, E: Sink>(
     alloc: Global,

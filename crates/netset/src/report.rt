@@ -1,9 +1,10 @@
 //! The exit status, and what is written to standard error.
-ghost use Rattle.std.specs.Prelude.{◌≡◌};
+ghost use Rattle.std.specs.Prelude.{◌≡◌, Err};
 ghost use Rattle.std.specs.List.{flat_map};
 ghost use Rattle.cidr_io.specs.Writing.{Answered, Says, Writes};
 ghost use Rattle.netset.specs.Program.{Reports, status_of, error_line, line_message};
 
+use crate::answers::Verdict;
 use crate::errors::{CommandError, LineError};
 use arrayvec::ArrayString;
 use cidr_io::sink::{OutputFailed, Sink};
@@ -73,19 +74,29 @@ fn say<E: Sink>(error: &CommandError<'_>, err: &mut E)
     };
 }
 
-/// Writes the line that belongs to an answer, if there is one, and returns the exit status whatever the sink does: 0
-/// for an answer, 2 for usage, a file that can't be read and a line in error, 3 where the output failed or there is no
-/// memory.
-pub fn report<E: Sink>(answer: &Result<(), CommandError<'_>>, err: &mut E) -> u8
-    ensures status { result ≡ status_of answer.now }
-    ensures says { Reports answer.now (E.state err.old) (E.state err.new) }
+/// The exit status of an error.
+fn status_of(error: &CommandError<'_>) -> u8
+    ensures { result ≡ status_of (Err error.now) }
 {
-    let Err(error) = answer else {
-        return 0;
-    };
-    say(error, err);
     match error {
         CommandError::Usage | CommandError::Line(_, _, _) | CommandError::Input(_) => 2,
         CommandError::NoMemory | CommandError::Output => 3,
+    }
+}
+
+/// Writes the line that belongs to an answer, if there is one, and returns the exit status whatever the sink does: 0
+/// for an answer, 1 for none, no or findings, 2 for usage, a file that can't be read and a line in error, 3 where the output failed or there is no
+/// memory.
+pub fn report<E: Sink>(answer: &Result<Verdict, CommandError<'_>>, err: &mut E) -> u8
+    ensures status { result ≡ status_of answer.now }
+    ensures says { Reports answer.now (E.state err.old) (E.state err.new) }
+{
+    match answer {
+        Ok(Verdict::Yes) => 0,
+        Ok(Verdict::No) => 1,
+        Err(error) => {
+            say(error, err);
+            status_of(error)
+        }
     }
 }
