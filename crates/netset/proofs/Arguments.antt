@@ -1,12 +1,9 @@
 -- The arguments as commands.
-use Rattle.std.proofs.Common.{◌≡◌, refl, sym, ◌∙◌, ap, ℕ, ◌+◌, ◌<◌, suc, ◌==◌, Bool, true, false, ◌||◌, List, [], ◌∷◌, length, take, get_or, map, Bor, nat_eq, arith}
-use Rattle.std.specs.List.{list_any, IsFirstAndRest}
+use Rattle.std.proofs.Common.{◌≡◌, refl, sym, ◌∙◌, ap, ℕ, ◌+◌, ◌<◌, suc, Bool, true, false, ◌||◌, List, [], ◌∷◌, length, take, get_or, map, Bor, arith}
+use Rattle.std.specs.List.{list_any}
 use Rattle.std.proofs.lemmas.List.{get_or-map}
 use Rattle.std.proofs.lemmas.List.Folds.{list_any_at, list_any_more}
-use Rattle.std.proofs.lemmas.Bool.Decides.{Decides-eqb}
-use Rattle.std.specs.Cmp.Lexicographic.{pointwise_decides}
 use Rattle.netset.specs.Commands.{is_option}
-use lib.Pointwise.{pointwise}
 
 -- the bytes of the words
 abbrev pub bytes_of : List (Bor (List ℕ)) → List (List ℕ)
@@ -32,15 +29,3 @@ option_passed words i d b within is here before =
     list_any_more is_option (bytes_of words) i [] (within_bytes words i within)
     ∙ (ap (λ (k : Bool). k || is_option (get_or (bytes_of words) i [])) before
     ∙ (ap is_option (get_or-map (λ (w : Bor (List ℕ)). w.now) words i d [] within) ∙ (sym is ∙ here)))
-
--- equal by the test of strings
-pub same_text : (a b : List ℕ) → true ≡ pointwise nat_eq a b → a ≡ b
-same_text a b h = (pointwise_decides Decides-eqb a b).0 (sym h)
-
--- a word that is the only one
-pub only_word : (words : List (Bor (List ℕ))) (name : Bor (List ℕ)) (files : List (Bor (List ℕ))) (text : List ℕ) (b : Bool) → IsFirstAndRest words name files
-    → b ≡ (length files == 0) → b ≡ true → true ≡ pointwise nat_eq name.now text → bytes_of words ≡ text ∷ []
-only_word words name [] text b is e t same = ap bytes_of is.0 ∙ ap (λ (k : List ℕ). k ∷ []) (same_text name.now text same)
-only_word words name (file ∷ files) text b is e t same =
-    let none : length (file ∷ files) ≡ 0 = (Decides-eqb (length (file ∷ files)) 0).0 (sym e ∙ t) in
-    absurd (omega (arith, none))

@@ -1,5 +1,7 @@
+pub mod Zips
 pub mod LineFeeds
 pub mod Progress
 pub mod Blocks
-pub mod Several
+pub mod EachFile
+pub mod Combining
 pub mod Arguments

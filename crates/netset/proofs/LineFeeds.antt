@@ -1,6 +1,6 @@
 -- Lines, one after another.
 use Rattle.std.proofs.Common.{◌≡◌, ◌≢◌, ◌<◌, ◌≤◌, refl, sym, ◌∙◌, ap, ℕ, take, slice_index_or, ◌==◌, Bool, true, false, List, [], ◌∷◌, ◌++◌, length, cond, if◌then◌else◌, arith, Option, Some, None}
-use Rattle.std.specs.List.{slice_split, onto_first, before_first}
+use Rattle.std.specs.List.{onto_first, before_first}
 use Rattle.std.proofs.lemmas.List.Sums.{position_or_len_is}
 use Rattle.std.proofs.Math.Seq.{take-length}
 use Rattle.std.specs.Option.{IfSome}

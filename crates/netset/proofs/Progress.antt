@@ -4,10 +4,9 @@ use Rattle.std.specs.Option.{IfSome}
 use Rattle.std.specs.List.{AllZip}
 use Rattle.std.proofs.lemmas.List.{append-nil, flat_map_more}
 use Rattle.cidr.specs.declared.cidr.combined.IpCidr.{IpCidr}
-use Rattle.cidr.specs.declared.family.Family.{Family}
-use Rattle.netset.specs.Lists.{lines_of, LineSays, IsInError, ListSays, IsFirstError, network_in, networks_in}
+use Rattle.netset.specs.Lists.{lines_of, LineSays, network_in, networks_in}
 use Rattle.netset.specs.Reading.{IsNextLine, IsStopped, IsReadError, IsLineError, listed, Grows, ReadsList}
-use Rattle.netset.specs.declared.errors.LineError.{LineError}
+use Rattle.netset.proofs.Zips.{zip_behind}
 use Rattle.netset.specs.declared.errors.ReadError.{ReadError}
 use Rattle.netset.specs.declared.errors.ReadError.TheVariants.{Line, Input, NoMemory}
 use Rattle.netset.specs.declared.lists.Lists.{Lists}
@@ -36,13 +35,6 @@ started (Some text) lists = record {
   grown = λ family. sym (append-nil (listed lists family));
 }
 
-zip_more : (before : List (List ℕ)) (said : List (Option IpCidr)) (line : List ℕ) (one : Option IpCidr)
-    → AllZip LineSays before said → LineSays line one → AllZip LineSays (before ++ line ∷ []) (said ++ one ∷ [])
-zip_more [] [] line one h s = (s, tt)
-zip_more [] (x ∷ said) line one h s = absurd h
-zip_more (k ∷ before) [] line one h s = absurd h
-zip_more (k ∷ before) (x ∷ said) line one h s = (h.0, zip_more before said line one h.1 s)
-
 grown_more : (old now new : Lists) (said : List (Option IpCidr)) (one : Option IpCidr) → Grows old now (λ family. networks_in family said)
     → Grows now new (λ family. network_in family one) → Grows old new (λ family. networks_in family (said ++ one ∷ []))
 grown_more old now new said one g h family =
@@ -63,7 +55,7 @@ stepped (Some text) left next old now new number line true one is p n s g =
       lines = p.lines ∙ (ap (λ k. p.before ++ k) lines ∙ sym (append_assoc p.before (line ∷ []) (lines_of rest)));
       place = omega (arith, p.place, length-append p.before (line ∷ []));
       said = p.said ++ one ∷ [];
-      fine = zip_more p.before p.said line one p.fine s;
+      fine = zip_behind LineSays p.before p.said line one p.fine s;
       grown = grown_more old now new p.said one p.grown g;
     }
 
@@ -75,7 +67,7 @@ finished None left next old now new number line more one is p n s g = tt
 finished (Some text) left next old now new number line true one is p n s g = cc
 finished (Some text) left next old now new number line false one is p n s g =
     let lines : lines_of text ≡ p.before ++ line ∷ [] = p.lines ∙ ap (λ k. p.before ++ k) (rw p.known at n) in
-    (p.said ++ one ∷ [], rw lines (zip_more p.before p.said line one p.fine s), grown_more old now new p.said one p.grown g)
+    (p.said ++ one ∷ [], rw lines (zip_behind LineSays p.before p.said line one p.fine s), grown_more old now new p.said one p.grown g)
 
 first_of_more : (text line : List ℕ) (more : Bool) (next : Option (List ℕ)) → IsNextLine text line more next → (after : List (List ℕ)) × (lines_of text ≡ line ∷ after)
 first_of_more text line true next n = (lines_of n.0, n.2)

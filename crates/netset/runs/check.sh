@@ -5,7 +5,7 @@ set -euo pipefail
 export LC_ALL=C
 cd "$(dirname "$0")/.."
 
-usage=$'usage: netset merge [FILE..] | --help | --version\n'
+usage=$'usage: netset merge|nets|not [FILE..] | minus|and A B.. | --help | --version\n'
 
 room=$(mktemp -d)
 trap 'rm -rf "$room"' EXIT
@@ -49,6 +49,23 @@ rows() {
     run 2 '' $'-:1: not UTF-8\n' '\xff' merge
     run 2 '' $'missing: cannot be read\n' '' merge missing
     run 2 '' $'.: cannot be read\n' '' merge .
+    run 0 $'10.0.0.0/8\n' '' '10.128.0.0/9\n10.0.0.0/9' nets
+    run 0 $'10.128.0.0/9\n::/1\n' '' '10.0.0.0/9\n8000::/1' minus both -
+    run 0 $'10.128.0.0/9\n::/1\n' '' '10.0.0.0/9' minus both - eight
+    run 0 '' '' '' minus ten ten
+    run 0 $'10.0.0.0/9\n8000::/1\n' '' '10.0.0.0/9\n8000::/1\n' and both -
+    run 0 $'10.0.0.0/9\n' '' '10.0.0.0/9\n8000::/1\n' and both - ten
+    run 0 '' '' '' and ten -
+    run 0 $'0.0.0.0/0\n::/0\n' '' '' not
+    run 0 $'0.0.0.0/1\n192.0.0.0/2\n8000::/1\n' '' '128.0.0.0/2\n::/1' not
+    run 0 '' '' '0.0.0.0/0' not - eight seven
+    run 2 '' $'bad:1: couldn\'t parse length in network: invalid length text\n' '' minus ten bad missing
+    run 2 '' $'missing: cannot be read\n' '' and ten missing bad
+    run 2 '' "$usage" '' minus
+    run 2 '' "$usage" '' minus ten
+    run 2 '' "$usage" '' and ten
+    run 2 '' "$usage" '' and ten -k
+    run 2 '' "$usage" '' --help merge
     run 2 '' "$usage" ''
     run 2 '' "$usage" '' merged
     run 2 '' "$usage" '' merge -k
@@ -80,6 +97,9 @@ rows_where_a_stream_fails() {
 }
 
 printf '10.0.0.0/8\n' >"$room/ten"
+printf '10.0.0.0/8\n::/0\n' >"$room/both"
+printf '8000::/1\n' >"$room/eight"
+printf '::/1\n' >"$room/seven"
 printf '10.0.0.0/x\n' >"$room/bad"
 output_file=$room/output
 error_file=$room/error

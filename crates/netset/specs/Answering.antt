@@ -1,17 +1,21 @@
 -- What functions that read several lists promise.
-use Rattle.std.specs.Prelude.{◌≡◌, ℕ, List, Option, Some, Result, Ok, Err, ◌⊎◌}
-use Rattle.std.specs.List.{AllZip, flat_map}
+use Rattle.std.specs.Prelude.{◌≡◌, ℕ, List, ◌∷◌, Option, Some, Result, Ok, Err, ◌⊎◌}
+use Rattle.std.specs.List.{AllZip}
 use Rattle.cidr.specs.declared.cidr.combined.IpCidr.{IpCidr}
 use Rattle.cidr.specs.declared.family.Family.{Family}
+use Rattle.cidr_sets.specs.Sets.{IsSetOf}
 use Rattle.netset.specs.Lists.{ListSays, IsFirstError, networks_in}
-use Rattle.netset.specs.Reading.{Grows, listed}
-use Rattle.netset.specs.Commands.{AreTold}
+use Rattle.netset.specs.Reading.{Grows}
+use Rattle.netset.specs.Sets.{held}
+use Rattle.netset.specs.Commands.{AreTold, Says}
 use Rattle.netset.specs.Program.{IsUnread, Answers, Reports, status_of}
 use Rattle.cidr_io.specs.Writing.{State}
 use Rattle.netset.specs.declared.answers.Verdict.{Verdict}
 use Rattle.netset.specs.declared.errors.CommandError.{CommandError}
 use Rattle.netset.specs.declared.errors.CommandError.TheVariants as error
 use Rattle.netset.specs.declared.lists.Lists.{Lists}
+use Rattle.netset.specs.declared.sets.Sets.{Sets}
+use Rattle.netset.specs.declared.several.Several.{Several}
 
 -- why the file of this name is not read
 abbrev pub IsFileError : Option (List ℕ) → List ℕ → CommandError → Type 0
@@ -27,11 +31,24 @@ AddsFile told name old new (Ok _) = (text : List ℕ) → told ≡ Some text
     → (said : List (Option IpCidr)) × ListSays text said × Grows old new (λ family. networks_in family said)
 AddsFile told name old new (Err e) = IsFileError told name e
 
--- the lists of some files, or why they are not read
-abbrev pub ReadsAll : (List ℕ → Option (List ℕ)) → List (List ℕ) → Result Lists CommandError → Type 0
-ReadsAll told names (Ok lists) = (texts : List (List ℕ)) → AreTold told names texts
-    → (said : List (List (Option IpCidr))) × AllZip ListSays texts said × ((family : Family) → listed lists family ≡ flat_map (networks_in family) said)
-ReadsAll told names (Err e) = IsUnread told names e
+-- the sets have the addresses that a list says
+abbrev pub HasAddresses : List (Option IpCidr) → Sets → Type 0
+HasAddresses said sets = (family : Family) → IsSetOf 129 (Says said family) (held sets family)
+
+-- the addresses of the list of a file, or why it is not read
+abbrev pub ReadsFile : Option (List ℕ) → List ℕ → Result Sets CommandError → Type 0
+ReadsFile told name (Ok sets) = (text : List ℕ) → told ≡ Some text → (said : List (Option IpCidr)) × ListSays text said × HasAddresses said sets
+ReadsFile told name (Err e) = IsFileError told name e
+
+-- each list of some files has the addresses of its set
+abbrev pub AreRead : (List ℕ → Option (List ℕ)) → List (List ℕ) → List Sets → Type 0
+AreRead told names sets = (texts : List (List ℕ)) → AreTold told names texts
+    → (said : List (List (Option IpCidr))) × AllZip ListSays texts said × AllZip HasAddresses said sets
+
+-- those of a first file and of the others, or why they are not read
+abbrev pub ReadsSeveral : (List ℕ → Option (List ℕ)) → List (List ℕ) → Result Several CommandError → Type 0
+ReadsSeveral told names (Ok several) = AreRead told names (several.first ∷ several.others.items)
+ReadsSeveral told names (Err e) = IsUnread told names e
 
 -- a run whose arguments are these, or have no memory
 abbrev pub AnswersTexts : (List ℕ → Option (List ℕ)) → List (List ℕ) → State → State → State → State → ℕ → Type 0

@@ -1,11 +1,22 @@
 -- The request that a command of the program is.
-use Rattle.std.specs.Prelude.{map}
-use Rattle.netset.specs.Commands.{Request, Merge, Help, Version}
+use Rattle.std.specs.Prelude.{◌≡◌, ◌≢◌, ◌⊎◌, ℕ, true, false, List, length, codes, map}
+use Rattle.std.specs.List.{list_any}
+use Rattle.netset.specs.Commands.{Request, Lists, Help, Version, is_option}
+use Rattle.netset.specs.Combining.{takes}
+use Rattle.netset.specs.declared.operations.Operation.{Operation}
 use Rattle.netset.specs.declared.commands.Command.{Command}
 use Rattle.netset.specs.declared.commands.Command.TheVariants as command
 
 -- the same command with the bytes of its arguments
 abbrev pub request_of : Command → Request
-request_of (command.Merge files) = Merge (map (λ file. file.now) files.now)
+request_of (command.Lists operation files) = Lists operation (map (λ file. file.now) files.now)
 request_of command.Help = Help
 request_of command.Version = Version
+
+-- the word is no request by itself that begins with -
+abbrev pub IsNoLoneWord : List ℕ → Type 0
+IsNoLoneWord word = (word ≢ codes "--help") × (word ≢ codes "--version")
+
+-- they are no files of the operation
+abbrev pub AreMisfits : Operation → List (List ℕ) → Type 0
+AreMisfits operation files = (list_any is_option files ≡ true) ⊎ (takes operation (length files) ≡ false)

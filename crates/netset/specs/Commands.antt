@@ -1,18 +1,20 @@
 -- The commands, their arguments and what each answers.
-use Rattle.std.specs.Prelude.{◌≡◌, ℕ, ◌==◌, nat_lt, Bool, false, ◌&&◌, List, [], ◌∷◌, ◌++◌, length, codes, Option, Some}
-use Rattle.std.specs.List.{AllZip, flat_map, list_any, slice_index}
+use Rattle.std.specs.Prelude.{◌≡◌, ℕ, ◌==◌, nat_lt, Bool, true, false, ◌&&◌, List, [], ◌∷◌, ◌++◌, length, codes, Option, Some}
+use Rattle.std.specs.List.{AllZip, list_any, slice_index}
 use Rattle.cidr.specs.declared.cidr.combined.IpCidr.{IpCidr}
 use Rattle.cidr.specs.declared.family.Family.{Family}
 use Rattle.cidr_table.specs.Cover.{Covers}
 use Rattle.cidr_sets.specs.Sets.{IsSetOf}
 use Rattle.netset.specs.Lists.{ListSays, networks_in}
+use Rattle.netset.specs.Combining.{name_of, takes, IsMade}
+use Rattle.netset.specs.declared.operations.Operation.{Operation}
 use Rattle.netset.specs.Sets.{printed_sets}
 use Rattle.netset.specs.declared.answers.Verdict.{Verdict}
 use Rattle.netset.specs.declared.answers.Verdict.TheVariants.{Yes}
 
 -- a command and its arguments
 pub data Request : Type 0 where
-  Merge : List (List ℕ) → Request
+  Lists : Operation → List (List ℕ) → Request
   Help : Request
   Version : Request
 
@@ -22,7 +24,8 @@ is_option word = nat_lt 1 (length word) && (slice_index word 0 == 45)
 
 -- the arguments are this request; no file has the name of an option
 abbrev pub IsRequest : List (List ℕ) → Request → Type 0
-IsRequest words (Merge files) = (words ≡ codes "merge" ∷ files) × (list_any is_option files ≡ false)
+IsRequest words (Lists operation files) =
+    (words ≡ name_of operation ∷ files) × (list_any is_option files ≡ false) × (takes operation (length files) ≡ true)
 IsRequest words Help = words ≡ codes "--help" ∷ []
 IsRequest words Version = words ≡ codes "--version" ∷ []
 
@@ -44,15 +47,23 @@ abbrev pub IsListOf : (Family → List Bool → Type 0) → List ℕ → Type 0
 IsListOf IsIn text =
     (sets : Family → List (List Bool)) × ((family : Family) → IsSetOf 129 (IsIn family) (sets family)) × (text ≡ printed_sets sets)
 
--- the addresses of all the lists
-abbrev pub IsMerged : List (List ℕ) → List ℕ → Type 0
-IsMerged texts answer =
-    (said : List (List (Option IpCidr))) × AllZip ListSays texts said × IsListOf (λ family. Covers (flat_map (networks_in family) said)) answer
+-- the address is in one of the networks that a list says
+abbrev pub Says : List (Option IpCidr) → Family → List Bool → Type 0
+Says said family a = Covers (networks_in family said) a
+
+-- what the operation makes of the lists
+abbrev pub IsMadeOf : Operation → List (List ℕ) → List ℕ → Type 0
+IsMadeOf operation texts answer =
+    (said : List (List (Option IpCidr))) × AllZip ListSays texts said × IsListOf (IsMade Says operation said) answer
 
 -- what `--help` writes
 abbrev pub help_text : List ℕ
 help_text =
     codes "netset merge [FILE..]   the shortest list of networks that has the addresses of all the lists\n"
+    ++ codes "netset nets [FILE..]    the same\n"
+    ++ codes "netset minus A B..      the addresses of A that no other list has\n"
+    ++ codes "netset and A B..        the addresses that each of the lists has\n"
+    ++ codes "netset not [FILE..]     the addresses of IPv4 and those of IPv6 that no list has\n"
     ++ codes "netset --help           this page\n"
     ++ codes "netset --version        the version\n"
     ++ codes "\n"
@@ -66,7 +77,7 @@ version_text = codes "netset 0.1.0\n"
 
 -- what a request is answered with, and whether the answer is none or no, from what is told of the files
 abbrev pub IsAnswer : (List ℕ → Option (List ℕ)) → Request → List ℕ → Verdict → Type 0
-IsAnswer told (Merge files) answer verdict =
-    ((texts : List (List ℕ)) → AreTold told (read_files files) texts → IsMerged texts answer) × (verdict ≡ Yes)
+IsAnswer told (Lists operation files) answer verdict =
+    ((texts : List (List ℕ)) → AreTold told (read_files files) texts → IsMadeOf operation texts answer) × (verdict ≡ Yes)
 IsAnswer told Help answer verdict = (answer ≡ help_text) × (verdict ≡ Yes)
 IsAnswer told Version answer verdict = (answer ≡ version_text) × (verdict ≡ Yes)

@@ -4,6 +4,7 @@ pub mod Lists
 pub mod Reading
 pub mod Printing
 pub mod Sets
+pub mod Combining
 pub mod Commands
 pub mod Command
 pub mod Program

@@ -1,5 +1,5 @@
 -- What a run of the program does with its arguments, the files, standard output and standard error.
-use Rattle.std.specs.Prelude.{◌≡◌, ℕ, List, [], ◌∷◌, ◌++◌, ◌⊎◌, codes, decimal, Option, Some, Result, Ok, Err, Contains}
+use Rattle.std.specs.Prelude.{◌≡◌, ℕ, List, ◌∷◌, ◌++◌, ◌⊎◌, codes, decimal, Option, Some, Result, Ok, Err, Contains}
 use Rattle.std.specs.List.{AllZip}
 use Rattle.cidr.specs.texts.Messages.{parse_message}
 use Rattle.cidr.specs.declared.cidr.combined.IpCidr.{IpCidr}
@@ -7,7 +7,7 @@ use Rattle.cidr_io.specs.Arguments.{AreArguments, AreUnreadable}
 use Rattle.cidr_io.specs.Writing.{State, Answered, Says}
 use Rattle.cidr_io.specs.declared.sink.OutputFailed.{OutputFailed}
 use Rattle.netset.specs.Lists.{ListSays, IsFirstError}
-use Rattle.netset.specs.Commands.{Request, Merge, Help, Version, IsRequest, IsUsage, read_files, AreTold, IsAnswer}
+use Rattle.netset.specs.Commands.{Request, Lists, Help, Version, IsRequest, IsUsage, read_files, AreTold, IsAnswer}
 use Rattle.netset.specs.declared.errors.LineError.{LineError}
 use Rattle.netset.specs.declared.errors.LineError.TheVariants.{NotUtf8, NoNetwork}
 use Rattle.netset.specs.declared.answers.Verdict.{Verdict}
@@ -30,7 +30,7 @@ IsUnread told names error.Output = ⊥
 -- the same of a request and its result
 abbrev pub IsRefused : (List ℕ → Option (List ℕ)) → Request → Result Verdict CommandError → Type 0
 IsRefused told request (Ok verdict) = ⊥
-IsRefused told (Merge files) (Err e) = IsUnread told (read_files files) e
+IsRefused told (Lists operation files) (Err e) = IsUnread told (read_files files) e
 IsRefused told Help (Err e) = ⊥
 IsRefused told Version (Err e) = ⊥
 
@@ -60,7 +60,7 @@ line_message (NoNetwork e) = parse_message e
 
 -- the line that is written to standard error
 abbrev pub error_line : CommandError → List ℕ
-error_line error.Usage = codes "usage: netset merge [FILE..] | --help | --version\n"
+error_line error.Usage = codes "usage: netset merge|nets|not [FILE..] | minus|and A B.. | --help | --version\n"
 error_line (error.Line name number e) =
     name.now ++ (codes ":" ++ (decimal number ++ (codes ": " ++ (line_message e ++ codes "\n"))))
 error_line (error.Input name) = name.now ++ codes ": cannot be read\n"

@@ -1,9 +1,10 @@
 -- Sets of addresses of both families, and how they are written.
-use Rattle.std.specs.Prelude.{ℕ, Bool, List, ◌++◌, map}
+use Rattle.std.specs.Prelude.{ℕ, Bool, List, ◌++◌}
 use Rattle.std.specs.List.{flat_map}
 use Rattle.cidr.specs.texts.Printed.{plain_text}
 use Rattle.cidr.specs.declared.family.Family.{Family}
 use Rattle.cidr.specs.declared.family.Family.TheVariants.{Ipv4, Ipv6}
+use Rattle.cidr_table.specs.Cover.{Covers}
 use Rattle.netset.specs.Printing.{line}
 use Rattle.netset.specs.declared.sets.Sets.{Sets}
 
@@ -19,3 +20,7 @@ printed_sets sets = printed_networks Ipv4 (sets Ipv4) ++ printed_networks Ipv6 (
 abbrev pub held : Sets → Family → List (List Bool)
 held sets Ipv4 = sets.v4
 held sets Ipv6 = sets.v6
+
+-- the address is in the set of its family
+abbrev pub Held : Sets → Family → List Bool → Type 0
+Held sets family a = Covers (held sets family) a

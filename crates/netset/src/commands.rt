@@ -1,14 +1,17 @@
 //! The arguments of the program as commands.
-ghost use Rattle.std.specs.Prelude.{◌≡◌, map, MatchOption};
+ghost use Rattle.std.specs.Prelude.{◌≡◌, map, [], ◌∷◌, MatchOption};
 ghost use Rattle.std.specs.List.{list_any};
 ghost use Rattle.netset.specs.Commands.{is_option, IsRequest, IsUsage};
-ghost use Rattle.netset.specs.Command.{request_of};
+ghost use Rattle.netset.specs.Command.{AreMisfits, IsNoLoneWord, request_of};
+ghost use Rattle.netset.specs.Combining.{name_of};
+
+use crate::operations::{Operation, operation_of, takes};
 
 /// A command and its arguments.
 #[derive(Clone, Copy)]
 pub enum Command<'a> {
-    /// The shortest list of the addresses of all these files.
-    Merge(&'a [&'a str]),
+    /// An operation on the lists of these files.
+    Lists(Operation, &'a [&'a str]),
     /// The page of the commands.
     Help,
     /// The version.
@@ -35,23 +38,42 @@ fn has_option(words: &[&str]) -> bool
     false
 }
 
+/// The command of a word that stands alone.
+fn lone_command<'a>(word: &str) -> Option<Command<'a>>
+    ensures { MatchOption result (IsNoLoneWord word.now) (λ command. IsRequest (word.now ∷ []) (request_of command)) }
+{
+    if word == "--help" {
+        return Some(Command::Help);
+    }
+    if word == "--version" {
+        return Some(Command::Version);
+    }
+    None
+}
+
+/// The command of an operation on these files.
+fn lists_command<'a>(operation: Operation, files: &'a [&'a str]) -> Option<Command<'a>>
+    ensures { MatchOption result (AreMisfits operation (map (λ w. w.now) files.now))
+        (λ command. IsRequest (name_of operation ∷ map (λ w. w.now) files.now) (request_of command)) }
+{
+    if has_option(files) {
+        return None;
+    }
+    if !takes(operation, files.len()) {
+        return None;
+    }
+    Some(Command::Lists(operation, files))
+}
+
 /// The command that the arguments are.
 pub fn command_of<'a>(words: &'a [&'a str]) -> Option<Command<'a>>
     ensures { MatchOption result (IsUsage (map (λ w. w.now) words.now))
         (λ command. IsRequest (map (λ w. w.now) words.now) (request_of command)) }
 {
     let (name, files) = words.split_first()?;
-    if *name == "merge" && !has_option(files) {
-        return Some(Command::Merge(files));
+    match operation_of(name) {
+        Some(operation) => lists_command(operation, files),
+        None if files.is_empty() => lone_command(name),
+        None => None,
     }
-    if !files.is_empty() {
-        return None;
-    }
-    if *name == "--help" {
-        return Some(Command::Help);
-    }
-    if *name == "--version" {
-        return Some(Command::Version);
-    }
-    None
 }

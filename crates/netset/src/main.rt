@@ -2,15 +2,18 @@
 #![tactic(auto)]
 
 mod answers;
+mod combine;
 mod commands;
 mod errors;
 mod files;
 mod lines;
 mod lists;
+mod operations;
 mod printing;
 mod program;
 mod report;
 mod sets;
+mod several;
 
 use cidr_io::arguments::Given;
 use cidr_io::sink::Tracked;

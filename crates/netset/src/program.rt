@@ -1,17 +1,18 @@
 //! A run of the program, from its arguments to its exit status.
 ghost use Rattle.std.specs.Prelude.{◌≡◌, map};
 ghost use Rattle.std.specs.String.{string_bytes};
-ghost use Rattle.netset.specs.Commands.{read_files, Merge};
-ghost use Rattle.netset.specs.Answering.{AddsFile, AnswersTexts, ReadsAll};
+ghost use Rattle.netset.specs.Commands.{Lists};
+ghost use Rattle.netset.specs.Answering.{AnswersTexts};
 ghost use Rattle.netset.specs.Program.{Answers, AnswersRequest, Runs};
 
 use crate::answers::{Verdict, by_output};
+use crate::combine::made;
 use crate::commands::{Command, command_of};
-use crate::errors::{CommandError, ReadError};
+use crate::errors::CommandError;
 use crate::files::Sources;
-use crate::lists::{Lists, read_list};
+use crate::operations::Operation;
 use crate::report::report;
-use crate::sets::Sets;
+use crate::several::read_several;
 use cidr_io::arguments::{Arguments, ReadError as Unreadable, borrowed, texts_of};
 use cidr_io::sink::Sink;
 use cidr_io::writing::write_text;
@@ -19,63 +20,22 @@ use std::alloc::Global;
 
 /// The page of the commands.
 const HELP: &str =
-    "netset merge [FILE..]   the shortest list of networks that has the addresses of all the lists\nnetset --help           this page\nnetset --version        the version\n\nA line of a list is a network or an address, and may end in a comment from # or ; on. The\nfile - is the standard input, which is also read where no file is named.\nStatus: 0 done, 2 usage, a file that cannot be read or a line in error, 3 output or memory.\n";
+    "netset merge [FILE..]   the shortest list of networks that has the addresses of all the lists\nnetset nets [FILE..]    the same\nnetset minus A B..      the addresses of A that no other list has\nnetset and A B..        the addresses that each of the lists has\nnetset not [FILE..]     the addresses of IPv4 and those of IPv6 that no list has\nnetset --help           this page\nnetset --version        the version\n\nA line of a list is a network or an address, and may end in a comment from # or ; on. The\nfile - is the standard input, which is also read where no file is named.\nStatus: 0 done, 2 usage, a file that cannot be read or a line in error, 3 output or memory.\n";
 
 const VERSION: &str = "netset 0.1.0\n";
 
-/// Reads the list of a file, and adds its networks.
-fn add_file<'a, F: Sources>(
+/// What an operation makes of the lists of some files.
+fn lists<'a, F: Sources, O: Sink>(
     alloc: Global,
     sources: &F,
-    file: &'a str,
-    lists: &mut Lists,
-) -> Result<(), CommandError<'a>>
-    ensures { AddsFile (F.told sources.now file.now) file.now lists.old lists.new result }
-{
-    let Some(reader) = sources.open(file) else {
-        return Err(CommandError::Input(file));
-    };
-    match read_list(alloc, reader, lists) {
-        Ok(()) => Ok(()),
-        Err(ReadError::Line(number, e)) => Err(CommandError::Line(file, number, e)),
-        Err(ReadError::Input) => Err(CommandError::Input(file)),
-        Err(ReadError::NoMemory) => Err(CommandError::NoMemory),
-    }
-}
-
-/// Reads the lists of some files.
-fn read_all<'a, F: Sources>(
-    alloc: Global,
-    sources: &F,
-    files: &[&'a str],
-) -> Result<Lists, CommandError<'a>>
-    ensures { ReadsAll (F.told sources.now) (map (λ file. file.now) files.now) result }
-{
-    let mut lists = Lists::new(alloc);
-    for file in files {
-        add_file(alloc, sources, file, &mut lists)?;
-    }
-    Ok(lists)
-}
-
-/// The files that are read: the standard input, if none is named.
-fn sources_of<'a>(files: &'a [&'a str]) -> &'a [&'a str]
-    ensures { map (λ file. file.now) result.now ≡ read_files (map (λ file. file.now) files.now) }
-{
-    if files.is_empty() { &["-"] } else { files }
-}
-
-/// The command `merge`.
-fn merge<'a, F: Sources, O: Sink>(
-    alloc: Global,
-    sources: &F,
+    operation: Operation,
     files: &'a [&'a str],
     out: &mut O,
 ) -> Result<Verdict, CommandError<'a>>
-    ensures { AnswersRequest (F.told sources.now) (Merge (map (λ file. file.now) files.now)) (O.state out.old) (O.state out.new) result }
+    ensures { AnswersRequest (F.told sources.now) (Lists operation (map (λ file. file.now) files.now)) (O.state out.old) (O.state out.new) result }
 {
-    let lists = read_all(alloc, sources, sources_of(files))?;
-    let sets = Sets::of_lists(alloc, &lists)?;
+    let several = read_several(alloc, sources, files)?;
+    let sets = made(operation, several)?;
     by_output(Verdict::Yes, sets.write(out))
 }
 
@@ -92,7 +52,7 @@ fn answer<'a, F: Sources, O: Sink>(
         return Err(CommandError::Usage);
     };
     match command {
-        Command::Merge(files) => merge(alloc, sources, files, out),
+        Command::Lists(operation, files) => lists(alloc, sources, operation, files, out),
         Command::Help => by_output(Verdict::Yes, write_text(out, HELP)),
         Command::Version => by_output(Verdict::Yes, write_text(out, VERSION)),
     }

@@ -11,7 +11,8 @@ use cidr_io::sink::{OutputFailed, Sink};
 use cidr_io::writing::{flush, write_all};
 use itoa::Buffer;
 
-const USAGE: &str = "usage: netset merge [FILE..] | --help | --version\n";
+const USAGE: &str =
+    "usage: netset merge|nets|not [FILE..] | minus|and A B.. | --help | --version\n";
 
 /// The longest message of an error.
 const MOST_MESSAGE: usize = 99;

@@ -1,0 +1,137 @@
+-- Lists that are read one after another.
+use Rattle.std.proofs.Common.{◌≡◌, refl, sym, ◌∙◌, ap, subst, arith, Bor, ℕ, ◌+◌, ◌<◌, ◌≤◌, List, Bool, [], ◌∷◌, ◌++◌, length, take, drop, get_or, Option, Some, Ok, Err}
+use Rattle.std.specs.List.{AllZip}
+use Rattle.std.proofs.lemmas.List.Elements.{Contains-append_right}
+use Rattle.std.proofs.lemmas.List.{take_more, take_all, take-append-drop, at_drop_more, get_or-map}
+use Rattle.cidr.specs.declared.cidr.combined.IpCidr.{IpCidr}
+use Rattle.cidr.specs.declared.family.Family.{Family}
+use Rattle.cidr.specs.declared.family.Family.TheVariants.{Ipv4, Ipv6}
+use Rattle.cidr_table.specs.Cover.{Covers}
+use Rattle.cidr_sets.specs.Sets.{IsSetOf}
+use Rattle.netset.specs.Lists.{ListSays, networks_in}
+use Rattle.netset.specs.Reading.{listed}
+use Rattle.netset.specs.Commands.{AreTold}
+use Rattle.netset.specs.Program.{IsUnread}
+use Rattle.netset.specs.Sets.{held}
+use Rattle.netset.specs.Answering.{IsFileError, AddsFile, AreRead, HasAddresses, ReadsFile}
+use Rattle.netset.proofs.Arguments.{bytes_of, same_length, within_bytes}
+use Rattle.netset.proofs.Zips.{zip_behind}
+use Rattle.netset.specs.declared.errors.CommandError.{CommandError}
+use Rattle.netset.specs.declared.errors.CommandError.TheVariants as error
+use Rattle.netset.specs.declared.lists.Lists.{Lists}
+use Rattle.netset.specs.declared.sets.Sets.{Sets}
+
+-- the list of one file as a set
+pub file_set : (told : Option (List ℕ)) (name : List ℕ) (old new : Lists) (sets : Sets) → old.v4.items ≡ [] → old.v6.items ≡ [] → AddsFile told name old new (Ok tt)
+    → ((family : Family) → IsSetOf 129 (Covers (listed new family)) (held sets family)) → ReadsFile told name (Ok sets)
+file_set told name old new sets four six added set text is =
+    let (said, says, grows) = added text is in
+    let none : (family : Family) → listed old family ≡ [] = elim [ Ipv4 ↦ four | Ipv6 ↦ six ] in (
+      said,
+      says,
+      λ family. subst (λ (k : List (List Bool)). IsSetOf 129 (Covers k) (held sets family)) (grows family ∙ ap (λ (k : List (List Bool)). k ++ networks_in family said) (none family)) (set family),
+    )
+
+pub none_read : (told : List ℕ → Option (List ℕ)) → AreRead told [] []
+none_read told [] h = ([], tt, tt)
+none_read told (text ∷ texts) h = absurd h
+
+-- the texts of some files and one more
+last_told : (told : List ℕ → Option (List ℕ)) (names : List (List ℕ)) (name : List ℕ) (texts : List (List ℕ)) → AreTold told (names ++ name ∷ []) texts
+    → (front : List (List ℕ)) × (text : List ℕ) × (texts ≡ front ++ text ∷ []) × AreTold told names front × (told name ≡ Some text)
+last_told told [] name [] h = absurd h
+last_told told [] name (text ∷ []) h = ([], text, refl, tt, h.0)
+last_told told [] name (text ∷ other ∷ texts) h = absurd h.1
+last_told told (first ∷ names) name [] h = absurd h
+last_told told (first ∷ names) name (text ∷ texts) h =
+    let (front, last, is, are, at) = last_told told names name texts h.1 in
+    (text ∷ front, last, ap (λ (k : List (List ℕ)). text ∷ k) is, (h.0, are), at)
+
+next_taken : (names : List (List ℕ)) (i : ℕ) (name : List ℕ) → i < length names → get_or names i name ≡ name → take (i + 1) names ≡ take i names ++ name ∷ []
+next_taken names i name within at = take_more names i name within ∙ ap (λ (k : List ℕ). take i names ++ k ∷ []) at
+
+-- one more file
+file_read : (told : List ℕ → Option (List ℕ)) (names : List (List ℕ)) (i : ℕ) (name : List ℕ) (sets : List Sets) (set : Sets) → i < length names → get_or names i name ≡ name
+    → AreRead told (take i names) sets → ReadsFile (told name) name (Ok set) → AreRead told (take (i + 1) names) (sets ++ set ∷ [])
+file_read told names i name sets set within at before read =
+    let behind : AreRead told (take i names ++ name ∷ []) (sets ++ set ∷ []) = λ texts h.
+    let (front, text, is, are, here) = last_told told (take i names) name texts h in
+    let (said, says, has) = before front are in
+    let (one, last, is_set) = read text here in (
+      said ++ one ∷ [],
+      subst (λ (k : List (List ℕ)). AllZip ListSays k (said ++ one ∷ [])) (sym is) (zip_behind ListSays front said text one says last),
+      zip_behind HasAddresses said sets one set has is_set,
+    ) in
+    let P : List (List ℕ) → Type 0 = λ k. AreRead told k (sets ++ set ∷ []) in
+    subst P (sym (next_taken names i name within at)) behind
+
+-- a file that is not read
+not_read : (told : List ℕ → Option (List ℕ)) (names : List (List ℕ)) (i : ℕ) (name : List ℕ) (sets : List Sets) (e : CommandError) → i < length names → get_or names i name ≡ name
+    → AreRead told (take i names) sets → IsFileError (told name) name e → IsUnread told names e
+not_read told names i name sets error.Usage within at before h = absurd h
+not_read told names i name sets error.NoMemory within at before h = tt
+not_read told names i name sets error.Output within at before h = absurd h
+not_read told names i name sets (error.Input file) within at before h =
+    (i, within, subst (λ (k : List ℕ). get_or names i k ≡ k) (sym h) at)
+not_read told names i name sets (error.Line file number e) within at before h =
+    let whole : names ≡ take i names ++ name ∷ drop (i + 1) names =
+    sym (take-append-drop i names) ∙ (at_drop_more (λ k. take i names ++ k) names i name within ∙ ap (λ (k : List ℕ). take i names ++ k ∷ drop (i + 1) names) at) in (
+      take i names,
+      drop (i + 1) names,
+      whole ∙ ap (λ (k : List ℕ). take i names ++ k ∷ drop (i + 1) names) (sym h.0),
+      λ texts are. let (said, says, has) = before texts are in (said, says),
+      λ text is. h.1 text (ap told (sym h.0) ∙ is),
+    )
+
+-- the same of files by their names
+pub file_read_at : (told : List ℕ → Option (List ℕ)) (files : List (Bor (List ℕ))) (i : ℕ) (d : Bor (List ℕ)) (sets : List Sets) (set : Sets) → i < length files
+    → AreRead told (take i (bytes_of files)) sets → ReadsFile (told (get_or files i d).now) (get_or files i d).now (Ok set)
+    → AreRead told (take (i + 1) (bytes_of files)) (sets ++ set ∷ [])
+file_read_at told files i d sets set within before read =
+    file_read told (bytes_of files) i (get_or files i d).now sets set (within_bytes files i within)
+    (get_or-map (λ (w : Bor (List ℕ)). w.now) files i d (get_or files i d).now within) before read
+
+pub file_not_read_at : (told : List ℕ → Option (List ℕ)) (files : List (Bor (List ℕ))) (i : ℕ) (d : Bor (List ℕ)) (sets : List Sets) (e : CommandError)
+    → i < length files → AreRead told (take i (bytes_of files)) sets → ReadsFile (told (get_or files i d).now) (get_or files i d).now (Err e)
+    → IsUnread told (bytes_of files) e
+file_not_read_at told files i d sets e within before h =
+    not_read told (bytes_of files) i (get_or files i d).now sets e (within_bytes files i within)
+    (get_or-map (λ (w : Bor (List ℕ)). w.now) files i d (get_or files i d).now within) before h
+
+pub all_read_at : (told : List ℕ → Option (List ℕ)) (files : List (Bor (List ℕ))) (i : ℕ) (sets : List Sets) → length files ≤ i
+    → AreRead told (take i (bytes_of files)) sets → AreRead told (bytes_of files) sets
+all_read_at told files i sets past h =
+    let P : List (List ℕ) → Type 0 = λ k. AreRead told k sets in
+    subst P (take_all i (bytes_of files) (omega (arith, same_length files))) h
+
+-- a first file and the others
+pub first_read : (told : List ℕ → Option (List ℕ)) (name : List ℕ) (names : List (List ℕ)) (set : Sets) (sets : List Sets) → ReadsFile (told name) name (Ok set)
+    → AreRead told names sets → AreRead told (name ∷ names) (set ∷ sets)
+first_read told name names set sets first others [] h = absurd h
+first_read told name names set sets first others (text ∷ texts) h =
+    let (one, here, is_set) = first text h.0 in
+    let (said, says, has) = others texts h.1 in
+    (one ∷ said, (here, says), (is_set, has))
+
+pub first_not_read : (told : List ℕ → Option (List ℕ)) (name : List ℕ) (names : List (List ℕ)) (e : CommandError) → ReadsFile (told name) name (Err e)
+    → IsUnread told (name ∷ names) e
+first_not_read told name names e h = not_read told (name ∷ names) 0 name [] e (omega arith) refl (none_read told) h
+
+said_first : (told : List ℕ → Option (List ℕ)) (name : List ℕ) (names : List (List ℕ)) (set : Sets) → ReadsFile (told name) name (Ok set)
+    → ((texts : List (List ℕ)) → AreTold told names texts → (said : List (List (Option IpCidr))) × AllZip ListSays texts said)
+    → (texts : List (List ℕ)) → AreTold told (name ∷ names) texts → (said : List (List (Option IpCidr))) × AllZip ListSays texts said
+said_first told name names set first others [] h = absurd h
+said_first told name names set first others (text ∷ texts) h =
+    let (one, here, is_set) = first text h.0 in
+    let (said, says) = others texts h.1 in
+    (one ∷ said, (here, says))
+
+pub others_not_read : (told : List ℕ → Option (List ℕ)) (name : List ℕ) (names : List (List ℕ)) (set : Sets) (e : CommandError) → ReadsFile (told name) name (Ok set)
+    → IsUnread told names e → IsUnread told (name ∷ names) e
+others_not_read told name names set error.Usage first h = absurd h
+others_not_read told name names set error.NoMemory first h = tt
+others_not_read told name names set error.Output first h = absurd h
+others_not_read told name names set (error.Input file) first h = Contains-append_right (name ∷ []) names file.now h
+others_not_read told name names set (error.Line file number e) first h =
+    let (before, after, whole, says, fault) = h in
+    (name ∷ before, after, ap (λ (k : List (List ℕ)). name ∷ k) whole, said_first told name before set first says, fault)
