@@ -12,4 +12,5 @@ pub mod Fronts
 pub mod PrefixFronts
 pub mod Routes
 pub mod RouteHits
+pub mod StrictParsers
 pub mod WalkCalls

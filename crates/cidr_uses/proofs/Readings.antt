@@ -1,16 +1,16 @@
 -- What two parsers of one string, a strict one and one that ignores set bits after the prefix, have to do with each other.
-use Rattle.std.proofs.Common.{◌≡◌, ◌↔◌, ◌⊎◌, ℕ, ◌-◌, Bool, true, false, List, take, Result, Ok, Err, IsTrue, IsOk, is_ok, nat_lt, refl, sym, ap, ◌∙◌, subst, inl, inr}
+use Rattle.std.proofs.Common.{◌≡◌, ◌↔◌, ℕ, Bool, List, take, Result, Ok, Err, IsTrue, is_ok, nat_lt, refl, sym, ap, ◌∙◌, subst, inl, inr}
 use Rattle.std.proofs.lemmas.Bool.{cond_both}
 use Rattle.cidr.specs.either.IpAddress.{SpellsOne}
 use Rattle.cidr.specs.model.Errors.{AddressError}
-use Rattle.cidr.specs.model.Host.{Host, host_of, network_of}
+use Rattle.cidr.specs.model.Host.{host_of, network_of}
 use Rattle.cidr.specs.model.Network.{too_long}
 use Rattle.cidr.specs.model.Views.{seen, in_family}
 use Rattle.cidr.specs.texts.AddressText.{IsAddressText, Reads}
 use Rattle.cidr.specs.texts.Ipv4Text.{IsIpv4Text}
 use Rattle.cidr.specs.texts.Messages.{ipv4_error}
-use Rattle.cidr.specs.texts.NetworkText.{slash, IsNetworkText, IsLengthText}
-use Rattle.cidr.specs.texts.Parsing.{ReadsSlashed, ReadsCut, MadeBy, MadeAlone, MendsHostPart, strict_network, holding_network, made_host}
+use Rattle.cidr.specs.texts.NetworkText.{slash, IsNetworkText}
+use Rattle.cidr.specs.texts.Parsing.{ReadsSlashed, ReadsCut, MadeBy, MendsHostPart, strict_network, holding_network}
 use Rattle.cidr.specs.texts.Refusal.{Lacks, CutsAtLastSlash, ReadsNetwork}
 use Rattle.cidr.specs.texts.Results.{ParsesAround}
 use Rattle.cidr.specs.declared.errors.NetworkParseError.{NetworkParseError}

@@ -59,3 +59,19 @@ pub fn any(a: &AnyIpCidr, b: &AnyIpCidr) -> bool
     networks::order_begins_with_any();
     agree(a, b)
 }
+
+/// `==` of two networks of IPv4 is true exactly where they are the same.
+pub fn equal_ipv4(a: &Ipv4Cidr, b: &Ipv4Cidr) -> bool
+    ensures { IsTrue result ↔ (a.now ≡ b.now) }
+{
+    networks::equal_networks_of_one_family_are_the_same();
+    a == b
+}
+
+/// The same of IPv6.
+pub fn equal_ipv6(a: &Ipv6Cidr, b: &Ipv6Cidr) -> bool
+    ensures { IsTrue result ↔ (a.now ≡ b.now) }
+{
+    networks::equal_networks_of_one_family_are_the_same();
+    a == b
+}

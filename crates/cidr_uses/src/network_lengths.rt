@@ -1,7 +1,7 @@
 //! A new network has the prefix length of the argument, and that of an address with no prefix length the full one.
-ghost use Rattle.std.specs.Prelude.{◌≡◌, IsTrue, Err, MatchResult, Some};
+ghost use Rattle.std.specs.Prelude.{◌≡◌, ◌+◌, IsTrue, Err, MatchOption, MatchResult, Some};
 ghost use Rattle.cidr.specs.model.Network.{network_from};
-ghost use Rattle.cidr.specs.either.IpNetwork.{ip_network_from};
+ghost use Rattle.cidr.specs.either.IpNetwork.{any_length, ip_network_from};
 ghost use Rattle.cidr.specs.declared.family.Family.TheVariants.{Ipv4, Ipv6};
 
 use cidr::errors::NetworkParseError;
@@ -140,4 +140,14 @@ pub fn any_from_is_alone(address: IpAddr) -> bool
     ensures { IsTrue result }
 {
     AnyIpCidr::from(address).is_host_address()
+}
+
+/// How many bits a network of either family leaves free of 128; of `any`, all.
+pub fn any_bits_left(network: &AnyIpCidr) -> u8
+    ensures { MatchOption (any_length network.now) (result ≡ 128) (λ len. result + len ≡ 128) }
+{
+    match network.network_length() {
+        Some(len) => 128 - len,
+        None => 128,
+    }
 }

@@ -1,4 +1,4 @@
-//! Strings of bits, over the trait only: what `room` says and what `into_iter` gives.
+//! Strings of bits, over the trait only: what `room` says.
 ghost use Rattle.std.specs.Prelude.{◌≡◌, ◌<◌, ◌++◌, ◌∷◌, [], MatchOption, length};
 
 use cidr::{BitString, Ipv6Cidr};

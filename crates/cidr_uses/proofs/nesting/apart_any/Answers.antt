@@ -1,5 +1,4 @@
 -- Neither in the other, and so disjoint.
-use Rattle.std.proofs.Common.{sym, ◌∙◌}
 use Rattle.cidr.specs.either.IpNetwork.{any_bits}
 use Rattle.cidr_uses.proofs.nesting.apart_any.Goals as goal
 

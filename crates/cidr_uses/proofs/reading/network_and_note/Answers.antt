@@ -1,6 +1,5 @@
 -- Of a string that is rejected for a set bit after the prefix alone, ignoring such bits gives the network.
-use Rattle.std.proofs.Common.{◌≡◌, Ok, Err, sym, ◌∙◌, subst}
-use Rattle.std.proofs.lemmas.Result.{err_from_is_err_and}
+use Rattle.std.proofs.Common.{Ok, Err, sym, ◌∙◌, subst}
 use Rattle.cidr.specs.texts.AddressText.{IsAddressText, Reads}
 use Rattle.cidr.specs.texts.Messages.{ipv4_error}
 use Rattle.cidr.specs.declared.errors.NetworkParseError.TheVariants.{InvalidHostPart}

@@ -1,5 +1,5 @@
 -- Any calls at both ends of the walk of a string's network.
-use Rattle.std.proofs.Common.{◌≡◌, ◌≤◌, Bool, length, ap, ◌∙◌, arith, length-append, subst}
+use Rattle.std.proofs.Common.{◌≡◌, ◌≤◌, Bool, length, ap, ◌∙◌, arith, length-append}
 use Rattle.std.proofs.lemmas.List.{length-replicate}
 use Rattle.cidr.specs.model.Network.{width_of, first_of, last_of}
 use Rattle.cidr.specs.model.Walk.{addresses_of, network_hosts, answers_to}

@@ -1,0 +1,10 @@
+use Rattle.std.proofs.Common.{subst}
+use Rattle.cidr.specs.either.IpAddress.{IsIpText}
+use Rattle.cidr.specs.texts.AddressText.{Reads}
+use Rattle.cidr.specs.texts.Messages.{ip_error}
+use Rattle.cidr_uses.proofs.strict_parsers.ip_network.Goals as goal
+
+pub returns : goal.returns
+returns c =
+    c.parsing_around_strict_ip_is_strict.ensures.network (λ text r h. subst (λ t. Reads IsIpText ip_error t r) h.shows h.says.met) c.args.s.now
+    c.parse_cidr.result c.parse_cidr.ensures
