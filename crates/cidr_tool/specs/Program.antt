@@ -1,5 +1,5 @@
 -- What a run of the program does with its arguments, standard output and standard error.
-use Rattle.std.specs.Prelude.{◌≡◌, ℕ, List, Option, Result, Err, ◌⊎◌}
+use Rattle.std.specs.Prelude.{◌≡◌, ℕ, Bool, true, List, Option, Result, Err, ◌⊎◌}
 use Rattle.cidr_tool.specs.Answer.{Answers}
 use Rattle.cidr_tool.specs.Arguments.{AreArguments, AreUnreadable}
 use Rattle.cidr_tool.specs.Report.{Reports, Says, status_of, no_memory_line}
@@ -14,8 +14,8 @@ AnswersAll told old new r =
     ⊎ (AreUnreadable told × (r ≡ Err Usage) × (new ≡ old))
 
 -- A run, from the arguments to the exit status: standard output gets the answer, standard error the line that
--- belongs to it. Where there is no memory for the arguments, output gets nothing and error says so.
-abbrev pub Runs : Option (List (List ℕ)) → State → State → State → State → ℕ → Type 0
-Runs told out new_out err new_err status =
+-- belongs to it. Where an allocation was refused, output gets nothing and error may say so.
+abbrev pub Runs : Option (List (List ℕ)) → Bool → State → State → State → State → ℕ → Type 0
+Runs told refused out new_out err new_err status =
     ((r : Result (Unit {0}) ToolError) × AnswersAll told out new_out r × Reports r err new_err × (status ≡ status_of r))
-    ⊎ ((new_out ≡ out) × Says err new_err no_memory_line × (status ≡ 3))
+    ⊎ ((refused ≡ true) × (new_out ≡ out) × Says err new_err no_memory_line × (status ≡ 3))

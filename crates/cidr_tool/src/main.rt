@@ -4,6 +4,7 @@
 mod arguments;
 mod commands;
 mod errors;
+mod memory;
 mod program;
 mod report;
 mod run;
@@ -14,11 +15,13 @@ mod walks;
 mod writing;
 
 use arguments::Given;
+use memory::Heap;
 use program::program;
 use sink::Tracked;
 use std::process::ExitCode;
 
 fn main(rt: HostRuntime) -> ExitCode {
     let (mut out, mut err) = (Tracked::new(rt.stdout()), Tracked::new(rt.stderr()));
-    ExitCode::from(program(rt.alloc(), &Given { system: &rt }, &mut out, &mut err))
+    let mut memory = Heap::new(rt.alloc());
+    ExitCode::from(program(&mut memory, &Given { system: &rt }, &mut out, &mut err))
 }

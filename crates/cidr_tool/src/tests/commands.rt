@@ -2,6 +2,7 @@
 use super::fakes::{plain, with_arguments};
 use super::{ADDRESS_SYNTAX, HOST_PART, NO_ADDRESS, SHOWN, USAGE};
 use crate::arguments::Given;
+use crate::memory::Heap;
 use crate::program::program;
 use std::process::Abort;
 use std::test::Fail;
@@ -15,7 +16,10 @@ fn try_rows(rt: &(impl Abort + AllocGlobal), rows: &[Row]) -> Result<(), Fail> {
         let mut out = plain(rt.alloc());
         let mut err = plain(rt.alloc());
         let given = Given { system: &system };
-        assert_eq!(rt; program(rt.alloc(), &given, &mut out, &mut err), *status);
+        assert_eq!(rt;
+            program(&mut Heap::new(rt.alloc()), &given, &mut out, &mut err),
+            *status
+        );
         assert_eq!(rt; out.into_inner().bytes.as_slice(), written.as_bytes());
         assert_eq!(rt; err.into_inner().bytes.as_slice(), said.as_bytes());
     }

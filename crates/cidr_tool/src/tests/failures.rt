@@ -3,6 +3,7 @@ use super::fakes::{Trouble, plain, troubled, with_arguments};
 use super::{HOST_PART, SHOWN};
 use crate::arguments::Given;
 use crate::errors::{Fault, ToolError};
+use crate::memory::Heap;
 use crate::program::program;
 use crate::report::report;
 use crate::run::run;
@@ -85,7 +86,10 @@ fn a_failed_output_is_said_on_standard_error(rt: HostRuntime) -> Result<(), Fail
         let mut err = plain(rt.alloc());
         let system = with_arguments(&SHOW);
         let given = Given { system: &system };
-        assert_eq!(rt; program(rt.alloc(), &given, &mut out, &mut err), 3);
+        assert_eq!(rt;
+            program(&mut Heap::new(rt.alloc()), &given, &mut out, &mut err),
+            3
+        );
         let bytes = out.into_inner().bytes;
         assert_eq!(rt; bytes.len(), at - 1);
         assert!(rt; SHOWN.as_bytes().starts_with(bytes.as_slice()));

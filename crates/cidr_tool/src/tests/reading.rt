@@ -2,6 +2,7 @@
 use super::fakes::{System, plain, repeated, three, with_arguments};
 use super::{SHOWN, USAGE};
 use crate::arguments::Given;
+use crate::memory::Heap;
 use crate::program::program;
 use std::process::Abort;
 use std::test::Fail;
@@ -16,7 +17,12 @@ fn try_system(
     let mut out = plain(rt.alloc());
     let mut err = plain(rt.alloc());
     assert_eq!(rt;
-        program(rt.alloc(), &Given { system }, &mut out, &mut err),
+        program(
+            &mut Heap::new(rt.alloc()),
+            &Given { system },
+            &mut out,
+            &mut err
+        ),
         status
     );
     assert_eq!(rt; out.into_inner().bytes.as_slice(), written.as_bytes());

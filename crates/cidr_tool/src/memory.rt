@@ -1,0 +1,65 @@
+//! The memory of a run.
+ghost use Rattle.std.specs.Prelude.{◌≡◌, ◌+◌, ◌≤◌, Bool, OnErr, OnOk, false, true};
+ghost use Rattle.std.specs.Vec.{vec_capacity, vec_len};
+
+use std::alloc::{AllocError, Global};
+use std::marker::Model;
+
+/// Allocates, and remembers whether an allocation was refused.
+pub trait Memory {
+    /// Whether an allocation was refused.
+    ghost refused: { Self → Bool };
+
+    /// The allocator, for what needs no room yet.
+    fn alloc(&self) -> Global;
+
+    /// Makes room for `more` items, which stay as they are. An error is an allocation that was refused.
+    fn reserve<T>(&mut self, items: &mut Vec<T>, more: usize) -> Result<(), AllocError>
+        ensures items { items.new.items ≡ items.old.items }
+        ensures room { OnOk result (vec_len items.new + more ≤ vec_capacity items.new) }
+        ensures kept { OnOk result (refused self.new ≡ refused self.old) }
+        ensures refused { OnErr result (refused self.new ≡ true) };
+}
+
+/// The memory that the system gives.
+#[derive(Drop)]
+pub struct Heap {
+    alloc: Global,
+    refused: bool,
+}
+
+impl Model for Heap {
+    ghost use Rattle.std.specs.Prelude.{Bool};
+
+    ghost Value = { Bool };
+
+    ghost view = { λ h. h.refused };
+}
+
+impl Heap {
+    /// Of which nothing was refused yet.
+    pub fn new(alloc: Global) -> Self
+        ensures { result ≡ false }
+    {
+        Heap {
+            alloc,
+            refused: false,
+        }
+    }
+}
+
+impl Memory for Heap {
+    ghost refused = { λ h. h };
+
+    fn alloc(&self) -> Global {
+        self.alloc
+    }
+
+    fn reserve<T>(&mut self, items: &mut Vec<T>, more: usize) -> Result<(), AllocError> {
+        let made = items.reserve(more);
+        if made.is_err() {
+            self.refused = true;
+        }
+        made
+    }
+}
