@@ -12,3 +12,5 @@ pub mod AddressLaws
 pub mod Sides
 pub mod Runs
 pub mod Joining
+pub mod Steps
+pub mod Cuts

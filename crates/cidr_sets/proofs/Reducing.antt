@@ -11,10 +11,10 @@ use Rattle.std.specs.List.Sorted.{IsPermutation, IsSorted, IsStrictlySortedBy}
 use Rattle.std.specs.Ordering.{is_eq}
 use Rattle.std.specs.declared.cmp.Ordering.{Ordering}
 use Rattle.cidr.specs.model.Bits.{bit_cmp}
-use Rattle.cidr_table.specs.Cover.{Covers, IsLeastCover}
+use Rattle.cidr_table.specs.Cover.{Covers}
 use Rattle.cidr_table.proofs.Beginnings.{cmp_exact}
 use Rattle.cidr_sets.specs.Sets.{IsSetOf}
-use Rattle.cidr_sets.proofs.Addresses.{covers_more, set_alike, set_from_cover}
+use Rattle.cidr_sets.proofs.Addresses.{covers_more, set_alike}
 
 -- the first of a list that was written to its front
 pub front : {X : Type 0} (n m : ℕ) (ys zs : List X) → n ≤ m → n ≤ length ys → take n (take m (ys ++ zs)) ≡ take n ys
@@ -39,6 +39,6 @@ module _ {C : Type 0} (f : C → List Bool) (cmp : C → C → Ordering) (o : Is
   from_kept x c = Contains-permutation ys xs x (IsPermutation-sym xs ys p)
       (Contains-from_dedup E ys x (subst (λ l. Contains l x) is c))
 
-  pub whole : (out : List (List Bool)) → IsLeastCover 129 (map f zs) out → IsSetOf 129 (Covers (map f xs)) out
+  pub whole : (out : List (List Bool)) → IsSetOf 129 (Covers (map f zs)) out → IsSetOf 129 (Covers (map f xs)) out
   whole out h = set_alike 129 (Covers (map f zs)) (Covers (map f xs)) out
-      (λ a la. (covers_more f zs xs from_kept a, covers_more f xs zs kept a)) (set_from_cover 129 (map f zs) out h)
+      (λ a la. (covers_more f zs xs from_kept a, covers_more f xs zs kept a)) h

@@ -8,3 +8,4 @@ pub mod Counts
 pub mod AddressLists
 pub mod Ranges
 pub mod RangeLaws
+pub mod Steps

@@ -7,6 +7,7 @@ mod pools;
 mod ranges;
 mod search;
 mod set;
+pub mod slices;
 mod walk;
 
 pub use pools::Subnets;

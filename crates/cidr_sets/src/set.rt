@@ -5,6 +5,7 @@ ghost use Rattle.std.specs.Iterator.Adapters.{IterYieldsInOrder, IterYieldsInRev
 ghost use Rattle.cidr_table.specs.Cover.{Covers, IsFull};
 ghost use Rattle.cidr_table.specs.Cover.{IsReduced};
 ghost use Rattle.cidr_sets.specs.Sets.{IsSetOf};
+ghost use Rattle.cidr_sets.specs.Steps.{Ascend};
 
 use crate::search::{covers, known};
 use cidr::NetworkBits;
@@ -143,6 +144,15 @@ pub(crate) fn reduced<C: NetworkBits + Copy>(mut networks: Vec<C>) -> NetworkSet
 {
     networks.sort_unstable();
     networks.dedup();
+    joined(networks)
+}
+
+/// The set of the addresses of networks that ascend.
+pub(crate) fn joined<C: NetworkBits + Copy>(mut networks: Vec<C>) -> NetworkSet<C>
+    requires { Ascend (map C.bits networks.items) }
+    ensures set { IsSetOf 129 (Covers (map C.bits networks.items)) (map C.bits result) }
+    ensures fits { length result ≤ length networks.items }
+{
     let count = least_cover_in_place(networks.as_mut_slice());
     networks.truncate(count);
     NetworkSet { networks }

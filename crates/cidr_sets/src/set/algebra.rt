@@ -1,22 +1,26 @@
 //! Union, intersection and difference.
-ghost use Rattle.std.specs.Prelude.{◌≡◌, ◌↔◌, ◌⊎◌, ◌+◌, ◌≤◌, ◌<◌, ◌++◌, ◌∷◌, [], Bool, List, length, map, Contains, IfOk, OnOk, OnErr, IsTrue, true, false};
+ghost use Rattle.std.specs.Prelude.{◌≡◌, ◌↔◌, ◌⊎◌, ℕ, ◌+◌, ◌-◌, ◌*◌, ◌≤◌, ◌<◌, ◌++◌, ◌∷◌, [], Bool, List, length, map, Contains, IfOk, OnOk, OnErr, IsTrue, true, false};
 ghost use Rattle.std.specs.Bool.{Decides};
 ghost use Rattle.cidr.specs.model.Network.{BeginsWith};
-ghost use Rattle.cidr_table.specs.Cover.{Covers};
-ghost use Rattle.cidr_table.specs.Cover.{IsReduced};
+ghost use Rattle.std.specs.declared.cmp.Ordering.TheVariants.{Less};
+ghost use Rattle.cidr.specs.model.Bits.{bit_cmp};
+ghost use Rattle.cidr_table.specs.Cover.{AreNetworks, Covers, IsReduced};
+ghost use Rattle.cidr_sets.specs.Steps.{Ascend, IsCut, IsSkipped};
 ghost use Rattle.cidr_sets.specs.Searches.{IsFirstInside};
 ghost use Rattle.std.specs.Option.{option_map};
 ghost use Rattle.cidr_sets.specs.Sets.{IsUnion, IsIntersection, IsDifference, IsSymmetricDifference, IsComplement, Meets, IsSubset, AreDisjoint};
 
 use crate::search::{covers, is_inside, known, upto};
-use crate::set::{NetworkSet, reduced};
+use crate::set::{NetworkSet, joined, reduced};
+use crate::slices;
 use cidr::{BitString, NetworkBits};
 use std::alloc::AllocError;
 
 impl<C: NetworkBits + Copy> NetworkSet<C> {
     /// The addresses that one of two sets has, or both. Both stay as they were.
     ///
-    /// It allocates room for as many networks as both have together. Where an allocation fails, it returns the error.
+    /// It goes through both once, and allocates room for as many networks as both have together. Where an allocation
+    /// fails, it returns the error.
     ///
     /// ```
     /// half.union(&other)?.as_slice() // [10.128.0.0/9, 192.0.2.0/24]
@@ -25,14 +29,18 @@ impl<C: NetworkBits + Copy> NetworkSet<C> {
         ensures set { IfOk result (λ set. IsUnion 129 (map C.bits self.now) (map C.bits other.now) (map C.bits set)) }
         ensures fits { IfOk result (λ set. length set ≤ length self.now + length other.now) }
     {
-        let mut both = Vec::from_slice(self.networks.allocator().clone()?, self.as_slice())?;
-        both.extend_from_slice(other.as_slice())?;
-        Ok(reduced(both))
+        let (these, those) = (self.as_slice(), other.as_slice());
+        let mut networks = Vec::from_slice(self.networks.allocator().clone()?, these)?;
+        networks.extend_from_slice(those)?;
+        let count = slices::union(these, those, networks.as_mut_slice());
+        networks.truncate(count);
+        Ok(NetworkSet { networks })
     }
 
     /// The addresses that both of two sets have. Both stay as they were.
     ///
-    /// It looks each network of one set up in the other. Where an allocation fails, it returns the error.
+    /// It goes through both once, and allocates room for as many networks as both have together. Where an allocation
+    /// fails, it returns the error.
     ///
     /// ```
     /// set.intersection(&half)?.as_slice() // [10.128.0.0/9]
@@ -40,17 +48,19 @@ impl<C: NetworkBits + Copy> NetworkSet<C> {
     pub fn intersection(&self, other: &NetworkSet<C>) -> Result<NetworkSet<C>, AllocError>
         ensures set { IfOk result (λ set.
             IsIntersection 129 (map C.bits self.now) (map C.bits other.now) (map C.bits set)) }
+        ensures fits { IfOk result (λ set. length set ≤ length self.now + length other.now - 1) }
     {
         let (these, those) = (self.as_slice(), other.as_slice());
-        let mut both = Vec::new(self.networks.allocator().clone()?);
-        push_covered(&mut both, these, those)?;
-        push_covered(&mut both, those, these)?;
-        Ok(reduced(both))
+        let mut networks = Vec::from_slice(self.networks.allocator().clone()?, these)?;
+        networks.extend_from_slice(those)?;
+        let count = slices::intersection(these, those, networks.as_mut_slice());
+        networks.truncate(count);
+        Ok(NetworkSet { networks })
     }
 
     /// The addresses of this set that the other has not. Both stay as they were.
     ///
-    /// Where an allocation fails, it returns the error.
+    /// It goes through both once. Where an allocation fails, it returns the error.
     ///
     /// ```
     /// set.difference(&half)?.as_slice() // [10.0.0.0/9]
@@ -58,10 +68,12 @@ impl<C: NetworkBits + Copy> NetworkSet<C> {
     pub fn difference(&self, other: &NetworkSet<C>) -> Result<NetworkSet<C>, AllocError>
         ensures set { IfOk result (λ set.
             IsDifference 129 (map C.bits self.now) (map C.bits other.now) (map C.bits set)) }
+        ensures fits { IfOk result (λ set. (w : ℕ) → AreNetworks w (map C.bits other.now)
+            → length set ≤ length self.now + w * length other.now) }
     {
         let mut rest = Vec::new(self.networks.allocator().clone()?);
         push_rests(&mut rest, self.as_slice(), other.as_slice())?;
-        Ok(reduced(rest))
+        Ok(joined(rest))
     }
 
     /// Whether the set has all addresses of some networks. Binary search for each: O(k log n) for k networks.
@@ -122,12 +134,14 @@ impl<C: NetworkBits + Copy> NetworkSet<C> {
     /// half.complement_in(&"10.0.0.0/8".parse()?)?.as_slice() // [10.0.0.0/9]
     /// ```
     pub fn complement_in(&self, network: &C) -> Result<NetworkSet<C>, AllocError>
-        ensures { IfOk result (λ set.
+        ensures set { IfOk result (λ set.
             IsComplement 129 (C.bits network.now) (map C.bits self.now) (map C.bits set)) }
+        ensures fits { IfOk result (λ set. (w : ℕ) → AreNetworks w (map C.bits self.now)
+            → length set ≤ w * length self.now + 1) }
     {
         let mut rest = Vec::new(self.networks.allocator().clone()?);
         push_rest(&mut rest, network, self.as_slice())?;
-        Ok(reduced(rest))
+        Ok(joined(rest))
     }
 
     /// Adds the addresses of a network. Where an allocation fails, the set stays as it was.
@@ -177,71 +191,91 @@ impl<C: NetworkBits + Copy> NetworkSet<C> {
     }
 }
 
-/// Pushes those networks that lie in one of the others.
-fn push_covered<C: NetworkBits + Copy>(
-    out: &mut Vec<C>,
-    networks: &[C],
-    others: &[C],
-) -> Result<(), AllocError>
-    requires { IsReduced 129 (map C.bits others.now) }
-    ensures { OnOk result ((x : C) → Contains out.new.items x
-        ↔ (Contains out.old.items x ⊎ (Contains networks.now x × Covers (map C.bits others.now) (C.bits x)))) }
-{
-    for network in networks {
-        if covers(others, network) {
-            out.push(*network)?;
-        }
-    }
-    Ok(())
-}
-
-/// Pushes networks of the addresses that the networks have and the others have not.
+/// Pushes the networks of the addresses that a set has and another has not, ascending.
 fn push_rests<C: NetworkBits + Copy>(
     out: &mut Vec<C>,
     networks: &[C],
     others: &[C],
 ) -> Result<(), AllocError>
-    requires { IsReduced 129 (map C.bits others.now) }
-    ensures { OnOk result ((a : List Bool) → length a ≡ 129 → Covers (map C.bits out.new.items) a
-        ↔ (Covers (map C.bits out.old.items) a
-        ⊎ (Covers (map C.bits networks.now) a × ¬ (Covers (map C.bits others.now) a)))) }
+    requires networks { IsReduced 129 (map C.bits networks.now) }
+    requires others { IsReduced 129 (map C.bits others.now) }
+    requires none { out.old.items ≡ [] }
+    ensures ascend { OnOk result (Ascend (map C.bits out.new.items)) }
+    ensures covers { OnOk result ((a : List Bool) → length a ≡ 129 → Covers (map C.bits out.new.items) a
+        ↔ (Covers (map C.bits networks.now) a × ¬ (Covers (map C.bits others.now) a))) }
+    ensures fits { OnOk result ((w : ℕ) → AreNetworks w (map C.bits others.now)
+        → length out.new.items ≤ length networks.now + w * length others.now) }
 {
-    for network in networks {
-        push_rest(out, network, others)?;
+    let mut todo = networks;
+    let mut left = others;
+    while let Some((network, behind)) = todo.split_first() {
+        left = push_rest(out, network, left)?;
+        todo = behind;
     }
     Ok(())
 }
 
-/// Pushes networks of the addresses of a network that the others have not.
+/// Pushes the networks of the addresses of a network that the others have not, ascending, and returns those of the
+/// others that can have addresses behind the network.
 ///
 /// A network that one of the others contains has none, and one that contains none of the others is pushed itself. Any
 /// other is halved.
-fn push_rest<C: NetworkBits + Copy>(
+fn push_rest<'a, C: NetworkBits + Copy>(
     out: &mut Vec<C>,
     network: &C,
-    others: &[C],
-) -> Result<(), AllocError>
-    requires { IsReduced 129 (map C.bits others.now) }
-    ensures { OnOk result ((a : List Bool) → length a ≡ 129 → Covers (map C.bits out.new.items) a
-        ↔ (Covers (map C.bits out.old.items) a
-        ⊎ (BeginsWith a (C.bits network.now) × ¬ (Covers (map C.bits others.now) a)))) }
+    others: &'a [C],
+) -> Result<&'a [C], AllocError>
+    requires others { Ascend (map C.bits others.now) }
+    requires ascend { Ascend (map C.bits out.old.items) }
+    requires before { (x : List Bool) → Contains (map C.bits out.old.items) x
+        → bit_cmp x (C.bits network.now) ≡ Less }
+    ensures { IfOk result (λ rest. IsCut (C.bits network.now) (map C.bits out.old.items) (map C.bits out.new.items)
+        (map C.bits others.now) (map C.bits rest.now)) }
 {
-    if covers(others, network) {
-        return Ok(());
+    let left = skip(network, others);
+    let Some((first, behind)) = left.split_first() else {
+        out.push(*network)?;
+        return Ok(left);
+    };
+    if is_inside(network, first) {
+        return Ok(if first.len() == network.len() {
+            behind
+        } else {
+            left
+        });
     }
-    match first_inside(others, network) {
-        Some(inner) => {
-            let lower = half(network, &inner, false);
-            push_rest(out, &lower, others)?;
-            let upper = half(network, &inner, true);
-            push_rest(out, &upper, others)?;
-            Ok(())
-        }
-        None => {
-            out.push(*network)?;
-            Ok(())
-        }
+    if !is_inside(first, network) {
+        out.push(*network)?;
+        return Ok(left);
     }
+    let lower = half(network, first, false);
+    let rest = push_rest(out, &lower, left)?;
+    let upper = half(network, first, true);
+    let last = push_rest(out, &upper, rest)?;
+    Ok(last)
+}
+
+/// The networks without the first ones, which come before this one and don't contain it.
+fn skip<'a, C: NetworkBits>(network: &C, others: &'a [C]) -> &'a [C]
+    requires { Ascend (map C.bits others.now) }
+    ensures { IsSkipped (C.bits network.now) (map C.bits others.now) (map C.bits result.now) }
+{
+    let mut left = others;
+    while let Some((first, behind)) = left.split_first() {
+        if !is_passed(first, network) {
+            break;
+        }
+        left = behind;
+    }
+    left
+}
+
+/// Whether a network comes before another and doesn't contain it.
+fn is_passed<C: NetworkBits>(network: &C, next: &C) -> bool
+    ensures { Decides result ((bit_cmp (C.bits network.now) (C.bits next.now) ≡ Less)
+        × ¬ (BeginsWith (C.bits next.now) (C.bits network.now))) }
+{
+    network.cmp(next).is_lt() && !is_inside(next, network)
 }
 
 /// The first of the networks that lie in one that none of them contains.

@@ -1,32 +1,18 @@
-use Rattle.std.proofs.Common.{◌≤◌, length, take, drop, map, sym, ◌∙◌, subst, arith}
-use Rattle.std.specs.List.Sorted.{IsStrictlySortedBy}
-use Rattle.cidr_table.specs.Cover.{Covers, IsLeastCover}
-use Rattle.cidr_sets.specs.Sets.{IsSetOf}
-use Rattle.cidr_sets.proofs.Reducing.{distinct, front, whole}
+use Rattle.std.proofs.Common.{map}
+use Rattle.cidr_sets.proofs.Reducing.{distinct, whole}
+use Rattle.cidr_sets.proofs.Steps.{ascend_by}
 use Rattle.cidr_sets.proofs.set.reduced.Goals as goal
 
-pub least_cover_in_place-count-requires : goal.least_cover_in_place-count-requires
-least_cover_in_place-count-requires g c =
-    subst (IsStrictlySortedBy g.C.Ord.cmp) (sym c.as_mut_slice.ensures.value)
+pub joined-requires : goal.joined-requires
+joined-requires g c =
+    ascend_by g.C.BitString.bits g.C.Ord.cmp g.met.C.NetworkBits.ordered c.dedup.new.self.items
     (distinct g.C.BitString.bits g.C.Ord.cmp g.met.C.Ord.total g.met.C.NetworkBits.ordered g.met.C.NetworkBits.determined
     g.C.PartialEq.eq g.met.C.Ord.matches_eq g.met.C.Eq.laws c.args.networks.items c.sort_unstable.new.self.items
     c.dedup.new.self.items c.sort_unstable.ensures.permutation c.sort_unstable.ensures.sorted c.dedup.ensures.filtered)
 
 pub returns-clause-set : goal.returns-clause-set
 returns-clause-set g c =
-    let f = g.C.BitString.bits in
-    let n = c.least_cover_in_place-count.result in
-    let out = c.least_cover_in_place-count.new.networks in
-    let zs = c.dedup.new.self.items in
-    let size : n ≤ length out = omega (arith, c.least_cover_in_place-count.ensures.fits) in
-    let fits : n ≤ c.dedup.new.self.len = omega (arith, c.least_cover_in_place-count.ensures.fits, c.as_mut_slice.ensures.value, c.as_mut_slice.ensures.len, c.dedup.new.self.ok.0) in
-    let left = c.truncate.ensures.items ∙ front n c.dedup.new.self.len out (drop (length out) zs) fits size in
-    let cover : IsLeastCover 129 (map f zs) (map f (take n out)) =
-    subst (λ l. IsLeastCover 129 (map f l) (map f (take n out))) c.as_mut_slice.ensures.value c.least_cover_in_place-count.ensures.cover in
-    subst (λ l. IsSetOf 129 (Covers (map f c.args.networks.items)) (map f l)) (sym left)
-    (whole f g.C.Ord.cmp g.met.C.Ord.total g.met.C.NetworkBits.ordered g.met.C.NetworkBits.determined
+    whole g.C.BitString.bits g.C.Ord.cmp g.met.C.Ord.total g.met.C.NetworkBits.ordered g.met.C.NetworkBits.determined
     g.C.PartialEq.eq g.met.C.Ord.matches_eq g.met.C.Eq.laws c.args.networks.items c.sort_unstable.new.self.items
-    zs c.sort_unstable.ensures.permutation c.sort_unstable.ensures.sorted c.dedup.ensures.filtered (map f (take n out)) cover)
-
-pub invariant_of-result : goal.invariant_of-result
-invariant_of-result g c = (returns-clause-set g c).reduced
+    c.dedup.new.self.items c.sort_unstable.ensures.permutation c.sort_unstable.ensures.sorted c.dedup.ensures.filtered
+    (map g.C.BitString.bits c.joined.result) c.joined.ensures.set

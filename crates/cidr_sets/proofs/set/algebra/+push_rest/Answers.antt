@@ -1,33 +1,131 @@
-use Rattle.std.proofs.Common.{◌↔◌, ◌⊎◌, map, refl, subst}
+use Rattle.std.proofs.Common.{◌≡◌, ◌<◌, ◌-◌, Bool, List, rules, [], ◌∷◌, ◌++◌, true, false, length, map, sym, ap, ◌∙◌, subst, arith}
 use Rattle.std.proofs.lemmas.Bool.Decides.{not_from_Decides}
-use Rattle.cidr.specs.model.Network.{BeginsWith}
-use Rattle.cidr_table.specs.Cover.{Covers}
-use Rattle.cidr_sets.proofs.Algebra.{rest_none, rest_whole, rest_halves}
+use Rattle.std.proofs.lemmas.List.{map_push}
+use Rattle.std.specs.List.{Contains, slice_get}
+use Rattle.std.specs.declared.cmp.Ordering.TheVariants.{Less}
+use Rattle.cidr.specs.model.Bits.{bit_cmp}
+use Rattle.cidr_table.proofs.Halves.{begins_itself, half_begins, length_half}
+use Rattle.cidr_table.proofs.MapLaws.{contains_nothing}
+use Rattle.cidr_sets.specs.Steps.{Ascend, IsCut}
+use Rattle.cidr_sets.proofs.Cuts.{cut_covered, cut_halves, cut_same, cut_skipped, cut_whole, longer, suffix_ascends, upper_behind}
+use Rattle.cidr_sets.proofs.Joining.{by_none, nothing}
+use Rattle.cidr_sets.proofs.Steps.{apart_from, less_longer, not_less, one_ascends}
 use Rattle.cidr_sets.proofs.set.algebra.+push_rest.Goals as goal
+use Rattle.cidr_sets.proofs.set.algebra.+push_rest.Goals.{then-len, else-len}
 
-pub returns-then-covers : goal.returns-then-covers
-returns-then-covers g t c a la =
+pub returns-in_default : goal.returns-in_default
+returns-in_default g t c =
     let f = g.C.BitString.bits in
-    rest_none f (map f c.args.others.now) (f c.args.network.now) a la c.args.out.now.items (c.covers.ensures.0 c.if-covers.true)
-
-pub returns-in_ok-push_rest-in-Some-2 : goal.returns-in_ok-push_rest-in-Some-2
-returns-in_ok-push_rest-in-Some-2 g t c a la =
-    let f = g.C.BitString.bits in
-    let those = map f c.args.others.now in
     let p = f c.args.network.now in
-    let old = c.args.out.now.items in
-    let lower = c.push_rest.new.out.items in
-    let upper = c.push_rest-in-Some.new.out.items in
-    rest_halves f those p a la old (¬ (Covers those a)) lower upper c.half-lower.ensures.room
-    (subst (λ q. Covers (map f lower) a ↔ (Covers (map f old) a ⊎ (BeginsWith a q × ¬ (Covers those a)))) c.half-lower.ensures.bits
-    (c.in_ok-push_rest-in-Some.ensures a la))
-    (subst (λ q. Covers (map f upper) a ↔ (Covers (map f lower) a ⊎ (BeginsWith a q × ¬ (Covers those a)))) c.half-upper.ensures.bits
-    (c.in_ok-push_rest-in-Some-2.ensures a la))
+    let old = map f c.args.out.now.items in
+    let others = map f c.args.others.now in
+    let left = map f c.skip-left.result.now in
+    let none = ap (map f) (nothing c.skip-left.result.now
+    (by_none c.split_first.result (length c.skip-left.result.now ≡ 0) _ c.in_default.not-Some c.split_first.ensures.cases)) in
+    subst (λ new. IsCut p old new others left)
+    (sym (ap (map f) c.in_ok-push.ensures.items ∙ map_push f c.args.out.now.items c.args.network.now))
+    (cut_skipped p old (old ++ p ∷ []) others left left c.skip-left.ensures
+    (cut_whole p old c.requires.ascend c.requires.before left
+    (λ a b d. contains_nothing d.0 (subst (λ l. Contains l d.0) none d.1))))
 
-pub returns-in_ok-push-in-None : goal.returns-in_ok-push-in-None
-returns-in_ok-push-in-None g t c a la =
+pub returns-then-is_inside : goal.returns-then-is_inside
+returns-then-is_inside g t c =
     let f = g.C.BitString.bits in
-    let those = map f c.args.others.now in
-    rw c.in_ok-push-in-None.ensures.items
-    (rest_whole f those (f c.args.network.now) a la c.args.out.now.items c.args.network.now refl
-    (not_from_Decides c.covers.result c.covers.ensures c.if-covers.false) c.in-None.ensures)
+    let p = f c.args.network.now in
+    let old = map f c.args.out.now.items in
+    let others = map f c.args.others.now in
+    let left = map f c.skip-left.result.now in
+    let first = f c.in-Some.first.now in
+    let behind = map f c.in-Some.behind.now in
+    let split = ap (map f) c.in-Some.ensures.cases.0 in
+    let inside = c.is_inside.ensures.0 c.if-is_inside.true in
+    elim c.if-len.branch [
+      | then-len w ↦ rw w.result-is
+          (cut_skipped p old old others left behind c.skip-left.ensures
+          (subst (λ l. IsCut p old old l behind) (sym split)
+          (cut_same p old c.requires.ascend c.requires.before first behind inside
+          (omega (arith, w.if-len.true, c.len.ensures.value, c.len-then-is_inside.ensures.value)))))
+      | else-len w ↦ rw w.result-is
+          (cut_skipped p old old others left left c.skip-left.ensures
+          (subst (λ l. IsCut p old old l l) (sym split)
+          (cut_covered p old c.requires.ascend c.requires.before first behind inside
+          (λ e. omega (arith, e, w.if-len.false, c.len.ensures.value, c.len-then-is_inside.ensures.value)))))
+    ]
+
+pub returns-then-not-is_inside : goal.returns-then-not-is_inside
+returns-then-not-is_inside g t c =
+    let f = g.C.BitString.bits in
+    let p = f c.args.network.now in
+    let old = map f c.args.out.now.items in
+    let others = map f c.args.others.now in
+    let left = map f c.skip-left.result.now in
+    let first = f c.in-Some.first.now in
+    let behind = map f c.in-Some.behind.now in
+    let split = ap (map f) c.in-Some.ensures.cases.0 in
+    let ascend : Ascend (first ∷ behind) = subst Ascend split (suffix_ascends left others c.skip-left.ensures.suffix c.requires.others) in
+    let outside = not_from_Decides c.is_inside.result c.is_inside.ensures c.if-is_inside.false in
+    let apart = not_from_Decides c.is_inside-2.result c.is_inside-2.ensures c.if-not-is_inside.true in
+    let less : bit_cmp p first ≡ Less = not_less first behind ascend p [] (one_ascends p) outside
+    (λ e. c.skip-left.ensures.first first (ap (λ l. slice_get l 0) split) (e, outside)) in
+    subst (λ new. IsCut p old new others left)
+    (sym (ap (map f) c.in_ok-push-2.ensures.items ∙ map_push f c.args.out.now.items c.args.network.now))
+    (cut_skipped p old (old ++ p ∷ []) others left left c.skip-left.ensures
+    (cut_whole p old c.requires.ascend c.requires.before left
+    (λ a b d. apart_from p [] (one_ascends p) first behind ascend outside apart less a b
+    (d.0, subst (λ l. Contains l d.0) split d.1, d.2))))
+
+pub push_rest-requires : goal.push_rest-requires
+push_rest-requires g t c =
+    let f = g.C.BitString.bits in
+    let p = f c.args.network.now in
+    let left = map f c.skip-left.result.now in
+    let half = f c.half-lower.result in
+    let bits = c.half-lower.ensures.bits in
+    let others : Ascend left = suffix_ascends left (map f c.args.others.now) c.skip-left.ensures.suffix c.requires.others in
+    let before : (x : List Bool) → Contains (map f c.args.out.now.items) x → bit_cmp x half ≡ Less = λ x k.
+    subst (λ z. bit_cmp x z ≡ Less) (sym bits) (less_longer x p (p ++ false ∷ []) (c.requires.before x k) (half_begins p false)) in
+    let fewer : 129 - length half < 129 - length p = omega (arith, ap length bits, length_half p false, c.half-lower.ensures.room) in
+    search (rules, others, before, fewer)
+
+pub push_rest-requires-2 : goal.push_rest-requires-2
+push_rest-requires-2 g t c =
+    let f = g.C.BitString.bits in
+    let p = f c.args.network.now in
+    let left = map f c.skip-left.result.now in
+    let mid = map f c.push_rest.new.out.items in
+    let rest = map f c.in_ok-rest.rest.now in
+    let up = p ++ true ∷ [] in
+    let half = f c.half-upper.result in
+    let bits = c.half-upper.ensures.bits in
+    let lo = subst (λ z. IsCut z (map f c.args.out.now.items) mid left rest) c.half-lower.ensures.bits c.in_ok-rest.ensures in
+    let others : Ascend rest = suffix_ascends rest left lo.suffix
+    (suffix_ascends left (map f c.args.others.now) c.skip-left.ensures.suffix c.requires.others) in
+    let ascend : Ascend mid = lo.ascend in
+    let before : (x : List Bool) → Contains mid x → bit_cmp x half ≡ Less = λ x k.
+    subst (λ z. bit_cmp x z ≡ Less) (sym bits) (lo.before up (upper_behind p up (begins_itself up)) x k) in
+    let fewer : 129 - length half < 129 - length p = omega (arith, ap length bits, length_half p true, c.half-upper.ensures.room) in
+    search (rules, others, ascend, before, fewer)
+
+pub returns : goal.returns
+returns g t c =
+    let f = g.C.BitString.bits in
+    let p = f c.args.network.now in
+    let old = map f c.args.out.now.items in
+    let mid = map f c.push_rest.new.out.items in
+    let new = map f c.push_rest-2.new.out.items in
+    let others = map f c.args.others.now in
+    let left = map f c.skip-left.result.now in
+    let rest = map f c.in_ok-rest.rest.now in
+    let last = map f c.in_ok-last.last.now in
+    let first = f c.in-Some.first.now in
+    let behind = map f c.in-Some.behind.now in
+    let split = ap (map f) c.in-Some.ensures.cases.0 in
+    let inside = c.is_inside-2.ensures.0 c.if-not-is_inside.false in
+    let outside = not_from_Decides c.is_inside.result c.is_inside.ensures c.if-is_inside.false in
+    let lo = subst (λ l. IsCut (p ++ false ∷ []) old mid l rest) split
+    (subst (λ z. IsCut z old mid left rest) c.half-lower.ensures.bits c.in_ok-rest.ensures) in
+    let up = subst (λ z. IsCut z mid new rest last) c.half-upper.ensures.bits c.in_ok-last.ensures in
+    cut_skipped p old new others left last c.skip-left.ensures
+    (subst (λ l. IsCut p old new l last) (sym split)
+    (cut_halves p first behind old mid new rest last inside (longer p first inside outside) lo up
+    c.half-lower.ensures.room))

@@ -1,27 +1,37 @@
-use Rattle.std.proofs.Common.{◌≡◌, ◌↔◌, ◌⊎◌, Bool, List, length, take, map, subst, arith}
-use Rattle.std.proofs.lemmas.List.{take_all}
-use Rattle.cidr_table.specs.Cover.{Covers}
-use Rattle.cidr_sets.proofs.Algebra.{rests_more, rests_none}
+use Rattle.std.proofs.Common.{◌≡◌, length, map, subst}
+use Rattle.cidr_table.proofs.Stacks.{spread_from_reduced}
+use Rattle.cidr_sets.proofs.Cuts.{IsCutting, cutting_all, cutting_more, cutting_none}
+use Rattle.cidr_sets.proofs.Joining.{by_none, nothing}
 use Rattle.cidr_sets.proofs.set.algebra.push_rests.Goals as goal
 
 pub loop-network-init : goal.loop-network-init
-loop-network-init g c a la =
+loop-network-init g c =
     let f = g.C.BitString.bits in
-    rests_none f (λ b. ¬ (Covers (map f c.args.others.now) b)) c.args.networks.now c.args.out.now.items a
+    let these = map f c.args.networks.now in
+    rw c.requires.none
+    (cutting_none these (map f c.args.others.now) c.requires.networks.ascending
+    (spread_from_reduced 129 these c.requires.networks).apart c.requires.others.ascending)
 
 pub loop-network-preserved : goal.loop-network-preserved
-loop-network-preserved g c a la =
+loop-network-preserved g c =
     let f = g.C.BitString.bits in
     let l = c.loop-network in
-    rests_more c.args.networks.now l.network-index c.network-item.result c.loop-network-test.true c.network-item.is
-    f (λ b. ¬ (Covers (map f c.args.others.now) b)) c.args.out.now.items l.out.items c.push_rest.new.out.items a
-    (l.invariant a la) (c.in_ok-push_rest.ensures a la)
+    let these = map f c.args.networks.now in
+    let those = map f c.args.others.now in
+    let left = map f l.left.now in
+    cutting_more these those (f c.in-Some.network.now) (map f c.in-Some.behind.now) (map f l.out.items) (map f c.push_rest.new.out.items)
+    left (map f c.in_ok-left.left.now)
+    (subst (λ todo. IsCutting these those (map f l.out.items) (map f todo) left) c.in-Some.ensures.cases.0 l.invariant)
+    c.in_ok-left.ensures
 
-pub returns : goal.returns
-returns g c =
+pub returns-clause-covers : goal.returns-clause-covers
+returns-clause-covers g c =
     let f = g.C.BitString.bits in
     let l = c.loop-network in
-    let xs = c.args.networks.now in
-    let all : take l.network-index xs ≡ xs = take_all l.network-index xs (omega (arith, c.loop-network-test.false)) in
-    subst (λ (ys : List g.row.C.Denot). (a : List Bool) → length a ≡ 129 → Covers (map f l.out.items) a
-    ↔ (Covers (map f c.args.out.now.items) a ⊎ (Covers (map f ys) a × ¬ (Covers (map f c.args.others.now) a)))) all l.invariant
+    let these = map f c.args.networks.now in
+    let those = map f c.args.others.now in
+    let left = map f l.left.now in
+    let none = nothing l.todo.now
+    (by_none c.split_first.result (length l.todo.now ≡ 0) _ c.in_default.not-Some c.split_first.ensures.cases) in
+    cutting_all these those (map f l.out.items) left
+    (subst (λ todo. IsCutting these those (map f l.out.items) (map f todo) left) none l.invariant)

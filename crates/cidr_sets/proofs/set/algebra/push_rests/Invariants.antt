@@ -1,10 +1,12 @@
-use Rattle.std.proofs.Common.{◌≡◌, ◌↔◌, ◌⊎◌, Bool, List, length, take, map}
-use Rattle.cidr_table.specs.Cover.{Covers}
+use Rattle.std.proofs.Common.{length, map}
+use Rattle.cidr_sets.proofs.Cuts.{IsCutting}
 use Rattle.cidr_sets.proofs.set.algebra.push_rests.Given as goal
 
--- the addresses of the networks so far are there that the others have not
+-- what is left of the networks so far is there
 abbrev pub invariant-loop-network : goal.invariant-loop-network
 invariant-loop-network g l =
     let f = g.C.BitString.bits in
-    (a : List Bool) → length a ≡ 129 → Covers (map f l.out.items) a
-    ↔ (Covers (map f l.fn.out.items) a ⊎ (Covers (map f (take l.network-index l.networks)) a × ¬ (Covers (map f l.others) a)))
+    IsCutting (map f l.networks) (map f l.others) (map f l.out.items) (map f l.todo) (map f l.left)
+
+abbrev pub decreases-loop-network : goal.decreases-loop-network
+decreases-loop-network g l = length l.todo
