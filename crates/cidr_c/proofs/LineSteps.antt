@@ -1,6 +1,6 @@
 -- Lines that are read one after another.
-use Rattle.std.proofs.Common.{rules, ◌≡◌, ◌≢◌, ◌⊎◌, ℕ, zero, suc, ◌+◌, ◌<◌, ◌≤◌, Bool, true, false, List, [], ◌∷◌, ◌++◌, length, take, drop, set, slice_index_or, slice_get, get_or, map, ◌-◌, Some, cond, inl, inr, refl, sym, ap, ◌∙◌, arith, append_assoc, length-append, length-drop, add-one, subst}
-use Rattle.std.specs.List.{AllZip, slice_split, All, flat_map}
+use Rattle.std.proofs.Common.{rules, ◌≡◌, ◌≢◌, ℕ, ◌+◌, ◌<◌, ◌≤◌, Bool, true, false, List, [], ◌∷◌, ◌++◌, length, take, drop, set, slice_index_or, slice_get, get_or, map, ◌-◌, Some, inl, inr, refl, sym, ap, ◌∙◌, arith, append_assoc, length-append, length-drop, add-one, subst}
+use Rattle.std.specs.List.{AllZip, slice_split, All}
 use Rattle.std.proofs.lemmas.List.{take_more, take_more_set, take-set, append-nil, take-append-drop, length-set, get_or-take, length-take-le}
 use Rattle.std.proofs.lemmas.Grind.{get_or_default_zero}
 use Rattle.std.proofs.lemmas.Bool.{cases_eq}
@@ -16,8 +16,8 @@ use Rattle.cidr.specs.texts.Printed.{plain_text}
 use Rattle.cidr_c.proofs.NetworkLists.{networks_more}
 use Rattle.cidr_c.specs.Batches.{AreNetworks}
 use Rattle.cidr_c.specs.Values.{IsNetwork, network_in}
-use Rattle.cidr_c.specs.Codes.{no_room, parse_code}
-use Rattle.cidr_c.specs.Lines.{lines_of, is_line_feed, Says, IsInError, IsFirstLine, IsLineRead, AreLinesRead, lines_in}
+use Rattle.cidr_c.specs.Codes.{parse_code}
+use Rattle.cidr_c.specs.Lines.{lines_of, is_line_feed, Says, IsFirstLine, IsLineRead, AreLinesRead, lines_in}
 use Rattle.cidr_c.specs.declared.values.CValue.{CValue}
 
 -- the lines that are left

@@ -1,15 +1,14 @@
 -- Sets and lists of networks as C has them.
-use Rattle.std.proofs.Common.{◌≡◌, ◌≢◌, ◌↔◌, ◌⊎◌, ℕ, ◌+◌, ◌<◌, ◌≤◌, Bool, List, [], ◌∷◌, ◌++◌, length, map, take, get_or, Result, Ok, Err, inl, inr, refl, sym, ap, ◌∙◌, arith, suc, zero}
-use Rattle.std.specs.Prelude.{All, IfOk}
+use Rattle.std.proofs.Common.{◌≡◌, ◌↔◌, ◌⊎◌, ℕ, ◌+◌, ◌<◌, ◌≤◌, Bool, List, [], ◌∷◌, ◌++◌, length, map, take, get_or, Result, Ok, Err, inl, inr, refl, sym, ap, ◌∙◌, arith, suc, zero}
+use Rattle.std.specs.Prelude.{IfOk}
 use Rattle.std.proofs.lemmas.List.{take_more, map-append, length-map}
 use Rattle.std.proofs.lemmas.Simd.{map-map}
-use Rattle.std.proofs.lemmas.List.Elements.{All-append, All-cons}
+use Rattle.std.proofs.lemmas.List.Elements.{All-append}
 use Rattle.cidr.specs.either.IpNetwork.{any_bits}
 use Rattle.cidr.specs.declared.cidr.any.AnyIpCidr.{AnyIpCidr}
 use Rattle.cidr_table.specs.Cover.{Covers}
 use Rattle.cidr_sets.specs.Sets.{IsSetOf, IsUnion, IsIntersection, IsDifference, IsSymmetricDifference}
-use Rattle.cidr_c.specs.Batches.{AreNetworks, bits_in, IsLeft, IsPut, IsSetRead, AreSetsRead, IsDelivered}
-use Rattle.cidr_c.specs.Codes.{no_memory, no_room, no_value}
+use Rattle.cidr_c.specs.Batches.{AreNetworks, bits_in, IsLeft, IsPut, IsDelivered}
 use Rattle.cidr_c.specs.Values.{IsNetwork, network_in}
 use Rattle.cidr_c.specs.declared.values.CValue.{CValue}
 

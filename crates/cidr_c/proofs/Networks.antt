@@ -1,5 +1,5 @@
 -- What making a network from an address and a prefix length tells of a value.
-use Rattle.std.proofs.Common.{◌≡◌, ◌≢◌, ℕ, ◌-◌, ◌≤◌, ◌<◌, Bool, List, take, drop, Result, Ok, Err, arith, inl, inr, sym, ap}
+use Rattle.std.proofs.Common.{◌≡◌, ◌≢◌, ℕ, ◌-◌, ◌≤◌, ◌<◌, Bool, List, take, drop, Ok, Err, arith, inl, inr, ap}
 use Rattle.std.proofs.lemmas.Bool.Decides.{nat_tests}
 use Rattle.cidr.specs.laws.BitLaws.{same_bits, bit_eq_Decides}
 use Rattle.cidr.specs.model.Bits.{bits}

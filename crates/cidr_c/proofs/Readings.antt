@@ -1,5 +1,5 @@
 -- What reading a string gives, from what the library's parser says of it.
-use Rattle.std.proofs.Common.{◌≡◌, ◌≢◌, ◌↔◌, ℕ, ◌<◌, List, Result, Ok, Err, refl, arith}
+use Rattle.std.proofs.Common.{◌≡◌, ℕ, ◌<◌, List, Result, Ok, Err, refl, arith}
 use Rattle.std.specs.Prelude.{IsUtf8}
 use Rattle.cidr_c.specs.Calls.{IsRead}
 use Rattle.cidr_c.specs.declared.values.CValue.{CValue}

@@ -1,12 +1,9 @@
 -- What calls on many values return and leave.
-use Rattle.std.specs.Prelude.{◌≡◌, ◌≢◌, ◌↔◌, ◌⊎◌, ℕ, ◌^◌, ◌-◌, ◌<◌, ◌≤◌, ◌==◌, Bool, List, All, map, length, take, slice_get, Some, Result, Ok, Err}
-use Rattle.std.specs.List.{AllZip, slice_split}
+use Rattle.std.specs.Prelude.{◌≡◌, ◌≢◌, ◌⊎◌, ℕ, ◌<◌, ◌≤◌, Bool, List, All, map, length, take, Result, Ok, Err}
 use Rattle.cidr.specs.either.IpNetwork.{any_bits}
-use Rattle.cidr.specs.either.IpText.{IsAnyNetworkText, ReadsAnyNetwork}
 use Rattle.cidr.specs.declared.cidr.any.AnyIpCidr.{AnyIpCidr}
 use Rattle.cidr_table.specs.Cover.{Covers}
 use Rattle.cidr_sets.specs.Sets.{IsSetOf}
-use Rattle.cidr_c.specs.Calls.{IsAnswer}
 use Rattle.cidr_c.specs.Codes.{no_memory, no_room, no_value}
 use Rattle.cidr_c.specs.Values.{IsNetwork, network_in}
 use Rattle.cidr_c.specs.declared.values.CValue.{CValue}

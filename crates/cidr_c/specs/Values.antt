@@ -1,6 +1,6 @@
 -- Values as C has them: a number in two halves, and a tag, which tells the family and the prefix length as that of the
 -- compact bytes does.
-use Rattle.std.specs.Prelude.{◌≡◌, ℕ, ◌+◌, ◌-◌, ◌*◌, ◌^◌, ◌<◌, ◌≤◌, ◌⊎◌, ◌==◌, List, take, drop, nat_lt, if◌then◌else◌}
+use Rattle.std.specs.Prelude.{◌≡◌, ℕ, ◌+◌, ◌-◌, ◌*◌, ◌^◌, ◌<◌, ◌≤◌, ◌⊎◌, ◌==◌, take, drop, nat_lt, if◌then◌else◌}
 use Rattle.cidr.specs.model.Bits.{bits}
 use Rattle.cidr.specs.model.Network.{zeros}
 use Rattle.cidr.specs.model.Host.{host_of}

@@ -71,8 +71,8 @@ fn deliver(
     OK
 }
 
-/// The addresses that one of two lists of networks has, or both, as a set in a room, of which `count` becomes the number of networks; where there is too little room, it becomes
-/// how many are needed.
+/// The addresses that one of two lists of networks has, or both, as a set in a room, of which `count` becomes the
+/// number of networks; where there is too little room, it becomes how many are needed.
 #[unsafe(no_mangle)]
 pub extern "C" fn pcidr_union(
     alloc: Global,
@@ -90,8 +90,8 @@ pub extern "C" fn pcidr_union(
     }
 }
 
-/// The addresses that both of two lists of networks have, as a set in a room, of which `count` becomes the number of networks; where there is too little room, it becomes
-/// how many are needed.
+/// The addresses that both of two lists of networks have, as a set in a room, of which `count` becomes the number of
+/// networks; where there is too little room, it becomes how many are needed.
 #[unsafe(no_mangle)]
 pub extern "C" fn pcidr_intersection(
     alloc: Global,
@@ -109,8 +109,8 @@ pub extern "C" fn pcidr_intersection(
     }
 }
 
-/// The addresses that the first of two lists of networks has and the second has not, as a set in a room, of which `count` becomes the number of networks; where there is too little room, it becomes
-/// how many are needed.
+/// The addresses that the first of two lists of networks has and the second has not, as a set in a room, of which
+/// `count` becomes the number of networks; where there is too little room, it becomes how many are needed.
 #[unsafe(no_mangle)]
 pub extern "C" fn pcidr_difference(
     alloc: Global,
@@ -128,8 +128,8 @@ pub extern "C" fn pcidr_difference(
     }
 }
 
-/// The addresses that exactly one of two lists of networks has, as a set in a room, of which `count` becomes the number of networks; where there is too little room, it becomes
-/// how many are needed.
+/// The addresses that exactly one of two lists of networks has, as a set in a room, of which `count` becomes the number
+/// of networks; where there is too little room, it becomes how many are needed.
 #[unsafe(no_mangle)]
 pub extern "C" fn pcidr_symmetric_difference(
     alloc: Global,

@@ -1,5 +1,5 @@
 use Rattle.std.proofs.Common.{Bool, subst}
-use Rattle.cidr_c.proofs.LineSteps.{AreSoFar, one_more, stopped, all_read}
+use Rattle.cidr_c.proofs.LineSteps.{AreSoFar, one_more, stopped}
 use Rattle.cidr_c.proofs.lines.pcidr_read_lines.Goals as goal
 
 pub returns-then-code-ne-OK : goal.returns-then-code-ne-OK

@@ -1,4 +1,4 @@
-use Rattle.std.proofs.Common.{◌≡◌, ◌∙◌, ◌++◌, ◌∷◌, [], List, ℕ, arith, length, take, ap, ◌+◌, ◌<◌}
+use Rattle.std.proofs.Common.{◌∙◌, ◌++◌, ◌∷◌, [], List, ℕ, arith, length, take, ap, ◌+◌, ◌<◌}
 use Rattle.cidr_c.proofs.LineSteps.{line_put}
 use Rattle.cidr_c.proofs.lines.print_line.Goals as goal
 

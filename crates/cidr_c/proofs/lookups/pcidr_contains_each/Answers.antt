@@ -1,4 +1,4 @@
-use Rattle.std.proofs.Common.{◌≡◌, ◌<◌, ◌∙◌, ℕ, List, Bool, length, map, arith, subst}
+use Rattle.std.proofs.Common.{◌<◌, ◌∙◌, ℕ, length, map, arith, subst}
 use Rattle.std.proofs.lemmas.List.{length-set}
 use Rattle.cidr.specs.either.IpNetwork.{any_bits}
 use Rattle.cidr.specs.declared.cidr.any.AnyIpCidr.{AnyIpCidr}

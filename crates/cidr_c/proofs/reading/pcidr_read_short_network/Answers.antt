@@ -11,9 +11,13 @@ use Rattle.cidr_c.proofs.reading.pcidr_read_short_network.Goals as goal
 pub returns-in-Err : goal.returns-in-Err
 returns-in-Err c =
     let told = c.in-Ok.ensures.cases in
-    read_error (ReadsAny (ReadsShort (Reads IsShortIpText (parse_error.AddrParseError ip_error)) ReadsIpNetwork)) parse_code IsNetwork network_in c.args.text.now c.in-Ok.text.now told.1 told.0 c.args.out.now c.in-Err.e c.parse_code.result c.parse_code.ensures.value c.parse_code.ensures.above c.in-Err.ensures
+    read_error (ReadsAny (ReadsShort (Reads IsShortIpText (parse_error.AddrParseError ip_error)) ReadsIpNetwork)) parse_code IsNetwork network_in
+    c.args.text.now c.in-Ok.text.now told.1 told.0 c.args.out.now c.in-Err.e c.parse_code.result c.parse_code.ensures.value
+    c.parse_code.ensures.above c.in-Err.ensures
 
 pub returns-in-Ok-parse_short_any_ip_cidr : goal.returns-in-Ok-parse_short_any_ip_cidr
 returns-in-Ok-parse_short_any_ip_cidr c =
     let told = c.in-Ok.ensures.cases in
-    read_value (ReadsAny (ReadsShort (Reads IsShortIpText (parse_error.AddrParseError ip_error)) ReadsIpNetwork)) parse_code IsNetwork network_in c.args.text.now c.in-Ok.text.now told.1 told.0 c.args.out.now c.network_value.result c.in-Ok-parse_short_any_ip_cidr.network c.network_value.ensures.is_network c.network_value.ensures.network c.in-Ok-parse_short_any_ip_cidr.ensures
+    read_value (ReadsAny (ReadsShort (Reads IsShortIpText (parse_error.AddrParseError ip_error)) ReadsIpNetwork)) parse_code IsNetwork network_in
+    c.args.text.now c.in-Ok.text.now told.1 told.0 c.args.out.now c.network_value.result c.in-Ok-parse_short_any_ip_cidr.network
+    c.network_value.ensures.is_network c.network_value.ensures.network c.in-Ok-parse_short_any_ip_cidr.ensures
