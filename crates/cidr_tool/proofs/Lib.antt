@@ -1,4 +1,3 @@
 pub mod Reading
-pub mod Chains
 pub mod Letters
 pub mod Words

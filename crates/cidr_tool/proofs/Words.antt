@@ -1,5 +1,5 @@
 -- Words that are a command and its arguments, and the lines of an answer.
-use Rattle.std.proofs.Common.{◌≡◌, ℕ, List, [], ◌∷◌, length, get_or, map, Bor, nat_eq, refl, sym, arith, true, codes, ◌++◌, append_assoc}
+use Rattle.std.proofs.Common.{◌≡◌, ℕ, List, [], ◌∷◌, length, get_or, map, Bor, nat_eq, refl, sym, arith, true, false, Bool, IsTrue, ◌↔◌, ◌⊎◌, inl, inr, if◌then◌else◌, codes, ◌++◌, append_assoc}
 use Rattle.std.proofs.lemmas.Bool.Decides.{Decides-eqb}
 use Rattle.std.specs.Cmp.Lexicographic.{pointwise_decides}
 use Rattle.cidr_tool.specs.Answer.{line, show_lines}
@@ -35,3 +35,8 @@ pub lines_appended : (network first last mask len family : List ℕ)
 unfolding show_lines
 lines_appended network first last mask len family =
     six (line (codes "network ") network) (line (codes "first ") first) (line (codes "last ") last) (line (codes "mask ") mask) (line (codes "length ") len) (line (codes "family ") family)
+
+-- the answer to a question
+pub yes_or_no : (b : Bool) (P : Type 0) (agree deny text : List ℕ) → (IsTrue b ↔ P) → text ≡ (if b then agree else deny) → (P × (text ≡ agree)) ⊎ (¬ P × (text ≡ deny))
+yes_or_no true P agree deny text h e = inl (h.0 refl, e)
+yes_or_no false P agree deny text h e = inr ((λ p. let bad : false ≡ true = h.1 p in cc), e)

@@ -24,7 +24,8 @@ use Rattle.cidr.specs.declared.cidr.any.AnyIpCidr.{AnyIpCidr}
 use Rattle.cidr.specs.declared.errors.NetworkParseError.{NetworkParseError}
 use Rattle.cidr.specs.declared.inet_iterator.driving.End.{End}
 use Rattle.cidr_tool.specs.Walking.{NamesEnds, walk_text}
-use Rattle.cidr_tool.specs.Writing.{State, Answered}
+use Rattle.cidr_io.specs.Writing.{State}
+use Rattle.cidr_tool.specs.Writing.{Answered}
 use Rattle.cidr_tool.specs.declared.errors.Fault.{Fault}
 use Rattle.cidr_tool.specs.declared.errors.Fault.TheVariants.{Network, Address}
 use Rattle.cidr_tool.specs.declared.errors.ToolError.{ToolError}

@@ -1,5 +1,4 @@
 pub mod Writing
-pub mod Tracked
 pub mod Answer
 pub mod Command
 pub mod Report

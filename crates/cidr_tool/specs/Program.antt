@@ -2,8 +2,8 @@
 use Rattle.std.specs.Prelude.{◌≡◌, ℕ, Bool, true, List, Option, Result, Err, ◌⊎◌}
 use Rattle.cidr_tool.specs.Answer.{Answers}
 use Rattle.cidr_tool.specs.Arguments.{AreArguments, AreUnreadable}
-use Rattle.cidr_tool.specs.Report.{Reports, Says, status_of, no_memory_line}
-use Rattle.cidr_tool.specs.Writing.{State}
+use Rattle.cidr_io.specs.Writing.{State, Says}
+use Rattle.cidr_tool.specs.Report.{Reports, status_of, no_memory_line}
 use Rattle.cidr_tool.specs.declared.errors.ToolError.{ToolError}
 use Rattle.cidr_tool.specs.declared.errors.ToolError.TheVariants.{Usage}
 

@@ -1,7 +1,7 @@
 -- The exit statuses, and what is written to standard error.
 use Rattle.std.specs.Prelude.{◌≡◌, ℕ, List, ◌++◌, codes, Result, Ok, Err}
 use Rattle.cidr.specs.texts.Messages.{parse_message, address_message}
-use Rattle.cidr_tool.specs.Writing.{State, Answered}
+use Rattle.cidr_io.specs.Writing.{State, Says}
 use Rattle.cidr_tool.specs.declared.errors.Fault.{Fault}
 use Rattle.cidr_tool.specs.declared.errors.Fault.TheVariants.{Network, Address}
 use Rattle.cidr_tool.specs.declared.errors.ToolError.{ToolError}
@@ -18,10 +18,6 @@ status_of (Ok _) = 0
 status_of (Err (Refused fault)) = 1
 status_of (Err Usage) = 2
 status_of (Err Output) = 3
-
--- a line was written whole and flushed, or the sink has failed and a beginning of the line was written, none if it had failed before
-abbrev pub Says : State → State → List ℕ → Type 0
-Says old new line = (r : Result (Unit {0}) ToolError) × Answered old new line r
 
 -- the line for arguments that are no command
 abbrev pub usage_line : List ℕ

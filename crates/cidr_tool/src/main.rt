@@ -8,16 +8,15 @@ mod memory;
 mod program;
 mod report;
 mod run;
-mod sink;
 #[cfg(test)]
 mod tests;
 mod walks;
 mod writing;
 
 use arguments::Given;
+use cidr_io::sink::Tracked;
 use memory::Heap;
 use program::program;
-use sink::Tracked;
 use std::process::ExitCode;
 
 fn main(rt: HostRuntime) -> ExitCode {

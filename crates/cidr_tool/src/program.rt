@@ -7,7 +7,7 @@ use crate::errors::ToolError;
 use crate::memory::Memory;
 use crate::report::{report, report_no_memory};
 use crate::run::run;
-use crate::sink::Sink;
+use cidr_io::sink::Sink;
 use std::alloc::AllocError;
 
 /// Answers the arguments. An argument that is not UTF-8 is usage.

@@ -1,11 +1,12 @@
 //! The exit status, and what is written to standard error.
 ghost use Rattle.std.specs.Prelude.{◌≡◌};
-ghost use Rattle.cidr_tool.specs.Report.{Reports, Says, status_of, refusal_line, no_memory_line};
+ghost use Rattle.cidr_io.specs.Writing.{Says};
+ghost use Rattle.cidr_tool.specs.Report.{Reports, status_of, refusal_line, no_memory_line};
 
 use crate::errors::{Fault, ToolError};
-use crate::sink::Sink;
-use crate::writing::write_text;
 use arrayvec::ArrayString;
+use cidr_io::sink::Sink;
+use cidr_io::writing::say;
 
 const USAGE: &str =
     "usage: cidr_tool show NET | in NET ADDR | cmp NET NET | walk NET ENDS | bytes NET | loose TEXT\n";
@@ -26,11 +27,11 @@ fn refused_line(fault: &Fault) -> ArrayString<MOST_LINE>
     line
 }
 
-/// Writes a line, as far as the sink takes it.
-fn say<E: Sink>(err: &mut E, line: &str)
-    ensures { Says (E.state err.old) (E.state err.new) line.now }
+/// Writes the line of a refusal, as far as the sink takes it.
+fn say_refused<E: Sink>(err: &mut E, fault: &Fault)
+    ensures { Says (E.state err.old) (E.state err.new) (refusal_line fault.now) }
 {
-    let _ = write_text(err, line);
+    say(err, refused_line(fault).as_str());
 }
 
 /// Writes the line that belongs to an answer, if there is one, and returns the exit status whatever the sink does:
@@ -42,7 +43,7 @@ pub fn report<E: Sink>(answer: &Result<(), ToolError>, err: &mut E) -> u8
     match answer {
         Ok(()) => 0,
         Err(ToolError::Refused(fault)) => {
-            say(err, refused_line(fault).as_str());
+            say_refused(err, fault);
             1
         }
         Err(ToolError::Usage) => {

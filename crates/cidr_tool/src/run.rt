@@ -8,12 +8,12 @@ ghost use Rattle.cidr_tool.specs.Answer.{Answers, AnswersRequest, Show, Holds, C
 
 use crate::commands::{Command, command_of};
 use crate::errors::ToolError;
-use crate::sink::Sink;
 use crate::walks::{Ends, write_walk};
 use crate::writing::write_text;
 use arrayvec::ArrayString;
 use cidr::parsers::parse_loose_ip;
 use cidr::{AnyIpCidr, Family, IpAddr, IpCidr};
+use cidr_io::sink::Sink;
 use std::cmp::Ordering;
 
 /// The number in decimal.

@@ -8,10 +8,10 @@ ghost use Rattle.cidr_tool.specs.Writing.{Answered};
 ghost use Rattle.cidr.specs.declared.inet_iterator.driving.End.{End as AnEnd};
 
 use crate::errors::ToolError;
-use crate::sink::Sink;
 use crate::writing::write_text;
 use arrayvec::ArrayString;
 use cidr::{End, IpAddr, IpCidr, drive};
+use cidr_io::sink::Sink;
 use std::marker::Model;
 
 /// The most ends that an argument names.

@@ -1,5 +1,5 @@
 //! Arguments and writers in memory.
-use crate::sink::Tracked;
+use cidr_io::sink::Tracked;
 use std::alloc::{AllocError, Global};
 use std::env::{Env, FillError};
 use std::io;

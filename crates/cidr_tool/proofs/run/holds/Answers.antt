@@ -1,5 +1,5 @@
 use Rattle.std.proofs.Common.{inr}
-use Rattle.cidr_tool.proofs.Chains.{yes_or_no}
+use Rattle.cidr_tool.proofs.Words.{yes_or_no}
 use Rattle.cidr_tool.proofs.run.holds.Goals as goal
 
 pub returns : goal.returns
