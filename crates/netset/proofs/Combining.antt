@@ -1,19 +1,21 @@
 -- Sets put together, and the lists that they stand for.
-use Rattle.std.proofs.Common.{◌≡◌, ◌↔◌, refl, sym, ◌∙◌, ap, subst, inl, inr, ℕ, ◌+◌, ◌<◌, ◌≤◌, List, Bool, [], ◌∷◌, ◌++◌, length, take, get_or, map, true, false, Option, Result}
+use Rattle.std.proofs.Common.{◌≡◌, ◌↔◌, refl, sym, ◌∙◌, ap, subst, inl, inr, ℕ, ◌+◌, ◌<◌, ◌≤◌, List, Bool, [], ◌∷◌, ◌++◌, length, take, get_or, map, true, false, Option, Result, ◌^◌, Some, None, MatchOption, decimal, lit≤, lit<}
 use Rattle.std.specs.List.{AllZip}
+use Rattle.std.proofs.lemmas.Fmt.{decimal_step_wide}
 use Rattle.std.proofs.lemmas.List.{take_more, take_all, map-id}
 use Rattle.cidr.specs.model.Network.{BeginsWith}
 use Rattle.cidr.specs.declared.cidr.combined.IpCidr.{IpCidr}
 use Rattle.cidr.specs.declared.family.Family.{Family}
 use Rattle.cidr_table.specs.Cover.{Covers, IsReduced}
+use Rattle.cidr_sets.specs.Counts.{HaveCount}
 use Rattle.cidr_sets.specs.Sets.{IsComplement, IsSetOf}
-use Rattle.cidr_io.specs.Writing.{State, Answered}
+use Rattle.cidr_io.specs.Writing.{State}
 use Rattle.cidr_io.specs.declared.sink.OutputFailed.{OutputFailed}
 use Rattle.netset.specs.Answering.{AreRead, HasAddresses}
-use Rattle.netset.specs.Combining.{Combined, IsMade, Steps, Turned, step_of, turns}
+use Rattle.netset.specs.Combining.{Combined, IsMade, Steps, Turned, counts, step_of, turns}
 use Rattle.netset.specs.Commands.{Lists, Says, read_files}
 use Rattle.netset.specs.Program.{AnswersRequest, by_output}
-use Rattle.netset.specs.Sets.{Held, held, printed_sets}
+use Rattle.netset.specs.Sets.{Held, Prints, count_of, held}
 use Rattle.netset.specs.declared.answers.Verdict.{Verdict}
 use Rattle.netset.specs.declared.answers.Verdict.TheVariants.{Yes}
 use Rattle.netset.specs.declared.errors.CommandError.{CommandError}
@@ -75,22 +77,33 @@ set_same P Q networks set f = record {
 -- what is made of the sets is what is made of the lists
 pub lists_written : (told : List ℕ → Option (List ℕ)) (operation : Operation) (files : List (List ℕ)) (read : List Sets) (sets : Sets) (s t : State)
     (w : Result (Unit {0}) OutputFailed) (r : Result Verdict CommandError) → AreRead told (read_files files) read
-    → ((family : Family) → IsSetOf 129 (IsMade Held operation read family) (held sets family)) → Answered s t (printed_sets (held sets)) w → r ≡ by_output Yes w
-    → AnswersRequest told (Lists operation files) s t r
-lists_written told operation files read sets s t w r are made written is =
+    → ((family : Family) → IsSetOf 129 (IsMade Held operation read family) (held sets family)) → Prints (counts operation) s t (held sets) w
+    → r ≡ by_output Yes w → AnswersRequest told (Lists operation files) s t r
+lists_written told operation files read sets s t w r are made (text, printed, written) is =
     inr (
-      printed_sets (held sets),
+      text,
       Yes,
       w,
       (
         λ texts told_so.
             let (said, says, has) = are texts told_so in
-            (said, says, (held sets, (λ family. set_same _ _ (held sets family) (made family) (λ a wide. made_same Held Says operation read said family a (has_same said read family a wide has))), refl)),
+            (said, says, (held sets, (λ family. set_same _ _ (held sets family) (made family) (λ a wide. made_same Held Says operation read said family a (has_same said read family a wide has))), printed)),
         refl,
       ),
       written,
       is,
     )
+
+-- 2^128 in decimal
+pub last_digit : decimal (2 ^ 128) ≡ decimal 34028236692093846346337460743176821145 ++ 54 ∷ []
+last_digit = decimal_step_wide (2 ^ 128) (lit≤ tt) (lit< tt)
+
+-- how many addresses a set has
+pub have_count : (width : ℕ) (networks : List (List Bool)) (count : Option ℕ)
+    → MatchOption count (HaveCount width (map (λ (x : List Bool). x) networks) (2 ^ 128)) (HaveCount width (map (λ (x : List Bool). x) networks))
+    → HaveCount width networks (count_of count)
+have_count width networks None h = rw (map-id networks) at h
+have_count width networks (Some count) h = rw (map-id networks) at h
 
 -- ---- one set after the other
 combined_more : (step : Step) (P : Type 0) (xs : List Sets) (x : Sets) (family : Family) (a : List Bool)

@@ -5,7 +5,7 @@ set -euo pipefail
 export LC_ALL=C
 cd "$(dirname "$0")/.."
 
-usage=$'usage: netset merge|nets|not [FILE..] | minus|and A B.. | --help | --version\n'
+usage=$'usage: netset merge|nets|not|count [FILE..] | minus|and A B.. | --help | --version\n'
 
 room=$(mktemp -d)
 trap 'rm -rf "$room"' EXIT
@@ -61,6 +61,10 @@ rows() {
     run 0 '' '' '0.0.0.0/0' not - eight seven
     run 2 '' $'bad:1: couldn\'t parse length in network: invalid length text\n' '' minus ten bad missing
     run 2 '' $'missing: cannot be read\n' '' and ten missing bad
+    run 0 $'Ipv4 0\nIpv6 0\n' '' '' count
+    run 0 $'Ipv4 257\nIpv6 1\n' '' '10.0.0.1\n10.0.1.0/24\n10.0.1.7\n::1' count
+    run 0 $'Ipv4 4294967296\nIpv6 340282366920938463463374607431768211456\n' '' '0.0.0.0/0\n::/0' count
+    run 2 '' $'-:1: not UTF-8\n' '\xff' count
     run 2 '' "$usage" '' minus
     run 2 '' "$usage" '' minus ten
     run 2 '' "$usage" '' and ten

@@ -2,7 +2,7 @@
 use Rattle.std.specs.Prelude.{ℕ, Bool, true, false, nat_lt, List, [], ◌∷◌, ◌⊎◌, codes}
 use Rattle.cidr.specs.declared.family.Family.{Family}
 use Rattle.netset.specs.declared.operations.Operation.{Operation}
-use Rattle.netset.specs.declared.operations.Operation.TheVariants.{Merge, Nets, Minus, And, Not}
+use Rattle.netset.specs.declared.operations.Operation.TheVariants.{Merge, Nets, Minus, And, Not, Count}
 use Rattle.netset.specs.declared.operations.Step.{Step}
 use Rattle.netset.specs.declared.operations.Step.TheVariants.{Union, Difference, Intersection}
 
@@ -13,6 +13,7 @@ name_of Nets = codes "nets"
 name_of Minus = codes "minus"
 name_of And = codes "and"
 name_of Not = codes "not"
+name_of Count = codes "count"
 
 -- whether it takes so many files: minus and and take two or more
 abbrev pub takes : Operation → ℕ → Bool
@@ -21,6 +22,7 @@ takes Nets count = true
 takes Minus count = nat_lt 1 count
 takes And count = nat_lt 1 count
 takes Not count = true
+takes Count count = true
 
 -- what each further list does
 abbrev pub step_of : Operation → Step
@@ -29,6 +31,7 @@ step_of Nets = Union
 step_of Minus = Difference
 step_of And = Intersection
 step_of Not = Union
+step_of Count = Union
 
 -- whether an address is there after a step, by whether it was there before and whether the list has it
 abbrev pub Steps : Step → Type 0 → Type 0 → Type 0
@@ -48,6 +51,7 @@ turns Nets = false
 turns Minus = false
 turns And = false
 turns Not = true
+turns Count = false
 
 -- there, or not
 abbrev pub Turned : Bool → Type 0 → Type 0
@@ -58,3 +62,12 @@ Turned true Here = ¬ Here
 abbrev pub IsMade : {X : Type 0} → (X → Family → List Bool → Type 0) → Operation → List X → Family → List Bool → Type 0
 IsMade In operation [] family a = ⊥
 IsMade In operation (x ∷ xs) family a = Turned (turns operation) (Combined In (step_of operation) (In x family a) xs family a)
+
+-- whether it writes how many addresses they are, and not the addresses
+abbrev pub counts : Operation → Bool
+counts Merge = false
+counts Nets = false
+counts Minus = false
+counts And = false
+counts Not = false
+counts Count = true

@@ -6,9 +6,9 @@ use Rattle.cidr.specs.declared.family.Family.{Family}
 use Rattle.cidr_table.specs.Cover.{Covers}
 use Rattle.cidr_sets.specs.Sets.{IsSetOf}
 use Rattle.netset.specs.Lists.{ListSays, networks_in}
-use Rattle.netset.specs.Combining.{name_of, takes, IsMade}
+use Rattle.netset.specs.Combining.{counts, name_of, takes, IsMade}
 use Rattle.netset.specs.declared.operations.Operation.{Operation}
-use Rattle.netset.specs.Sets.{printed_sets}
+use Rattle.netset.specs.Sets.{IsPrinted}
 use Rattle.netset.specs.declared.answers.Verdict.{Verdict}
 use Rattle.netset.specs.declared.answers.Verdict.TheVariants.{Yes}
 
@@ -42,10 +42,10 @@ read_files (file ∷ files) = file ∷ files
 abbrev pub AreTold : (List ℕ → Option (List ℕ)) → List (List ℕ) → List (List ℕ) → Type 0
 AreTold told names texts = AllZip (λ name text. told name ≡ Some text) names texts
 
--- the shortest list of networks of each family that has these addresses, as it is printed
-abbrev pub IsListOf : (Family → List Bool → Type 0) → List ℕ → Type 0
-IsListOf IsIn text =
-    (sets : Family → List (List Bool)) × ((family : Family) → IsSetOf 129 (IsIn family) (sets family)) × (text ≡ printed_sets sets)
+-- what is printed of the shortest list of networks of each family that has these addresses: the list, or how many they are
+abbrev pub IsPrintOf : Bool → (Family → List Bool → Type 0) → List ℕ → Type 0
+IsPrintOf counting IsIn text =
+    (sets : Family → List (List Bool)) × ((family : Family) → IsSetOf 129 (IsIn family) (sets family)) × IsPrinted counting sets text
 
 -- the address is in one of the networks that a list says
 abbrev pub Says : List (Option IpCidr) → Family → List Bool → Type 0
@@ -54,7 +54,7 @@ Says said family a = Covers (networks_in family said) a
 -- what the operation makes of the lists
 abbrev pub IsMadeOf : Operation → List (List ℕ) → List ℕ → Type 0
 IsMadeOf operation texts answer =
-    (said : List (List (Option IpCidr))) × AllZip ListSays texts said × IsListOf (IsMade Says operation said) answer
+    (said : List (List (Option IpCidr))) × AllZip ListSays texts said × IsPrintOf (counts operation) (IsMade Says operation said) answer
 
 -- what `--help` writes
 abbrev pub help_text : List ℕ
@@ -64,6 +64,7 @@ help_text =
     ++ codes "netset minus A B..      the addresses of A that no other list has\n"
     ++ codes "netset and A B..        the addresses that each of the lists has\n"
     ++ codes "netset not [FILE..]     the addresses of IPv4 and those of IPv6 that no list has\n"
+    ++ codes "netset count [FILE..]   how many addresses of IPv4 and of IPv6 the lists have\n"
     ++ codes "netset --help           this page\n"
     ++ codes "netset --version        the version\n"
     ++ codes "\n"

@@ -60,7 +60,7 @@ line_message (NoNetwork e) = parse_message e
 
 -- the line that is written to standard error
 abbrev pub error_line : CommandError → List ℕ
-error_line error.Usage = codes "usage: netset merge|nets|not [FILE..] | minus|and A B.. | --help | --version\n"
+error_line error.Usage = codes "usage: netset merge|nets|not|count [FILE..] | minus|and A B.. | --help | --version\n"
 error_line (error.Line name number e) =
     name.now ++ (codes ":" ++ (decimal number ++ (codes ": " ++ (line_message e ++ codes "\n"))))
 error_line (error.Input name) = name.now ++ codes ": cannot be read\n"

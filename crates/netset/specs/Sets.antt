@@ -1,11 +1,15 @@
 -- Sets of addresses of both families, and how they are written.
-use Rattle.std.specs.Prelude.{ℕ, Bool, List, ◌++◌}
+use Rattle.std.specs.Prelude.{ℕ, Bool, List, ◌++◌, ◌≡◌, ◌^◌, true, false, codes, decimal, Option, Some, None, Result}
 use Rattle.std.specs.List.{flat_map}
 use Rattle.cidr.specs.texts.Printed.{plain_text}
 use Rattle.cidr.specs.declared.family.Family.{Family}
 use Rattle.cidr.specs.declared.family.Family.TheVariants.{Ipv4, Ipv6}
 use Rattle.cidr_table.specs.Cover.{Covers}
 use Rattle.netset.specs.Printing.{line}
+use Rattle.cidr.specs.model.Network.{width_of}
+use Rattle.cidr_io.specs.Writing.{State, Answered}
+use Rattle.cidr_io.specs.declared.sink.OutputFailed.{OutputFailed}
+use Rattle.cidr_sets.specs.Counts.{HaveCount}
 use Rattle.netset.specs.declared.sets.Sets.{Sets}
 
 -- the networks of a family, one a line, in their order
@@ -24,3 +28,26 @@ held sets Ipv6 = sets.v6
 -- the address is in the set of its family
 abbrev pub Held : Sets → Family → List Bool → Type 0
 Held sets family a = Covers (held sets family) a
+
+-- how many addresses of each family, a line each
+abbrev pub printed_counts : (Family → ℕ) → List ℕ
+printed_counts count = codes "Ipv4 " ++ (decimal (count Ipv4) ++ (codes "\nIpv6 " ++ (decimal (count Ipv6) ++ codes "\n")))
+
+-- the sets have so many addresses of each family
+abbrev pub HaveCounts : (Family → List (List Bool)) → (Family → ℕ) → Type 0
+HaveCounts sets count = (family : Family) → HaveCount (width_of family) (sets family) (count family)
+
+-- what is printed of sets: their networks, or how many addresses they have
+abbrev pub IsPrinted : Bool → (Family → List (List Bool)) → List ℕ → Type 0
+IsPrinted false sets text = text ≡ printed_sets sets
+IsPrinted true sets text = (count : Family → ℕ) × HaveCounts sets count × (text ≡ printed_counts count)
+
+-- ---- what private functions promise
+-- all of IPv6 has more addresses than a `u128` has room for
+abbrev pub count_of : Option ℕ → ℕ
+count_of None = 2 ^ 128
+count_of (Some count) = count
+
+-- what is printed of sets is written
+abbrev pub Prints : Bool → State → State → (Family → List (List Bool)) → Result (Unit {0}) OutputFailed → Type 0
+Prints counting old new sets r = (text : List ℕ) × IsPrinted counting sets text × Answered old new text r

@@ -1,6 +1,6 @@
 //! What is made of lists.
 ghost use Rattle.std.specs.Prelude.{◌≡◌, ◌≢◌, MatchOption};
-ghost use Rattle.netset.specs.Combining.{name_of, step_of, takes, turns};
+ghost use Rattle.netset.specs.Combining.{counts, name_of, step_of, takes, turns};
 ghost use Rattle.netset.specs.declared.operations.Operation.{Operation};
 
 /// What is made of the addresses of lists.
@@ -16,6 +16,8 @@ pub enum Operation {
     And,
     /// Those of each family that no list has.
     Not,
+    /// The number of the addresses of all lists.
+    Count,
 }
 
 /// What a further list does to the addresses of those before.
@@ -45,6 +47,9 @@ pub fn operation_of(name: &str) -> Option<Operation>
     if name == "not" {
         return Some(Operation::Not);
     }
+    if name == "count" {
+        return Some(Operation::Count);
+    }
     None
 }
 
@@ -53,7 +58,7 @@ pub fn takes(operation: Operation, count: usize) -> bool
     ensures { result ≡ takes operation count }
 {
     match operation {
-        Operation::Merge | Operation::Nets | Operation::Not => true,
+        Operation::Merge | Operation::Nets | Operation::Not | Operation::Count => true,
         Operation::Minus | Operation::And => count > 1,
     }
 }
@@ -65,12 +70,19 @@ pub fn turns(operation: Operation) -> bool
     operation == Operation::Not
 }
 
+/// Whether it writes how many addresses they are.
+pub fn counts(operation: Operation) -> bool
+    ensures { result ≡ counts operation }
+{
+    operation == Operation::Count
+}
+
 /// What each list after the first does.
 pub fn step_of(operation: Operation) -> Step
     ensures { result ≡ step_of operation }
 {
     match operation {
-        Operation::Merge | Operation::Nets | Operation::Not => Step::Union,
+        Operation::Merge | Operation::Nets | Operation::Not | Operation::Count => Step::Union,
         Operation::Minus => Step::Difference,
         Operation::And => Step::Intersection,
     }

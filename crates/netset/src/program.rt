@@ -1,7 +1,9 @@
 //! A run of the program, from its arguments to its exit status.
 ghost use Rattle.std.specs.Prelude.{◌≡◌, map};
 ghost use Rattle.std.specs.String.{string_bytes};
+ghost use Rattle.netset.specs.Combining.{counts};
 ghost use Rattle.netset.specs.Commands.{Lists};
+ghost use Rattle.netset.specs.Sets.{Prints, held};
 ghost use Rattle.netset.specs.Answering.{AnswersTexts};
 ghost use Rattle.netset.specs.Program.{Answers, AnswersRequest, Runs};
 
@@ -10,19 +12,30 @@ use crate::combine::made;
 use crate::commands::{Command, command_of};
 use crate::errors::CommandError;
 use crate::files::Sources;
-use crate::operations::Operation;
+use crate::operations::{Operation, counts};
 use crate::report::report;
+use crate::sets::Sets;
 use crate::several::read_several;
 use cidr_io::arguments::{Arguments, ReadError as Unreadable, borrowed, texts_of};
-use cidr_io::sink::Sink;
+use cidr_io::sink::{OutputFailed, Sink};
 use cidr_io::writing::write_text;
 use std::alloc::Global;
 
 /// The page of the commands.
 const HELP: &str =
-    "netset merge [FILE..]   the shortest list of networks that has the addresses of all the lists\nnetset nets [FILE..]    the same\nnetset minus A B..      the addresses of A that no other list has\nnetset and A B..        the addresses that each of the lists has\nnetset not [FILE..]     the addresses of IPv4 and those of IPv6 that no list has\nnetset --help           this page\nnetset --version        the version\n\nA line of a list is a network or an address, and may end in a comment from # or ; on. The\nfile - is the standard input, which is also read where no file is named.\nStatus: 0 done, 2 usage, a file that cannot be read or a line in error, 3 output or memory.\n";
+    "netset merge [FILE..]   the shortest list of networks that has the addresses of all the lists\nnetset nets [FILE..]    the same\nnetset minus A B..      the addresses of A that no other list has\nnetset and A B..        the addresses that each of the lists has\nnetset not [FILE..]     the addresses of IPv4 and those of IPv6 that no list has\nnetset count [FILE..]   how many addresses of IPv4 and of IPv6 the lists have\nnetset --help           this page\nnetset --version        the version\n\nA line of a list is a network or an address, and may end in a comment from # or ; on. The\nfile - is the standard input, which is also read where no file is named.\nStatus: 0 done, 2 usage, a file that cannot be read or a line in error, 3 output or memory.\n";
 
 const VERSION: &str = "netset 0.1.0\n";
+
+/// Writes what an operation has made: the networks, or how many addresses they have.
+fn write_made<O: Sink>(operation: Operation, sets: &Sets, out: &mut O) -> Result<(), OutputFailed>
+    ensures { Prints (counts operation) (O.state out.old) (O.state out.new) (held sets.now) result }
+{
+    if counts(operation) {
+        return sets.write_counts(out);
+    }
+    sets.write(out)
+}
 
 /// What an operation makes of the lists of some files.
 fn lists<'a, F: Sources, O: Sink>(
@@ -36,7 +49,7 @@ fn lists<'a, F: Sources, O: Sink>(
 {
     let several = read_several(alloc, sources, files)?;
     let sets = made(operation, several)?;
-    by_output(Verdict::Yes, sets.write(out))
+    by_output(Verdict::Yes, write_made(operation, &sets, out))
 }
 
 /// Answers the program's arguments, which come without its name.

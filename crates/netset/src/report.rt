@@ -12,7 +12,7 @@ use cidr_io::writing::{flush, write_all};
 use itoa::Buffer;
 
 const USAGE: &str =
-    "usage: netset merge|nets|not [FILE..] | minus|and A B.. | --help | --version\n";
+    "usage: netset merge|nets|not|count [FILE..] | minus|and A B.. | --help | --version\n";
 
 /// The longest message of an error.
 const MOST_MESSAGE: usize = 99;
@@ -42,7 +42,7 @@ fn write_parts<S: Sink>(out: &mut S, parts: &[&str]) -> Result<(), OutputFailed>
 }
 
 /// Writes a line of several parts, and flushes. A sink that has failed before gets nothing.
-fn write_line<S: Sink>(out: &mut S, parts: &[&str]) -> Result<(), OutputFailed>
+pub fn write_line<S: Sink>(out: &mut S, parts: &[&str]) -> Result<(), OutputFailed>
     ensures { Answered (S.state out.old) (S.state out.new) (flat_map (λ part. part.now) parts.now) result }
 {
     if out.failed() {

@@ -1,18 +1,21 @@
 //! The addresses of lists as sets, and sets as lists.
-ghost use Rattle.std.specs.Prelude.{IfOk};
+ghost use Rattle.std.specs.Prelude.{◌≡◌, ◌^◌, decimal, true, IfOk};
 ghost use Rattle.cidr.specs.declared.family.Family.{Family};
 ghost use Rattle.cidr_io.specs.Writing.{Answered};
 ghost use Rattle.cidr_table.specs.Cover.{Covers};
 ghost use Rattle.cidr_sets.specs.Sets.{IsSetOf};
 ghost use Rattle.netset.specs.Reading.{listed};
-ghost use Rattle.netset.specs.Sets.{held, printed_sets};
+ghost use Rattle.netset.specs.Sets.{Prints, count_of, held, printed_sets};
 
 use crate::lists::Lists;
 use crate::printing::write_networks;
+use crate::report::write_line;
+use arrayvec::ArrayString;
 use cidr::{Ipv4Cidr, Ipv6Cidr};
 use cidr_io::sink::{OutputFailed, Sink};
 use cidr_io::writing::flush;
 use cidr_sets::NetworkSet;
+use itoa::Buffer;
 use std::alloc::{AllocError, Global};
 
 /// A set of addresses of each family.
@@ -43,5 +46,39 @@ impl Sets {
         write_networks(out, self.v4.as_slice())?;
         write_networks(out, self.v6.as_slice())?;
         flush(out)
+    }
+
+    /// Writes how many addresses of each family there are, a line each. An output that has failed before gets nothing.
+    pub fn write_counts<S: Sink>(&self, out: &mut S) -> Result<(), OutputFailed>
+        ensures { Prints true (S.state out.old) (S.state out.new) (held self.now) result }
+    {
+        let v4 = digits_of(self.v4.address_count());
+        let v6 = digits_of(self.v6.address_count());
+        write_line(out, &["Ipv4 ", v4.as_str(), "\nIpv6 ", v6.as_str(), "\n"])
+    }
+}
+
+/// 2^128 in decimal: what is left of it by ten, and its last digit.
+#[tactic(auto, using(crate::proofs::Combining::last_digit))]
+fn all_of_ipv6() -> ArrayString<41>
+    ensures { result.bytes ≡ decimal (2 ^ 128) }
+{
+    let mut text = ArrayString::new();
+    text.push_str(Buffer::new().format(34028236692093846346337460743176821145u128));
+    text.push_str("6");
+    text
+}
+
+/// A count in decimal; `None` is 2^128.
+fn digits_of(count: Option<u128>) -> ArrayString<41>
+    ensures { result.bytes ≡ decimal (count_of count) }
+{
+    match count {
+        Some(count) => {
+            let mut text = ArrayString::new();
+            text.push_str(Buffer::new().format(count));
+            text
+        }
+        None => all_of_ipv6(),
     }
 }
