@@ -5,7 +5,14 @@
 //! an index, from 0 on in that order.
 //!
 //! `IpCidr` is no key, as networks of both families would have the same bits: `AnyIpCidr::from` makes of one, or of an
-//! address, a key of a table of both.
+//! address, a key of a table of both, here one with 10.0.0.0/8:
+//!
+//! ```
+//! let network = "10.1.0.0/16".parse::<IpCidr>()?;
+//! routes.lookup(&AnyIpCidr::from(network)) // Some((V4(10.0.0.0/8), 1))
+//! ```
+//!
+//! A table is filled by `insert`:
 //!
 //! ```
 //! let mut routes = Routes::new(rt.alloc());
@@ -34,10 +41,10 @@
 //! routes.remove(&"0.0.0.0/0".parse()?) // Some(192.0.2.1)
 //! ```
 //!
-//! Of a new key `insert` and `set`, and `with_capacity`, `reserve`, `lookups`, `clone` and `load` allocate, and no
-//! other call does. Where an allocation fails, `insert` returns the key and the value as its error and leaves the rows
-//! as they were, and `load` returns `NoMemory`. `insert` and `remove` move the rows behind the key, so they take time
-//! in the number of rows; `from_rows` and `load` sort many rows once.
+//! Of a new key `insert` and `set`, and `with_capacity`, `reserve`, `lookups`, `into_lookups`, `clone` and `load`
+//! allocate, and no other call does. Where an allocation fails, `insert` returns the key and the value as its error and
+//! leaves the rows as they were, and `load` returns `NoMemory`. `insert` and `remove` move the rows behind the key, so
+//! they take time in the number of rows; `from_rows` and `load` sort many rows once.
 //!
 //! `load` takes prefix bytes, one network after the other, and keeps the index of each as its value. `inside` has the
 //! rows whose key is in a network, and `least_cover` the shortest list of networks with the addresses of all keys:
@@ -76,7 +83,8 @@
 //! `lookup` returns the row of the longest key that begins the bits of an address or a network, and `matches` all rows
 //! whose key does, the shortest key first. Who looks up many addresses in rows that stay as they are makes them ready
 //! once by `lookups`, whose result borrows the table: a look-up then takes one search, and from the key that it finds
-//! goes along links, each to the longest key that begins the last one.
+//! goes along links, each to the longest key that begins the last one. `into_lookups` takes the table itself, for a
+//! struct that holds the result, which gives the table back where rows are to change.
 //!
 //! `get_mut`, `lookup_mut` and `value_mut` return a reference to a value, for writing in its row: no key changes, and
 //! nothing is allocated.
@@ -102,5 +110,5 @@ pub use table::LpmTable;
 pub use table::cover::least_cover_in_place;
 pub use table::iterators::{IntoIter, Keys, Values};
 pub use table::load::LoadError;
-pub use table::lookups::Lookups;
+pub use table::lookups::{Lookups, ReadyTable};
 pub use table::matches::Matches;

@@ -31,7 +31,8 @@ pub mod matches;
 /// A finite map from networks to values, for longest-prefix matching. A key with its value is a row.
 ///
 /// The rows are kept in one `Vec`, in the order of the keys, which is that of their bits. `insert` and `remove` of one
-/// key shift the rows after it: O(n). Many prefixes are best loaded at once, by `load`.
+/// key shift the rows after it, O(n), so that n inserts in random order take O(n²). Many rows are best given at once,
+/// to `from_rows` or, as prefix bytes, to `load`.
 #[derive(Drop)]
 pub struct LpmTable<C: NetworkBits + Copy, V> {
     rows: Vec<(C, V)>,

@@ -21,6 +21,7 @@ fn main(rt: HostRuntime) -> Result<(), Failure> {
     change(&rt, &mut routes)?;
     each_row(&rt)?;
     from_rows(&rt)?;
+    keep_ready(&rt)?;
     both_families(&rt)
 }
 
@@ -104,6 +105,18 @@ fn from_rows(rt: &HostRuntime) -> Result<(), Failure> {
     let routes = Routes::from_rows(rows);
     println!(rt; "{}", routes.len())?; // 2
     println!(rt; "{:?}", routes.iter().last())?; // Some((10.1.0.0/16, 3))
+    Ok(())
+}
+
+/// A table that a struct may hold with its look-ups made ready, and that is changed again.
+fn keep_ready(rt: &HostRuntime) -> Result<(), Failure> {
+    let mut routes = Routes::new(rt.alloc());
+    routes.set("10.0.0.0/8".parse()?, 1)?;
+    let ready = routes.into_lookups(rt.alloc()).map_err(|_| AllocError)?;
+    println!(rt; "{:?}", ready.lookup(&"10.1.2.5".parse()?))?; // Some((10.0.0.0/8, 1))
+    println!(rt; "{}", ready.table().len())?; // 1
+    let mut routes = ready.into_table();
+    println!(rt; "{:?}", routes.set("10.0.0.0/8".parse()?, 2)?)?; // Some(1)
     Ok(())
 }
 

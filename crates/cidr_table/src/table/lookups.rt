@@ -1,5 +1,5 @@
 //! Look-ups of the longest match in rows that stay as they are.
-ghost use Rattle.std.specs.Prelude.{◌≡◌, ℕ, ◌-◌, ◌<◌, ◌≤◌, length, slice_index_or, option_copied, IfOk, IsTrue};
+ghost use Rattle.std.specs.Prelude.{◌≡◌, ℕ, ◌-◌, ◌<◌, ◌≤◌, length, slice_index_or, option_copied, IfOk, IfErr, IsTrue};
 ghost use Rattle.std.specs.List.Sorted.{IsStrictlySortedBy};
 ghost use Rattle.std.specs.Map.{keys_of};
 ghost use Rattle.std.specs.declared.cmp.Ordering.TheVariants.{Less, Greater};
@@ -27,6 +27,16 @@ pub struct Lookups<'a, C: NetworkBits + Copy, V> {
     hints: Hints,
 }
 
+/// A table made ready for many look-ups, for a struct that holds it, where `Lookups` would borrow it. The call
+/// `into_lookups` makes it.
+#[derive(Drop)]
+pub struct ReadyTable<C: NetworkBits + Copy, V> {
+    table: LpmTable<C, V>,
+    /// As in `Lookups`.
+    above: Vec<u32>,
+    hints: Hints,
+}
+
 impl<'a, C: NetworkBits + Copy, V> Model for Lookups<'a, C, V> {
     ghost use Rattle.std.specs.Prelude.{◌≡◌, ◌≤◌, List, length};
     ghost use Rattle.std.specs.List.Sorted.{IsStrictlySortedBy};
@@ -40,6 +50,20 @@ impl<'a, C: NetworkBits + Copy, V> Model for Lookups<'a, C, V> {
     ghost invariant = { λ t. IsStrictlySortedBy C.cmp (keys_of t.rows.now)
         × (length t.above.items ≤ length t.rows.now)
         × AreLinks C.bits (keys_of t.rows.now) t.above.items (length t.above.items) };
+}
+
+impl<C: NetworkBits + Copy, V> Model for ReadyTable<C, V> {
+    ghost use Rattle.std.specs.Prelude.{◌≤◌, length};
+    ghost use Rattle.std.specs.Map.{keys_of};
+    ghost use Rattle.cidr_table.specs.Above.{AreLinks};
+    ghost use Rattle.cidr_table.specs.FiniteMap.{StoredRows};
+
+    ghost Value = { StoredRows C V };
+
+    ghost view = { λ t. t.table };
+
+    ghost invariant = { λ t. (length t.above.items ≤ length t.table.rows)
+        × AreLinks C.bits (keys_of t.table.rows) t.above.items (length t.above.items) };
 }
 
 impl<C: NetworkBits + Copy, V> LpmTable<C, V> {
@@ -72,6 +96,67 @@ impl<C: NetworkBits + Copy, V> LpmTable<C, V> {
         let hints = Hints::of(alloc, rows)?;
         Ok(Lookups { rows, above, hints })
     }
+
+    /// The table, made ready for many look-ups: the same as `lookups`, for a struct that holds the result. Where an
+    /// allocation fails, the error is the table as it was.
+    ///
+    /// ```
+    /// let ready = routes.into_lookups(rt.alloc()).map_err(|_| AllocError)?;
+    /// ready.lookup(&"10.1.2.5".parse()?) // Some((10.0.0.0/8, 1))
+    /// ```
+    pub fn into_lookups(self, alloc: Global) -> Result<ReadyTable<C, V>, LpmTable<C, V>>
+        ensures ok { IfOk result (λ ready. ready ≡ self) }
+        ensures err { IfErr result (λ table. table ≡ self) }
+    {
+        let Ok(above) = links_of(alloc, self.ascending()) else {
+            return Err(self);
+        };
+        let Ok(hints) = Hints::of(alloc, self.ascending()) else {
+            return Err(self);
+        };
+        Ok(ReadyTable {
+            table: self,
+            above,
+            hints,
+        })
+    }
+}
+
+impl<C: NetworkBits + Copy, V> ReadyTable<C, V> {
+    /// The row of the longest key that contains the look-up key, or `None` where none does, by one search and a few
+    /// links.
+    ///
+    /// ```
+    /// ready.lookup(&"10.1.2.5".parse()?) // Some((10.0.0.0/8, 1))
+    /// ```
+    pub fn lookup(&self, asked: &C) -> Option<&(C, V)>
+        ensures { IsLookedUp C.bits (C.bits asked.now) self.now.rows (option_copied result) }
+    {
+        by_links(self.table.ascending(), &self.above, &self.hints, asked)
+    }
+
+    /// The table, for all calls that only read.
+    ///
+    /// ```
+    /// ready.table().len() // 1
+    /// ```
+    pub fn table(&self) -> &LpmTable<C, V>
+        ensures { result.now ≡ self.now }
+    {
+        &self.table
+    }
+
+    /// The table, for changing its rows. The memory beside the rows is freed.
+    ///
+    /// ```
+    /// let mut routes = ready.into_table();
+    /// routes.set("10.0.0.0/8".parse()?, 2)? // Some(1)
+    /// ```
+    pub fn into_table(self) -> LpmTable<C, V>
+        ensures { result ≡ self }
+    {
+        self.table
+    }
 }
 
 impl<'a, C: NetworkBits + Copy, V> Lookups<'a, C, V> {
@@ -84,29 +169,44 @@ impl<'a, C: NetworkBits + Copy, V> Lookups<'a, C, V> {
     pub fn lookup(&self, asked: &C) -> Option<&'a (C, V)>
         ensures { IsLookedUp C.bits (C.bits asked.now) self.now (option_copied result) }
     {
-        if self.above.len() < self.rows.len() {
-            return longest(self.rows, asked);
-        }
-        let place = self.upto(asked);
-        let end = nearest(self.rows, &self.above, place, asked);
-        if end == 0 {
-            None
-        } else {
-            let row = &self.rows[end - 1];
-            Some(row)
-        }
+        by_links(self.rows, &self.above, &self.hints, asked)
     }
+}
 
-    /// How many keys there are up to the look-up key in the order.
-    fn upto(&self, asked: &C) -> usize
-        ensures within { result ≤ length self.now }
-        ensures reached { (any : C) →
-            IsReached C.bits (keys_of self.now) any (C.bits asked.now) (length self.now) result }
-    {
-        match self.hints.around(asked.first_bits()) {
-            Some((from, to)) => upto_near(self.rows, from, to, asked),
-            None => upto(self.rows, self.rows.len(), asked),
-        }
+/// The row of the longest key that contains the look-up key, by one search and a few links.
+fn by_links<'a, C: NetworkBits + Copy, V>(
+    rows: &'a [(C, V)],
+    above: &[u32],
+    hints: &Hints,
+    asked: &C,
+) -> Option<&'a (C, V)>
+    requires sorted { IsStrictlySortedBy C.cmp (keys_of rows.now) }
+    requires size { length above.now ≤ length rows.now }
+    requires links { AreLinks C.bits (keys_of rows.now) above.now (length above.now) }
+    ensures { IsLookedUp C.bits (C.bits asked.now) rows.now (option_copied result) }
+{
+    if above.len() < rows.len() {
+        return longest(rows, asked);
+    }
+    let place = upto_hinted(rows, hints, asked);
+    let end = nearest(rows, above, place, asked);
+    if end == 0 {
+        None
+    } else {
+        let row = &rows[end - 1];
+        Some(row)
+    }
+}
+
+/// How many keys there are up to the look-up key in the order.
+fn upto_hinted<C: NetworkBits, V>(rows: &[(C, V)], hints: &Hints, asked: &C) -> usize
+    requires sorted { IsStrictlySortedBy C.cmp (keys_of rows.now) }
+    ensures within { result ≤ length rows.now }
+    ensures reached { (any : C) → IsReached C.bits (keys_of rows.now) any (C.bits asked.now) (length rows.now) result }
+{
+    match hints.around(asked.first_bits()) {
+        Some((from, to)) => upto_near(rows, from, to, asked),
+        None => upto(rows, rows.len(), asked),
     }
 }
 
