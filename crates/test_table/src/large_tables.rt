@@ -1,6 +1,7 @@
 //! Look-ups in a table that is large enough for an index.
 use cidr::{Ipv4Addr, Ipv4Cidr};
 use cidr_table::LpmTable;
+use std::alloc::Global;
 use std::test::Fail;
 
 /// How many networks there are beside the default one.
@@ -16,21 +17,26 @@ fn address(number: u32) -> Ipv4Cidr {
     Ipv4Cidr::new_host(Ipv4Addr::from_bits((number << 12) | 77))
 }
 
+/// The default network, and each second block with half its number.
+fn routes(alloc: Global) -> Result<LpmTable<Ipv4Cidr, u32>, Fail> {
+    let mut routes = LpmTable::with_capacity(alloc, BLOCKS as usize + 1)?;
+    routes.set("0.0.0.0/0".parse()?, BLOCKS)?;
+    for i in 0_u32..BLOCKS {
+        routes.set(block(2 * i)?, i)?;
+    }
+    Ok(routes)
+}
+
 #[test]
 fn each_address_of_a_large_table_has_its_network_or_the_default(
     rt: HostRuntime,
 ) -> Result<(), Fail> {
-    let mut routes = LpmTable::with_capacity(rt.alloc(), BLOCKS as usize + 1)?;
-    let default = "0.0.0.0/0".parse::<Ipv4Cidr>()?;
-    assert_eq!(rt; routes.insert(default, BLOCKS), Ok(None));
-    for i in 0_u32..BLOCKS {
-        assert_eq!(rt; routes.insert(block(2 * i)?, i), Ok(None));
-    }
+    let routes = routes(rt.alloc())?;
     assert_eq!(rt; routes.capacity(), BLOCKS as usize + 1);
+    let outer = Some(("0.0.0.0/0".parse::<Ipv4Cidr>()?, BLOCKS));
     let ready = routes.lookups(rt.alloc())?;
     for i in 0_u32..BLOCKS {
         let inner = Some((block(2 * i)?, i));
-        let outer = Some((default, BLOCKS));
         assert_eq!(rt; ready.lookup(&address(2 * i)).copied(), inner, "at {i}");
         assert_eq!(rt; ready.lookup(&address(2 * i + 1)).copied(), outer, "at {i}");
         assert_eq!(rt; routes.lookup(&address(2 * i)).copied(), inner, "at {i}");
@@ -40,5 +46,25 @@ fn each_address_of_a_large_table_has_its_network_or_the_default(
             "at {i}"
         );
     }
+    Ok(())
+}
+
+#[test]
+fn a_large_table_that_was_made_ready_is_a_table_again(rt: HostRuntime) -> Result<(), Fail> {
+    let default = "0.0.0.0/0".parse::<Ipv4Cidr>()?;
+    let ready = match routes(rt.alloc())?.into_lookups(rt.alloc()) {
+        Ok(ready) => ready,
+        Err(_) => return Err(Fail::new("no memory")),
+    };
+    for i in 0_u32..BLOCKS {
+        let inner = Some((block(2 * i)?, i));
+        assert_eq!(rt; ready.lookup(&address(2 * i)).copied(), inner, "at {i}");
+        let outer = ready.lookup(&address(2 * i + 1)).copied();
+        assert_eq!(rt; outer, Some((default, BLOCKS)), "at {i}");
+    }
+    assert_eq!(rt; ready.table().len(), BLOCKS as usize + 1);
+    let mut routes = ready.into_table();
+    assert_eq!(rt; routes.remove(&default), Some(BLOCKS));
+    assert_eq!(rt; routes.lookup(&address(1)), None);
     Ok(())
 }
