@@ -1,9 +1,10 @@
 //! Calls on networks and addresses beyond those of the crate `cidr`, proved from its public contracts.
 //!
 //! They are traits, which a `use` brings in. `NetworkExt` has networks as the nodes of a tree (`parent`, `halves`,
-//! `sibling`, `supernet`, `overlaps`, `spanning`), `CidrExt` what is counted (`subnets`, `next_network`, `host_mask`,
-//! `nth`, `position`, `usable_hosts`), `AddressExt` numbers and masks of addresses, and `SpecialAddress` what addresses
-//! are for (`special_entry`, `is_global`, `is_private`). Each call has one body for both families.
+//! `sibling`, `supernet`, `overlaps`, `spanning`), `IpCidrExt` the same for `IpCidr`, `CidrExt` what is counted
+//! (`subnets`, `next_network`, `host_mask`, `nth`, `position`, `usable_hosts`), `AddressExt` numbers and masks of
+//! addresses, and `SpecialAddress` what addresses are for (`special_entry`, `is_global`, `is_private`). Each call has
+//! one body for both families.
 //!
 //! ```
 //! let network = "2001:db8::/48".parse::<Ipv6Cidr>()?;
@@ -15,6 +16,7 @@
 #![tactic(auto)]
 
 mod address;
+mod either_family;
 mod families;
 mod inside_ipv6;
 pub mod laws;
@@ -28,6 +30,7 @@ mod special;
 mod subnets;
 
 pub use address::AddressExt;
+pub use either_family::IpCidrExt;
 pub use inside_ipv6::{Ipv4AddrExt, Ipv4CidrExt, Ipv6AddrExt, Ipv6CidrExt};
 pub use network::NetworkExt;
 pub use numbered::CidrExt;

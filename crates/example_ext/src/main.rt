@@ -4,6 +4,7 @@
 //! the line stands without `println!`.
 #![tactic(auto)]
 
+mod either_family;
 mod error;
 mod special;
 
@@ -14,6 +15,7 @@ use error::ExampleError;
 fn main(rt: HostRuntime) -> Result<(), ExampleError> {
     tree(&rt)?;
     both(&rt)?;
+    either_family::either_family(&rt)?;
     counted(&rt)?;
     subnets(&rt)?;
     special::special(&rt)?;
