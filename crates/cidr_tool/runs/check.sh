@@ -61,7 +61,7 @@ rows() {
     run 2 '' "$usage" show 10.0.0.0/8 $'\xff'
 }
 
-# Each command that docs/TOOL.md shows, as a line after `$`, prints the lines that stand below it there, on one stream.
+# Each command that README.md shows, as a line after `$`, prints the lines that stand below it there, on one stream.
 rows_of_the_page() {
     local line words='' wanted='' shown_commands=0
     while IFS= read -r line; do
@@ -74,16 +74,16 @@ rows_of_the_page() {
             timeout 60 "$program" $words </dev/null >"$room/page" 2>&1 || true
             if ! printf '%s' "$wanted" | cmp -s - "$room/page"; then
                 differs=1
-                echo "$build $words: not as docs/TOOL.md has it" >&2
+                echo "$build $words: not as README.md has it" >&2
             fi
             shown_commands=$((shown_commands + 1))
         fi
         words='' wanted=''
         [[ $line != '    $ cidr_tool '* ]] || words=${line#'    $ cidr_tool '}
-    done < <(cat ../../docs/TOOL.md && echo)
+    done < <(cat README.md && echo)
     if ((!shown_commands)); then
         differs=1
-        echo "docs/TOOL.md shows no command" >&2
+        echo "README.md shows no command" >&2
     fi
 }
 
