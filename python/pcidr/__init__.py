@@ -14,6 +14,7 @@ import ctypes
 from typing import Any, Generic, Iterable, Iterator, List, Optional, Sequence, Tuple, TypeVar, Union
 
 from pcidr._library import (
+    NO_INDEX,
     Value,
     array,
     calls,
@@ -348,32 +349,35 @@ class NetworkSet:
 class Table(Generic[V]):
     """A table of networks with a value each: ``Table({"10.0.0.0/8": 1})``.
 
-    `lookup` gives the longest network that an address, or a network, is in, with its value. It asks a dict once for each
-    prefix length that a row has: this module's own code, and not that of the library.
+    `lookup` gives the longest network that an address, or a network, is in, with its value. Each call of the library
+    goes through all rows: `lookup_each` looks up many by one call.
     """
 
     def __init__(self, rows: Any = ()) -> None:
         listed = list(rows.items() if hasattr(rows, "items") else rows)
         values = _values(network for network, _ in listed)
         self._rows = {_row_key(value): row[1] for value, row in zip(values, listed)}
-        self._tags: Optional[List[int]] = None
+        self._listed: Optional[List[Tuple[Network, V]]] = None
+        self._networks = array(())
 
-    def _lengths(self) -> List[int]:
-        """The tags of the rows, the greatest first."""
-        if self._tags is None:
-            self._tags = sorted({tag for tag, _ in self._rows}, reverse=True)
-        return self._tags
+    def _ascending(self) -> List[Tuple[Network, V]]:
+        """The rows in order, and their networks in an array: made once, and again after a change."""
+        if self._listed is None:
+            keys = sorted(self._rows, key=_row_order)
+            self._listed = [(_row_network(key), self._rows[key]) for key in keys]
+            self._networks = array(network._value for network, _ in self._listed)
+        return self._listed
 
     def __getitem__(self, network: Union[Network, str]) -> V:
         return self._rows[_row_key(_network_value(network))]
 
     def __setitem__(self, network: Union[Network, str], value: V) -> None:
         self._rows[_row_key(_network_value(network))] = value
-        self._tags = None
+        self._listed = None
 
     def __delitem__(self, network: Union[Network, str]) -> None:
         del self._rows[_row_key(_network_value(network))]
-        self._tags = None
+        self._listed = None
 
     def __contains__(self, network: Union[Network, str]) -> bool:
         return _row_key(_network_value(network)) in self._rows
@@ -386,36 +390,33 @@ class Table(Generic[V]):
 
     def items(self) -> Iterator[Tuple[Network, V]]:
         """The rows, in the order of the networks."""
-        rows = [(_row_network(key), value) for key, value in self._rows.items()]
-        return iter(sorted(rows, key=lambda row: row[0]))
+        return iter(self._ascending())
 
     def lookup(self, asked: Union[Address, Network, str]) -> Optional[Tuple[Network, V]]:
         """The longest network that the address is in, with its value, or None."""
-        return self._found(_network_value(asked))
+        return self._found(array([_network_value(asked)]))[0]
 
     def lookup_each(
         self, asked: Iterable[Union[Address, Network, str]]
     ) -> List[Optional[Tuple[Network, V]]]:
-        """The same for each of many, which one call of the library reads."""
-        return [self._found(value) for value in _values(asked)]
+        """The same for each of many, by one call of the library."""
+        return self._found(_values(asked))
 
-    def _found(self, value: Value) -> Optional[Tuple[Network, V]]:
-        tag, number = _row_key(value)
-        lowest, end = (255, 255) if tag == 255 else (0, 32) if tag < 64 else (64, 192)
-        for length in self._lengths():
-            if length == 255:
-                continue
-            if lowest <= length <= tag and tag != 255:
-                key = (length, number >> end - length << end - length)
-                if key in self._rows:
-                    return _row_network(key), self._rows[key]
-        if (255, 0) in self._rows:
-            return _row_network((255, 0)), self._rows[(255, 0)]
-        return None
+    def _found(self, asked: ctypes.Array) -> List[Optional[Tuple[Network, V]]]:
+        rows, networks = self._ascending(), self._networks
+        out = (ctypes.c_size_t * len(asked))()
+        check(calls.longest_match_each(networks, len(networks), asked, len(asked), out, len(out)))
+        return [None if index == NO_INDEX else rows[index] for index in out]
 
 
 def _row_key(value: Value) -> Tuple[int, int]:
     return (value.tag, value.high << 64 | value.low)
+
+
+def _row_order(key: Tuple[int, int]) -> Tuple[int, int, int]:
+    """Where the row stands: `any`, then IPv4, then IPv6; the lower first address, and then the shorter prefix."""
+    tag, number = key
+    return (0 if tag == 255 else 1 if tag < 64 else 2, number, tag)
 
 
 def _row_network(key: Tuple[int, int]) -> Network:

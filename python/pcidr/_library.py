@@ -8,6 +8,7 @@ TEXT_ROOM = 44
 MESSAGE_ROOM = 100
 NO_ROOM = 11
 NO_MEMORY = 12
+NO_INDEX = 2**64 - 1
 
 
 class Value(ctypes.Structure):
@@ -45,6 +46,7 @@ CALLS = {
     "difference": (CODE, [VALUE, SIZE, VALUE, SIZE, VALUE, SIZE, COUNT]),
     "symmetric_difference": (CODE, [VALUE, SIZE, VALUE, SIZE, VALUE, SIZE, COUNT]),
     "contains_each": (CODE, [VALUE, SIZE, VALUE, SIZE, BYTES, SIZE]),
+    "longest_match_each": (CODE, [VALUE, SIZE, VALUE, SIZE, COUNT, SIZE]),
 }
 
 

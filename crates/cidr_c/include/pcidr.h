@@ -201,9 +201,20 @@ uint32_t pcidr_symmetric_difference(const pcidr_value *these, size_t these_len, 
                                     size_t those_len, pcidr_value *out, size_t out_len, size_t *count);
 
 /* For each of the asked networks or addresses, 1 where the list has all of its addresses, and 0 where not, at the same
- * index of `out`. Errors: NO_MEMORY, NO_VALUE, NO_ROOM; then what `out` has is not specified. Allocates. */
+ * index of `out`. Errors: NO_MEMORY, NO_ROOM, and then `out` is as it was; NO_VALUE, and then what `out` has is not
+ * specified. Allocates. */
 uint32_t pcidr_contains_each(const pcidr_value *networks, size_t networks_len, const pcidr_value *asked,
                              size_t asked_len, uint8_t *out, size_t out_len);
+
+/* What stands for no index. */
+#define PCIDR_NO_INDEX SIZE_MAX
+
+/* The longest match: for each of the asked networks or addresses the index, in `networks`, of the longest network that it
+ * is in, and PCIDR_NO_INDEX where it is in none, at the same index of `out`. The networks may be in any order, which is
+ * fastest where they ascend; of a network that repeats the last index counts. Errors: NO_MEMORY, NO_ROOM, and then `out`
+ * is as it was; NO_VALUE, and then what `out` has is not specified. Allocates. */
+uint32_t pcidr_longest_match_each(const pcidr_value *networks, size_t networks_len, const pcidr_value *asked,
+                                  size_t asked_len, size_t *out, size_t out_len);
 
 #ifdef __cplusplus
 }

@@ -46,14 +46,14 @@ one_more Answers n d asked out a first fits here answers i v lt found =
           (old.0, old.1, slice_get-set_other out n i a other ∙ old.2, old.3)
     ]
 
-all : (Answers : AnyIpCidr → ℕ → Type 0) (n : ℕ) (asked : List CValue) (out : List ℕ) → length asked ≤ n → AreFirst Answers n asked out
+pub all : (Answers : AnyIpCidr → ℕ → Type 0) (n : ℕ) (asked : List CValue) (out : List ℕ) → length asked ≤ n → AreFirst Answers n asked out
     → AreAnswered Answers asked out
 all Answers n asked out past first i v found = first i v (omega (arith, past, slice_get_within asked i v found)) found
 
-pub contained : (values asked : List CValue) (set : List AnyIpCidr) (out : List ℕ) (n : ℕ) → AreNetworks values
+pub contained : (values asked : List CValue) (set : List AnyIpCidr) (old out : List ℕ) (n : ℕ) → AreNetworks values
     → IsSetOf 129 (Covers (bits_in values)) (map any_bits set) → length asked ≤ n
-    → AreFirst (λ n answer. IsAnswer answer (IsFull 129 (map any_bits set) (any_bits n))) n asked out → AreContained values asked out 0
-contained values asked set out n fine is_set past first = record {
+    → AreFirst (λ n answer. IsAnswer answer (IsFull 129 (map any_bits set) (any_bits n))) n asked out → AreContained values asked old out 0
+contained values asked set old out n fine is_set past first = record {
   networks = λ _. fine;
   answers = λ _. all (λ n answer. IsAnswer answer (IsFull 129 (bits_in values) (any_bits n))) n asked out past
       (λ i v lt found.
@@ -72,4 +72,5 @@ contained values asked set out n fine is_set past first = record {
   value = λ z. absurd (omega (arith, z));
   room = λ z. absurd (omega (arith, z));
   codes = inl refl;
+  stays = λ h. elim h [ inl z ↦ absurd (omega (arith, z)) | inr z ↦ absurd (omega (arith, z)) ];
 }

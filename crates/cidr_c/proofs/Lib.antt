@@ -1,5 +1,6 @@
 pub mod Answering
 pub mod Bits
+pub mod Indexes
 pub mod LineSteps
 pub mod NetworkLists
 pub mod Networks

@@ -41,6 +41,7 @@ int main(void) {
     WANT(pcidr_difference(NULL, 0, NULL, 0, NULL, 0, &count) == PCIDR_OK && count == 0);
     WANT(pcidr_symmetric_difference(NULL, 0, NULL, 0, NULL, 0, &count) == PCIDR_OK && count == 0);
     WANT(pcidr_contains_each(NULL, 0, NULL, 0, NULL, 0) == PCIDR_OK);
+    WANT(pcidr_longest_match_each(NULL, 0, NULL, 0, NULL, 0) == PCIDR_OK);
 
     WANT(pcidr_read_network("10.0.0.0/8", 10, &wide) == PCIDR_OK);
     WANT(pcidr_read_host("10.0.0.5/8", 10, &host) == PCIDR_OK);
@@ -77,6 +78,8 @@ int main(void) {
         WANT(pcidr_union(&wide, 1, &bad[i], 1, &out, 1, &count) == PCIDR_NO_VALUE && is_same(out, mark));
         WANT(pcidr_contains_each(&bad[i], 1, &address, 1, bytes, 1) == PCIDR_NO_VALUE);
         WANT(pcidr_contains_each(&wide, 1, &bad[i], 1, bytes, 1) == PCIDR_NO_VALUE);
+        WANT(pcidr_longest_match_each(&bad[i], 1, &address, 1, &count, 1) == PCIDR_NO_VALUE);
+        WANT(pcidr_longest_match_each(&wide, 1, &bad[i], 1, &count, 1) == PCIDR_NO_VALUE);
         WANT(pcidr_print_lines(&bad[i], 1, text, sizeof text, &count) == PCIDR_NO_VALUE);
     }
     WANT(pcidr_print_network(&host, text, sizeof text) == 0);
@@ -107,6 +110,7 @@ int main(void) {
     WANT(pcidr_read_lines("10.0.0.0/8\n11.0.0.0/8\n", 22, two, 2, &count) == PCIDR_NO_ROOM && count == 2);
     WANT(pcidr_difference(&wide, 1, &address, 1, two, 2, &count) == PCIDR_NO_ROOM && count == 24);
     WANT(pcidr_contains_each(&wide, 1, &address, 1, NULL, 0) == PCIDR_NO_ROOM);
+    WANT(pcidr_longest_match_each(&wide, 1, &address, 1, NULL, 0) == PCIDR_NO_ROOM);
 
     /* what is right */
     WANT(pcidr_version() == PCIDR_VERSION);
@@ -115,6 +119,11 @@ int main(void) {
     WANT(pcidr_step_down(&host, 1, 0, &out) == PCIDR_WRAPPED);
     WANT(pcidr_at(&wide, 0, (1 << 24) - 1, &out) == PCIDR_OK && pcidr_at(&wide, 0, 1 << 24, &out) == PCIDR_WRAPPED);
     WANT(pcidr_union(&wide, 1, &address, 1, two, 2, &count) == PCIDR_OK && count == 1 && is_same(two[0], wide));
+    two[0] = address, two[1] = wide;
+    WANT(pcidr_longest_match_each(two, 2, &address, 1, &count, 1) == PCIDR_OK && count == 0);
+    two[0] = wide;
+    WANT(pcidr_longest_match_each(two, 2, &address, 1, &count, 1) == PCIDR_OK && count == 1);
+    WANT(pcidr_longest_match_each(two, 2, &any, 1, &count, 1) == PCIDR_OK && count == PCIDR_NO_INDEX);
     WANT(pcidr_network_to_bytes(&wide, bytes, sizeof bytes) == 5);
     WANT(pcidr_network_from_bytes(bytes, 5, &out, &count) == PCIDR_OK && count == 5 && is_same(out, wide));
     WANT(pcidr_host_from_bytes((const uint8_t *)"\xff", 1, &out, &count) == PCIDR_ANY);

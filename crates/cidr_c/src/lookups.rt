@@ -1,16 +1,22 @@
 //! Look-ups of many networks at once.
-ghost use Rattle.std.specs.Prelude.{map};
+ghost use Rattle.std.specs.Prelude.{◌≡◌, ◌⊎◌, map, IfOk, MatchResult};
 ghost use Rattle.cidr.specs.either.IpNetwork.{any_bits};
 ghost use Rattle.cidr_table.specs.Cover.{IsFull};
+ghost use Rattle.cidr_table.specs.Loading.{placed};
+ghost use Rattle.cidr_c.specs.Batches.{AreNetworks};
 ghost use Rattle.cidr_c.specs.Calls.{IsAnswer};
-ghost use Rattle.cidr_c.specs.Lookups.{AreContained};
+ghost use Rattle.cidr_c.specs.Codes.{no_memory, no_value};
+ghost use Rattle.cidr_c.specs.Lookups.{AreContained, AreIndexed, AreMatched, IsRowIndex};
+ghost use Rattle.cidr_c.specs.Values.{network_in};
 
-use crate::codes::{NO_ROOM, NO_VALUE, OK};
+use crate::batches::networks_of;
+use crate::codes::{NO_MEMORY, NO_ROOM, NO_VALUE, OK};
 use crate::sets::set_of;
 use crate::values::{CValue, network_of};
 use cidr::AnyIpCidr;
 use cidr_sets::NetworkSet;
-use std::alloc::Global;
+use cidr_table::{Lookups, LpmTable};
+use std::alloc::{AllocError, Global};
 
 /// For each asked network 1, where it lies in the others together, and 0 where not.
 ///
@@ -22,7 +28,7 @@ pub extern "C" fn pcidr_contains_each(
     asked: &[CValue],
     out: &mut [u8],
 ) -> u32
-    ensures { AreContained networks.now asked.now out.new result }
+    ensures { AreContained networks.now asked.now out.old out.new result }
 {
     let set = match set_of(alloc, networks) {
         Ok(set) => set,
@@ -45,4 +51,73 @@ fn held(set: &NetworkSet<AnyIpCidr>, network: &AnyIpCidr) -> u8
     ensures { IsAnswer result (IsFull 129 (map any_bits set.now) (any_bits network.now)) }
 {
     if set.contains(network) { 1 } else { 0 }
+}
+
+/// For each asked network the index of the longest network that it is in, or `usize::MAX` where it is in none. The
+/// networks may be in any order; of one that repeats the last index counts.
+///
+/// It allocates, and puts the networks in order: O(n log n).
+#[unsafe(no_mangle)]
+pub extern "C" fn pcidr_longest_match_each(
+    alloc: Global,
+    networks: &[CValue],
+    asked: &[CValue],
+    out: &mut [usize],
+) -> u32
+    ensures { AreMatched networks.now asked.now out.old out.new result }
+{
+    let table = match table_of(alloc, networks) {
+        Ok(table) => table,
+        Err(code) => return code,
+    };
+    if out.len() < asked.len() {
+        return NO_ROOM;
+    }
+    let Ok(ready) = table.lookups(alloc) else {
+        return NO_MEMORY;
+    };
+    for i in 0..asked.len() {
+        let Some(network) = network_of(&asked[i]) else {
+            return NO_VALUE;
+        };
+        out[i] = index_of(&ready, &network);
+    }
+    OK
+}
+
+/// The table of networks, each with its last index, or the number of the error.
+fn table_of(alloc: Global, values: &[CValue]) -> Result<LpmTable<AnyIpCidr, usize>, u32>
+    ensures { MatchResult result
+        (λ table. AreNetworks values.now × AreIndexed (map network_in values.now) table.rows)
+        (λ code. ((code ≡ no_value) × ¬ (AreNetworks values.now)) ⊎ (code ≡ no_memory)) }
+{
+    let networks = networks_of(alloc, values)?;
+    match with_indexes(alloc, networks.as_slice()) {
+        Ok(rows) => Ok(LpmTable::from_rows(rows)),
+        Err(_) => Err(NO_MEMORY),
+    }
+}
+
+/// Networks, each with its index.
+fn with_indexes(
+    alloc: Global,
+    networks: &[AnyIpCidr],
+) -> Result<Vec<(AnyIpCidr, usize)>, AllocError>
+    ensures { IfOk result (λ rows. rows.items ≡ placed 0 networks.now) }
+{
+    let mut rows = Vec::with_capacity(alloc, networks.len())?;
+    for i in 0..networks.len() {
+        rows.push((networks[i], i))?;
+    }
+    Ok(rows)
+}
+
+/// The index of the longest match, or `usize::MAX` where there is none.
+fn index_of(ready: &Lookups<'_, AnyIpCidr, usize>, asked: &AnyIpCidr) -> usize
+    ensures { IsRowIndex ready.now asked.now result }
+{
+    match ready.lookup(asked) {
+        Some(row) => row.1,
+        None => usize::MAX,
+    }
 }

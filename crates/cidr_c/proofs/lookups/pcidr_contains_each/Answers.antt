@@ -19,4 +19,4 @@ loop-i-preserved c =
 
 pub returns : goal.returns
 returns c =
-    contained c.args.networks.now c.args.asked.now c.in-Ok.set c.loop-i.out c.loop-i.i c.in-Ok.ensures.0 c.in-Ok.ensures.1 (omega arith) c.loop-i.invariant.1
+    contained c.args.networks.now c.args.asked.now c.in-Ok.set c.args.out.now c.loop-i.out c.loop-i.i c.in-Ok.ensures.0 c.in-Ok.ensures.1 (omega arith) c.loop-i.invariant.1
