@@ -1,6 +1,7 @@
 //! Look-ups in a table, whose contracts speak of rows, so that a caller needs no proof of its own.
-ghost use Rattle.std.specs.Prelude.{◌≡◌, ◌≤◌, ◌⊎◌, Contains, IfOk, IfSome, length};
+ghost use Rattle.std.specs.Prelude.{◌≡◌, ◌≤◌, ◌⊎◌, List, Contains, IfOk, length};
 ghost use Rattle.cidr.specs.model.Network.{BeginsWith};
+ghost use Rattle.cidr_table.specs.LastRows.{AreLastRows};
 ghost use Rattle.cidr_table.specs.Prefixes.{IsLookedUp, AreMatching};
 
 use cidr::NetworkBits;
@@ -44,4 +45,15 @@ pub fn two_rows<C: NetworkBits + Copy, V: Copy>(
 {
     let ready = routes.lookups(alloc)?;
     Ok((ready.lookup(one).copied(), ready.lookup(other).copied()))
+}
+
+/// The row of the longest match in a table of rows in any order, of which the last one of each network counts.
+pub fn matched_of_rows<C: NetworkBits + Copy, V: Copy + Drop>(
+    rows: Vec<(C, V)>,
+    asked: &C,
+) -> Option<(C, V)>
+    ensures { (table : List (C × V)) × AreLastRows rows.items table
+        × IsLookedUp C.bits (C.bits asked.now) table result }
+{
+    LpmTable::from_rows(rows).lookup(asked).copied()
 }
