@@ -1,9 +1,12 @@
 -- The arguments as commands.
-use Rattle.std.proofs.Common.{◌≡◌, refl, sym, ◌∙◌, ap, ℕ, ◌+◌, ◌<◌, suc, Bool, true, false, ◌||◌, List, [], ◌∷◌, length, take, get_or, map, Bor, arith}
+use Rattle.std.proofs.Common.{◌≡◌, refl, sym, ◌∙◌, ap, ℕ, ◌+◌, ◌<◌, suc, Bool, true, false, ◌||◌, List, [], ◌∷◌, length, take, get_or, map, Bor, nat_eq, arith}
 use Rattle.std.specs.List.{list_any}
 use Rattle.std.proofs.lemmas.List.{get_or-map}
 use Rattle.std.proofs.lemmas.List.Folds.{list_any_at, list_any_more}
+use Rattle.std.proofs.lemmas.Bool.Decides.{Decides-eqb}
+use Rattle.std.specs.Cmp.Lexicographic.{pointwise_decides}
 use Rattle.netset.specs.Commands.{is_option}
+use lib.Pointwise.{pointwise}
 
 -- the bytes of the words
 abbrev pub bytes_of : List (Bor (List ℕ)) → List (List ℕ)
@@ -29,3 +32,23 @@ option_passed words i d b within is here before =
     list_any_more is_option (bytes_of words) i [] (within_bytes words i within)
     ∙ (ap (λ (k : Bool). k || is_option (get_or (bytes_of words) i [])) before
     ∙ (ap is_option (get_or-map (λ (w : Bor (List ℕ)). w.now) words i d [] within) ∙ (sym is ∙ here)))
+
+-- equal by the test of strings
+pub same_text : (a b : List ℕ) → true ≡ pointwise nat_eq a b → a ≡ b
+same_text a b h = (pointwise_decides Decides-eqb a b).0 (sym h)
+
+-- two words and three, of which the first is a name
+pub two_named : (words : List (Bor (List ℕ))) (d e : Bor (List ℕ)) (text : List ℕ) → length words ≡ 2 → true ≡ pointwise nat_eq (get_or words 0 d).now text
+    → bytes_of words ≡ text ∷ (get_or words 1 e).now ∷ []
+two_named [] d e text l same = absurd (omega (arith, l))
+two_named (a ∷ []) d e text l same = absurd (omega (arith, l))
+two_named (a ∷ b ∷ []) d e text l same = ap (λ (k : List ℕ). k ∷ b.now ∷ []) (same_text a.now text same)
+two_named (a ∷ b ∷ c ∷ words) d e text l same = absurd (omega (arith, l))
+
+pub three_named : (words : List (Bor (List ℕ))) (d e f : Bor (List ℕ)) (text : List ℕ) → length words ≡ 3 → true ≡ pointwise nat_eq (get_or words 0 d).now text
+    → bytes_of words ≡ text ∷ (get_or words 1 e).now ∷ (get_or words 2 f).now ∷ []
+three_named [] d e f text l same = absurd (omega (arith, l))
+three_named (a ∷ []) d e f text l same = absurd (omega (arith, l))
+three_named (a ∷ b ∷ []) d e f text l same = absurd (omega (arith, l))
+three_named (a ∷ b ∷ c ∷ []) d e f text l same = ap (λ (k : List ℕ). k ∷ b.now ∷ c.now ∷ []) (same_text a.now text same)
+three_named (a ∷ b ∷ c ∷ x ∷ words) d e f text l same = absurd (omega (arith, l))

@@ -69,6 +69,7 @@ file_read told names i name sets set within at before read =
 not_read : (told : List ℕ → Option (List ℕ)) (names : List (List ℕ)) (i : ℕ) (name : List ℕ) (sets : List Sets) (e : CommandError) → i < length names → get_or names i name ≡ name
     → AreRead told (take i names) sets → IsFileError (told name) name e → IsUnread told names e
 not_read told names i name sets error.Usage within at before h = absurd h
+not_read told names i name sets (error.Argument text e) within at before h = absurd h
 not_read told names i name sets error.NoMemory within at before h = tt
 not_read told names i name sets error.Output within at before h = absurd h
 not_read told names i name sets (error.Input file) within at before h =
@@ -129,6 +130,7 @@ said_first told name names set first others (text ∷ texts) h =
 pub others_not_read : (told : List ℕ → Option (List ℕ)) (name : List ℕ) (names : List (List ℕ)) (set : Sets) (e : CommandError) → ReadsFile (told name) name (Ok set)
     → IsUnread told names e → IsUnread told (name ∷ names) e
 others_not_read told name names set error.Usage first h = absurd h
+others_not_read told name names set (error.Argument text e) first h = absurd h
 others_not_read told name names set error.NoMemory first h = tt
 others_not_read told name names set error.Output first h = absurd h
 others_not_read told name names set (error.Input file) first h = Contains-append_right (name ∷ []) names file.now h

@@ -5,7 +5,7 @@ set -euo pipefail
 export LC_ALL=C
 cd "$(dirname "$0")/.."
 
-usage=$'usage: netset merge|nets|not|count [FILE..] | minus|and A B.. | --help | --version\n'
+usage=$'usage: netset merge|nets|not|count [FILE..] | minus|and A B.. | show HOST | split NET LEN | nth NET INDEX | --help | --version\n'
 
 room=$(mktemp -d)
 trap 'rm -rf "$room"' EXIT
@@ -79,12 +79,38 @@ rows() {
     run 0 $'netset 0.1.0\n' '' '' --version
 }
 
+# The commands on one host or network.
+rows_of_one_network() {
+    run 0 $'network 192.0.2.0/24\nfirst 192.0.2.0\nlast 192.0.2.255\nmask 255.255.255.0\nlength 24\nfamily Ipv4\n' \
+        '' '' show 192.0.2.7/24
+    run 0 $'network ::1\nfirst ::1\nlast ::1\nmask ffff:ffff:ffff:ffff:ffff:ffff:ffff:ffff\nlength 128\nfamily Ipv6\n' \
+        '' '' show ::1
+    run 2 '' $'192.0.2.7/33: invalid length for network: Network length 33 is too long for Ipv4 (maximum: 32)\n' '' show 192.0.2.7/33
+    run 0 $'192.0.2.0/26\n192.0.2.64/26\n192.0.2.128/26\n192.0.2.192/26\n' '' '' split 192.0.2.0/24 26
+    run 0 $'0.0.0.0\n' '' '' split 0.0.0.0/32 32
+    run 2 '' $'23: no prefix length inside the network\n' '' split 192.0.2.0/24 23
+    run 2 '' $'33: no prefix length inside the network\n' '' split 192.0.2.0/24 33
+    run 2 '' $'x: no prefix length inside the network\n' '' split 192.0.2.0/24 x
+    run 2 '' $'192.0.2.1/24: host part of address was not zero\n' '' split 192.0.2.1/24 x
+    run 0 $'192.0.2.255\n' '' '' nth 192.0.2.0/24 255
+    run 1 '' '' '' nth 192.0.2.0/24 256
+    run 0 $'ffff:ffff:ffff:ffff:ffff:ffff:ffff:ffff\n' '' '' nth ::/0 340282366920938463463374607431768211455
+    run 2 '' $'340282366920938463463374607431768211456: no index below 2^128\n' '' nth ::/0 \
+        340282366920938463463374607431768211456
+    run 2 '' $'-1: no index below 2^128\n' '' nth ::/0 -1
+    run 2 '' "$usage" '' show
+    run 2 '' "$usage" '' split 192.0.2.0/24
+    run 2 '' "$usage" '' nth 192.0.2.0/24 1 2
+}
+
 # More than one block of 8192 bytes, in order.
 long_list() {
     local input output
     input=$(seq 0 2 65535 | awk '{ print "10.1." int($1 / 256) "." $1 % 256 }')
     output=$input$'\n'
     run 0 "$output" '' "$input" merge
+    output=$(seq 0 65535 | awk '{ print "10.1." int($1 / 256) "." $1 % 256 }')$'\n'
+    run 0 "$output" '' '' split 10.1.0.0/16 32
 }
 
 # Either stream fails, or both.
@@ -93,6 +119,10 @@ rows_where_a_stream_fails() {
     run 3 '' $'output failed\n' '10.0.0.0/8' merge
     run 2 '' $'-:1: host part of address was not zero\n' '10.0.0.1/8' merge
     run 3 '' $'output failed\n' '' --help
+    run 3 '' $'output failed\n' '' show ::1
+    run 3 '' $'output failed\n' '' split ::/0 128
+    run 3 '' $'output failed\n' '' nth ::/0 1
+    run 1 '' '' '' nth ::1 1
     local error_file=/dev/full
     run 3 '' '' '10.0.0.0/8' merge
     output_file=$room/output
@@ -115,6 +145,7 @@ for build in netset netset.by-rattle; do
     cp "out/$build" "$program"
     chmod 755 "$program"
     rows
+    rows_of_one_network
     long_list
     if [[ -c /dev/full ]]; then
         rows_where_a_stream_fails

@@ -20,6 +20,7 @@ use Rattle.netset.specs.declared.several.Several.{Several}
 -- why the file of this name is not read
 abbrev pub IsFileError : Option (List ℕ) → List ℕ → CommandError → Type 0
 IsFileError told name error.Usage = ⊥
+IsFileError told name (error.Argument text e) = ⊥
 IsFileError told name (error.Line file number e) = (file.now ≡ name) × ((text : List ℕ) → told ≡ Some text → IsFirstError text number e)
 IsFileError told name (error.Input file) = file.now ≡ name
 IsFileError told name error.NoMemory = Unit {0}

@@ -1,15 +1,25 @@
 -- The request that a command of the program is.
 use Rattle.std.specs.Prelude.{◌≡◌, ◌≢◌, ◌⊎◌, ℕ, true, false, List, length, codes, map}
 use Rattle.std.specs.List.{list_any}
-use Rattle.netset.specs.Commands.{Request, Lists, Help, Version, is_option}
+use Rattle.netset.specs.Commands.{Request, Lists, Single as ASingle, Help, Version, is_option}
 use Rattle.netset.specs.Combining.{takes}
 use Rattle.netset.specs.declared.operations.Operation.{Operation}
+use Rattle.netset.specs.Single.{SingleRequest, Show, Split, Nth}
 use Rattle.netset.specs.declared.commands.Command.{Command}
 use Rattle.netset.specs.declared.commands.Command.TheVariants as command
+use Rattle.netset.specs.declared.single.Single.{Single}
+use Rattle.netset.specs.declared.single.Single.TheVariants as single
+
+-- the same command on one host or network with the bytes of its arguments
+abbrev pub single_request : Single → SingleRequest
+single_request (single.Show host) = Show host.now
+single_request (single.Split net len) = Split net.now len.now
+single_request (single.Nth net place) = Nth net.now place.now
 
 -- the same command with the bytes of its arguments
 abbrev pub request_of : Command → Request
 request_of (command.Lists operation files) = Lists operation (map (λ file. file.now) files.now)
+request_of (command.Single single) = ASingle (single_request single)
 request_of command.Help = Help
 request_of command.Version = Version
 

@@ -9,12 +9,14 @@ use Rattle.netset.specs.Lists.{ListSays, networks_in}
 use Rattle.netset.specs.Combining.{counts, name_of, takes, IsMade}
 use Rattle.netset.specs.declared.operations.Operation.{Operation}
 use Rattle.netset.specs.Sets.{IsPrinted}
+use Rattle.netset.specs.Single.{SingleRequest, IsSingle, IsSingleAnswer}
 use Rattle.netset.specs.declared.answers.Verdict.{Verdict}
 use Rattle.netset.specs.declared.answers.Verdict.TheVariants.{Yes}
 
 -- a command and its arguments
 pub data Request : Type 0 where
   Lists : Operation → List (List ℕ) → Request
+  Single : SingleRequest → Request
   Help : Request
   Version : Request
 
@@ -26,6 +28,7 @@ is_option word = nat_lt 1 (length word) && (slice_index word 0 == 45)
 abbrev pub IsRequest : List (List ℕ) → Request → Type 0
 IsRequest words (Lists operation files) =
     (words ≡ name_of operation ∷ files) × (list_any is_option files ≡ false) × (takes operation (length files) ≡ true)
+IsRequest words (Single request) = IsSingle words request
 IsRequest words Help = words ≡ codes "--help" ∷ []
 IsRequest words Version = words ≡ codes "--version" ∷ []
 
@@ -65,12 +68,16 @@ help_text =
     ++ codes "netset and A B..        the addresses that each of the lists has\n"
     ++ codes "netset not [FILE..]     the addresses of IPv4 and those of IPv6 that no list has\n"
     ++ codes "netset count [FILE..]   how many addresses of IPv4 and of IPv6 the lists have\n"
+    ++ codes "netset show HOST        the network of a host: its ends, mask, length and family\n"
+    ++ codes "netset split NET LEN    the networks of this prefix length inside a network\n"
+    ++ codes "netset nth NET INDEX    the address of a network at an index, from 0 on\n"
     ++ codes "netset --help           this page\n"
     ++ codes "netset --version        the version\n"
     ++ codes "\n"
     ++ codes "A line of a list is a network or an address, and may end in a comment from # or ; on. The\n"
     ++ codes "file - is the standard input, which is also read where no file is named.\n"
-    ++ codes "Status: 0 done, 2 usage, a file that cannot be read or a line in error, 3 output or memory.\n"
+    ++ codes "Status: 0 done, 1 none, 2 usage, a wrong argument, a file that cannot be read or a line\n"
+    ++ codes "in error, 3 output or memory.\n"
 
 -- what `--version` writes
 abbrev pub version_text : List ℕ
@@ -80,5 +87,6 @@ version_text = codes "netset 0.1.0\n"
 abbrev pub IsAnswer : (List ℕ → Option (List ℕ)) → Request → List ℕ → Verdict → Type 0
 IsAnswer told (Lists operation files) answer verdict =
     ((texts : List (List ℕ)) → AreTold told (read_files files) texts → IsMadeOf operation texts answer) × (verdict ≡ Yes)
+IsAnswer told (Single request) answer verdict = IsSingleAnswer request answer verdict
 IsAnswer told Help answer verdict = (answer ≡ help_text) × (verdict ≡ Yes)
 IsAnswer told Version answer verdict = (answer ≡ version_text) × (verdict ≡ Yes)

@@ -1,8 +1,10 @@
--- What has to be believed: what lists say, what commands answer, and a run of the program. `Reading`, `Printing`, `Command`
--- and `Answering` are what private functions promise.
+-- What has to be believed: what lists say, what commands answer, and a run of the program. `Reading`, `Command`,
+-- `Collecting` and `Answering` are what private functions promise.
 pub mod Lists
 pub mod Reading
 pub mod Printing
+pub mod Collecting
+pub mod Single
 pub mod Sets
 pub mod Combining
 pub mod Commands

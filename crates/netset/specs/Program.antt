@@ -7,7 +7,10 @@ use Rattle.cidr_io.specs.Arguments.{AreArguments, AreUnreadable}
 use Rattle.cidr_io.specs.Writing.{State, Answered, Says}
 use Rattle.cidr_io.specs.declared.sink.OutputFailed.{OutputFailed}
 use Rattle.netset.specs.Lists.{ListSays, IsFirstError}
-use Rattle.netset.specs.Commands.{Request, Lists, Help, Version, IsRequest, IsUsage, read_files, AreTold, IsAnswer}
+use Rattle.netset.specs.Commands.{Request, Lists, Single, Help, Version, IsRequest, IsUsage, read_files, AreTold, IsAnswer}
+use Rattle.netset.specs.Single.{IsBadSingle}
+use Rattle.netset.specs.declared.errors.ArgumentError.{ArgumentError}
+use Rattle.netset.specs.declared.errors.ArgumentError.TheVariants as bad
 use Rattle.netset.specs.declared.errors.LineError.{LineError}
 use Rattle.netset.specs.declared.errors.LineError.TheVariants.{NotUtf8, NoNetwork}
 use Rattle.netset.specs.declared.answers.Verdict.{Verdict}
@@ -19,6 +22,7 @@ use Rattle.netset.specs.declared.errors.CommandError.TheVariants as error
 -- be read, or memory
 abbrev pub IsUnread : (List ℕ → Option (List ℕ)) → List (List ℕ) → CommandError → Type 0
 IsUnread told names error.Usage = ⊥
+IsUnread told names (error.Argument text e) = ⊥
 IsUnread told names (error.Line name number e) =
     (before : List (List ℕ)) × (after : List (List ℕ)) × (names ≡ before ++ name.now ∷ after)
     × ((texts : List (List ℕ)) → AreTold told before texts → (said : List (List (Option IpCidr))) × AllZip ListSays texts said)
@@ -27,10 +31,20 @@ IsUnread told names (error.Input name) = Contains names name.now
 IsUnread told names error.NoMemory = Unit {0}
 IsUnread told names error.Output = ⊥
 
--- the same of a request and its result
+-- the error is that of an argument
+abbrev pub IsBadArgument : (List ℕ → ArgumentError → Type 0) → CommandError → Type 0
+IsBadArgument IsBad error.Usage = ⊥
+IsBadArgument IsBad (error.Argument text e) = IsBad text.now e
+IsBadArgument IsBad (error.Line name number e) = ⊥
+IsBadArgument IsBad (error.Input name) = ⊥
+IsBadArgument IsBad error.NoMemory = ⊥
+IsBadArgument IsBad error.Output = ⊥
+
+-- why a request is not answered, and nothing is written
 abbrev pub IsRefused : (List ℕ → Option (List ℕ)) → Request → Result Verdict CommandError → Type 0
 IsRefused told request (Ok verdict) = ⊥
 IsRefused told (Lists operation files) (Err e) = IsUnread told (read_files files) e
+IsRefused told (Single request) (Err e) = IsBadArgument (IsBadSingle request) e
 IsRefused told Help (Err e) = ⊥
 IsRefused told Version (Err e) = ⊥
 
@@ -58,9 +72,16 @@ abbrev pub line_message : LineError → List ℕ
 line_message NotUtf8 = codes "not UTF-8"
 line_message (NoNetwork e) = parse_message e
 
+-- the message of an argument that is wrong
+abbrev pub argument_message : ArgumentError → List ℕ
+argument_message (bad.Network e) = parse_message e
+argument_message bad.Length = codes "no prefix length inside the network"
+argument_message bad.Index = codes "no index below 2^128"
+
 -- the line that is written to standard error
 abbrev pub error_line : CommandError → List ℕ
-error_line error.Usage = codes "usage: netset merge|nets|not|count [FILE..] | minus|and A B.. | --help | --version\n"
+error_line error.Usage = codes "usage: netset merge|nets|not|count [FILE..] | minus|and A B.. | show HOST | split NET LEN | nth NET INDEX | --help | --version\n"
+error_line (error.Argument text e) = text.now ++ (codes ": " ++ (argument_message e ++ codes "\n"))
 error_line (error.Line name number e) =
     name.now ++ (codes ":" ++ (decimal number ++ (codes ": " ++ (line_message e ++ codes "\n"))))
 error_line (error.Input name) = name.now ++ codes ": cannot be read\n"
@@ -77,6 +98,7 @@ abbrev pub status_of : Result Verdict CommandError → ℕ
 status_of (Ok Yes) = 0
 status_of (Ok No) = 1
 status_of (Err error.Usage) = 2
+status_of (Err (error.Argument text e)) = 2
 status_of (Err (error.Line name number e)) = 2
 status_of (Err (error.Input name)) = 2
 status_of (Err error.NoMemory) = 3

@@ -6,12 +6,15 @@ ghost use Rattle.netset.specs.Command.{AreMisfits, IsNoLoneWord, request_of};
 ghost use Rattle.netset.specs.Combining.{name_of};
 
 use crate::operations::{Operation, operation_of, takes};
+use crate::single::{Single, single_of};
 
 /// A command and its arguments.
 #[derive(Clone, Copy)]
 pub enum Command<'a> {
     /// An operation on the lists of these files.
     Lists(Operation, &'a [&'a str]),
+    /// A command on one host or network.
+    Single(Single<'a>),
     /// The page of the commands.
     Help,
     /// The version.
@@ -70,6 +73,9 @@ pub fn command_of<'a>(words: &'a [&'a str]) -> Option<Command<'a>>
     ensures { MatchOption result (IsUsage (map (λ w. w.now) words.now))
         (λ command. IsRequest (map (λ w. w.now) words.now) (request_of command)) }
 {
+    if let Some(single) = single_of(words) {
+        return Some(Command::Single(single));
+    }
     let (name, files) = words.split_first()?;
     match operation_of(name) {
         Some(operation) => lists_command(operation, files),

@@ -23,11 +23,24 @@ pub enum ReadError {
     NoMemory,
 }
 
+/// Why an argument is wrong.
+#[derive(Debug, Drop)]
+pub enum ArgumentError {
+    /// It is no network and no host: the error of parsing it.
+    Network(NetworkParseError),
+    /// It is no prefix length of networks inside the network.
+    Length,
+    /// It is no index below 2^128.
+    Index,
+}
+
 /// Why a command gave no answer.
 #[derive(Debug, Drop)]
 pub enum CommandError<'a> {
     /// The arguments are no command of the program; nothing was written.
     Usage,
+    /// The first argument that is wrong, and why; nothing was written.
+    Argument(&'a str, ArgumentError),
     /// The first line in error of this file, counted from 1; nothing was written.
     Line(&'a str, u64, LineError),
     /// This file can't be read; nothing was written.

@@ -2,6 +2,7 @@
 #![tactic(auto)]
 
 mod answers;
+mod collecting;
 mod combine;
 mod commands;
 mod errors;
@@ -14,6 +15,7 @@ mod program;
 mod report;
 mod sets;
 mod several;
+mod single;
 
 use cidr_io::arguments::Given;
 use cidr_io::sink::Tracked;

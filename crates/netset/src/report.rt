@@ -2,17 +2,17 @@
 ghost use Rattle.std.specs.Prelude.{◌≡◌, Err};
 ghost use Rattle.std.specs.List.{flat_map};
 ghost use Rattle.cidr_io.specs.Writing.{Answered, Says, Writes};
-ghost use Rattle.netset.specs.Program.{Reports, status_of, error_line, line_message};
+ghost use Rattle.netset.specs.Program.{Reports, status_of, error_line, line_message, argument_message};
 
 use crate::answers::Verdict;
-use crate::errors::{CommandError, LineError};
+use crate::errors::{ArgumentError, CommandError, LineError};
 use arrayvec::ArrayString;
 use cidr_io::sink::{OutputFailed, Sink};
 use cidr_io::writing::{flush, write_all};
 use itoa::Buffer;
 
 const USAGE: &str =
-    "usage: netset merge|nets|not|count [FILE..] | minus|and A B.. | --help | --version\n";
+    "usage: netset merge|nets|not|count [FILE..] | minus|and A B.. | show HOST | split NET LEN | nth NET INDEX | --help | --version\n";
 
 /// The longest message of an error.
 const MOST_MESSAGE: usize = 99;
@@ -29,6 +29,19 @@ fn message_of(error: &LineError) -> ArrayString<MOST_MESSAGE>
         }
         LineError::NoNetwork(e) => e.to_text(),
     }
+}
+
+/// The message of an argument that is wrong.
+fn argument_message(error: &ArgumentError) -> ArrayString<MOST_MESSAGE>
+    ensures { result.bytes ≡ argument_message error.now }
+{
+    let mut text = ArrayString::new();
+    match error {
+        ArgumentError::Network(e) => return e.to_text(),
+        ArgumentError::Length => text.push_str("no prefix length inside the network"),
+        ArgumentError::Index => text.push_str("no index below 2^128"),
+    }
+    text
 }
 
 /// Writes strings behind one another.
@@ -58,6 +71,9 @@ fn say<E: Sink>(error: &CommandError<'_>, err: &mut E)
 {
     let _ = match error {
         CommandError::Usage => write_line(err, &[USAGE]),
+        CommandError::Argument(text, e) => {
+            write_line(err, &[text, ": ", argument_message(e).as_str(), "\n"])
+        }
         CommandError::Line(name, number, e) => write_line(
             err,
             &[
@@ -80,7 +96,10 @@ fn status_of(error: &CommandError<'_>) -> u8
     ensures { result ≡ status_of (Err error.now) }
 {
     match error {
-        CommandError::Usage | CommandError::Line(_, _, _) | CommandError::Input(_) => 2,
+        CommandError::Usage
+        | CommandError::Argument(_, _)
+        | CommandError::Line(_, _, _)
+        | CommandError::Input(_) => 2,
         CommandError::NoMemory | CommandError::Output => 3,
     }
 }

@@ -5,7 +5,7 @@ returns-in-Usage g c = rw c.in-Usage.is (c.write_line.result, c.write_line.ensur
 
 pub returns-in-Line : goal.returns-in-Line
 returns-in-Line g c =
-    rw c.in-Line.is (c.write_line-in-Line.result, rw (c.format.ensures.text, c.as_str.ensures.value, c.message_of.ensures) at c.write_line-in-Line.ensures)
+    rw c.in-Line.is (c.write_line-in-Line.result, rw (c.format.ensures.text, c.as_str-in-Line.ensures.value, c.message_of.ensures) at c.write_line-in-Line.ensures)
 
 pub returns-in-Input : goal.returns-in-Input
 returns-in-Input g c = rw c.in-Input.is (c.write_line-in-Input.result, c.write_line-in-Input.ensures)
@@ -15,3 +15,7 @@ returns-in-NoMemory g c = rw c.in-NoMemory.is (c.write_line-in-NoMemory.result, 
 
 pub returns-in-Output : goal.returns-in-Output
 returns-in-Output g c = rw c.in-Output.is (c.write_line-in-Output.result, c.write_line-in-Output.ensures)
+
+pub returns-in-Argument : goal.returns-in-Argument
+returns-in-Argument g c =
+    rw c.in-Argument.is (c.write_line-in-Argument.result, rw (c.as_str.ensures.value, c.argument_message.ensures) at c.write_line-in-Argument.ensures)

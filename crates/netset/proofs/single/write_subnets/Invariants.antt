@@ -1,0 +1,5 @@
+use Rattle.netset.proofs.Walked.{Walked}
+use Rattle.netset.proofs.single.write_subnets.Given as goal
+
+abbrev pub invariant-loop-subnet : goal.invariant-loop-subnet
+invariant-loop-subnet g l = Walked l.fn.subnets l.subnets (g.S.Sink.state l.fn.out) (g.S.Sink.state l.out) l.block
