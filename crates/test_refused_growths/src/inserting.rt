@@ -123,22 +123,48 @@ fn are_found(
     Ok(true)
 }
 
+/// The table of the first addresses of so many blocks, each with the number of its block.
+fn first_addresses(alloc: Global, rows: u32) -> Result<LpmTable<Ipv4Cidr, u32>, AllocError> {
+    let mut routes = match LpmTable::with_capacity(alloc, rows as usize) {
+        Ok(routes) => routes,
+        Err(_) => LpmTable::with_capacity(alloc, rows as usize)?,
+    };
+    for i in 0..rows {
+        routes.set(Ipv4Cidr::new_host(Ipv4Addr::from_bits(i << 8)), i)?;
+    }
+    Ok(routes)
+}
+
 #[test]
 fn look_ups_are_made_ready_whichever_allocation_is_refused(rt: HostRuntime) -> Result<(), Fail> {
     for rows in [0_u32, 3, 16_384] {
-        let mut routes = match LpmTable::with_capacity(rt.alloc(), rows as usize) {
-            Ok(routes) => routes,
-            Err(_) => LpmTable::with_capacity(rt.alloc(), rows as usize)?,
-        };
-        for i in 0_u32..rows {
-            let key = Ipv4Cidr::new_host(Ipv4Addr::from_bits(i << 8));
-            assert_eq!(rt; routes.insert(key, i), Ok(None));
-        }
+        let routes = first_addresses(rt.alloc(), rows)?;
         let found = match are_found(rt.alloc(), &routes, rows) {
             Ok(found) => found,
             Err(_) => are_found(rt.alloc(), &routes, rows)?,
         };
         assert!(rt; found);
+    }
+    Ok(())
+}
+
+#[test]
+fn a_table_that_is_not_made_ready_comes_back(rt: HostRuntime) -> Result<(), Fail> {
+    for rows in [3_u32, 16_384] {
+        let ready = match first_addresses(rt.alloc(), rows)?.into_lookups(rt.alloc()) {
+            Ok(ready) => ready,
+            Err(same) => {
+                assert_eq!(rt; same.len(), rows as usize);
+                match same.into_lookups(rt.alloc()) {
+                    Ok(ready) => ready,
+                    Err(_) => return Err(Fail::new("refused twice")),
+                }
+            }
+        };
+        for i in 0_u32..rows {
+            let key = Ipv4Cidr::new_host(Ipv4Addr::from_bits(i << 8));
+            assert_eq!(rt; ready.lookup(&key).copied(), Some((key, i)));
+        }
     }
     Ok(())
 }
