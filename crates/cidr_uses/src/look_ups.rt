@@ -2,7 +2,7 @@
 ghost use Rattle.std.specs.Prelude.{◌≡◌, ◌≤◌, ◌⊎◌, List, Contains, IfOk, length};
 ghost use Rattle.cidr.specs.model.Network.{BeginsWith};
 ghost use Rattle.cidr_table.specs.LastRows.{AreLastRows};
-ghost use Rattle.cidr_table.specs.Prefixes.{IsLookedUp, AreMatching};
+ghost use Rattle.cidr_table.specs.Prefixes.{IsLookedUp, AreMatching, AreShortestFirst};
 
 use cidr::NetworkBits;
 use cidr_table::LpmTable;
@@ -56,4 +56,20 @@ pub fn matched_of_rows<C: NetworkBits + Copy, V: Copy + Drop>(
         × IsLookedUp C.bits (C.bits asked.now) table result }
 {
     LpmTable::from_rows(rows).lookup(asked).copied()
+}
+
+/// All rows whose network holds the asked one, the shortest prefix first, copied into a list.
+pub fn covering_rows<C: NetworkBits + Copy, V: Copy + Drop>(
+    alloc: Global,
+    routes: &LpmTable<C, V>,
+    asked: &C,
+) -> Result<Vec<(C, V)>, AllocError>
+    ensures rows { IfOk result (λ rows. AreMatching C.bits (C.bits asked.now) routes.now.rows rows.items) }
+    ensures shortest_first { IfOk result (λ rows. AreShortestFirst C.bits rows.items) }
+{
+    let mut rows = Vec::new(alloc);
+    for row in routes.matches(asked) {
+        rows.push(*row)?;
+    }
+    Ok(rows)
 }
