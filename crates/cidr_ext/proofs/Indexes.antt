@@ -1,5 +1,5 @@
 -- Networks inside a network, by the steps from its first address to theirs.
-use Rattle.std.proofs.Common.{◌≡◌, ℕ, ◌+◌, ◌-◌, ◌*◌, ◌%◌, ◌^◌, ◌<◌, ◌≤◌, Bool, true, false, List, ◌++◌, length, take, drop, refl, sym, ap, ◌∙◌, arith, nat_lt, Option, Some, None, MatchOption, Result, Ok, Err, IfOk, length-append, append_assoc, zero-add, take_at, drop_at}
+use Rattle.std.proofs.Common.{◌≡◌, ℕ, ◌+◌, ◌-◌, ◌*◌, ◌%◌, ◌^◌, ◌<◌, ◌≤◌, Bool, true, false, List, ◌++◌, length, take, drop, refl, sym, ap, ◌∙◌, arith, inl, inr, nat_lt, Option, Some, None, IfSome, MatchOption, Result, Ok, Err, IfOk, length-append, append_assoc, zero-add, take_at, drop_at}
 use Rattle.std.proofs.Math.Nat.{mod-eq_of_lt, mul-lt-mul_of_pos_right}
 use Rattle.std.proofs.lemmas.Nat.{pow_pos, pow-add}
 use Rattle.std.proofs.Math.Pow.{pow_mono}
@@ -93,6 +93,16 @@ step_below family l n i more behind longer e within f h =
     let sum : more + behind ≤ 128 = omega arith in
     let whole : 2 ^ (more + behind) ≤ 2 ^ 128 = pow_mono sum in
     omega (arith, scaled, whole)
+
+-- there is one
+pub is_there : (w n i : ℕ) (p : List Bool) → length p ≤ n → n ≤ w → i < 2 ^ (n - length p) → ¬ (NoSubnetAt w p n i)
+is_there w n i p longer within below (inl short) = omega arith
+is_there w n i p longer within below (inr (inl long)) = omega arith
+is_there w n i p longer within below (inr (inr past)) = omega arith
+
+pub where_some : {C : Type 0} (o : Option C) (P : Type 0) → P → IfSome o (λ _. P)
+where_some None P h = tt
+where_some (Some c) P h = h
 
 module _ {C : Type 0} (family_of : C → Family) (prefix : C → List Bool) (f : Family) (p : List Bool) (n i : ℕ) where
   pub subnet_made : (l more behind step : ℕ) (host stepped : Host) (f1 f2 f3 : Family) (a : List Bool)

@@ -16,3 +16,5 @@ pub mod NamedNetworks
 pub mod Matches
 pub mod Distinct
 pub mod Found
+pub mod MaskTexts
+pub mod ZoneNames

@@ -21,7 +21,7 @@ module _ (w n : ℕ) (within : n ≤ w) where
   powers : 2 ^ w ≡ 2 ^ n * 2 ^ (w - n)
   powers = let sum : w ≡ n + (w - n) = omega arith in ap (λ k. 2 ^ k) sum ∙ pow-add 2 n (w - n)
 
-  number-mask : number (ones n ++ zeros (w - n)) + 2 ^ (w - n) ≡ 2 ^ w
+  pub number-mask : number (ones n ++ zeros (w - n)) + 2 ^ (w - n) ≡ 2 ^ w
   number-mask =
       let whole : number (ones n ++ zeros (w - n)) ≡ (2 ^ n - 1) * 2 ^ (w - n) + 0 =
       number-append (ones n) (zeros (w - n)) ∙ ap₂ (λ x y. x + y) (ap₂ (λ x k. x * 2 ^ k) (number-ones n) (length-replicate (w - n) false)) (number-zeros (w - n)) in
@@ -31,16 +31,16 @@ module _ (w n : ℕ) (within : n ≤ w) where
       (let s : (2 ^ n - 1) * 2 ^ (w - n) + 2 ^ (w - n) ≡ ((2 ^ n - 1) + 1) * 2 ^ (w - n) = omega arith in s ∙ ap (λ x. x * 2 ^ (w - n)) e) in
       omega (arith, powers)
 
-  length-mask : length (ones n ++ zeros (w - n)) ≡ w
+  pub length-mask : length (ones n ++ zeros (w - n)) ≡ w
   length-mask = omega (arith, length-append (ones n) (zeros (w - n)), length-replicate n true, length-replicate (w - n) false)
 
-  number-host_mask : number (zeros n ++ ones (w - n)) ≡ 2 ^ (w - n) - 1
+  pub number-host_mask : number (zeros n ++ ones (w - n)) ≡ 2 ^ (w - n) - 1
   number-host_mask =
       let whole : number (zeros n ++ ones (w - n)) ≡ 0 * 2 ^ (w - n) + (2 ^ (w - n) - 1) =
       number-append (zeros n) (ones (w - n)) ∙ ap₂ (λ x y. x + y) (ap₂ (λ x k. x * 2 ^ k) (number-zeros n) (length-replicate (w - n) true)) (number-ones (w - n)) in
       omega arith
 
-  length-host_mask : length (zeros n ++ ones (w - n)) ≡ w
+  pub length-host_mask : length (zeros n ++ ones (w - n)) ≡ w
   length-host_mask = omega (arith, length-append (zeros n) (ones (w - n)), length-replicate n false, length-replicate (w - n) true)
 
 not_wider : (w k c : ℕ) → c < 2 ^ w → c ≡ 2 ^ k - 1 → k ≤ w

@@ -1,5 +1,7 @@
 //! The networks of all addresses of a family.
-ghost use Rattle.std.specs.Prelude.{◌≡◌, ◌≢◌, [], MatchOption};
+ghost use Rattle.std.specs.Prelude.{◌≡◌, ◌≢◌, [], Bool, List, length, refl, MatchOption};
+ghost use Rattle.cidr.specs.model.Network.{width_of};
+ghost use Rattle.cidr_ext.specs.Families.{ip_addresses};
 
 use cidr::{BitString, Cidr, Family, IpCidr, Ipv4Cidr, Ipv6Cidr};
 
@@ -10,9 +12,16 @@ pub trait WholeFamily: Cidr {
         ensures { MatchOption result (((network : Self) → Self.family_of network ≢ family) ×
             ((address : Self.Address) → Self.Address.family_of address ≢ family))
             (λ all. (Self.family_of all ≡ family) × (Self.prefix all ≡ [])) };
+
+    /// Each list of as many bits as the addresses of a network have is an address of its family.
+    ghost addresses: { (network : Self) (bits : List Bool) → length bits ≡ width_of (Self.family_of network) →
+        (address : Self.Address) × (Self.Address.family_of address ≡ Self.family_of network) ×
+        (Self.Address.bits address ≡ bits) };
 }
 
 impl WholeFamily for Ipv4Cidr {
+    ghost addresses = { λ network bits size. (bits, refl, refl) };
+
     fn all_of(family: Family) -> Option<Ipv4Cidr> {
         match family {
             Family::Ipv4 => Some(Ipv4Cidr::null()),
@@ -22,6 +31,8 @@ impl WholeFamily for Ipv4Cidr {
 }
 
 impl WholeFamily for Ipv6Cidr {
+    ghost addresses = { λ network bits size. (bits, refl, refl) };
+
     fn all_of(family: Family) -> Option<Ipv6Cidr> {
         match family {
             Family::Ipv4 => None,
@@ -31,6 +42,8 @@ impl WholeFamily for Ipv6Cidr {
 }
 
 impl WholeFamily for IpCidr {
+    ghost addresses = { ip_addresses };
+
     fn all_of(family: Family) -> Option<IpCidr> {
         Some(match family {
             Family::Ipv4 => IpCidr::V4(Ipv4Cidr::null()),

@@ -3,8 +3,9 @@
 //! They are traits, which a `use` brings in. `NetworkExt` has networks as the nodes of a tree (`parent`, `halves`,
 //! `sibling`, `supernet`, `overlaps`, `spanning`), `IpCidrExt` the same for `IpCidr`, `CidrExt` what is counted
 //! (`subnets`, `next_network`, `host_mask`, `nth`, `position`, `usable_hosts`), `AddressExt` numbers and masks of
-//! addresses, and `SpecialAddress` what addresses are for (`special_entry`, `is_global`, `is_private`). Each call has
-//! one body for both families.
+//! addresses, `CidrMaskText` masks in strings, `CidrReverseName` and `AddressReverseName` names in reverse DNS, and
+//! `SpecialAddress` what addresses are for (`special_entry`, `is_global`, `is_private`). Each call has one body for both
+//! families.
 //!
 //! ```
 //! let network = "2001:db8::/48".parse::<Ipv6Cidr>()?;
@@ -12,7 +13,8 @@
 //! network.sibling() // Some(2001:db8:1::/48)
 //! ```
 //!
-//! No call allocates. What can fail returns `None`, and its contract says exactly where.
+//! No call allocates. What can fail returns `None`, and its contract says exactly where; a string with a mask that does
+//! not parse is a `MaskParseError`.
 #![tactic(auto)]
 
 mod address;
@@ -20,11 +22,13 @@ mod either_family;
 mod families;
 mod inside_ipv6;
 pub mod laws;
+mod mask_text;
 mod network;
 mod numbered;
 mod registry;
 mod reverse;
 mod reverse_read;
+mod reverse_zones;
 mod shifts;
 mod special;
 mod subnets;
@@ -32,9 +36,11 @@ mod subnets;
 pub use address::AddressExt;
 pub use either_family::IpCidrExt;
 pub use inside_ipv6::{Ipv4AddrExt, Ipv4CidrExt, Ipv6AddrExt, Ipv6CidrExt};
+pub use mask_text::{CidrMaskText, MaskParseError};
 pub use network::NetworkExt;
 pub use numbered::CidrExt;
 pub use registry::{IPV4_ENTRIES, IPV6_ENTRIES, Purpose, SpecialEntry};
 pub use reverse::{AddressReverseName, CidrReverseName};
+pub use reverse_zones::ReverseZones;
 pub use special::SpecialAddress;
 pub use subnets::Subnets;

@@ -23,9 +23,12 @@ pub trait CidrExt: Cidr {
     /// "2001:db8::/48".parse::<Ipv6Cidr>()?.subnet(64, 255) // Some(2001:db8:0:ff::/64)
     /// ```
     fn subnet(&self, len: u8, index: u128) -> Option<Self>
-        ensures { MatchOption result (NoSubnetAt (width_of (Self.family_of self.now)) (Self.prefix self.now) len index)
+        ensures value { MatchOption result
+            (NoSubnetAt (width_of (Self.family_of self.now)) (Self.prefix self.now) len index)
             (λ inner. (Self.family_of inner ≡ Self.family_of self.now) ×
-            IsSubnetAt (Self.prefix self.now) len index (Self.prefix inner)) };
+            IsSubnetAt (Self.prefix self.now) len index (Self.prefix inner)) }
+        ensures within { IfSome result
+            (λ _. ¬ (NoSubnetAt (width_of (Self.family_of self.now)) (Self.prefix self.now) len index)) };
 
     /// The networks of prefix length `len` inside this one, ascending, or `None` where `len` is below the length of
     /// this network or above the width, 32 or 128. The network of that length itself is its only one.
@@ -34,7 +37,9 @@ pub trait CidrExt: Cidr {
             ((len < length (Self.prefix self.now)) ⊎ (width_of (Self.family_of self.now) < len))
             (λ networks. networks ≡ subnets_of (Self.family_of self.now) (Self.prefix self.now) len) }
         ensures exactly { IfSome result
-            (HasExactlySubnets (Self.family_of self.now) (Self.prefix self.now) len) };
+            (HasExactlySubnets (Self.family_of self.now) (Self.prefix self.now) len) }
+        ensures within { IfSome result (λ _. (length (Self.prefix self.now) ≤ len) ×
+            (len ≤ width_of (Self.family_of self.now))) };
 
     /// How many addresses the network has, or `None` for ::/0, whose 2^128 are more than a `u128` has room for.
     ///

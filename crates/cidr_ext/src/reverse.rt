@@ -1,23 +1,25 @@
 //! The names of addresses and networks in reverse DNS.
-ghost use Rattle.std.specs.Prelude.{◌≡◌, ◌+◌, ◌*◌, ◌/◌, ◌%◌, ◌^◌, ◌<◌, ◌≤◌, [], ◌∷◌, ◌++◌, Bool, List, decimal, length, reverse, IfSome, MatchOption, Some};
+ghost use Rattle.std.specs.Prelude.{◌≡◌, ◌+◌, ◌*◌, ◌/◌, ◌%◌, ◌^◌, ◌<◌, ◌≤◌, [], ◌∷◌, ◌++◌, ℕ, Bool, List, decimal, length, reverse, IfSome, MatchOption, Some};
 ghost use Rattle.std.specs.Char.{digit_char};
 ghost use Rattle.cidr.specs.model.Address.{parts_of};
 ghost use Rattle.cidr.specs.model.Bits.{number};
 ghost use Rattle.cidr.specs.texts.Ipv4Text.{dot};
+ghost use Rattle.cidr_ext.specs.Zones.{IsZoneLength, zones_of};
 ghost use Rattle.cidr_ext.specs.Reverse.{domain_of, EndsAtLabel, IsReverseAddressName, IsReverseName, label_text, label_width, labels_text, longest_label, reverse_text};
 
 use crate::address::AddressExt;
 use crate::families::WholeFamily;
 use crate::numbered::CidrExt;
 use crate::reverse_read::read_name;
+use crate::reverse_zones::{ReverseZones, zone_length};
 use arrayvec::ArrayString;
 use cidr::{Address, Cidr, Family};
 
 /// Names of networks in reverse DNS, for `Ipv4Cidr`, `Ipv6Cidr` and `IpCidr`.
 pub trait CidrReverseName: Cidr {
     /// The domain name of the network in reverse DNS, or `None` where the prefix length doesn't end at a label: it has
-    /// to be a multiple of 8 in IPv4 (RFC 1035, 3.5) and of 4 in IPv6 (RFC 3596, 2.5). The names of RFC 2317, for
-    /// smaller IPv4 networks, are left out.
+    /// to be a multiple of 8 in IPv4 (RFC 1035, 3.5) and of 4 in IPv6 (RFC 3596, 2.5); `reverse_zones` has names for
+    /// the others. Those of RFC 2317, for IPv4 networks smaller than /24, are left out.
     ///
     /// The name is in lower case and has no final dot. It has at most 72 bytes, and nothing is allocated.
     ///
@@ -30,6 +32,20 @@ pub trait CidrReverseName: Cidr {
         ensures { MatchOption result (¬ (EndsAtLabel (Self.family_of self.now) (Self.prefix self.now)))
             (λ name. (name.bytes ≡ reverse_text (Self.family_of self.now) (Self.prefix self.now)) ×
             (EndsAtLabel (Self.family_of self.now) (Self.prefix self.now))) };
+
+    /// The names in reverse DNS of the zones that the network is delegated in, ascending: those of the networks inside
+    /// it whose prefix length is the next one that ends at a label. They are at most 128 in IPv4 and 8 in IPv6, and of a
+    /// network that has a name itself only this one.
+    ///
+    /// ```
+    /// let mut zones = "192.0.2.0/23".parse::<Ipv4Cidr>()?.reverse_zones();
+    /// zones.next() // Some("2.0.192.in-addr.arpa")
+    /// zones.next() // Some("3.0.192.in-addr.arpa")
+    /// zones.next() // None
+    /// ```
+    fn reverse_zones(&self) -> ReverseZones<Self>
+        ensures { (len : ℕ) × IsZoneLength (Self.family_of self.now) (length (Self.prefix self.now)) len ×
+            (result ≡ zones_of (Self.family_of self.now) (Self.prefix self.now) len) };
 
     /// The network that has this name in reverse DNS, or `None` where no network of the type has it. It is the inverse
     /// of `reverse_name`.
@@ -111,6 +127,11 @@ where
         push_labels(&mut name, family, value, len / width);
         push_domain(&mut name, family);
         Some(name)
+    }
+
+    fn reverse_zones(&self) -> ReverseZones<C> {
+        let len = zone_length(self.family(), self.network_length());
+        ReverseZones::_new(self.subnets(len).unwrap())
     }
 
     fn from_reverse_name(name: &str) -> Option<C> {

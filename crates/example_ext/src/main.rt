@@ -6,6 +6,7 @@
 
 mod either_family;
 mod error;
+mod masks;
 mod special;
 
 use cidr::{IpAddr, Ipv4Addr, Ipv4Cidr, Ipv6Cidr};
@@ -19,7 +20,8 @@ fn main(rt: HostRuntime) -> Result<(), ExampleError> {
     counted(&rt)?;
     subnets(&rt)?;
     special::special(&rt)?;
-    addresses(&rt)
+    addresses(&rt)?;
+    masks::masks(&rt)
 }
 
 /// The nodes of the tree around a network.

@@ -10,6 +10,7 @@ use std::io;
 
 fn main(rt: HostRuntime) -> Result<(), Failure> {
     names(&rt)?;
+    zones(&rt)?;
     names_read(&rt)?;
     inside_ipv6(&rt)
 }
@@ -19,6 +20,14 @@ fn names(rt: &HostRuntime) -> Result<(), Failure> {
     println!(rt; "{:?}", "192.0.2.0/24".parse::<Ipv4Cidr>()?.reverse_name())?; // Some("2.0.192.in-addr.arpa")
     println!(rt; "{:?}", "2001:db8::/32".parse::<Ipv6Cidr>()?.reverse_name())?; // Some("8.b.d.0.1.0.0.2.ip6.arpa")
     println!(rt; "{:?}", "192.0.2.0/25".parse::<Ipv4Cidr>()?.reverse_name())?; // None
+    Ok(())
+}
+
+fn zones(rt: &HostRuntime) -> Result<(), Failure> {
+    let mut zones = "192.0.2.0/23".parse::<Ipv4Cidr>()?.reverse_zones();
+    println!(rt; "{:?}", zones.next())?; // Some("2.0.192.in-addr.arpa")
+    println!(rt; "{:?}", zones.next())?; // Some("3.0.192.in-addr.arpa")
+    println!(rt; "{:?}", zones.next())?; // None
     Ok(())
 }
 

@@ -1,7 +1,7 @@
 //! Addresses of a network by their index, and masks.
 use crate::support::read;
 use cidr::{IpAddr, IpCidr, Ipv4Addr, Ipv4Cidr, Ipv6Addr, Ipv6Cidr};
-use cidr_ext::{AddressExt, CidrExt};
+use cidr_ext::{AddressExt, CidrExt, CidrMaskText, MaskParseError};
 
 #[test]
 fn addresses_by_index(rt: HostRuntime) {
@@ -58,6 +58,37 @@ fn masks(rt: HostRuntime) {
     }
     assert!(rt; read::<IpAddr>(&rt, "ffff:ffff::").mask_length() == Some(32));
     assert!(rt; read::<Ipv6Addr>(&rt, "::").mask_length() == Some(0));
+}
+
+#[test]
+fn masks_in_strings(rt: HostRuntime) {
+    // IPv4Network('192.0.2.48/28').with_netmask and with_hostmask
+    let network = read::<IpCidr>(&rt, "192.0.2.48/28");
+    assert!(rt; network.to_mask_text().as_str() == "192.0.2.48/255.255.255.240");
+    assert!(rt; network.to_host_mask_text().as_str() == "192.0.2.48/0.0.0.15");
+    // the longest string: IPv6Network('ffff:ffff:ffff:ffff:ffff:ffff:ffff:ffff').with_netmask
+    let last = read::<Ipv6Cidr>(&rt, "ffff:ffff:ffff:ffff:ffff:ffff:ffff:ffff");
+    assert!(rt; last.to_mask_text().as_str().len() == 79);
+    assert!(rt; Ipv6Cidr::from_mask_text(last.to_mask_text().as_str()) == Ok(last));
+    for (text, network) in [
+        ("192.0.2.48/0.0.0.15", "192.0.2.48/28"),
+        // a mask that could be either is a network mask
+        ("0.0.0.0/0.0.0.0", "0.0.0.0/0"),
+        ("0.0.0.0/255.255.255.255", "0.0.0.0/32"),
+        ("2001:db8::/ffff:ffff::", "2001:db8::/32"),
+    ] {
+        assert!(rt; IpCidr::from_mask_text(text) == Ok(read::<IpCidr>(&rt, network)));
+    }
+    for (text, error) in [
+        ("192.0.2.0", MaskParseError::NoSlash),
+        ("192.0.2.0/24/255.255.255.0", MaskParseError::InvalidAddress),
+        ("192.0.2.0/24", MaskParseError::InvalidMask),
+        ("192.0.2.0/ffff:ff00::", MaskParseError::InvalidMask),
+        ("192.0.2.0/255.0.255.0", MaskParseError::NonContiguousMask),
+        ("192.0.2.1/0.0.0.0", MaskParseError::InvalidHostPart),
+    ] {
+        assert!(rt; IpCidr::from_mask_text(text) == Err(error));
+    }
 }
 
 #[test]

@@ -51,6 +51,32 @@ fn a_network_has_a_name_where_it_ends_at_a_label(rt: HostRuntime) {
 }
 
 #[test]
+fn zones_at_the_next_label(rt: HostRuntime) {
+    // [net.network_address.reverse_pointer for net in ip_network("192.0.2.128/30").subnets(new_prefix=32)]
+    let mut zones = read::<IpCidr>(&rt, "192.0.2.128/30").reverse_zones();
+    assert!(rt; zones.size_hint() == (4, Some(4)));
+    for name in [
+        "128.2.0.192.in-addr.arpa",
+        "129.2.0.192.in-addr.arpa",
+        "130.2.0.192.in-addr.arpa",
+        "131.2.0.192.in-addr.arpa",
+    ] {
+        let zone = zones.next().expect(&rt, "a zone");
+        assert!(rt; zone.as_str() == name);
+    }
+    assert!(rt; zones.next().is_none());
+    let mut zones = read::<Ipv6Cidr>(&rt, "2001:db8::/33").reverse_zones();
+    let last = zones.next_back().expect(&rt, "a zone");
+    assert!(rt; last.as_str() == "7.8.b.d.0.1.0.0.2.ip6.arpa");
+    assert!(rt; zones.count() == 7);
+    // one that has a name is its own zone
+    let mut zones = read::<Ipv4Cidr>(&rt, "10.0.0.0/8").reverse_zones();
+    let own = zones.next().expect(&rt, "a zone");
+    assert!(rt; own.as_str() == "10.in-addr.arpa");
+    assert!(rt; zones.next().is_none());
+}
+
+#[test]
 fn names_are_read_back(rt: HostRuntime) {
     // RFC 1035, 3.5; RFC 3596, 2.5; Python: ip_address("2001:db8::1").reverse_pointer
     for (name, address) in [

@@ -1,0 +1,19 @@
+use Rattle.std.proofs.Common.{arith, sym, subst}
+use Rattle.cidr.specs.model.Network.{width_of, first_of, mask_of}
+use Rattle.cidr_ext.specs.MaskText.{IsMaskText}
+use Rattle.cidr_ext.proofs.MaskTexts.{mask_printed, printed}
+use Rattle.cidr_ext.proofs.mask_text.AnyCidrMaskText.to_mask_text.Goals as goal
+
+pub returns-clause-text : goal.returns-clause-text
+returns-clause-text g c =
+    let f = g.C.PrivCidr.family_of c.args.self.now in
+    let p = g.C.PrivCidr.prefix c.args.self.now in
+    printed f (g.C.Address.PrivUnspecAddress.family_of c.first_address.result) (g.C.Address.PrivUnspecAddress.family_of c.mask.result)
+    (g.C.Address.PrivUnspecAddress.bits c.first_address.result) (g.C.Address.PrivUnspecAddress.bits c.mask.result) (first_of (width_of f) p) (mask_of (width_of f) p)
+    c.with_mask.result.bytes c.with_mask.ensures c.first_address.ensures.family c.mask.ensures.family c.first_address.ensures.value c.mask.ensures.value
+
+pub returns-clause-read : goal.returns-clause-read
+returns-clause-read g c =
+    let f = g.C.PrivCidr.family_of c.args.self.now in
+    let p = g.C.PrivCidr.prefix c.args.self.now in
+    subst (λ t. IsMaskText f t p) (sym (returns-clause-text g c)) (mask_printed f p (omega (arith, c.network_length-len.ensures.value, c.network_length-len.ensures.fits)))
