@@ -122,8 +122,8 @@ class _Shown:
         return Address._of(self._part(calls.mask))
 
 
-def _compared(one: Value, other: Value) -> int:
-    order = calls.compare(one, other)
+def _compared(call: Any, one: Value, other: Value) -> int:
+    order = call(one, other)
     if order > 2:
         check(order)
     return order - 1
@@ -137,7 +137,7 @@ class Address(_Shown):
     _print = calls.print_address
 
     def _order(self, other: "Address") -> int:
-        return _compared(self._value, other._value)
+        return _compared(calls.compare, self._value, other._value)
 
     def __int__(self) -> int:
         return self._value.high << 64 | self._value.low
@@ -151,11 +151,12 @@ class Host(_Shown):
     _print = calls.print_host
 
     def _order(self, other: "Host") -> int:
-        mine, theirs = self._sorted(), other._sorted()
-        return (mine > theirs) - (mine < theirs)
+        return _compared(calls.compare_hosts, self._value, other._value)
 
-    def _sorted(self) -> Tuple[bool, int, int, int]:
-        return (self._value.tag >= 64, self._value.high, self._value.low, self._value.tag)
+    @property
+    def with_length(self) -> str:
+        """The string with its prefix length also where that is full: ``192.0.2.1/32``."""
+        return printed(calls.print_host_with_length, self._value)
 
     @property
     def address(self) -> Address:
@@ -180,7 +181,7 @@ class Network(_Shown):
     _print = calls.print_network
 
     def _order(self, other: "Network") -> int:
-        return _compared(self._value, other._value)
+        return _compared(calls.compare, self._value, other._value)
 
     @property
     def with_length(self) -> str:
@@ -349,8 +350,8 @@ class NetworkSet:
 class Table(Generic[V]):
     """A table of networks with a value each: ``Table({"10.0.0.0/8": 1})``.
 
-    `lookup` gives the longest network that an address, or a network, is in, with its value. Each call of the library
-    goes through all rows: `lookup_each` looks up many by one call.
+    `lookup` gives the longest network that an address, or a network, is in, with its value: one look in a `dict` for
+    each prefix length. `lookup_each` looks up many by one call of the library, which goes through all rows first.
     """
 
     def __init__(self, rows: Any = ()) -> None:
@@ -394,23 +395,33 @@ class Table(Generic[V]):
 
     def lookup(self, asked: Union[Address, Network, str]) -> Optional[Tuple[Network, V]]:
         """The longest network that the address is in, with its value, or None."""
-        return self._found(array([_network_value(asked)]))[0]
+        for key in _outer_keys(_network_value(asked)):
+            if key in self._rows:
+                return _row_network(key), self._rows[key]
+        return None
 
     def lookup_each(
         self, asked: Iterable[Union[Address, Network, str]]
     ) -> List[Optional[Tuple[Network, V]]]:
         """The same for each of many, by one call of the library."""
-        return self._found(_values(asked))
-
-    def _found(self, asked: ctypes.Array) -> List[Optional[Tuple[Network, V]]]:
-        rows, networks = self._ascending(), self._networks
-        out = (ctypes.c_size_t * len(asked))()
-        check(calls.longest_match_each(networks, len(networks), asked, len(asked), out, len(out)))
+        values, rows, networks = _values(asked), self._ascending(), self._networks
+        out = (ctypes.c_size_t * len(values))()
+        check(calls.longest_match_each(networks, len(networks), values, len(values), out, len(out)))
         return [None if index == NO_INDEX else rows[index] for index in out]
 
 
 def _row_key(value: Value) -> Tuple[int, int]:
     return (value.tag, value.high << 64 | value.low)
+
+
+def _outer_keys(value: Value) -> Iterator[Tuple[int, int]]:
+    """The keys of all networks that this one is in, the longest first: itself, and `any` as the last."""
+    tag, number = _row_key(value)
+    if tag != 255:
+        shortest, width = (0, 32) if tag < 64 else (64, 128)
+        for rest in range(width - (tag - shortest), width + 1):
+            yield shortest + width - rest, number >> rest << rest
+    yield 255, 0
 
 
 def _row_order(key: Tuple[int, int]) -> Tuple[int, int, int]:

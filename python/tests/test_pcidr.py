@@ -54,6 +54,8 @@ class Values(unittest.TestCase):
             self.assertEqual(str(ours.address), str(theirs.ip))
             self.assertEqual(ours.network, Network(str(theirs.network)))
             self.assertIn(ours.address, ours.network)
+            self.assertEqual(ours.with_length, str(theirs))
+            self.assertEqual(str(ours), long_text(theirs.network) if theirs.network.num_addresses == 1 else str(theirs))
 
     def test_strings_that_are_none(self):
         for text in ("", "10.0.0.1/8", "10.0.0.0/33", "10.0.0/8", "::/129", "x", "10.0.0.0/8 ", "::1%1", "\ud800", "\n"):
@@ -86,7 +88,14 @@ class Values(unittest.TestCase):
         self.assertEqual(len(set(ours)), len(set(theirs)))
         self.assertEqual(repr(Network("10.0.0.0/8")), "Network('10.0.0.0/8')")
         self.assertLess(Network("any"), Network("0.0.0.0/0"))
-        self.assertLess(Host("10.0.0.5/8"), Host("10.0.0.5/9"))
+
+    def test_order_of_hosts(self):
+        theirs = [ipaddress.ip_interface(f"{n[RANDOM.randrange(4) % n.num_addresses]}/{n.prefixlen}") for n in
+                  [random_network() for _ in range(200)] + near_networks(100)]
+        ours = sorted(Host(str(host)) for host in theirs)
+        wanted = sorted(theirs, key=lambda host: (host.version, int(host.ip), host.network.prefixlen))
+        self.assertEqual([host.with_length for host in ours], list(map(str, wanted)))
+        self.assertLess(Host("10.0.0.0"), Host("10.0.0.1/8"))
 
     def test_containment(self):
         networks = near_networks(60)
@@ -154,8 +163,20 @@ class Tables(unittest.TestCase):
                 best = max(found, key=lambda n: n.prefixlen, default=None)
                 wanted.append(None if best is None else (Network(str(best)), theirs[best]))
             self.assertEqual(ours.lookup_each(map(str, asked)), wanted)
-            self.assertEqual(ours.lookup(str(asked[0])), wanted[0])
+            self.assertEqual([ours.lookup(str(address)) for address in asked], wanted)
             self.assertEqual(list(ours), sorted(Network(str(network)) for network in theirs))
+
+    def test_lookups_of_networks_of_both_families(self):
+        names = ["any", "0.0.0.0/0", "10.0.0.0/8", "10.1.2.3", "::/0", "2001:db8::/32", "2001:db8::1"]
+        rows = {name: i for i, name in enumerate(names)}
+        asked = names + ["10.1.0.0/16", "11.0.0.0/8", "2001:db8::/31", "2001:db8::/33", "2001:db8::2", "fe80::1"]
+        values = [0, 1, 2, 3, 4, 5, 6, 2, 1, 4, 5, 5, 4]
+        wanted = [(Network(names[value]), value) for value in values]
+        for table in (Table(rows), Table([(Network(name), value) for name, value in rows.items()])):
+            self.assertEqual([table.lookup(name) for name in asked], wanted)
+            self.assertEqual(table.lookup_each(asked), wanted)
+        del table["any"]
+        self.assertIsNone(table.lookup("any"))
 
     def test_the_rows_of_a_dict(self):
         table = Table({"10.0.0.0/8": 1})

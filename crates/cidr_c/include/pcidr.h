@@ -119,6 +119,9 @@ size_t pcidr_print_address(const pcidr_value *address, char *out, size_t out_len
 /* A host, without a full prefix length: 10.0.0.5/8, or 10.0.0.5 for 10.0.0.5/32. */
 size_t pcidr_print_host(const pcidr_value *host, char *out, size_t out_len);
 
+/* A host, always with its prefix length: 10.0.0.5/32. */
+size_t pcidr_print_host_with_length(const pcidr_value *host, char *out, size_t out_len);
+
 /* A network, without a full prefix length. */
 size_t pcidr_print_network(const pcidr_value *network, char *out, size_t out_len);
 
@@ -173,7 +176,11 @@ uint32_t pcidr_contains(const pcidr_value *outer, const pcidr_value *inner);
  * first, then IPv4, then IPv6; in a family the lower first address, and then the shorter prefix. */
 uint32_t pcidr_compare(const pcidr_value *one, const pcidr_value *other);
 
-/* The same for `qsort` and `bsearch` over networks: below, at or above 0. */
+/* The same of two hosts: IPv4 comes before IPv6; in a family the lower address comes first, and then the shorter prefix
+ * length, so that 10.0.0.1/8 comes after 10.0.0.0/32. */
+uint32_t pcidr_compare_hosts(const pcidr_value *one, const pcidr_value *other);
+
+/* `pcidr_compare` for `qsort` and `bsearch` over networks: below, at or above 0. */
 static inline int pcidr_order(const void *one, const void *other) {
     return (int)pcidr_compare((const pcidr_value *)one, (const pcidr_value *)other) - 1;
 }
@@ -199,6 +206,17 @@ uint32_t pcidr_difference(const pcidr_value *these, size_t these_len, const pcid
                           pcidr_value *out, size_t out_len, size_t *count);
 uint32_t pcidr_symmetric_difference(const pcidr_value *these, size_t these_len, const pcidr_value *those,
                                     size_t those_len, pcidr_value *out, size_t out_len, size_t *count);
+
+/* The same in place: the first `count` networks of `networks` are replaced by the set of the addresses that they have or
+ * the others have (union), that both have (intersection), or that they have and the others have not (difference), and
+ * `count` becomes its number of networks. `networks_len` is the room; a `count` above it stands for all of it. What is
+ * behind the set is not specified. Errors as above; then `networks` is as it was. Allocates. */
+uint32_t pcidr_union_in_place(pcidr_value *networks, size_t networks_len, size_t *count, const pcidr_value *others,
+                              size_t others_len);
+uint32_t pcidr_intersection_in_place(pcidr_value *networks, size_t networks_len, size_t *count,
+                                     const pcidr_value *others, size_t others_len);
+uint32_t pcidr_difference_in_place(pcidr_value *networks, size_t networks_len, size_t *count,
+                                   const pcidr_value *others, size_t others_len);
 
 /* For each of the asked networks or addresses, 1 where the list has all of its addresses, and 0 where not, at the same
  * index of `out`. Errors: NO_MEMORY, NO_ROOM, and then `out` is as it was; NO_VALUE, and then what `out` has is not

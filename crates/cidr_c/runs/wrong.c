@@ -40,6 +40,9 @@ int main(void) {
     WANT(pcidr_intersection(NULL, 0, NULL, 0, NULL, 0, &count) == PCIDR_OK && count == 0);
     WANT(pcidr_difference(NULL, 0, NULL, 0, NULL, 0, &count) == PCIDR_OK && count == 0);
     WANT(pcidr_symmetric_difference(NULL, 0, NULL, 0, NULL, 0, &count) == PCIDR_OK && count == 0);
+    WANT(pcidr_union_in_place(NULL, 0, &count, NULL, 0) == PCIDR_OK && count == 0);
+    WANT(pcidr_intersection_in_place(NULL, 0, &count, NULL, 0) == PCIDR_OK && count == 0);
+    WANT(pcidr_difference_in_place(NULL, 0, &count, NULL, 0) == PCIDR_OK && count == 0);
     WANT(pcidr_contains_each(NULL, 0, NULL, 0, NULL, 0) == PCIDR_OK);
     WANT(pcidr_longest_match_each(NULL, 0, NULL, 0, NULL, 0) == PCIDR_OK);
 
@@ -61,6 +64,7 @@ int main(void) {
         WANT(pcidr_print_network(&bad[i], text, sizeof text) == 0 && text[0] == 'x');
         WANT(pcidr_print_network_with_length(&bad[i], text, sizeof text) == 0 && text[0] == 'x');
         WANT(pcidr_print_host(&bad[i], text, sizeof text) == 0 && text[0] == 'x');
+        WANT(pcidr_print_host_with_length(&bad[i], text, sizeof text) == 0 && text[0] == 'x');
         WANT(pcidr_print_address(&bad[i], text, sizeof text) == 0 && text[0] == 'x');
         WANT(pcidr_network_to_bytes(&bad[i], bytes, sizeof bytes) == 0);
         WANT(pcidr_host_to_bytes(&bad[i], bytes, sizeof bytes) == 0);
@@ -74,7 +78,15 @@ int main(void) {
         WANT(pcidr_at(&bad[i], 0, 1, &out) == PCIDR_NO_VALUE && is_same(out, mark));
         WANT(pcidr_contains(&bad[i], &wide) == PCIDR_NO_VALUE && pcidr_contains(&wide, &bad[i]) == PCIDR_NO_VALUE);
         WANT(pcidr_compare(&bad[i], &wide) == PCIDR_NO_VALUE && pcidr_compare(&wide, &bad[i]) == PCIDR_NO_VALUE);
+        WANT(pcidr_compare_hosts(&bad[i], &host) == PCIDR_NO_VALUE);
+        WANT(pcidr_compare_hosts(&host, &bad[i]) == PCIDR_NO_VALUE);
         WANT(pcidr_cover(&bad[i], 1, &count) == PCIDR_NO_VALUE);
+        count = 1;
+        out = bad[i];
+        WANT(pcidr_union_in_place(&out, 1, &count, &wide, 1) == PCIDR_NO_VALUE && is_same(out, bad[i]) && count == 1);
+        out = wide;
+        WANT(pcidr_difference_in_place(&out, 1, &count, &bad[i], 1) == PCIDR_NO_VALUE && is_same(out, wide));
+        out = mark;
         WANT(pcidr_union(&wide, 1, &bad[i], 1, &out, 1, &count) == PCIDR_NO_VALUE && is_same(out, mark));
         WANT(pcidr_contains_each(&bad[i], 1, &address, 1, bytes, 1) == PCIDR_NO_VALUE);
         WANT(pcidr_contains_each(&wide, 1, &bad[i], 1, bytes, 1) == PCIDR_NO_VALUE);
@@ -109,6 +121,8 @@ int main(void) {
     WANT(pcidr_read_lines("10.0.0.0/8\n11.0.0.1/8", 21, two, 2, &count) == PCIDR_HOST_PART && count == 1);
     WANT(pcidr_read_lines("10.0.0.0/8\n11.0.0.0/8\n", 22, two, 2, &count) == PCIDR_NO_ROOM && count == 2);
     WANT(pcidr_difference(&wide, 1, &address, 1, two, 2, &count) == PCIDR_NO_ROOM && count == 24);
+    two[0] = wide, count = 1;
+    WANT(pcidr_difference_in_place(two, 2, &count, &address, 1) == PCIDR_NO_ROOM && count == 24 && is_same(two[0], wide));
     WANT(pcidr_contains_each(&wide, 1, &address, 1, NULL, 0) == PCIDR_NO_ROOM);
     WANT(pcidr_longest_match_each(&wide, 1, &address, 1, NULL, 0) == PCIDR_NO_ROOM);
 
@@ -119,6 +133,15 @@ int main(void) {
     WANT(pcidr_step_down(&host, 1, 0, &out) == PCIDR_WRAPPED);
     WANT(pcidr_at(&wide, 0, (1 << 24) - 1, &out) == PCIDR_OK && pcidr_at(&wide, 0, 1 << 24, &out) == PCIDR_WRAPPED);
     WANT(pcidr_union(&wide, 1, &address, 1, two, 2, &count) == PCIDR_OK && count == 1 && is_same(two[0], wide));
+    two[0] = address, count = 1;
+    WANT(pcidr_union_in_place(two, 2, &count, &wide, 1) == PCIDR_OK && count == 1 && is_same(two[0], wide));
+    WANT(pcidr_intersection_in_place(two, 2, &count, &address, 1) == PCIDR_OK && count == 1 && is_same(two[0], address));
+    count = 9; /* above the room: all of it, here the address twice */
+    two[1] = address;
+    WANT(pcidr_difference_in_place(two, 2, &count, &wide, 1) == PCIDR_OK && count == 0);
+    WANT(pcidr_compare_hosts(&host, &host) == 1 && pcidr_compare_hosts(&host, &address) == 0);
+    WANT(pcidr_compare_hosts(&host, &wide) == 2 && pcidr_compare_hosts(&any, &wide) == PCIDR_NO_VALUE);
+    WANT(pcidr_print_host_with_length(&address, text, sizeof text) == 11 && strcmp(text, "10.1.2.3/32") == 0);
     two[0] = address, two[1] = wide;
     WANT(pcidr_longest_match_each(two, 2, &address, 1, &count, 1) == PCIDR_OK && count == 0);
     two[0] = wide;

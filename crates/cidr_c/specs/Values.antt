@@ -1,9 +1,13 @@
 -- Values as C has them: a number in two halves, and a tag, which tells the family and the prefix length as that of the
 -- compact bytes does.
 use Rattle.std.specs.Prelude.{◌≡◌, ℕ, ◌+◌, ◌-◌, ◌*◌, ◌^◌, ◌<◌, ◌≤◌, ◌⊎◌, ◌==◌, take, drop, nat_lt, if◌then◌else◌}
-use Rattle.cidr.specs.model.Bits.{bits}
+use Rattle.std.specs.Ordering.{nat_cmp, ordering_then}
+use Rattle.std.specs.declared.cmp.Ordering.{Ordering}
+use Rattle.cidr.specs.model.Bits.{bits, bit_cmp}
 use Rattle.cidr.specs.model.Network.{zeros}
 use Rattle.cidr.specs.model.Host.{host_of}
+use Rattle.cidr.specs.either.IpAddress.{ip_address_bits}
+use Rattle.cidr.specs.either.IpHost.{host_address, host_parts}
 use Rattle.cidr.specs.declared.addr.ip.IpAddr.{IpAddr}
 use Rattle.cidr.specs.declared.addr.ip.IpAddr.TheVariants as address
 use Rattle.cidr.specs.declared.cidr.any.AnyIpCidr.{AnyIpCidr}
@@ -59,3 +63,8 @@ network_in v =
     if v.tag == 255 then network.Any
     else (if nat_lt v.tag 64 then network.V4 (take v.tag (bits 32 v.low))
     else network.V6 (take (v.tag - 64) (bits 128 (number_in v))))
+
+-- the order of hosts: IPv4 before IPv6, then by address, and then by prefix length
+abbrev pub host_order : IpInet → IpInet → Ordering
+host_order a b =
+    ordering_then (bit_cmp (ip_address_bits (host_address a)) (ip_address_bits (host_address b))) (nat_cmp (host_parts a).len (host_parts b).len)

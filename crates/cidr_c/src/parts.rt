@@ -7,11 +7,12 @@ ghost use Rattle.cidr.specs.either.IpHost.{IpWrapsDown, IpWrapsUp, host_address,
 ghost use Rattle.cidr.specs.either.IpNetwork.{address_by, any_bits, any_of};
 ghost use Rattle.cidr_c.specs.Calls.{IsAnswer, IsMade, IsStepped};
 ghost use Rattle.cidr_c.specs.Codes.{no_value, order_code};
-ghost use Rattle.cidr_c.specs.Values.{IsAddress, IsHost, IsNetwork, address_in, host_in, network_in};
+ghost use Rattle.cidr_c.specs.Values.{IsAddress, IsHost, IsNetwork, address_in, host_in, host_order, network_in};
 
 use crate::codes::{NO_VALUE, OK, WRAPPED, order_code};
 use crate::values::{CValue, address_value, host_of, host_value, network_of, network_value};
-use cidr::{AnyIpCidr, NetworkBits};
+use cidr::laws::hosts::order_is_by_family_address_and_length;
+use cidr::{AnyIpCidr, IpInet, NetworkBits};
 
 /// The first address of the network of a host.
 #[unsafe(no_mangle)]
@@ -114,6 +115,28 @@ pub extern "C" fn pcidr_compare(one: &CValue, other: &CValue) -> u32
 {
     match (network_of(one), network_of(other)) {
         (Some(one), Some(other)) => compared(&one, &other),
+        _ => NO_VALUE,
+    }
+}
+
+/// How two hosts compare, by their addresses and then by their prefix lengths.
+fn compared_hosts(one: &IpInet, other: &IpInet) -> u32
+    ensures { result ≡ order_code (host_order one.now other.now) }
+{
+    order_is_by_family_address_and_length();
+    order_code(one.cmp(other))
+}
+
+/// 0, 1 or 2: the first host comes before the second, is the same, or comes after it. IPv4 comes before IPv6; in a family
+/// the lower address comes first, and then the shorter prefix.
+#[unsafe(no_mangle)]
+pub extern "C" fn pcidr_compare_hosts(one: &CValue, other: &CValue) -> u32
+    ensures hosts { IsHost one.now → IsHost other.now →
+        result ≡ order_code (host_order (host_in one.now) (host_in other.now)) }
+    ensures other { ¬ (IsHost one.now × IsHost other.now) → result ≡ no_value }
+{
+    match (host_of(one), host_of(other)) {
+        (Some(one), Some(other)) => compared_hosts(&one, &other),
         _ => NO_VALUE,
     }
 }

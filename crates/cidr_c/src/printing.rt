@@ -59,6 +59,20 @@ pub extern "C" fn pcidr_print_host(host: &CValue, out: &mut [u8]) -> usize
     }
 }
 
+/// Writes a host as a string, with its prefix length also where that is full, and returns its length, at most 43; 0
+/// where the value is no host.
+#[unsafe(no_mangle)]
+pub extern "C" fn pcidr_print_host_with_length(host: &CValue, out: &mut [u8]) -> usize
+    ensures host { IsHost host.now →
+        IsPrinted (ip_host_text forced_host_text (host_in host.now)) out.old out.new result }
+    ensures other { ¬ (IsHost host.now) → IsUnprinted out.old out.new result }
+{
+    match host_of(host) {
+        Some(host) => print(host.with_length().to_text().as_str(), out),
+        None => 0,
+    }
+}
+
 /// Writes a network as a string, without a full prefix length, and returns its length, at most 43; 0 where the value is
 /// no network.
 #[unsafe(no_mangle)]

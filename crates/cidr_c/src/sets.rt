@@ -1,5 +1,5 @@
 //! Sets of addresses as lists of networks, in memory of the caller.
-ghost use Rattle.std.specs.Prelude.{map};
+ghost use Rattle.std.specs.Prelude.{map, take};
 ghost use Rattle.cidr.specs.either.IpNetwork.{any_bits};
 ghost use Rattle.cidr_table.specs.Cover.{Covers};
 ghost use Rattle.cidr_sets.specs.Sets.{IsDifference, IsIntersection, IsSetOf, IsSymmetricDifference, IsUnion};
@@ -143,6 +143,78 @@ pub extern "C" fn pcidr_symmetric_difference(
 {
     match both_of(alloc, these, those) {
         Ok((these, those)) => deliver(these.symmetric_difference(&those), out, count),
+        Err(code) => code,
+    }
+}
+
+/// The networks of the front of a room, and others, as sets, or the number of the error.
+fn both_in(
+    alloc: Global,
+    room: &[CValue],
+    count: usize,
+    others: &[CValue],
+) -> Result<(NetworkSet<AnyIpCidr>, NetworkSet<AnyIpCidr>), u32>
+    ensures { AreSetsRead (take count room.now) others.now result }
+{
+    both_of(alloc, &room[..count.min(room.len())], others)
+}
+
+/// Of the set that the first `count` networks of a room are, adds the addresses that the others have: the set that is left
+/// stands at the front of the room, and `count` becomes its number of networks; where there is too little room, it
+/// becomes how many are needed.
+#[unsafe(no_mangle)]
+pub extern "C" fn pcidr_union_in_place(
+    alloc: Global,
+    networks: &mut [CValue],
+    count: &mut usize,
+    others: &[CValue],
+) -> u32
+    ensures { IsPut (take count.old networks.old) others.now
+        (IsUnion 129 (bits_in (take count.old networks.old)) (bits_in others.now))
+        networks.old networks.new count.old count.new result }
+{
+    match both_in(alloc, networks, *count, others) {
+        Ok((these, those)) => deliver(these.union(&those), networks, count),
+        Err(code) => code,
+    }
+}
+
+/// Of the set that the first `count` networks of a room are, keeps the addresses that the others have too: the set that is left
+/// stands at the front of the room, and `count` becomes its number of networks; where there is too little room, it
+/// becomes how many are needed.
+#[unsafe(no_mangle)]
+pub extern "C" fn pcidr_intersection_in_place(
+    alloc: Global,
+    networks: &mut [CValue],
+    count: &mut usize,
+    others: &[CValue],
+) -> u32
+    ensures { IsPut (take count.old networks.old) others.now
+        (IsIntersection 129 (bits_in (take count.old networks.old)) (bits_in others.now))
+        networks.old networks.new count.old count.new result }
+{
+    match both_in(alloc, networks, *count, others) {
+        Ok((these, those)) => deliver(these.intersection(&those), networks, count),
+        Err(code) => code,
+    }
+}
+
+/// Of the set that the first `count` networks of a room are, takes out the addresses that the others have: the set that is left
+/// stands at the front of the room, and `count` becomes its number of networks; where there is too little room, it
+/// becomes how many are needed.
+#[unsafe(no_mangle)]
+pub extern "C" fn pcidr_difference_in_place(
+    alloc: Global,
+    networks: &mut [CValue],
+    count: &mut usize,
+    others: &[CValue],
+) -> u32
+    ensures { IsPut (take count.old networks.old) others.now
+        (IsDifference 129 (bits_in (take count.old networks.old)) (bits_in others.now))
+        networks.old networks.new count.old count.new result }
+{
+    match both_in(alloc, networks, *count, others) {
+        Ok((these, those)) => deliver(these.difference(&those), networks, count),
         Err(code) => code,
     }
 }
