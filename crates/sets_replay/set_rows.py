@@ -1,9 +1,9 @@
 """Rows of sets, whose results Python's sets of numbers and `ipaddress.collapse_addresses` give."""
-from ipaddress import collapse_addresses, ip_network
+from ipaddress import collapse_addresses, ip_network, summarize_address_range
 from itertools import chain, product
 from random import Random
 
-from shown import ANY, WHOLES, boolean, network, option_of, shown_all, text
+from shown import ANY, WHOLES, boolean, network, option, option_of, printed, shown_all, text
 
 # Windows: a type, networks, and how many bits longer the units are. A set in a window is a set of units, and the
 # windows with two networks have units of both families.
@@ -85,7 +85,12 @@ def pair_rows(window, these, those):
         ("symmetric_difference", a ^ b),
     ]:
         yield window.row(name, *words), window.shown(units)
-    for name, value in [("is_subset", a <= b), ("is_disjoint", a.isdisjoint(b)), ("eq", a == b)]:
+    for name, value in [
+        ("is_subset", a <= b),
+        ("contains_all", b <= a),
+        ("is_disjoint", a.isdisjoint(b)),
+        ("eq", a == b),
+    ]:
         yield window.row(name, *words), boolean(value)
 
 
@@ -93,7 +98,71 @@ def network_rows(window, nets, net):
     """The calls on a set and a network."""
     units, part = window.units_of(nets), window.members[net]
     yield window.row("contains", listed(nets), text(net)), boolean(part <= units)
+    yield window.row("overlaps", listed(nets), text(net)), boolean(not part.isdisjoint(units))
     yield window.row("complement_in", listed(nets), text(net)), window.shown(part - units)
+
+
+# The addresses of both families by numbers: those of IPv6 behind those of IPv4.
+def number_of(address):
+    return int(address) + (address.version == 6 and 1 << 32)
+
+
+def address_of(number):
+    return WHOLES[0][number] if number < 1 << 32 else WHOLES[1][number - (1 << 32)]
+
+
+def ranges_of(window, units):
+    """The longest ranges of numbers of these units, ascending."""
+    ranges = []
+    for i in sorted(units):
+        first, last = map(number_of, (window.units[i][0], window.units[i][-1]))
+        if ranges and ranges[-1][1] + 1 == first:
+            ranges[-1] = ranges[-1][0], last
+        else:
+            ranges.append((first, last))
+    return ranges
+
+
+def summarized(window, first, last):
+    """The shortest list of networks of the addresses from one number to another."""
+    nets = []
+    for whole in WHOLES:
+        low, high = max(first, number_of(whole[0])), min(last, number_of(whole[-1]))
+        if low <= high:
+            nets += summarize_address_range(address_of(low), address_of(high))
+    return [ANY] if window.kind == "any" and nets == WHOLES else nets
+
+
+def range_rows(window, rng, nets):
+    """The ranges of a set, and the sets of ranges about their ends."""
+    ranges = ranges_of(window, window.units_of(nets))
+    pairs = [f"({printed(address_of(first))}, {printed(address_of(last))})" for first, last in ranges]
+    yield window.row("ranges", listed(nets)), f"[{', '.join(pairs)}]"
+    lowest, highest = number_of(window.units[0][0]), number_of(window.units[-1][-1])
+    narrower = [(first + rng.randrange(4), last - rng.randrange(4)) for first, last in ranges[:1]]
+    for first, last in [*ranges, *narrower, (lowest, highest), (highest, lowest)]:
+        words = map(printed, map(address_of, (first, last)))
+        yield window.row("from_range", *words), shown_all(window.kind, summarized(window, first, last))
+
+
+def index_rows(window, rng, nets):
+    """How many addresses a set has, and some of them by index. The window is of one family."""
+    units = [window.units[i] for i in sorted(window.units_of(nets))]
+    size = window.units[0].num_addresses
+    count = size * len(units)
+    at = lambda index: printed(units[index // size][index % size]) if 0 <= index < count else None
+    yield window.row("address_count", listed(nets)), option(count if count < 1 << 128 else None)
+    for index in {0, count - 1, count, *(rng.randrange(count + 1) for _ in range(3))}:
+        if 0 <= index < 1 << 128:
+            yield window.row("nth", listed(nets), index), option(at(index))
+            if at(index):
+                yield window.row("position", listed(nets), at(index)), option(index)
+    for unit in [chosen(rng, window.units) for _ in range(3)]:
+        place, inner = units.index(unit) * size if unit in units else None, rng.randrange(size)
+        yield window.row("position", listed(nets), printed(unit[inner])), option(None if place is None else place + inner)
+    ends = [option(at(0)), option(at(count - 1)), option(at(1)), option(at(count - 2))]
+    if count >= 4:
+        yield window.row("addresses", listed(nets)), "(({}, {}), {}, {})".format(*ends)
 
 
 def candidates(window, outer, length):
@@ -137,6 +206,9 @@ def rule_rows(window, rules):
     shadowed = sorted(set(range(len(rules))) - set(firsts.values()))
     yield window.row("permitted", listed_rules(rules)), window.shown(permitted)
     yield window.row("shadowed", listed_rules(rules)), str(shadowed)
+    for net in [net for _, net in rules[:2]] + [window.networks[0], window.networks[-1]]:
+        deciding = sorted({firsts[unit] for unit in window.members[net] if unit in firsts})
+        yield window.row("deciding", listed_rules(rules), text(net)), str(deciding)
 
 
 def run_rows(window, steps):
@@ -156,6 +228,14 @@ def set_rows():
         yield from pair_rows(window, these, those)
     for these, net in product(units, window.networks):
         yield from network_rows(window, these, net)
+    for these in units:
+        yield from range_rows(window, Random(0), these)
+    for kind, outer in [("v4", ["0.0.0.0/0"]), ("v6", ["::/0"])]:
+        window = Window(kind, outer, 2)
+        for mask in range(16):
+            these = [unit for i, unit in enumerate(window.units) if mask >> i & 1]
+            yield from range_rows(window, Random(mask), these)
+            yield from index_rows(window, Random(mask), these)
     for seed, (kind, outer, depth) in enumerate(SAMPLED):
         window, rng = Window(kind, outer, depth), Random(seed)
         for most in [0, 2, 4, 8, 12, 16] * 2:
@@ -167,6 +247,10 @@ def set_rows():
             yield from rule_rows(window, some_rules(window, rng, 2 * most))
         for most in [4, 8, 16]:
             yield from free_rows(window, window.some_networks(rng, most))
+            nets, more = window.some_networks(Random(most), most), Random(seed)
+            yield from range_rows(window, more, nets)
+            if kind != "any":
+                yield from index_rows(window, more, nets)
         yield from run_rows(window, some_rules(window, rng, 200))
     for seed, (kind, outer, depth) in enumerate(NARROW):
         window, rng = Window(kind, outer, depth), Random(seed)

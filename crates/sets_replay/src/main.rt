@@ -6,6 +6,7 @@
 mod addresses;
 mod inside;
 mod networks;
+mod places;
 mod row;
 mod sets;
 mod tree;

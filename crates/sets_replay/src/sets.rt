@@ -1,9 +1,10 @@
 //! Calls on sets of addresses.
 
+use crate::places;
 use crate::row::{Answer, Row, RowError, shown};
 use cidr::errors::NetworkParseError;
 use cidr::{AnyIpCidr, Ipv4Cidr, Ipv6Cidr};
-use cidr_sets::access::{Action, permitted, shadowed};
+use cidr_sets::access::{Action, deciding, permitted, shadowed};
 use cidr_sets::{NetworkSet, Subnets};
 use std::alloc::Global;
 use std::fmt::Debug;
@@ -11,11 +12,25 @@ use std::str::FromStr;
 
 /// Answers the call on sets that has this name, at the type that the row names first.
 pub fn answer(name: &str, row: &mut Row<'_>) -> Answer {
-    match row.word()? {
-        "v4" => answer_for::<Ipv4Cidr>(name, row),
-        "v6" => answer_for::<Ipv6Cidr>(name, row),
-        "any" => answer_for::<AnyIpCidr>(name, row),
-        _ => Err(RowError::Malformed),
+    let kind = row.word()?;
+    match name {
+        "from_range" | "ranges" => match kind {
+            "v4" => places::ranges::<Ipv4Cidr>(name, row),
+            "v6" => places::ranges::<Ipv6Cidr>(name, row),
+            "any" => places::ranges::<AnyIpCidr>(name, row),
+            _ => Err(RowError::Malformed),
+        },
+        "address_count" | "nth" | "position" | "addresses" => match kind {
+            "v4" => places::indexes::<Ipv4Cidr>(name, row),
+            "v6" => places::indexes::<Ipv6Cidr>(name, row),
+            _ => Err(RowError::Malformed),
+        },
+        _ => match kind {
+            "v4" => answer_for::<Ipv4Cidr>(name, row),
+            "v6" => answer_for::<Ipv6Cidr>(name, row),
+            "any" => answer_for::<AnyIpCidr>(name, row),
+            _ => Err(RowError::Malformed),
+        },
     }
 }
 
@@ -31,6 +46,10 @@ where
             &permitted(alloc, row.rules::<C>()?.as_slice())?.as_slice(),
         ),
         "shadowed" => shown(alloc, &shadowed(alloc, row.rules::<C>()?.as_slice())?),
+        "deciding" => {
+            let rules = row.rules::<C>()?;
+            shown(alloc, &deciding(alloc, rules.as_slice(), &row.value()?)?)
+        }
         _ => one_set::<C>(name, row),
     }
 }
@@ -45,6 +64,7 @@ where
     match name {
         "from_networks" => shown(alloc, &set.as_slice()),
         "contains" => shown(alloc, &set.contains(&row.value()?)),
+        "overlaps" => shown(alloc, &set.overlaps(&row.value()?)),
         "complement_in" => shown(alloc, &set.complement_in(&row.value()?)?.as_slice()),
         "first_free" => shown(alloc, &set.first_free(row.value()?)),
         "best_free" => shown(alloc, &set.best_free(row.value()?)),
@@ -66,6 +86,7 @@ fn two_sets<C: Subnets + Copy + Debug>(
         "symmetric_difference" => shown(alloc, &these.symmetric_difference(those)?.as_slice()),
         "is_subset" => shown(alloc, &these.is_subset(those)),
         "is_disjoint" => shown(alloc, &these.is_disjoint(those)),
+        "contains_all" => shown(alloc, &these.contains_all(those.as_slice())),
         "eq" => shown(alloc, &(these == those)),
         _ => Err(RowError::Malformed),
     }
