@@ -1,6 +1,5 @@
 //! Look-ups in a table, whose contracts speak of rows, so that a caller needs no proof of its own.
-ghost use Rattle.std.specs.Prelude.{◌≡◌, ◌≤◌, ◌⊎◌, List, Contains, IfOk, length};
-ghost use Rattle.cidr.specs.model.Network.{BeginsWith};
+ghost use Rattle.std.specs.Prelude.{◌≡◌, List, Option, IfOk, unwrap_or};
 ghost use Rattle.cidr_table.specs.LastRows.{AreLastRows};
 ghost use Rattle.cidr_table.specs.Prefixes.{IsLookedUp, AreMatching, AreShortestFirst};
 
@@ -18,14 +17,14 @@ pub fn matched_row<C: NetworkBits + Copy, V: Copy>(
     routes.lookup(asked).copied()
 }
 
-/// That row, or a default route. No row whose network holds the asked one has a longer prefix.
+/// That row, or a default route where no row's network holds the asked one.
 pub fn row_or_default<C: NetworkBits + Copy, V: Copy>(
     routes: &LpmTable<C, V>,
     asked: &C,
     default: (C, V),
 ) -> (C, V)
-    ensures { ((row : C × V) → Contains routes.now.rows row → BeginsWith (C.bits asked.now) (C.bits row.0)
-        → length (C.bits row.0) ≤ length (C.bits result.0)) ⊎ (result ≡ default) }
+    ensures { (found : Option (C × V)) × IsLookedUp C.bits (C.bits asked.now) routes.now.rows found
+        × (result ≡ unwrap_or found default) }
 {
     match routes.lookup(asked) {
         Some(row) => *row,

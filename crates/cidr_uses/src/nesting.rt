@@ -1,5 +1,5 @@
 //! Networks are nested or disjoint, those inside a network follow each other, and the order is that of the bits.
-ghost use Rattle.std.specs.Prelude.{◌≡◌, ◌≢◌, IsTrue, IsFalse, Bool, List};
+ghost use Rattle.std.specs.Prelude.{◌≡◌, ◌≢◌, ◌↔◌, IsTrue, IsFalse, Bool, List};
 ghost use Rattle.std.specs.declared.cmp.Ordering.TheVariants.{Greater};
 ghost use Rattle.cidr.specs.model.Bits.{bit_cmp};
 ghost use Rattle.cidr.specs.model.Network.{BeginsWith};
@@ -34,7 +34,8 @@ pub fn order_any(a: &AnyIpCidr, b: &AnyIpCidr) -> Ordering
 
 /// Whether the second network lies in the first one. If neither lies in the other, they have no address in common.
 pub fn apart_any(a: &AnyIpCidr, b: &AnyIpCidr) -> bool
-    ensures { IsFalse result → ¬ (BeginsWith (any_bits a.now) (any_bits b.now)) →
+    ensures inside { IsTrue result ↔ BeginsWith (any_bits b.now) (any_bits a.now) }
+    ensures apart { IsFalse result → ¬ (BeginsWith (any_bits a.now) (any_bits b.now)) →
         (x : List Bool) → BeginsWith x (any_bits a.now) → ¬ (BeginsWith x (any_bits b.now)) }
 {
     networks::networks_are_nested_or_apart();
