@@ -1,5 +1,6 @@
 -- What is read back is what was printed, what a pool gives, which lines are refused, what bytes begin with, the rows of
--- a table, which network lies in a list made shorter, what is left of a pool, and which rules decide.
+-- a table, which network lies in a list made shorter, what is left of a pool, which rules decide, and the
+-- names of networks.
 pub mod AccessLists
 pub mod Aggregates
 pub mod FreeNetworkSets
@@ -9,6 +10,7 @@ pub mod Pools
 pub mod ConfigLines
 pub mod Agreements
 pub mod Fronts
+pub mod LanNames
 pub mod PrefixFronts
 pub mod Routes
 pub mod RouteHits

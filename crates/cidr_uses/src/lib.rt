@@ -1,8 +1,9 @@
-//! Parts of small programs, written by the public calls of `cidr`, `cidr_table` and `cidr_sets` only and proved from
-//! their public contracts only.
+//! Parts of small programs, written by the public calls of `cidr`, `cidr_table`, `cidr_sets` and `cidr_ext` only and
+//! proved from their public contracts only.
 #![tactic(auto)]
 
 pub mod access_list;
+pub mod address_plan;
 pub mod address_pool;
 pub mod address_sets;
 pub mod aggregate;
