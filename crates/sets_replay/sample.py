@@ -11,15 +11,18 @@ import sys
 from itertools import chain
 from pathlib import Path
 
+from name_rows import name_rows_of_each
 from network_rows import address_rows_of_each, network_rows_of_each
 from set_rows import set_rows
+from special_rows import special_rows_of_each
 
 HERE = Path(__file__).resolve().parent
 
 
 def all_rows():
     rows = {}
-    for call, result in chain(set_rows(), network_rows_of_each(), address_rows_of_each()):
+    of_calls = network_rows_of_each(), address_rows_of_each(), name_rows_of_each(), special_rows_of_each()
+    for call, result in chain(set_rows(), *of_calls):
         if rows.setdefault(call, result) != result:
             sys.exit(f"two results are expected of {call}")
     return rows

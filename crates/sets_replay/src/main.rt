@@ -5,10 +5,13 @@
 
 mod addresses;
 mod inside;
+mod masks;
+mod names;
 mod networks;
 mod places;
 mod row;
 mod sets;
+mod special;
 mod tree;
 
 use row::{Answer, Row, RowError};
@@ -35,6 +38,9 @@ fn answer(alloc: Global, line: &str) -> Answer {
         Some(("network", name)) => networks::answer(name, &mut row),
         Some(("address", name)) => addresses::answer(name, &mut row),
         Some(("inside", name)) => inside::answer(name, &mut row),
+        Some(("name", name)) => names::answer(name, &mut row),
+        Some(("mask", name)) => masks::answer(name, &mut row),
+        Some(("special", name)) => special::answer(name, &mut row),
         _ => Err(RowError::Malformed),
     }
 }
