@@ -11,15 +11,17 @@ use Rattle.std.specs.declared.cmp.Ordering.TheVariants.{Less, Equal, Greater}
 use Rattle.cidr.specs.model.Bits.{bit_cmp}
 use Rattle.cidr.specs.model.Network.{BeginsWith}
 use Rattle.cidr.specs.laws.BitLaws.{bit_cmp_total}
-use Rattle.cidr_table.specs.Cover.{AreNetworks, Covers}
+use Rattle.cidr_table.specs.Cover.{AreNetworks, Covers, IsReduced, parent}
 use Rattle.cidr_table.proofs.Ascending.{first_less, sorted_push}
 use Rattle.cidr_table.proofs.Beginnings.{begins_between, begins_length, bits_exact, not_before}
-use Rattle.cidr_table.proofs.Halves.{begins_begins, begins_both, begins_itself, either_half, half_begins, length_half, same_length}
+use Rattle.cidr_table.proofs.Halves.{begins_begins, begins_both, begins_itself, either_half, half_begins, length_half, parent_half, same_length}
 use Rattle.cidr_table.proofs.MapLaws.{contains_first, contains_later, contains_nothing}
 use Rattle.cidr_table.proofs.Order.{halves_less, less_not_itself, not_both}
 use Rattle.cidr_table.proofs.Reduced.{HoldNoOther, covers_more}
-use Rattle.cidr_sets.specs.Steps.{Ascend, IsBehind, IsCut, IsSkipped}
-use Rattle.cidr_sets.proofs.Algebra.{covers_within}
+use Rattle.cidr_sets.specs.Sets.{IsDifference}
+use Rattle.cidr_sets.specs.Steps.{Ascend, IsBehind, IsCut, IsOver, IsRest, IsSkipped}
+use Rattle.cidr_sets.proofs.Algebra.{covers_within, some_address}
+use Rattle.cidr_sets.proofs.Members.{IsMemberOf, members_fit, set_of_members}
 use Rattle.cidr_sets.proofs.Steps.{first_or_rest, less_longer, none_ascend, rest_ascends, turned}
 
 -- ---- the last ones of a list
@@ -123,6 +125,36 @@ module _ (v r l : ℕ) (le : r ≤ l) where
   scaled : v * r ≤ v * l
   scaled = mul-le v r v l (omega arith) le
 
+-- ---- a network of what is left
+-- the others without the first ones, which have no address of p
+pub rest_suffix : (p : List Bool) (others rest : List (List Bool)) → IsSuffix rest others
+    → ((a : List Bool) → BeginsWith a p → Covers others a → Covers rest a) → (x : List Bool) → IsRest p rest x → IsRest p others x
+rest_suffix p others rest h kept x r = record {
+  inside = r.inside;
+  free = λ a la b c. r.free a la b (kept a (begins_begins a x p b r.inside) c);
+  widest = elim r.widest [
+    | inl e ↦ inl e
+    | inr k ↦ inr (k.0, suffix_contains h.0 others k.0 (subst (λ l. Contains l k.0) h.1 k.1), k.2, k.3)
+  ];
+}
+
+-- a half of a network in which another lies
+pub rest_half : (p f : List Bool) (s : List (List Bool)) (b : Bool) → BeginsWith f p → length p < length f
+    → (x : List Bool) → IsRest (p ++ b ∷ []) (f ∷ s) x → IsRest p (f ∷ s) x
+rest_half p f s b inside short x r = record {
+  inside = begins_begins x (p ++ b ∷ []) p r.inside (half_begins p b);
+  free = r.free;
+  widest = inr (elim r.widest [
+    | inl e ↦ (
+      f,
+      contains_first f s,
+      subst (BeginsWith f) (sym (ap parent e ∙ parent_half p b)) inside,
+      omega (arith, ap length e, length_half p b, short),
+    )
+    | inr k ↦ k
+  ]);
+}
+
 -- ---- what is left of one network
 module _ (p : List Bool) (old : List (List Bool)) (ascend : Ascend old)
     (before : (x : List Bool) → Contains old x → bit_cmp x p ≡ Less) where
@@ -147,6 +179,7 @@ module _ (p : List Bool) (old : List (List Bool)) (ascend : Ascend old)
           ascend = ascend;
           before = old_before;
           covers = λ a la. none_left a;
+          each = λ x c. inl c;
           suffix = (1, refl, omega arith);
           behind = λ a h. (
             λ c. elim ((first_or_rest f s a).0 c) [ inl b ↦ absurd (h.1 (subst (BeginsWith a) (sym same) b)) | inr d ↦ d ],
@@ -161,6 +194,7 @@ module _ (p : List Bool) (old : List (List Bool)) (ascend : Ascend old)
       ascend = ascend;
       before = old_before;
       covers = λ a la. none_left a;
+      each = λ x c. inl c;
       suffix = suffix_all (f ∷ s);
       behind = λ a h. (λ c. c, λ c. c);
       used = λ q e b. absurd (larger (omega (
@@ -184,6 +218,10 @@ module _ (p : List Bool) (old : List (List Bool)) (ascend : Ascend old)
       λ c. elim ((covers_more old p a).0 c) [ inl d ↦ inl d | inr b ↦ inr (b, none a b) ],
       λ c. (covers_more old p a).1 (elim c [ inl d ↦ inl d | inr d ↦ inr d.0 ]),
     );
+    each = λ x c. elim (Contains-push_cases old p x c) [
+      | inl d ↦ inl d
+      | inr e ↦ inr (subst (IsRest p s) e (record { inside = begins_itself p; free = λ a la b. none a b; widest = inl refl }))
+    ];
     suffix = suffix_all s;
     behind = λ a h. (λ c. c, λ c. c);
     used = λ q e b. absurd (none q b (first_covers s q e));
@@ -195,6 +233,29 @@ module _ (p : List Bool) (old : List (List Bool)) (ascend : Ascend old)
       first_covers (y ∷ s) q e = subst (Covers (y ∷ s)) (same_Some y q e) (y, contains_first y s, begins_itself y)
 
 -- behind those that are skipped
+rest_skipped : (p : List Bool) (others left : List (List Bool)) → IsSkipped p others left → (x : List Bool) → IsRest p left x
+    → IsRest p others x
+rest_skipped p others left h = rest_suffix p others left h.suffix (λ a b. (h.covers a (not_after p a b)).0)
+
+-- a network that is left whole is one too many
+pub over_whole : (p : List Bool) (old others rest : List (List Bool)) (room : ℕ) → IsCut p old (old ++ p ∷ []) others rest
+    → room ≤ length old → IsOver p old others room
+over_whole p old others rest room k full = record {
+  networks = old ++ p ∷ [];
+  over = omega (arith, full, length-append old (p ∷ []));
+  ascend = k.ascend;
+  each = k.each;
+}
+
+pub over_skipped : (p : List Bool) (old others left : List (List Bool)) (room : ℕ) → IsSkipped p others left → IsOver p old left room
+    → IsOver p old others room
+over_skipped p old others left room h k = record {
+  networks = k.networks;
+  over = k.over;
+  ascend = k.ascend;
+  each = λ x c. elim (k.each x c) [ inl d ↦ inl d | inr d ↦ inr (rest_skipped p others left h x d) ];
+}
+
 pub cut_skipped : (p : List Bool) (old new others left rest : List (List Bool)) → IsSkipped p others left
     → IsCut p old new left rest → IsCut p old new others rest
 cut_skipped p old new others left rest h k = record {
@@ -210,6 +271,7 @@ cut_skipped p old new others left rest h k = record {
       | inr d ↦ inr (d.0, λ e. d.1 ((h.covers a (not_after p a d.0)).1 e))
     ]),
   );
+  each = λ x c. elim (k.each x c) [ inl d ↦ inl d | inr d ↦ inr (rest_skipped p others left h x d) ];
   suffix = suffix_of rest left others k.suffix h.suffix;
   behind = λ a b.
       let same = h.covers a (less_not_greater p a b.0) in
@@ -226,6 +288,30 @@ cut_skipped p old new others left rest h k = record {
 }
 
 -- by halves, where another lies in it
+module _ (p f : List Bool) (s : List (List Bool)) (inside : BeginsWith f p) (short : length p < length f) where
+  pub over_lower : (old : List (List Bool)) (room : ℕ) → IsOver (p ++ false ∷ []) old (f ∷ s) room → IsOver p old (f ∷ s) room
+  over_lower old room k = record {
+    networks = k.networks;
+    over = k.over;
+    ascend = k.ascend;
+    each = λ x c. elim (k.each x c) [ inl d ↦ inl d | inr d ↦ inr (rest_half p f s false inside short x d) ];
+  }
+
+  module _ (old mid rest : List (List Bool)) (lo : IsCut (p ++ false ∷ []) old mid (f ∷ s) rest) where
+    -- what is left of the upper half without the rest
+    halves_each : (x : List Bool) → Contains mid x ⊎ IsRest (p ++ true ∷ []) rest x → Contains old x ⊎ IsRest p (f ∷ s) x
+    halves_each x (inl c) = elim (lo.each x c) [ inl d ↦ inl d | inr d ↦ inr (rest_half p f s false inside short x d) ]
+    halves_each x (inr r) = inr (rest_half p f s true inside short x
+        (rest_suffix (p ++ true ∷ []) (f ∷ s) rest lo.suffix (λ a b. (lo.behind a (upper_behind p a b)).0) x r))
+
+    pub over_upper : (room : ℕ) → IsOver (p ++ true ∷ []) mid rest room → IsOver p old (f ∷ s) room
+    over_upper room k = record {
+      networks = k.networks;
+      over = k.over;
+      ascend = k.ascend;
+      each = λ x c. halves_each x (k.each x c);
+    }
+
 module _ (p f : List Bool) (s old mid new rest last : List (List Bool)) (inside : BeginsWith f p) (short : length p < length f)
     (lo : IsCut (p ++ false ∷ []) old mid (f ∷ s) rest) (up : IsCut (p ++ true ∷ []) mid new rest last) (within : length p < 129) where
   fewer : length last < length (f ∷ s)
@@ -288,6 +374,7 @@ module _ (p f : List Bool) (s old mid new rest last : List (List Bool)) (inside 
         ]
       ],
     );
+    each = λ x c. halves_each p f s inside short old mid rest lo x (up.each x c);
     suffix = suffix_of last rest (f ∷ s) up.suffix lo.suffix;
     behind = λ a h.
         let low = lo.behind a (inner_behind p (p ++ false ∷ []) a (half_begins p false) h) in
@@ -310,6 +397,8 @@ module _ (these those : List (List Bool)) where
     pub ascend_left : Ascend left
     pub before : (x y : List Bool) → Contains done x → Contains todo y → bit_cmp x y ≡ Less
     pub apart : HoldNoOther todo
+    pub kept : (y : List Bool) → Contains todo y → Contains these y
+    pub each : (x : List Bool) → Contains done x → IsMemberOf (λ a. Covers these a × ¬ (Covers those a)) x
     pub suffix : IsSuffix left those
     pub fits : (w : ℕ) → AreNetworks w those
         → length done + length todo + w * length left ≤ length these + w * length those
@@ -322,13 +411,44 @@ module _ (these those : List (List Bool)) where
     ascend_left = k;
     before = λ x y c d. absurd (contains_nothing x c);
     apart = o;
+    kept = λ y c. c;
+    each = λ x c. absurd (contains_nothing x c);
     suffix = suffix_all those;
     fits = λ w n. omega arith;
   }
 
-  pub cutting_more : (p : List Bool) (ps done new left rest : List (List Bool)) → IsCutting done (p ∷ ps) left
-      → IsCut p done new left rest → IsCutting new ps rest
-  cutting_more p ps done new left rest h k =
+  module _ (hs : IsReduced 129 these) (ht : IsReduced 129 those) (p : List Bool) (ps done left : List (List Bool))
+      (h : IsCutting done (p ∷ ps) left) where
+    short : (q : List Bool) → Contains left q → Contains those q × (length q ≤ 129)
+    short q c =
+        let d = suffix_contains h.suffix.0 those q (subst (λ l. Contains l q) h.suffix.1 c) in
+        (d, ((ht.members q).0 d).within)
+
+    rest_member : (x : List Bool) → IsRest p left x → IsMemberOf (λ a. Covers these a × ¬ (Covers those a)) x
+    rest_member x r =
+        let m = (hs.members p).0 (h.kept p (contains_first p ps)) in
+        record {
+          within = elim r.widest [
+            | inl e ↦ omega (arith, ap length e, m.within)
+            | inr k ↦ omega (arith, k.3, (short k.0 k.1).1)
+          ];
+          full = λ a la b. (h.covers a la).1
+              (inr ((first_or_rest p ps a).1 (inl (begins_begins a x p b r.inside)), r.free a la b));
+          widest = elim r.widest [
+            | inl e ↦ elim m.widest [
+              | inl z ↦ inl (e ∙ z)
+              | inr bare ↦ inr (λ f. bare (λ a la b. (f a la (subst (λ y. BeginsWith a (parent y)) (sym e) b)).0))
+            ]
+            | inr k ↦ inr (λ f.
+                let q = short k.0 k.1 in
+                let (a, la, b) = some_address k.0 q.1 in
+                (f a la (begins_begins a k.0 (parent x) b k.2)).1 (k.0, q.0, b))
+          ];
+        }
+
+  pub cutting_more : IsReduced 129 these → IsReduced 129 those → (p : List Bool) (ps done new left rest : List (List Bool))
+      → IsCutting done (p ∷ ps) left → IsCut p done new left rest → IsCutting new ps rest
+  cutting_more hs ht p ps done new left rest h k =
       let behind_first : (q a : List Bool) → Contains ps q → BeginsWith a q → IsBehind p a = λ q a c b.
       let less = first_less p ps h.ascend_todo q c in
       later_behind p q a less
@@ -359,6 +479,8 @@ module _ (these those : List (List Bool)) where
         ascend_left = suffix_ascends rest left k.suffix h.ascend_left;
         before = λ x y c d. k.before y (behind_first y y d (begins_itself y)) x c;
         apart = λ x y c d. h.apart x y (contains_later p x ps c) (contains_later p y ps d);
+        kept = λ y c. h.kept y (contains_later p y ps c);
+        each = λ x c. elim (k.each x c) [ inl d ↦ h.each x d | inr d ↦ rest_member hs ht p ps done left h x d ];
         suffix = suffix_of rest left those k.suffix h.suffix;
         fits = λ w n. widened (w - length p) w (length done) (length new) (length ps) (length left) (length rest) (length these)
             (w * length those) (omega arith) (omega (arith, k.suffix.2))
@@ -383,6 +505,19 @@ module _ (these those : List (List Bool)) where
     λ c. (h.covers a la).1 (inl c),
     λ c. elim ((h.covers a la).0 c) [ inl d ↦ d | inr d ↦ absurd (contains_nothing d.0.0 d.0.1) ],
   )
+
+  -- the rests of normal forms are in normal form
+  pub cutting_set : (done left : List (List Bool)) → IsCutting done [] left → IsDifference 129 these those done
+  cutting_set done left h = set_of_members (λ a. Covers these a × ¬ (Covers those a)) done (cutting_all done left h) h.ascend h.each
+
+  -- where there's no room for them
+  pub cutting_over : IsReduced 129 these → IsReduced 129 those → (p : List Bool) (ps done left : List (List Bool)) (room : ℕ)
+      → IsCutting done (p ∷ ps) left → IsOver p done left room → (s : List (List Bool)) → IsDifference 129 these those s
+      → room < length s
+  cutting_over hs ht p ps done left room h k s d =
+      let fit = members_fit (λ a. Covers these a × ¬ (Covers those a)) s k.networks d k.ascend
+      (λ x c. elim (k.each x c) [ inl e ↦ h.each x e | inr e ↦ rest_member hs ht p ps done left h x e ]) in
+      omega (arith, fit, k.over)
 
 -- a network inside another that doesn't lie in it is longer
 pub longer : (p f : List Bool) → BeginsWith f p → ¬ (BeginsWith p f) → length p < length f

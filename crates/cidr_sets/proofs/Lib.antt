@@ -4,6 +4,7 @@ pub mod Places
 pub mod Reducing
 pub mod Equality
 pub mod Algebra
+pub mod Members
 pub mod FirstRules
 pub mod Free
 pub mod AddressWalks

@@ -1,8 +1,8 @@
 -- Steps through two lists of networks that ascend.
-use Rattle.std.proofs.Common.{◌≡◌, ◌≢◌, ◌↔◌, ◌⊎◌, ℕ, ◌+◌, ◌<◌, ◌≤◌, Bool, List, [], ◌∷◌, ◌++◌, length, map, set, take, refl, sym, ap, ◌∙◌, subst, arith, inl, inr, Option, Some, None}
+use Rattle.std.proofs.Common.{◌≡◌, ◌≢◌, ◌↔◌, ◌⊎◌, ℕ, ◌+◌, ◌<◌, ◌≤◌, Bool, List, [], ◌∷◌, ◌++◌, length, map, set, take, refl, sym, ap, ap₂, ◌∙◌, subst, arith, inl, inr, Option, Some, None}
 use Rattle.std.proofs.lemmas.Bool.{cases_lt}
 use Rattle.std.proofs.lemmas.Grind.{take-set_at}
-use Rattle.std.proofs.lemmas.List.{map_push, take_all}
+use Rattle.std.proofs.lemmas.List.{length-map, length-take-le, map_push, take_all}
 use Rattle.std.proofs.lemmas.List.Elements.{Contains-push_cases}
 use Rattle.std.proofs.lemmas.Option.{none-some, same_Some}
 use Rattle.std.specs.List.{AllByRecursion, Contains}
@@ -18,12 +18,13 @@ use Rattle.cidr_table.proofs.Ascending.{first_less, sorted_push}
 use Rattle.cidr_table.proofs.Beginnings.{before_longer, begins_between, begins_length, bits_exact, not_before}
 use Rattle.cidr_table.proofs.Halves.{begins_both, begins_itself}
 use Rattle.cidr_table.proofs.MapLaws.{contains_cases, contains_first, contains_later, contains_nothing}
-use Rattle.cidr_table.proofs.Members.{key_full, one_member}
+use Rattle.cidr_table.proofs.Members.{key_full}
 use Rattle.cidr_table.proofs.Order.{not_both}
 use Rattle.cidr_table.proofs.Reduced.{covers_more}
 use Rattle.cidr_sets.specs.Sets.{IsIntersection}
 use Rattle.cidr_sets.specs.Steps.{Ascend, IsIn, IsNext, IsShared}
-use Rattle.cidr_sets.proofs.Algebra.{covers_within, some_address}
+use Rattle.cidr_sets.proofs.Algebra.{covers_within}
+use Rattle.cidr_sets.proofs.Members.{all_members}
 
 -- ---- lists that ascend
 pub rest_ascends : (p : List Bool) (ps : List (List Bool)) → Ascend (p ∷ ps) → Ascend ps
@@ -420,22 +421,17 @@ module _ (these those : List (List Bool)) where
         ];
       }
 
-      all_members : (s : List (List Bool)) → Ascend s → ((x : List Bool) → Contains s x → IsMember 129 s x) → IsReduced 129 s
-      all_members s ascending each = record {
-        ascending = ascending;
-        members = λ p. (
-          λ c. each p c,
-          λ m.
-              let (a, la, b) = some_address p m.within in
-              let c = m.full a la b in
-              subst (Contains s) (one_member 129 s a c.0 p (each c.0 c.1) m c.2 b) c.1,
-        );
-      }
-
 -- one more is written
 pub written : {C : Type 0} (f : C → List Bool) (out : List C) (n : ℕ) (x : C) → n < length out
     → map f (take (n + 1) (set out n x)) ≡ map f (take n out) ++ f x ∷ []
 written f out n x lt = ap (map f) (take-set_at out n (n + 1) x refl lt) ∙ map_push f (take n out) x
+
+pub written_by : {C : Type 0} (f : C → List Bool) (out new : List C) (n count : ℕ) (x : C)
+    → (count ≡ n + 1) × (n < length out) × (new ≡ set out n x) → map f (take count new) ≡ map f (take n out) ++ f x ∷ []
+written_by f out new n count x h = ap₂ (λ k l. map f (take k l)) h.0 h.2 ∙ written f out n x h.1
+
+pub written_length : {C : Type 0} (f : C → List Bool) (out : List C) (n : ℕ) → n ≤ length out → length (map f (take n out)) ≡ n
+written_length f out n le = length-map (take n out) f ∙ length-take-le n out le
 
 -- networks ascend as their bits do
 module _ {C : Type 0} (f : C → List Bool) (cmp : C → C → Ordering) (ordered : (x y : C) → cmp x y ≡ bit_cmp (f x) (f y)) where

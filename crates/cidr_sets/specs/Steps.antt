@@ -5,7 +5,7 @@ use Rattle.std.specs.List.Sorted.{IsStrictlySortedBy}
 use Rattle.std.specs.declared.cmp.Ordering.TheVariants.{Less, Greater}
 use Rattle.cidr.specs.model.Bits.{bit_cmp}
 use Rattle.cidr.specs.model.Network.{BeginsWith}
-use Rattle.cidr_table.specs.Cover.{Covers, AreNetworks}
+use Rattle.cidr_table.specs.Cover.{Covers, AreNetworks, parent}
 
 abbrev pub Ascend : List (List Bool) → Type 0
 Ascend = IsStrictlySortedBy bit_cmp
@@ -49,12 +49,26 @@ pub record IsSkipped (p : List Bool) (others rest : List (List Bool)) : Type 0 w
   pub covers : (a : List Bool) → bit_cmp p a ≢ Greater → Covers others a ↔ Covers rest a
   pub first : (q : List Bool) → slice_get rest 0 ≡ Some q → ¬ ((bit_cmp q p ≡ Less) × ¬ (BeginsWith p q))
 
+-- a network of what p has without the others: they have no address of it, and one at least of its parent, if not p itself
+pub record IsRest (p : List Bool) (others : List (List Bool)) (x : List Bool) : Type 0 where
+  pub inside : BeginsWith x p
+  pub free : (a : List Bool) → length a ≡ 129 → BeginsWith a x → ¬ (Covers others a)
+  pub widest : (x ≡ p) ⊎ ((q : List Bool) × Contains others q × BeginsWith q (parent x) × (length x ≤ length q))
+
+-- more networks that ascend than there is room for: each is an old one, or one of what p has without the others
+pub record IsOver (p : List Bool) (old others : List (List Bool)) (room : ℕ) : Type 0 where
+  pub networks : List (List Bool)
+  pub over : room < length networks
+  pub ascend : Ascend networks
+  pub each : (x : List Bool) → Contains networks x → Contains old x ⊎ IsRest p others x
+
 -- behind the old networks stand those of the addresses of p that the others have not, and of the others the rest is left
 pub record IsCut (p : List Bool) (old new others rest : List (List Bool)) : Type 0 where
   pub ascend : Ascend new
   pub before : (k : List Bool) → IsBehind p k → (x : List Bool) → Contains new x → bit_cmp x k ≡ Less
   pub covers : (a : List Bool) → length a ≡ 129
       → Covers new a ↔ (Covers old a ⊎ (BeginsWith a p × ¬ (Covers others a)))
+  pub each : (x : List Bool) → Contains new x → Contains old x ⊎ IsRest p others x
   pub suffix : (k : ℕ) × (rest ≡ drop k others) × (length rest + k ≡ length others)
   pub behind : (a : List Bool) → IsBehind p a → Covers others a ↔ Covers rest a
   pub used : (q : List Bool) → slice_get others 0 ≡ Some q → BeginsWith q p → length rest < length others

@@ -5,6 +5,7 @@ pub mod access;
 pub mod laws;
 mod pools;
 mod ranges;
+mod rests;
 mod search;
 mod set;
 pub mod slices;

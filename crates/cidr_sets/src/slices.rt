@@ -1,12 +1,15 @@
 //! Sets in memory that the caller brings: nothing here allocates.
 //!
 //! The networks of each set are in normal form, as `as_slice` of a set has them, and so are those that are written.
-ghost use Rattle.std.specs.Prelude.{◌≡◌, ◌+◌, ◌-◌, ◌≤◌, ◌⊎◌, ◌↔◌, Bool, List, length, take, map, MatchOption};
+ghost use Rattle.std.specs.Prelude.{◌≡◌, ◌+◌, ◌-◌, ◌*◌, ◌≤◌, ◌<◌, ◌⊎◌, ◌↔◌, ℕ, Bool, List, length, take, map, set, Contains, IfSome, IfNone, MatchOption};
 ghost use Rattle.std.specs.Option.{option_map};
-ghost use Rattle.cidr_table.specs.Cover.{Covers, IsReduced};
-ghost use Rattle.cidr_sets.specs.Sets.{IsUnion, IsIntersection};
-ghost use Rattle.cidr_sets.specs.Steps.{Ascend, IsNext, IsShared};
+ghost use Rattle.std.specs.declared.cmp.Ordering.TheVariants.{Less};
+ghost use Rattle.cidr.specs.model.Bits.{bit_cmp};
+ghost use Rattle.cidr_table.specs.Cover.{AreNetworks, Covers, IsReduced};
+ghost use Rattle.cidr_sets.specs.Sets.{IsUnion, IsIntersection, IsDifference};
+ghost use Rattle.cidr_sets.specs.Steps.{Ascend, IsCut, IsNext, IsOver, IsShared};
 
+use crate::rests::{half, skip};
 use crate::search::is_inside;
 use cidr::NetworkBits;
 use cidr_table::least_cover_in_place;
@@ -53,6 +56,99 @@ pub fn intersection<C: NetworkBits + Copy>(these: &[C], those: &[C], out: &mut [
         right = rest;
     }
     n
+}
+
+/// Writes the networks of the addresses that the first of two sets has and the other has not to the first elements of
+/// `out`, and returns how many they are; `None` exactly where `out` is too short for them.
+///
+/// It goes through both sets once, and joins nothing: what is left of a set is in normal form as it is written. Each
+/// network of the other set adds at most as many networks as an address has bits. The contract leaves open what is in
+/// `out` after the networks, and after `None` in all of it.
+///
+/// ```
+/// let set = NetworkSet::from_networks(rt.alloc(), &["10.0.0.0/8".parse::<Ipv4Cidr>()?])?;
+/// let part = NetworkSet::from_networks(rt.alloc(), &["10.64.0.0/10".parse()?])?;
+/// let mut out = [Ipv4Cidr::null(); 2];
+/// slices::difference(set.as_slice(), part.as_slice(), &mut out) // Some(2)
+/// out // [10.0.0.0/10, 10.128.0.0/9]
+/// slices::difference(set.as_slice(), part.as_slice(), &mut out[..1]) // None
+/// ```
+pub fn difference<C: NetworkBits + Copy>(these: &[C], those: &[C], out: &mut [C]) -> Option<usize>
+    requires these { IsReduced 129 (map C.bits these.now) }
+    requires those { IsReduced 129 (map C.bits those.now) }
+    ensures set { IfSome result (λ count.
+        IsDifference 129 (map C.bits these.now) (map C.bits those.now) (map C.bits (take count out.new))) }
+    ensures fits { IfSome result (λ count. (w : ℕ) → AreNetworks w (map C.bits those.now)
+        → count ≤ length these.now + w * length those.now) }
+    ensures within { IfSome result (λ count. count ≤ length out.old) }
+    ensures short { IfNone result ((set : List (List Bool))
+        → IsDifference 129 (map C.bits these.now) (map C.bits those.now) set → length out.old < length set) }
+{
+    let mut todo = these;
+    let mut left = those;
+    let mut n = 0;
+    while let Some((network, behind)) = todo.split_first() {
+        let (count, rest) = write_rest(out, n, network, left)?;
+        n = count;
+        todo = behind;
+        left = rest;
+    }
+    Some(n)
+}
+
+/// Writes the networks of the addresses of a network that the others have not, ascending, after the first `n`, and
+/// returns how many there are then, and those of the others that can have addresses behind the network; `None` where
+/// `out` has no room for them.
+fn write_rest<'a, C: NetworkBits + Copy>(
+    out: &mut [C],
+    n: usize,
+    network: &C,
+    others: &'a [C],
+) -> Option<(usize, &'a [C])>
+    requires others { Ascend (map C.bits others.now) }
+    requires within { n ≤ length out.old }
+    requires ascend { Ascend (map C.bits (take n out.old)) }
+    requires before { (x : List Bool) → Contains (map C.bits (take n out.old)) x
+        → bit_cmp x (C.bits network.now) ≡ Less }
+    ensures cut { IfSome result (λ r. IsCut (C.bits network.now) (map C.bits (take n out.old))
+        (map C.bits (take r.0 out.new)) (map C.bits others.now) (map C.bits r.1.now)) }
+    ensures within { IfSome result (λ r. r.0 ≤ length out.old) }
+    ensures over { IfNone result
+        (IsOver (C.bits network.now) (map C.bits (take n out.old)) (map C.bits others.now) (length out.old)) }
+{
+    let left = skip(network, others);
+    let Some((first, behind)) = left.split_first() else {
+        let count = write(out, n, network)?;
+        return Some((count, left));
+    };
+    if is_inside(network, first) {
+        let rest = if first.len() == network.len() {
+            behind
+        } else {
+            left
+        };
+        return Some((n, rest));
+    }
+    if !is_inside(first, network) {
+        let count = write(out, n, network)?;
+        return Some((count, left));
+    }
+    let lower = half(network, first, false);
+    let (count, rest) = write_rest(out, n, &lower, left)?;
+    let upper = half(network, first, true);
+    write_rest(out, count, &upper, rest)
+}
+
+/// Writes one network after the first `n`, and returns how many there are then; `None` where there is no room.
+fn write<C: Copy>(out: &mut [C], n: usize, network: &C) -> Option<usize>
+    ensures some { IfSome result (λ count. (count ≡ n + 1) × (n < length out.old) × (out.new ≡ set out.old n network.now)) }
+    ensures full { IfNone result (length out.old ≤ n) }
+{
+    if n >= out.len() {
+        return None;
+    }
+    out[n] = *network;
+    Some(n + 1)
 }
 
 /// Writes the networks of both lists, ascending, and each once.

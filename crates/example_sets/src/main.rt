@@ -2,9 +2,9 @@
 #![tactic(auto)]
 
 use cidr::errors::NetworkParseError;
-use cidr::{AddrParseError, Ipv4Addr, Ipv4Cidr};
-use cidr_sets::NetworkSet;
+use cidr::{AddrParseError, BitString, Ipv4Addr, Ipv4Cidr};
 use cidr_sets::access::{Action, Rule, deciding, permitted, shadowed};
+use cidr_sets::{NetworkSet, slices};
 use std::alloc::AllocError;
 use std::io;
 
@@ -12,6 +12,7 @@ fn main(rt: HostRuntime) -> Result<(), Failure> {
     one_set(&rt)?;
     two_sets(&rt)?;
     changed(&rt)?;
+    in_own_memory(&rt)?;
     counted(&rt)?;
     one_range(&rt)?;
     access_list(&rt)
@@ -65,6 +66,23 @@ fn changed(rt: &HostRuntime) -> Result<(), Failure> {
     println!(rt; "{:?}", pool.as_slice())?; // [10.0.0.0/8]
     pool.remove(&"10.64.0.0/10".parse()?)?;
     println!(rt; "{:?}", pool.as_slice())?; // [10.0.0.0/10, 10.128.0.0/9]
+    Ok(())
+}
+
+/// A set in memory of this function's own.
+fn in_own_memory(rt: &HostRuntime) -> Result<(), Failure> {
+    let set = NetworkSet::from_networks(rt.alloc(), &["10.0.0.0/8".parse::<Ipv4Cidr>()?])?;
+    let part = NetworkSet::from_networks(rt.alloc(), &["10.64.0.0/10".parse()?])?;
+    let mut out = [Ipv4Cidr::null(); 2];
+    println!(rt;
+        "{:?}",
+        slices::difference(set.as_slice(), part.as_slice(), &mut out)
+    )?; // Some(2)
+    println!(rt; "{:?}", out)?; // [10.0.0.0/10, 10.128.0.0/9]
+    println!(rt;
+        "{:?}",
+        slices::difference(set.as_slice(), part.as_slice(), &mut out[..1])
+    )?; // None
     Ok(())
 }
 

@@ -11,3 +11,5 @@ mod counted;
 mod counts;
 #[cfg(test)]
 mod rows;
+#[cfg(test)]
+mod slices;

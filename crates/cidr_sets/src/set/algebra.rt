@@ -10,10 +10,11 @@ ghost use Rattle.cidr_sets.specs.Searches.{IsFirstInside};
 ghost use Rattle.std.specs.Option.{option_map};
 ghost use Rattle.cidr_sets.specs.Sets.{IsUnion, IsIntersection, IsDifference, IsSymmetricDifference, IsComplement, Meets, IsSubset, AreDisjoint};
 
+use crate::rests::{half, skip};
 use crate::search::{covers, is_inside, known, upto};
 use crate::set::{NetworkSet, joined, reduced};
 use crate::slices;
-use cidr::{BitString, NetworkBits};
+use cidr::NetworkBits;
 use std::alloc::AllocError;
 
 impl<C: NetworkBits + Copy> NetworkSet<C> {
@@ -255,29 +256,6 @@ fn push_rest<'a, C: NetworkBits + Copy>(
     Ok(last)
 }
 
-/// The networks without the first ones, which come before this one and don't contain it.
-fn skip<'a, C: NetworkBits>(network: &C, others: &'a [C]) -> &'a [C]
-    requires { Ascend (map C.bits others.now) }
-    ensures { IsSkipped (C.bits network.now) (map C.bits others.now) (map C.bits result.now) }
-{
-    let mut left = others;
-    while let Some((first, behind)) = left.split_first() {
-        if !is_passed(first, network) {
-            break;
-        }
-        left = behind;
-    }
-    left
-}
-
-/// Whether a network comes before another and doesn't contain it.
-fn is_passed<C: NetworkBits>(network: &C, next: &C) -> bool
-    ensures { Decides result ((bit_cmp (C.bits network.now) (C.bits next.now) ≡ Less)
-        × ¬ (BeginsWith (C.bits next.now) (C.bits network.now))) }
-{
-    network.cmp(next).is_lt() && !is_inside(next, network)
-}
-
 /// The first of the networks that lie in one that none of them contains.
 fn first_inside<C: NetworkBits + Copy>(networks: &[C], outer: &C) -> Option<C>
     requires reduced { IsReduced 129 (map C.bits networks.now) }
@@ -290,20 +268,6 @@ fn first_inside<C: NetworkBits + Copy>(networks: &[C], outer: &C) -> Option<C>
     } else {
         None
     }
-}
-
-/// A half of a network that has another inside.
-fn half<C: BitString + Copy>(network: &C, inner: &C, upper: bool) -> C
-    requires begins { BeginsWith (C.bits inner.now) (C.bits network.now) }
-    requires longer { length (C.bits network.now) < length (C.bits inner.now) }
-    ensures bits { C.bits result ≡ C.bits network.now ++ upper ∷ [] }
-    ensures room { length (C.bits network.now) < 129 }
-{
-    known(inner);
-    let mut half = *inner;
-    half.clip(network.len());
-    half.append(upper);
-    half
 }
 
 /// Whether each of the networks lies in one of the others.

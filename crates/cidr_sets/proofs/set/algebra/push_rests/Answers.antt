@@ -19,7 +19,7 @@ loop-network-preserved g c =
     let these = map f c.args.networks.now in
     let those = map f c.args.others.now in
     let left = map f l.left.now in
-    cutting_more these those (f c.in-Some.network.now) (map f c.in-Some.behind.now) (map f l.out.items) (map f c.push_rest.new.out.items)
+    cutting_more these those c.requires.networks c.requires.others (f c.in-Some.network.now) (map f c.in-Some.behind.now) (map f l.out.items) (map f c.push_rest.new.out.items)
     left (map f c.in_ok-left.left.now)
     (subst (λ todo. IsCutting these those (map f l.out.items) (map f todo) left) c.in-Some.ensures.cases.0 l.invariant)
     c.in_ok-left.ensures

@@ -3,7 +3,7 @@ use Rattle.std.proofs.lemmas.Bool.Decides.{not_from_Decides}
 use Rattle.cidr_table.specs.Cover.{Covers}
 use Rattle.cidr_sets.proofs.Cuts.{IsSuffix, first_of_none, first_passed, skip_more, suffix_all, suffix_rest}
 use Rattle.cidr_sets.proofs.Joining.{by_none, nothing}
-use Rattle.cidr_sets.proofs.set.algebra.skip.Goals as goal
+use Rattle.cidr_sets.proofs.rests.skip.Goals as goal
 
 pub loop-first-init : goal.loop-first-init
 loop-first-init g c = (suffix_all (map g.C.BitString.bits c.args.others.now), λ a n. (λ c. c, λ c. c))

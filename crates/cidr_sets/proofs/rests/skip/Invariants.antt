@@ -3,7 +3,7 @@ use Rattle.std.specs.declared.cmp.Ordering.TheVariants.{Greater}
 use Rattle.cidr.specs.model.Bits.{bit_cmp}
 use Rattle.cidr_table.specs.Cover.{Covers}
 use Rattle.cidr_sets.proofs.Cuts.{IsSuffix}
-use Rattle.cidr_sets.proofs.set.algebra.skip.Given as goal
+use Rattle.cidr_sets.proofs.rests.skip.Given as goal
 
 -- what was left out has no address of the network or behind it
 abbrev pub invariant-loop-first : goal.invariant-loop-first

@@ -1,0 +1,59 @@
+//! Sets in memory that the caller brings: in the room that they need, and in one less.
+
+use crate::algebra::networks;
+use crate::rows::{ROWS_V4, ROWS_V6, Row};
+use cidr::errors::NetworkParseError;
+use cidr::{Ipv4Cidr, Ipv6Cidr, NetworkBits};
+use cidr_sets::{NetworkSet, slices};
+use std::alloc::{AllocGlobal, Global};
+use std::process::Abort;
+use std::str::FromStr;
+use std::test::Fail;
+
+/// Room for some networks, filled with one.
+fn filled<C: NetworkBits + Copy>(alloc: Global, len: usize, network: C) -> Result<Vec<C>, Fail> {
+    let mut room = Vec::new(alloc);
+    for _ in 0..len {
+        room.push(network)?;
+    }
+    Ok(room)
+}
+
+/// Tries each call on the sets of a row.
+fn try_row<C>(rt: &(impl Abort + AllocGlobal), row: &Row, whole: &str) -> Result<(), Fail>
+where
+    C: NetworkBits + Copy + Drop + FromStr<Err = NetworkParseError>,
+{
+    let alloc = rt.alloc();
+    let whole = C::from_str(whole)?;
+    let these = NetworkSet::from_networks(alloc, networks::<C>(alloc, row.these)?.as_slice())?;
+    let those = NetworkSet::from_networks(alloc, networks::<C>(alloc, row.those)?.as_slice())?;
+    let wanted = networks::<C>(alloc, row.difference)?;
+    let mut out = filled(alloc, wanted.len(), whole)?;
+    let count = slices::difference(these.as_slice(), those.as_slice(), out.as_mut_slice());
+    assert!(rt;
+        count == Some(wanted.len()) && out == wanted,
+        "{0}",
+        row.difference
+    );
+    if let Some((_, short)) = out.as_mut_slice().split_first_mut() {
+        assert!(rt; slices::difference(these.as_slice(), those.as_slice(), short).is_none());
+    }
+    Ok(())
+}
+
+#[test]
+fn ipv4_sets_are_written_where_they_fit(rt: HostRuntime) -> Result<(), Fail> {
+    for row in &ROWS_V4 {
+        try_row::<Ipv4Cidr>(&rt, row, "10.0.0.0/27")?;
+    }
+    Ok(())
+}
+
+#[test]
+fn ipv6_sets_are_written_where_they_fit(rt: HostRuntime) -> Result<(), Fail> {
+    for row in &ROWS_V6 {
+        try_row::<Ipv6Cidr>(&rt, row, "2001:db8::/123")?;
+    }
+    Ok(())
+}
