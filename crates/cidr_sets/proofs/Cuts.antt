@@ -15,14 +15,16 @@ use Rattle.cidr_table.specs.Cover.{AreNetworks, Covers, IsReduced, parent}
 use Rattle.cidr_table.proofs.Ascending.{first_less, sorted_push}
 use Rattle.cidr_table.proofs.Beginnings.{begins_between, begins_length, bits_exact, not_before}
 use Rattle.cidr_table.proofs.Halves.{begins_begins, begins_both, begins_itself, either_half, half_begins, length_half, parent_half, same_length}
-use Rattle.cidr_table.proofs.MapLaws.{contains_first, contains_later, contains_nothing}
-use Rattle.cidr_table.proofs.Order.{halves_less, less_not_itself, not_both}
-use Rattle.cidr_table.proofs.Reduced.{HoldNoOther, covers_more}
-use Rattle.cidr_sets.specs.Sets.{IsDifference}
+use Rattle.cidr_table.proofs.MapLaws.{contains_cases, contains_first, contains_later, contains_nothing}
+use Rattle.cidr_table.proofs.Order.{halves_less, less_not_itself, lower_less, not_both}
+use Rattle.cidr_table.proofs.Reduced.{HoldNoOther, covers_more, reduced_is_least}
+use Rattle.cidr_table.proofs.Stacks.{spread_from_reduced}
+use Rattle.cidr_sets.specs.Sets.{IsComplement, IsDifference}
 use Rattle.cidr_sets.specs.Steps.{Ascend, IsBehind, IsCut, IsOver, IsRest, IsSkipped}
+use Rattle.cidr_sets.proofs.Addresses.{set_alike}
 use Rattle.cidr_sets.proofs.Algebra.{covers_within, some_address}
 use Rattle.cidr_sets.proofs.Members.{IsMemberOf, members_fit, set_of_members}
-use Rattle.cidr_sets.proofs.Steps.{first_or_rest, less_longer, none_ascend, rest_ascends, turned}
+use Rattle.cidr_sets.proofs.Steps.{first_or_rest, less_longer, none_ascend, one_ascends, rest_ascends, turned}
 
 -- ---- the last ones of a list
 abbrev pub IsSuffix : List (List Bool) → List (List Bool) → Type 0
@@ -518,6 +520,40 @@ module _ (these those : List (List Bool)) where
       let fit = members_fit (λ a. Covers these a × ¬ (Covers those a)) s k.networks d k.ascend
       (λ x c. elim (k.each x c) [ inl e ↦ h.each x e | inr e ↦ rest_member hs ht p ps done left h x e ]) in
       omega (arith, fit, k.over)
+
+-- ---- what is left of one network alone
+only : (p x : List Bool) → Contains (p ∷ []) x → p ≡ x
+only p x c = elim (contains_cases p x [] c) [ inl e ↦ e | inr d ↦ absurd (contains_nothing x d) ]
+
+one_reduced : (p : List Bool) → length p ≤ 129 → IsReduced 129 (p ∷ [])
+one_reduced p short = reduced_is_least 129 (p ∷ []) (one_ascends p)
+    (λ x c. omega (arith, short, ap length (only p x c)))
+    (λ q c d. less_not_itself (q ++ true ∷ [])
+    (subst (λ x. bit_cmp x (q ++ true ∷ []) ≡ Less) (sym (only p (q ++ false ∷ []) c) ∙ only p (q ++ true ∷ []) d) (lower_less q)))
+    (λ x y c d b. sym (only p x c) ∙ only p y d)
+
+module _ (p : List Bool) (short : length p ≤ 129) (others : List (List Bool)) (h : IsReduced 129 others) where
+  alike : (a : List Bool) → (Covers (p ∷ []) a × ¬ (Covers others a)) ↔ (BeginsWith a p × ¬ (Covers others a))
+  alike a = (
+    λ c. (elim ((first_or_rest p [] a).0 c.0) [ inl b ↦ b | inr d ↦ absurd (contains_nothing d.0 d.1) ], c.1),
+    λ c. ((first_or_rest p [] a).1 (inl c.0), c.1),
+  )
+
+  begun : IsCutting (p ∷ []) others [] (p ∷ []) others
+  begun =
+      let one = one_reduced p short in
+      cutting_none (p ∷ []) others one.ascending (spread_from_reduced 129 (p ∷ []) one).apart h.ascending
+
+  pub complement_set : (new rest : List (List Bool)) → IsCut p [] new others rest → IsComplement 129 p others new
+  complement_set new rest k =
+      set_alike 129 (λ a. Covers (p ∷ []) a × ¬ (Covers others a)) (λ a. BeginsWith a p × ¬ (Covers others a)) new (λ a la. alike a)
+      (cutting_set (p ∷ []) others new rest (cutting_more (p ∷ []) others (one_reduced p short) h p [] [] new others rest begun k))
+
+  pub complement_over : (room : ℕ) → IsOver p [] others room → (s : List (List Bool)) → IsComplement 129 p others s → room < length s
+  complement_over room k s d =
+      cutting_over (p ∷ []) others (one_reduced p short) h p [] [] others room begun k s
+      (set_alike 129 (λ a. BeginsWith a p × ¬ (Covers others a)) (λ a. Covers (p ∷ []) a × ¬ (Covers others a)) s
+      (λ a la. ((alike a).1, (alike a).0)) d)
 
 -- a network inside another that doesn't lie in it is longer
 pub longer : (p f : List Bool) → BeginsWith f p → ¬ (BeginsWith p f) → length p < length f

@@ -6,11 +6,11 @@ ghost use Rattle.std.specs.Option.{option_map};
 ghost use Rattle.std.specs.declared.cmp.Ordering.TheVariants.{Less};
 ghost use Rattle.cidr.specs.model.Bits.{bit_cmp};
 ghost use Rattle.cidr_table.specs.Cover.{AreNetworks, Covers, IsReduced};
-ghost use Rattle.cidr_sets.specs.Sets.{IsUnion, IsIntersection, IsDifference};
+ghost use Rattle.cidr_sets.specs.Sets.{IsUnion, IsIntersection, IsDifference, IsComplement};
 ghost use Rattle.cidr_sets.specs.Steps.{Ascend, IsCut, IsNext, IsOver, IsShared};
 
 use crate::rests::{half, skip};
-use crate::search::is_inside;
+use crate::search::{is_inside, known};
 use cidr::NetworkBits;
 use cidr_table::least_cover_in_place;
 use std::cmp::Ordering;
@@ -94,6 +94,37 @@ pub fn difference<C: NetworkBits + Copy>(these: &[C], those: &[C], out: &mut [C]
         left = rest;
     }
     Some(n)
+}
+
+/// Writes the networks of the addresses of a network that a set has not to the first elements of `out`, and returns how
+/// many they are; `None` exactly where `out` is too short for them.
+///
+/// It goes through the set once. Each network of the set adds at most as many networks as an address has bits. The
+/// contract leaves open what is in `out` after the networks, and after `None` in all of it.
+///
+/// ```
+/// let part = NetworkSet::from_networks(rt.alloc(), &["10.64.0.0/10".parse()?])?;
+/// let mut out = [Ipv4Cidr::null(); 2];
+/// slices::complement_in(&"10.0.0.0/8".parse()?, part.as_slice(), &mut out) // Some(2)
+/// out // [10.0.0.0/10, 10.128.0.0/9]
+/// ```
+pub fn complement_in<C: NetworkBits + Copy>(
+    network: &C,
+    networks: &[C],
+    out: &mut [C],
+) -> Option<usize>
+    requires { IsReduced 129 (map C.bits networks.now) }
+    ensures set { IfSome result (λ count.
+        IsComplement 129 (C.bits network.now) (map C.bits networks.now) (map C.bits (take count out.new))) }
+    ensures fits { IfSome result (λ count. (w : ℕ) → AreNetworks w (map C.bits networks.now)
+        → count ≤ w * length networks.now + 1) }
+    ensures within { IfSome result (λ count. count ≤ length out.old) }
+    ensures short { IfNone result ((set : List (List Bool))
+        → IsComplement 129 (C.bits network.now) (map C.bits networks.now) set → length out.old < length set) }
+{
+    known(network);
+    let (count, _) = write_rest(out, 0, network, networks)?;
+    Some(count)
 }
 
 /// Writes the networks of the addresses of a network that the others have not, ascending, after the first `n`, and

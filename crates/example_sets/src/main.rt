@@ -13,6 +13,7 @@ fn main(rt: HostRuntime) -> Result<(), Failure> {
     two_sets(&rt)?;
     changed(&rt)?;
     in_own_memory(&rt)?;
+    around(&rt)?;
     counted(&rt)?;
     one_range(&rt)?;
     access_list(&rt)
@@ -83,6 +84,18 @@ fn in_own_memory(rt: &HostRuntime) -> Result<(), Failure> {
         "{:?}",
         slices::difference(set.as_slice(), part.as_slice(), &mut out[..1])
     )?; // None
+    Ok(())
+}
+
+/// The networks around another, in memory of this function's own.
+fn around(rt: &HostRuntime) -> Result<(), Failure> {
+    let part = NetworkSet::from_networks(rt.alloc(), &["10.64.0.0/10".parse()?])?;
+    let mut out = [Ipv4Cidr::null(); 2];
+    println!(rt;
+        "{:?}",
+        slices::complement_in(&"10.0.0.0/8".parse()?, part.as_slice(), &mut out)
+    )?; // Some(2)
+    println!(rt; "{:?}", out)?; // [10.0.0.0/10, 10.128.0.0/9]
     Ok(())
 }
 

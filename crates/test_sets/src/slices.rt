@@ -28,16 +28,28 @@ where
     let whole = C::from_str(whole)?;
     let these = NetworkSet::from_networks(alloc, networks::<C>(alloc, row.these)?.as_slice())?;
     let those = NetworkSet::from_networks(alloc, networks::<C>(alloc, row.those)?.as_slice())?;
+    let (these, those) = (these.as_slice(), those.as_slice());
     let wanted = networks::<C>(alloc, row.difference)?;
     let mut out = filled(alloc, wanted.len(), whole)?;
-    let count = slices::difference(these.as_slice(), those.as_slice(), out.as_mut_slice());
+    let count = slices::difference(these, those, out.as_mut_slice());
     assert!(rt;
         count == Some(wanted.len()) && out == wanted,
         "{0}",
         row.difference
     );
     if let Some((_, short)) = out.as_mut_slice().split_first_mut() {
-        assert!(rt; slices::difference(these.as_slice(), those.as_slice(), short).is_none());
+        assert!(rt; slices::difference(these, those, short).is_none());
+    }
+    let wanted = networks::<C>(alloc, row.complement)?;
+    let mut out = filled(alloc, wanted.len(), whole)?;
+    let count = slices::complement_in(&whole, these, out.as_mut_slice());
+    assert!(rt;
+        count == Some(wanted.len()) && out == wanted,
+        "{0}",
+        row.complement
+    );
+    if let Some((_, short)) = out.as_mut_slice().split_first_mut() {
+        assert!(rt; slices::complement_in(&whole, these, short).is_none());
     }
     Ok(())
 }
