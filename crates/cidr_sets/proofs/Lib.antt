@@ -1,6 +1,7 @@
 -- The lemmas: sets by the addresses of their networks, and the place of a network among others.
 pub mod Addresses
 pub mod Places
+pub mod Distinct
 pub mod Reducing
 pub mod Equality
 pub mod Algebra

@@ -1,12 +1,10 @@
 -- Networks in any order become a set.
-use Rattle.std.proofs.Common.{◌≡◌, ℕ, ◌≤◌, Bool, List, [], ◌++◌, length, take, map, sym, ◌∙◌, subst}
+use Rattle.std.proofs.Common.{◌≡◌, ℕ, ◌≤◌, Bool, List, ◌++◌, length, take, map, sym, ◌∙◌, subst}
 use Rattle.std.proofs.lemmas.List.{take-take, take-append-le}
-use Rattle.std.proofs.lemmas.List.Filters.{dedup_is}
 use Rattle.std.proofs.lemmas.List.Kept.{Contains-dedup, Contains-from_dedup, IsStrictlySortedBy-dedup}
 use Rattle.std.proofs.lemmas.List.Sorted.{Contains-permutation, IsPermutation-sym}
 use Rattle.std.specs.Cmp.{IsEquivalence, IsTotalOrder, Equal-is}
 use Rattle.std.specs.List.{Contains, dedup}
-use Rattle.std.specs.List.Retain.{IsFiltered, DiffersFromLast}
 use Rattle.std.specs.List.Sorted.{IsPermutation, IsSorted, IsStrictlySortedBy}
 use Rattle.std.specs.Ordering.{is_eq}
 use Rattle.std.specs.declared.cmp.Ordering.{Ordering}
@@ -23,10 +21,7 @@ front n m ys zs le within = take-take n m (ys ++ zs) le ∙ take-append-le n ys 
 module _ {C : Type 0} (f : C → List Bool) (cmp : C → C → Ordering) (o : IsTotalOrder cmp)
     (ordered : (x y : C) → cmp x y ≡ bit_cmp (f x) (f y)) (determined : (x y : C) → f x ≡ f y → x ≡ y)
     (E : C → C → Bool) (ties : (x y : C) → E x y ≡ is_eq (cmp x y)) (e : IsEquivalence E)
-    (xs ys zs : List C) (p : IsPermutation xs ys) (s : IsSorted cmp ys) (d : IsFiltered (DiffersFromLast E) [] ys zs) where
-  is : zs ≡ dedup E ys
-  is = dedup_is E ys zs d
-
+    (xs ys zs : List C) (p : IsPermutation xs ys) (s : IsSorted cmp ys) (is : zs ≡ dedup E ys) where
   pub distinct : IsStrictlySortedBy cmp zs
   distinct = subst (IsStrictlySortedBy cmp) (sym is) (IsStrictlySortedBy-dedup o ties ys s)
 

@@ -2,11 +2,12 @@
 //!
 //! The networks of each set are in normal form, as `as_slice` of a set has them, and so are those that are written.
 ghost use Rattle.std.specs.Prelude.{◌≡◌, ◌+◌, ◌-◌, ◌*◌, ◌≤◌, ◌<◌, ◌⊎◌, ◌↔◌, ℕ, Bool, List, length, take, map, set, Contains, IfSome, IfNone, MatchOption};
+ghost use Rattle.std.specs.List.{dedup};
 ghost use Rattle.std.specs.Option.{option_map};
 ghost use Rattle.std.specs.declared.cmp.Ordering.TheVariants.{Less};
 ghost use Rattle.cidr.specs.model.Bits.{bit_cmp};
 ghost use Rattle.cidr_table.specs.Cover.{AreNetworks, Covers, IsReduced};
-ghost use Rattle.cidr_sets.specs.Sets.{IsUnion, IsIntersection, IsDifference, IsComplement};
+ghost use Rattle.cidr_sets.specs.Sets.{IsSetOf, IsUnion, IsIntersection, IsDifference, IsComplement};
 ghost use Rattle.cidr_sets.specs.Steps.{Ascend, IsCut, IsNext, IsOver, IsShared};
 
 use crate::rests::{half, skip};
@@ -125,6 +126,41 @@ pub fn complement_in<C: NetworkBits + Copy>(
     known(network);
     let (count, _) = write_rest(out, 0, network, networks)?;
     Some(count)
+}
+
+/// Makes a slice of networks, which may come in any order, overlap and repeat, the set of their addresses: it stands in
+/// the first elements, and the call returns how many they are.
+///
+/// It sorts the slice: O(n log n). The contract leaves open what is in it after the set.
+///
+/// ```
+/// let mut networks: [Ipv4Cidr; 2] = ["10.128.0.0/9".parse()?, "10.0.0.0/9".parse()?];
+/// slices::from_networks(&mut networks) // 1
+/// networks[0] // 10.0.0.0/8
+/// ```
+pub fn from_networks<C: NetworkBits + Copy>(networks: &mut [C]) -> usize
+    ensures set { IsSetOf 129 (Covers (map C.bits networks.old)) (map C.bits (take result networks.new)) }
+    ensures fits { result ≤ length networks.old }
+{
+    networks.sort_unstable();
+    let count = keep_distinct(networks);
+    least_cover_in_place(&mut networks[..count])
+}
+
+/// Moves the first of each run of equal elements to the front, and returns how many they are.
+fn keep_distinct<C: PartialEq + Copy>(elements: &mut [C]) -> usize
+    ensures kept { take result elements.new ≡ dedup C.eq elements.old }
+    ensures fits { result ≤ length elements.old }
+{
+    let mut kept = 0;
+    for i in 0..elements.len() {
+        let element = elements[i];
+        if kept == 0 || element != elements[kept - 1] {
+            elements[kept] = element;
+            kept += 1;
+        }
+    }
+    kept
 }
 
 /// Writes the networks of the addresses of a network that the others have not, ascending, after the first `n`, and

@@ -12,6 +12,7 @@ fn main(rt: HostRuntime) -> Result<(), Failure> {
     one_set(&rt)?;
     two_sets(&rt)?;
     changed(&rt)?;
+    in_place(&rt)?;
     in_own_memory(&rt)?;
     around(&rt)?;
     counted(&rt)?;
@@ -67,6 +68,14 @@ fn changed(rt: &HostRuntime) -> Result<(), Failure> {
     println!(rt; "{:?}", pool.as_slice())?; // [10.0.0.0/8]
     pool.remove(&"10.64.0.0/10".parse()?)?;
     println!(rt; "{:?}", pool.as_slice())?; // [10.0.0.0/10, 10.128.0.0/9]
+    Ok(())
+}
+
+/// A set where its networks are.
+fn in_place(rt: &HostRuntime) -> Result<(), Failure> {
+    let mut networks: [Ipv4Cidr; 2] = ["10.128.0.0/9".parse()?, "10.0.0.0/9".parse()?];
+    println!(rt; "{}", slices::from_networks(&mut networks))?; // 1
+    println!(rt; "{}", networks[0])?; // 10.0.0.0/8
     Ok(())
 }
 

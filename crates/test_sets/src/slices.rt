@@ -29,6 +29,12 @@ where
     let these = NetworkSet::from_networks(alloc, networks::<C>(alloc, row.these)?.as_slice())?;
     let those = NetworkSet::from_networks(alloc, networks::<C>(alloc, row.those)?.as_slice())?;
     let (these, those) = (these.as_slice(), those.as_slice());
+    let wanted = networks::<C>(alloc, row.union)?;
+    let mut all = networks::<C>(alloc, row.these)?;
+    all.extend_from_slice(networks::<C>(alloc, row.those)?.as_slice())?;
+    let count = slices::from_networks(all.as_mut_slice());
+    all.truncate(count);
+    assert!(rt; all == wanted, "{0}", row.union);
     let wanted = networks::<C>(alloc, row.difference)?;
     let mut out = filled(alloc, wanted.len(), whole)?;
     let count = slices::difference(these, those, out.as_mut_slice());
