@@ -13,7 +13,7 @@ use Rattle.cidr_table.proofs.Beginnings.{begins_decides}
 use Rattle.cidr_table.proofs.MapLaws.{contains_first, contains_later, contains_cases, contains_nothing}
 use Rattle.cidr_table.proofs.Reduced.{covers_more}
 use Rattle.cidr_sets.specs.Sets.{IsSetOf, IsUnion, IsDifference, Meets}
-use Rattle.cidr_sets.specs.FirstRules.{IsFirst, IsPermitted, IsDeciding, IsShadowed}
+use Rattle.cidr_sets.specs.FirstRules.{IsFirst, IsPermitted, IsDeciding, AreDecidingRules, IsShadowed}
 use Rattle.cidr_sets.specs.declared.access.Action.{Action}
 use Rattle.cidr_sets.specs.declared.access.Action.TheVariants.{Permit, Deny}
 use Rattle.cidr_sets.proofs.Addresses.{none_reduced, set_alike, one_list}
@@ -317,3 +317,11 @@ module _ (ps : List (List Bool)) (i : ℕ) (p : List Bool) (there : slice_get ps
               absurd (f.1 (p, (i, size, get_or-take j ps i p lt ∙ get_or_from_slice_get ps i p p there), b))
         ]
       ]
+
+-- ---- the rules that cover a rule
+pub deciding_rules : (w : ℕ) (networks : List (List Bool)) (i : ℕ) (p : List Bool) (rules : List ℕ) → slice_get networks i ≡ Some p
+    → ((j : ℕ) → Contains rules j ↔ IsDeciding w networks p j) → IsStrictlyIncreasing rules → AreDecidingRules w networks i rules
+deciding_rules w networks i p rules there h ascending = record {
+  exact = λ q e. subst (λ t. (j : ℕ) → Contains rules j ↔ IsDeciding w networks t j) (same_Some p q (sym there ∙ e)) h;
+  ascending = ascending;
+}

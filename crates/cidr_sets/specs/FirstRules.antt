@@ -1,7 +1,8 @@
 -- Access lists. A list of rules is its networks and its actions, in order: of the rules whose networks contain an address,
 -- the first decides, and an address that is in none is denied.
-use Rattle.std.specs.Prelude.{◌≡◌, ◌<◌, ℕ, Bool, List, length, take, Some}
-use Rattle.std.specs.List.{slice_get}
+use Rattle.std.specs.Prelude.{◌≡◌, ◌↔◌, ◌<◌, ℕ, Bool, List, length, take, Some}
+use Rattle.std.specs.List.{Contains, slice_get}
+use Rattle.std.specs.List.Sorted.{IsStrictlyIncreasing}
 use Rattle.cidr.specs.model.Network.{BeginsWith}
 use Rattle.cidr_table.specs.Cover.{Covers}
 use Rattle.cidr_sets.specs.declared.access.Action.{Action}
@@ -22,3 +23,8 @@ IsDeciding w networks p i = (a : List Bool) × (length a ≡ w) × BeginsWith a 
 -- the rule at this index is the first of no address
 abbrev pub IsShadowed : ℕ → List (List Bool) → ℕ → Type 0
 IsShadowed w networks i = (i < length networks) × ((a : List Bool) → length a ≡ w → ¬ (IsFirst networks a i))
+
+-- the rules that decide the addresses of the network of the rule at this index, ascending
+pub record AreDecidingRules (w : ℕ) (networks : List (List Bool)) (i : ℕ) (rules : List ℕ) : Type 0 where
+  pub exact : (p : List Bool) → slice_get networks i ≡ Some p → (j : ℕ) → Contains rules j ↔ IsDeciding w networks p j
+  pub ascending : IsStrictlyIncreasing rules

@@ -1,10 +1,10 @@
 //! Access lists: rules in order, each of which permits or denies the addresses of a network.
 ghost use Rattle.std.specs.Prelude.{◌≡◌, ◌↔◌, ◌<◌, ℕ, Bool, List, length, map, Contains, IfOk, Some};
-ghost use Rattle.std.specs.List.{slice_get};
+ghost use Rattle.std.specs.List.{All, slice_get};
 ghost use Rattle.std.specs.List.Sorted.{IsStrictlyIncreasing};
 ghost use Rattle.cidr.specs.model.Network.{BeginsWith};
 ghost use Rattle.cidr_sets.specs.Sets.{IsSetOf};
-ghost use Rattle.cidr_sets.specs.FirstRules.{IsFirst, IsPermitted, IsDeciding, IsShadowed};
+ghost use Rattle.cidr_sets.specs.FirstRules.{IsFirst, IsPermitted, IsDeciding, AreDecidingRules, IsShadowed};
 ghost use Rattle.cidr_sets.specs.declared.access.Action.{Action};
 
 use crate::set::NetworkSet;
@@ -112,6 +112,42 @@ pub fn deciding<C: NetworkBits + Copy>(
             out.push(i)?;
             rest.remove(&rule.network)?;
         }
+    }
+    Ok(out)
+}
+
+/// A rule that no address reaches, with the earlier rules that cover it.
+#[derive(Debug, Drop)]
+pub struct Shadow {
+    /// The index of the rule.
+    pub rule: usize,
+    /// The indices of the earlier rules that decide the addresses of its network, ascending.
+    pub by: Vec<usize>,
+}
+
+/// The rules that no address reaches, ascending, each with the earlier rules that decide the addresses of its network.
+///
+/// It calls [`shadowed`], and [`deciding`] for the network of each rule that it returns, which takes time that grows
+/// with the square of the number of rules for each of them. Where an allocation fails, it returns the error.
+///
+/// ```
+/// shadowed_by(rt.alloc(), &rules)? // [Shadow { rule: 2, by: [0] }]
+/// ```
+pub fn shadowed_by<C: NetworkBits + Copy>(
+    alloc: Global,
+    rules: &[Rule<C>],
+) -> Result<Vec<Shadow>, AllocError>
+    ensures rules { IfOk result (λ out. (i : ℕ) → Contains (map (λ s. s.rule) out.items) i
+        ↔ IsShadowed 129 (map (λ r. C.bits r.network) rules.now) i) }
+    ensures ascending { IfOk result (λ out. IsStrictlyIncreasing (map (λ s. s.rule) out.items)) }
+    ensures by { IfOk result (λ out.
+        All (λ s. AreDecidingRules 129 (map (λ r. C.bits r.network) rules.now) s.rule s.by.items) out.items) }
+{
+    let unreached = shadowed(alloc, rules)?;
+    let mut out = Vec::new(alloc);
+    for &rule in &unreached {
+        let by = deciding(alloc, rules, &rules[rule].network)?;
+        out.push(Shadow { rule, by })?;
     }
     Ok(out)
 }

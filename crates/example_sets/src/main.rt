@@ -3,7 +3,7 @@
 
 use cidr::errors::NetworkParseError;
 use cidr::{AddrParseError, BitString, Ipv4Addr, Ipv4Cidr};
-use cidr_sets::access::{Action, Rule, deciding, permitted, shadowed};
+use cidr_sets::access::{Action, Rule, deciding, permitted, shadowed, shadowed_by};
 use cidr_sets::{NetworkSet, slices};
 use std::alloc::AllocError;
 use std::io;
@@ -145,6 +145,7 @@ fn access_list(rt: &HostRuntime) -> Result<(), Failure> {
     ];
     println!(rt; "{:?}", permitted(rt.alloc(), &rules)?.as_slice())?; // [10.128.0.0/9]
     println!(rt; "{:?}", shadowed(rt.alloc(), &rules)?)?; // [2]
+    println!(rt; "{:?}", shadowed_by(rt.alloc(), &rules)?)?; // [Shadow { rule: 2, by: [0] }]
     println!(rt; "{:?}", deciding(rt.alloc(), &rules, &rules[2].network)?)?; // [0]
     println!(rt; "{:?}", deciding(rt.alloc(), &rules, &rules[1].network)?)?; // [0, 1]
     Ok(())
