@@ -254,7 +254,7 @@ are_joined (p ∷ ps) spread short =
     (are_joined ps (λ i. spread (suc i)) (λ q c. short q (contains_later p q ps c))))
 
 -- ---- as addresses
-pad : (up : Bool) (p a : List Bool) (k : ℕ) → length p + k ≤ length a → Reaches up (p ++ replicate k (not up)) a ↔ Reaches up p a
+pub pad : (up : Bool) (p a : List Bool) (k : ℕ) → length p + k ≤ length a → Reaches up (p ++ replicate k (not up)) a ↔ Reaches up p a
 unfolding Reaches
 pad up [] a k l = (λ r. tt, λ r. filled_reaches up [] a k refl (omega (arith, l)))
 pad up (x ∷ p) [] k l = absurd (omega (arith, l))
@@ -274,14 +274,14 @@ greater_or Less h = absurd (h (λ e. cc))
 greater_or Equal h = absurd (h (λ e. cc))
 greater_or Greater h = refl
 
-contained_map : {X Y : Type 0} (f : X → Y) (xs : List X) (y : Y) → Contains (map f xs) y → (x : X) × Contains xs x × (f x ≡ y)
+pub contained_map : {X Y : Type 0} (f : X → Y) (xs : List X) (y : Y) → Contains (map f xs) y → (x : X) × Contains xs x × (f x ≡ y)
 contained_map f [] y c = absurd (contains_nothing y c)
 contained_map f (x ∷ xs) y c = elim (contains_cases (f x) y (map f xs) c) [
   | inl e ↦ (x, contains_first x xs, e)
   | inr d ↦ let r = contained_map f xs y d in (r.0, contains_later x r.0 xs r.1, r.2)
 ]
 
-contains_map : {X Y : Type 0} (f : X → Y) (xs : List X) (x : X) → Contains xs x → Contains (map f xs) (f x)
+pub contains_map : {X Y : Type 0} (f : X → Y) (xs : List X) (x : X) → Contains xs x → Contains (map f xs) (f x)
 contains_map f [] x c = absurd (contains_nothing x c)
 contains_map f (y ∷ xs) x c = elim (contains_cases y x xs c) [
   | inl e ↦ subst (λ z. Contains (map f (y ∷ xs)) (f z)) e (contains_first (f y) (map f xs))

@@ -14,5 +14,6 @@ pub mod AddressLaws
 pub mod Sides
 pub mod Runs
 pub mod Joining
+pub mod OneRange
 pub mod Steps
 pub mod Cuts

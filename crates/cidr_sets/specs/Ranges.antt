@@ -10,6 +10,10 @@ use Rattle.cidr.specs.model.Network.{BeginsWith, zeros, ones, first_of, last_of}
 abbrev pub IsBetween : List Bool → List Bool → List Bool → Type 0
 IsBetween first last a = (bit_cmp first a ≢ Greater) × (bit_cmp (take (length last) a) last ≢ Greater)
 
+-- in one of the ranges
+abbrev pub IsInSome : List (List Bool × List Bool) → List Bool → Type 0
+IsInSome ranges a = (r : List Bool × List Bool) × Contains ranges r × IsBetween r.0 r.1 a
+
 -- an address is after the last address of a range and before the first of another
 abbrev pub IsGap : ℕ → List Bool → List Bool → Type 0
 IsGap w last first = (a : List Bool) × (length a ≡ w)
@@ -19,8 +23,7 @@ IsGap w last first = (a : List Bool) × (length a ≡ w)
 -- between a range and the next there is an address, so that no two touch
 pub record AreRanges (w : ℕ) (IsIn : List Bool → Type 0) (ranges : List (List Bool × List Bool)) : Type 0 where
   pub some : (r : List Bool × List Bool) → Contains ranges r → (a : List Bool) × (length a ≡ w) × IsBetween r.0 r.1 a
-  pub exact : (a : List Bool) → length a ≡ w
-      → IsIn a ↔ ((r : List Bool × List Bool) × Contains ranges r × IsBetween r.0 r.1 a)
+  pub exact : (a : List Bool) → length a ≡ w → IsIn a ↔ IsInSome ranges a
   pub apart : (i : ℕ) (r s : List Bool × List Bool) → slice_get ranges i ≡ Some r → slice_get ranges (suc i) ≡ Some s
       → IsGap w r.1 s.0
 
@@ -28,6 +31,14 @@ pub record AreRanges (w : ℕ) (IsIn : List Bool → Type 0) (ranges : List (Lis
 -- no address begins with another
 abbrev pub AreBeginless : (List Bool → Type 0) → Type 0
 AreBeginless IsAddress = (a b : List Bool) → IsAddress a → IsAddress b → BeginsWith a b → a ≡ b
+
+-- each list of 129 bits begins with an address
+abbrev pub AreComplete : (List Bool → Type 0) → Type 0
+AreComplete IsAddress = (a : List Bool) → length a ≡ 129 → (x : List Bool) × IsAddress x × BeginsWith a x
+
+-- of a network that has an address, both ends are addresses
+abbrev pub HaveEnds : (List Bool → Type 0) → (List Bool → List Bool) → (List Bool → List Bool) → Type 0
+HaveEnds IsAddress first last = (p a : List Bool) → IsAddress a → BeginsWith a p → IsAddress (first p) × IsAddress (last p)
 
 -- the bits, and behind them k times b, 129 at most
 abbrev pub IsPadded : Bool → List Bool → List Bool → Type 0

@@ -6,6 +6,8 @@ ghost use Rattle.cidr.specs.either.IpAddress.{TellsEqual};
 ghost use Rattle.cidr_table.specs.Cover.{Covers, CoverSame, IsFull};
 ghost use Rattle.cidr_table.specs.Cover.{IsReduced};
 ghost use Rattle.cidr_sets.specs.Counts.{AreAddresses};
+ghost use Rattle.cidr_sets.specs.Ranges.{AreRanges, IsInSome};
+ghost use Rattle.cidr_sets.specs.Sets.{IsSetOf};
 
 use cidr::NetworkBits;
 
@@ -31,6 +33,12 @@ pub fn sets_without_addresses_are_empty()
 pub fn full_networks_lie_in_one()
     ensures { (w : ℕ) (set : List (List Bool)) (p : List Bool) → IsReduced w set → length p ≤ w
         → IsFull w set p ↔ Covers set p }
+{}
+
+/// The set of the addresses that are in some range of a set, as its call `ranges` gives them, is that set again.
+pub fn sets_are_their_ranges()
+    ensures { (w : ℕ) (set again : List (List Bool)) (ranges : List (List Bool × List Bool)) → IsReduced w set
+        → AreRanges w (Covers set) ranges → IsSetOf w (IsInSome ranges) again → again ≡ set }
 {}
 
 /// Networks have one list of addresses, so that the calls of a set that tell of it by its count, by an index or one by

@@ -1,12 +1,14 @@
 //! Ranges of addresses: from a first to a last one.
-ghost use Rattle.std.specs.Prelude.{◌≡◌, ◌↔◌, ◌⊎◌, ◌+◌, ◌-◌, ◌≤◌, ◌<◌, ◌++◌, ◌∷◌, [], Bool, List, Some, length, take, drop, true, false, slice_get, replicate, not, map, IfOk, OnOk};
+ghost use Rattle.std.specs.Prelude.{◌≡◌, ◌≢◌, ◌↔◌, ◌⊎◌, ◌+◌, ◌-◌, ◌≤◌, ◌<◌, ◌++◌, ◌∷◌, [], Bool, List, Some, length, take, drop, true, false, slice_get, replicate, not, map, IfOk, OnOk};
 ghost use Rattle.std.specs.Iterator.{YieldsFirstBy, item_count};
+ghost use Rattle.std.specs.declared.cmp.Ordering.TheVariants.{Greater};
+ghost use Rattle.cidr.specs.model.Bits.{bit_cmp};
 ghost use Rattle.cidr.specs.model.Network.{BeginsWith, HasWidth, first_of, last_of};
 ghost use Rattle.cidr.specs.either.IpAddress.{ip_address_bits};
-ghost use Rattle.cidr_table.specs.Cover.{Covers};
+ghost use Rattle.cidr_table.specs.Cover.{Covers, IsReduced};
 ghost use Rattle.cidr_table.specs.CoverAddresses.{IsIpAddress};
-ghost use Rattle.cidr_sets.specs.Ranges.{AreBeginless, AreRanges, IsBetween, IsPadded, Reaches, all_bits, any_first, any_last, touches};
-ghost use Rattle.cidr_sets.specs.RangeLaws.{plain_beginless, ip_beginless, plain_ends, any_ends, v4_fits, v6_fits};
+ghost use Rattle.cidr_sets.specs.Ranges.{AreBeginless, AreComplete, AreRanges, HaveEnds, IsBetween, IsPadded, Reaches, all_bits, any_first, any_last, touches};
+ghost use Rattle.cidr_sets.specs.RangeLaws.{plain_beginless, ip_beginless, plain_complete, ip_complete, plain_ends, any_ends, plain_inside, any_inside, v4_fits, v6_fits};
 ghost use Rattle.cidr_sets.specs.Sets.{IsSetOf};
 
 use crate::search::known;
@@ -31,6 +33,9 @@ pub trait Addressed: NetworkBits {
     /// No address begins with the bits of another.
     ghost beginless: { AreBeginless IsAddress };
 
+    /// Each list of 129 bits begins with an address.
+    ghost complete: { AreComplete IsAddress };
+
     /// The bits of the first and the last address of a network, by the bits of the network.
     ghost first_bits: { List Bool → List Bool };
 
@@ -38,6 +43,9 @@ pub trait Addressed: NetworkBits {
 
     /// They are those of the network, and behind them unset or set ones.
     ghost ends: { (p : List Bool) → length p ≤ 129 → IsPadded false p (first_bits p) × IsPadded true p (last_bits p) };
+
+    /// Both are addresses, where the network has an address.
+    ghost addresses: { HaveEnds IsAddress first_bits last_bits };
 
     /// The network that has only this address.
     fn single(address: Self::Address) -> Self
@@ -63,11 +71,15 @@ impl Addressed for Ipv4Cidr {
 
     ghost beginless = { plain_beginless 32 };
 
+    ghost complete = { plain_complete 32 v4_fits };
+
     ghost first_bits = { first_of 32 };
 
     ghost last_bits = { last_of 32 };
 
     ghost ends = { plain_ends 32 v4_fits };
+
+    ghost addresses = { plain_inside 32 };
 
     fn single(address: Ipv4Addr) -> Ipv4Cidr {
         Ipv4Cidr::new_host(address)
@@ -91,11 +103,15 @@ impl Addressed for Ipv6Cidr {
 
     ghost beginless = { plain_beginless 128 };
 
+    ghost complete = { plain_complete 128 v6_fits };
+
     ghost first_bits = { first_of 128 };
 
     ghost last_bits = { last_of 128 };
 
     ghost ends = { plain_ends 128 v6_fits };
+
+    ghost addresses = { plain_inside 128 };
 
     fn single(address: Ipv6Addr) -> Ipv6Cidr {
         Ipv6Cidr::new_host(address)
@@ -119,11 +135,15 @@ impl Addressed for AnyIpCidr {
 
     ghost beginless = { ip_beginless };
 
+    ghost complete = { ip_complete };
+
     ghost first_bits = { any_first };
 
     ghost last_bits = { any_last };
 
     ghost ends = { any_ends };
+
+    ghost addresses = { any_inside };
 
     fn single(address: IpAddr) -> AnyIpCidr {
         AnyIpCidr::new_host(address)
@@ -167,6 +187,7 @@ impl<C: Addressed + Copy> NetworkSet<C> {
             IsSetOf 129 (IsBetween (C.address_bits first) (C.address_bits last)) (map C.bits set)) }
         ensures fits { IfOk result (λ set.
             length set + 2 ≤ length (C.address_bits first) + length (C.address_bits last)) }
+        ensures addresses { C.IsAddress (C.address_bits first) × C.IsAddress (C.address_bits last) }
     {
         let (first, last) = (C::single(first), C::single(last));
         known(&first);
@@ -185,7 +206,7 @@ impl<C: Addressed + Copy> NetworkSet<C> {
     }
 
     /// The longest ranges of addresses in the set, ascending. No two touch: between one and the next is an address that
-    /// isn't in the set.
+    /// isn't in the set. The set of one range, as `from_range` makes it, has that range alone.
     ///
     /// It allocates nothing, and looks at each network once. Of `AnyIpCidr`, a range can go from 255.255.255.255 on to
     /// ::, which comes next.
@@ -194,7 +215,10 @@ impl<C: Addressed + Copy> NetworkSet<C> {
     /// set.ranges().next() // Some(AddressRange { first: 10.0.0.1, last: 10.0.0.6 })
     /// ```
     pub fn ranges(&self) -> Ranges<'_, C>
-        ensures { AreRanges 129 (Covers (map C.bits self.now)) result }
+        ensures ranges { AreRanges 129 (Covers (map C.bits self.now)) result }
+        ensures one_range { (first last : List Bool) → C.IsAddress first → C.IsAddress last → bit_cmp first last ≢ Greater
+            → IsSetOf 129 (IsBetween first last) (map C.bits self.now) → result ≡ (first, last) ∷ [] }
+        ensures reduced { IsReduced 129 (map C.bits self.now) }
     {
         let networks = self.as_slice();
         Ranges { networks }

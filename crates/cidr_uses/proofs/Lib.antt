@@ -1,11 +1,12 @@
 -- What is read back is what was printed, what a pool gives, which lines are refused, what bytes begin with, the rows of
--- a table, which network lies in a list made shorter, what is left of a pool, which rules decide, and the
+-- a table, which network lies in a list made shorter, what is left of a pool, which rules decide, sets of ranges, and the
 -- names of networks.
 pub mod AccessLists
 pub mod Aggregates
 pub mod FreeNetworkSets
 pub mod ReadBack
 pub mod Readings
+pub mod RangeSets
 pub mod Pools
 pub mod ConfigLines
 pub mod Agreements

@@ -21,6 +21,7 @@ pub mod network_loops;
 pub mod over_traits;
 pub mod prefix_bytes;
 pub mod prefix_tree;
+pub mod ranges_and_back;
 pub mod read_back;
 pub mod reading;
 pub mod route_hits;

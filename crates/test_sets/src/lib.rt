@@ -10,6 +10,8 @@ mod counted;
 #[cfg(test)]
 mod counts;
 #[cfg(test)]
+mod ranges;
+#[cfg(test)]
 mod rows;
 #[cfg(test)]
 mod slices;
