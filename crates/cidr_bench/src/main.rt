@@ -21,9 +21,11 @@ mod networks;
 mod numbers;
 mod ordering;
 mod printing;
+mod ranges;
 mod reading;
 mod routes;
 mod samples;
+mod sets;
 mod stepping;
 mod tables;
 mod values;
@@ -61,5 +63,6 @@ fn main(rt: HostRuntime) -> io::Result<()> {
     walking::compare_all(&bench)?;
     tables::compare_all(&bench.slower(500))?;
     loading::compare_all(&bench.slower(1_000))?;
-    covering::compare_all(&bench.slower(100))
+    covering::compare_all(&bench.slower(100))?;
+    sets::compare_all(&bench.slower(1_000))
 }

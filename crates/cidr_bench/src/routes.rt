@@ -5,7 +5,7 @@ use cidr::{Ipv4Addr, Ipv4Cidr, Ipv4Inet, Ipv6Addr, Ipv6Cidr, Ipv6Inet, NetworkBi
 use std::alloc::{AllocError, Global};
 
 /// How many different addresses are asked for in a round.
-const ASKED: usize = 50_000;
+pub const ASKED: usize = 50_000;
 
 /// The first 16 bits of IPv6 networks, of which there are few.
 const IPV6_STARTS: [u16; 16] = [
@@ -15,8 +15,13 @@ const IPV6_STARTS: [u16; 16] = [
 
 /// Networks of one family.
 pub trait Route: NetworkBits + Copy {
-    /// A random network of a routing table. One bit near the front is never set.
-    fn route(index: usize) -> Self;
+    /// A random network with so many bits more than one of a routing table. One bit near the front is never set.
+    fn longer_route(index: usize, more: u8) -> Self;
+
+    /// A random network of a routing table.
+    fn route(index: usize) -> Self {
+        Self::longer_route(index, 0)
+    }
 
     /// An address of this network, as a network of its own.
     fn inside(&self, random: u64) -> Self;
@@ -26,9 +31,9 @@ pub trait Route: NetworkBits + Copy {
 }
 
 impl Route for Ipv4Cidr {
-    fn route(index: usize) -> Ipv4Cidr {
+    fn longer_route(index: usize, more: u8) -> Ipv4Cidr {
         let address = Ipv4Addr::from_bits(random_ipv4(index) & 0xfeff_ffff);
-        Ipv4Inet::new(address, random_ipv4_len(index))
+        Ipv4Inet::new(address, random_ipv4_len(index).saturating_add(more).min(32))
             .unwrap_or(Ipv4Inet::new_host(address))
             .network()
     }
@@ -57,11 +62,14 @@ fn random_start(index: usize) -> u128 {
 const IPV6_BIT: u128 = 1 << 107;
 
 impl Route for Ipv6Cidr {
-    fn route(index: usize) -> Ipv6Cidr {
+    fn longer_route(index: usize, more: u8) -> Ipv6Cidr {
         let address = Ipv6Addr::from_bits(random_start(index) & !IPV6_BIT);
-        Ipv6Inet::new(address, random_ipv6_len(index))
-            .unwrap_or(Ipv6Inet::new_host(address))
-            .network()
+        Ipv6Inet::new(
+            address,
+            random_ipv6_len(index).saturating_add(more).min(128),
+        )
+        .unwrap_or(Ipv6Inet::new_host(address))
+        .network()
     }
 
     fn inside(&self, random: u64) -> Ipv6Cidr {

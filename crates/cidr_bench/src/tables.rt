@@ -287,7 +287,7 @@ impl<C: Route> Tables<C> {
 }
 
 /// A row's name in two parts.
-fn named(work: &str, of: &str) -> ArrayString<64> {
+pub fn named(work: &str, of: &str) -> ArrayString<64> {
     let mut name = ArrayString::new();
     let _ = write!(name, "{work} {of}");
     name
