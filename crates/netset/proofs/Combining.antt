@@ -31,7 +31,7 @@ same P = (λ p. p, λ p. p)
 chained : (P Q R : Type 0) → (P ↔ Q) → (Q ↔ R) → P ↔ R
 chained P Q R f g = (λ p. g.0 (f.0 p), λ r. f.1 (g.1 r))
 
-steps_same : (step : Step) (P Q A B : Type 0) → (P ↔ Q) → (A ↔ B) → Steps step P A ↔ Steps step Q B
+pub steps_same : (step : Step) (P Q A B : Type 0) → (P ↔ Q) → (A ↔ B) → Steps step P A ↔ Steps step Q B
 steps_same Union P Q A B f g = (elim [ inl p ↦ inl (f.0 p) | inr a ↦ inr (g.0 a) ], elim [ inl q ↦ inl (f.1 q) | inr b ↦ inr (g.1 b) ])
 steps_same Difference P Q A B f g = (λ h. (f.0 h.0, λ b. h.1 (g.1 b)), λ h. (f.1 h.0, λ a. h.1 (g.0 a)))
 steps_same Intersection P Q A B f g = (λ h. (f.0 h.0, g.0 h.1), λ h. (f.1 h.0, g.1 h.1))

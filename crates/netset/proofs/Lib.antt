@@ -6,4 +6,5 @@ pub mod EachFile
 pub mod Combining
 pub mod Collected
 pub mod Walked
+pub mod Changed
 pub mod Arguments

@@ -5,7 +5,7 @@ set -euo pipefail
 export LC_ALL=C
 cd "$(dirname "$0")/.."
 
-usage=$'usage: netset merge|nets|not|count [FILE..] | minus|and A B.. | show HOST | split NET LEN | nth NET INDEX | --help | --version\n'
+usage=$'usage: netset merge|nets|not|count [FILE..] | minus|and A B.. | diff A B | show HOST | split NET LEN | nth NET INDEX | --help | --version\n'
 
 room=$(mktemp -d)
 trap 'rm -rf "$room"' EXIT
@@ -79,6 +79,24 @@ rows() {
     run 0 $'netset 0.1.0\n' '' '' --version
 }
 
+# What changes from a list to another.
+rows_of_changes() {
+    run 0 '' '' '10.128.0.0/9\n10.0.0.0/9' diff ten -
+    run 0 '' '' '' diff - -
+    run 1 $'+10.0.0.0/8\n' '' '' diff - ten
+    run 1 $'-10.0.0.0/8\n' '' '' diff ten -
+    run 1 $'+9.0.0.0/8\n-10.0.0.0/9\n+11.0.0.0/8\n+::/1\n-8000::/1\n' '' '10.128.0.0/9\n11.0.0.0/8\n9.0.0.0/8\n::/1' \
+        diff ten_and_eight -
+    run 1 $'-10.0.0.0\n' '' '10.0.0.1\n10.0.0.2/31\n10.0.0.4/30' diff eight_addresses -
+    run 2 '' $'bad:1: couldn\'t parse length in network: invalid length text\n' '' diff ten bad
+    run 2 '' $'missing: cannot be read\n' '' diff missing bad
+    run 2 '' "$usage" '' diff
+    run 2 '' "$usage" '' diff ten
+    run 2 '' "$usage" '' diff ten both -
+    run 2 '' "$usage" '' diff ten -k
+    run 2 '' "$usage" '' diff -k ten
+}
+
 # The commands on one host or network.
 rows_of_one_network() {
     run 0 $'network 192.0.2.0/24\nfirst 192.0.2.0\nlast 192.0.2.255\nmask 255.255.255.0\nlength 24\nfamily Ipv4\n' \
@@ -119,6 +137,7 @@ rows_where_a_stream_fails() {
     run 3 '' $'output failed\n' '10.0.0.0/8' merge
     run 2 '' $'-:1: host part of address was not zero\n' '10.0.0.1/8' merge
     run 3 '' $'output failed\n' '' --help
+    run 3 '' $'output failed\n' '' diff - ten
     run 3 '' $'output failed\n' '' show ::1
     run 3 '' $'output failed\n' '' split ::/0 128
     run 3 '' $'output failed\n' '' nth ::/0 1
@@ -134,6 +153,8 @@ printf '10.0.0.0/8\n' >"$room/ten"
 printf '10.0.0.0/8\n::/0\n' >"$room/both"
 printf '8000::/1\n' >"$room/eight"
 printf '::/1\n' >"$room/seven"
+printf '10.0.0.0/8\n8000::/1\n' >"$room/ten_and_eight"
+printf '10.0.0.0/29\n' >"$room/eight_addresses"
 printf '10.0.0.0/x\n' >"$room/bad"
 output_file=$room/output
 error_file=$room/error
@@ -145,6 +166,7 @@ for build in netset netset.by-rattle; do
     cp "out/$build" "$program"
     chmod 755 "$program"
     rows
+    rows_of_changes
     rows_of_one_network
     long_list
     if [[ -c /dev/full ]]; then

@@ -1,9 +1,10 @@
 -- What functions that read several lists promise.
-use Rattle.std.specs.Prelude.{◌≡◌, ℕ, List, ◌∷◌, Option, Some, Result, Ok, Err, ◌⊎◌}
+use Rattle.std.specs.Prelude.{◌≡◌, ℕ, Bool, List, [], ◌∷◌, Option, Some, Result, Ok, Err, ◌⊎◌}
 use Rattle.std.specs.List.{AllZip}
 use Rattle.cidr.specs.declared.cidr.combined.IpCidr.{IpCidr}
 use Rattle.cidr.specs.declared.family.Family.{Family}
 use Rattle.cidr_sets.specs.Sets.{IsSetOf}
+use Rattle.netset.specs.Changes.{merged}
 use Rattle.netset.specs.Lists.{ListSays, IsFirstError, networks_in}
 use Rattle.netset.specs.Reading.{Grows}
 use Rattle.netset.specs.Sets.{held}
@@ -11,6 +12,7 @@ use Rattle.netset.specs.Commands.{AreTold, Says}
 use Rattle.netset.specs.Program.{IsUnread, Answers, Reports, status_of}
 use Rattle.cidr_io.specs.Writing.{State}
 use Rattle.netset.specs.declared.answers.Verdict.{Verdict}
+use Rattle.netset.specs.declared.changes.Sign.{Sign}
 use Rattle.netset.specs.declared.errors.CommandError.{CommandError}
 use Rattle.netset.specs.declared.errors.CommandError.TheVariants as error
 use Rattle.netset.specs.declared.lists.Lists.{Lists}
@@ -50,6 +52,15 @@ AreRead told names sets = (texts : List (List ℕ)) → AreTold told names texts
 abbrev pub ReadsSeveral : (List ℕ → Option (List ℕ)) → List (List ℕ) → Result Several CommandError → Type 0
 ReadsSeveral told names (Ok several) = AreRead told names (several.first ∷ several.others.items)
 ReadsSeveral told names (Err e) = IsUnread told names e
+
+-- those of two files, or why they are not read
+abbrev pub ReadsBoth : (List ℕ → Option (List ℕ)) → List ℕ → List ℕ → Result (Sets × Sets) CommandError → Type 0
+ReadsBoth told old new (Ok (these, those)) = ReadsFile (told old) old (Ok these) × ReadsFile (told new) new (Ok those)
+ReadsBoth told old new (Err e) = IsUnread told (old ∷ new ∷ []) e
+
+-- the networks of two sets with their signs
+abbrev pub changed : Sets → Sets → Family → List (Sign × List Bool)
+changed added lacking family = merged (λ p. p) (held added family) (held lacking family)
 
 -- a run whose arguments are these, or have no memory
 abbrev pub AnswersTexts : (List ℕ → Option (List ℕ)) → List (List ℕ) → State → State → State → State → ℕ → Type 0

@@ -6,16 +6,19 @@ use Rattle.cidr.specs.declared.family.Family.{Family}
 use Rattle.cidr_table.specs.Cover.{Covers}
 use Rattle.cidr_sets.specs.Sets.{IsSetOf}
 use Rattle.netset.specs.Lists.{ListSays, networks_in}
+use Rattle.netset.specs.Changes.{AreChanges, AreSame, printed_changes}
 use Rattle.netset.specs.Combining.{counts, name_of, takes, IsMade}
 use Rattle.netset.specs.declared.operations.Operation.{Operation}
 use Rattle.netset.specs.Sets.{IsPrinted}
 use Rattle.netset.specs.Single.{SingleRequest, IsSingle, IsSingleAnswer}
 use Rattle.netset.specs.declared.answers.Verdict.{Verdict}
 use Rattle.netset.specs.declared.answers.Verdict.TheVariants.{Yes}
+use Rattle.netset.specs.declared.changes.Sign.{Sign}
 
 -- a command and its arguments
 pub data Request : Type 0 where
   Lists : Operation → List (List ℕ) → Request
+  Diff : List ℕ → List ℕ → Request
   Single : SingleRequest → Request
   Help : Request
   Version : Request
@@ -28,6 +31,8 @@ is_option word = nat_lt 1 (length word) && (slice_index word 0 == 45)
 abbrev pub IsRequest : List (List ℕ) → Request → Type 0
 IsRequest words (Lists operation files) =
     (words ≡ name_of operation ∷ files) × (list_any is_option files ≡ false) × (takes operation (length files) ≡ true)
+IsRequest words (Diff old new) =
+    (words ≡ codes "diff" ∷ old ∷ new ∷ []) × (is_option old ≡ false) × (is_option new ≡ false)
 IsRequest words (Single request) = IsSingle words request
 IsRequest words Help = words ≡ codes "--help" ∷ []
 IsRequest words Version = words ≡ codes "--version" ∷ []
@@ -59,6 +64,13 @@ abbrev pub IsMadeOf : Operation → List (List ℕ) → List ℕ → Type 0
 IsMadeOf operation texts answer =
     (said : List (List (Option IpCidr))) × AllZip ListSays texts said × IsPrintOf (counts operation) (IsMade Says operation said) answer
 
+-- what a list has and another has not, both ways
+abbrev pub IsDiff : List ℕ → List ℕ → List ℕ → Verdict → Type 0
+IsDiff old new answer verdict =
+    (before : List (Option IpCidr)) × (after : List (Option IpCidr)) × ListSays old before × ListSays new after
+    × (changes : Family → List (Sign × List Bool)) × ((family : Family) → AreChanges (networks_in family before) (networks_in family after) (changes family))
+    × (answer ≡ printed_changes changes) × AreSame changes verdict
+
 -- what `--help` writes
 abbrev pub help_text : List ℕ
 help_text =
@@ -68,6 +80,7 @@ help_text =
     ++ codes "netset and A B..        the addresses that each of the lists has\n"
     ++ codes "netset not [FILE..]     the addresses of IPv4 and those of IPv6 that no list has\n"
     ++ codes "netset count [FILE..]   how many addresses of IPv4 and of IPv6 the lists have\n"
+    ++ codes "netset diff A B         the networks that B adds to A, as +NET, and that it lacks, as -NET\n"
     ++ codes "netset show HOST        the network of a host: its ends, mask, length and family\n"
     ++ codes "netset split NET LEN    the networks of this prefix length inside a network\n"
     ++ codes "netset nth NET INDEX    the address of a network at an index, from 0 on\n"
@@ -76,8 +89,8 @@ help_text =
     ++ codes "\n"
     ++ codes "A line of a list is a network or an address, and may end in a comment from # or ; on. The\n"
     ++ codes "file - is the standard input, which is also read where no file is named.\n"
-    ++ codes "Status: 0 done, 1 none, 2 usage, a wrong argument, a file that cannot be read or a line\n"
-    ++ codes "in error, 3 output or memory.\n"
+    ++ codes "Status: 0 done, 1 none or a difference, 2 usage, a wrong argument, a file that cannot be\n"
+    ++ codes "read or a line in error, 3 output or memory.\n"
 
 -- what `--version` writes
 abbrev pub version_text : List ℕ
@@ -87,6 +100,8 @@ version_text = codes "netset 0.1.0\n"
 abbrev pub IsAnswer : (List ℕ → Option (List ℕ)) → Request → List ℕ → Verdict → Type 0
 IsAnswer told (Lists operation files) answer verdict =
     ((texts : List (List ℕ)) → AreTold told (read_files files) texts → IsMadeOf operation texts answer) × (verdict ≡ Yes)
+IsAnswer told (Diff old new) answer verdict =
+    (old_text new_text : List ℕ) → told old ≡ Some old_text → told new ≡ Some new_text → IsDiff old_text new_text answer verdict
 IsAnswer told (Single request) answer verdict = IsSingleAnswer request answer verdict
 IsAnswer told Help answer verdict = (answer ≡ help_text) × (verdict ≡ Yes)
 IsAnswer told Version answer verdict = (answer ≡ version_text) × (verdict ≡ Yes)

@@ -6,6 +6,7 @@ pub mod Printing
 pub mod Collecting
 pub mod Single
 pub mod Sets
+pub mod Changes
 pub mod Combining
 pub mod Commands
 pub mod Command

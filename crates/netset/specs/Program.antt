@@ -1,5 +1,5 @@
 -- What a run of the program does with its arguments, the files, standard output and standard error.
-use Rattle.std.specs.Prelude.{◌≡◌, ℕ, List, ◌∷◌, ◌++◌, ◌⊎◌, codes, decimal, Option, Some, Result, Ok, Err, Contains}
+use Rattle.std.specs.Prelude.{◌≡◌, ℕ, List, [], ◌∷◌, ◌++◌, ◌⊎◌, codes, decimal, Option, Some, Result, Ok, Err, Contains}
 use Rattle.std.specs.List.{AllZip}
 use Rattle.cidr.specs.texts.Messages.{parse_message}
 use Rattle.cidr.specs.declared.cidr.combined.IpCidr.{IpCidr}
@@ -7,7 +7,7 @@ use Rattle.cidr_io.specs.Arguments.{AreArguments, AreUnreadable}
 use Rattle.cidr_io.specs.Writing.{State, Answered, Says}
 use Rattle.cidr_io.specs.declared.sink.OutputFailed.{OutputFailed}
 use Rattle.netset.specs.Lists.{ListSays, IsFirstError}
-use Rattle.netset.specs.Commands.{Request, Lists, Single, Help, Version, IsRequest, IsUsage, read_files, AreTold, IsAnswer}
+use Rattle.netset.specs.Commands.{Request, Lists, Diff, Single, Help, Version, IsRequest, IsUsage, read_files, AreTold, IsAnswer}
 use Rattle.netset.specs.Single.{IsBadSingle}
 use Rattle.netset.specs.declared.errors.ArgumentError.{ArgumentError}
 use Rattle.netset.specs.declared.errors.ArgumentError.TheVariants as bad
@@ -44,6 +44,7 @@ IsBadArgument IsBad error.Output = ⊥
 abbrev pub IsRefused : (List ℕ → Option (List ℕ)) → Request → Result Verdict CommandError → Type 0
 IsRefused told request (Ok verdict) = ⊥
 IsRefused told (Lists operation files) (Err e) = IsUnread told (read_files files) e
+IsRefused told (Diff old new) (Err e) = IsUnread told (old ∷ new ∷ []) e
 IsRefused told (Single request) (Err e) = IsBadArgument (IsBadSingle request) e
 IsRefused told Help (Err e) = ⊥
 IsRefused told Version (Err e) = ⊥
@@ -80,7 +81,7 @@ argument_message bad.Index = codes "no index below 2^128"
 
 -- the line that is written to standard error
 abbrev pub error_line : CommandError → List ℕ
-error_line error.Usage = codes "usage: netset merge|nets|not|count [FILE..] | minus|and A B.. | show HOST | split NET LEN | nth NET INDEX | --help | --version\n"
+error_line error.Usage = codes "usage: netset merge|nets|not|count [FILE..] | minus|and A B.. | diff A B | show HOST | split NET LEN | nth NET INDEX | --help | --version\n"
 error_line (error.Argument text e) = text.now ++ (codes ": " ++ (argument_message e ++ codes "\n"))
 error_line (error.Line name number e) =
     name.now ++ (codes ":" ++ (decimal number ++ (codes ": " ++ (line_message e ++ codes "\n"))))

@@ -39,7 +39,7 @@ impl Sets {
     }
 
     /// The sets of each family put together.
-    fn stepped(&self, step: Step, other: &Sets) -> Result<Sets, AllocError>
+    pub fn stepped(&self, step: Step, other: &Sets) -> Result<Sets, AllocError>
         ensures { IfOk result (λ sets. (family : Family)
             → IsSetOf 129 (λ a. Steps step (Held self.now family a) (Held other.now family a)) (held sets family)) }
     {

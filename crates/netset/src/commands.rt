@@ -1,7 +1,7 @@
 //! The arguments of the program as commands.
-ghost use Rattle.std.specs.Prelude.{◌≡◌, map, [], ◌∷◌, MatchOption};
+ghost use Rattle.std.specs.Prelude.{◌≡◌, ℕ, List, map, [], ◌∷◌, MatchOption};
 ghost use Rattle.std.specs.List.{list_any};
-ghost use Rattle.netset.specs.Commands.{is_option, IsRequest, IsUsage};
+ghost use Rattle.netset.specs.Commands.{Diff, is_option, IsRequest, IsUsage};
 ghost use Rattle.netset.specs.Command.{AreMisfits, IsNoLoneWord, request_of};
 ghost use Rattle.netset.specs.Combining.{name_of};
 
@@ -13,6 +13,8 @@ use crate::single::{Single, single_of};
 pub enum Command<'a> {
     /// An operation on the lists of these files.
     Lists(Operation, &'a [&'a str]),
+    /// What the second file adds to the first one, and what it lacks.
+    Diff(&'a str, &'a str),
     /// A command on one host or network.
     Single(Single<'a>),
     /// The page of the commands.
@@ -39,6 +41,19 @@ fn has_option(words: &[&str]) -> bool
         }
     }
     false
+}
+
+/// The files that the arguments compare.
+fn diff_of<'a>(words: &[&'a str]) -> Option<(&'a str, &'a str)>
+    ensures { MatchOption result ((old new : List ℕ) → ¬ (IsRequest (map (λ w. w.now) words.now) (Diff old new)))
+        (λ files. IsRequest (map (λ w. w.now) words.now) (Diff files.0.now files.1.now)) }
+{
+    match words {
+        [name, old, new] if *name == "diff" && !is_option(old) && !is_option(new) => {
+            Some((old, new))
+        }
+        _ => None,
+    }
 }
 
 /// The command of a word that stands alone.
@@ -75,6 +90,9 @@ pub fn command_of<'a>(words: &'a [&'a str]) -> Option<Command<'a>>
 {
     if let Some(single) = single_of(words) {
         return Some(Command::Single(single));
+    }
+    if let Some((old, new)) = diff_of(words) {
+        return Some(Command::Diff(old, new));
     }
     let (name, files) = words.split_first()?;
     match operation_of(name) {

@@ -2,6 +2,7 @@
 #![tactic(auto)]
 
 mod answers;
+mod changes;
 mod collecting;
 mod combine;
 mod commands;

@@ -1,5 +1,5 @@
 //! The addresses of lists as sets, and sets as lists.
-ghost use Rattle.std.specs.Prelude.{◌≡◌, ◌^◌, decimal, true, IfOk};
+ghost use Rattle.std.specs.Prelude.{◌≡◌, ◌↔◌, ◌^◌, [], decimal, true, IfOk, IsTrue};
 ghost use Rattle.cidr.specs.declared.family.Family.{Family};
 ghost use Rattle.cidr_io.specs.Writing.{Answered};
 ghost use Rattle.cidr_table.specs.Cover.{Covers};
@@ -34,6 +34,13 @@ impl Sets {
             v4: NetworkSet::from_networks(alloc, lists.v4.as_slice())?,
             v6: NetworkSet::from_networks(alloc, lists.v6.as_slice())?,
         })
+    }
+
+    /// Whether there is no address of either family.
+    pub fn is_empty(&self) -> bool
+        ensures { IsTrue result ↔ ((family : Family) → held self.now family ≡ []) }
+    {
+        self.v4.is_empty() && self.v6.is_empty()
     }
 
     /// Writes the networks, one a line. An output that has failed before gets nothing.

@@ -1,7 +1,7 @@
 //! Reading the lists of files, each as a set.
 ghost use Rattle.std.specs.Prelude.{◌∷◌, map, MatchResult};
 ghost use Rattle.netset.specs.Commands.{read_files};
-ghost use Rattle.netset.specs.Answering.{AddsFile, AreRead, ReadsFile, ReadsSeveral};
+ghost use Rattle.netset.specs.Answering.{AddsFile, AreRead, ReadsBoth, ReadsFile, ReadsSeveral};
 ghost use Rattle.netset.specs.Program.{IsUnread};
 
 use crate::errors::{CommandError, ReadError};
@@ -68,6 +68,20 @@ fn read_all<'a, F: Sources>(
         };
     }
     Ok(sets)
+}
+
+/// The addresses of the lists of two files.
+pub fn read_both<'a, F: Sources>(
+    alloc: Global,
+    sources: &F,
+    old: &'a str,
+    new: &'a str,
+) -> Result<(Sets, Sets), CommandError<'a>>
+    ensures { ReadsBoth (F.told sources.now) old.now new.now result }
+{
+    let these = read_file(alloc, sources, old)?;
+    let those = read_file(alloc, sources, new)?;
+    Ok((these, those))
 }
 
 /// The addresses of the lists of a file and of others, each.
