@@ -15,7 +15,8 @@ const IPV6_STARTS: [u16; 16] = [
     0x2803, 0x2a00, 0x2a02, 0x2c0f,
 ];
 
-const IPV6_BIT: u128 = 1 << 107;
+/// The bit that no IPv6 route has set.
+pub const IPV6_BIT: u128 = 1 << 107;
 
 /// How many addresses are asked for.
 pub const ASKED: usize = 50_000;
@@ -27,11 +28,11 @@ pub fn random(index: usize) -> u64 {
     state ^ state >> 31
 }
 
-fn random_ipv4(index: usize) -> u32 {
+pub fn random_ipv4(index: usize) -> u32 {
     (random(index) >> 32) as u32
 }
 
-fn random_start(index: usize) -> u128 {
+pub fn random_start(index: usize) -> u128 {
     let high = random(index);
     let start = u64::from(IPV6_STARTS[(high % 16) as usize]);
     u128::from(start << 48 | high >> 16) << 64 | u128::from(random(index ^ 0x4000_0000))

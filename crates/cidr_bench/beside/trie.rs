@@ -6,6 +6,10 @@
 //! of the walk, the first as a fraction of the second, and the bytes of the trie for each row. Each time is the least of
 //! five turns. It fails where the two ways differ.
 
+#[allow(dead_code)] // what only sets ask for
+mod routes;
+
+use routes::{ASKED, Address, IPV6_BIT, random, random_ipv4, random_start};
 use std::collections::BTreeMap;
 use std::hint::black_box;
 use std::mem::size_of;
@@ -107,112 +111,39 @@ impl Node {
     }
 }
 
-/// Addresses of one family as numbers.
-trait Address: Ord + Copy {
-    const WIDTH: u32;
+/// What the two ways ask of an address.
+trait Key: Address {
     fn octets(self) -> [u8; 16];
-    fn masked(self, len: u32) -> Self;
     fn shared(self, other: Self) -> u32;
-    fn route(index: usize) -> (Self, u32);
     fn outside(index: usize) -> Self;
-    fn inside(self, len: u32, random: u64) -> Self;
 }
 
-impl Address for u32 {
-    const WIDTH: u32 = 32;
-
+impl Key for u32 {
     fn octets(self) -> [u8; 16] {
         (u128::from(self) << 96).to_be_bytes()
-    }
-
-    fn masked(self, len: u32) -> u32 {
-        self & !u32::MAX.checked_shr(len).unwrap_or(0)
     }
 
     fn shared(self, other: u32) -> u32 {
         (self ^ other).leading_zeros()
     }
 
-    fn route(index: usize) -> (u32, u32) {
-        let len = IPV4_LENGTHS[(random(index ^ 0x2000_0000) % 32) as usize];
-        ((random_ipv4(index) & 0xfeff_ffff).masked(len), len)
-    }
-
     fn outside(index: usize) -> u32 {
         random_ipv4(index) | 0x0100_0000
     }
-
-    fn inside(self, len: u32, random: u64) -> u32 {
-        self | random as u32 & !u32::MAX.masked(len)
-    }
 }
 
-impl Address for u128 {
-    const WIDTH: u32 = 128;
-
+impl Key for u128 {
     fn octets(self) -> [u8; 16] {
         self.to_be_bytes()
-    }
-
-    fn masked(self, len: u32) -> u128 {
-        self & !u128::MAX.checked_shr(len).unwrap_or(0)
     }
 
     fn shared(self, other: u128) -> u32 {
         (self ^ other).leading_zeros()
     }
 
-    fn route(index: usize) -> (u128, u32) {
-        let len = IPV6_LENGTHS[(random(index ^ 0x2000_0000) % 32) as usize];
-        ((random_start(index) & !IPV6_BIT).masked(len), len)
-    }
-
     fn outside(index: usize) -> u128 {
         random_start(index) | IPV6_BIT
     }
-
-    fn inside(self, len: u32, random: u64) -> u128 {
-        let host = u128::from(random) << 64 | u128::from(random);
-        self | host & !u128::MAX.masked(len)
-    }
-}
-
-// What follows makes the numbers that `values.rt` and `routes.rt` of `cidr_bench` make.
-
-const IPV4_LENGTHS: [u32; 32] = [
-    24, 24, 24, 24, 24, 24, 24, 24, 24, 24, 24, 24, 24, 24, 24, 24, 24, 24, 23, 23, 22, 22, 22, 22,
-    21, 20, 20, 19, 19, 18, 17, 16,
-];
-
-const IPV6_LENGTHS: [u32; 32] = [
-    48, 48, 48, 48, 48, 48, 48, 48, 48, 48, 48, 48, 48, 48, 48, 32, 32, 32, 32, 44, 44, 44, 40, 40,
-    40, 36, 36, 46, 47, 29, 42, 64,
-];
-
-const IPV6_STARTS: [u16; 16] = [
-    0x2001, 0x2001, 0x2400, 0x2402, 0x2404, 0x2406, 0x2409, 0x240e, 0x2600, 0x2602, 0x2604, 0x2607,
-    0x2803, 0x2a00, 0x2a02, 0x2c0f,
-];
-
-const IPV6_BIT: u128 = 1 << 107;
-
-const ASKED: usize = 50_000;
-
-fn random(index: usize) -> u64 {
-    let state = (index as u64).wrapping_add(1).wrapping_mul(0x9e37_79b9_7f4a_7c15);
-    let state = (state ^ state >> 30).wrapping_mul(0xbf58_476d_1ce4_e5b9);
-    let state = (state ^ state >> 27).wrapping_mul(0x94d0_49bb_1331_11eb);
-    state ^ state >> 31
-}
-
-fn random_ipv4(index: usize) -> u32 {
-    (random(index) >> 32) as u32
-}
-
-fn random_start(index: usize) -> u128 {
-    let high = random(index);
-    let start = u64::from(IPV6_STARTS[(high % 16) as usize]);
-    u128::from(start << 48 | high >> 16) << 64 | u128::from(random(index ^ 0x4000_0000))
 }
 
 fn mixed(sum: u32, next: u32) -> u32 {
@@ -220,7 +151,7 @@ fn mixed(sum: u32, next: u32) -> u32 {
 }
 
 /// The longest match by a walk down a `BTreeMap`, as `cidr_bench` has it.
-fn walk<A: Address>(map: &BTreeMap<(A, u32), u32>, asked: A) -> Option<u32> {
+fn walk<A: Key>(map: &BTreeMap<(A, u32), u32>, asked: A) -> Option<u32> {
     let mut end = (asked, A::WIDTH);
     loop {
         let (key, value) = map.range(..=end).next_back()?;
@@ -249,8 +180,8 @@ fn least<A: Copy>(rounds: u32, asked: &[A], call: impl Fn(A) -> Option<u32>) -> 
     (time, black_box(sum))
 }
 
-fn compare<A: Address>(rounds: u32, of: &str, size: usize) {
-    let mut rows: Vec<_> = (0..size).map(|index| (A::route(index), random_ipv4(index))).collect();
+fn compare<A: Key>(rounds: u32, of: &str, size: usize) {
+    let mut rows: Vec<_> = (0..size).map(|index| (A::longer_route(index, 0), random_ipv4(index))).collect();
     rows.sort_by_key(|row| row.0);
     rows.dedup_by_key(|row| row.0);
     let chosen = |index: usize| rows[(random(index ^ 0x0800_0000) >> 32) as usize % rows.len()].0;
