@@ -68,7 +68,7 @@ fn zones_at_the_next_label(rt: HostRuntime) {
     let mut zones = read::<Ipv6Cidr>(&rt, "2001:db8::/33").reverse_zones();
     let last = zones.next_back().expect(&rt, "a zone");
     assert!(rt; last.as_str() == "7.8.b.d.0.1.0.0.2.ip6.arpa");
-    assert!(rt; zones.count() == 7);
+    assert!(rt; zones.size_hint() == (7, Some(7)));
     // one that has a name is its own zone
     let mut zones = read::<Ipv4Cidr>(&rt, "10.0.0.0/8").reverse_zones();
     let own = zones.next().expect(&rt, "a zone");
