@@ -2,6 +2,7 @@
 pub mod Addresses
 pub mod Places
 pub mod Distinct
+pub mod Halves
 pub mod Reducing
 pub mod Equality
 pub mod Algebra

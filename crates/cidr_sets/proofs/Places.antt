@@ -1,10 +1,10 @@
 -- The place of a network among others that ascend, and what stands beside it.
-use Rattle.std.proofs.Common.{◌≡◌, ◌≢◌, ℕ, ◌+◌, ◌-◌, ◌<◌, ◌≤◌, Bool, List, length, get_or, map, refl, sym, ap, ◌∙◌, subst, arith, inl, inr}
+use Rattle.std.proofs.Common.{◌≡◌, ◌≢◌, ℕ, ◌-◌, ◌<◌, ◌≤◌, Bool, List, length, get_or, refl, sym, ap, ◌∙◌, subst, arith, inl, inr}
 use Rattle.std.proofs.lemmas.Bool.{cases_lt, cases_eq}
-use Rattle.std.proofs.lemmas.List.{get_or-map, length-map, get_or_default}
+use Rattle.std.proofs.lemmas.List.{get_or_default}
 use Rattle.std.proofs.lemmas.Map.Keys.{Less-from_sorted}
-use Rattle.std.specs.List.{Contains, HoldsAt}
-use Rattle.std.specs.List.Sorted.{IsStrictlySortedBy, IsNonDecreasingBy, IsPartitionPoint}
+use Rattle.std.specs.List.{Contains}
+use Rattle.std.specs.List.Sorted.{IsStrictlySortedBy}
 use Rattle.std.specs.Ordering.{ordering_index, ordering_reverse}
 use Rattle.std.specs.declared.cmp.Ordering.{Ordering}
 use Rattle.std.specs.declared.cmp.Ordering.TheVariants.{Less, Equal, Greater}
@@ -43,34 +43,31 @@ not_above Less h e = cc
 not_above Equal h e = cc
 not_above Greater h e = omega arith
 
+from_two : (r : Ordering) → 2 ≤ ordering_index r → r ≡ Greater
+from_two Less h = absurd (omega (arith, h))
+from_two Equal h = absurd (omega (arith, h))
+from_two Greater h = refl
+
+upto_one : (r : Ordering) → r ≢ Greater → ordering_index r ≤ 1
+upto_one Less h = omega arith
+upto_one Equal h = omega arith
+upto_one Greater h = absurd (h refl)
+
+-- up to one that isn't behind the asked network none is, and from one behind it on all are
+pub upto_before : (s : List (List Bool)) (k : List Bool) (i : ℕ) → IsStrictlySortedBy bit_cmp s → i < length s
+    → bit_cmp (get_or s i k) k ≢ Greater → (j : ℕ) → j ≤ i → bit_cmp (get_or s j k) k ≢ Greater
+upto_before s k i sorted within h j le =
+    not_above (bit_cmp (get_or s j k) k) (omega (arith, rising s k sorted j i k le within, upto_one (bit_cmp (get_or s i k) k) h))
+
+pub from_behind : (s : List (List Bool)) (k : List Bool) (i : ℕ) → IsStrictlySortedBy bit_cmp s
+    → bit_cmp (get_or s i k) k ≡ Greater → (j : ℕ) → i ≤ j → j < length s → bit_cmp (get_or s j k) k ≡ Greater
+from_behind s k i sorted h j le lt =
+    from_two (bit_cmp (get_or s j k) k) (omega (arith, rising s k sorted i j k le lt, ap ordering_index h))
+
 only_equal : (r : Ordering) → r ≢ Less → r ≢ Greater → r ≡ Equal
 only_equal Less n m = absurd (n refl)
 only_equal Equal n m = refl
 only_equal Greater n m = absurd (m refl)
-
--- one that is there
-pub upto_there : (s : List (List Bool)) (k : List Bool) (i : ℕ) → IsStrictlySortedBy bit_cmp s → i < length s
-    → bit_cmp (get_or s i k) k ≡ Equal → IsUpto s k (i + 1)
-upto_there s k i sorted within h = record {
-  within = omega arith;
-  before = λ j lt. not_above (bit_cmp (get_or s j k) k)
-      (omega (arith, rising s k sorted j i k (omega arith) within, ap ordering_index h));
-  behind = λ j le lt.
-      let later : bit_cmp (get_or s i k) (get_or s j k) ≡ Less = Less-from_sorted bit_cmp s i j k sorted (omega arith) lt in
-      let same : get_or s i k ≡ k = bits_exact (get_or s i k) k h in
-      let less : bit_cmp k (get_or s j k) ≡ Less = subst (λ x. bit_cmp x (get_or s j k) ≡ Less) same later in
-      bit_cmp_total.antisymm (get_or s j k) k ∙ ap ordering_reverse less;
-}
-
--- one that isn't there
-pub upto_gap : (s : List (List Bool)) (k : List Bool) (i : ℕ) → i ≤ length s
-    → ((j : ℕ) → j < i → bit_cmp (get_or s j k) k ≡ Less)
-    → ((j : ℕ) → i ≤ j → j < length s → bit_cmp (get_or s j k) k ≡ Greater) → IsUpto s k i
-upto_gap s k i within low high = record {
-  within = within;
-  before = λ j lt g. (let e = sym (low j lt) ∙ g in (cc));
-  behind = high;
-}
 
 -- ---- what stands beside the place
 module _ (s : List (List Bool)) (k : List Bool) (place : ℕ) (h : IsReduced 129 s) (u : IsUpto s k place) where
@@ -126,34 +123,3 @@ module _ (s : List (List Bool)) (k : List Bool) (place : ℕ) (h : IsReduced 129
               (λ g. (let e = sym later ∙ g in (cc)))
         ],
       )
-
--- ---- what a binary search says
-module _ {C : Type 0} (f : C → List Bool) (cmp : C → C → Ordering) (ordered : (x y : C) → cmp x y ≡ bit_cmp (f x) (f y))
-    (xs : List C) (k : C) (sorted : IsStrictlySortedBy bit_cmp (map f xs)) where
-  asked : (j : ℕ) (d : C) → j < length xs → cmp (get_or xs j d) k ≡ bit_cmp (get_or (map f xs) j (f k)) (f k)
-  asked j d lt = ordered (get_or xs j d) k ∙ ap (λ x. bit_cmp x (f k)) (sym (get_or-map f xs j d (f k) lt))
-
-  rising_keys : IsNonDecreasingBy (λ y. ordering_index (cmp y k)) xs
-  rising_keys i j d le lt =
-      let size = length-map xs f in
-      omega (
-        arith,
-        rising (map f xs) (f k) sorted i j (f k) le (omega (arith, size)),
-        ap ordering_index (asked i d (omega arith)),
-        ap ordering_index (asked j d lt),
-      )
-
-  pub upto_ok : (i : ℕ) → i < length xs → HoldsAt (λ y. cmp y k ≡ Equal) xs i → IsUpto (map f xs) (f k) (i + 1)
-  upto_ok i lt h =
-      let size = length-map xs f in
-      upto_there (map f xs) (f k) i sorted (omega (arith, size)) (sym (asked i k lt) ∙ h k)
-
-  pub upto_err : (i : ℕ) → i ≤ length xs
-      → (IsNonDecreasingBy (λ y. ordering_index (cmp y k)) xs → IsPartitionPoint (λ y. cmp y k ≡ Less) (λ y. cmp y k ≡ Greater) xs i)
-      → IsUpto (map f xs) (f k) i
-  upto_err i le h =
-      let size = length-map xs f in
-      let p = h rising_keys in
-      upto_gap (map f xs) (f k) i (omega (arith, size))
-      (λ j lt. sym (asked j k (omega arith)) ∙ p.0 j k (omega arith) lt)
-      (λ j from lt. sym (asked j k (omega (arith, size))) ∙ p.1 j k from (omega (arith, size)))

@@ -2,6 +2,7 @@
 #![tactic(auto)]
 
 pub mod access;
+mod count;
 pub mod laws;
 mod pools;
 mod ranges;
