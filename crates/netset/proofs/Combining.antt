@@ -12,7 +12,7 @@ use Rattle.cidr_sets.specs.Sets.{IsComplement, IsSetOf}
 use Rattle.cidr_io.specs.Writing.{State}
 use Rattle.cidr_io.specs.declared.sink.OutputFailed.{OutputFailed}
 use Rattle.netset.specs.Answering.{AreRead, HasAddresses}
-use Rattle.netset.specs.Combining.{Combined, IsMade, Steps, Turned, counts, step_of, turns}
+use Rattle.netset.specs.Combining.{Combined, IsMade, Steps, Turned, form_of, step_of, turns}
 use Rattle.netset.specs.Commands.{Lists, Says, read_files}
 use Rattle.netset.specs.Program.{AnswersRequest, by_output}
 use Rattle.netset.specs.Sets.{Held, Prints, count_of, held}
@@ -77,7 +77,7 @@ set_same P Q networks set f = record {
 -- what is made of the sets is what is made of the lists
 pub lists_written : (told : List ℕ → Option (List ℕ)) (operation : Operation) (files : List (List ℕ)) (read : List Sets) (sets : Sets) (s t : State)
     (w : Result (Unit {0}) OutputFailed) (r : Result Verdict CommandError) → AreRead told (read_files files) read
-    → ((family : Family) → IsSetOf 129 (IsMade Held operation read family) (held sets family)) → Prints (counts operation) s t (held sets) w
+    → ((family : Family) → IsSetOf 129 (IsMade Held operation read family) (held sets family)) → Prints (form_of operation) s t (held sets) w
     → r ≡ by_output Yes w → AnswersRequest told (Lists operation files) s t r
 lists_written told operation files read sets s t w r are made (text, printed, written) is =
     inr (

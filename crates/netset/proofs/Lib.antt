@@ -7,4 +7,5 @@ pub mod Combining
 pub mod Collected
 pub mod Walked
 pub mod Changed
+pub mod Spans
 pub mod Arguments

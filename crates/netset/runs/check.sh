@@ -5,7 +5,7 @@ set -euo pipefail
 export LC_ALL=C
 cd "$(dirname "$0")/.."
 
-usage=$'usage: netset merge|nets|not|count [FILE..] | minus|and A B.. | diff A B | show HOST | split NET LEN | nth NET INDEX | --help | --version\n'
+usage=$'usage: netset merge|nets|not|ranges|count [FILE..] | minus|and A B.. | diff A B | show HOST | split NET LEN | nth NET INDEX | --help | --version\n'
 
 room=$(mktemp -d)
 trap 'rm -rf "$room"' EXIT
@@ -61,6 +61,14 @@ rows() {
     run 0 '' '' '0.0.0.0/0' not - eight seven
     run 2 '' $'bad:1: couldn\'t parse length in network: invalid length text\n' '' minus ten bad missing
     run 2 '' $'missing: cannot be read\n' '' and ten missing bad
+    run 0 $'10.0.0.1-10.0.0.6\n10.0.0.8\n::1-::2\n' '' \
+        '10.0.0.1\n10.0.0.2/31\n::2\n10.0.0.4/31\n10.0.0.6\n10.0.0.8\n::1' ranges
+    run 0 $'0.0.0.0-255.255.255.255\n::-ffff:ffff:ffff:ffff:ffff:ffff:ffff:ffff\n' '' \
+        '0.0.0.0/1\n::/0\n128.0.0.0/1' ranges
+    run 0 $'10.0.0.0-11.255.255.255\n' '' '11.0.0.0/8' ranges ten -
+    run 0 '' '' '' ranges
+    run 2 '' $'-:1: not UTF-8\n' '\xff' ranges
+    run 2 '' "$usage" '' ranges -k
     run 0 $'Ipv4 0\nIpv6 0\n' '' '' count
     run 0 $'Ipv4 257\nIpv6 1\n' '' '10.0.0.1\n10.0.1.0/24\n10.0.1.7\n::1' count
     run 0 $'Ipv4 4294967296\nIpv6 340282366920938463463374607431768211456\n' '' '0.0.0.0/0\n::/0' count
@@ -138,6 +146,7 @@ rows_where_a_stream_fails() {
     run 2 '' $'-:1: host part of address was not zero\n' '10.0.0.1/8' merge
     run 3 '' $'output failed\n' '' --help
     run 3 '' $'output failed\n' '' diff - ten
+    run 3 '' $'output failed\n' '' ranges ten
     run 3 '' $'output failed\n' '' show ::1
     run 3 '' $'output failed\n' '' split ::/0 128
     run 3 '' $'output failed\n' '' nth ::/0 1

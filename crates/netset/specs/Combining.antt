@@ -2,7 +2,9 @@
 use Rattle.std.specs.Prelude.{ℕ, Bool, true, false, nat_lt, List, [], ◌∷◌, ◌⊎◌, codes}
 use Rattle.cidr.specs.declared.family.Family.{Family}
 use Rattle.netset.specs.declared.operations.Operation.{Operation}
-use Rattle.netset.specs.declared.operations.Operation.TheVariants.{Merge, Nets, Minus, And, Not, Count}
+use Rattle.netset.specs.declared.operations.Operation.TheVariants.{Merge, Nets, Minus, And, Not, Ranges, Count}
+use Rattle.netset.specs.declared.operations.Form.{Form}
+use Rattle.netset.specs.declared.operations.Form.TheVariants as form
 use Rattle.netset.specs.declared.operations.Step.{Step}
 use Rattle.netset.specs.declared.operations.Step.TheVariants.{Union, Difference, Intersection}
 
@@ -13,6 +15,7 @@ name_of Nets = codes "nets"
 name_of Minus = codes "minus"
 name_of And = codes "and"
 name_of Not = codes "not"
+name_of Ranges = codes "ranges"
 name_of Count = codes "count"
 
 -- whether it takes so many files: minus and and take two or more
@@ -22,6 +25,7 @@ takes Nets count = true
 takes Minus count = nat_lt 1 count
 takes And count = nat_lt 1 count
 takes Not count = true
+takes Ranges count = true
 takes Count count = true
 
 -- what each further list does
@@ -31,6 +35,7 @@ step_of Nets = Union
 step_of Minus = Difference
 step_of And = Intersection
 step_of Not = Union
+step_of Ranges = Union
 step_of Count = Union
 
 -- whether an address is there after a step, by whether it was there before and whether the list has it
@@ -51,6 +56,7 @@ turns Nets = false
 turns Minus = false
 turns And = false
 turns Not = true
+turns Ranges = false
 turns Count = false
 
 -- there, or not
@@ -63,11 +69,12 @@ abbrev pub IsMade : {X : Type 0} → (X → Family → List Bool → Type 0) →
 IsMade In operation [] family a = ⊥
 IsMade In operation (x ∷ xs) family a = Turned (turns operation) (Combined In (step_of operation) (In x family a) xs family a)
 
--- whether it writes how many addresses they are, and not the addresses
-abbrev pub counts : Operation → Bool
-counts Merge = false
-counts Nets = false
-counts Minus = false
-counts And = false
-counts Not = false
-counts Count = true
+-- how it writes the addresses
+abbrev pub form_of : Operation → Form
+form_of Merge = form.Networks
+form_of Nets = form.Networks
+form_of Minus = form.Networks
+form_of And = form.Networks
+form_of Not = form.Networks
+form_of Ranges = form.Ranges
+form_of Count = form.Counts

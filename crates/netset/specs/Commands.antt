@@ -7,7 +7,8 @@ use Rattle.cidr_table.specs.Cover.{Covers}
 use Rattle.cidr_sets.specs.Sets.{IsSetOf}
 use Rattle.netset.specs.Lists.{ListSays, networks_in}
 use Rattle.netset.specs.Changes.{AreChanges, AreSame, printed_changes}
-use Rattle.netset.specs.Combining.{counts, name_of, takes, IsMade}
+use Rattle.netset.specs.Combining.{form_of, name_of, takes, IsMade}
+use Rattle.netset.specs.declared.operations.Form.{Form}
 use Rattle.netset.specs.declared.operations.Operation.{Operation}
 use Rattle.netset.specs.Sets.{IsPrinted}
 use Rattle.netset.specs.Single.{SingleRequest, IsSingle, IsSingleAnswer}
@@ -50,10 +51,11 @@ read_files (file ∷ files) = file ∷ files
 abbrev pub AreTold : (List ℕ → Option (List ℕ)) → List (List ℕ) → List (List ℕ) → Type 0
 AreTold told names texts = AllZip (λ name text. told name ≡ Some text) names texts
 
--- what is printed of the shortest list of networks of each family that has these addresses: the list, or how many they are
-abbrev pub IsPrintOf : Bool → (Family → List Bool → Type 0) → List ℕ → Type 0
-IsPrintOf counting IsIn text =
-    (sets : Family → List (List Bool)) × ((family : Family) → IsSetOf 129 (IsIn family) (sets family)) × IsPrinted counting sets text
+-- what is printed of the shortest list of networks of each family that has these addresses: the list, their ranges, or how
+-- many they are
+abbrev pub IsPrintOf : Form → (Family → List Bool → Type 0) → List ℕ → Type 0
+IsPrintOf form IsIn text =
+    (sets : Family → List (List Bool)) × ((family : Family) → IsSetOf 129 (IsIn family) (sets family)) × IsPrinted form sets text
 
 -- the address is in one of the networks that a list says
 abbrev pub Says : List (Option IpCidr) → Family → List Bool → Type 0
@@ -62,7 +64,7 @@ Says said family a = Covers (networks_in family said) a
 -- what the operation makes of the lists
 abbrev pub IsMadeOf : Operation → List (List ℕ) → List ℕ → Type 0
 IsMadeOf operation texts answer =
-    (said : List (List (Option IpCidr))) × AllZip ListSays texts said × IsPrintOf (counts operation) (IsMade Says operation said) answer
+    (said : List (List (Option IpCidr))) × AllZip ListSays texts said × IsPrintOf (form_of operation) (IsMade Says operation said) answer
 
 -- what a list has and another has not, both ways
 abbrev pub IsDiff : List ℕ → List ℕ → List ℕ → Verdict → Type 0
@@ -79,6 +81,7 @@ help_text =
     ++ codes "netset minus A B..      the addresses of A that no other list has\n"
     ++ codes "netset and A B..        the addresses that each of the lists has\n"
     ++ codes "netset not [FILE..]     the addresses of IPv4 and those of IPv6 that no list has\n"
+    ++ codes "netset ranges [FILE..]  the longest ranges of the addresses of all the lists, FIRST-LAST\n"
     ++ codes "netset count [FILE..]   how many addresses of IPv4 and of IPv6 the lists have\n"
     ++ codes "netset diff A B         the networks that B adds to A, as +NET, and that it lacks, as -NET\n"
     ++ codes "netset show HOST        the network of a host: its ends, mask, length and family\n"

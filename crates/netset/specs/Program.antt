@@ -81,7 +81,7 @@ argument_message bad.Index = codes "no index below 2^128"
 
 -- the line that is written to standard error
 abbrev pub error_line : CommandError → List ℕ
-error_line error.Usage = codes "usage: netset merge|nets|not|count [FILE..] | minus|and A B.. | diff A B | show HOST | split NET LEN | nth NET INDEX | --help | --version\n"
+error_line error.Usage = codes "usage: netset merge|nets|not|ranges|count [FILE..] | minus|and A B.. | diff A B | show HOST | split NET LEN | nth NET INDEX | --help | --version\n"
 error_line (error.Argument text e) = text.now ++ (codes ": " ++ (argument_message e ++ codes "\n"))
 error_line (error.Line name number e) =
     name.now ++ (codes ":" ++ (decimal number ++ (codes ": " ++ (line_message e ++ codes "\n"))))

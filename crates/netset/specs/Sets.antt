@@ -1,7 +1,9 @@
 -- Sets of addresses of both families, and how they are written.
-use Rattle.std.specs.Prelude.{ℕ, Bool, List, ◌++◌, ◌≡◌, ◌^◌, true, false, codes, decimal, Option, Some, None, Result}
+use Rattle.std.specs.Prelude.{ℕ, Bool, List, ◌++◌, ◌≡◌, ◌^◌, if◌then◌else◌, codes, decimal, Option, Some, None, Result}
 use Rattle.std.specs.List.{flat_map}
+use Rattle.cidr.specs.model.Bits.{bit_eq}
 use Rattle.cidr.specs.texts.Printed.{plain_text}
+use Rattle.cidr.specs.texts.PrintedAddress.{address_text}
 use Rattle.cidr.specs.declared.family.Family.{Family}
 use Rattle.cidr.specs.declared.family.Family.TheVariants.{Ipv4, Ipv6}
 use Rattle.cidr_table.specs.Cover.{Covers}
@@ -10,6 +12,9 @@ use Rattle.cidr.specs.model.Network.{width_of}
 use Rattle.cidr_io.specs.Writing.{State, Answered}
 use Rattle.cidr_io.specs.declared.sink.OutputFailed.{OutputFailed}
 use Rattle.cidr_sets.specs.Counts.{HaveCount}
+use Rattle.cidr_sets.specs.Ranges.{AreRanges}
+use Rattle.netset.specs.declared.operations.Form.{Form}
+use Rattle.netset.specs.declared.operations.Form.TheVariants.{Networks, Ranges, Counts}
 use Rattle.netset.specs.declared.sets.Sets.{Sets}
 
 -- the networks of a family, one a line, in their order
@@ -37,10 +42,22 @@ printed_counts count = codes "Ipv4 " ++ (decimal (count Ipv4) ++ (codes "\nIpv6 
 abbrev pub HaveCounts : (Family → List (List Bool)) → (Family → ℕ) → Type 0
 HaveCounts sets count = (family : Family) → HaveCount (width_of family) (sets family) (count family)
 
--- what is printed of sets: their networks, or how many addresses they have
-abbrev pub IsPrinted : Bool → (Family → List (List Bool)) → List ℕ → Type 0
-IsPrinted false sets text = text ≡ printed_sets sets
-IsPrinted true sets text = (count : Family → ℕ) × HaveCounts sets count × (text ≡ printed_counts count)
+-- the first and the last address of a range as a line, or its one address; `text` tells what an address is printed as
+abbrev pub range_line : (List Bool → List ℕ) → List Bool × List Bool → List ℕ
+range_line text (first, last) =
+    if bit_eq first last then line (text first) else text first ++ (codes "-" ++ line (text last))
+
+-- IPv4 before IPv6
+abbrev pub printed_ranges : (Family → List (List Bool × List Bool)) → List ℕ
+printed_ranges ranges =
+    flat_map (range_line (address_text Ipv4)) (ranges Ipv4) ++ flat_map (range_line (address_text Ipv6)) (ranges Ipv6)
+
+-- what is printed of sets: their networks, the longest ranges of their addresses, or how many addresses they have
+abbrev pub IsPrinted : Form → (Family → List (List Bool)) → List ℕ → Type 0
+IsPrinted Networks sets text = text ≡ printed_sets sets
+IsPrinted Ranges sets text = (ranges : Family → List (List Bool × List Bool))
+    × ((family : Family) → AreRanges 129 (Covers (sets family)) (ranges family)) × (text ≡ printed_ranges ranges)
+IsPrinted Counts sets text = (count : Family → ℕ) × HaveCounts sets count × (text ≡ printed_counts count)
 
 -- ---- what private functions promise
 -- all of IPv6 has more addresses than a `u128` has room for
@@ -49,5 +66,5 @@ count_of None = 2 ^ 128
 count_of (Some count) = count
 
 -- what is printed of sets is written
-abbrev pub Prints : Bool → State → State → (Family → List (List Bool)) → Result (Unit {0}) OutputFailed → Type 0
-Prints counting old new sets r = (text : List ℕ) × IsPrinted counting sets text × Answered old new text r
+abbrev pub Prints : Form → State → State → (Family → List (List Bool)) → Result (Unit {0}) OutputFailed → Type 0
+Prints form old new sets r = (text : List ℕ) × IsPrinted form sets text × Answered old new text r

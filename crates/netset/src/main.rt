@@ -13,6 +13,7 @@ mod lists;
 mod operations;
 mod printing;
 mod program;
+mod ranges;
 mod report;
 mod sets;
 mod several;

@@ -1,6 +1,6 @@
 //! What is made of lists.
 ghost use Rattle.std.specs.Prelude.{◌≡◌, ◌≢◌, MatchOption};
-ghost use Rattle.netset.specs.Combining.{counts, name_of, step_of, takes, turns};
+ghost use Rattle.netset.specs.Combining.{form_of, name_of, step_of, takes, turns};
 ghost use Rattle.netset.specs.declared.operations.Operation.{Operation};
 
 /// What is made of the addresses of lists.
@@ -16,8 +16,21 @@ pub enum Operation {
     And,
     /// Those of each family that no list has.
     Not,
+    /// The addresses of all lists, as ranges.
+    Ranges,
     /// The number of the addresses of all lists.
     Count,
+}
+
+/// How addresses are written.
+#[derive(Clone, Copy, Debug, Drop, PartialEq)]
+pub enum Form {
+    /// As the shortest list of networks.
+    Networks,
+    /// As the longest ranges.
+    Ranges,
+    /// As their number.
+    Counts,
 }
 
 /// What a further list does to the addresses of those before.
@@ -47,6 +60,9 @@ pub fn operation_of(name: &str) -> Option<Operation>
     if name == "not" {
         return Some(Operation::Not);
     }
+    if name == "ranges" {
+        return Some(Operation::Ranges);
+    }
     if name == "count" {
         return Some(Operation::Count);
     }
@@ -58,7 +74,11 @@ pub fn takes(operation: Operation, count: usize) -> bool
     ensures { result ≡ takes operation count }
 {
     match operation {
-        Operation::Merge | Operation::Nets | Operation::Not | Operation::Count => true,
+        Operation::Merge
+        | Operation::Nets
+        | Operation::Not
+        | Operation::Ranges
+        | Operation::Count => true,
         Operation::Minus | Operation::And => count > 1,
     }
 }
@@ -70,11 +90,15 @@ pub fn turns(operation: Operation) -> bool
     operation == Operation::Not
 }
 
-/// Whether it writes how many addresses they are.
-pub fn counts(operation: Operation) -> bool
-    ensures { result ≡ counts operation }
+/// How it writes the addresses.
+pub fn form_of(operation: Operation) -> Form
+    ensures { result ≡ form_of operation }
 {
-    operation == Operation::Count
+    match operation {
+        Operation::Ranges => Form::Ranges,
+        Operation::Count => Form::Counts,
+        _ => Form::Networks,
+    }
 }
 
 /// What each list after the first does.
@@ -82,7 +106,11 @@ pub fn step_of(operation: Operation) -> Step
     ensures { result ≡ step_of operation }
 {
     match operation {
-        Operation::Merge | Operation::Nets | Operation::Not | Operation::Count => Step::Union,
+        Operation::Merge
+        | Operation::Nets
+        | Operation::Not
+        | Operation::Ranges
+        | Operation::Count => Step::Union,
         Operation::Minus => Step::Difference,
         Operation::And => Step::Intersection,
     }

@@ -1,7 +1,7 @@
 //! A run of the program, from its arguments to its exit status.
 ghost use Rattle.std.specs.Prelude.{◌≡◌, map};
 ghost use Rattle.std.specs.String.{string_bytes};
-ghost use Rattle.netset.specs.Combining.{counts};
+ghost use Rattle.netset.specs.Combining.{form_of};
 ghost use Rattle.netset.specs.Commands.{Lists};
 ghost use Rattle.netset.specs.Sets.{Prints, held};
 ghost use Rattle.netset.specs.Answering.{AnswersTexts};
@@ -13,7 +13,7 @@ use crate::combine::made;
 use crate::commands::{Command, command_of};
 use crate::errors::CommandError;
 use crate::files::Sources;
-use crate::operations::{Operation, counts};
+use crate::operations::{Form, Operation, form_of};
 use crate::report::report;
 use crate::sets::Sets;
 use crate::several::read_several;
@@ -25,18 +25,19 @@ use std::alloc::Global;
 
 /// The page of the commands.
 const HELP: &str =
-    "netset merge [FILE..]   the shortest list of networks that has the addresses of all the lists\nnetset nets [FILE..]    the same\nnetset minus A B..      the addresses of A that no other list has\nnetset and A B..        the addresses that each of the lists has\nnetset not [FILE..]     the addresses of IPv4 and those of IPv6 that no list has\nnetset count [FILE..]   how many addresses of IPv4 and of IPv6 the lists have\nnetset diff A B         the networks that B adds to A, as +NET, and that it lacks, as -NET\nnetset show HOST        the network of a host: its ends, mask, length and family\nnetset split NET LEN    the networks of this prefix length inside a network\nnetset nth NET INDEX    the address of a network at an index, from 0 on\nnetset --help           this page\nnetset --version        the version\n\nA line of a list is a network or an address, and may end in a comment from # or ; on. The\nfile - is the standard input, which is also read where no file is named.\nStatus: 0 done, 1 none or a difference, 2 usage, a wrong argument, a file that cannot be\nread or a line in error, 3 output or memory.\n";
+    "netset merge [FILE..]   the shortest list of networks that has the addresses of all the lists\nnetset nets [FILE..]    the same\nnetset minus A B..      the addresses of A that no other list has\nnetset and A B..        the addresses that each of the lists has\nnetset not [FILE..]     the addresses of IPv4 and those of IPv6 that no list has\nnetset ranges [FILE..]  the longest ranges of the addresses of all the lists, FIRST-LAST\nnetset count [FILE..]   how many addresses of IPv4 and of IPv6 the lists have\nnetset diff A B         the networks that B adds to A, as +NET, and that it lacks, as -NET\nnetset show HOST        the network of a host: its ends, mask, length and family\nnetset split NET LEN    the networks of this prefix length inside a network\nnetset nth NET INDEX    the address of a network at an index, from 0 on\nnetset --help           this page\nnetset --version        the version\n\nA line of a list is a network or an address, and may end in a comment from # or ; on. The\nfile - is the standard input, which is also read where no file is named.\nStatus: 0 done, 1 none or a difference, 2 usage, a wrong argument, a file that cannot be\nread or a line in error, 3 output or memory.\n";
 
 const VERSION: &str = "netset 0.1.0\n";
 
-/// Writes what an operation has made: the networks, or how many addresses they have.
+/// Writes what an operation has made: the networks, their ranges, or how many addresses they have.
 fn write_made<O: Sink>(operation: Operation, sets: &Sets, out: &mut O) -> Result<(), OutputFailed>
-    ensures { Prints (counts operation) (O.state out.old) (O.state out.new) (held sets.now) result }
+    ensures { Prints (form_of operation) (O.state out.old) (O.state out.new) (held sets.now) result }
 {
-    if counts(operation) {
-        return sets.write_counts(out);
+    match form_of(operation) {
+        Form::Networks => sets.write(out),
+        Form::Ranges => sets.write_ranges(out),
+        Form::Counts => sets.write_counts(out),
     }
-    sets.write(out)
 }
 
 /// What an operation makes of the lists of some files.

@@ -1,10 +1,11 @@
 //! The addresses of lists as sets, and sets as lists.
-ghost use Rattle.std.specs.Prelude.{◌≡◌, ◌↔◌, ◌^◌, [], decimal, true, IfOk, IsTrue};
+ghost use Rattle.std.specs.Prelude.{◌≡◌, ◌↔◌, ◌^◌, [], decimal, IfOk, IsTrue};
 ghost use Rattle.cidr.specs.declared.family.Family.{Family};
 ghost use Rattle.cidr_io.specs.Writing.{Answered};
 ghost use Rattle.cidr_table.specs.Cover.{Covers};
 ghost use Rattle.cidr_sets.specs.Sets.{IsSetOf};
 ghost use Rattle.netset.specs.Reading.{listed};
+ghost use Rattle.netset.specs.declared.operations.Form.TheVariants.{Counts};
 ghost use Rattle.netset.specs.Sets.{Prints, count_of, held, printed_sets};
 
 use crate::lists::Lists;
@@ -57,7 +58,7 @@ impl Sets {
 
     /// Writes how many addresses of each family there are, a line each. An output that has failed before gets nothing.
     pub fn write_counts<S: Sink>(&self, out: &mut S) -> Result<(), OutputFailed>
-        ensures { Prints true (S.state out.old) (S.state out.new) (held self.now) result }
+        ensures { Prints Counts (S.state out.old) (S.state out.new) (held self.now) result }
     {
         let v4 = digits_of(self.v4.address_count());
         let v6 = digits_of(self.v6.address_count());

@@ -2,8 +2,11 @@ use Rattle.std.proofs.Common.{sym, ◌∙◌, refl}
 use Rattle.netset.specs.Sets.{held, printed_sets}
 use Rattle.netset.proofs.program.write_made.Goals as goal
 
-pub returns-then-counts : goal.returns-then-counts
-returns-then-counts g c = rw (sym c.counts.ensures ∙ c.if-counts.true) c.write_counts.ensures
+pub returns-in-Networks : goal.returns-in-Networks
+returns-in-Networks g c = rw (sym c.form_of.ensures ∙ c.in-Networks.is) (printed_sets (held c.args.sets.now), refl, c.write.ensures)
 
-pub returns : goal.returns
-returns g c = rw (sym c.counts.ensures ∙ c.if-counts.false) (printed_sets (held c.args.sets.now), refl, c.write.ensures)
+pub returns-in-Ranges : goal.returns-in-Ranges
+returns-in-Ranges g c = rw (sym c.form_of.ensures ∙ c.in-Ranges.is) c.write_ranges.ensures
+
+pub returns-in-Counts : goal.returns-in-Counts
+returns-in-Counts g c = rw (sym c.form_of.ensures ∙ c.in-Counts.is) c.write_counts.ensures
