@@ -82,7 +82,7 @@ inner_before p x k b h = by_order (bit_cmp x k) refl
         absurd (h.1 (subst (λ z. BeginsWith z p) (bits_exact x k e) b))
     by_order Greater e = absurd (h.1 (begins_between p x k b (not_both p k h.0) (λ g. (let f = sym (turned x k e) ∙ g in (cc)))))
 
-inner_behind : (p q k : List Bool) → BeginsWith q p → IsBehind p k → IsBehind q k
+pub inner_behind : (p q k : List Bool) → BeginsWith q p → IsBehind p k → IsBehind q k
 inner_behind p q k b h = (inner_before p q k b h, λ c. h.1 (begins_begins k q p c b))
 
 -- what begins with the upper half is behind the lower one

@@ -89,7 +89,7 @@ touching (false ∷ p) (true ∷ q) (false ∷ a) h l r =
 touching (true ∷ p) (false ∷ q) (z ∷ a) h l r = absurd (false≢true h)
 
 -- ---- networks that don't touch
-unfilled : (up : Bool) (p : List Bool) (n : ℕ) → all_bits up p ≡ false → length p ≤ n → ¬ (Reaches (not up) p (replicate n up))
+pub unfilled : (up : Bool) (p : List Bool) (n : ℕ) → all_bits up p ≡ false → length p ≤ n → ¬ (Reaches (not up) p (replicate n up))
 unfolding Reaches all_bits
 unfilled up [] n h l r = true≢false h
 unfilled up (x ∷ p) zero h l r = omega (arith, l)

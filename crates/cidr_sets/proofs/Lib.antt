@@ -18,3 +18,4 @@ pub mod Joining
 pub mod OneRange
 pub mod Steps
 pub mod Cuts
+pub mod Between

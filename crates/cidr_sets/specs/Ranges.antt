@@ -1,10 +1,12 @@
 -- Ranges of addresses: all from a first to a last one, in the order of their bits.
-use Rattle.std.specs.Prelude.{◌≡◌, ◌≢◌, ◌↔◌, ℕ, suc, ◌+◌, ◌≤◌, Bool, true, false, ◌&&◌, if◌then◌else◌, List, [], ◌∷◌, ◌++◌, length, take, replicate, Some}
+use Rattle.std.specs.Prelude.{◌≡◌, ◌≢◌, ◌↔◌, ◌⊎◌, ℕ, zero, suc, ◌+◌, ◌<◌, ◌≤◌, Bool, true, false, ◌&&◌, if◌then◌else◌, List, [], ◌∷◌, ◌++◌, length, take, replicate, Some}
 use Rattle.std.specs.Bool.{beq}
 use Rattle.std.specs.List.{Contains, slice_get}
-use Rattle.std.specs.declared.cmp.Ordering.TheVariants.{Greater}
+use Rattle.std.specs.declared.cmp.Ordering.TheVariants.{Less, Greater}
 use Rattle.cidr.specs.model.Bits.{bit_cmp}
 use Rattle.cidr.specs.model.Network.{BeginsWith, zeros, ones, first_of, last_of}
+use Rattle.cidr_table.specs.Cover.{Covers, parent}
+use Rattle.cidr_sets.specs.Steps.{Ascend, IsBehind}
 
 -- not before the first address, and not after the last; the first bits of a longer list tell
 abbrev pub IsBetween : List Bool → List Bool → List Bool → Type 0
@@ -87,3 +89,46 @@ join p (r ∷ rs) = if touches p r.0 then (p, r.1) ∷ rs else (p, p) ∷ r ∷ 
 unfoldable pub joined : List (List Bool) → List (List Bool × List Bool)
 joined [] = []
 joined (p ∷ ps) = join p (joined ps)
+
+-- ---- how the addresses of a network lie to an edge: the first of a range with the bit false, or the last with true
+-- none is in the range: 0; all are: 1; not all are, and the edge has this many bits behind the network's: one more
+unfoldable pub side : Bool → List Bool → List Bool → ℕ
+side bit e [] = if all_bits bit e then 1 else suc (length e)
+side bit [] (x ∷ p) = 1
+side bit (true ∷ e) (true ∷ p) = side bit e p
+side bit (false ∷ e) (false ∷ p) = side bit e p
+side bit (true ∷ e) (false ∷ p) = if bit then 1 else 0
+side bit (false ∷ e) (true ∷ p) = if bit then 0 else 1
+
+-- how many networks a network has at most in a range, by how it lies to the first and the last address
+unfoldable pub most : ℕ → ℕ → ℕ
+most zero k = 0
+most (suc m) zero = 0
+most (suc zero) (suc zero) = 1
+most (suc zero) (suc (suc k)) = suc k
+most (suc (suc m)) (suc zero) = suc m
+most (suc (suc m)) (suc (suc k)) = m + k
+
+-- the list is on the side of both edges
+abbrev pub IsWithin : List Bool → List Bool → List Bool → Type 0
+IsWithin first last a = Reaches true first a × Reaches false last a
+
+-- a network whose addresses are all in the set, and not all of its parent, if it isn't p itself
+pub record IsPart (IsIn : List Bool → Type 0) (p x : List Bool) : Type 0 where
+  pub within : length x ≤ 129
+  pub full : (a : List Bool) → length a ≡ 129 → BeginsWith a x → IsIn a
+  pub widest : (x ≡ p) ⊎ ¬ ((a : List Bool) → length a ≡ 129 → BeginsWith a (parent x) → IsIn a)
+
+-- behind the old networks stand those of the addresses of p that are in the set
+pub record IsFilled (IsIn : List Bool → Type 0) (p : List Bool) (old new : List (List Bool)) : Type 0 where
+  pub ascend : Ascend new
+  pub before : (k : List Bool) → IsBehind p k → (x : List Bool) → Contains new x → bit_cmp x k ≡ Less
+  pub covers : (a : List Bool) → length a ≡ 129 → Covers new a ↔ (Covers old a ⊎ (BeginsWith a p × IsIn a))
+  pub each : (x : List Bool) → Contains new x → Contains old x ⊎ IsPart IsIn p x
+
+-- more such networks than there is room for
+pub record IsOverfull (IsIn : List Bool → Type 0) (p : List Bool) (old : List (List Bool)) (room : ℕ) : Type 0 where
+  pub networks : List (List Bool)
+  pub over : room < length networks
+  pub ascend : Ascend networks
+  pub each : (x : List Bool) → Contains networks x → Contains old x ⊎ IsPart IsIn p x

@@ -292,7 +292,7 @@ fn touches<C: BitString>(network: &C, next: &C) -> bool
 }
 
 /// Whether each bit of a network from an index on is `bit`.
-fn all_from<C: BitString>(network: &C, from: usize, bit: bool) -> bool
+pub(crate) fn all_from<C: BitString>(network: &C, from: usize, bit: bool) -> bool
     ensures { result ≡ all_bits bit (drop from (C.bits network.now)) }
 {
     for i in from..network.len() {

@@ -25,7 +25,7 @@ pub(crate) fn skip<'a, C: NetworkBits>(network: &C, others: &'a [C]) -> &'a [C]
 }
 
 /// Whether a network comes before another and doesn't contain it.
-fn is_passed<C: NetworkBits>(network: &C, next: &C) -> bool
+pub(crate) fn is_passed<C: NetworkBits>(network: &C, next: &C) -> bool
     ensures { Decides result ((bit_cmp (C.bits network.now) (C.bits next.now) ≡ Less)
         × ¬ (BeginsWith (C.bits next.now) (C.bits network.now))) }
 {

@@ -1,18 +1,22 @@
 //! Sets in memory that the caller brings: nothing here allocates.
 //!
 //! The networks of each set are in normal form, as `as_slice` of a set has them, and so are those that are written.
-ghost use Rattle.std.specs.Prelude.{◌≡◌, ◌+◌, ◌-◌, ◌*◌, ◌≤◌, ◌<◌, ◌⊎◌, ◌↔◌, ℕ, Bool, List, length, take, map, set, Contains, IfSome, IfNone, MatchOption};
+ghost use Rattle.std.specs.Prelude.{◌≡◌, ◌+◌, ◌-◌, ◌*◌, ◌≤◌, ◌<◌, ◌⊎◌, ◌↔◌, ℕ, Bool, List, length, take, drop, false, true, map, set, Contains, IfSome, IfNone, MatchOption};
 ghost use Rattle.std.specs.List.{dedup};
 ghost use Rattle.std.specs.Option.{option_map};
 ghost use Rattle.std.specs.declared.cmp.Ordering.TheVariants.{Less};
+ghost use Rattle.std.specs.Bool.{Decides};
 ghost use Rattle.cidr.specs.model.Bits.{bit_cmp};
+ghost use Rattle.cidr.specs.model.Network.{BeginsWith};
 ghost use Rattle.cidr_table.specs.Cover.{AreNetworks, Covers, IsReduced};
 ghost use Rattle.cidr_sets.specs.Sets.{IsSetOf, IsUnion, IsIntersection, IsDifference, IsComplement};
+ghost use Rattle.cidr_sets.specs.Ranges.{IsBetween, IsFilled, IsOverfull, IsWithin, all_bits, most, side};
 ghost use Rattle.cidr_sets.specs.Steps.{Ascend, IsCut, IsNext, IsOver, IsShared};
 
-use crate::rests::{half, skip};
+use crate::ranges::{Addressed, all_from};
+use crate::rests::{half, is_passed, skip};
 use crate::search::{is_inside, known};
-use cidr::NetworkBits;
+use cidr::{BitString, NetworkBits};
 use cidr_table::least_cover_in_place;
 use std::cmp::Ordering;
 
@@ -126,6 +130,86 @@ pub fn complement_in<C: NetworkBits + Copy>(
     known(network);
     let (count, _) = write_rest(out, 0, network, networks)?;
     Some(count)
+}
+
+/// Writes the networks of the addresses from the first to the last, both included, to the first elements of `out`, and
+/// returns how many they are: none where the last comes before the first, and at most 62 in IPv4 and 254 in IPv6. `None`
+/// exactly where `out` is too short for them.
+///
+/// Of `AnyIpCidr`, the addresses of IPv4 come before those of IPv6. It halves at most two networks of each length. The
+/// contract leaves open what is in `out` after the networks, and after `None` in all of it.
+///
+/// ```
+/// let (first, last) = (Ipv4Addr::new(10, 0, 0, 1), Ipv4Addr::new(10, 0, 0, 6));
+/// let mut out = [Ipv4Cidr::null(); 4];
+/// slices::from_range(first, last, &mut out) // Some(4)
+/// out // [10.0.0.1/32, 10.0.0.2/31, 10.0.0.4/31, 10.0.0.6/32]
+/// ```
+pub fn from_range<C: Addressed + Copy>(
+    first: C::Address,
+    last: C::Address,
+    out: &mut [C],
+) -> Option<usize>
+    ensures set { IfSome result (λ count. IsSetOf 129 (IsBetween (C.address_bits first) (C.address_bits last))
+        (map C.bits (take count out.new))) }
+    ensures fits { IfSome result (λ count.
+        count + 2 ≤ length (C.address_bits first) + length (C.address_bits last)) }
+    ensures within { IfSome result (λ count. count ≤ length out.old) }
+    ensures short { IfNone result ((set : List (List Bool))
+        → IsSetOf 129 (IsBetween (C.address_bits first) (C.address_bits last)) set → length out.old < length set) }
+{
+    let (first, last) = (C::single(first), C::single(last));
+    known(&first);
+    known(&last);
+    write_between(out, 0, &C::null(), &first, &last)
+}
+
+/// Writes the networks of the addresses of a network from a first to a last one, ascending, after the first `n`, and
+/// returns how many there are then; `None` where `out` has no room for them.
+///
+/// A network that has none of them is left out, and one that has only such is written itself. Any other is halved.
+fn write_between<C: NetworkBits + Copy>(
+    out: &mut [C],
+    n: usize,
+    network: &C,
+    first: &C,
+    last: &C,
+) -> Option<usize>
+    requires within { n ≤ length out.old }
+    requires ascend { Ascend (map C.bits (take n out.old)) }
+    requires before { (x : List Bool) → Contains (map C.bits (take n out.old)) x
+        → bit_cmp x (C.bits network.now) ≡ Less }
+    ensures filled { IfSome result (λ count. IsFilled (IsWithin (C.bits first.now) (C.bits last.now))
+        (C.bits network.now) (map C.bits (take n out.old)) (map C.bits (take count out.new))) }
+    ensures fits { IfSome result (λ count. count ≤ n + most (side false (C.bits first.now) (C.bits network.now))
+        (side true (C.bits last.now) (C.bits network.now))) }
+    ensures within { IfSome result (λ count. count ≤ length out.old) }
+    ensures over { IfNone result (IsOverfull (IsWithin (C.bits first.now) (C.bits last.now))
+        (C.bits network.now) (map C.bits (take n out.old)) (length out.old)) }
+{
+    known(network);
+    known(first);
+    known(last);
+    if is_passed(network, first) || is_passed(last, network) {
+        return Some(n);
+    }
+    let starts = is_cut(network, first, false);
+    if !starts && !is_cut(network, last, true) {
+        return write(out, n, network);
+    }
+    let edge = if starts { first } else { last };
+    let lower = half(network, edge, false);
+    let count = write_between(out, n, &lower, first, last)?;
+    let upper = half(network, edge, true);
+    write_between(out, count, &upper, first, last)
+}
+
+/// Whether an edge lies in a network, and has other bits than `bit` behind the network's.
+fn is_cut<C: BitString>(network: &C, edge: &C, bit: bool) -> bool
+    ensures { Decides result (BeginsWith (C.bits edge.now) (C.bits network.now)
+        × (all_bits bit (drop (length (C.bits network.now)) (C.bits edge.now)) ≡ false)) }
+{
+    is_inside(edge, network) && !all_from(edge, network.len(), bit)
 }
 
 /// Makes a slice of networks, which may come in any order, overlap and repeat, the set of their addresses: it stands in

@@ -17,6 +17,7 @@ fn main(rt: HostRuntime) -> Result<(), Failure> {
     around(&rt)?;
     counted(&rt)?;
     one_range(&rt)?;
+    one_range_in_own_memory(&rt)?;
     access_list(&rt)
 }
 
@@ -133,6 +134,15 @@ fn one_range(rt: &HostRuntime) -> Result<(), Failure> {
     let set = NetworkSet::<Ipv4Cidr>::from_range(rt.alloc(), first, last)?;
     println!(rt; "{:?}", set.as_slice())?; // [10.0.0.1/32, 10.0.0.2/31, 10.0.0.4/31, 10.0.0.6/32]
     println!(rt; "{:?}", set.ranges().next())?; // Some(AddressRange { first: 10.0.0.1, last: 10.0.0.6 })
+    Ok(())
+}
+
+/// The same range in memory of this function's own.
+fn one_range_in_own_memory(rt: &HostRuntime) -> Result<(), Failure> {
+    let (first, last) = (Ipv4Addr::new(10, 0, 0, 1), Ipv4Addr::new(10, 0, 0, 6));
+    let mut out = [Ipv4Cidr::null(); 4];
+    println!(rt; "{:?}", slices::from_range(first, last, &mut out))?; // Some(4)
+    println!(rt; "{:?}", out)?; // [10.0.0.1/32, 10.0.0.2/31, 10.0.0.4/31, 10.0.0.6/32]
     Ok(())
 }
 

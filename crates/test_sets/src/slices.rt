@@ -10,6 +10,19 @@ use std::process::Abort;
 use std::str::FromStr;
 use std::test::Fail;
 
+/// First and last addresses, and the networks between them, as `ipaddress.summarize_address_range` gives them.
+static RANGES: [(&str, &str, &str); 5] = [
+    ("10.0.0.0", "10.0.0.255", "10.0.0.0/24"),
+    ("10.0.0.7", "10.0.0.7", "10.0.0.7/32"),
+    (
+        "10.0.0.3",
+        "10.0.0.17",
+        "10.0.0.3/32 10.0.0.4/30 10.0.0.8/29 10.0.0.16/31",
+    ),
+    ("0.0.0.0", "255.255.255.255", "0.0.0.0/0"),
+    ("10.0.0.8", "10.0.0.7", ""),
+];
+
 /// Room for some networks, filled with one.
 fn filled<C: NetworkBits + Copy>(alloc: Global, len: usize, network: C) -> Result<Vec<C>, Fail> {
     let mut room = Vec::new(alloc);
@@ -72,6 +85,22 @@ fn ipv4_sets_are_written_where_they_fit(rt: HostRuntime) -> Result<(), Fail> {
 fn ipv6_sets_are_written_where_they_fit(rt: HostRuntime) -> Result<(), Fail> {
     for row in &ROWS_V6 {
         try_row::<Ipv6Cidr>(&rt, row, "2001:db8::/123")?;
+    }
+    Ok(())
+}
+
+#[test]
+fn ranges_are_written_where_they_fit(rt: HostRuntime) -> Result<(), Fail> {
+    let alloc = rt.alloc();
+    for (first, last, text) in &RANGES {
+        let wanted = networks::<Ipv4Cidr>(alloc, text)?;
+        let mut out = filled(alloc, wanted.len(), "0.0.0.0/0".parse::<Ipv4Cidr>()?)?;
+        let (first, last) = (first.parse()?, last.parse()?);
+        let count = slices::from_range(first, last, out.as_mut_slice());
+        assert!(rt; count == Some(wanted.len()) && out == wanted, "{text}");
+        if let Some((_, short)) = out.as_mut_slice().split_first_mut() {
+            assert!(rt; slices::from_range(first, last, short).is_none());
+        }
     }
     Ok(())
 }
