@@ -1,5 +1,5 @@
 -- What one set has and another has not, both ways, as one list.
-use Rattle.std.proofs.Common.{◌≡◌, ◌≢◌, ◌⊎◌, refl, sym, ◌∙◌, ap, subst, inl, inr, ℕ, Bool, true, false, if◌then◌else◌, List, [], ◌∷◌, Option, Some, Ok, Result, map}
+use Rattle.std.proofs.Common.{◌≡◌, ◌≢◌, ◌⊎◌, refl, sym, ◌∙◌, ap, subst, inl, inr, ℕ, Bool, true, false, if◌then◌else◌, List, [], ◌∷◌, Option, Ok, Result, map}
 use Rattle.std.specs.List.{AllByRecursion, Contains, flat_map}
 use Rattle.std.specs.List.Sorted.{IsStrictlySortedBy}
 use Rattle.std.specs.Ordering.{is_lt, ordering_reverse}
@@ -7,7 +7,6 @@ use Rattle.std.specs.declared.cmp.Ordering.{Ordering}
 use Rattle.std.specs.declared.cmp.Ordering.TheVariants.{Less, Equal, Greater}
 use Rattle.cidr.specs.laws.BitLaws.{bit_cmp_total}
 use Rattle.cidr.specs.model.Bits.{bit_cmp}
-use Rattle.cidr.specs.declared.cidr.combined.IpCidr.{IpCidr}
 use Rattle.cidr.specs.declared.family.Family.{Family}
 use Rattle.cidr.specs.declared.family.Family.TheVariants.{Ipv4, Ipv6}
 use Rattle.cidr_io.specs.Writing.{State, Answered}
@@ -16,7 +15,7 @@ use Rattle.cidr_sets.specs.Sets.{IsDifference, IsSetOf}
 use Rattle.cidr_sets.proofs.Algebra.{some_address}
 use Rattle.cidr_table.proofs.Beginnings.{bits_exact}
 use Rattle.cidr_table.proofs.MapLaws.{contains_first, contains_later}
-use Rattle.netset.specs.Answering.{HasAddresses, ReadsFile, changed}
+use Rattle.netset.specs.Answering.{ReadsFile, changed}
 use Rattle.netset.specs.Changes.{AreMerged, AreSame, adds_first, merged, network_with, printed_changes, signed}
 use Rattle.netset.specs.Combining.{Steps}
 use Rattle.netset.specs.Commands.{Diff}

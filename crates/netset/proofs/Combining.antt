@@ -5,21 +5,27 @@ use Rattle.std.proofs.lemmas.Fmt.{decimal_step_wide}
 use Rattle.std.proofs.lemmas.List.{take_more, take_all, map-id}
 use Rattle.cidr.specs.model.Network.{BeginsWith}
 use Rattle.cidr.specs.declared.cidr.combined.IpCidr.{IpCidr}
+use Rattle.cidr.specs.either.IpText.{IsIpNetworkText}
 use Rattle.cidr.specs.declared.family.Family.{Family}
+use Rattle.cidr.specs.declared.family.Family.TheVariants.{Ipv4, Ipv6}
 use Rattle.cidr_table.specs.Cover.{Covers, IsReduced}
 use Rattle.cidr_sets.specs.Counts.{HaveCount}
 use Rattle.cidr_sets.specs.Sets.{IsComplement, IsSetOf}
-use Rattle.cidr_io.specs.Writing.{State}
+use Rattle.cidr_io.specs.Writing.{State, Answered}
 use Rattle.cidr_io.specs.declared.sink.OutputFailed.{OutputFailed}
 use Rattle.netset.specs.Answering.{AreRead, HasAddresses}
 use Rattle.netset.specs.Combining.{Combined, IsMade, Steps, Turned, form_of, step_of, turns}
-use Rattle.netset.specs.Commands.{Lists, Says, read_files}
+use Rattle.netset.specs.Commands.{Lists, NotIn, Says, read_files}
 use Rattle.netset.specs.Program.{AnswersRequest, by_output}
-use Rattle.netset.specs.Sets.{Held, Prints, count_of, held}
+use Rattle.netset.specs.Lists.{network_in}
+use Rattle.netset.specs.Reading.{Grows, listed}
+use Rattle.netset.specs.Sets.{Held, Prints, count_of, held, printed_sets}
+use Rattle.netset.specs.declared.lists.Lists.{Lists as Networks}
 use Rattle.netset.specs.declared.answers.Verdict.{Verdict}
 use Rattle.netset.specs.declared.answers.Verdict.TheVariants.{Yes}
 use Rattle.netset.specs.declared.errors.CommandError.{CommandError}
 use Rattle.netset.specs.declared.operations.Operation.{Operation}
+use Rattle.netset.specs.declared.operations.Operation.TheVariants.{Not}
 use Rattle.netset.specs.declared.operations.Step.{Step}
 use Rattle.netset.specs.declared.operations.Step.TheVariants.{Union, Difference, Intersection}
 use Rattle.netset.specs.declared.sets.Sets.{Sets}
@@ -88,6 +94,48 @@ lists_written told operation files read sets s t w r are made (text, printed, wr
         λ texts told_so.
             let (said, says, has) = are texts told_so in
             (said, says, (held sets, (λ family. set_same _ _ (held sets family) (made family) (λ a wide. made_same Held Says operation read said family a (has_same said read family a wide has))), printed)),
+        refl,
+      ),
+      written,
+      is,
+    )
+
+-- the list of one network as a set
+pub network_set : (old new : Networks) (network : IpCidr) (sets : Sets) → old.v4.items ≡ [] → old.v6.items ≡ []
+    → Grows old new (λ family. network_in family (Some network)) → ((family : Family) → IsSetOf 129 (Covers (listed new family)) (held sets family))
+    → (family : Family) → IsSetOf 129 (Covers (network_in family (Some network))) (held sets family)
+network_set old new network sets four six grows set family =
+    let none : (family : Family) → listed old family ≡ [] = elim [ Ipv4 ↦ four | Ipv6 ↦ six ] in
+    subst (λ (k : List (List Bool)). IsSetOf 129 (Covers k) (held sets family))
+    (grows family ∙ ap (λ (k : List (List Bool)). k ++ network_in family (Some network)) (none family)) (set family)
+
+-- what both a network and the rest of the lists have
+pub not_in_written : (told : List ℕ → Option (List ℕ)) (net : List ℕ) (files : List (List ℕ)) (network : IpCidr) (read : List Sets) (rest whole sets : Sets)
+    (s t : State) (w : Result (Unit {0}) OutputFailed) (r : Result Verdict CommandError) → IsIpNetworkText net network → AreRead told (read_files files) read
+    → ((family : Family) → IsSetOf 129 (IsMade Held Not read family) (held rest family))
+    → ((family : Family) → IsSetOf 129 (Covers (network_in family (Some network))) (held whole family))
+    → ((family : Family) → IsSetOf 129 (λ a. Steps Intersection (Held whole family a) (Held rest family a)) (held sets family))
+    → Answered s t (printed_sets (held sets)) w → r ≡ by_output Yes w → AnswersRequest told (NotIn net files) s t r
+not_in_written told net files network read rest whole sets s t w r parsed are made one both written is =
+    inr (
+      printed_sets (held sets),
+      Yes,
+      w,
+      (
+        network,
+        parsed,
+        λ texts told_so.
+            let (said, says, has) = are texts told_so in (
+              said,
+              says,
+              (
+                held sets,
+                λ family. set_same _ _ (held sets family) (both family) (λ a wide.
+                    steps_same Intersection _ _ _ _ ((one family).exact a wide)
+                    (chained _ _ _ ((made family).exact a wide) (made_same Held Says Not read said family a (has_same said read family a wide has)))),
+                refl,
+              ),
+            ),
         refl,
       ),
       written,

@@ -5,7 +5,7 @@ set -euo pipefail
 export LC_ALL=C
 cd "$(dirname "$0")/.."
 
-usage=$'usage: netset merge|nets|not|ranges|count [FILE..] | minus|and A B.. | diff A B | show HOST | split NET LEN | nth NET INDEX | --help | --version\n'
+usage=$'usage: netset merge|nets|not|ranges|count [FILE..] | not --in NET [FILE..] | minus|and A B.. | diff A B | show HOST | split NET LEN | nth NET INDEX | --help | --version\n'
 
 room=$(mktemp -d)
 trap 'rm -rf "$room"' EXIT
@@ -61,6 +61,15 @@ rows() {
     run 0 '' '' '0.0.0.0/0' not - eight seven
     run 2 '' $'bad:1: couldn\'t parse length in network: invalid length text\n' '' minus ten bad missing
     run 2 '' $'missing: cannot be read\n' '' and ten missing bad
+    run 0 $'10.128.0.0/9\n' '' '10.0.0.0/9' not --in 10.0.0.0/8
+    run 0 $'10.0.0.0/8\n' '' '' not --in 10.0.0.0/8 -
+    run 0 $'8000::/1\n' '' '10.0.0.0/9' not --in ::/0 - seven
+    run 0 '' '' '' not --in 10.0.0.0/9 ten
+    run 2 '' $'10.0.0.1/8: host part of address was not zero\n' '' not --in 10.0.0.1/8 missing
+    run 2 '' $'missing: cannot be read\n' '' not --in ::/0 missing
+    run 2 '' "$usage" '' not --in
+    run 2 '' "$usage" '' not --in ::/0 -k
+    run 2 '' "$usage" '' not ten --in
     run 0 $'10.0.0.1-10.0.0.6\n10.0.0.8\n::1-::2\n' '' \
         '10.0.0.1\n10.0.0.2/31\n::2\n10.0.0.4/31\n10.0.0.6\n10.0.0.8\n::1' ranges
     run 0 $'0.0.0.0-255.255.255.255\n::-ffff:ffff:ffff:ffff:ffff:ffff:ffff:ffff\n' '' \
@@ -147,6 +156,7 @@ rows_where_a_stream_fails() {
     run 3 '' $'output failed\n' '' --help
     run 3 '' $'output failed\n' '' diff - ten
     run 3 '' $'output failed\n' '' ranges ten
+    run 3 '' $'output failed\n' '' not --in ::/0 ten
     run 3 '' $'output failed\n' '' show ::1
     run 3 '' $'output failed\n' '' split ::/0 128
     run 3 '' $'output failed\n' '' nth ::/0 1

@@ -1,15 +1,18 @@
 -- The commands, their arguments and what each answers.
 use Rattle.std.specs.Prelude.{◌≡◌, ℕ, ◌==◌, nat_lt, Bool, true, false, ◌&&◌, List, [], ◌∷◌, ◌++◌, length, codes, Option, Some}
 use Rattle.std.specs.List.{AllZip, list_any, slice_index}
+use Rattle.cidr.specs.either.IpText.{IsIpNetworkText}
 use Rattle.cidr.specs.declared.cidr.combined.IpCidr.{IpCidr}
 use Rattle.cidr.specs.declared.family.Family.{Family}
 use Rattle.cidr_table.specs.Cover.{Covers}
 use Rattle.cidr_sets.specs.Sets.{IsSetOf}
-use Rattle.netset.specs.Lists.{ListSays, networks_in}
+use Rattle.netset.specs.Lists.{ListSays, network_in, networks_in}
 use Rattle.netset.specs.Changes.{AreChanges, AreSame, printed_changes}
 use Rattle.netset.specs.Combining.{form_of, name_of, takes, IsMade}
 use Rattle.netset.specs.declared.operations.Form.{Form}
+use Rattle.netset.specs.declared.operations.Form.TheVariants.{Networks}
 use Rattle.netset.specs.declared.operations.Operation.{Operation}
+use Rattle.netset.specs.declared.operations.Operation.TheVariants.{Not}
 use Rattle.netset.specs.Sets.{IsPrinted}
 use Rattle.netset.specs.Single.{SingleRequest, IsSingle, IsSingleAnswer}
 use Rattle.netset.specs.declared.answers.Verdict.{Verdict}
@@ -19,6 +22,7 @@ use Rattle.netset.specs.declared.changes.Sign.{Sign}
 -- a command and its arguments
 pub data Request : Type 0 where
   Lists : Operation → List (List ℕ) → Request
+  NotIn : List ℕ → List (List ℕ) → Request
   Diff : List ℕ → List ℕ → Request
   Single : SingleRequest → Request
   Help : Request
@@ -32,6 +36,7 @@ is_option word = nat_lt 1 (length word) && (slice_index word 0 == 45)
 abbrev pub IsRequest : List (List ℕ) → Request → Type 0
 IsRequest words (Lists operation files) =
     (words ≡ name_of operation ∷ files) × (list_any is_option files ≡ false) × (takes operation (length files) ≡ true)
+IsRequest words (NotIn net files) = (words ≡ codes "not" ∷ codes "--in" ∷ net ∷ files) × (list_any is_option files ≡ false)
 IsRequest words (Diff old new) =
     (words ≡ codes "diff" ∷ old ∷ new ∷ []) × (is_option old ≡ false) × (is_option new ≡ false)
 IsRequest words (Single request) = IsSingle words request
@@ -66,6 +71,11 @@ abbrev pub IsMadeOf : Operation → List (List ℕ) → List ℕ → Type 0
 IsMadeOf operation texts answer =
     (said : List (List (Option IpCidr))) × AllZip ListSays texts said × IsPrintOf (form_of operation) (IsMade Says operation said) answer
 
+-- the addresses of a network that none of the lists has
+abbrev pub IsNotIn : IpCidr → List (List ℕ) → List ℕ → Type 0
+IsNotIn network texts answer = (said : List (List (Option IpCidr))) × AllZip ListSays texts said
+    × IsPrintOf Networks (λ family a. Covers (network_in family (Some network)) a × IsMade Says Not said family a) answer
+
 -- what a list has and another has not, both ways
 abbrev pub IsDiff : List ℕ → List ℕ → List ℕ → Verdict → Type 0
 IsDiff old new answer verdict =
@@ -81,6 +91,8 @@ help_text =
     ++ codes "netset minus A B..      the addresses of A that no other list has\n"
     ++ codes "netset and A B..        the addresses that each of the lists has\n"
     ++ codes "netset not [FILE..]     the addresses of IPv4 and those of IPv6 that no list has\n"
+    ++ codes "netset not --in NET [FILE..]\n"
+    ++ codes "                        the addresses of a network that no list has\n"
     ++ codes "netset ranges [FILE..]  the longest ranges of the addresses of all the lists, FIRST-LAST\n"
     ++ codes "netset count [FILE..]   how many addresses of IPv4 and of IPv6 the lists have\n"
     ++ codes "netset diff A B         the networks that B adds to A, as +NET, and that it lacks, as -NET\n"
@@ -103,6 +115,8 @@ version_text = codes "netset 0.1.0\n"
 abbrev pub IsAnswer : (List ℕ → Option (List ℕ)) → Request → List ℕ → Verdict → Type 0
 IsAnswer told (Lists operation files) answer verdict =
     ((texts : List (List ℕ)) → AreTold told (read_files files) texts → IsMadeOf operation texts answer) × (verdict ≡ Yes)
+IsAnswer told (NotIn net files) answer verdict = (network : IpCidr) × IsIpNetworkText net network
+    × ((texts : List (List ℕ)) → AreTold told (read_files files) texts → IsNotIn network texts answer) × (verdict ≡ Yes)
 IsAnswer told (Diff old new) answer verdict =
     (old_text new_text : List ℕ) → told old ≡ Some old_text → told new ≡ Some new_text → IsDiff old_text new_text answer verdict
 IsAnswer told (Single request) answer verdict = IsSingleAnswer request answer verdict

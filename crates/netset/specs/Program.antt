@@ -2,13 +2,14 @@
 use Rattle.std.specs.Prelude.{◌≡◌, ℕ, List, [], ◌∷◌, ◌++◌, ◌⊎◌, codes, decimal, Option, Some, Result, Ok, Err, Contains}
 use Rattle.std.specs.List.{AllZip}
 use Rattle.cidr.specs.texts.Messages.{parse_message}
+use Rattle.cidr.specs.either.IpText.{IsIpNetworkText}
 use Rattle.cidr.specs.declared.cidr.combined.IpCidr.{IpCidr}
 use Rattle.cidr_io.specs.Arguments.{AreArguments, AreUnreadable}
 use Rattle.cidr_io.specs.Writing.{State, Answered, Says}
 use Rattle.cidr_io.specs.declared.sink.OutputFailed.{OutputFailed}
 use Rattle.netset.specs.Lists.{ListSays, IsFirstError}
-use Rattle.netset.specs.Commands.{Request, Lists, Diff, Single, Help, Version, IsRequest, IsUsage, read_files, AreTold, IsAnswer}
-use Rattle.netset.specs.Single.{IsBadSingle}
+use Rattle.netset.specs.Commands.{Request, Lists, NotIn, Diff, Single, Help, Version, IsRequest, IsUsage, read_files, AreTold, IsAnswer}
+use Rattle.netset.specs.Single.{IsBadSingle, IsNoNetwork}
 use Rattle.netset.specs.declared.errors.ArgumentError.{ArgumentError}
 use Rattle.netset.specs.declared.errors.ArgumentError.TheVariants as bad
 use Rattle.netset.specs.declared.errors.LineError.{LineError}
@@ -44,6 +45,8 @@ IsBadArgument IsBad error.Output = ⊥
 abbrev pub IsRefused : (List ℕ → Option (List ℕ)) → Request → Result Verdict CommandError → Type 0
 IsRefused told request (Ok verdict) = ⊥
 IsRefused told (Lists operation files) (Err e) = IsUnread told (read_files files) e
+IsRefused told (NotIn net files) (Err e) = IsBadArgument (λ text bad. (text ≡ net) × IsNoNetwork net bad) e
+    ⊎ ((network : IpCidr) × IsIpNetworkText net network × IsUnread told (read_files files) e)
 IsRefused told (Diff old new) (Err e) = IsUnread told (old ∷ new ∷ []) e
 IsRefused told (Single request) (Err e) = IsBadArgument (IsBadSingle request) e
 IsRefused told Help (Err e) = ⊥
@@ -81,7 +84,7 @@ argument_message bad.Index = codes "no index below 2^128"
 
 -- the line that is written to standard error
 abbrev pub error_line : CommandError → List ℕ
-error_line error.Usage = codes "usage: netset merge|nets|not|ranges|count [FILE..] | minus|and A B.. | diff A B | show HOST | split NET LEN | nth NET INDEX | --help | --version\n"
+error_line error.Usage = codes "usage: netset merge|nets|not|ranges|count [FILE..] | not --in NET [FILE..] | minus|and A B.. | diff A B | show HOST | split NET LEN | nth NET INDEX | --help | --version\n"
 error_line (error.Argument text e) = text.now ++ (codes ": " ++ (argument_message e ++ codes "\n"))
 error_line (error.Line name number e) =
     name.now ++ (codes ":" ++ (decimal number ++ (codes ": " ++ (line_message e ++ codes "\n"))))

@@ -1,7 +1,7 @@
 //! The arguments of the program as commands.
 ghost use Rattle.std.specs.Prelude.{◌≡◌, ℕ, List, map, [], ◌∷◌, MatchOption};
 ghost use Rattle.std.specs.List.{list_any};
-ghost use Rattle.netset.specs.Commands.{Diff, is_option, IsRequest, IsUsage};
+ghost use Rattle.netset.specs.Commands.{Diff, NotIn, is_option, IsRequest, IsUsage};
 ghost use Rattle.netset.specs.Command.{AreMisfits, IsNoLoneWord, request_of};
 ghost use Rattle.netset.specs.Combining.{name_of};
 
@@ -13,6 +13,8 @@ use crate::single::{Single, single_of};
 pub enum Command<'a> {
     /// An operation on the lists of these files.
     Lists(Operation, &'a [&'a str]),
+    /// The addresses of a network that no list of these files has.
+    NotIn(&'a str, &'a [&'a str]),
     /// What the second file adds to the first one, and what it lacks.
     Diff(&'a str, &'a str),
     /// A command on one host or network.
@@ -41,6 +43,21 @@ fn has_option(words: &[&str]) -> bool
         }
     }
     false
+}
+
+/// The network and the files of the command `not --in`.
+fn not_in_of<'a>(words: &'a [&'a str]) -> Option<(&'a str, &'a [&'a str])>
+    ensures { MatchOption result
+        ((net : List ℕ) (files : List (List ℕ)) → ¬ (IsRequest (map (λ w. w.now) words.now) (NotIn net files)))
+        (λ found. IsRequest (map (λ w. w.now) words.now) (NotIn found.0.now (map (λ w. w.now) found.1.now))) }
+{
+    let (name, words) = words.split_first()?;
+    let (option, words) = words.split_first()?;
+    let (net, files) = words.split_first()?;
+    if *name == "not" && *option == "--in" && !has_option(files) {
+        return Some((net, files));
+    }
+    None
 }
 
 /// The files that the arguments compare.
@@ -90,6 +107,9 @@ pub fn command_of<'a>(words: &'a [&'a str]) -> Option<Command<'a>>
 {
     if let Some(single) = single_of(words) {
         return Some(Command::Single(single));
+    }
+    if let Some((net, files)) = not_in_of(words) {
+        return Some(Command::NotIn(net, files));
     }
     if let Some((old, new)) = diff_of(words) {
         return Some(Command::Diff(old, new));

@@ -29,7 +29,7 @@ impl Lists {
     }
 
     /// Adds a network to those of its family.
-    fn push(&mut self, network: &IpCidr) -> Result<(), AllocError>
+    pub fn push(&mut self, network: &IpCidr) -> Result<(), AllocError>
         ensures { OnOk result (Grows self.old self.new (λ family. network_in family (Some network.now))) }
     {
         match network {

@@ -8,6 +8,7 @@ mod combine;
 mod commands;
 mod errors;
 mod files;
+mod inside;
 mod lines;
 mod lists;
 mod operations;

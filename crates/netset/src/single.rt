@@ -92,7 +92,7 @@ fn show<'a, S: Sink>(text: &'a str, out: &mut S) -> Result<Verdict, CommandError
 }
 
 /// The network that an argument is.
-fn network_of<'a>(text: &'a str) -> Result<IpCidr, CommandError<'a>>
+pub fn network_of<'a>(text: &'a str) -> Result<IpCidr, CommandError<'a>>
     ensures { MatchResult result (IsIpNetworkText text.now)
         (IsBadArgument (λ argument e. (argument ≡ text.now) × IsNoNetwork text.now e)) }
 {

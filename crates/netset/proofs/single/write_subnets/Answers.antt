@@ -1,6 +1,6 @@
 use Rattle.std.proofs.lemmas.Result.{err_from_is_err_and}
 use Rattle.netset.specs.Single.{subnet_line}
-use Rattle.netset.proofs.Walked.{subnet_text, walk_started, walked_on, walk_lost, walk_ended}
+use Rattle.netset.proofs.Walked.{subnet_text, walked_on, walk_lost, walk_ended}
 use Rattle.netset.proofs.single.write_subnets.Goals as goal
 
 pub loop-subnet-preserved : goal.loop-subnet-preserved

@@ -1,0 +1,53 @@
+//! The addresses of a network that no list has.
+ghost use Rattle.std.specs.Prelude.{map, IfOk, Some};
+ghost use Rattle.cidr.specs.declared.family.Family.{Family};
+ghost use Rattle.cidr_table.specs.Cover.{Covers};
+ghost use Rattle.cidr_sets.specs.Sets.{IsSetOf};
+ghost use Rattle.netset.specs.Commands.{NotIn};
+ghost use Rattle.netset.specs.Lists.{network_in};
+ghost use Rattle.netset.specs.Program.{AnswersRequest};
+ghost use Rattle.netset.specs.Sets.{held};
+
+use crate::answers::{Verdict, by_output};
+use crate::combine::made;
+use crate::errors::CommandError;
+use crate::files::Sources;
+use crate::lists::Lists;
+use crate::operations::{Operation, Step};
+use crate::sets::Sets;
+use crate::several::read_several;
+use crate::single::network_of;
+use cidr::IpCidr;
+use cidr_io::sink::Sink;
+use std::alloc::{AllocError, Global};
+
+impl Sets {
+    /// The addresses of a network.
+    fn of_network(alloc: Global, network: &IpCidr) -> Result<Sets, AllocError>
+        ensures { IfOk result (λ sets. (family : Family)
+            → IsSetOf 129 (Covers (network_in family (Some network.now))) (held sets family)) }
+    {
+        let mut lists = Lists::new(alloc);
+        lists.push(network)?;
+        let sets = Sets::of_lists(alloc, &lists)?;
+        Ok(sets)
+    }
+}
+
+/// The command `not --in`.
+pub fn not_in<'a, F: Sources, O: Sink>(
+    alloc: Global,
+    sources: &F,
+    net: &'a str,
+    files: &'a [&'a str],
+    out: &mut O,
+) -> Result<Verdict, CommandError<'a>>
+    ensures { AnswersRequest (F.told sources.now) (NotIn net.now (map (λ file. file.now) files.now)) (O.state out.old) (O.state out.new) result }
+{
+    let network = network_of(net)?;
+    let several = read_several(alloc, sources, files)?;
+    let rest = made(Operation::Not, several)?;
+    let whole = Sets::of_network(alloc, &network)?;
+    let inside = whole.stepped(Step::Intersection, &rest)?;
+    by_output(Verdict::Yes, inside.write(out))
+}
