@@ -23,10 +23,7 @@ pub fn lan(site: &Ipv6Cidr, index: u128) -> Option<(Ipv6Cidr, ArrayString<72>)>
 
 /// The names of all /64 networks of a site, in the order of the networks, or `None` where the site is smaller than
 /// that.
-pub fn lan_names(
-    alloc: Global,
-    site: &Ipv6Cidr,
-) -> Result<Option<Vec<ArrayString<72>>>, AllocError>
+pub fn lan_names(alloc: Global, site: &Ipv6Cidr) -> Result<Option<Vec<ArrayString<72>>>, AllocError>
     ensures { IfOk result (λ names. MatchOption names (64 < length site.now)
         (λ names. (length site.now ≤ 64)
         × (map (λ name. name.bytes) names.items ≡ names_of (subnets_of Ipv6 site.now 64)))) }
