@@ -220,7 +220,7 @@ fn is_cut<C: BitString>(network: &C, edge: &C, bit: bool) -> bool
 /// ```
 /// let mut networks: [Ipv4Cidr; 2] = ["10.128.0.0/9".parse()?, "10.0.0.0/9".parse()?];
 /// slices::from_networks(&mut networks) // 1
-/// networks[0] // 10.0.0.0/8
+/// networks.first() // Some(10.0.0.0/8)
 /// ```
 pub fn from_networks<C: NetworkBits + Copy>(networks: &mut [C]) -> usize
     ensures set { IsSetOf 129 (Covers (map C.bits networks.old)) (map C.bits (take result networks.new)) }

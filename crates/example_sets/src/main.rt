@@ -76,7 +76,7 @@ fn changed(rt: &HostRuntime) -> Result<(), Failure> {
 fn in_place(rt: &HostRuntime) -> Result<(), Failure> {
     let mut networks: [Ipv4Cidr; 2] = ["10.128.0.0/9".parse()?, "10.0.0.0/9".parse()?];
     println!(rt; "{}", slices::from_networks(&mut networks))?; // 1
-    println!(rt; "{}", networks[0])?; // 10.0.0.0/8
+    println!(rt; "{:?}", networks.first())?; // Some(10.0.0.0/8)
     Ok(())
 }
 
