@@ -67,4 +67,5 @@ unfoldable pub merged : {X : Type 0} → (X → List Bool) → List X → List X
 merged bits [] lacking = signed Minus lacking
 merged bits (p ∷ added) [] = signed Plus (p ∷ added)
 merged bits (p ∷ added) (q ∷ lacking) =
-    if is_lt (bit_cmp (bits p) (bits q)) then (Plus, p) ∷ merged bits added (q ∷ lacking) else (Minus, q) ∷ merged bits (p ∷ added) lacking
+    if is_lt (bit_cmp (bits p) (bits q)) then (Plus, p) ∷ merged bits added (q ∷ lacking)
+    else (Minus, q) ∷ merged bits (p ∷ added) lacking

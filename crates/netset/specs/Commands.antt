@@ -36,7 +36,8 @@ is_option word = nat_lt 1 (length word) && (slice_index word 0 == 45)
 abbrev pub IsRequest : List (List ℕ) → Request → Type 0
 IsRequest words (Lists operation files) =
     (words ≡ name_of operation ∷ files) × (list_any is_option files ≡ false) × (takes operation (length files) ≡ true)
-IsRequest words (NotIn net files) = (words ≡ codes "not" ∷ codes "--in" ∷ net ∷ files) × (list_any is_option files ≡ false)
+IsRequest words (NotIn net files) =
+    (words ≡ codes "not" ∷ codes "--in" ∷ net ∷ files) × (list_any is_option files ≡ false)
 IsRequest words (Diff old new) =
     (words ≡ codes "diff" ∷ old ∷ new ∷ []) × (is_option old ≡ false) × (is_option new ≡ false)
 IsRequest words (Single request) = IsSingle words request
@@ -56,8 +57,8 @@ read_files (file ∷ files) = file ∷ files
 abbrev pub AreTold : (List ℕ → Option (List ℕ)) → List (List ℕ) → List (List ℕ) → Type 0
 AreTold told names texts = AllZip (λ name text. told name ≡ Some text) names texts
 
--- what is printed of the shortest list of networks of each family that has these addresses: the list, their ranges, or how
--- many they are
+-- what is printed of the shortest list of networks of each family that has these addresses: the list, their ranges, or
+-- how many they are
 abbrev pub IsPrintOf : Form → (Family → List Bool → Type 0) → List ℕ → Type 0
 IsPrintOf form IsIn text =
     (sets : Family → List (List Bool)) × ((family : Family) → IsSetOf 129 (IsIn family) (sets family)) × IsPrinted form sets text
@@ -74,13 +75,15 @@ IsMadeOf operation texts answer =
 -- the addresses of a network that none of the lists has
 abbrev pub IsNotIn : IpCidr → List (List ℕ) → List ℕ → Type 0
 IsNotIn network texts answer = (said : List (List (Option IpCidr))) × AllZip ListSays texts said
-    × IsPrintOf Networks (λ family a. Covers (network_in family (Some network)) a × IsMade Says Not said family a) answer
+    × IsPrintOf Networks (λ family a. Covers (network_in family (Some network)) a × IsMade Says Not said family a)
+    answer
 
 -- what a list has and another has not, both ways
 abbrev pub IsDiff : List ℕ → List ℕ → List ℕ → Verdict → Type 0
 IsDiff old new answer verdict =
     (before : List (Option IpCidr)) × (after : List (Option IpCidr)) × ListSays old before × ListSays new after
-    × (changes : Family → List (Sign × List Bool)) × ((family : Family) → AreChanges (networks_in family before) (networks_in family after) (changes family))
+    × (changes : Family → List (Sign × List Bool))
+    × ((family : Family) → AreChanges (networks_in family before) (networks_in family after) (changes family))
     × (answer ≡ printed_changes changes) × AreSame changes verdict
 
 -- what `--help` writes
@@ -118,7 +121,7 @@ IsAnswer told (Lists operation files) answer verdict =
 IsAnswer told (NotIn net files) answer verdict = (network : IpCidr) × IsIpNetworkText net network
     × ((texts : List (List ℕ)) → AreTold told (read_files files) texts → IsNotIn network texts answer) × (verdict ≡ Yes)
 IsAnswer told (Diff old new) answer verdict =
-    (old_text new_text : List ℕ) → told old ≡ Some old_text → told new ≡ Some new_text → IsDiff old_text new_text answer verdict
+    (before after : List ℕ) → told old ≡ Some before → told new ≡ Some after → IsDiff before after answer verdict
 IsAnswer told (Single request) answer verdict = IsSingleAnswer request answer verdict
 IsAnswer told Help answer verdict = (answer ≡ help_text) × (verdict ≡ Yes)
 IsAnswer told Version answer verdict = (answer ≡ version_text) × (verdict ≡ Yes)

@@ -115,7 +115,8 @@ fn write_changes<C: Printed, S: Sink>(
     added: &[C],
     lacking: &[C],
 ) -> Result<(), OutputFailed>
-    ensures { Writes (S.state out.old) (S.state out.new) (flat_map (change_line C.text) (merged C.bits added.now lacking.now)) result }
+    ensures { Writes (S.state out.old) (S.state out.new)
+        (flat_map (change_line C.text) (merged C.bits added.now lacking.now)) result }
 {
     let mut changes = Changes { added, lacking };
     let mut block = Block::new();

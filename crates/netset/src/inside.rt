@@ -42,7 +42,8 @@ pub fn not_in<'a, F: Sources, O: Sink>(
     files: &'a [&'a str],
     out: &mut O,
 ) -> Result<Verdict, CommandError<'a>>
-    ensures { AnswersRequest (F.told sources.now) (NotIn net.now (map (λ file. file.now) files.now)) (O.state out.old) (O.state out.new) result }
+    ensures { AnswersRequest (F.told sources.now) (NotIn net.now (map (λ file. file.now) files.now))
+        (O.state out.old) (O.state out.new) result }
 {
     let network = network_of(net)?;
     let several = read_several(alloc, sources, files)?;
