@@ -57,7 +57,7 @@ combined_same In On step P Q (x ∷ xs) (y ∷ ys) family a h f =
     combined_same In On step (Steps step P (In x family a)) (Steps step Q (On y family a)) xs ys family a h.1
     (steps_same step P Q (In x family a) (On y family a) f h.0)
 
-made_same : {X Y : Type 0} (In : X → Family → List Bool → Type 0) (On : Y → Family → List Bool → Type 0) (operation : Operation) (xs : List X) (ys : List Y)
+pub made_same : {X Y : Type 0} (In : X → Family → List Bool → Type 0) (On : Y → Family → List Bool → Type 0) (operation : Operation) (xs : List X) (ys : List Y)
     (family : Family) (a : List Bool) → AllZip (λ x y. In x family a ↔ On y family a) xs ys → IsMade In operation xs family a ↔ IsMade On operation ys family a
 made_same In On operation [] [] family a h = same ⊥
 made_same In On operation [] (y ∷ ys) family a h = absurd h
@@ -65,7 +65,7 @@ made_same In On operation (x ∷ xs) [] family a h = absurd h
 made_same In On operation (x ∷ xs) (y ∷ ys) family a h =
     turned_same (turns operation) _ _ (combined_same In On (step_of operation) (In x family a) (On y family a) xs ys family a h.1 h.0)
 
-has_same : (said : List (List (Option IpCidr))) (sets : List Sets) (family : Family) (a : List Bool) → length a ≡ 129 → AllZip HasAddresses said sets
+pub has_same : (said : List (List (Option IpCidr))) (sets : List Sets) (family : Family) (a : List Bool) → length a ≡ 129 → AllZip HasAddresses said sets
     → AllZip (λ x y. Held x family a ↔ Says y family a) sets said
 has_same [] [] family a wide h = tt
 has_same [] (y ∷ sets) family a wide h = absurd h

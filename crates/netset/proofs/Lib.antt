@@ -8,4 +8,5 @@ pub mod Collected
 pub mod Walked
 pub mod Changed
 pub mod Spans
+pub mod Pools
 pub mod Arguments

@@ -5,7 +5,7 @@ set -euo pipefail
 export LC_ALL=C
 cd "$(dirname "$0")/.."
 
-usage=$'usage: netset merge|nets|not|ranges|count [FILE..] | not --in NET [FILE..] | minus|and A B.. | diff A B | show HOST | split NET LEN | nth NET INDEX | --help | --version\n'
+usage=$'usage: netset merge|nets|not|ranges|count [FILE..] | not --in NET [FILE..] | minus|and A B.. | diff A B | free POOL LEN USED.. | show HOST | split NET LEN | nth NET INDEX | --help | --version\n'
 
 room=$(mktemp -d)
 trap 'rm -rf "$room"' EXIT
@@ -114,6 +114,23 @@ rows_of_changes() {
     run 2 '' "$usage" '' diff -k ten
 }
 
+# The first free network of a pool.
+rows_of_pools() {
+    run 0 $'10.0.0.0/26\n' '' '' free ten 26 -
+    run 0 $'10.128.0.0/26\n' '' '10.0.0.0/9' free ten 26 -
+    run 0 $'10.0.0.0\n' '' '10.0.0.1' free ten 32 -
+    run 0 $'::/64\n' '' '10.0.0.0/8' free both 64 -
+    run 0 $'8000::/48\n' '' '10.0.0.0/9' free both 48 - seven
+    run 1 '' '' '10.0.0.0/9' free ten 8 -
+    run 1 '' '' '' free ten 33 -
+    run 2 '' $'129: no prefix length inside the network\n' '' free ten 129 missing
+    run 2 '' $'x: no prefix length inside the network\n' '' free missing x -
+    run 2 '' $'missing: cannot be read\n' '' free ten 8 missing
+    run 2 '' "$usage" '' free ten 8
+    run 2 '' "$usage" '' free -k 8 ten
+    run 2 '' "$usage" '' free ten 8 both -k
+}
+
 # The commands on one host or network.
 rows_of_one_network() {
     run 0 $'network 192.0.2.0/24\nfirst 192.0.2.0\nlast 192.0.2.255\nmask 255.255.255.0\nlength 24\nfamily Ipv4\n' \
@@ -155,6 +172,8 @@ rows_where_a_stream_fails() {
     run 2 '' $'-:1: host part of address was not zero\n' '10.0.0.1/8' merge
     run 3 '' $'output failed\n' '' --help
     run 3 '' $'output failed\n' '' diff - ten
+    run 3 '' $'output failed\n' '' free ten 9 eight
+    run 1 '' '' '' free ten 7 eight
     run 3 '' $'output failed\n' '' ranges ten
     run 3 '' $'output failed\n' '' not --in ::/0 ten
     run 3 '' $'output failed\n' '' show ::1
@@ -186,6 +205,7 @@ for build in netset netset.by-rattle; do
     chmod 755 "$program"
     rows
     rows_of_changes
+    rows_of_pools
     rows_of_one_network
     long_list
     if [[ -c /dev/full ]]; then

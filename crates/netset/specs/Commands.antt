@@ -1,20 +1,21 @@
 -- The commands, their arguments and what each answers.
-use Rattle.std.specs.Prelude.{◌≡◌, ℕ, ◌==◌, nat_lt, Bool, true, false, ◌&&◌, List, [], ◌∷◌, ◌++◌, length, codes, Option, Some}
+use Rattle.std.specs.Prelude.{◌≡◌, ℕ, ◌≤◌, ◌==◌, nat_lt, Bool, true, false, ◌&&◌, List, [], ◌∷◌, ◌++◌, length, codes, Option, Some}
 use Rattle.std.specs.List.{AllZip, list_any, slice_index}
 use Rattle.cidr.specs.either.IpText.{IsIpNetworkText}
 use Rattle.cidr.specs.declared.cidr.combined.IpCidr.{IpCidr}
 use Rattle.cidr.specs.declared.family.Family.{Family}
 use Rattle.cidr_table.specs.Cover.{Covers}
 use Rattle.cidr_sets.specs.Sets.{IsSetOf}
+use Rattle.netset.specs.Free.{IsFreeText}
 use Rattle.netset.specs.Lists.{ListSays, network_in, networks_in}
 use Rattle.netset.specs.Changes.{AreChanges, AreSame, printed_changes}
 use Rattle.netset.specs.Combining.{form_of, name_of, takes, IsMade}
 use Rattle.netset.specs.declared.operations.Form.{Form}
 use Rattle.netset.specs.declared.operations.Form.TheVariants.{Networks}
 use Rattle.netset.specs.declared.operations.Operation.{Operation}
-use Rattle.netset.specs.declared.operations.Operation.TheVariants.{Not}
+use Rattle.netset.specs.declared.operations.Operation.TheVariants.{Minus, Not}
 use Rattle.netset.specs.Sets.{IsPrinted}
-use Rattle.netset.specs.Single.{SingleRequest, IsSingle, IsSingleAnswer}
+use Rattle.netset.specs.Single.{SingleRequest, IsNumber, IsSingle, IsSingleAnswer}
 use Rattle.netset.specs.declared.answers.Verdict.{Verdict}
 use Rattle.netset.specs.declared.answers.Verdict.TheVariants.{Yes}
 use Rattle.netset.specs.declared.changes.Sign.{Sign}
@@ -24,6 +25,7 @@ pub data Request : Type 0 where
   Lists : Operation → List (List ℕ) → Request
   NotIn : List ℕ → List (List ℕ) → Request
   Diff : List ℕ → List ℕ → Request
+  Free : List ℕ → List ℕ → List (List ℕ) → Request
   Single : SingleRequest → Request
   Help : Request
   Version : Request
@@ -40,6 +42,8 @@ IsRequest words (NotIn net files) =
     (words ≡ codes "not" ∷ codes "--in" ∷ net ∷ files) × (list_any is_option files ≡ false)
 IsRequest words (Diff old new) =
     (words ≡ codes "diff" ∷ old ∷ new ∷ []) × (is_option old ≡ false) × (is_option new ≡ false)
+IsRequest words (Free pool len used) = (words ≡ codes "free" ∷ pool ∷ len ∷ used)
+    × (is_option pool ≡ false) × (list_any is_option used ≡ false) × (nat_lt 0 (length used) ≡ true)
 IsRequest words (Single request) = IsSingle words request
 IsRequest words Help = words ≡ codes "--help" ∷ []
 IsRequest words Version = words ≡ codes "--version" ∷ []
@@ -86,6 +90,12 @@ IsDiff old new answer verdict =
     × ((family : Family) → AreChanges (networks_in family before) (networks_in family after) (changes family))
     × (answer ≡ printed_changes changes) × AreSame changes verdict
 
+-- the first network of n bits that has only addresses of the first list that no other has
+abbrev pub IsFree : ℕ → List (List ℕ) → List ℕ → Verdict → Type 0
+IsFree n texts answer verdict = (said : List (List (Option IpCidr))) × AllZip ListSays texts said
+    × (sets : Family → List (List Bool)) × ((family : Family) → IsSetOf 129 (IsMade Says Minus said family) (sets family))
+    × IsFreeText sets n answer verdict
+
 -- what `--help` writes
 abbrev pub help_text : List ℕ
 help_text =
@@ -99,6 +109,9 @@ help_text =
     ++ codes "netset ranges [FILE..]  the longest ranges of the addresses of all the lists, FIRST-LAST\n"
     ++ codes "netset count [FILE..]   how many addresses of IPv4 and of IPv6 the lists have\n"
     ++ codes "netset diff A B         the networks that B adds to A, as +NET, and that it lacks, as -NET\n"
+    ++ codes "netset free POOL LEN USED..\n"
+    ++ codes "                        the first network of this prefix length in the addresses of\n"
+    ++ codes "                        POOL that no list of USED has\n"
     ++ codes "netset show HOST        the network of a host: its ends, mask, length and family\n"
     ++ codes "netset split NET LEN    the networks of this prefix length inside a network\n"
     ++ codes "netset nth NET INDEX    the address of a network at an index, from 0 on\n"
@@ -122,6 +135,8 @@ IsAnswer told (NotIn net files) answer verdict = (network : IpCidr) × IsIpNetwo
     × ((texts : List (List ℕ)) → AreTold told (read_files files) texts → IsNotIn network texts answer) × (verdict ≡ Yes)
 IsAnswer told (Diff old new) answer verdict =
     (before after : List ℕ) → told old ≡ Some before → told new ≡ Some after → IsDiff before after answer verdict
+IsAnswer told (Free pool len used) answer verdict = (n : ℕ) × IsNumber len n × (n ≤ 128)
+    × ((texts : List (List ℕ)) → AreTold told (pool ∷ used) texts → IsFree n texts answer verdict)
 IsAnswer told (Single request) answer verdict = IsSingleAnswer request answer verdict
 IsAnswer told Help answer verdict = (answer ≡ help_text) × (verdict ≡ Yes)
 IsAnswer told Version answer verdict = (answer ≡ version_text) × (verdict ≡ Yes)

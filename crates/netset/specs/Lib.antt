@@ -7,6 +7,7 @@ pub mod Collecting
 pub mod Single
 pub mod Sets
 pub mod Changes
+pub mod Free
 pub mod Combining
 pub mod Commands
 pub mod Command

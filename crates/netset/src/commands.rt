@@ -1,7 +1,7 @@
 //! The arguments of the program as commands.
 ghost use Rattle.std.specs.Prelude.{◌≡◌, ℕ, List, map, [], ◌∷◌, MatchOption};
 ghost use Rattle.std.specs.List.{list_any};
-ghost use Rattle.netset.specs.Commands.{Diff, NotIn, is_option, IsRequest, IsUsage};
+ghost use Rattle.netset.specs.Commands.{Diff, Free, NotIn, is_option, IsRequest, IsUsage};
 ghost use Rattle.netset.specs.Command.{AreMisfits, IsNoLoneWord, request_of};
 ghost use Rattle.netset.specs.Combining.{name_of};
 
@@ -17,6 +17,8 @@ pub enum Command<'a> {
     NotIn(&'a str, &'a [&'a str]),
     /// What the second file adds to the first one, and what it lacks.
     Diff(&'a str, &'a str),
+    /// The first free network of a prefix length in a pool, of whose addresses others are used.
+    Free(&'a str, &'a str, &'a [&'a str]),
     /// A command on one host or network.
     Single(Single<'a>),
     /// The page of the commands.
@@ -73,6 +75,21 @@ fn diff_of<'a>(words: &[&'a str]) -> Option<(&'a str, &'a str)>
     }
 }
 
+/// The pool, the prefix length and the used lists of the command `free`.
+fn free_of<'a>(words: &'a [&'a str]) -> Option<(&'a str, &'a str, &'a [&'a str])>
+    ensures { MatchOption result
+        ((pool len : List ℕ) (used : List (List ℕ)) → ¬ (IsRequest (map (λ w. w.now) words.now) (Free pool len used)))
+        (λ found. IsRequest (map (λ w. w.now) words.now) (Free found.0.now found.1.now (map (λ w. w.now) found.2.now))) }
+{
+    let (name, words) = words.split_first()?;
+    let (pool, words) = words.split_first()?;
+    let (len, used) = words.split_first()?;
+    if *name == "free" && !is_option(pool) && !has_option(used) && used.len() > 0 {
+        return Some((pool, len, used));
+    }
+    None
+}
+
 /// The command of a word that stands alone.
 fn lone_command<'a>(word: &str) -> Option<Command<'a>>
     ensures { MatchOption result (IsNoLoneWord word.now) (λ command. IsRequest (word.now ∷ []) (request_of command)) }
@@ -113,6 +130,9 @@ pub fn command_of<'a>(words: &'a [&'a str]) -> Option<Command<'a>>
     }
     if let Some((old, new)) = diff_of(words) {
         return Some(Command::Diff(old, new));
+    }
+    if let Some((pool, len, used)) = free_of(words) {
+        return Some(Command::Free(pool, len, used));
     }
     let (name, files) = words.split_first()?;
     match operation_of(name) {

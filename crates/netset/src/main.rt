@@ -8,6 +8,7 @@ mod combine;
 mod commands;
 mod errors;
 mod files;
+mod free;
 mod inside;
 mod lines;
 mod lists;

@@ -85,7 +85,7 @@ pub fn read_both<'a, F: Sources>(
 }
 
 /// The addresses of the lists of a file and of others, each.
-fn read_named<'a, F: Sources>(
+pub fn read_named<'a, F: Sources>(
     alloc: Global,
     sources: &F,
     file: &'a str,

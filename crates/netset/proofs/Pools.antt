@@ -1,0 +1,70 @@
+-- The first free network of a pool.
+use Rattle.std.proofs.Common.{◌≡◌, ◌≢◌, sym, ◌∙◌, ap, [], drop, get_or, inr, ℕ, ◌≤◌, Bool, List, ◌∷◌, Option, Some, None, Result, map}
+use Rattle.std.specs.Option.{option_map}
+use Rattle.std.proofs.lemmas.List.{map-id}
+use Rattle.cidr.specs.model.Network.{FitsWidth}
+use Rattle.cidr.specs.declared.family.Family.{Family}
+use Rattle.cidr_io.specs.Writing.{State, Answered}
+use Rattle.cidr_io.specs.declared.sink.OutputFailed.{OutputFailed}
+use Rattle.cidr_sets.specs.Pools.{IsFirstFree}
+use Rattle.cidr_sets.specs.Sets.{IsSetOf}
+use Rattle.netset.specs.Answering.{AreRead}
+use Rattle.netset.specs.Combining.{IsMade, name_of}
+use Rattle.netset.specs.Commands.{Lists, NotIn, Diff, Free, Single, Help, Version, IsRequest, IsUsage, Says}
+use Rattle.netset.specs.Free.{IsFreeText}
+use Rattle.netset.specs.Program.{AnswersRequest, by_output}
+use Rattle.netset.specs.Sets.{Held, held}
+use Rattle.netset.specs.Single.{IsNumber, IsSingle, SingleRequest}
+use Rattle.netset.specs.declared.answers.Verdict.{Verdict}
+use Rattle.netset.specs.declared.errors.CommandError.{CommandError}
+use Rattle.netset.specs.declared.operations.Operation.{Operation}
+use Rattle.netset.specs.declared.operations.Operation.TheVariants.{Minus}
+use Rattle.netset.specs.declared.sets.Sets.{Sets}
+use Rattle.netset.proofs.Combining.{has_same, made_same, set_same}
+
+-- networks whose bits are themselves
+pub plain_free : (width : ℕ) (networks : List (List Bool)) (n : ℕ) (p : Option (List Bool))
+    → IsFirstFree (FitsWidth width) (map (λ (x : List Bool). x) networks) n (option_map (λ (x : List Bool). x) p) → IsFirstFree (FitsWidth width) networks n p
+plain_free width networks n None h = rw (map-id networks) at h
+plain_free width networks n (Some p) h = rw (map-id networks) at h
+
+-- what is free of the sets is free of the lists
+pub free_written : (told : List ℕ → Option (List ℕ)) (pool len : List ℕ) (used : List (List ℕ)) (n : ℕ) (read : List Sets) (rest : Sets) (answer : List ℕ)
+    (verdict : Verdict) (s t : State) (w : Result (Unit {0}) OutputFailed) (r : Result Verdict CommandError) → IsNumber len n × (n ≤ 128)
+    → AreRead told (pool ∷ used) read → ((family : Family) → IsSetOf 129 (IsMade Held Minus read family) (held rest family))
+    → IsFreeText (held rest) n answer verdict → Answered s t answer w → r ≡ by_output verdict w → AnswersRequest told (Free pool len used) s t r
+free_written told pool len used n read rest answer verdict s t w r number are made free written is =
+    inr (
+      answer,
+      verdict,
+      w,
+      (
+        n,
+        number.0,
+        number.1,
+        λ texts told_so.
+            let (said, says, has) = are texts told_so in (
+              said,
+              says,
+              held rest,
+              λ family. set_same _ _ (held rest family) (made family) (λ a wide.
+                  made_same Held Says Minus read said family a (has_same said read family a wide has)),
+              free,
+            ),
+      ),
+      written,
+      is,
+    )
+
+-- no request has these words
+pub no_request : (words : List (List ℕ)) (name : List ℕ) (files : List (List ℕ)) → words ≡ name ∷ files → ((operation : Operation) → name ≢ name_of operation)
+    → files ≢ [] → ((request : SingleRequest) → ¬ (IsSingle words request)) → ((net : List ℕ) (fs : List (List ℕ)) → ¬ (IsRequest words (NotIn net fs)))
+    → ((old new : List ℕ) → ¬ (IsRequest words (Diff old new))) → ((pool len : List ℕ) (used : List (List ℕ)) → ¬ (IsRequest words (Free pool len used)))
+    → IsUsage words
+no_request words name files is unnamed some single not_in diff free (Lists operation fs) h = unnamed operation (ap (λ (k : List (List ℕ)). get_or k 0 []) (sym is ∙ h.0))
+no_request words name files is unnamed some single not_in diff free (NotIn net fs) h = not_in net fs h
+no_request words name files is unnamed some single not_in diff free (Diff old new) h = diff old new h
+no_request words name files is unnamed some single not_in diff free (Free pool len used) h = free pool len used h
+no_request words name files is unnamed some single not_in diff free (Single request) h = single request h
+no_request words name files is unnamed some single not_in diff free Help h = some (ap (drop 1) (sym is ∙ h))
+no_request words name files is unnamed some single not_in diff free Version h = some (ap (drop 1) (sym is ∙ h))

@@ -1,0 +1,74 @@
+//! The first free network of a pool.
+ghost use Rattle.std.specs.Prelude.{ℕ, ◌≤◌, ◌<◌, map, MatchOption};
+ghost use Rattle.netset.specs.Commands.{Free};
+ghost use Rattle.netset.specs.Free.{IsFreeOf};
+ghost use Rattle.netset.specs.Program.{AnswersRequest};
+ghost use Rattle.netset.specs.Sets.{held};
+ghost use Rattle.netset.specs.Single.{IsNumber};
+
+use crate::answers::{Verdict, by_output};
+use crate::combine::made;
+use crate::errors::{ArgumentError, CommandError};
+use crate::files::Sources;
+use crate::operations::Operation;
+use crate::report::write_line;
+use crate::sets::Sets;
+use crate::several::read_named;
+use cidr::IpCidr;
+use cidr_io::sink::Sink;
+use cidr_io::writing::write_text;
+use std::alloc::Global;
+
+/// The longest prefix length.
+const LONGEST: u8 = 128;
+
+/// The prefix length that an argument is.
+fn length_of(text: &str) -> Option<u8>
+    ensures { MatchOption result ((n : ℕ) → IsNumber text.now n → 128 < n) (λ n. IsNumber text.now n × (n ≤ 128)) }
+{
+    let Ok(len) = text.parse::<u8>() else {
+        return None;
+    };
+    if len <= LONGEST { Some(len) } else { None }
+}
+
+impl Sets {
+    /// The first network of a prefix length that has only addresses of the sets, of IPv4 before IPv6.
+    fn first_free(&self, len: u8) -> Option<IpCidr>
+        ensures { IsFreeOf (held self.now) len result }
+    {
+        if let Some(network) = self.v4.first_free(usize::from(len)) {
+            return Some(IpCidr::V4(network));
+        }
+        match self.v6.first_free(usize::from(len)) {
+            Some(network) => Some(IpCidr::V6(network)),
+            None => None,
+        }
+    }
+}
+
+/// The command `free`.
+pub fn free<'a, F: Sources, O: Sink>(
+    alloc: Global,
+    sources: &F,
+    pool: &'a str,
+    len: &'a str,
+    used: &'a [&'a str],
+    out: &mut O,
+) -> Result<Verdict, CommandError<'a>>
+    ensures { AnswersRequest (F.told sources.now) (Free pool.now len.now (map (λ file. file.now) used.now))
+        (O.state out.old) (O.state out.new) result }
+{
+    let Some(bits) = length_of(len) else {
+        return Err(CommandError::Argument(len, ArgumentError::Length));
+    };
+    let several = read_named(alloc, sources, pool, used)?;
+    let rest = made(Operation::Minus, several)?;
+    match rest.first_free(bits) {
+        Some(network) => by_output(
+            Verdict::Yes,
+            write_line(out, &[network.to_text().as_str(), "\n"]),
+        ),
+        None => by_output(Verdict::No, write_text(out, "")),
+    }
+}
