@@ -1,4 +1,4 @@
--- What has to be believed: sets of addresses as lists of networks. `Searches` is what private functions promise.
+-- What has to be believed: sets of addresses as lists of networks. `Steps` is what private functions promise.
 pub mod Sets
 pub mod FirstRules
 pub mod Searches

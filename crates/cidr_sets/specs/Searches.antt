@@ -1,9 +1,15 @@
--- Where a network stands among networks that ascend.
+-- Look-ups in networks that ascend.
 use Rattle.std.specs.Prelude.{◌≡◌, ◌≢◌, ℕ, ◌<◌, ◌≤◌, Bool, List, length, slice_index_or, Contains, Option, Some, None}
 use Rattle.std.specs.declared.cmp.Ordering.TheVariants.{Greater}
 use Rattle.cidr.specs.model.Bits.{bit_cmp}
 use Rattle.cidr.specs.model.Network.{BeginsWith}
 
+-- what a probe shows: the networks that it compares with, and how many comparisons it has made
+pub record ProbedNetworks (C : Type 0) : Type 0 where
+  pub networks : List C
+  pub comparisons : ℕ
+
+-- ---- what private functions promise: where a network stands among the others
 -- those below the place come before the asked one or are the same, and the others come after it
 pub record IsUpto (networks : List (List Bool)) (asked : List Bool) (place : ℕ) : Type 0 where
   pub within : place ≤ length networks

@@ -5,6 +5,7 @@ pub mod access;
 mod count;
 pub mod laws;
 mod pools;
+mod probe;
 mod ranges;
 mod rests;
 mod search;
@@ -13,6 +14,7 @@ pub mod slices;
 mod walk;
 
 pub use pools::Subnets;
+pub use probe::{NetworkProbe, Networks, contains};
 pub use ranges::{AddressRange, Addressed, Ranges};
 pub use set::NetworkSet;
 pub use walk::{AddressSpace, SetAddresses};

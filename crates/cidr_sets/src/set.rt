@@ -7,7 +7,8 @@ ghost use Rattle.cidr_table.specs.Cover.{IsReduced};
 ghost use Rattle.cidr_sets.specs.Sets.{IsSetOf};
 ghost use Rattle.cidr_sets.specs.Steps.{Ascend};
 
-use crate::search::{covers, known};
+use crate::probe::{Networks, contains};
+use crate::search::known;
 use cidr::NetworkBits;
 use cidr_table::least_cover_in_place;
 use std::alloc::{AllocError, Global};
@@ -74,8 +75,8 @@ impl<C: NetworkBits + Copy> NetworkSet<C> {
 
     /// Whether the set has all addresses of a network.
     ///
-    /// One binary search and a look at one neighbour: where the number of networks has d binary digits, it looks at no
-    /// more than d + 1 of them.
+    /// It is [`contains`](crate::contains) over `probe`: one binary search and a look at one neighbour. Where the number
+    /// of networks has d binary digits, it makes at most d + 1 comparisons.
     ///
     /// ```
     /// set.contains(&"10.0.0.0/8".parse()?) // true
@@ -87,7 +88,22 @@ impl<C: NetworkBits + Copy> NetworkSet<C> {
         ensures reduced { IsReduced 129 (map C.bits self.now) }
     {
         known(network);
-        covers(self.networks.as_slice(), network)
+        contains(&mut self.probe(), network)
+    }
+
+    /// The networks of the set as a probe, for [`contains`](crate::contains). It borrows the set, copies nothing, and has
+    /// made no comparison.
+    ///
+    /// ```
+    /// let mut networks = set.probe();
+    /// contains(&mut networks, &"10.1.0.0/16".parse()?) // true
+    /// ```
+    pub fn probe(&self) -> Networks<'_, C>
+        ensures networks { result.networks ≡ self.now }
+        ensures count { result.comparisons ≡ 0 }
+        ensures reduced { IsReduced 129 (map C.bits self.now) }
+    {
+        Networks::new(self.networks.as_slice())
     }
 
     /// The networks of the set, ascending.

@@ -1,6 +1,8 @@
 //! Sets of addresses: what is left of a pool, and laws of sets as callers see them.
-ghost use Rattle.std.specs.Prelude.{◌≡◌, [], true, map, IfOk};
+ghost use Rattle.std.specs.Prelude.{◌≡◌, ◌+◌, ◌≤◌, [], true, length, map, IfOk};
+ghost use Rattle.std.specs.Bool.{Decides};
 ghost use Rattle.std.specs.Option.{option_map};
+ghost use Rattle.cidr_table.specs.Cover.{Covers, IsReduced};
 ghost use Rattle.cidr_uses.specs.FreeNetworks.{IsFirstAvailable};
 
 use cidr::NetworkBits;
@@ -8,7 +10,7 @@ use cidr_sets::laws::{
     equal_sets_are_equal_lists, equal_sets_are_the_same, full_networks_lie_in_one,
     sets_without_addresses_are_empty,
 };
-use cidr_sets::{NetworkSet, Subnets};
+use cidr_sets::{NetworkProbe, NetworkSet, Subnets, contains};
 use std::alloc::AllocError;
 
 /// The first network of `len` bits of which every address is in the pool and none is used, or `None` where there is
@@ -25,6 +27,16 @@ pub fn first_available<C: Subnets + Copy>(
     full_networks_lie_in_one();
     let free = pool.difference(used)?;
     Ok(free.first_free(len))
+}
+
+/// Whether a set of at most 100,000 networks contains one: 18 comparisons are enough.
+pub fn is_blocked<C: NetworkBits, P: NetworkProbe<C>>(blocked: &mut P, network: &C) -> bool
+    requires set { IsReduced 129 (map C.bits (P.keys blocked.old)) }
+    requires few { length (P.keys blocked.old) ≤ 100000 }
+    ensures answer { Decides result (Covers (map C.bits (P.keys blocked.old)) (C.bits network.now)) }
+    ensures cost { P.count blocked.new ≤ P.count blocked.old + 18 }
+{
+    contains(blocked, network)
 }
 
 /// What a set has that it has not itself, which is nothing.

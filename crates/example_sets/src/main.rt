@@ -4,12 +4,14 @@
 use cidr::errors::NetworkParseError;
 use cidr::{AddrParseError, BitString, Ipv4Addr, Ipv4Cidr};
 use cidr_sets::access::{Action, Rule, deciding, permitted, shadowed, shadowed_by};
-use cidr_sets::{NetworkSet, slices};
+use cidr_sets::{NetworkProbe, NetworkSet, contains, slices};
+use cidr_table::Probe;
 use std::alloc::AllocError;
 use std::io;
 
 fn main(rt: HostRuntime) -> Result<(), Failure> {
     one_set(&rt)?;
+    probed(&rt)?;
     two_sets(&rt)?;
     changed(&rt)?;
     in_place(&rt)?;
@@ -35,6 +37,17 @@ fn one_set(rt: &HostRuntime) -> Result<(), Failure> {
         set.contains(&Ipv4Cidr::new_host(Ipv4Addr::new(11, 0, 0, 1)))
     )?; // false
     println!(rt; "{}", NetworkSet::<Ipv4Cidr>::new(rt.alloc()).is_empty())?; // true
+    Ok(())
+}
+
+/// Look-ups whose comparisons are counted for contracts.
+fn probed(rt: &HostRuntime) -> Result<(), Failure> {
+    let set = NetworkSet::from_networks(rt.alloc(), &["10.0.0.0/8".parse::<Ipv4Cidr>()?])?;
+    let mut networks = set.probe();
+    println!(rt; "{}", contains(&mut networks, &"10.1.0.0/16".parse()?))?; // true
+    if 0 < networks.len() {
+        println!(rt; "{}", networks.contains_at(0, &"11.0.0.0/8".parse()?))?; // false
+    }
     Ok(())
 }
 

@@ -3,10 +3,7 @@ use Rattle.cidr_sets.proofs.Addresses.{covers_from_full, full_from_covers}
 use Rattle.cidr_sets.proofs.set.NetworkSet.contains.Goals as goal
 
 pub returns-clause-networks : goal.returns-clause-networks
-returns-clause-networks g c = rw (← c.self.view_is, ← c.as_slice.ensures.value) c.covers.ensures
-
-pub returns-clause-reduced : goal.returns-clause-reduced
-returns-clause-reduced g c = rw (← c.self.view_is) c.self.invariant
+returns-clause-networks g c = rw (← c.probe.ensures.networks) c.contains.ensures.answer
 
 pub returns-clause-addresses : goal.returns-clause-addresses
 returns-clause-addresses g c =
@@ -15,5 +12,5 @@ returns-clause-addresses g c =
     let k = f c.args.network.now in
     let told = returns-clause-networks g c in (
       λ h. full_from_covers 129 s k (told.0 h),
-      λ h. told.1 (covers_from_full 129 s k (returns-clause-reduced g c) c.known.ensures h),
+      λ h. told.1 (covers_from_full 129 s k c.probe.ensures.reduced c.known.ensures h),
     )

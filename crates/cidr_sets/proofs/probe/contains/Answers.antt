@@ -4,12 +4,12 @@ use Rattle.std.proofs.lemmas.List.Elements.{Contains-get_or}
 use Rattle.cidr.specs.model.Network.{BeginsWith}
 use Rattle.cidr_sets.proofs.Addresses.{covers_to}
 use Rattle.cidr_sets.proofs.Places.{holder_before}
-use Rattle.cidr_sets.proofs.search.is_covered.Goals as goal
+use Rattle.cidr_sets.proofs.probe.contains.Goals as goal
 
 pub returns-then-place-gt0-clause-answer : goal.returns-then-place-gt0-clause-answer
 returns-then-place-gt0-clause-answer g c =
     let f = g.C.BitString.bits in
-    let xs = c.args.networks.now.networks.now in
+    let xs = g.P.Probe.keys c.args.networks.now in
     let k = c.args.network.now in
     let place = c.place-place.result in
     let keys = c.place-place.ensures.keys in
@@ -24,7 +24,7 @@ returns-then-place-gt0-clause-answer g c =
 pub returns-else-place-gt0-clause-answer : goal.returns-else-place-gt0-clause-answer
 returns-else-place-gt0-clause-answer g c =
     let f = g.C.BitString.bits in
-    let xs = c.args.networks.now.networks.now in
+    let xs = g.P.Probe.keys c.args.networks.now in
     let k = c.args.network.now in
     let place = c.place-place.result in (
       λ e. absurd (search (rules, e)),
