@@ -326,7 +326,7 @@ fn merge<C: NetworkBits + Copy>(these: &[C], those: &[C], out: &mut [C]) -> usiz
 }
 
 /// The first network of two lists, and what is left of them; `None` where both are empty.
-fn next_of<'a, C: NetworkBits + Copy>(
+pub(crate) fn next_of<'a, C: NetworkBits + Copy>(
     left: &'a [C],
     right: &'a [C],
 ) -> Option<(&'a C, &'a [C], &'a [C])>
@@ -353,7 +353,7 @@ fn next_of<'a, C: NetworkBits + Copy>(
 
 /// Of the first networks of two lists, the one that lies in the other, if one does, and what is left of the lists
 /// without it, or else without the first of both; `None` where one list is empty.
-fn next_shared<'a, C: NetworkBits + Copy>(
+pub(crate) fn next_shared<'a, C: NetworkBits + Copy>(
     left: &'a [C],
     right: &'a [C],
 ) -> Option<(Option<C>, &'a [C], &'a [C])>

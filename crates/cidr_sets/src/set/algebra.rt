@@ -8,14 +8,15 @@ ghost use Rattle.cidr_table.specs.Cover.{AreNetworks, Covers, IsReduced};
 ghost use Rattle.cidr_sets.specs.Steps.{Ascend, IsCut, IsSkipped};
 ghost use Rattle.cidr_sets.specs.Searches.{IsFirstInside};
 ghost use Rattle.std.specs.Option.{option_map};
+ghost use Rattle.std.specs.Vec.{vec_capacity};
 ghost use Rattle.cidr_sets.specs.Sets.{IsUnion, IsIntersection, IsDifference, IsSymmetricDifference, IsComplement, Meets, IsSubset, AreDisjoint};
 
 use crate::rests::{half, skip};
 use crate::search::{covers, is_inside, known, upto};
 use crate::set::{NetworkSet, joined, reduced};
-use crate::slices;
+use crate::slices::{next_of, next_shared};
 use cidr::NetworkBits;
-use std::alloc::AllocError;
+use std::alloc::{AllocError, Global};
 
 impl<C: NetworkBits + Copy> NetworkSet<C> {
     /// The addresses that one of two sets has, or both. Both stay as they were.
@@ -31,11 +32,9 @@ impl<C: NetworkBits + Copy> NetworkSet<C> {
         ensures fits { IfOk result (λ set. length set ≤ length self.now + length other.now) }
     {
         let (these, those) = (self.as_slice(), other.as_slice());
-        let mut networks = Vec::from_slice(self.networks.allocator().clone()?, these)?;
-        networks.extend_from_slice(those)?;
-        let count = slices::union(these, those, networks.as_mut_slice());
-        networks.truncate(count);
-        Ok(NetworkSet { networks })
+        let mut networks = with_room(self.networks.allocator().clone()?, these, those)?;
+        push_merged(&mut networks, these, those);
+        Ok(joined(networks))
     }
 
     /// The addresses that both of two sets have. Both stay as they were.
@@ -52,10 +51,8 @@ impl<C: NetworkBits + Copy> NetworkSet<C> {
         ensures fits { IfOk result (λ set. length set ≤ length self.now + length other.now - 1) }
     {
         let (these, those) = (self.as_slice(), other.as_slice());
-        let mut networks = Vec::from_slice(self.networks.allocator().clone()?, these)?;
-        networks.extend_from_slice(those)?;
-        let count = slices::intersection(these, those, networks.as_mut_slice());
-        networks.truncate(count);
+        let mut networks = with_room(self.networks.allocator().clone()?, these, those)?;
+        push_shared(&mut networks, these, those);
         Ok(NetworkSet { networks })
     }
 
@@ -74,7 +71,7 @@ impl<C: NetworkBits + Copy> NetworkSet<C> {
     {
         let mut rest = Vec::new(self.networks.allocator().clone()?);
         push_rests(&mut rest, self.as_slice(), other.as_slice())?;
-        Ok(joined(rest))
+        Ok(NetworkSet { networks: rest })
     }
 
     /// Whether the set has all addresses of some networks. Binary search for each: O(k log n) for k networks.
@@ -140,9 +137,10 @@ impl<C: NetworkBits + Copy> NetworkSet<C> {
         ensures fits { IfOk result (λ set. (w : ℕ) → AreNetworks w (map C.bits self.now)
             → length set ≤ w * length self.now + 1) }
     {
+        known(network);
         let mut rest = Vec::new(self.networks.allocator().clone()?);
         push_rest(&mut rest, network, self.as_slice())?;
-        Ok(joined(rest))
+        Ok(NetworkSet { networks: rest })
     }
 
     /// Adds the addresses of a network. Where an allocation fails, the set stays as it was.
@@ -192,6 +190,55 @@ impl<C: NetworkBits + Copy> NetworkSet<C> {
     }
 }
 
+/// An empty list with room for the networks of two.
+fn with_room<C>(alloc: Global, these: &[C], those: &[C]) -> Result<Vec<C>, AllocError>
+    ensures none { IfOk result (λ networks. networks.items ≡ []) }
+    ensures room { IfOk result (λ networks. length these.now + length those.now ≤ vec_capacity networks) }
+{
+    let room = these.len().checked_add(those.len()).ok_or(AllocError)?;
+    Vec::with_capacity(alloc, room)
+}
+
+/// Pushes the networks of both lists, ascending, and each once, where there is room for all.
+fn push_merged<C: NetworkBits + Copy>(out: &mut Vec<C>, these: &[C], those: &[C])
+    requires these { Ascend (map C.bits these.now) }
+    requires those { Ascend (map C.bits those.now) }
+    requires none { out.old.items ≡ [] }
+    requires room { length these.now + length those.now ≤ vec_capacity out.old }
+    ensures fits { length out.new.items ≤ length these.now + length those.now }
+    ensures ascend { Ascend (map C.bits out.new.items) }
+    ensures covers { (a : List Bool) → (Covers (map C.bits these.now) a ⊎ Covers (map C.bits those.now) a)
+        ↔ Covers (map C.bits out.new.items) a }
+{
+    let mut left = these;
+    let mut right = those;
+    while let Some((network, behind, rest)) = next_of(left, right) {
+        out.push_reserved(*network);
+        left = behind;
+        right = rest;
+    }
+}
+
+/// Pushes the networks of the addresses that both of two sets have, ascending, where there is room for all.
+fn push_shared<C: NetworkBits + Copy>(out: &mut Vec<C>, these: &[C], those: &[C])
+    requires these { IsReduced 129 (map C.bits these.now) }
+    requires those { IsReduced 129 (map C.bits those.now) }
+    requires none { out.old.items ≡ [] }
+    requires room { length these.now + length those.now ≤ vec_capacity out.old }
+    ensures fits { length out.new.items ≤ length these.now + length those.now - 1 }
+    ensures set { IsIntersection 129 (map C.bits these.now) (map C.bits those.now) (map C.bits out.new.items) }
+{
+    let mut left = these;
+    let mut right = those;
+    while let Some((shared, behind, rest)) = next_shared(left, right) {
+        if let Some(network) = shared {
+            out.push_reserved(network);
+        }
+        left = behind;
+        right = rest;
+    }
+}
+
 /// Pushes the networks of the addresses that a set has and another has not, ascending.
 fn push_rests<C: NetworkBits + Copy>(
     out: &mut Vec<C>,
@@ -201,9 +248,8 @@ fn push_rests<C: NetworkBits + Copy>(
     requires networks { IsReduced 129 (map C.bits networks.now) }
     requires others { IsReduced 129 (map C.bits others.now) }
     requires none { out.old.items ≡ [] }
-    ensures ascend { OnOk result (Ascend (map C.bits out.new.items)) }
-    ensures covers { OnOk result ((a : List Bool) → length a ≡ 129 → Covers (map C.bits out.new.items) a
-        ↔ (Covers (map C.bits networks.now) a × ¬ (Covers (map C.bits others.now) a))) }
+    ensures set { OnOk result
+        (IsDifference 129 (map C.bits networks.now) (map C.bits others.now) (map C.bits out.new.items)) }
     ensures fits { OnOk result ((w : ℕ) → AreNetworks w (map C.bits others.now)
         → length out.new.items ≤ length networks.now + w * length others.now) }
 {

@@ -1,33 +1,13 @@
-use Rattle.std.proofs.Common.{◌≡◌, ◌≤◌, ◌++◌, length, length-append, length-take-le, drop, map, ap, sym, ◌∙◌, subst, arith}
-use Rattle.cidr_sets.specs.Sets.{IsUnion}
-use Rattle.cidr_sets.proofs.Reducing.{front}
+use Rattle.std.proofs.Common.{◌⊎◌, map}
+use Rattle.cidr_table.specs.Cover.{Covers}
+use Rattle.cidr_sets.proofs.Addresses.{set_alike}
 use Rattle.cidr_sets.proofs.set.NetworkSet.union.Goals as goal
 
 pub returns-clause-set : goal.returns-clause-set
 returns-clause-set g c =
     let f = g.C.BitString.bits in
-    let these = c.as_slice-these.result.now in
-    let those = c.as_slice-those.result.now in
-    let n = c.union-count.result in
-    let out = c.union-count.new.out in
-    let zs = c.extend_from_slice.new.self.items in
-    let both : zs ≡ these ++ those = c.in_ok-extend_from_slice.ensures.items ∙ ap (λ xs. xs ++ those) c.in_ok-networks.ensures.items in
-    let size : n ≤ length out = omega (arith, c.union-count.ensures.fits, c.as_mut_slice.ensures.value, ap length both, length-append these those) in
-    let fits : n ≤ c.extend_from_slice.new.self.len = omega (arith, c.union-count.ensures.fits, ap length both, length-append these those, c.extend_from_slice.new.self.ok.0) in
-    let left = c.truncate.ensures.items ∙ front n c.extend_from_slice.new.self.len out (drop (length out) zs) fits size in
+    let these = map f c.as_slice-these.result.now in
+    let those = map f c.as_slice-those.result.now in
     rw (← c.as_slice-these.ensures.networks, ← c.as_slice-those.ensures.networks)
-    (subst (λ l. IsUnion 129 (map f these) (map f those) (map f l)) (sym left) c.union-count.ensures.set)
-
-pub returns-clause-fits : goal.returns-clause-fits
-returns-clause-fits g c =
-    let these = c.as_slice-these.result.now in
-    let those = c.as_slice-those.result.now in
-    let n = c.union-count.result in
-    let out = c.union-count.new.out in
-    let zs = c.extend_from_slice.new.self.items in
-    let both : zs ≡ these ++ those = c.in_ok-extend_from_slice.ensures.items ∙ ap (λ xs. xs ++ those) c.in_ok-networks.ensures.items in
-    let size : n ≤ length out = omega (arith, c.union-count.ensures.fits, c.as_mut_slice.ensures.value, ap length both, length-append these those) in
-    let fits : n ≤ c.extend_from_slice.new.self.len = omega (arith, c.union-count.ensures.fits, ap length both, length-append these those, c.extend_from_slice.new.self.ok.0) in
-    let left = c.truncate.ensures.items ∙ front n c.extend_from_slice.new.self.len out (drop (length out) zs) fits size in
-    rw (← c.as_slice-these.ensures.networks, ← c.as_slice-those.ensures.networks)
-    (omega (arith, ap length left, length-take-le n out size, c.union-count.ensures.fits))
+    (set_alike 129 (Covers (map f c.push_merged.new.out.items)) (λ a. Covers these a ⊎ Covers those a) (map f c.joined.result)
+    (λ a la. ((c.push_merged.ensures.covers a).1, (c.push_merged.ensures.covers a).0)) c.joined.ensures.set)

@@ -1,6 +1,6 @@
 use Rattle.std.proofs.Common.{◌≡◌, length, map, subst}
 use Rattle.cidr_table.proofs.Stacks.{spread_from_reduced}
-use Rattle.cidr_sets.proofs.Cuts.{IsCutting, cutting_all, cutting_more, cutting_none}
+use Rattle.cidr_sets.proofs.Cuts.{IsCutting, cutting_more, cutting_none, cutting_set}
 use Rattle.cidr_sets.proofs.Joining.{by_none, nothing}
 use Rattle.cidr_sets.proofs.set.algebra.push_rests.Goals as goal
 
@@ -24,8 +24,8 @@ loop-network-preserved g c =
     (subst (λ todo. IsCutting these those (map f l.out.items) (map f todo) left) c.in-Some.ensures.cases.0 l.invariant)
     c.in_ok-left.ensures
 
-pub returns-clause-covers : goal.returns-clause-covers
-returns-clause-covers g c =
+pub returns-clause-set : goal.returns-clause-set
+returns-clause-set g c =
     let f = g.C.BitString.bits in
     let l = c.loop-network in
     let these = map f c.args.networks.now in
@@ -33,5 +33,5 @@ returns-clause-covers g c =
     let left = map f l.left.now in
     let none = nothing l.todo.now
     (by_none c.split_first.result (length l.todo.now ≡ 0) _ c.in_default.not-Some c.split_first.ensures.cases) in
-    cutting_all these those (map f l.out.items) left
+    cutting_set these those (map f l.out.items) left
     (subst (λ todo. IsCutting these those (map f l.out.items) (map f todo) left) none l.invariant)
