@@ -11,11 +11,12 @@ What the library is given and returns is proved to be right; that this module pa
 from __future__ import annotations
 
 import ctypes
+from operator import attrgetter
 from typing import Any, Generic, Iterable, Iterator, List, Optional, Sequence, Tuple, TypeVar, Union
 
 from pcidr._library import (
-    NO_INDEX,
     Value,
+    answers,
     array,
     calls,
     check,
@@ -237,7 +238,9 @@ def _values(given: Iterable[Union[AnyValue, str]]) -> ctypes.Array:
     try:
         return read_all(listed)
     except TypeError:  # not all are strings
-        return array(_network_value(it) for it in listed)
+        if set(map(type, listed)) <= {Address, Network}:
+            return array(map(attrgetter("_value"), listed))
+        return array(map(_network_value, listed))
 
 
 def parse_networks(texts: Iterable[str]) -> List[Network]:
@@ -265,10 +268,9 @@ def contains_each(
 
 
 def _contained(networks: ctypes.Array, asked: ctypes.Array) -> List[bool]:
-    out = bytearray(len(asked))
-    room = (ctypes.c_uint8 * len(out)).from_buffer(out)
-    check(calls.contains_each(networks, len(networks), asked, len(asked), room, len(out)))
-    return list(map(bool, out))
+    room, out = answers("?", len(asked))
+    check(calls.contains_each(networks, len(networks), asked, len(asked), room, len(asked)))
+    return list(out)
 
 
 def _copied(value: Value) -> Value:
@@ -405,9 +407,10 @@ class Table(Generic[V]):
     ) -> List[Optional[Tuple[Network, V]]]:
         """The same for each of many, by one call of the library."""
         values, rows, networks = _values(asked), self._ascending(), self._networks
-        out = (ctypes.c_size_t * len(values))()
-        check(calls.longest_match_each(networks, len(networks), values, len(values), out, len(out)))
-        return [None if index == NO_INDEX else rows[index] for index in out]
+        room, out = answers("q", len(values))
+        check(calls.longest_match_each(networks, len(networks), values, len(values), room, len(values)))
+        # The index that stands for none is -1 with a sign: that of the last one here.
+        return list(map([*rows, None].__getitem__, out))
 
 
 def _row_key(value: Value) -> Tuple[int, int]:

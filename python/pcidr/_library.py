@@ -2,13 +2,14 @@
 import ctypes
 import ctypes.util
 import os
+import struct
+from typing import Iterable
 
 VERSION = 0x000100
 TEXT_ROOM = 44
 MESSAGE_ROOM = 100
 NO_ROOM = 11
 NO_MEMORY = 12
-NO_INDEX = 2**64 - 1
 
 
 class Value(ctypes.Structure):
@@ -48,7 +49,7 @@ CALLS = {
     "difference": (CODE, [VALUE, SIZE, VALUE, SIZE, VALUE, SIZE, COUNT]),
     "symmetric_difference": (CODE, [VALUE, SIZE, VALUE, SIZE, VALUE, SIZE, COUNT]),
     "contains_each": (CODE, [VALUE, SIZE, VALUE, SIZE, BYTES, SIZE]),
-    "longest_match_each": (CODE, [VALUE, SIZE, VALUE, SIZE, COUNT, SIZE]),
+    "longest_match_each": (CODE, [VALUE, SIZE, VALUE, SIZE, BYTES, SIZE]),
 }
 
 
@@ -120,20 +121,24 @@ def array(values) -> ctypes.Array:
     return (Value * len(values))(*values)
 
 
+def answers(kind: str, count: int) -> "tuple[ctypes.Array, Iterable]":
+    """A room for numbers, one of each asked value, and what is in it once a call has written them: their kind is that of
+    the module `struct`."""
+    room = (ctypes.c_char * (count * struct.calcsize(kind)))()
+    return room, memoryview(room).cast("B").cast(kind) if count else ()
+
+
 def read_all(texts) -> ctypes.Array:
     """The networks of a list of strings, by one call."""
     out = (Value * len(texts))()
     if not texts:
         return out
-    joined = "\n".join(texts)
-    given = joined.encode("utf-8", "surrogatepass")
-    if joined.count("\n") != len(texts) - 1:
-        bad = next(text for text in texts if "\n" in text)
-        raise ValueError(f"{message(2)}: {bad!r}")
-    count = ctypes.c_size_t()
-    code = calls.read_lines(given, len(given), out, len(texts), count)
+    given = "\n".join(texts).encode("utf-8", "surrogatepass")
+    code = calls.read_lines(given, len(given), out, len(texts), ctypes.c_size_t())
     if code:
-        raise ValueError(f"{message(code)}: {texts[count.value]!r}")
+        for text in texts:  # the first one that is no network, or has a line feed in it
+            read(calls.read_network, text)
+    check(code)
     return out
 
 

@@ -194,8 +194,19 @@ class Batches(unittest.TestCase):
     def test_the_first_bad_string_is_named(self):
         with self.assertRaisesRegex(ValueError, "host part of address was not zero: '10.0.0.1/8'"):
             pcidr.parse_networks(["10.0.0.0/8", "10.0.0.1/8", "x"])
-        with self.assertRaises(ValueError):
-            pcidr.parse_networks(["10.0.0.0/8\n11.0.0.0/8"])
+        for texts in (["10.0.0.0/8\n11.0.0.0/8"], ["::", "10.0.0.0/8\n", "x"], ["10.0.0.0/8\n11.0.0.0/8", "x"]):
+            with self.assertRaises(ValueError) as raised:
+                pcidr.parse_networks(texts)
+            self.assertIn(repr(next(text for text in texts if "\n" in text)), str(raised.exception))
+
+    def test_values_and_strings_may_be_mixed(self):
+        held = NetworkSet(["10.0.0.0/8", Network("2001:db8::/32"), Address("192.0.2.1")])
+        asked = [Address("10.1.2.3"), Network("2001:db8::/33"), Address("::")]
+        self.assertEqual(held.contains_each(asked), [True, True, False])
+        self.assertEqual(held.contains_each([*asked, "192.0.2.1"]), [True, True, False, True])
+        self.assertEqual((held.contains_each([]), Table().lookup_each([])), ([], []))
+        with self.assertRaises(TypeError):
+            held.contains_each([Host("10.1.2.3")])
 
     def test_what_is_read_is_printed(self):
         theirs = [random_network() for _ in range(500)]
