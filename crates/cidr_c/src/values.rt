@@ -42,6 +42,7 @@ fn ipv6_in(value: &CValue) -> Ipv6Addr
 }
 
 /// The network that a value is, if it is one.
+#[inline(always)]
 pub fn network_of(value: &CValue) -> Option<AnyIpCidr>
     ensures { MatchOption result (¬ (IsNetwork value.now))
         (λ network. IsNetwork value.now × (network ≡ network_in value.now)) }
