@@ -1,7 +1,7 @@
 #!/usr/bin/env bash
-# Builds the library for C in a folder of its own, compiles and runs the examples in C, C99 and C++, and calls with wrong
-# arguments under the address sanitizer; where there is Python, the module's tests and example too. Prints what is not as
-# wanted.
+# Runs the commands of the page in a folder of its own, compiles and runs the examples in C99, C11 and under the address
+# sanitizer, there with wrong arguments and refused allocations too, and compiles the header as C++; where there is
+# Python, it runs the module's tests and examples. Prints what is not as wanted.
 set -euo pipefail
 here=$(cd "$(dirname "$0")" && pwd)
 crate=$(dirname "$here")
@@ -11,7 +11,17 @@ trap 'rm -rf "$room"' EXIT
 status=0
 compiler=${CC:-cc}
 
-"$crate/build" "$room/lib"
+has_python=$(command -v python3 || true)
+export PYTHONDONTWRITEBYTECODE=1
+
+# The commands stand in the page as they are typed at the top of the repository.
+mkdir "$room/top"
+ln -s "$(dirname "$crate")" "$(realpath "$python")" "$room/top"
+sed -n '/^```sh$/,/^```$/{/^```/!p}' "$crate/README.md" | sed "s|/tmp/pcidr|$room/lib|g" >"$room/commands"
+[[ -n $has_python ]] || sed -i '/python3/d' "$room/commands"
+(cd "$room/top" && bash -eu "$room/commands" >"$room/printed") || status=1
+cat "$here/networks.txt" ${has_python:+"$here/python.txt"} | cmp - "$room/printed" || status=1
+
 strict=(-Wall -Wextra -Wpedantic -Werror "-I$room/lib")
 
 # same NAME: what NAME wrote is what stands beside this script.
@@ -26,29 +36,34 @@ same networks.txt
 "$room/filter" "$here/list" <"$here/addresses" >"$room/filter.txt" 2>"$room/filter.err" || status=1
 same filter.txt
 same filter.err
-for program in examples/filter runs/wrong; do
+for program in examples/networks examples/filter runs/wrong runs/memory; do
     made=$room/$(basename "$program").checked
-    "$compiler" -g -fsanitize=address -std=c11 "${strict[@]}" -o "$made" "$crate/$program.c" "$room/lib/libpcidr.a"
+    refusing=()
+    [[ $program != runs/memory ]] || refusing=("-Wl,--wrap=malloc,--wrap=realloc")
+    "$compiler" -g -fsanitize=address -std=c11 "${strict[@]}" "${refusing[@]}" -o "$made" "$crate/$program.c" \
+        "$room/lib/libpcidr.a"
 done
 "$room/filter.checked" "$here/list" <"$here/addresses" 2>/dev/null | cmp - "$here/filter.txt" || status=1
+"$room/networks.checked" | cmp - "$here/networks.txt" || status=1
 "$room/wrong.checked" || status=1
+"$room/memory.checked" || status=1
 
 echo '#include <pcidr.h>' >"$room/header.cc"
 if command -v c++ >/dev/null; then
-    c++ -std=c++17 "${strict[@]}" -c -o "$room/header.o" "$room/header.cc" || status=1
+    for standard in c++98 c++17; do
+        c++ "-std=$standard" "${strict[@]}" -c -o "$room/header.o" "$room/header.cc" || status=1
+    done
 else
     echo "cidr_c: there is no C++ compiler: the header was not compiled as C++"
 fi
 
-if command -v python3 >/dev/null; then
-    export PCIDR_LIBRARY=$room/lib/libpcidr.so PYTHONPATH=$python PYTHONDONTWRITEBYTECODE=1
+if [[ -n $has_python ]]; then
+    export PCIDR_LIBRARY=$room/lib/libpcidr.so PYTHONPATH=$python
     python3 -m unittest discover -q -s "$python/tests" || status=1
     python3 "$python/examples/aggregate.py" "$here/list" >"$room/aggregate.txt" || status=1
     same aggregate.txt
-    python3 "$python/examples/networks.py" >"$room/python.txt" || status=1
-    same python.txt
 else
-    echo "cidr_c: there is no Python: the tests of the module and its example were skipped"
+    echo "cidr_c: there is no Python: the tests of the module and its examples were skipped"
 fi
 ((status == 0)) && echo "cidr_c: the library for C and Python runs as wanted"
 exit "$status"

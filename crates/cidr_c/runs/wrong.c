@@ -14,119 +14,234 @@ static int failures;
         }                                                       \
     } while (0)
 
+/* A mark in what is written, to see that an error leaves it. */
+static const pcidr_value mark = {7, 8, 9};
+static pcidr_value out = {7, 8, 9}, wide, host, any, address;
+static char text[PCIDR_TEXT_ROOM];
+static uint8_t bytes[PCIDR_BYTES_ROOM];
+static size_t count = 77;
+
 static int is_same(pcidr_value a, pcidr_value b) { return a.high == b.high && a.low == b.low && a.tag == b.tag; }
 
-int main(void) {
-    const pcidr_value mark = {7, 8, 9};
-    pcidr_value out = mark, wide, host, any, address;
-    pcidr_value bad[] = {{0, 0, 33}, {0, 0, 63}, {0, 0, 193}, {0, 0, 254}, {1, 0, 255},
-                         {0, 1, 255}, {1, 0, 8}, {0, (uint64_t)1 << 32, 8}};
-    char text[PCIDR_TEXT_ROOM];
-    uint8_t bytes[PCIDR_BYTES_ROOM];
-    size_t count = 77;
+/* Whether the mark is still there. */
+static int is_left(void) { return is_same(out, mark) && count == 77; }
 
-    /* null with length 0 */
-    WANT(pcidr_read_network(NULL, 0, &out) == PCIDR_ADDRESS && is_same(out, mark));
-    WANT(pcidr_read_host(NULL, 0, &out) == PCIDR_ADDRESS && is_same(out, mark));
-    WANT(pcidr_read_address(NULL, 0, &out) == PCIDR_ADDRESS && is_same(out, mark));
-    WANT(pcidr_read_loose_address(NULL, 0, &out) == PCIDR_ADDRESS && is_same(out, mark));
-    WANT(pcidr_read_short_network(NULL, 0, &out) == PCIDR_ADDRESS && is_same(out, mark));
-    WANT(pcidr_network_from_bytes(NULL, 0, &out, &count) == PCIDR_TRUNCATED && count == 77);
-    WANT(pcidr_host_from_bytes(NULL, 0, &out, &count) == PCIDR_TRUNCATED && is_same(out, mark));
+#define LENGTH(array) (sizeof(array) / sizeof *(array))
+
+static uint32_t (*const readers[])(const char *, size_t, pcidr_value *) = {
+    pcidr_read_address, pcidr_read_loose_address, pcidr_read_host, pcidr_read_network, pcidr_read_short_network};
+static size_t (*const printers[])(const pcidr_value *, char *, size_t) = {
+    pcidr_print_address, pcidr_print_host, pcidr_print_host_with_length, pcidr_print_network,
+    pcidr_print_network_with_length};
+static size_t (*const writers[])(const pcidr_value *, uint8_t *, size_t) = {pcidr_network_to_bytes,
+                                                                           pcidr_host_to_bytes};
+static uint32_t (*const byte_readers[])(const uint8_t *, size_t, pcidr_value *, size_t *) = {pcidr_network_from_bytes,
+                                                                                             pcidr_host_from_bytes};
+static uint32_t (*const parts[])(const pcidr_value *, pcidr_value *) = {pcidr_first, pcidr_last, pcidr_mask,
+                                                                         pcidr_address, pcidr_network};
+static uint32_t (*const steps[])(const pcidr_value *, uint64_t, uint64_t, pcidr_value *) = {
+    pcidr_step_up, pcidr_step_down, pcidr_at};
+static uint32_t (*const sets[])(const pcidr_value *, size_t, const pcidr_value *, size_t, pcidr_value *, size_t,
+                                size_t *) = {pcidr_union, pcidr_intersection, pcidr_difference,
+                                             pcidr_symmetric_difference};
+static uint32_t (*const sets_in_place[])(pcidr_value *, size_t, size_t *, const pcidr_value *, size_t) = {
+    pcidr_union_in_place, pcidr_intersection_in_place, pcidr_difference_in_place};
+
+/* Null with length 0 is no string, no bytes, no room and no networks. */
+static void null_arguments(void) {
+    for (size_t i = 0; i < LENGTH(readers); i++) WANT(readers[i](NULL, 0, &out) == PCIDR_ADDRESS && is_left());
+    for (size_t i = 0; i < LENGTH(byte_readers); i++)
+        WANT(byte_readers[i](NULL, 0, &out, &count) == PCIDR_TRUNCATED && is_left());
+    for (size_t i = 0; i < LENGTH(printers); i++) WANT(printers[i](&address, NULL, 0) >= 8);
+    for (size_t i = 0; i < LENGTH(writers); i++) WANT(writers[i](&address, NULL, 0) == 5);
+    WANT(pcidr_message(PCIDR_HOST_PART, NULL, 0) == 33);
+
+    WANT(pcidr_print_lines(&wide, 1, NULL, 0, &count) == PCIDR_NO_ROOM && is_left());
+    for (size_t i = 0; i < LENGTH(sets); i++) {
+        WANT(sets[i](NULL, 0, NULL, 0, NULL, 0, &count) == PCIDR_OK && count == 0);
+        WANT(sets[i](&wide, 1, NULL, 0, &out, 1, &count) == PCIDR_OK && count == (sets[i] != pcidr_intersection));
+        out = mark;
+        WANT(sets[i](NULL, 0, &wide, 1, &out, 1, &count) == PCIDR_OK &&
+             count == (sets[i] == pcidr_union || sets[i] == pcidr_symmetric_difference));
+        out = mark;
+    }
+    for (size_t i = 0; i < LENGTH(sets_in_place); i++) {
+        WANT(sets_in_place[i](NULL, 0, &count, NULL, 0) == PCIDR_OK && count == 0);
+        count = 9; /* above the room */
+        WANT(sets_in_place[i](NULL, 0, &count, NULL, 0) == PCIDR_OK && count == 0);
+    }
+    WANT(pcidr_union_in_place(NULL, 0, &count, &wide, 1) == PCIDR_NO_ROOM && count == 1);
     WANT(pcidr_read_lines(NULL, 0, NULL, 0, &count) == PCIDR_NO_ROOM && count == 0);
+    WANT(pcidr_read_lines(NULL, 0, &out, 1, &count) == PCIDR_ADDRESS && count == 0 && is_same(out, mark));
+    WANT(pcidr_read_lines("::", 2, NULL, 0, &count) == PCIDR_NO_ROOM && count == 0);
     WANT(pcidr_print_lines(NULL, 0, NULL, 0, &count) == PCIDR_OK && count == 0);
     WANT(pcidr_cover(NULL, 0, &count) == PCIDR_OK && count == 0);
-    WANT(pcidr_union(NULL, 0, NULL, 0, NULL, 0, &count) == PCIDR_OK && count == 0);
-    WANT(pcidr_intersection(NULL, 0, NULL, 0, NULL, 0, &count) == PCIDR_OK && count == 0);
-    WANT(pcidr_difference(NULL, 0, NULL, 0, NULL, 0, &count) == PCIDR_OK && count == 0);
-    WANT(pcidr_symmetric_difference(NULL, 0, NULL, 0, NULL, 0, &count) == PCIDR_OK && count == 0);
-    WANT(pcidr_union_in_place(NULL, 0, &count, NULL, 0) == PCIDR_OK && count == 0);
-    WANT(pcidr_intersection_in_place(NULL, 0, &count, NULL, 0) == PCIDR_OK && count == 0);
-    WANT(pcidr_difference_in_place(NULL, 0, &count, NULL, 0) == PCIDR_OK && count == 0);
     WANT(pcidr_contains_each(NULL, 0, NULL, 0, NULL, 0) == PCIDR_OK);
+    WANT(pcidr_contains_each(&wide, 1, NULL, 0, NULL, 0) == PCIDR_OK);
+    WANT(pcidr_contains_each(NULL, 0, &wide, 1, bytes, 1) == PCIDR_OK && bytes[0] == 0);
+    WANT(pcidr_contains_each(&wide, 1, &address, 1, NULL, 0) == PCIDR_NO_ROOM);
     WANT(pcidr_longest_match_each(NULL, 0, NULL, 0, NULL, 0) == PCIDR_OK);
+    WANT(pcidr_longest_match_each(&wide, 1, NULL, 0, NULL, 0) == PCIDR_OK);
+    WANT(pcidr_longest_match_each(NULL, 0, &wide, 1, &count, 1) == PCIDR_OK && count == PCIDR_NO_INDEX);
+    WANT(pcidr_longest_match_each(&wide, 1, &address, 1, NULL, 0) == PCIDR_NO_ROOM);
+    count = 77;
+}
 
-    WANT(pcidr_read_network("10.0.0.0/8", 10, &wide) == PCIDR_OK);
-    WANT(pcidr_read_host("10.0.0.5/8", 10, &host) == PCIDR_OK);
-    WANT(pcidr_read_network("any", 3, &any) == PCIDR_OK);
-    WANT(pcidr_read_address("10.1.2.3", 8, &address) == PCIDR_OK);
+/* A copy of some bytes with nothing behind it, so that the sanitizer sees what is read or written there. */
+static void *copy_of(const void *from, size_t size) {
+    char *copy = malloc(size ? size : 1);
+    if (size) memcpy(copy, from, size);
+    return copy;
+}
 
-    /* strings of any bytes */
-    WANT(pcidr_read_network("10.0.0.1/8", 10, &out) == PCIDR_HOST_PART && is_same(out, mark));
-    WANT(pcidr_read_network("10.0.0.0/33", 11, &out) == PCIDR_LENGTH_TOO_LONG && is_same(out, mark));
-    WANT(pcidr_read_network("10.0.0.0/x", 10, &out) == PCIDR_LENGTH && is_same(out, mark));
-    WANT(pcidr_read_network("\xff\xfe", 2, &out) == PCIDR_NOT_UTF8 && is_same(out, mark));
-    WANT(pcidr_read_network("10.0.0.0\0/8", 11, &out) == PCIDR_ADDRESS && is_same(out, mark));
+static uint32_t read_copy(uint32_t (*reader)(const char *, size_t, pcidr_value *), const char *from, size_t size) {
+    char *copy = copy_of(from, size);
+    uint32_t code = reader(copy, size, &out);
+    free(copy);
+    return code;
+}
 
-    /* values that are none, or not of the kind that the call takes */
-    for (size_t i = 0; i < sizeof bad / sizeof *bad; i++) {
-        memset(text, 'x', sizeof text);
-        WANT(pcidr_print_network(&bad[i], text, sizeof text) == 0 && text[0] == 'x');
-        WANT(pcidr_print_network_with_length(&bad[i], text, sizeof text) == 0 && text[0] == 'x');
-        WANT(pcidr_print_host(&bad[i], text, sizeof text) == 0 && text[0] == 'x');
-        WANT(pcidr_print_host_with_length(&bad[i], text, sizeof text) == 0 && text[0] == 'x');
-        WANT(pcidr_print_address(&bad[i], text, sizeof text) == 0 && text[0] == 'x');
-        WANT(pcidr_network_to_bytes(&bad[i], bytes, sizeof bytes) == 0);
-        WANT(pcidr_host_to_bytes(&bad[i], bytes, sizeof bytes) == 0);
-        WANT(pcidr_first(&bad[i], &out) == PCIDR_NO_VALUE && is_same(out, mark));
-        WANT(pcidr_last(&bad[i], &out) == PCIDR_NO_VALUE && is_same(out, mark));
-        WANT(pcidr_mask(&bad[i], &out) == PCIDR_NO_VALUE && is_same(out, mark));
-        WANT(pcidr_address(&bad[i], &out) == PCIDR_NO_VALUE && is_same(out, mark));
-        WANT(pcidr_network(&bad[i], &out) == PCIDR_NO_VALUE && is_same(out, mark));
-        WANT(pcidr_step_up(&bad[i], 0, 1, &out) == PCIDR_NO_VALUE && is_same(out, mark));
-        WANT(pcidr_step_down(&bad[i], 0, 1, &out) == PCIDR_NO_VALUE && is_same(out, mark));
-        WANT(pcidr_at(&bad[i], 0, 1, &out) == PCIDR_NO_VALUE && is_same(out, mark));
-        WANT(pcidr_contains(&bad[i], &wide) == PCIDR_NO_VALUE && pcidr_contains(&wide, &bad[i]) == PCIDR_NO_VALUE);
-        WANT(pcidr_compare(&bad[i], &wide) == PCIDR_NO_VALUE && pcidr_compare(&wide, &bad[i]) == PCIDR_NO_VALUE);
-        WANT(pcidr_compare_hosts(&bad[i], &host) == PCIDR_NO_VALUE);
-        WANT(pcidr_compare_hosts(&host, &bad[i]) == PCIDR_NO_VALUE);
-        WANT(pcidr_cover(&bad[i], 1, &count) == PCIDR_NO_VALUE);
-        count = 1;
-        out = bad[i];
-        WANT(pcidr_union_in_place(&out, 1, &count, &wide, 1) == PCIDR_NO_VALUE && is_same(out, bad[i]) && count == 1);
-        out = wide;
-        WANT(pcidr_difference_in_place(&out, 1, &count, &bad[i], 1) == PCIDR_NO_VALUE && is_same(out, wide));
+/* Strings of any bytes, and compact bytes that end too early. */
+static void strings(void) {
+    for (size_t i = 0; i < LENGTH(readers); i++) {
+        WANT(read_copy(readers[i], "\xff\xfe", 2) == PCIDR_NOT_UTF8 && is_left());
+        WANT(read_copy(readers[i], "\xe2\x82", 2) == PCIDR_NOT_UTF8 && is_left()); /* begins a character */
+        WANT(read_copy(readers[i], "10.0.0.1\0/8", 11) == PCIDR_ADDRESS && is_left());
+        WANT(read_copy(readers[i], "10.0.0.", 7) == PCIDR_ADDRESS && is_left());
+        WANT(read_copy(readers[i], "1:2:3:4:5:6:7:", 14) == PCIDR_ADDRESS && is_left());
+        WANT(read_copy(readers[i], "10.1.2.3", 8) == PCIDR_OK && is_same(out, address));
         out = mark;
-        WANT(pcidr_union(&wide, 1, &bad[i], 1, &out, 1, &count) == PCIDR_NO_VALUE && is_same(out, mark));
-        WANT(pcidr_contains_each(&bad[i], 1, &address, 1, bytes, 1) == PCIDR_NO_VALUE);
-        WANT(pcidr_contains_each(&wide, 1, &bad[i], 1, bytes, 1) == PCIDR_NO_VALUE);
-        WANT(pcidr_longest_match_each(&bad[i], 1, &address, 1, &count, 1) == PCIDR_NO_VALUE);
-        WANT(pcidr_longest_match_each(&wide, 1, &bad[i], 1, &count, 1) == PCIDR_NO_VALUE);
-        WANT(pcidr_print_lines(&bad[i], 1, text, sizeof text, &count) == PCIDR_NO_VALUE);
     }
-    WANT(pcidr_print_network(&host, text, sizeof text) == 0);
-    WANT(pcidr_contains(&wide, &host) == PCIDR_NO_VALUE);
-    WANT(pcidr_print_address(&wide, text, sizeof text) == 0);
-    WANT(pcidr_first(&any, &out) == PCIDR_NO_VALUE && is_same(out, mark));
-    WANT(pcidr_message(99, text, sizeof text) == 0 && pcidr_message(0, NULL, 0) == 0);
+    for (size_t i = 2; i < LENGTH(readers); i++) { /* those with a prefix length */
+        WANT(read_copy(readers[i], "10.0.0.0/33", 11) == PCIDR_LENGTH_TOO_LONG && is_left());
+        WANT(read_copy(readers[i], "10.0.0.0/", 9) == PCIDR_LENGTH && is_left());
+        WANT(read_copy(readers[i], "10.0.0.1/8", 10) == (i == 2 ? PCIDR_OK : PCIDR_HOST_PART));
+        out = mark;
+    }
+    const uint8_t wide_bytes[] = {8, 10, 0, 0, 0}, odd_bytes[] = {8, 10, 0, 0, 1};
+    for (size_t i = 0; i < LENGTH(byte_readers); i++)
+        for (size_t size = 0; size <= 5; size++) {
+            uint8_t *copy = copy_of(wide_bytes, size);
+            uint32_t code = byte_readers[i](copy, size, &out, &count);
+            WANT(size < 5 ? code == PCIDR_TRUNCATED && is_left() : code == PCIDR_OK && is_same(out, wide) && count == 5);
+            free(copy);
+            out = mark, count = 77;
+        }
+    WANT(pcidr_network_from_bytes(odd_bytes, 5, &out, &count) == PCIDR_HOST_PART && is_left());
+    WANT(pcidr_network_from_bytes((const uint8_t *)"\x21", 1, &out, &count) == PCIDR_TAG && is_left());
+    WANT(pcidr_host_from_bytes((const uint8_t *)"\xff", 1, &out, &count) == PCIDR_ANY && is_left());
+}
 
-    /* rooms that are too small, each of its own so that the sanitizer sees what is written behind it */
-    for (size_t room = 0; room <= 10; room++) {
-        char *small = malloc(room ? room : 1);
-        memset(small, 'x', room ? room : 1);
-        WANT(pcidr_print_network(&wide, small, room) == 10 && small[0] == 'x');
-        WANT(pcidr_print_lines(&wide, 1, small, room, &count) == PCIDR_NO_ROOM);
-        WANT(pcidr_message(PCIDR_HOST_PART, small, room) == 33 && small[0] == 'x');
-        free(small);
-        uint8_t *few = malloc(room ? room : 1);
-        WANT(pcidr_network_to_bytes(&wide, few, room) == 5 && pcidr_host_to_bytes(&host, few, room) == 5);
-        free(few);
+/* A value that is neither a host nor a network. */
+static void no_value(pcidr_value bad) {
+    for (size_t i = 0; i < LENGTH(printers); i++) {
+        memset(text, 'x', sizeof text);
+        WANT(printers[i](&bad, text, sizeof text) == 0 && text[0] == 'x');
     }
-    char *exact = malloc(11);
-    WANT(pcidr_print_network(&wide, exact, 11) == 10 && strcmp(exact, "10.0.0.0/8") == 0);
-    WANT(pcidr_print_lines(&wide, 1, exact, 11, &count) == PCIDR_OK && count == 11 && exact[10] == '\n');
-    free(exact);
-    pcidr_value two[2];
+    for (size_t i = 0; i < LENGTH(writers); i++) {
+        memset(bytes, 'x', sizeof bytes);
+        WANT(writers[i](&bad, bytes, sizeof bytes) == 0 && bytes[0] == 'x');
+    }
+    for (size_t i = 0; i < LENGTH(parts); i++) WANT(parts[i](&bad, &out) == PCIDR_NO_VALUE && is_left());
+    for (size_t i = 0; i < LENGTH(steps); i++) WANT(steps[i](&bad, 0, 1, &out) == PCIDR_NO_VALUE && is_left());
+    WANT(pcidr_contains(&bad, &wide) == PCIDR_NO_VALUE && pcidr_contains(&wide, &bad) == PCIDR_NO_VALUE);
+    WANT(pcidr_compare(&bad, &wide) == PCIDR_NO_VALUE && pcidr_compare(&wide, &bad) == PCIDR_NO_VALUE);
+    WANT(pcidr_compare_hosts(&bad, &host) == PCIDR_NO_VALUE && pcidr_compare_hosts(&host, &bad) == PCIDR_NO_VALUE);
+    WANT(pcidr_print_lines(&bad, 1, text, sizeof text, &count) == PCIDR_NO_VALUE && is_left());
+
+    const pcidr_value both[] = {wide, bad};
+    pcidr_value room[] = {wide, bad};
+    WANT(pcidr_cover(room, 2, &count) == PCIDR_NO_VALUE && is_same(room[0], wide) && is_same(room[1], bad) && is_left());
+    for (size_t i = 0; i < LENGTH(sets); i++) {
+        WANT(sets[i](both, 2, &wide, 1, &out, 1, &count) == PCIDR_NO_VALUE && is_left());
+        WANT(sets[i](&wide, 1, both, 2, &out, 1, &count) == PCIDR_NO_VALUE && is_left());
+    }
+    for (size_t i = 0; i < LENGTH(sets_in_place); i++) {
+        count = 2;
+        WANT(sets_in_place[i](room, 2, &count, &wide, 1) == PCIDR_NO_VALUE && is_same(room[1], bad) && count == 2);
+        count = 1; /* the second one is no part of the set */
+        WANT(sets_in_place[i](room, 2, &count, both, 2) == PCIDR_NO_VALUE && is_same(room[0], wide) && count == 1);
+        count = 77;
+    }
+    WANT(pcidr_contains_each(both, 2, &address, 1, bytes, 1) == PCIDR_NO_VALUE);
+    WANT(pcidr_contains_each(&wide, 1, both, 2, bytes, 2) == PCIDR_NO_VALUE);
+    size_t indexes[2];
+    WANT(pcidr_longest_match_each(both, 2, &address, 1, indexes, 1) == PCIDR_NO_VALUE);
+    WANT(pcidr_longest_match_each(&wide, 1, both, 2, indexes, 2) == PCIDR_NO_VALUE);
+}
+
+/* Values of another kind than the call takes. */
+static void other_values(void) {
+    for (size_t i = 0; i < LENGTH(parts); i++) WANT(parts[i](&any, &out) == PCIDR_NO_VALUE && is_left());
+    for (size_t i = 0; i < LENGTH(steps); i++) WANT(steps[i](&any, 0, 1, &out) == PCIDR_NO_VALUE && is_left());
+    WANT(pcidr_print_network(&host, text, sizeof text) == 0 && pcidr_print_host(&any, text, sizeof text) == 0);
+    WANT(pcidr_print_address(&wide, text, sizeof text) == 0 && pcidr_print_address(&any, text, sizeof text) == 0);
+    WANT(pcidr_network_to_bytes(&host, bytes, sizeof bytes) == 0 && pcidr_host_to_bytes(&any, bytes, sizeof bytes) == 0);
+    WANT(pcidr_contains(&wide, &host) == PCIDR_NO_VALUE && pcidr_compare(&host, &wide) == PCIDR_NO_VALUE);
+    WANT(pcidr_compare_hosts(&any, &wide) == PCIDR_NO_VALUE);
+    WANT(pcidr_message(99, text, sizeof text) == 0 && pcidr_message(0, NULL, 0) == 0);
+}
+
+/* Rooms that are too small by one or more, each with nothing behind it. */
+static void small_rooms(void) {
+    for (size_t i = 0; i < LENGTH(printers); i++) {
+        size_t len = printers[i](&address, NULL, 0);
+        for (size_t size = 0; size <= len + 1; size++) {
+            char *room = malloc(size ? size : 1);
+            memset(room, 'x', size ? size : 1);
+            WANT(printers[i](&address, room, size) == len);
+            WANT(size <= len ? room[0] == 'x' : strlen(room) == len && memcmp(room, "10.1.2.3", 8) == 0);
+            free(room);
+        }
+    }
+    for (size_t i = 0; i < LENGTH(writers); i++)
+        for (size_t size = 0; size <= 5; size++) {
+            uint8_t *room = malloc(size ? size : 1);
+            memset(room, 'x', size ? size : 1);
+            WANT(writers[i](&address, room, size) == 5 && room[0] == (size < 5 ? 'x' : 32));
+            free(room);
+        }
+    for (size_t size = 0; size <= 11; size++) {
+        char *room = malloc(size ? size : 1);
+        uint32_t code = pcidr_print_lines(&wide, 1, room, size, &count);
+        WANT(size < 11 ? code == PCIDR_NO_ROOM && is_left() : code == PCIDR_OK && count == 11 && room[10] == '\n');
+        count = 77;
+        free(room);
+    }
+    char *message = malloc(33);
+    memset(message, 'x', 33);
+    WANT(pcidr_message(PCIDR_HOST_PART, message, 33) == 33 && message[0] == 'x');
+    free(message);
+
+    pcidr_value *two = malloc(2 * sizeof *two);
     WANT(pcidr_read_lines("10.0.0.0/8\n11.0.0.0/8\n::/0", 26, two, 2, &count) == PCIDR_NO_ROOM && count == 2);
     WANT(pcidr_read_lines("10.0.0.0/8\n11.0.0.1/8", 21, two, 2, &count) == PCIDR_HOST_PART && count == 1);
+    WANT(pcidr_read_lines("10.0.0.0/8\n\xff", 12, two, 2, &count) == PCIDR_NOT_UTF8 && count == 1);
     WANT(pcidr_read_lines("10.0.0.0/8\n11.0.0.0/8\n", 22, two, 2, &count) == PCIDR_NO_ROOM && count == 2);
-    WANT(pcidr_difference(&wide, 1, &address, 1, two, 2, &count) == PCIDR_NO_ROOM && count == 24);
-    two[0] = wide, count = 1;
-    WANT(pcidr_difference_in_place(two, 2, &count, &address, 1) == PCIDR_NO_ROOM && count == 24 && is_same(two[0], wide));
-    WANT(pcidr_contains_each(&wide, 1, &address, 1, NULL, 0) == PCIDR_NO_ROOM);
-    WANT(pcidr_longest_match_each(&wide, 1, &address, 1, NULL, 0) == PCIDR_NO_ROOM);
+    pcidr_value apart;
+    WANT(pcidr_read_network("::/0", 4, &apart) == PCIDR_OK);
+    for (size_t i = 0; i < LENGTH(sets); i++) {
+        size_t needed = sets[i] == pcidr_intersection ? 1 : sets[i] == pcidr_union ? 2 : 24;
+        const pcidr_value *other = sets[i] == pcidr_union ? &apart : &address;
+        WANT(sets[i](&wide, 1, other, 1, &out, needed == 1 ? 0 : 1, &count) == PCIDR_NO_ROOM && count == needed);
+        WANT(is_same(out, mark));
+    }
+    two[0] = wide, two[1] = mark, count = 1;
+    WANT(pcidr_difference_in_place(two, 2, &count, &address, 1) == PCIDR_NO_ROOM && count == 24);
+    WANT(is_same(two[0], wide) && is_same(two[1], mark));
+    count = 1;
+    WANT(pcidr_union_in_place(two, 1, &count, &apart, 1) == PCIDR_NO_ROOM && count == 2 && is_same(two[0], wide));
+    two[0] = address, two[1] = address;
+    bytes[0] = 9;
+    WANT(pcidr_contains_each(&wide, 1, two, 2, bytes, 1) == PCIDR_NO_ROOM && bytes[0] == 9);
+    count = 77;
+    WANT(pcidr_longest_match_each(&wide, 1, two, 2, &count, 1) == PCIDR_NO_ROOM && count == 77);
+    free(two);
+}
 
-    /* what is right */
+/* What is right. */
+static void right_arguments(void) {
+    pcidr_value two[2];
     WANT(pcidr_version() == PCIDR_VERSION);
     WANT(pcidr_compare(&any, &wide) == 0 && pcidr_compare(&wide, &wide) == 1 && pcidr_order(&wide, &any) == 1);
     WANT(pcidr_step_up(&host, 0, 1, &out) == PCIDR_OK && out.low == host.low + 1);
@@ -140,7 +255,7 @@ int main(void) {
     two[1] = address;
     WANT(pcidr_difference_in_place(two, 2, &count, &wide, 1) == PCIDR_OK && count == 0);
     WANT(pcidr_compare_hosts(&host, &host) == 1 && pcidr_compare_hosts(&host, &address) == 0);
-    WANT(pcidr_compare_hosts(&host, &wide) == 2 && pcidr_compare_hosts(&any, &wide) == PCIDR_NO_VALUE);
+    WANT(pcidr_compare_hosts(&host, &wide) == 2);
     WANT(pcidr_print_host_with_length(&address, text, sizeof text) == 11 && strcmp(text, "10.1.2.3/32") == 0);
     two[0] = address, two[1] = wide;
     WANT(pcidr_longest_match_each(two, 2, &address, 1, &count, 1) == PCIDR_OK && count == 0);
@@ -149,6 +264,20 @@ int main(void) {
     WANT(pcidr_longest_match_each(two, 2, &any, 1, &count, 1) == PCIDR_OK && count == PCIDR_NO_INDEX);
     WANT(pcidr_network_to_bytes(&wide, bytes, sizeof bytes) == 5);
     WANT(pcidr_network_from_bytes(bytes, 5, &out, &count) == PCIDR_OK && count == 5 && is_same(out, wide));
-    WANT(pcidr_host_from_bytes((const uint8_t *)"\xff", 1, &out, &count) == PCIDR_ANY);
+}
+
+int main(void) {
+    const pcidr_value bad[] = {{0, 0, 33}, {0, 0, 63}, {0, 0, 193}, {0, 0, 254}, {1, 0, 255},
+                               {0, 1, 255}, {1, 0, 8}, {0, (uint64_t)1 << 32, 8}};
+    WANT(pcidr_read_network("10.0.0.0/8", 10, &wide) == PCIDR_OK);
+    WANT(pcidr_read_host("10.0.0.5/8", 10, &host) == PCIDR_OK);
+    WANT(pcidr_read_network("any", 3, &any) == PCIDR_OK);
+    WANT(pcidr_read_address("10.1.2.3", 8, &address) == PCIDR_OK);
+    null_arguments();
+    strings();
+    for (size_t i = 0; i < LENGTH(bad); i++) no_value(bad[i]);
+    other_values();
+    small_rooms();
+    right_arguments();
     return failures != 0;
 }

@@ -1,0 +1,82 @@
+/* Refuses each allocation of a call in turn: the call returns PCIDR_NO_MEMORY, leaves all as it was, and gives back what it
+ * has, which the address sanitizer sees. Linked with --wrap=malloc and --wrap=realloc. */
+#include <pcidr.h>
+#include <stdio.h>
+#include <stdlib.h>
+#include <string.h>
+
+enum { COUNT = 64, ROOM = 4 * COUNT };
+
+static int failures;
+/* How many allocations there are before the one that is refused. */
+static size_t before = SIZE_MAX;
+
+void *__real_malloc(size_t size);
+void *__real_realloc(void *block, size_t size);
+
+void *__wrap_malloc(size_t size) { return before-- == 0 ? NULL : __real_malloc(size); }
+void *__wrap_realloc(void *block, size_t size) { return before-- == 0 ? NULL : __real_realloc(block, size); }
+
+static pcidr_value networks[ROOM], others[COUNT], out[ROOM], kept[ROOM];
+static uint8_t held[COUNT];
+static size_t matches[COUNT], count;
+
+static uint32_t cover(void) { return pcidr_cover(networks, COUNT, &count); }
+static uint32_t make_union(void) { return pcidr_union(networks, COUNT, others, COUNT, out, ROOM, &count); }
+static uint32_t intersection(void) { return pcidr_intersection(networks, COUNT, others, COUNT, out, ROOM, &count); }
+static uint32_t difference(void) { return pcidr_difference(networks, COUNT, others, COUNT, out, ROOM, &count); }
+static uint32_t symmetric_difference(void) {
+    return pcidr_symmetric_difference(networks, COUNT, others, COUNT, out, ROOM, &count);
+}
+static uint32_t union_in_place(void) { return pcidr_union_in_place(networks, ROOM, &count, others, COUNT); }
+static uint32_t intersection_in_place(void) { return pcidr_intersection_in_place(networks, ROOM, &count, others, COUNT); }
+static uint32_t difference_in_place(void) { return pcidr_difference_in_place(networks, ROOM, &count, others, COUNT); }
+static uint32_t contains_each(void) { return pcidr_contains_each(networks, COUNT, others, COUNT, held, COUNT); }
+static uint32_t longest_match_each(void) {
+    return pcidr_longest_match_each(networks, COUNT, others, COUNT, matches, COUNT);
+}
+
+/* Networks of which some overlap, in no order, and a mark in what is written. */
+static void set_values(void) {
+    memset(out, 0, sizeof out), memset(held, 9, sizeof held), memset(matches, 9, sizeof matches);
+    memset(networks, 0, sizeof networks);
+    for (uint64_t i = 0; i < COUNT; i++) {
+        networks[i].low = i * 37 % COUNT << 26, networks[i].tag = 6;
+        others[i].low = i * 23 % COUNT << 27 & 0xffffffff, others[i].tag = 9;
+    }
+    memcpy(kept, networks, sizeof kept);
+    count = COUNT;
+}
+
+/* Whether all is as `set_values` leaves it. */
+static int is_left(void) {
+    static const pcidr_value no_values[ROOM];
+    for (size_t i = 0; i < COUNT; i++)
+        if (held[i] != 9 || matches[i] != (size_t)0x0909090909090909) return 0;
+    return count == COUNT && memcmp(networks, kept, sizeof kept) == 0 && memcmp(out, no_values, sizeof out) == 0;
+}
+
+int main(void) {
+    static uint32_t (*const calls[])(void) = {
+        cover, make_union, intersection, difference, symmetric_difference, union_in_place, intersection_in_place,
+        difference_in_place, contains_each, longest_match_each};
+    for (size_t i = 0; i < sizeof calls / sizeof *calls; i++) {
+        uint32_t code = PCIDR_NO_MEMORY;
+        size_t refused = 0;
+        for (; code == PCIDR_NO_MEMORY && refused < 100; refused++) {
+            set_values();
+            before = refused;
+            code = calls[i]();
+            before = SIZE_MAX;
+            if (code == PCIDR_NO_MEMORY && !is_left()) {
+                fprintf(stderr, "call %zu, allocation %zu: something is changed\n", i, refused);
+                failures++;
+            }
+        }
+        if (code != PCIDR_OK || refused < 2) {
+            fprintf(stderr, "call %zu: error %u after %zu tries\n", i, (unsigned)code, refused);
+            failures++;
+        }
+    }
+    return failures != 0;
+}
