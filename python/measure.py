@@ -54,6 +54,8 @@ def main():
     held, table = NetworkSet(texts), Table(zip(texts, range(len(texts))))
     measure("NetworkSet.contains_each of 1,000,000 strings, in a set of 100,000 networks", lambda: held.contains_each(asked))
     measure("Table.lookup_each of 1,000,000 strings, in a table of 100,000 networks", lambda: table.lookup_each(asked))
+    few = asked[:10_000]
+    measure("Table.lookup of 10,000 strings one by one, in that table", lambda: list(map(table.lookup, few)))
 
 
 if __name__ == "__main__":

@@ -1,0 +1,223 @@
+/* calls ROUNDS: times calls of the library. Prints of each a line with tabs between: its name, the nanoseconds that it
+ * takes, the least of five turns, and a number that hangs on all results. `calls values` prints the values that the calls
+ * get, one a line, for crates/cidr_c_bench. */
+#define _POSIX_C_SOURCE 199309L
+#include <pcidr.h>
+#include <stdio.h>
+#include <stdlib.h>
+#include <string.h>
+#include <time.h>
+
+enum { MANY = 1024, NETWORKS = 100000, ASKED = 1000000, TURNS = 5 };
+
+static const uint8_t ipv4_lengths[32] = {24, 24, 24, 24, 24, 24, 24, 24, 24, 24, 24, 24, 24, 24, 24, 24,
+                                         24, 24, 23, 23, 22, 22, 22, 22, 21, 20, 20, 19, 19, 18, 17, 16};
+static const uint8_t ipv6_lengths[32] = {48, 48, 48, 48, 48, 48, 48, 48, 48, 48, 48, 48, 48, 48, 48, 32,
+                                         32, 32, 32, 44, 44, 44, 40, 40, 40, 36, 36, 46, 47, 29, 42, 64};
+
+static struct {
+    char text[PCIDR_TEXT_ROOM];
+    size_t len;
+} texts[MANY];
+static pcidr_value hosts[MANY], networks[MANY], around[MANY];
+static pcidr_value many_networks[NETWORKS], asked[ASKED];
+static uint8_t held[ASKED];
+static size_t matches[ASKED];
+
+/* Number `index` of a fixed sequence in which none can be foreseen from those before it (SplitMix64). */
+static uint64_t random_at(uint64_t index) {
+    uint64_t state = (index + 1) * 0x9e3779b97f4a7c15u;
+    state = (state ^ state >> 30) * 0xbf58476d1ce4e5b9u;
+    state = (state ^ state >> 27) * 0x94d049bb133111ebu;
+    return state ^ state >> 31;
+}
+
+/* The random host with this index. */
+static pcidr_value host_at(uint64_t index) {
+    uint64_t number = random_at(index), low = random_at(index ^ 0x40000000), place = random_at(index ^ 0x20000000) % 32;
+    pcidr_value host = {0, number >> 32, ipv4_lengths[place]};
+    if (random_at(index ^ 0x10000000) % 2 == 0) return host;
+    host.high = number >> 3 | (uint64_t)1 << 61;
+    host.tag = 64 + ipv6_lengths[place];
+    switch (low % 4) {
+    case 0: host.low = low; break;
+    case 1: host.low = low >> 52; break;
+    case 2: host.high &= UINT64_MAX << 16, host.low = 0; break;
+    default: host.high &= UINT64_MAX << 32, host.low = low & 0x00ff000f0fff00ff;
+    }
+    return host;
+}
+
+/* Ends the program where a call returns an error. */
+static void want(uint32_t code) {
+    if (code == PCIDR_OK) return;
+    fprintf(stderr, "calls: error %u\n", (unsigned)code);
+    exit(1);
+}
+
+static pcidr_value network_at(uint64_t index) {
+    pcidr_value host = host_at(index), network;
+    want(pcidr_network(&host, &network));
+    return network;
+}
+
+/* A network that contains the one with this index, or another one. */
+static pcidr_value around_at(uint64_t index) {
+    uint64_t chosen = random_at(index ^ 0x04000000);
+    if (chosen % 2 == 0) return network_at(index ^ 1);
+    pcidr_value host = host_at(index), network;
+    uint8_t none = host.tag < 64 ? 0 : 64;
+    host.tag = none + (uint8_t)((chosen >> 32) % (host.tag - none + 1u));
+    want(pcidr_network(&host, &network));
+    return network;
+}
+
+static void make_values(void) {
+    for (size_t i = 0; i < MANY; i++) {
+        hosts[i] = host_at(i), networks[i] = network_at(i), around[i] = around_at(i);
+        texts[i].len = pcidr_print_network_with_length(&networks[i], texts[i].text, sizeof texts[i].text);
+    }
+    for (size_t i = 0; i < NETWORKS; i++) many_networks[i] = network_at(i);
+    for (size_t i = 0; i < ASKED; i++) {
+        uint64_t chosen = random_at(i ^ 0x08000000);
+        pcidr_value host = host_at(chosen % 2 == 0 ? (chosen >> 32) % NETWORKS : i ^ 0x01000000);
+        want(pcidr_address(&host, &asked[i]));
+    }
+}
+
+/* ---- one number out of results, which hangs on each bit of them */
+
+static uint32_t mixed(uint32_t sum, uint32_t next) { return sum * 5 ^ next; }
+
+static uint32_t folded(uint64_t half) { return (uint32_t)(half ^ half >> 32); }
+
+static uint32_t address_number(const pcidr_value *value) { return folded(value->high ^ value->low); }
+
+static uint32_t network_number(const pcidr_value *value) {
+    uint32_t len = value->tag < 64 ? value->tag : value->tag - 64u;
+    return address_number(value) ^ len << 16;
+}
+
+static uint64_t rotated(uint64_t number) { return number << 9 | number >> 55; }
+
+static uint32_t text_number(const char *text, size_t len) {
+    uint64_t sum = len, eight;
+    size_t i = 0;
+    for (; len - i >= 8; i += 8) {
+        memcpy(&eight, text + i, 8); /* low byte first, as most processors have it */
+        sum = rotated(sum) ^ eight;
+    }
+    for (; i < len; i++) sum = rotated(sum) ^ (uint8_t)text[i];
+    return folded(sum);
+}
+
+/* ---- the calls, each on all values of a round */
+
+static uint32_t read_networks(uint32_t sum) {
+    pcidr_value out;
+    for (size_t i = 0; i < MANY; i++) {
+        uint32_t code = pcidr_read_network(texts[i].text, texts[i].len, &out);
+        sum = mixed(sum, code == PCIDR_OK ? network_number(&out) : 1);
+    }
+    return sum;
+}
+
+static uint32_t print_networks(uint32_t sum) {
+    char text[PCIDR_TEXT_ROOM];
+    for (size_t i = 0; i < MANY; i++) {
+        size_t len = pcidr_print_network(&networks[i], text, sizeof text);
+        sum = mixed(sum, text_number(text, len));
+    }
+    return sum;
+}
+
+static uint32_t first_addresses(uint32_t sum) {
+    pcidr_value out;
+    for (size_t i = 0; i < MANY; i++) {
+        uint32_t code = pcidr_first(&hosts[i], &out);
+        sum = mixed(sum, code == PCIDR_OK ? address_number(&out) : 1);
+    }
+    return sum;
+}
+
+static uint32_t last_addresses(uint32_t sum) {
+    pcidr_value out;
+    for (size_t i = 0; i < MANY; i++) {
+        uint32_t code = pcidr_last(&hosts[i], &out);
+        sum = mixed(sum, code == PCIDR_OK ? address_number(&out) : 1);
+    }
+    return sum;
+}
+
+static uint32_t contains(uint32_t sum) {
+    for (size_t i = 0; i < MANY; i++) sum = mixed(sum, pcidr_contains(&around[i], &networks[i]));
+    return sum;
+}
+
+static uint32_t compare(uint32_t sum) {
+    for (size_t i = 0; i < MANY; i++) sum = mixed(sum, pcidr_compare(&around[i], &networks[i]));
+    return sum;
+}
+
+static uint32_t contains_each(uint32_t sum) {
+    want(pcidr_contains_each(many_networks, NETWORKS, asked, ASKED, held, ASKED));
+    for (size_t i = 0; i < ASKED; i++) sum = mixed(sum, held[i]);
+    return sum;
+}
+
+static uint32_t longest_match_each(uint32_t sum) {
+    want(pcidr_longest_match_each(many_networks, NETWORKS, asked, ASKED, matches, ASKED));
+    for (size_t i = 0; i < ASKED; i++) sum = mixed(sum, (uint32_t)matches[i]);
+    return sum;
+}
+
+static double now(void) {
+    struct timespec time;
+    clock_gettime(CLOCK_MONOTONIC, &time);
+    return 1e9 * (double)time.tv_sec + (double)time.tv_nsec;
+}
+
+/* Times a call, which a round makes so many times, and prints its line. */
+static void row(const char *name, uint32_t (*round)(uint32_t), size_t calls, unsigned long rounds) {
+    double least = 1e300;
+    uint32_t sum = 0;
+    for (int turn = 0; turn < TURNS; turn++) {
+        double start = now();
+        sum = 0;
+        for (unsigned long i = 0; i < rounds; i++) sum = round(sum);
+        double taken = (now() - start) / (double)calls / (double)rounds;
+        if (taken < least) least = taken;
+    }
+    printf("%s\t%.3f\t%u\n", name, least, (unsigned)sum);
+}
+
+static void print_values(const pcidr_value *values, size_t count) {
+    char text[PCIDR_TEXT_ROOM];
+    for (size_t i = 0; i < count; i++) {
+        pcidr_print_host(&values[i], text, sizeof text);
+        puts(text);
+    }
+}
+
+int main(int argc, char **argv) {
+    make_values();
+    if (argc == 2 && strcmp(argv[1], "values") == 0) {
+        print_values(hosts, MANY);
+        print_values(around, MANY);
+        print_values(many_networks, NETWORKS);
+        print_values(asked, ASKED);
+        return 0;
+    }
+    unsigned long rounds = argc > 1 ? strtoul(argv[1], NULL, 10) : 0, fewer = rounds / 1000;
+    if (rounds == 0) rounds = 1;
+    if (fewer == 0) fewer = 1;
+    row("read a network", read_networks, MANY, rounds);
+    row("print a network", print_networks, MANY, rounds);
+    row("first address", first_addresses, MANY, rounds);
+    row("last address", last_addresses, MANY, rounds);
+    row("contains", contains, MANY, rounds);
+    row("compare", compare, MANY, rounds);
+    row("contains each", contains_each, ASKED, fewer);
+    row("longest match each", longest_match_each, ASKED, fewer);
+    return 0;
+}
