@@ -65,7 +65,7 @@ made_same In On operation (x ∷ xs) [] family a h = absurd h
 made_same In On operation (x ∷ xs) (y ∷ ys) family a h =
     turned_same (turns operation) _ _ (combined_same In On (step_of operation) (In x family a) (On y family a) xs ys family a h.1 h.0)
 
-pub has_same : (said : List (List (Option IpCidr))) (sets : List Sets) (family : Family) (a : List Bool) → length a ≡ 129 → AllZip HasAddresses said sets
+pub has_same : (said : List (List (List IpCidr))) (sets : List Sets) (family : Family) (a : List Bool) → length a ≡ 129 → AllZip HasAddresses said sets
     → AllZip (λ x y. Held x family a ↔ Says y family a) sets said
 has_same [] [] family a wide h = tt
 has_same [] (y ∷ sets) family a wide h = absurd h
@@ -102,18 +102,18 @@ lists_written told operation files read sets s t w r are made (text, printed, wr
 
 -- the list of one network as a set
 pub network_set : (old new : Networks) (network : IpCidr) (sets : Sets) → old.v4.items ≡ [] → old.v6.items ≡ []
-    → Grows old new (λ family. network_in family (Some network)) → ((family : Family) → IsSetOf 129 (Covers (listed new family)) (held sets family))
-    → (family : Family) → IsSetOf 129 (Covers (network_in family (Some network))) (held sets family)
+    → Grows old new (λ family. network_in family (network ∷ [])) → ((family : Family) → IsSetOf 129 (Covers (listed new family)) (held sets family))
+    → (family : Family) → IsSetOf 129 (Covers (network_in family (network ∷ []))) (held sets family)
 network_set old new network sets four six grows set family =
     let none : (family : Family) → listed old family ≡ [] = elim [ Ipv4 ↦ four | Ipv6 ↦ six ] in
     subst (λ (k : List (List Bool)). IsSetOf 129 (Covers k) (held sets family))
-    (grows family ∙ ap (λ (k : List (List Bool)). k ++ network_in family (Some network)) (none family)) (set family)
+    (grows family ∙ ap (λ (k : List (List Bool)). k ++ network_in family (network ∷ [])) (none family)) (set family)
 
 -- what both a network and the rest of the lists have
 pub not_in_written : (told : List ℕ → Option (List ℕ)) (net : List ℕ) (files : List (List ℕ)) (network : IpCidr) (read : List Sets) (rest whole sets : Sets)
     (s t : State) (w : Result (Unit {0}) OutputFailed) (r : Result Verdict CommandError) → IsIpNetworkText net network → AreRead told (read_files files) read
     → ((family : Family) → IsSetOf 129 (IsMade Held Not read family) (held rest family))
-    → ((family : Family) → IsSetOf 129 (Covers (network_in family (Some network))) (held whole family))
+    → ((family : Family) → IsSetOf 129 (Covers (network_in family (network ∷ []))) (held whole family))
     → ((family : Family) → IsSetOf 129 (λ a. Steps Intersection (Held whole family a) (Held rest family a)) (held sets family))
     → Answered s t (printed_sets (held sets)) w → r ≡ by_output Yes w → AnswersRequest told (NotIn net files) s t r
 not_in_written told net files network read rest whole sets s t w r parsed are made one both written is =

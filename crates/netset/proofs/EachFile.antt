@@ -119,8 +119,8 @@ pub first_not_read : (told : List ℕ → Option (List ℕ)) (name : List ℕ) (
 first_not_read told name names e h = not_read told (name ∷ names) 0 name [] e (omega arith) refl (none_read told) h
 
 said_first : (told : List ℕ → Option (List ℕ)) (name : List ℕ) (names : List (List ℕ)) (set : Sets) → ReadsFile (told name) name (Ok set)
-    → ((texts : List (List ℕ)) → AreTold told names texts → (said : List (List (Option IpCidr))) × AllZip ListSays texts said)
-    → (texts : List (List ℕ)) → AreTold told (name ∷ names) texts → (said : List (List (Option IpCidr))) × AllZip ListSays texts said
+    → ((texts : List (List ℕ)) → AreTold told names texts → (said : List (List (List IpCidr))) × AllZip ListSays texts said)
+    → (texts : List (List ℕ)) → AreTold told (name ∷ names) texts → (said : List (List (List IpCidr))) × AllZip ListSays texts said
 said_first told name names set first others [] h = absurd h
 said_first told name names set first others (text ∷ texts) h =
     let (one, here, is_set) = first text h.0 in

@@ -18,7 +18,7 @@ pub record Progress (text : List ℕ) (left : Option (List ℕ)) (old new : List
   pub before : List (List ℕ)
   pub lines : lines_of text ≡ before ++ lines_of rest
   pub place : number ≡ length before + 1
-  pub said : List (Option IpCidr)
+  pub said : List (List IpCidr)
   pub fine : AllZip LineSays before said
   pub grown : Grows old new (λ family. networks_in family said)
 
@@ -35,13 +35,13 @@ started (Some text) lists = record {
   grown = λ family. sym (append-nil (listed lists family));
 }
 
-grown_more : (old now new : Lists) (said : List (Option IpCidr)) (one : Option IpCidr) → Grows old now (λ family. networks_in family said)
+grown_more : (old now new : Lists) (said : List (List IpCidr)) (one : List IpCidr) → Grows old now (λ family. networks_in family said)
     → Grows now new (λ family. network_in family one) → Grows old new (λ family. networks_in family (said ++ one ∷ []))
 grown_more old now new said one g h family =
     h family ∙ (ap (λ k. k ++ network_in family one) (g family) ∙ flat_map_more (network_in family) (listed old family) said one)
 
 -- a line that has another behind it
-pub stepped : (told left next : Option (List ℕ)) (old now new : Lists) (number : ℕ) (line : List ℕ) (more : Bool) (one : Option IpCidr)
+pub stepped : (told left next : Option (List ℕ)) (old now new : Lists) (number : ℕ) (line : List ℕ) (more : Bool) (one : List IpCidr)
     → more ≡ true → IfSome told (λ text. Progress text left old now number) → IfSome left (λ text. IsNextLine text line more next) → LineSays line one
     → Grows now new (λ family. network_in family one) → IfSome told (λ text. Progress text next old new (number + 1))
 stepped None left next old now new number line more one is p n s g = tt
@@ -60,7 +60,7 @@ stepped (Some text) left next old now new number line true one is p n s g =
     }
 
 -- the last line
-pub finished : (told left next : Option (List ℕ)) (old now new : Lists) (number : ℕ) (line : List ℕ) (more : Bool) (one : Option IpCidr)
+pub finished : (told left next : Option (List ℕ)) (old now new : Lists) (number : ℕ) (line : List ℕ) (more : Bool) (one : List IpCidr)
     → more ≡ false → IfSome told (λ text. Progress text left old now number) → IfSome left (λ text. IsNextLine text line more next) → LineSays line one
     → Grows now new (λ family. network_in family one) → IfSome told (λ text. ReadsList text old new (Ok tt))
 finished None left next old now new number line more one is p n s g = tt

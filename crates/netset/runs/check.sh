@@ -96,6 +96,29 @@ rows() {
     run 0 $'netset 0.1.0\n' '' '' --version
 }
 
+# Lines that are ranges of addresses.
+rows_of_ranges() {
+    run 0 $'10.0.0.1\n10.0.0.2/31\n10.0.0.4/31\n10.0.0.6\n' '' ' 10.0.0.1-10.0.0.6 # six\r\n' merge
+    run 0 $'10.0.0.0/8\n::/127\n' '' '::-::1\n10.0.0.0-10.127.255.255\n10.128.0.0/9' merge
+    run 0 $'0.0.0.0/0\n::/0\n' '' '0.0.0.0-255.255.255.255\n::-ffff:ffff:ffff:ffff:ffff:ffff:ffff:ffff' merge
+    run 0 $'Ipv4 4294967294\nIpv6 340282366920938463463374607431768211454\n' '' \
+        '0.0.0.1-255.255.255.254\n::1-ffff:ffff:ffff:ffff:ffff:ffff:ffff:fffe' count
+    run 0 $'10.0.0.1-10.0.0.6\n10.0.0.8\n::1-::2\n' '' '::1-::2\n10.0.0.8-10.0.0.8\n10.0.0.1-10.0.0.6' ranges
+    run 0 $'10.0.0.0\n10.0.0.7\n' '' '10.0.0.1-10.0.0.6' minus eight_addresses -
+    run 2 '' $'-:1: invalid IP address syntax\n' '10.0.0.0/31-10.0.0.6' merge
+    run 2 '' $'-:1: invalid IP address syntax\n' '10.0.0.1-10.0.0.6/32' merge
+    run 2 '' $'-:1: invalid IP address syntax\n' '10.0.0.1 - 10.0.0.6' merge
+    run 2 '' $'-:1: invalid IP address syntax\n' '10.0.0.1-10.0.0.2-10.0.0.3' merge
+    run 2 '' $'-:1: invalid IP address syntax\n' '10.0.0.1-' merge
+    run 2 '' $'-:1: invalid IP address syntax\n' '-' merge
+    run 2 '' $'-:1: invalid IP address syntax\n' '::1-10.0.0.x' merge
+    run 2 '' $'-:2: the ends of the range are of two families\n' '10.0.0.1-10.0.0.1\n10.0.0.1-::1' merge
+    run 2 '' $'-:1: the ends of the range are of two families\n' '::1-10.0.0.1' merge
+    run 2 '' $'-:1: the first address of the range is above the last one\n' '10.0.0.6-10.0.0.1' merge
+    run 2 '' $'-:1: the first address of the range is above the last one\n' '::2-::1' merge
+    run 2 '' $'-:1: not UTF-8\n' '::2-::\xff' merge
+}
+
 # What changes from a list to another.
 rows_of_changes() {
     run 0 '' '' '10.128.0.0/9\n10.0.0.0/9' diff ten -
@@ -204,6 +227,7 @@ for build in netset netset.by-rattle; do
     cp "out/$build" "$program"
     chmod 755 "$program"
     rows
+    rows_of_ranges
     rows_of_changes
     rows_of_pools
     rows_of_one_network

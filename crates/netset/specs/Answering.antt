@@ -31,22 +31,22 @@ IsFileError told name error.Output = ⊥
 -- the networks of the list of a file come behind those before
 abbrev pub AddsFile : Option (List ℕ) → List ℕ → Lists → Lists → Result (Unit {0}) CommandError → Type 0
 AddsFile told name old new (Ok _) = (text : List ℕ) → told ≡ Some text
-    → (said : List (Option IpCidr)) × ListSays text said × Grows old new (λ family. networks_in family said)
+    → (said : List (List IpCidr)) × ListSays text said × Grows old new (λ family. networks_in family said)
 AddsFile told name old new (Err e) = IsFileError told name e
 
 -- the sets have the addresses that a list says
-abbrev pub HasAddresses : List (Option IpCidr) → Sets → Type 0
+abbrev pub HasAddresses : List (List IpCidr) → Sets → Type 0
 HasAddresses said sets = (family : Family) → IsSetOf 129 (Says said family) (held sets family)
 
 -- the addresses of the list of a file, or why it is not read
 abbrev pub ReadsFile : Option (List ℕ) → List ℕ → Result Sets CommandError → Type 0
-ReadsFile told name (Ok sets) = (text : List ℕ) → told ≡ Some text → (said : List (Option IpCidr)) × ListSays text said × HasAddresses said sets
+ReadsFile told name (Ok sets) = (text : List ℕ) → told ≡ Some text → (said : List (List IpCidr)) × ListSays text said × HasAddresses said sets
 ReadsFile told name (Err e) = IsFileError told name e
 
 -- each list of some files has the addresses of its set
 abbrev pub AreRead : (List ℕ → Option (List ℕ)) → List (List ℕ) → List Sets → Type 0
 AreRead told names sets = (texts : List (List ℕ)) → AreTold told names texts
-    → (said : List (List (Option IpCidr))) × AllZip ListSays texts said × AllZip HasAddresses said sets
+    → (said : List (List (List IpCidr))) × AllZip ListSays texts said × AllZip HasAddresses said sets
 
 -- those of a first file and of the others, or why they are not read
 abbrev pub ReadsSeveral : (List ℕ → Option (List ℕ)) → List (List ℕ) → Result Several CommandError → Type 0

@@ -68,31 +68,31 @@ IsPrintOf form IsIn text =
     (sets : Family → List (List Bool)) × ((family : Family) → IsSetOf 129 (IsIn family) (sets family)) × IsPrinted form sets text
 
 -- the address is in one of the networks that a list says
-abbrev pub Says : List (Option IpCidr) → Family → List Bool → Type 0
+abbrev pub Says : List (List IpCidr) → Family → List Bool → Type 0
 Says said family a = Covers (networks_in family said) a
 
 -- what the operation makes of the lists
 abbrev pub IsMadeOf : Operation → List (List ℕ) → List ℕ → Type 0
 IsMadeOf operation texts answer =
-    (said : List (List (Option IpCidr))) × AllZip ListSays texts said × IsPrintOf (form_of operation) (IsMade Says operation said) answer
+    (said : List (List (List IpCidr))) × AllZip ListSays texts said × IsPrintOf (form_of operation) (IsMade Says operation said) answer
 
 -- the addresses of a network that none of the lists has
 abbrev pub IsNotIn : IpCidr → List (List ℕ) → List ℕ → Type 0
-IsNotIn network texts answer = (said : List (List (Option IpCidr))) × AllZip ListSays texts said
-    × IsPrintOf Networks (λ family a. Covers (network_in family (Some network)) a × IsMade Says Not said family a)
+IsNotIn network texts answer = (said : List (List (List IpCidr))) × AllZip ListSays texts said
+    × IsPrintOf Networks (λ family a. Covers (network_in family (network ∷ [])) a × IsMade Says Not said family a)
     answer
 
 -- what a list has and another has not, both ways
 abbrev pub IsDiff : List ℕ → List ℕ → List ℕ → Verdict → Type 0
 IsDiff old new answer verdict =
-    (before : List (Option IpCidr)) × (after : List (Option IpCidr)) × ListSays old before × ListSays new after
+    (before : List (List IpCidr)) × (after : List (List IpCidr)) × ListSays old before × ListSays new after
     × (changes : Family → List (Sign × List Bool))
     × ((family : Family) → AreChanges (networks_in family before) (networks_in family after) (changes family))
     × (answer ≡ printed_changes changes) × AreSame changes verdict
 
 -- the first network of n bits that has only addresses of the first list that no other has
 abbrev pub IsFree : ℕ → List (List ℕ) → List ℕ → Verdict → Type 0
-IsFree n texts answer verdict = (said : List (List (Option IpCidr))) × AllZip ListSays texts said
+IsFree n texts answer verdict = (said : List (List (List IpCidr))) × AllZip ListSays texts said
     × (sets : Family → List (List Bool)) × ((family : Family) → IsSetOf 129 (IsMade Says Minus said family) (sets family))
     × IsFreeText sets n answer verdict
 
@@ -118,8 +118,8 @@ help_text =
     ++ codes "netset --help           this page\n"
     ++ codes "netset --version        the version\n"
     ++ codes "\n"
-    ++ codes "A line of a list is a network or an address, and may end in a comment from # or ; on. The\n"
-    ++ codes "file - is the standard input, which is also read where no file is named.\n"
+    ++ codes "A line of a list is a network, an address or a range FIRST-LAST, and may end in a comment\n"
+    ++ codes "from # or ; on. The file - is the standard input, which is also read where no file is named.\n"
     ++ codes "Status: 0 done, 1 none or a difference, 2 usage, a wrong argument, a file that cannot be\n"
     ++ codes "read or a line in error, 3 output or memory.\n"
 

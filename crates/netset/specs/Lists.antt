@@ -1,15 +1,27 @@
--- What the bytes of a list of networks say: a network or an address a line, with white space around it, and a comment
--- behind it from # or ; on. Line feeds separate lines, so that a last one makes an empty line, which says nothing.
-use Rattle.std.specs.Prelude.{◌≡◌, ◌≢◌, ℕ, ◌+◌, ◌==◌, Bool, ◌||◌, List, [], ◌∷◌, ◌++◌, length, Option, Some, None, IsUtf8}
+-- What the bytes of a list of networks say: a network, an address or a range of addresses a line, with white space
+-- around it, and a comment behind it from # or ; on. Line feeds separate lines, so that a last one makes an empty line,
+-- which says nothing.
+use Rattle.std.specs.Prelude.{◌≡◌, ◌≢◌, ◌⊎◌, ℕ, ◌+◌, ◌==◌, Bool, ◌||◌, List, [], ◌∷◌, ◌++◌, length, map, IsUtf8}
 use Rattle.std.specs.List.{AllZip, slice_split, before_first, flat_map}
 use Rattle.std.specs.Str.{IsTrimAscii}
+use Rattle.std.specs.declared.cmp.Ordering.TheVariants.{Greater}
+use Rattle.cidr.specs.either.IpAddress.{IsIpText, address_family, ip_address_bits}
 use Rattle.cidr.specs.either.IpText.{IsIpNetworkText, IsIpRefused}
+use Rattle.cidr.specs.model.Bits.{bit_cmp}
+use Rattle.cidr.specs.texts.Messages.{ip_error}
+use Rattle.cidr.specs.texts.Refusal.{Lacks}
+use Rattle.cidr.specs.declared.addr.ip.IpAddr.{IpAddr}
+use Rattle.cidr.specs.declared.addr.ip.IpAddr.TheVariants as address
 use Rattle.cidr.specs.declared.cidr.combined.IpCidr.{IpCidr}
 use Rattle.cidr.specs.declared.cidr.combined.IpCidr.TheVariants.{V4, V6}
 use Rattle.cidr.specs.declared.family.Family.{Family}
 use Rattle.cidr.specs.declared.family.Family.TheVariants.{Ipv4, Ipv6}
+use Rattle.cidr_sets.specs.Ranges.{IsBetween}
+use Rattle.cidr_sets.specs.Sets.{IsSetOf}
 use Rattle.netset.specs.declared.errors.LineError.{LineError}
-use Rattle.netset.specs.declared.errors.LineError.TheVariants.{NotUtf8, NoNetwork}
+use Rattle.netset.specs.declared.errors.LineError.TheVariants.{NotUtf8, NoNetwork, NoAddress, TwoFamilies, Reversed}
+use Rattle.netset.specs.declared.lines.Entry.{Entry}
+use Rattle.netset.specs.declared.lines.Entry.TheVariants.{Blank, Network, Ipv4Range, Ipv6Range}
 
 -- a line feed
 abbrev pub is_line_feed : ℕ → Bool
@@ -19,6 +31,10 @@ is_line_feed byte = byte == 10
 abbrev pub is_comment_sign : ℕ → Bool
 is_comment_sign byte = (byte == 35) || (byte == 59)
 
+-- `b'-'`
+abbrev pub hyphen : ℕ
+hyphen = 45
+
 -- the bytes between line feeds
 abbrev pub lines_of : List ℕ → List (List ℕ)
 lines_of text = slice_split is_line_feed text
@@ -27,19 +43,58 @@ lines_of text = slice_split is_line_feed text
 abbrev pub IsField : List ℕ → List ℕ → Type 0
 IsField line field = IsTrimAscii (before_first is_comment_sign line) field
 
--- the line says nothing, or this network
-abbrev pub LineSays : List ℕ → Option IpCidr → Type 0
-LineSays line None = IsField line []
-LineSays line (Some network) = (field : List ℕ) × IsField line field × IsIpNetworkText field network
+-- ---- what a line says
+-- the string is these two addresses with a hyphen between them
+abbrev pub AreEnds : List ℕ → IpAddr → IpAddr → Type 0
+AreEnds text first last =
+    (front : List ℕ) × (back : List ℕ) × (text ≡ front ++ hyphen ∷ back) × IsIpText front first × IsIpText back last
 
--- the line is in error: its field is not UTF-8, or is no network, and this is the first error
+-- the field is empty, a network or an address, or a range of one family, whose first address is not above its last
+abbrev pub IsEntry : List ℕ → Entry → Type 0
+IsEntry field Blank = field ≡ []
+IsEntry field (Network network) = IsIpNetworkText field network
+IsEntry field (Ipv4Range first last) = AreEnds field (address.V4 first) (address.V4 last) × (bit_cmp first last ≢ Greater)
+IsEntry field (Ipv6Range first last) = AreEnds field (address.V6 first) (address.V6 last) × (bit_cmp first last ≢ Greater)
+
+-- its networks: for a range the shortest list that has exactly the addresses from the first to the last
+abbrev pub AreNetworks : Entry → List IpCidr → Type 0
+AreNetworks Blank said = said ≡ []
+AreNetworks (Network network) said = said ≡ network ∷ []
+AreNetworks (Ipv4Range first last) said =
+    (networks : List (List Bool)) × IsSetOf 129 (IsBetween first last) networks × (said ≡ map (λ p. V4 p) networks)
+AreNetworks (Ipv6Range first last) said =
+    (networks : List (List Bool)) × IsSetOf 129 (IsBetween first last) networks × (said ≡ map (λ p. V6 p) networks)
+
+-- the line says these networks
+abbrev pub LineSays : List ℕ → List IpCidr → Type 0
+LineSays line said = (field : List ℕ) × (entry : Entry) × IsField line field × IsEntry field entry × AreNetworks entry said
+
+-- ---- a line in error
+-- the string is no address of either family
+abbrev pub IsNoAddress : List ℕ → Type 0
+IsNoAddress text = (a : IpAddr) → ¬ (IsIpText text a)
+
+-- the first error of a field: it is not UTF-8; else, without a hyphen, it is no network, and this is the first error;
+-- else what stands before its first hyphen is no address, or what stands behind it; else the two are of two families;
+-- else the first is above the last
+abbrev pub IsFieldError : List ℕ → LineError → Type 0
+IsFieldError field NotUtf8 = ¬ (IsUtf8 field)
+IsFieldError field (NoNetwork e) =
+    (field ≢ []) × Lacks hyphen field × IsIpRefused field e × ((n : IpCidr) → ¬ (IsIpNetworkText field n))
+IsFieldError field (NoAddress e) = (front : List ℕ) × (back : List ℕ) × (field ≡ front ++ hyphen ∷ back) × Lacks hyphen front
+    × (e ≡ ip_error) × (IsNoAddress front ⊎ IsNoAddress back)
+IsFieldError field TwoFamilies =
+    (first : IpAddr) × (last : IpAddr) × AreEnds field first last × (address_family first ≢ address_family last)
+IsFieldError field Reversed = (first : IpAddr) × (last : IpAddr) × AreEnds field first last
+    × (address_family first ≡ address_family last) × (bit_cmp (ip_address_bits first) (ip_address_bits last) ≡ Greater)
+
+-- the line is in error
 abbrev pub IsInError : List ℕ → LineError → Type 0
-IsInError line NotUtf8 = (field : List ℕ) × IsField line field × ¬ (IsUtf8 field)
-IsInError line (NoNetwork e) =
-    (field : List ℕ) × IsField line field × (field ≢ []) × IsIpRefused field e × ((n : IpCidr) → ¬ (IsIpNetworkText field n))
+IsInError line e = (field : List ℕ) × IsField line field × IsFieldError field e
 
+-- ---- a list
 -- what each line of a list says
-abbrev pub ListSays : List ℕ → List (Option IpCidr) → Type 0
+abbrev pub ListSays : List ℕ → List (List IpCidr) → Type 0
 ListSays text said = AllZip LineSays (lines_of text) said
 
 -- the first line in error, by its number from 1 on
@@ -49,18 +104,18 @@ pub record IsFirstError (text : List ℕ) (number : ℕ) (e : LineError) : Type 
   pub after : List (List ℕ)
   pub lines : lines_of text ≡ before ++ line ∷ after
   pub place : number ≡ length before + 1
-  pub said : List (Option IpCidr)
+  pub said : List (List IpCidr)
   pub fine : AllZip LineSays before said
   pub fault : IsInError line e
 
--- the network that a line says, if it is of the family
-abbrev pub network_in : Family → Option IpCidr → List (List Bool)
-network_in family None = []
-network_in Ipv4 (Some (V4 p)) = p ∷ []
-network_in Ipv4 (Some (V6 p)) = []
-network_in Ipv6 (Some (V4 p)) = []
-network_in Ipv6 (Some (V6 p)) = p ∷ []
+-- the networks of a family among those that a line says
+abbrev pub network_in : Family → List IpCidr → List (List Bool)
+network_in family [] = []
+network_in Ipv4 (V4 p ∷ said) = p ∷ network_in Ipv4 said
+network_in Ipv4 (V6 p ∷ said) = network_in Ipv4 said
+network_in Ipv6 (V4 p ∷ said) = network_in Ipv6 said
+network_in Ipv6 (V6 p ∷ said) = p ∷ network_in Ipv6 said
 
 -- the networks of a family that the lines say
-abbrev pub networks_in : Family → List (Option IpCidr) → List (List Bool)
+abbrev pub networks_in : Family → List (List IpCidr) → List (List Bool)
 networks_in family said = flat_map (network_in family) said

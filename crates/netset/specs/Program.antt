@@ -1,7 +1,7 @@
 -- What a run of the program does with its arguments, the files, standard output and standard error.
 use Rattle.std.specs.Prelude.{◌≡◌, ℕ, List, [], ◌∷◌, ◌++◌, ◌⊎◌, codes, decimal, Option, Some, Result, Ok, Err, Contains}
 use Rattle.std.specs.List.{AllZip}
-use Rattle.cidr.specs.texts.Messages.{parse_message}
+use Rattle.cidr.specs.texts.Messages.{address_message, parse_message}
 use Rattle.cidr.specs.either.IpText.{IsIpNetworkText}
 use Rattle.cidr.specs.declared.cidr.combined.IpCidr.{IpCidr}
 use Rattle.cidr_io.specs.Arguments.{AreArguments, AreUnreadable}
@@ -14,7 +14,7 @@ use Rattle.netset.specs.Single.{IsBadSingle, IsNoNetwork}
 use Rattle.netset.specs.declared.errors.ArgumentError.{ArgumentError}
 use Rattle.netset.specs.declared.errors.ArgumentError.TheVariants as bad
 use Rattle.netset.specs.declared.errors.LineError.{LineError}
-use Rattle.netset.specs.declared.errors.LineError.TheVariants.{NotUtf8, NoNetwork}
+use Rattle.netset.specs.declared.errors.LineError.TheVariants.{NotUtf8, NoNetwork, NoAddress, TwoFamilies, Reversed}
 use Rattle.netset.specs.declared.answers.Verdict.{Verdict}
 use Rattle.netset.specs.declared.answers.Verdict.TheVariants.{Yes, No}
 use Rattle.netset.specs.declared.errors.CommandError.{CommandError}
@@ -27,7 +27,7 @@ IsUnread told names error.Usage = ⊥
 IsUnread told names (error.Argument text e) = ⊥
 IsUnread told names (error.Line name number e) =
     (before : List (List ℕ)) × (after : List (List ℕ)) × (names ≡ before ++ name.now ∷ after)
-    × ((texts : List (List ℕ)) → AreTold told before texts → (said : List (List (Option IpCidr))) × AllZip ListSays texts said)
+    × ((texts : List (List ℕ)) → AreTold told before texts → (said : List (List (List IpCidr))) × AllZip ListSays texts said)
     × ((text : List ℕ) → told name.now ≡ Some text → IsFirstError text number e)
 IsUnread told names (error.Input name) = Contains names name.now
 IsUnread told names error.NoMemory = Unit {0}
@@ -77,6 +77,9 @@ Answers told words old new r =
 abbrev pub line_message : LineError → List ℕ
 line_message NotUtf8 = codes "not UTF-8"
 line_message (NoNetwork e) = parse_message e
+line_message (NoAddress e) = address_message e
+line_message TwoFamilies = codes "the ends of the range are of two families"
+line_message Reversed = codes "the first address of the range is above the last one"
 
 -- the message of an argument that is wrong
 abbrev pub argument_message : ArgumentError → List ℕ

@@ -1,12 +1,13 @@
 -- What functions that read a list promise, about bytes that are known.
-use Rattle.std.specs.Prelude.{◌≡◌, ◌≢◌, ℕ, Bool, true, false, List, [], ◌∷◌, ◌++◌, Option, Some, Result, Ok, Err}
+use Rattle.std.specs.Prelude.{◌≡◌, ◌≢◌, ℕ, Bool, true, false, List, [], ◌∷◌, ◌++◌, Option, Some, Result, Ok, Err, MatchResult}
 use Rattle.cidr.specs.declared.cidr.combined.IpCidr.{IpCidr}
 use Rattle.cidr.specs.declared.family.Family.{Family}
 use Rattle.cidr.specs.declared.family.Family.TheVariants.{Ipv4, Ipv6}
-use Rattle.netset.specs.Lists.{lines_of, LineSays, IsInError, ListSays, IsFirstError, network_in, networks_in}
+use Rattle.netset.specs.Lists.{lines_of, IsField, IsEntry, IsFieldError, AreNetworks, LineSays, IsInError, ListSays, IsFirstError, network_in, networks_in}
 use Rattle.netset.specs.declared.errors.LineError.{LineError}
 use Rattle.netset.specs.declared.errors.ReadError.{ReadError}
 use Rattle.netset.specs.declared.errors.ReadError.TheVariants.{Line, Input, NoMemory}
+use Rattle.netset.specs.declared.lines.Entry.{Entry}
 use Rattle.netset.specs.declared.lists.Lists.{Lists}
 
 -- the first line of a text; if it is not the last, the others are what the reader has left
@@ -19,10 +20,13 @@ abbrev pub DropsLineFeed : List ℕ → List ℕ → Bool → Type 0
 DropsLineFeed old new true = old ≡ new ++ 10 ∷ []
 DropsLineFeed old new false = (new ≡ old) × ((line : List ℕ) → old ≢ line ++ 10 ∷ [])
 
--- what the line says, or its error
-abbrev pub ReadsLine : List ℕ → Result (Option IpCidr) LineError → Type 0
-ReadsLine line (Ok said) = LineSays line said
-ReadsLine line (Err e) = IsInError line e
+-- what a field says, or its error
+abbrev pub ReadsField : List ℕ → Result Entry LineError → Type 0
+ReadsField field r = MatchResult r (IsEntry field) (IsFieldError field)
+
+-- what the field of a line says, or its error
+abbrev pub ReadsLine : List ℕ → Result Entry LineError → Type 0
+ReadsLine line r = (field : List ℕ) × IsField line field × ReadsField field r
 
 -- no line is in error
 abbrev pub IsStopped : ReadError → Type 0
@@ -45,18 +49,22 @@ listed lists Ipv6 = lists.v6.items
 abbrev pub Grows : Lists → Lists → (Family → List (List Bool)) → Type 0
 Grows old new more = (family : Family) → listed new family ≡ listed old family ++ more family
 
+-- the networks of what a line says come behind those before
+abbrev pub AddsEntry : Entry → Lists → Lists → Type 0
+AddsEntry entry old new = (said : List IpCidr) × AreNetworks entry said × Grows old new (λ family. network_in family said)
+
 -- the error is that of this line, or the line is not known to have one
 abbrev pub IsLineError : List ℕ → ℕ → ReadError → Type 0
 IsLineError line number (Line n e) = (n ≡ number) × IsInError line e
 IsLineError line number Input = Unit {0}
 IsLineError line number NoMemory = Unit {0}
 
--- the network that a line says, if it says one, comes behind those before
+-- the networks that a line says come behind those before
 abbrev pub AddsLine : List ℕ → ℕ → Lists → Lists → Result (Unit {0}) ReadError → Type 0
-AddsLine line number old new (Ok _) = (said : Option IpCidr) × LineSays line said × Grows old new (λ family. network_in family said)
+AddsLine line number old new (Ok _) = (said : List IpCidr) × LineSays line said × Grows old new (λ family. network_in family said)
 AddsLine line number old new (Err e) = IsLineError line number e
 
 -- the networks that a text says come behind those before
 abbrev pub ReadsList : List ℕ → Lists → Lists → Result (Unit {0}) ReadError → Type 0
-ReadsList text old new (Ok _) = (said : List (Option IpCidr)) × ListSays text said × Grows old new (λ family. networks_in family said)
+ReadsList text old new (Ok _) = (said : List (List IpCidr)) × ListSays text said × Grows old new (λ family. networks_in family said)
 ReadsList text old new (Err e) = IsReadError text e

@@ -1,4 +1,5 @@
 //! Why a list can't be read, and why a command gave no answer.
+use cidr::AddrParseError;
 use cidr::errors::NetworkParseError;
 use std::alloc::{AllocError, AllocFailed};
 use std::io;
@@ -10,6 +11,12 @@ pub enum LineError {
     NotUtf8,
     /// It is neither a network nor an address: the error of parsing it.
     NoNetwork(NetworkParseError),
+    /// An end of its range is no address: the error of parsing it.
+    NoAddress(AddrParseError),
+    /// The ends of its range are of two families.
+    TwoFamilies,
+    /// The first address of its range is above the last one.
+    Reversed,
 }
 
 /// Why a list can't be read.

@@ -1,5 +1,5 @@
 //! The addresses of a network that no list has.
-ghost use Rattle.std.specs.Prelude.{map, IfOk, Some};
+ghost use Rattle.std.specs.Prelude.{◌∷◌, [], map, IfOk};
 ghost use Rattle.cidr.specs.declared.family.Family.{Family};
 ghost use Rattle.cidr_table.specs.Cover.{Covers};
 ghost use Rattle.cidr_sets.specs.Sets.{IsSetOf};
@@ -25,7 +25,7 @@ impl Sets {
     /// The addresses of a network.
     fn of_network(alloc: Global, network: &IpCidr) -> Result<Sets, AllocError>
         ensures { IfOk result (λ sets. (family : Family)
-            → IsSetOf 129 (Covers (network_in family (Some network.now))) (held sets family)) }
+            → IsSetOf 129 (Covers (network_in family (network.now ∷ []))) (held sets family)) }
     {
         let mut lists = Lists::new(alloc);
         lists.push(network)?;

@@ -1,12 +1,29 @@
 //! The lines of a list.
-ghost use Rattle.std.specs.Prelude.{◌≡◌, IfOk, IfErr, IfSome};
+ghost use Rattle.std.specs.Prelude.{◌≡◌, ℕ, List, IfOk, IfErr, IfSome, MatchResult};
 ghost use Rattle.std.specs.List.{before_first};
-ghost use Rattle.netset.specs.Lists.{is_comment_sign};
-ghost use Rattle.netset.specs.Reading.{IsNextLine, DropsLineFeed, IsStopped, ReadsLine};
+ghost use Rattle.cidr.specs.either.IpAddress.{IsIpText};
+ghost use Rattle.cidr.specs.texts.Messages.{ip_error};
+ghost use Rattle.cidr.specs.declared.addr.ip.IpAddr.TheVariants.{V4, V6};
+ghost use Rattle.netset.specs.Lists.{AreEnds, IsNoAddress, is_comment_sign};
+ghost use Rattle.netset.specs.Reading.{IsNextLine, DropsLineFeed, IsStopped, ReadsField, ReadsLine};
+ghost use Rattle.netset.specs.declared.errors.LineError.TheVariants.{NoAddress};
 
 use crate::errors::{LineError, ReadError};
-use cidr::IpCidr;
+use cidr::{IpAddr, IpCidr, Ipv4Addr, Ipv6Addr};
 use std::io::BufRead;
+
+/// What a line says.
+#[derive(Clone, Copy)]
+pub enum Entry {
+    /// Nothing.
+    Blank,
+    /// A network, or an address.
+    Network(IpCidr),
+    /// The IPv4 addresses from a first to a last one.
+    Ipv4Range(Ipv4Addr, Ipv4Addr),
+    /// The IPv6 addresses from a first to a last one.
+    Ipv6Range(Ipv6Addr, Ipv6Addr),
+}
 
 /// Reads the next line, without its line feed, in place of what `line` has, and tells whether it ends in a line feed,
 /// so that another line stands behind it.
@@ -51,19 +68,77 @@ fn without_comment(line: &[u8]) -> &[u8]
     line
 }
 
-/// The network that a line says; `None` for a line that has none.
-pub fn network_of(line: &[u8]) -> Result<Option<IpCidr>, LineError>
+/// The address that an end of a range is.
+fn end_of(text: &str) -> Result<IpAddr, LineError>
+    ensures { MatchResult result (IsIpText text.now) (λ e. (e ≡ NoAddress ip_error) × IsNoAddress text.now) }
+{
+    match text.parse() {
+        Ok(address) => Ok(address),
+        Err(e) => Err(LineError::NoAddress(e)),
+    }
+}
+
+/// The range from an IPv4 address to another one.
+fn ipv4_range(first: Ipv4Addr, last: Ipv4Addr) -> Result<Entry, LineError>
+    ensures { (field : List ℕ) → AreEnds field (V4 first) (V4 last) → ReadsField field result }
+{
+    if first.cmp(&last).is_gt() {
+        return Err(LineError::Reversed);
+    }
+    Ok(Entry::Ipv4Range(first, last))
+}
+
+/// The range from an IPv6 address to another one.
+fn ipv6_range(first: Ipv6Addr, last: Ipv6Addr) -> Result<Entry, LineError>
+    ensures { (field : List ℕ) → AreEnds field (V6 first) (V6 last) → ReadsField field result }
+{
+    if first.cmp(&last).is_gt() {
+        return Err(LineError::Reversed);
+    }
+    Ok(Entry::Ipv6Range(first, last))
+}
+
+/// The range from an address to another one.
+fn range_of(first: IpAddr, last: IpAddr) -> Result<Entry, LineError>
+    ensures { (field : List ℕ) → AreEnds field first last → ReadsField field result }
+{
+    match first {
+        IpAddr::V4(first) => match last {
+            IpAddr::V4(last) => ipv4_range(first, last),
+            IpAddr::V6(_) => Err(LineError::TwoFamilies),
+        },
+        IpAddr::V6(first) => match last {
+            IpAddr::V6(last) => ipv6_range(first, last),
+            IpAddr::V4(_) => Err(LineError::TwoFamilies),
+        },
+    }
+}
+
+/// What a field says.
+fn entry_of_field(field: &str) -> Result<Entry, LineError>
+    ensures { ReadsField field.now result }
+{
+    if field.is_empty() {
+        return Ok(Entry::Blank);
+    }
+    let Some((front, back)) = field.split_once('-') else {
+        return match field.parse() {
+            Ok(network) => Ok(Entry::Network(network)),
+            Err(e) => Err(LineError::NoNetwork(e)),
+        };
+    };
+    let first = end_of(front)?;
+    let last = end_of(back)?;
+    range_of(first, last)
+}
+
+/// What a line says.
+pub fn entry_of(line: &[u8]) -> Result<Entry, LineError>
     ensures { ReadsLine line.now result }
 {
     let field = without_comment(line).trim_ascii();
-    if field.is_empty() {
-        return Ok(None);
-    }
-    let Ok(text) = str::from_utf8(field) else {
-        return Err(LineError::NotUtf8);
-    };
-    match text.parse::<IpCidr>() {
-        Ok(network) => Ok(Some(network)),
-        Err(e) => Err(LineError::NoNetwork(e)),
+    match str::from_utf8(field) {
+        Ok(text) => entry_of_field(text),
+        Err(_) => Err(LineError::NotUtf8),
     }
 }

@@ -1,11 +1,14 @@
 //! Reading lists of networks.
-ghost use Rattle.std.specs.Prelude.{◌≡◌, [], ◌++◌, IfSome, OnOk, Some};
+ghost use Rattle.std.specs.Prelude.{◌≡◌, List, [], ◌∷◌, ◌++◌, map, IfSome, OnOk};
+ghost use Rattle.cidr_sets.specs.Ranges.{IsBetween};
+ghost use Rattle.cidr_sets.specs.Sets.{IsSetOf};
 ghost use Rattle.netset.specs.Lists.{network_in};
-ghost use Rattle.netset.specs.Reading.{AddsLine, Grows, ReadsList};
+ghost use Rattle.netset.specs.Reading.{AddsEntry, AddsLine, Grows, ReadsList};
 
 use crate::errors::ReadError;
-use crate::lines::{network_of, next_line};
+use crate::lines::{Entry, entry_of, next_line};
 use cidr::{IpCidr, Ipv4Cidr, Ipv6Cidr};
+use cidr_sets::{Addressed, NetworkSet};
 use std::alloc::{AllocError, Global};
 use std::io::{BufRead, BufReader, Read};
 
@@ -30,7 +33,7 @@ impl Lists {
 
     /// Adds a network to those of its family.
     pub fn push(&mut self, network: &IpCidr) -> Result<(), AllocError>
-        ensures { OnOk result (Grows self.old self.new (λ family. network_in family (Some network.now))) }
+        ensures { OnOk result (Grows self.old self.new (λ family. network_in family (network.now ∷ []))) }
     {
         match network {
             IpCidr::V4(network) => self.v4.push(*network)?,
@@ -39,17 +42,43 @@ impl Lists {
         Ok(())
     }
 
-    /// Adds the network that a line says, if it says one.
-    fn add_line(&mut self, number: u64, line: &[u8]) -> Result<(), ReadError>
+    /// Adds the networks of what a line says to those of their family.
+    fn push_entry(&mut self, alloc: Global, entry: &Entry) -> Result<(), AllocError>
+        ensures { OnOk result (AddsEntry entry.now self.old self.new) }
+    {
+        match entry {
+            Entry::Blank => Ok(()),
+            Entry::Network(network) => self.push(network),
+            Entry::Ipv4Range(first, last) => push_range(alloc, &mut self.v4, *first, *last),
+            Entry::Ipv6Range(first, last) => push_range(alloc, &mut self.v6, *first, *last),
+        }
+    }
+
+    /// Adds the networks that a line says.
+    fn add_line(&mut self, alloc: Global, number: u64, line: &[u8]) -> Result<(), ReadError>
         ensures { AddsLine line.now number self.old self.new result }
     {
-        match network_of(line) {
-            Ok(Some(network)) => self.push(&network)?,
-            Ok(None) => {}
-            Err(e) => return Err(ReadError::Line(number, e)),
+        match entry_of(line) {
+            Ok(entry) => Ok(self.push_entry(alloc, &entry)?),
+            Err(e) => Err(ReadError::Line(number, e)),
         }
-        Ok(())
     }
+}
+
+/// Adds the shortest list of networks that has the addresses from a first to a last one.
+fn push_range<C: Addressed + Copy>(
+    alloc: Global,
+    networks: &mut Vec<C>,
+    first: C::Address,
+    last: C::Address,
+) -> Result<(), AllocError>
+    ensures { OnOk result ((range : List C)
+        × IsSetOf 129 (IsBetween (C.address_bits first) (C.address_bits last)) (map C.bits range)
+        × (networks.new.items ≡ networks.old.items ++ range)) }
+{
+    let range = NetworkSet::from_range(alloc, first, last)?;
+    networks.extend_from_slice(range.as_slice())?;
+    Ok(())
 }
 
 /// Reads a list to its end or to its first line in error, and adds its networks.
@@ -59,7 +88,7 @@ fn read_lines<R: BufRead>(alloc: Global, reader: &mut R, lists: &mut Lists) -> R
     let mut line = Vec::new(alloc);
     for number in 1..u64::MAX {
         let has_more = next_line(reader, &mut line)?;
-        lists.add_line(number, line.as_slice())?;
+        lists.add_line(alloc, number, line.as_slice())?;
         if !has_more {
             return Ok(());
         }

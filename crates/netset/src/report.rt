@@ -21,14 +21,17 @@ const MOST_MESSAGE: usize = 99;
 fn message_of(error: &LineError) -> ArrayString<MOST_MESSAGE>
     ensures { result.bytes ≡ line_message error.now }
 {
+    let mut text = ArrayString::new();
     match error {
-        LineError::NotUtf8 => {
-            let mut text = ArrayString::new();
-            text.push_str("not UTF-8");
-            text
-        }
-        LineError::NoNetwork(e) => e.to_text(),
+        LineError::NotUtf8 => text.push_str("not UTF-8"),
+        LineError::NoNetwork(e) => return e.to_text(),
+        LineError::NoAddress(e) => text.push_str(e.to_text().as_str()),
+        LineError::TwoFamilies => text.push_str("the ends of the range are of two families"),
+        LineError::Reversed => text.push_str(
+            "the first address of the range is above the last one",
+        ),
     }
+    text
 }
 
 /// The message of an argument that is wrong.
