@@ -37,7 +37,7 @@ none_read told [] h = ([], tt, tt)
 none_read told (text ∷ texts) h = absurd h
 
 -- the texts of some files and one more
-last_told : (told : List ℕ → Option (List ℕ)) (names : List (List ℕ)) (name : List ℕ) (texts : List (List ℕ)) → AreTold told (names ++ name ∷ []) texts
+pub last_told : (told : List ℕ → Option (List ℕ)) (names : List (List ℕ)) (name : List ℕ) (texts : List (List ℕ)) → AreTold told (names ++ name ∷ []) texts
     → (front : List (List ℕ)) × (text : List ℕ) × (texts ≡ front ++ text ∷ []) × AreTold told names front × (told name ≡ Some text)
 last_told told [] name [] h = absurd h
 last_told told [] name (text ∷ []) h = ([], text, refl, tt, h.0)
@@ -47,7 +47,7 @@ last_told told (first ∷ names) name (text ∷ texts) h =
     let (front, last, is, are, at) = last_told told names name texts h.1 in
     (text ∷ front, last, ap (λ (k : List (List ℕ)). text ∷ k) is, (h.0, are), at)
 
-next_taken : (names : List (List ℕ)) (i : ℕ) (name : List ℕ) → i < length names → get_or names i name ≡ name → take (i + 1) names ≡ take i names ++ name ∷ []
+pub next_taken : (names : List (List ℕ)) (i : ℕ) (name : List ℕ) → i < length names → get_or names i name ≡ name → take (i + 1) names ≡ take i names ++ name ∷ []
 next_taken names i name within at = take_more names i name within ∙ ap (λ (k : List ℕ). take i names ++ k ∷ []) at
 
 -- one more file

@@ -11,3 +11,9 @@ pub mod Changed
 pub mod Spans
 pub mod Pools
 pub mod Arguments
+pub mod LinesRead
+pub mod EntriesRead
+pub mod FirstLines
+pub mod Found
+pub mod Noted
+pub mod Checked

@@ -1,7 +1,7 @@
 -- Lines that are written one by one.
-use Rattle.std.proofs.Common.{◌≡◌, refl, sym, ◌∙◌, ap, subst, ℕ, List, [], ◌∷◌, ◌++◌, Result, Ok, Err, append_assoc}
+use Rattle.std.proofs.Common.{◌≡◌, refl, sym, ◌∙◌, ap, subst, ℕ, ◌+◌, ◌<◌, ◌≤◌, length, drop, get_or, List, [], ◌∷◌, ◌++◌, Result, Ok, Err, append_assoc}
 use Rattle.std.specs.List.{flat_map}
-use Rattle.std.proofs.lemmas.List.{append-nil, flat_map_more}
+use Rattle.std.proofs.lemmas.List.{append-nil, drop_all, drop_more, flat_map_more}
 use Rattle.std.proofs.lemmas.List.Concat.{flat_map-append}
 use Rattle.cidr.specs.either.IpNetwork.{network_family, network_prefix}
 use Rattle.cidr.specs.either.IpText.{ip_network_text}
@@ -58,3 +58,22 @@ module _ {X : Type 0} (f : X → List ℕ) where
       subst (λ (k : List ℕ). Writes s u k r)
       (ap (flat_map f) (sym (w.split ∙ (ap (λ (k : List X). w.done ++ k) none ∙ append-nil w.done))))
       (last_block s t u block (flat_map f w.done) r w.held wrote)
+
+  -- the same of a slice by its indices
+  module _ (all : List X) (i : ℕ) (s t u : State) (block next : List ℕ) where
+    first_left : (x : X) → i < length all → x ≡ get_or all i x → drop i all ≡ x ∷ drop (i + 1) all
+    first_left x within is = drop_more all i x within ∙ ap (λ (k : X). k ∷ drop (i + 1) all) (sym is)
+
+    pub walked_at : (x : X) → i < length all → x ≡ get_or all i x → Walked all (drop i all) s t block → Collects t u block next (f x) (Ok tt)
+        → Walked all (drop (i + 1) all) s u next
+    walked_at x within is w more =
+        walked_on all (drop i all) (drop (i + 1) all) s t u block next (f x) x (first_left x within is) refl w more
+
+    pub walk_lost_at : (x : X) (r : Result (Unit {0}) OutputFailed) (y : OutputFailed) → r ≡ Err y → i < length all → x ≡ get_or all i x → Walked all (drop i all) s t block
+        → Part t u (block ++ f x) → Writes s u (flat_map f all) r
+    walk_lost_at x r y fails within is w part =
+        walk_lost all (drop i all) (drop (i + 1) all) s t u block (f x) x r y fails (first_left x within is) refl w part
+
+    pub walk_ended_at : (r : Result (Unit {0}) OutputFailed) → length all ≤ i → Walked all (drop i all) s t block → Writes t u block r
+        → Writes s u (flat_map f all) r
+    walk_ended_at r past w wrote = walk_ended all (drop i all) s t u block r (drop_all i all past) w wrote

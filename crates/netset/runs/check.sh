@@ -5,7 +5,7 @@ set -euo pipefail
 export LC_ALL=C
 cd "$(dirname "$0")/.."
 
-usage=$'usage: netset merge|nets|not|ranges|count [FILE..] | not --in NET [FILE..] | minus|and A B.. | diff A B | free POOL LEN USED.. | show HOST | split NET LEN | nth NET INDEX | --help | --version\n'
+usage=$'usage: netset merge|nets|not|ranges|count|check [FILE..] | not --in NET [FILE..] | minus|and A B.. | diff A B | free POOL LEN USED.. | show HOST | split NET LEN | nth NET INDEX | --help | --version\n'
 
 room=$(mktemp -d)
 trap 'rm -rf "$room"' EXIT
@@ -154,6 +154,28 @@ rows_of_pools() {
     run 2 '' "$usage" '' free ten 8 both -k
 }
 
+# What is found in lists.
+rows_of_findings() {
+    local deep='2001:db8::/32\n2001:db8::/33\n2001:db8:8000::/33\n2001:DB8:8000::5/33'
+    run 0 '' '' '10.0.0.0/8\n11.0.0.1\n\n# x\n::1' check
+    run 0 '' '' '0.0.0.0/0\n::/0' check
+    run 1 $'-:2: host bits set\n-:2: repeats -:1\n' '' '10.0.0.0/8\n10.0.0.7/8' check
+    run 1 $'-:1: not in canonical form: 10.0.0.1\n' '' '10.0.0.1/32' check
+    run 1 $'-:1: inside 10.1.0.0/16 at -:2\n' '' '10.1.2.3\n10.1.0.0/16' check -
+    run 1 $'-:2: inside 10.0.0.0/8 at -:1\n-:3: inside 10.1.0.0/16 at -:2\n-:4: repeats -:2\n-:4: inside 10.0.0.0/8 at -:1\n' \
+        '' '10.0.0.0/8\n10.1.0.0/16\n10.1.2.3\n10.1.0.0/16' check
+    run 1 $'-:2: mergeable with -:1\n' '' '10.128.0.0/9\n10.0.0.0/9' check
+    run 1 $'-:1: mergeable with ten:1\n' '' '11.0.0.0/8' check ten -
+    run 1 $'ten:1: repeats ten:1\n' '' '' check ten ten
+    run 1 $'-:2: inside 2001:db8::/32 at -:1\n-:3: inside 2001:db8::/32 at -:1\n-:3: mergeable with -:2\n-:4: host bits set\n-:4: not in canonical form: 2001:db8:8000::5/33\n-:4: repeats -:3\n-:4: inside 2001:db8::/32 at -:1\n-:4: mergeable with -:2\n' \
+        '' "$deep" check
+    run 2 '' $'-:2: couldn\'t parse address in network: invalid IP address syntax\n' '10.0.0.1/8\n10.0.0.1-10.0.0.2' check
+    run 2 '' $'bad:1: couldn\'t parse length in network: invalid length text\n' '' check ten ten bad
+    run 2 '' $'-:1: not UTF-8\n' '\xff' check
+    run 2 '' $'missing: cannot be read\n' '' check ten missing
+    run 2 '' "$usage" '' check -k
+}
+
 # The commands on one host or network.
 rows_of_one_network() {
     run 0 $'network 192.0.2.0/24\nfirst 192.0.2.0\nlast 192.0.2.255\nmask 255.255.255.0\nlength 24\nfamily Ipv4\n' \
@@ -197,6 +219,8 @@ rows_where_a_stream_fails() {
     run 3 '' $'output failed\n' '' diff - ten
     run 3 '' $'output failed\n' '' free ten 9 eight
     run 1 '' '' '' free ten 7 eight
+    run 3 '' $'output failed\n' '' check ten ten
+    run 0 '' '' '' check ten
     run 3 '' $'output failed\n' '' ranges ten
     run 3 '' $'output failed\n' '' not --in ::/0 ten
     run 3 '' $'output failed\n' '' show ::1
@@ -230,6 +254,7 @@ for build in netset netset.by-rattle; do
     rows_of_ranges
     rows_of_changes
     rows_of_pools
+    rows_of_findings
     rows_of_one_network
     long_list
     if [[ -c /dev/full ]]; then

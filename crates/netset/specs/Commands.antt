@@ -6,6 +6,7 @@ use Rattle.cidr.specs.declared.cidr.combined.IpCidr.{IpCidr}
 use Rattle.cidr.specs.declared.family.Family.{Family}
 use Rattle.cidr_table.specs.Cover.{Covers}
 use Rattle.cidr_sets.specs.Sets.{IsSetOf}
+use Rattle.netset.specs.Findings.{IsCheck}
 use Rattle.netset.specs.Free.{IsFreeText}
 use Rattle.netset.specs.Lists.{ListSays, network_in, networks_in}
 use Rattle.netset.specs.Changes.{AreChanges, AreSame, printed_changes}
@@ -26,6 +27,7 @@ pub data Request : Type 0 where
   NotIn : List ℕ → List (List ℕ) → Request
   Diff : List ℕ → List ℕ → Request
   Free : List ℕ → List ℕ → List (List ℕ) → Request
+  Check : List (List ℕ) → Request
   Single : SingleRequest → Request
   Help : Request
   Version : Request
@@ -44,6 +46,7 @@ IsRequest words (Diff old new) =
     (words ≡ codes "diff" ∷ old ∷ new ∷ []) × (is_option old ≡ false) × (is_option new ≡ false)
 IsRequest words (Free pool len used) = (words ≡ codes "free" ∷ pool ∷ len ∷ used)
     × (is_option pool ≡ false) × (list_any is_option used ≡ false) × (nat_lt 0 (length used) ≡ true)
+IsRequest words (Check files) = (words ≡ codes "check" ∷ files) × (list_any is_option files ≡ false)
 IsRequest words (Single request) = IsSingle words request
 IsRequest words Help = words ≡ codes "--help" ∷ []
 IsRequest words Version = words ≡ codes "--version" ∷ []
@@ -112,6 +115,9 @@ help_text =
     ++ codes "netset free POOL LEN USED..\n"
     ++ codes "                        the first network of this prefix length in the addresses of\n"
     ++ codes "                        POOL that no list of USED has\n"
+    ++ codes "netset check [FILE..]   what is found in the lists, whose lines may be hosts too: set host\n"
+    ++ codes "                        bits, other forms than the printed one, repeats, networks inside\n"
+    ++ codes "                        others, and halves of one network\n"
     ++ codes "netset show HOST        the network of a host: its ends, mask, length and family\n"
     ++ codes "netset split NET LEN    the networks of this prefix length inside a network\n"
     ++ codes "netset nth NET INDEX    the address of a network at an index, from 0 on\n"
@@ -120,8 +126,8 @@ help_text =
     ++ codes "\n"
     ++ codes "A line of a list is a network, an address or a range FIRST-LAST, and may end in a comment\n"
     ++ codes "from # or ; on. The file - is the standard input, which is also read where no file is named.\n"
-    ++ codes "Status: 0 done, 1 none or a difference, 2 usage, a wrong argument, a file that cannot be\n"
-    ++ codes "read or a line in error, 3 output or memory.\n"
+    ++ codes "Status: 0 done, 1 none, a difference or findings, 2 usage, a wrong argument, a file that\n"
+    ++ codes "cannot be read or a line in error, 3 output or memory.\n"
 
 -- what `--version` writes
 abbrev pub version_text : List ℕ
@@ -137,6 +143,8 @@ IsAnswer told (Diff old new) answer verdict =
     (before after : List ℕ) → told old ≡ Some before → told new ≡ Some after → IsDiff before after answer verdict
 IsAnswer told (Free pool len used) answer verdict = (n : ℕ) × IsNumber len n × (n ≤ 128)
     × ((texts : List (List ℕ)) → AreTold told (pool ∷ used) texts → IsFree n texts answer verdict)
+IsAnswer told (Check files) answer verdict =
+    (texts : List (List ℕ)) → AreTold told (read_files files) texts → IsCheck (read_files files) texts answer verdict
 IsAnswer told (Single request) answer verdict = IsSingleAnswer request answer verdict
 IsAnswer told Help answer verdict = (answer ≡ help_text) × (verdict ≡ Yes)
 IsAnswer told Version answer verdict = (answer ≡ version_text) × (verdict ≡ Yes)

@@ -8,8 +8,11 @@ pub mod Single
 pub mod Sets
 pub mod Changes
 pub mod Free
+pub mod Entries
+pub mod Findings
 pub mod Combining
 pub mod Commands
 pub mod Command
+pub mod Unchecked
 pub mod Program
 pub mod Answering

@@ -8,9 +8,10 @@ use Rattle.cidr_io.specs.Arguments.{AreArguments, AreUnreadable}
 use Rattle.cidr_io.specs.Writing.{State, Answered, Says}
 use Rattle.cidr_io.specs.declared.sink.OutputFailed.{OutputFailed}
 use Rattle.netset.specs.Lists.{ListSays, IsFirstError}
-use Rattle.netset.specs.Commands.{Request, Lists, NotIn, Diff, Free, Single, Help, Version, IsRequest, IsUsage, read_files, AreTold, IsAnswer}
+use Rattle.netset.specs.Commands.{Request, Lists, NotIn, Diff, Free, Check, Single, Help, Version, IsRequest, IsUsage, read_files, AreTold, IsAnswer}
 use Rattle.netset.specs.Free.{IsBadLength}
 use Rattle.netset.specs.Single.{IsBadSingle, IsNoNetwork}
+use Rattle.netset.specs.Unchecked.{IsUnchecked}
 use Rattle.netset.specs.declared.errors.ArgumentError.{ArgumentError}
 use Rattle.netset.specs.declared.errors.ArgumentError.TheVariants as bad
 use Rattle.netset.specs.declared.errors.LineError.{LineError}
@@ -50,6 +51,7 @@ IsRefused told (NotIn net files) (Err e) = IsBadArgument (λ text bad. (text ≡
     ⊎ ((network : IpCidr) × IsIpNetworkText net network × IsUnread told (read_files files) e)
 IsRefused told (Diff old new) (Err e) = IsUnread told (old ∷ new ∷ []) e
 IsRefused told (Free pool len used) (Err e) = IsBadArgument (IsBadLength len) e ⊎ IsUnread told (pool ∷ used) e
+IsRefused told (Check files) (Err e) = IsUnchecked told (read_files files) e
 IsRefused told (Single request) (Err e) = IsBadArgument (IsBadSingle request) e
 IsRefused told Help (Err e) = ⊥
 IsRefused told Version (Err e) = ⊥
@@ -89,7 +91,7 @@ argument_message bad.Index = codes "no index below 2^128"
 
 -- the line that is written to standard error
 abbrev pub error_line : CommandError → List ℕ
-error_line error.Usage = codes "usage: netset merge|nets|not|ranges|count [FILE..] | not --in NET [FILE..] | minus|and A B.. | diff A B | free POOL LEN USED.. | show HOST | split NET LEN | nth NET INDEX | --help | --version\n"
+error_line error.Usage = codes "usage: netset merge|nets|not|ranges|count|check [FILE..] | not --in NET [FILE..] | minus|and A B.. | diff A B | free POOL LEN USED.. | show HOST | split NET LEN | nth NET INDEX | --help | --version\n"
 error_line (error.Argument text e) = text.now ++ (codes ": " ++ (argument_message e ++ codes "\n"))
 error_line (error.Line name number e) =
     name.now ++ (codes ":" ++ (decimal number ++ (codes ": " ++ (line_message e ++ codes "\n"))))

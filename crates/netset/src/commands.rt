@@ -1,7 +1,7 @@
 //! The arguments of the program as commands.
 ghost use Rattle.std.specs.Prelude.{◌≡◌, ℕ, List, map, [], ◌∷◌, MatchOption};
 ghost use Rattle.std.specs.List.{list_any};
-ghost use Rattle.netset.specs.Commands.{Diff, Free, NotIn, is_option, IsRequest, IsUsage};
+ghost use Rattle.netset.specs.Commands.{Check, Diff, Free, NotIn, is_option, IsRequest, IsUsage};
 ghost use Rattle.netset.specs.Command.{AreMisfits, IsNoLoneWord, request_of};
 ghost use Rattle.netset.specs.Combining.{name_of};
 
@@ -19,6 +19,8 @@ pub enum Command<'a> {
     Diff(&'a str, &'a str),
     /// The first free network of a prefix length in a pool, of whose addresses others are used.
     Free(&'a str, &'a str, &'a [&'a str]),
+    /// What is found in the lists of these files.
+    Check(&'a [&'a str]),
     /// A command on one host or network.
     Single(Single<'a>),
     /// The page of the commands.
@@ -90,6 +92,19 @@ fn free_of<'a>(words: &'a [&'a str]) -> Option<(&'a str, &'a str, &'a [&'a str])
     None
 }
 
+/// The files of the command `check`.
+fn check_of<'a>(words: &'a [&'a str]) -> Option<&'a [&'a str]>
+    ensures { MatchOption result
+        ((files : List (List ℕ)) → ¬ (IsRequest (map (λ w. w.now) words.now) (Check files)))
+        (λ files. IsRequest (map (λ w. w.now) words.now) (Check (map (λ w. w.now) files.now))) }
+{
+    let (name, files) = words.split_first()?;
+    if *name == "check" && !has_option(files) {
+        return Some(files);
+    }
+    None
+}
+
 /// The command of a word that stands alone.
 fn lone_command<'a>(word: &str) -> Option<Command<'a>>
     ensures { MatchOption result (IsNoLoneWord word.now) (λ command. IsRequest (word.now ∷ []) (request_of command)) }
@@ -133,6 +148,9 @@ pub fn command_of<'a>(words: &'a [&'a str]) -> Option<Command<'a>>
     }
     if let Some((pool, len, used)) = free_of(words) {
         return Some(Command::Free(pool, len, used));
+    }
+    if let Some(files) = check_of(words) {
+        return Some(Command::Check(files));
     }
     let (name, files) = words.split_first()?;
     match operation_of(name) {

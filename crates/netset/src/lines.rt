@@ -57,7 +57,7 @@ fn is_comment_sign(byte: u8) -> bool
 }
 
 /// The line without its comment.
-fn without_comment(line: &[u8]) -> &[u8]
+pub fn without_comment(line: &[u8]) -> &[u8]
     ensures { result.now ≡ before_first is_comment_sign line.now }
 {
     for (place, byte) in line.iter().enumerate() {

@@ -3,11 +3,14 @@
 
 mod answers;
 mod changes;
+mod check;
 mod collecting;
 mod combine;
 mod commands;
+mod entries;
 mod errors;
 mod files;
+mod findings;
 mod free;
 mod inside;
 mod lines;

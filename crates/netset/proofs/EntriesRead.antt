@@ -1,0 +1,175 @@
+-- The entries of lists, read line by line and list by list.
+use Rattle.std.proofs.Common.{◌≡◌, refl, sym, ◌∙◌, ap, subst, arith, Bor, ℕ, ◌+◌, ◌<◌, ◌≤◌, List, [], ◌∷◌, ◌++◌, length, take, drop, get_or, Option, Some, None, Result, Ok, Err, append_assoc}
+use Rattle.std.specs.Option.{IfSome}
+use Rattle.std.specs.Prelude.{option_to_list}
+use Rattle.std.proofs.lemmas.List.{append-nil, take_all, take-append-drop, at_drop_more, get_or-map}
+use Rattle.std.proofs.lemmas.List.Elements.{Contains-append_right}
+use Rattle.std.specs.List.{Contains}
+use Rattle.cidr_table.proofs.MapLaws.{contains_first}
+use Rattle.netset.specs.Entries.{AddsEntries, AddsEntry, AreAllEntries, AreEntries, HasAdded, IsFirstFault, IsLineFault, IsTextFault, LineHas}
+use Rattle.netset.specs.Lists.{lines_of}
+use Rattle.netset.specs.Reading.{IsStopped}
+use Rattle.netset.specs.Unchecked.{AddsFileEntries, AreToldEntries, IsFileFault, IsUnchecked}
+use Rattle.netset.specs.declared.entries.Entry.{Entry}
+use Rattle.netset.specs.declared.errors.CommandError.{CommandError}
+use Rattle.netset.specs.declared.errors.CommandError.TheVariants as error
+use Rattle.netset.specs.declared.errors.ReadError.{ReadError}
+use Rattle.netset.specs.declared.errors.ReadError.TheVariants.{Line, Input, NoMemory}
+use Rattle.netset.proofs.Arguments.{bytes_of, same_length, within_bytes}
+use Rattle.netset.proofs.EachFile.{last_told, next_taken}
+use Rattle.netset.proofs.LinesRead.{LineAt}
+
+-- ---- the lines of a file
+line_behind : (file : List ℕ) (number n : ℕ) (lines : List (List ℕ)) (line : List ℕ) (entries : List Entry) (one : Option Entry) → n ≡ number + length lines
+    → AreEntries file number lines entries → LineHas file n line one → AreEntries file number (lines ++ line ∷ []) (entries ++ option_to_list one)
+line_behind file number n [] line entries one at are has =
+    let here : n ≡ number = omega (arith, at) in (
+      one,
+      [],
+      subst (λ (k : ℕ). LineHas file k line one) here has,
+      refl,
+      ap (λ (k : List Entry). k ++ option_to_list one) are ∙ sym (append-nil (option_to_list one)),
+    )
+line_behind file number n (other ∷ lines) line entries one at are has =
+    let (first, rest, had, more, is) = are in (
+      first,
+      rest ++ option_to_list one,
+      had,
+      line_behind file (number + 1) n lines line rest one (omega (arith, at)) more has,
+      ap (λ (k : List Entry). k ++ option_to_list one) is ∙ append_assoc (option_to_list first) rest (option_to_list one),
+    )
+
+pub none_added : (file : List ℕ) (old : List Entry) → HasAdded file old [] old
+none_added file old = ([], refl, sym (append-nil old))
+
+-- one more line
+pub line_added : (file : List ℕ) (old now new : List Entry) (number : ℕ) (line : List ℕ) → AddsEntry file number line now new (Ok tt)
+    → (before : List (List ℕ)) → number ≡ length before + 1 → HasAdded file old before now → HasAdded file old (before ++ line ∷ []) new
+line_added file old now new number line (one, has, adds) before at (entries, are, is) = (
+  entries ++ option_to_list one,
+  line_behind file 1 number before line entries one (omega (arith, at)) are has,
+  adds ∙ (ap (λ (k : List Entry). k ++ option_to_list one) is ∙ append_assoc old entries (option_to_list one)),
+)
+
+-- a line in error, or an end of reading
+line_fault : (file : List ℕ) (told : Option (List ℕ)) (old now : List Entry) (number : ℕ) (line : List ℕ) (e : ReadError)
+    → IfSome told (λ text. LineAt (HasAdded file old) text now number line) → IsLineFault line number e → IfSome told (λ text. IsTextFault file text e)
+line_fault file None old now number line e p h = tt
+line_fault file (Some text) old now number line Input p h = tt
+line_fault file (Some text) old now number line NoMemory p h = tt
+line_fault file (Some text) old now number line (Line n e) p h =
+    let (entries, are, is) = p.done in
+    record {
+      before = p.before;
+      line = line;
+      after = p.after;
+      lines = p.lines;
+      place = h.0 ∙ p.place;
+      entries = entries;
+      fine = are;
+      fault = h.1;
+    }
+
+no_line : (file : List ℕ) (told : Option (List ℕ)) (e : ReadError) → IsStopped e → IfSome told (λ text. IsTextFault file text e)
+no_line file None e h = tt
+no_line file (Some text) (Line number e) h = absurd h
+no_line file (Some text) Input h = tt
+no_line file (Some text) NoMemory h = tt
+
+abbrev failing : ReadError → Result (Unit {0}) ReadError
+failing e = Err e
+
+passed_on : (file : List ℕ) (told : Option (List ℕ)) (old new : List Entry) (r : Result (Unit {0}) ReadError) (y e : ReadError) → r ≡ Err y → y ≡ e
+    → IfSome told (λ text. IsTextFault file text e) → IfSome told (λ text. AddsEntries file text old new r)
+passed_on file told old new r y e is same h =
+    let P : Result (Unit {0}) ReadError → Type 0 = λ k. IfSome told (λ text. AddsEntries file text old new k) in
+    subst P (sym (is ∙ ap failing same)) h
+
+pub line_failed : (file : List ℕ) (told : Option (List ℕ)) (old now new : List Entry) (number : ℕ) (line : List ℕ) (r : Result (Unit {0}) ReadError) (y e : ReadError)
+    → r ≡ Err y → y ≡ e → IfSome told (λ text. LineAt (HasAdded file old) text now number line) → IsLineFault line number e
+    → IfSome told (λ text. AddsEntries file text old new r)
+line_failed file told old now new number line r y e is same p h =
+    passed_on file told old new r y e is same (line_fault file told old now number line e p h)
+
+pub reading_stopped : (file : List ℕ) (told : Option (List ℕ)) (old new : List Entry) (r : Result (Unit {0}) ReadError) (y e : ReadError) → r ≡ Err y → y ≡ e
+    → IsStopped e → IfSome told (λ text. AddsEntries file text old new r)
+reading_stopped file told old new r y e is same h = passed_on file told old new r y e is same (no_line file told e h)
+
+-- ---- one list after another
+list_behind : (names texts : List (List ℕ)) (name text : List ℕ) (entries more : List Entry) → AreAllEntries names texts entries
+    → AreEntries name 1 (lines_of text) more → AreAllEntries (names ++ name ∷ []) (texts ++ text ∷ []) (entries ++ more)
+list_behind [] [] name text entries more none are = (
+  more,
+  [],
+  are,
+  refl,
+  ap (λ (k : List Entry). k ++ more) none ∙ sym (append-nil more),
+)
+list_behind [] (other ∷ texts) name text entries more none are = absurd none
+list_behind (first ∷ names) [] name text entries more none are = absurd none
+list_behind (first ∷ names) (other ∷ texts) name text entries more (these, those, here, there, is) are = (
+  these,
+  those ++ more,
+  here,
+  list_behind names texts name text those more there are,
+  ap (λ (k : List Entry). k ++ more) is ∙ append_assoc these those more,
+)
+
+pub no_entries : (told : List ℕ → Option (List ℕ)) → AreToldEntries told [] []
+no_entries told [] h = refl
+no_entries told (text ∷ texts) h = absurd h
+
+pub file_behind : (told : List ℕ → Option (List ℕ)) (names : List (List ℕ)) (name : List ℕ) (old new : List Entry) → AreToldEntries told names old
+    → AddsFileEntries (told name) name old new (Ok tt) → AreToldEntries told (names ++ name ∷ []) new
+file_behind told names name old new before adds texts h =
+    let (front, text, is, are, here) = last_told told names name texts h in
+    let (more, has, added) = adds text here in
+    subst (λ (k : List (List ℕ)). AreAllEntries (names ++ name ∷ []) k new) (sym is)
+    (subst (AreAllEntries (names ++ name ∷ []) (front ++ text ∷ [])) (sym added) (list_behind names front name text old more (before front are) has))
+
+-- a file that is not read
+pub file_fault : (told : List ℕ → Option (List ℕ)) (names before after : List (List ℕ)) (name : List ℕ) (old : List Entry) (e : CommandError)
+    → names ≡ before ++ name ∷ after → AreToldEntries told before old → IsFileFault (told name) name e → IsUnchecked told names e
+file_fault told names before after name old error.Usage whole fine h = absurd h
+file_fault told names before after name old (error.Argument text e) whole fine h = absurd h
+file_fault told names before after name old error.NoMemory whole fine h = tt
+file_fault told names before after name old error.Output whole fine h = absurd h
+file_fault told names before after name old (error.Input file) whole fine h =
+    subst (Contains names) (sym h) (subst (λ (k : List (List ℕ)). Contains k name) (sym whole)
+    (Contains-append_right before (name ∷ after) name (contains_first name after)))
+file_fault told names before after name old (error.Line file number e) whole fine h = (
+  before,
+  after,
+  whole ∙ ap (λ (k : List ℕ). before ++ k ∷ after) (sym h.0),
+  λ texts are. (old, fine texts are),
+  λ text is. subst (λ (k : List ℕ). IsFirstFault k text number e) (sym h.0) (h.1 text (ap told (sym h.0) ∙ is)),
+)
+
+-- the same of the files behind a first one
+module _ (told : List ℕ → Option (List ℕ)) (first : List ℕ) (files : List (Bor (List ℕ))) (i : ℕ) (d : Bor (List ℕ)) (old : List Entry)
+    (within : i < length files) (before : AreToldEntries told (first ∷ take i (bytes_of files)) old) where
+  abbrev name_of : List ℕ
+  name_of = (get_or files i d).now
+
+  named : get_or (bytes_of files) i name_of ≡ name_of
+  named = get_or-map (λ (w : Bor (List ℕ)). w.now) files i d name_of within
+
+  pub other_added : (new : List Entry) → AddsFileEntries (told (get_or files i d).now) (get_or files i d).now old new (Ok tt)
+      → AreToldEntries told (first ∷ take (i + 1) (bytes_of files)) new
+  other_added new adds =
+      subst (λ (k : List (List ℕ)). AreToldEntries told (first ∷ k) new) (sym (next_taken (bytes_of files) i name_of (within_bytes files i within) named))
+      (file_behind told (first ∷ take i (bytes_of files)) name_of old new before adds)
+
+  pub other_failed : (new : List Entry) (e : CommandError) → AddsFileEntries (told (get_or files i d).now) (get_or files i d).now old new (Err e)
+      → IsUnchecked told (first ∷ bytes_of files) e
+  other_failed new e h =
+      let names = bytes_of files in
+      let whole : names ≡ take i names ++ name_of ∷ drop (i + 1) names =
+      sym (take-append-drop i names) ∙ (at_drop_more (λ k. take i names ++ k) names i name_of (within_bytes files i within)
+      ∙ ap (λ (k : List ℕ). take i names ++ k ∷ drop (i + 1) names) named) in
+      file_fault told (first ∷ names) (first ∷ take i names) (drop (i + 1) names) name_of old e (ap (λ (k : List (List ℕ)). first ∷ k) whole) before h
+
+pub all_files_at : (told : List ℕ → Option (List ℕ)) (first : List ℕ) (files : List (Bor (List ℕ))) (i : ℕ) (entries : List Entry) → length files ≤ i
+    → AreToldEntries told (first ∷ take i (bytes_of files)) entries → AreToldEntries told (first ∷ bytes_of files) entries
+all_files_at told first files i entries past h =
+    subst (λ (k : List (List ℕ)). AreToldEntries told (first ∷ k) entries) (take_all i (bytes_of files) (omega (arith, same_length files))) h

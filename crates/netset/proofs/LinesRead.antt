@@ -1,0 +1,70 @@
+-- How far the lines of a text have been read, whatever is made of them: `Done` says what a state has of the lines so far.
+use Rattle.std.proofs.Common.{◌≡◌, refl, sym, ◌∙◌, ap, subst, ℕ, ◌+◌, Bool, true, false, List, [], ◌∷◌, ◌++◌, length, arith, Option, Some, None, append_assoc, length-append}
+use Rattle.std.specs.Option.{IfSome}
+use Rattle.netset.specs.Lists.{lines_of}
+use Rattle.netset.specs.Reading.{IsNextLine}
+
+module _ {S : Type 0} (Done : List (List ℕ) → S → Type 0) where
+  -- the lines before this number were read
+  pub record LinesRead (text : List ℕ) (left : Option (List ℕ)) (state : S) (number : ℕ) : Type 0 where
+    pub rest : List ℕ
+    pub known : left ≡ Some rest
+    pub before : List (List ℕ)
+    pub lines : lines_of text ≡ before ++ lines_of rest
+    pub place : number ≡ length before + 1
+    pub done : Done before state
+
+  -- the lines up to one, and that line
+  pub record LineAt (text : List ℕ) (state : S) (number : ℕ) (line : List ℕ) : Type 0 where
+    pub before : List (List ℕ)
+    pub after : List (List ℕ)
+    pub lines : lines_of text ≡ before ++ line ∷ after
+    pub place : number ≡ length before + 1
+    pub done : Done before state
+
+  pub none_read : (told : Option (List ℕ)) (state : S) → Done [] state → IfSome told (λ text. LinesRead text told state 1)
+  none_read None state d = tt
+  none_read (Some text) state d = record { rest = text; known = refl; before = []; lines = refl; place = refl; done = d }
+
+  -- a line that has another behind it
+  pub line_read : (told left next : Option (List ℕ)) (state new : S) (number : ℕ) (line : List ℕ) (more : Bool) → more ≡ true
+      → IfSome told (λ text. LinesRead text left state number) → IfSome left (λ text. IsNextLine text line more next)
+      → ((before : List (List ℕ)) → number ≡ length before + 1 → Done before state → Done (before ++ line ∷ []) new)
+      → IfSome told (λ text. LinesRead text next new (number + 1))
+  line_read None left next state new number line more is p n step = tt
+  line_read (Some text) left next state new number line false is p n step = cc
+  line_read (Some text) left next state new number line true is p n step =
+      let (rest, known, lines) = (rw p.known at n) in
+      record {
+        rest = rest;
+        known = known;
+        before = p.before ++ line ∷ [];
+        lines = p.lines ∙ (ap (λ k. p.before ++ k) lines ∙ sym (append_assoc p.before (line ∷ []) (lines_of rest)));
+        place = omega (arith, p.place, length-append p.before (line ∷ []));
+        done = step p.before p.place p.done;
+      }
+
+  -- the last line
+  pub last_read : (told left next : Option (List ℕ)) (state new : S) (number : ℕ) (line : List ℕ) (more : Bool) → more ≡ false
+      → IfSome told (λ text. LinesRead text left state number) → IfSome left (λ text. IsNextLine text line more next)
+      → ((before : List (List ℕ)) → number ≡ length before + 1 → Done before state → Done (before ++ line ∷ []) new)
+      → IfSome told (λ text. Done (lines_of text) new)
+  last_read None left next state new number line more is p n step = tt
+  last_read (Some text) left next state new number line true is p n step = cc
+  last_read (Some text) left next state new number line false is p n step =
+      let lines : lines_of text ≡ p.before ++ line ∷ [] = p.lines ∙ ap (λ k. p.before ++ k) (rw p.known at n) in
+      subst (λ (k : List (List ℕ)). Done k new) (sym lines) (step p.before p.place p.done)
+
+  first_of_more : (text line : List ℕ) (more : Bool) (next : Option (List ℕ)) → IsNextLine text line more next
+      → (after : List (List ℕ)) × (lines_of text ≡ line ∷ after)
+  first_of_more text line true next n = (lines_of n.0, n.2)
+  first_of_more text line false next n = ([], n)
+
+  -- a line where reading stops
+  pub stops_at : (told left next : Option (List ℕ)) (state : S) (number : ℕ) (line : List ℕ) (more : Bool)
+      → IfSome told (λ text. LinesRead text left state number) → IfSome left (λ text. IsNextLine text line more next)
+      → IfSome told (λ text. LineAt text state number line)
+  stops_at None left next state number line more p n = tt
+  stops_at (Some text) left next state number line more p n =
+      let (after, lines) = first_of_more p.rest line more next (rw p.known at n) in
+      record { before = p.before; after = after; lines = p.lines ∙ ap (λ k. p.before ++ k) lines; place = p.place; done = p.done }

@@ -1,0 +1,32 @@
+use Rattle.std.proofs.Common.{[], refl}
+use Rattle.std.proofs.lemmas.Result.{err_from_is_err_and}
+use Rattle.netset.proofs.Arguments.{bytes_of}
+use Rattle.netset.proofs.EntriesRead.{file_behind, file_fault, no_entries, other_added, other_failed, all_files_at}
+use Rattle.netset.proofs.entries.read_named.Goals as goal
+
+pub loop-other-init : goal.loop-other-init
+loop-other-init g c =
+    file_behind (g.F.Sources.told c.args.sources.now) [] c.args.file.now [] c.add_file.new.entries.items (no_entries (g.F.Sources.told c.args.sources.now))
+    (rw c.new-entries.ensures.items at c.in_ok-add_file.ensures)
+
+pub returns-in_err-add_file : goal.returns-in_err-add_file
+returns-in_err-add_file g c =
+    let (y, is, same) = err_from_is_err_and c.from_residual.result c.from_residual.ensures.1 in
+    rw (is, same) (file_fault (g.F.Sources.told c.args.sources.now) _ [] (bytes_of c.args.files.now) c.args.file.now [] _ refl
+    (no_entries (g.F.Sources.told c.args.sources.now)) c.in_err-add_file.ensures)
+
+pub loop-other-preserved : goal.loop-other-preserved
+loop-other-preserved g c =
+    other_added (g.F.Sources.told c.args.sources.now) c.args.file.now c.args.files.now c.loop-other.other-index _ c.loop-other.entries.items
+    c.loop-other-test.true c.loop-other.invariant c.add_file-in-loop-other.new.entries.items c.in_ok-add_file-2.ensures
+
+pub returns-in_err-add_file-2 : goal.returns-in_err-add_file-2
+returns-in_err-add_file-2 g c =
+    let (y, is, same) = err_from_is_err_and c.from_residual-in_err-add_file-2.result c.from_residual-in_err-add_file-2.ensures.1 in
+    rw (is, same) (other_failed (g.F.Sources.told c.args.sources.now) c.args.file.now c.args.files.now c.loop-other.other-index _ c.loop-other.entries.items
+    c.loop-other-test.true c.loop-other.invariant c.add_file-in-loop-other.new.entries.items _ c.in_err-add_file-2.ensures)
+
+pub returns : goal.returns
+returns g c =
+    all_files_at (g.F.Sources.told c.args.sources.now) c.args.file.now c.args.files.now c.loop-other.other-index c.loop-other.entries.items
+    c.loop-other-test.false c.loop-other.invariant

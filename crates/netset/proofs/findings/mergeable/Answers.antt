@@ -1,0 +1,22 @@
+use Rattle.std.proofs.Common.{refl}
+use Rattle.netset.proofs.Found.{half_nowhere, half_later, half_earlier}
+use Rattle.netset.proofs.findings.mergeable.Goals as goal
+
+pub returns-in_err-first : goal.returns-in_err-first
+returns-in_err-first c =
+    rw c.from_residual-in_err-first.ensures
+    (half_nowhere c.args.entries.now c.args.firsts.now.rows c.requires.firsts c.args.index c.args.entry.now c.in_ok-other.other
+    (rw c.network.ensures at c.in_ok-other.ensures) c.in_err-first.ensures)
+
+pub returns-then-first-index : goal.returns-then-first-index
+returns-then-first-index c =
+    half_later c.args.entries.now c.args.firsts.now.rows c.requires.firsts c.args.index c.args.entry.now c.in_ok-other.other c.in_ok-first.first
+    (rw c.network.ensures at c.in_ok-other.ensures) c.in_ok-first.ensures c.if-first-index.true
+
+pub returns : goal.returns
+returns c = (
+  refl,
+  refl,
+  half_earlier c.args.entries.now c.args.firsts.now.rows c.requires.firsts c.args.index c.args.entry.now c.in_ok-other.other c.in_ok-first.first
+      c.entry_at.result.now (rw c.network.ensures at c.in_ok-other.ensures) c.in_ok-first.ensures c.if-first-index.false c.entry_at.ensures,
+)

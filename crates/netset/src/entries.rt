@@ -1,0 +1,160 @@
+//! The lines of lists that have a network or a host.
+ghost use Rattle.std.specs.Prelude.{◌∷◌, IfSome, MatchResult, map};
+ghost use Rattle.netset.specs.Commands.{read_files};
+ghost use Rattle.netset.specs.Entries.{AddsEntries, AddsEntry, ReadsEntry};
+ghost use Rattle.netset.specs.Unchecked.{AddsFileEntries, AreToldEntries, IsUnchecked};
+
+use crate::errors::{CommandError, LineError, ReadError};
+use crate::files::Sources;
+use crate::lines::{next_line, without_comment};
+use cidr::IpInet;
+use std::alloc::Global;
+use std::io::{BufRead, BufReader, Read};
+
+/// Where a line stands.
+#[derive(Clone, Copy, Debug)]
+pub struct Place<'a> {
+    /// The name of the file.
+    pub file: &'a str,
+    /// The number of the line, from 1 on.
+    pub number: u64,
+}
+
+/// A line that has a network or a host.
+#[derive(Clone, Copy, Debug)]
+pub struct Entry<'a> {
+    pub place: Place<'a>,
+    /// The host; a network is the host at its first address.
+    pub host: IpInet,
+    /// Whether the field is what is printed of the host.
+    pub is_canonical: bool,
+}
+
+/// The entry that a line has; `None` for a line that says nothing.
+fn entry_of<'a>(place: Place<'a>, line: &[u8]) -> Result<Option<Entry<'a>>, LineError>
+    ensures { ReadsEntry place.entry.file.now place.entry.number line.now result }
+{
+    let field = without_comment(line).trim_ascii();
+    if field.is_empty() {
+        return Ok(None);
+    }
+    let Ok(text) = str::from_utf8(field) else {
+        return Err(LineError::NotUtf8);
+    };
+    match text.parse::<IpInet>() {
+        Ok(host) => Ok(Some(Entry {
+            place,
+            host,
+            is_canonical: text == host.to_text().as_str(),
+        })),
+        Err(e) => Err(LineError::NoNetwork(e)),
+    }
+}
+
+/// Adds the entry that a line has, if it has one.
+fn add_line<'a>(
+    place: Place<'a>,
+    line: &[u8],
+    entries: &mut Vec<Entry<'a>>,
+) -> Result<(), ReadError>
+    ensures { AddsEntry place.entry.file.now place.entry.number line.now entries.old.items entries.new.items result }
+{
+    match entry_of(place, line) {
+        Ok(Some(entry)) => match entries.push(entry) {
+            Ok(()) => Ok(()),
+            Err(_) => Err(ReadError::NoMemory),
+        },
+        Ok(None) => Ok(()),
+        Err(e) => Err(ReadError::Line(place.number, e)),
+    }
+}
+
+/// Reads a list to its end or to its first line in error, and adds its entries.
+fn add_lines<'a, R: BufRead>(
+    alloc: Global,
+    reader: &mut R,
+    file: &'a str,
+    entries: &mut Vec<Entry<'a>>,
+) -> Result<(), ReadError>
+    ensures { IfSome (R.Read.remaining reader.old)
+        (λ text. AddsEntries file.now text entries.old.items entries.new.items result) }
+{
+    let mut line = Vec::new(alloc);
+    for number in 1..u64::MAX {
+        let has_more = next_line(reader, &mut line)?;
+        add_line(Place { file, number }, line.as_slice(), entries)?;
+        if !has_more {
+            return Ok(());
+        }
+    }
+    Err(ReadError::Input)
+}
+
+/// Reads a list in blocks, to its end or to its first line in error, and adds its entries.
+fn add_list<'a, R: Read + Drop>(
+    alloc: Global,
+    reader: R,
+    file: &'a str,
+    entries: &mut Vec<Entry<'a>>,
+) -> Result<(), ReadError>
+    ensures { IfSome (R.remaining reader)
+        (λ text. AddsEntries file.now text entries.old.items entries.new.items result) }
+{
+    let mut reader = BufReader::new(alloc, reader)?;
+    add_lines(alloc, &mut reader, file, entries)
+}
+
+/// Reads the list of a file, and adds its entries.
+fn add_file<'a, F: Sources>(
+    alloc: Global,
+    sources: &F,
+    file: &'a str,
+    entries: &mut Vec<Entry<'a>>,
+) -> Result<(), CommandError<'a>>
+    ensures { AddsFileEntries (F.told sources.now file.now) file.now entries.old.items entries.new.items result }
+{
+    let Some(reader) = sources.open(file) else {
+        return Err(CommandError::Input(file));
+    };
+    match add_list(alloc, reader, file, entries) {
+        Ok(()) => Ok(()),
+        Err(ReadError::Line(number, e)) => Err(CommandError::Line(file, number, e)),
+        Err(ReadError::Input) => Err(CommandError::Input(file)),
+        Err(ReadError::NoMemory) => Err(CommandError::NoMemory),
+    }
+}
+
+/// The entries of the lists of a file and of others.
+fn read_named<'a, F: Sources>(
+    alloc: Global,
+    sources: &F,
+    file: &'a str,
+    files: &[&'a str],
+) -> Result<Vec<Entry<'a>>, CommandError<'a>>
+    ensures { MatchResult result
+        (λ entries. AreToldEntries (F.told sources.now) (file.now ∷ map (λ file. file.now) files.now) entries.items)
+        (IsUnchecked (F.told sources.now) (file.now ∷ map (λ file. file.now) files.now)) }
+{
+    let mut entries = Vec::new(alloc);
+    add_file(alloc, sources, file, &mut entries)?;
+    for other in files {
+        add_file(alloc, sources, other, &mut entries)?;
+    }
+    Ok(entries)
+}
+
+/// The entries of the lists of a command's files: of the standard input, if none is named.
+pub fn read_entries<'a, F: Sources>(
+    alloc: Global,
+    sources: &F,
+    files: &[&'a str],
+) -> Result<Vec<Entry<'a>>, CommandError<'a>>
+    ensures { MatchResult result
+        (λ entries. AreToldEntries (F.told sources.now) (read_files (map (λ file. file.now) files.now)) entries.items)
+        (IsUnchecked (F.told sources.now) (read_files (map (λ file. file.now) files.now))) }
+{
+    match files.split_first() {
+        Some((file, files)) => read_named(alloc, sources, file, files),
+        None => read_named(alloc, sources, "-", &[]),
+    }
+}
