@@ -1,6 +1,6 @@
 pub mod Zips
 pub mod LineFeeds
-pub mod Entries
+pub mod Contents
 pub mod Progress
 pub mod Blocks
 pub mod EachFile

@@ -20,8 +20,8 @@ use Rattle.cidr_sets.specs.Ranges.{IsBetween}
 use Rattle.cidr_sets.specs.Sets.{IsSetOf}
 use Rattle.netset.specs.declared.errors.LineError.{LineError}
 use Rattle.netset.specs.declared.errors.LineError.TheVariants.{NotUtf8, NoNetwork, NoAddress, TwoFamilies, Reversed}
-use Rattle.netset.specs.declared.lines.Entry.{Entry}
-use Rattle.netset.specs.declared.lines.Entry.TheVariants.{Blank, Network, Ipv4Range, Ipv6Range}
+use Rattle.netset.specs.declared.lines.Content.{Content}
+use Rattle.netset.specs.declared.lines.Content.TheVariants.{Blank, Network, Ipv4Range, Ipv6Range}
 
 -- a line feed
 abbrev pub is_line_feed : ℕ → Bool
@@ -50,14 +50,14 @@ AreEnds text first last =
     (front : List ℕ) × (back : List ℕ) × (text ≡ front ++ hyphen ∷ back) × IsIpText front first × IsIpText back last
 
 -- the field is empty, a network or an address, or a range of one family, whose first address is not above its last
-abbrev pub IsEntry : List ℕ → Entry → Type 0
-IsEntry field Blank = field ≡ []
-IsEntry field (Network network) = IsIpNetworkText field network
-IsEntry field (Ipv4Range first last) = AreEnds field (address.V4 first) (address.V4 last) × (bit_cmp first last ≢ Greater)
-IsEntry field (Ipv6Range first last) = AreEnds field (address.V6 first) (address.V6 last) × (bit_cmp first last ≢ Greater)
+abbrev pub IsContent : List ℕ → Content → Type 0
+IsContent field Blank = field ≡ []
+IsContent field (Network network) = IsIpNetworkText field network
+IsContent field (Ipv4Range first last) = AreEnds field (address.V4 first) (address.V4 last) × (bit_cmp first last ≢ Greater)
+IsContent field (Ipv6Range first last) = AreEnds field (address.V6 first) (address.V6 last) × (bit_cmp first last ≢ Greater)
 
 -- its networks: for a range the shortest list that has exactly the addresses from the first to the last
-abbrev pub AreNetworks : Entry → List IpCidr → Type 0
+abbrev pub AreNetworks : Content → List IpCidr → Type 0
 AreNetworks Blank said = said ≡ []
 AreNetworks (Network network) said = said ≡ network ∷ []
 AreNetworks (Ipv4Range first last) said =
@@ -67,7 +67,7 @@ AreNetworks (Ipv6Range first last) said =
 
 -- the line says these networks
 abbrev pub LineSays : List ℕ → List IpCidr → Type 0
-LineSays line said = (field : List ℕ) × (entry : Entry) × IsField line field × IsEntry field entry × AreNetworks entry said
+LineSays line said = (field : List ℕ) × (content : Content) × IsField line field × IsContent field content × AreNetworks content said
 
 -- ---- a line in error
 -- the string is no address of either family

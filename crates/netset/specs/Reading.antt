@@ -3,11 +3,11 @@ use Rattle.std.specs.Prelude.{◌≡◌, ◌≢◌, ℕ, Bool, true, false, List
 use Rattle.cidr.specs.declared.cidr.combined.IpCidr.{IpCidr}
 use Rattle.cidr.specs.declared.family.Family.{Family}
 use Rattle.cidr.specs.declared.family.Family.TheVariants.{Ipv4, Ipv6}
-use Rattle.netset.specs.Lists.{lines_of, IsField, IsEntry, IsFieldError, AreNetworks, LineSays, IsInError, ListSays, IsFirstError, network_in, networks_in}
+use Rattle.netset.specs.Lists.{lines_of, IsField, IsContent, IsFieldError, AreNetworks, LineSays, IsInError, ListSays, IsFirstError, network_in, networks_in}
 use Rattle.netset.specs.declared.errors.LineError.{LineError}
 use Rattle.netset.specs.declared.errors.ReadError.{ReadError}
 use Rattle.netset.specs.declared.errors.ReadError.TheVariants.{Line, Input, NoMemory}
-use Rattle.netset.specs.declared.lines.Entry.{Entry}
+use Rattle.netset.specs.declared.lines.Content.{Content}
 use Rattle.netset.specs.declared.lists.Lists.{Lists}
 
 -- the first line of a text; if it is not the last, the others are what the reader has left
@@ -21,11 +21,11 @@ DropsLineFeed old new true = old ≡ new ++ 10 ∷ []
 DropsLineFeed old new false = (new ≡ old) × ((line : List ℕ) → old ≢ line ++ 10 ∷ [])
 
 -- what a field says, or its error
-abbrev pub ReadsField : List ℕ → Result Entry LineError → Type 0
-ReadsField field r = MatchResult r (IsEntry field) (IsFieldError field)
+abbrev pub ReadsField : List ℕ → Result Content LineError → Type 0
+ReadsField field r = MatchResult r (IsContent field) (IsFieldError field)
 
 -- what the field of a line says, or its error
-abbrev pub ReadsLine : List ℕ → Result Entry LineError → Type 0
+abbrev pub ReadsLine : List ℕ → Result Content LineError → Type 0
 ReadsLine line r = (field : List ℕ) × IsField line field × ReadsField field r
 
 -- no line is in error
@@ -50,8 +50,8 @@ abbrev pub Grows : Lists → Lists → (Family → List (List Bool)) → Type 0
 Grows old new more = (family : Family) → listed new family ≡ listed old family ++ more family
 
 -- the networks of what a line says come behind those before
-abbrev pub AddsEntry : Entry → Lists → Lists → Type 0
-AddsEntry entry old new = (said : List IpCidr) × AreNetworks entry said × Grows old new (λ family. network_in family said)
+abbrev pub AddsContent : Content → Lists → Lists → Type 0
+AddsContent content old new = (said : List IpCidr) × AreNetworks content said × Grows old new (λ family. network_in family said)
 
 -- the error is that of this line, or the line is not known to have one
 abbrev pub IsLineError : List ℕ → ℕ → ReadError → Type 0

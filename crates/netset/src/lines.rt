@@ -14,7 +14,7 @@ use std::io::BufRead;
 
 /// What a line says.
 #[derive(Clone, Copy)]
-pub enum Entry {
+pub enum Content {
     /// Nothing.
     Blank,
     /// A network, or an address.
@@ -79,27 +79,27 @@ fn end_of(text: &str) -> Result<IpAddr, LineError>
 }
 
 /// The range from an IPv4 address to another one.
-fn ipv4_range(first: Ipv4Addr, last: Ipv4Addr) -> Result<Entry, LineError>
+fn ipv4_range(first: Ipv4Addr, last: Ipv4Addr) -> Result<Content, LineError>
     ensures { (field : List ℕ) → AreEnds field (V4 first) (V4 last) → ReadsField field result }
 {
     if first.cmp(&last).is_gt() {
         return Err(LineError::Reversed);
     }
-    Ok(Entry::Ipv4Range(first, last))
+    Ok(Content::Ipv4Range(first, last))
 }
 
 /// The range from an IPv6 address to another one.
-fn ipv6_range(first: Ipv6Addr, last: Ipv6Addr) -> Result<Entry, LineError>
+fn ipv6_range(first: Ipv6Addr, last: Ipv6Addr) -> Result<Content, LineError>
     ensures { (field : List ℕ) → AreEnds field (V6 first) (V6 last) → ReadsField field result }
 {
     if first.cmp(&last).is_gt() {
         return Err(LineError::Reversed);
     }
-    Ok(Entry::Ipv6Range(first, last))
+    Ok(Content::Ipv6Range(first, last))
 }
 
 /// The range from an address to another one.
-fn range_of(first: IpAddr, last: IpAddr) -> Result<Entry, LineError>
+fn range_of(first: IpAddr, last: IpAddr) -> Result<Content, LineError>
     ensures { (field : List ℕ) → AreEnds field first last → ReadsField field result }
 {
     match first {
@@ -115,15 +115,15 @@ fn range_of(first: IpAddr, last: IpAddr) -> Result<Entry, LineError>
 }
 
 /// What a field says.
-fn entry_of_field(field: &str) -> Result<Entry, LineError>
+fn content_of_field(field: &str) -> Result<Content, LineError>
     ensures { ReadsField field.now result }
 {
     if field.is_empty() {
-        return Ok(Entry::Blank);
+        return Ok(Content::Blank);
     }
     let Some((front, back)) = field.split_once('-') else {
         return match field.parse() {
-            Ok(network) => Ok(Entry::Network(network)),
+            Ok(network) => Ok(Content::Network(network)),
             Err(e) => Err(LineError::NoNetwork(e)),
         };
     };
@@ -133,12 +133,12 @@ fn entry_of_field(field: &str) -> Result<Entry, LineError>
 }
 
 /// What a line says.
-pub fn entry_of(line: &[u8]) -> Result<Entry, LineError>
+pub fn content_of(line: &[u8]) -> Result<Content, LineError>
     ensures { ReadsLine line.now result }
 {
     let field = without_comment(line).trim_ascii();
     match str::from_utf8(field) {
-        Ok(text) => entry_of_field(text),
+        Ok(text) => content_of_field(text),
         Err(_) => Err(LineError::NotUtf8),
     }
 }

@@ -3,10 +3,10 @@ ghost use Rattle.std.specs.Prelude.{◌≡◌, List, [], ◌∷◌, ◌++◌, ma
 ghost use Rattle.cidr_sets.specs.Ranges.{IsBetween};
 ghost use Rattle.cidr_sets.specs.Sets.{IsSetOf};
 ghost use Rattle.netset.specs.Lists.{network_in};
-ghost use Rattle.netset.specs.Reading.{AddsEntry, AddsLine, Grows, ReadsList};
+ghost use Rattle.netset.specs.Reading.{AddsContent, AddsLine, Grows, ReadsList};
 
 use crate::errors::ReadError;
-use crate::lines::{Entry, entry_of, next_line};
+use crate::lines::{Content, content_of, next_line};
 use cidr::{IpCidr, Ipv4Cidr, Ipv6Cidr};
 use cidr_sets::{Addressed, NetworkSet};
 use std::alloc::{AllocError, Global};
@@ -43,14 +43,14 @@ impl Lists {
     }
 
     /// Adds the networks of what a line says to those of their family.
-    fn push_entry(&mut self, alloc: Global, entry: &Entry) -> Result<(), AllocError>
-        ensures { OnOk result (AddsEntry entry.now self.old self.new) }
+    fn push_content(&mut self, alloc: Global, content: &Content) -> Result<(), AllocError>
+        ensures { OnOk result (AddsContent content.now self.old self.new) }
     {
-        match entry {
-            Entry::Blank => Ok(()),
-            Entry::Network(network) => self.push(network),
-            Entry::Ipv4Range(first, last) => push_range(alloc, &mut self.v4, *first, *last),
-            Entry::Ipv6Range(first, last) => push_range(alloc, &mut self.v6, *first, *last),
+        match content {
+            Content::Blank => Ok(()),
+            Content::Network(network) => self.push(network),
+            Content::Ipv4Range(first, last) => push_range(alloc, &mut self.v4, *first, *last),
+            Content::Ipv6Range(first, last) => push_range(alloc, &mut self.v6, *first, *last),
         }
     }
 
@@ -58,8 +58,8 @@ impl Lists {
     fn add_line(&mut self, alloc: Global, number: u64, line: &[u8]) -> Result<(), ReadError>
         ensures { AddsLine line.now number self.old self.new result }
     {
-        match entry_of(line) {
-            Ok(entry) => Ok(self.push_entry(alloc, &entry)?),
+        match content_of(line) {
+            Ok(content) => Ok(self.push_content(alloc, &content)?),
             Err(e) => Err(ReadError::Line(number, e)),
         }
     }

@@ -1,6 +1,6 @@
 use Rattle.std.proofs.Common.{refl, sym, ◌∙◌}
 use Rattle.cidr.specs.declared.addr.ip.IpAddr.TheVariants.{V4}
-use Rattle.netset.proofs.Entries.{above, not_above}
+use Rattle.netset.proofs.Contents.{above, not_above}
 use Rattle.netset.proofs.lines.ipv4_range.Goals as goal
 
 pub returns-then-is_gt : goal.returns-then-is_gt

@@ -1,8 +1,8 @@
 use Rattle.std.proofs.Common.{◌≡◌}
-use Rattle.netset.proofs.lines.entry_of.Goals as goal
+use Rattle.netset.proofs.lines.content_of.Goals as goal
 
 pub returns-in-Ok : goal.returns-in-Ok
 returns-in-Ok c =
     let field = c.trim_ascii-field.result.now in
     let same : c.in-Ok.text.now ≡ field = c.in-Ok.ensures.cases.0 in
-    (field, rw c.without_comment.ensures at c.trim_ascii-field.ensures.value, rw same at c.entry_of_field.ensures)
+    (field, rw c.without_comment.ensures at c.trim_ascii-field.ensures.value, rw same at c.content_of_field.ensures)

@@ -1,6 +1,6 @@
 use Rattle.std.proofs.Common.{refl}
-use Rattle.netset.proofs.Entries.{adds_nothing, adds_network, adds_v4, adds_v6}
-use Rattle.netset.proofs.lists.Lists.push_entry.Goals as goal
+use Rattle.netset.proofs.Contents.{adds_nothing, adds_network, adds_v4, adds_v6}
+use Rattle.netset.proofs.lists.Lists.push_content.Goals as goal
 
 pub returns-in-Blank : goal.returns-in-Blank
 returns-in-Blank c = rw c.in-Blank.is (adds_nothing c.args.self.now)

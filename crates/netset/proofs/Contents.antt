@@ -14,11 +14,11 @@ use Rattle.cidr.specs.texts.Refusal.{Lacks}
 use Rattle.cidr_sets.specs.Ranges.{IsBetween}
 use Rattle.cidr_sets.specs.Sets.{IsSetOf}
 use Rattle.netset.specs.Lists.{IsNoAddress, hyphen, network_in}
-use Rattle.netset.specs.Reading.{AddsEntry, Grows, ReadsField}
+use Rattle.netset.specs.Reading.{AddsContent, Grows, ReadsField}
 use Rattle.netset.specs.declared.errors.LineError.{LineError}
 use Rattle.netset.specs.declared.errors.LineError.TheVariants.{NoAddress}
-use Rattle.netset.specs.declared.lines.Entry.{Entry}
-use Rattle.netset.specs.declared.lines.Entry.TheVariants.{Blank, Network, Ipv4Range, Ipv6Range}
+use Rattle.netset.specs.declared.lines.Content.{Content}
+use Rattle.netset.specs.declared.lines.Content.TheVariants.{Blank, Network, Ipv4Range, Ipv6Range}
 use Rattle.netset.specs.declared.lists.Lists.{Lists}
 
 -- ---- the order of two addresses
@@ -59,7 +59,7 @@ none_more : (old new more : List (List Bool)) → new ≡ old → more ≡ [] �
 none_more old new more same none = same ∙ (sym (append-nil old) ∙ ap (λ (k : List (List Bool)). old ++ k) (sym none))
 
 -- ---- what comes behind the networks before
-pub adds_nothing : (lists : Lists) → AddsEntry Blank lists lists
+pub adds_nothing : (lists : Lists) → AddsContent Blank lists lists
 adds_nothing lists =
     let grows : Grows lists lists (λ family. network_in family []) = elim [
       | Ipv4 ↦ sym (append-nil lists.v4.items)
@@ -68,7 +68,7 @@ adds_nothing lists =
     ([], refl, grows)
 
 pub adds_network : {E : Type 0} (network : IpCidr) (old new : Lists) (r : Result (Unit {0}) E) → OnOk r (Grows old new (λ family. network_in family (network ∷ [])))
-    → OnOk r (AddsEntry (Network network) old new)
+    → OnOk r (AddsContent (Network network) old new)
 adds_network network old new (Err e) h = tt
 adds_network network old new (Ok t) h = (network ∷ [], refl, h)
 
@@ -76,7 +76,7 @@ abbrev pub AddsRange : List Bool → List Bool → List (List Bool) → List (Li
 AddsRange first last old new = (range : List (List Bool)) × IsSetOf 129 (IsBetween first last) (map (λ (p : List Bool). p) range) × (new ≡ old ++ range)
 
 pub adds_v4 : {E : Type 0} (first last : List Bool) (old new : Lists) (r : Result (Unit {0}) E) → OnOk r (AddsRange first last old.v4.items new.v4.items)
-    → new.v6.items ≡ old.v6.items → OnOk r (AddsEntry (Ipv4Range first last) old new)
+    → new.v6.items ≡ old.v6.items → OnOk r (AddsContent (Ipv4Range first last) old new)
 adds_v4 first last old new (Err e) h six = tt
 adds_v4 first last old new (Ok t) (range, set, four) six =
     let plain : IsSetOf 129 (IsBetween first last) range = rw (map-id range) at set in
@@ -87,7 +87,7 @@ adds_v4 first last old new (Ok t) (range, set, four) six =
     (map (λ (p : List Bool). V4 p) range, (range, plain, refl), grows)
 
 pub adds_v6 : {E : Type 0} (first last : List Bool) (old new : Lists) (r : Result (Unit {0}) E) → OnOk r (AddsRange first last old.v6.items new.v6.items)
-    → new.v4.items ≡ old.v4.items → OnOk r (AddsEntry (Ipv6Range first last) old new)
+    → new.v4.items ≡ old.v4.items → OnOk r (AddsContent (Ipv6Range first last) old new)
 adds_v6 first last old new (Err e) h four = tt
 adds_v6 first last old new (Ok t) (range, set, six) four =
     let plain : IsSetOf 129 (IsBetween first last) range = rw (map-id range) at set in
@@ -98,6 +98,6 @@ adds_v6 first last old new (Ok t) (range, set, six) four =
     (map (λ (p : List Bool). V6 p) range, (range, plain, refl), grows)
 
 -- ---- an end that is no address
-pub no_end : (field front back : List ℕ) (r : Result Entry LineError) (y e : LineError) → r ≡ Err y → y ≡ e → e ≡ NoAddress ip_error
+pub no_end : (field front back : List ℕ) (r : Result Content LineError) (y e : LineError) → r ≡ Err y → y ≡ e → e ≡ NoAddress ip_error
     → field ≡ front ++ hyphen ∷ back → Lacks hyphen front → IsNoAddress front ⊎ IsNoAddress back → ReadsField field r
 no_end field front back r y e is same none split lacks bad = rw (is, same, none) (front, back, split, lacks, refl, bad)

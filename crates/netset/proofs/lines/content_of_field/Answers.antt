@@ -1,9 +1,9 @@
 use Rattle.std.proofs.Common.{Some, None, arith, inl, inr}
 use Rattle.std.proofs.lemmas.Result.{err_from_is_err_and}
 use Rattle.std.proofs.lemmas.Str.Pattern.{split_parts}
-use Rattle.netset.proofs.Entries.{is_nothing, no_end}
+use Rattle.netset.proofs.Contents.{is_nothing, no_end}
 use Rattle.netset.proofs.LineFeeds.{not_empty}
-use Rattle.netset.proofs.lines.entry_of_field.Goals as goal
+use Rattle.netset.proofs.lines.content_of_field.Goals as goal
 
 pub returns-then-is_empty : goal.returns-then-is_empty
 returns-then-is_empty c = is_nothing c.args.field.now c.is_empty.result c.is_empty.ensures c.if-is_empty.true
