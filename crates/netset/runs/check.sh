@@ -265,4 +265,9 @@ if ((!tried)); then
     echo "no built program in $PWD/out: run 'rt ci' first" >&2
     exit 1
 fi
+# Random lists beside Python's arithmetic, and beside `iprange` where the machine has it.
+if ! NETSET=$program beside/compare 25 >"$room/compared"; then
+    cat "$room/compared" >&2
+    differs=1
+fi
 exit "$differs"
