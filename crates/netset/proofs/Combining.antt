@@ -42,7 +42,7 @@ steps_same Union P Q A B f g = (elim [ inl p ↦ inl (f.0 p) | inr a ↦ inr (g.
 steps_same Difference P Q A B f g = (λ h. (f.0 h.0, λ b. h.1 (g.1 b)), λ h. (f.1 h.0, λ a. h.1 (g.0 a)))
 steps_same Intersection P Q A B f g = (λ h. (f.0 h.0, g.0 h.1), λ h. (f.1 h.0, g.1 h.1))
 
-turned_same : (turned : Bool) (P Q : Type 0) → (P ↔ Q) → Turned turned P ↔ Turned turned Q
+pub turned_same : (turned : Bool) (P Q : Type 0) → (P ↔ Q) → Turned turned P ↔ Turned turned Q
 turned_same false P Q f = f
 turned_same true P Q f = (λ h q. h (f.1 q), λ h p. h (f.0 p))
 

@@ -10,6 +10,7 @@ pub mod Walked
 pub mod Changed
 pub mod Spans
 pub mod Pools
+pub mod Matched
 pub mod Arguments
 pub mod LinesRead
 pub mod EntriesRead
@@ -17,3 +18,4 @@ pub mod FirstLines
 pub mod Found
 pub mod Noted
 pub mod Checked
+pub mod MatchArguments

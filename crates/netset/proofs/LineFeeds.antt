@@ -6,7 +6,7 @@ use Rattle.std.proofs.Math.Seq.{take-length}
 use Rattle.std.specs.Option.{IfSome}
 use Rattle.std.specs.Io.BufRead.{take_through, drop_through, DropsThrough}
 use Rattle.std.proofs.lemmas.Bool.Decides.{Decides-eqb}
-use Rattle.netset.specs.Lists.{lines_of, is_comment_sign}
+use Rattle.netset.specs.Lists.{lines_of}
 use Rattle.netset.specs.Reading.{IsNextLine, DropsLineFeed}
 
 front_split : (x : ℕ) (xs line : List ℕ) (b : Bool) → (x == 10) ≡ b
@@ -55,18 +55,18 @@ is_next_line (Some xs) new cleared got line false none taken drops cut =
     let all : got ≡ take_through 10 xs = taken ∙ ap (λ (k : List ℕ). k ++ take_through 10 xs) none in
     line_without_feed xs (λ k q. cut.1 k (all ∙ q)) ∙ ap (λ (k : List ℕ). k ∷ []) (sym all ∙ sym cut.0)
 
--- the first byte that begins a comment, or none
-pub cut_at_first : (line : List ℕ) (place : ℕ) → ((k : ℕ) → k < place → is_comment_sign (slice_index_or line k 0) ≡ false)
-    → place < length line → is_comment_sign (slice_index_or line place 0) ≡ true → take place line ≡ before_first is_comment_sign line
-cut_at_first line place below within here =
-    ap (λ (k : ℕ). take k line) (sym (position_or_len_is is_comment_sign line place 0 (omega arith) below (λ _. here)))
+-- the first byte that passes, or none
+pub cut_at_first : (p : ℕ → Bool) (line : List ℕ) (place : ℕ) → ((k : ℕ) → k < place → p (slice_index_or line k 0) ≡ false)
+    → place < length line → p (slice_index_or line place 0) ≡ true → take place line ≡ before_first p line
+cut_at_first p line place below within here =
+    ap (λ (k : ℕ). take k line) (sym (position_or_len_is p line place 0 (omega arith) below (λ _. here)))
 
-pub uncut : (line : List ℕ) (place : ℕ) → ((k : ℕ) → k < place → is_comment_sign (slice_index_or line k 0) ≡ false)
-    → length line ≤ place → line ≡ before_first is_comment_sign line
-uncut line place below past =
-    let all : (k : ℕ) → k < length line → is_comment_sign (slice_index_or line k 0) ≡ false = λ k h. below k (omega arith) in
-    let none : length line < length line → is_comment_sign (slice_index_or line (length line) 0) ≡ true = λ h. absurd (omega (arith, h)) in
-    sym (ap (λ (k : ℕ). take k line) (position_or_len_is is_comment_sign line (length line) 0 (omega arith) all none) ∙ take-length line)
+pub uncut : (p : ℕ → Bool) (line : List ℕ) (place : ℕ) → ((k : ℕ) → k < place → p (slice_index_or line k 0) ≡ false)
+    → length line ≤ place → line ≡ before_first p line
+uncut p line place below past =
+    let all : (k : ℕ) → k < length line → p (slice_index_or line k 0) ≡ false = λ k h. below k (omega arith) in
+    let none : length line < length line → p (slice_index_or line (length line) 0) ≡ true = λ h. absurd (omega (arith, h)) in
+    sym (ap (λ (k : ℕ). take k line) (position_or_len_is p line (length line) 0 (omega arith) all none) ∙ take-length line)
 
 pub not_empty : (field : List ℕ) (test : Bool) → test ≡ (length field == 0) → test ≡ false → field ≢ []
 not_empty [] test is fails = λ e. cc

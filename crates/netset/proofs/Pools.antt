@@ -10,7 +10,7 @@ use Rattle.cidr_sets.specs.Pools.{IsFirstFree}
 use Rattle.cidr_sets.specs.Sets.{IsSetOf}
 use Rattle.netset.specs.Answering.{AreRead}
 use Rattle.netset.specs.Combining.{IsMade, name_of}
-use Rattle.netset.specs.Commands.{Lists, NotIn, Diff, Free, Check, Single, Help, Version, IsRequest, IsUsage, Says}
+use Rattle.netset.specs.Commands.{Lists, NotIn, Diff, Free, Check, Match, Single, Help, Version, IsRequest, IsUsage, Says}
 use Rattle.netset.specs.Free.{IsFreeText}
 use Rattle.netset.specs.Program.{AnswersRequest, by_output}
 use Rattle.netset.specs.Sets.{Held, held}
@@ -60,12 +60,14 @@ free_written told pool len used n read rest answer verdict s t w r number are ma
 pub no_request : (words : List (List ℕ)) (name : List ℕ) (files : List (List ℕ)) → words ≡ name ∷ files → ((operation : Operation) → name ≢ name_of operation)
     → files ≢ [] → ((request : SingleRequest) → ¬ (IsSingle words request)) → ((net : List ℕ) (fs : List (List ℕ)) → ¬ (IsRequest words (NotIn net fs)))
     → ((old new : List ℕ) → ¬ (IsRequest words (Diff old new))) → ((pool len : List ℕ) (used : List (List ℕ)) → ¬ (IsRequest words (Free pool len used)))
-    → ((fs : List (List ℕ)) → ¬ (IsRequest words (Check fs))) → IsUsage words
-no_request words name files is unnamed some single not_in diff free check (Lists operation fs) h = unnamed operation (ap (λ (k : List (List ℕ)). get_or k 0 []) (sym is ∙ h.0))
-no_request words name files is unnamed some single not_in diff free check (NotIn net fs) h = not_in net fs h
-no_request words name files is unnamed some single not_in diff free check (Diff old new) h = diff old new h
-no_request words name files is unnamed some single not_in diff free check (Free pool len used) h = free pool len used h
-no_request words name files is unnamed some single not_in diff free check (Check fs) h = check fs h
-no_request words name files is unnamed some single not_in diff free check (Single request) h = single request h
-no_request words name files is unnamed some single not_in diff free check Help h = some (ap (drop 1) (sym is ∙ h))
-no_request words name files is unnamed some single not_in diff free check Version h = some (ap (drop 1) (sym is ∙ h))
+    → ((fs : List (List ℕ)) → ¬ (IsRequest words (Check fs)))
+    → ((options : List (List ℕ)) (list file : List ℕ) → ¬ (IsRequest words (Match options list file))) → IsUsage words
+no_request words name files is unnamed some single not_in diff free check match (Lists operation fs) h = unnamed operation (ap (λ (k : List (List ℕ)). get_or k 0 []) (sym is ∙ h.0))
+no_request words name files is unnamed some single not_in diff free check match (NotIn net fs) h = not_in net fs h
+no_request words name files is unnamed some single not_in diff free check match (Diff old new) h = diff old new h
+no_request words name files is unnamed some single not_in diff free check match (Free pool len used) h = free pool len used h
+no_request words name files is unnamed some single not_in diff free check match (Check fs) h = check fs h
+no_request words name files is unnamed some single not_in diff free check match (Match options list file) h = match options list file h
+no_request words name files is unnamed some single not_in diff free check match (Single request) h = single request h
+no_request words name files is unnamed some single not_in diff free check match Help h = some (ap (drop 1) (sym is ∙ h))
+no_request words name files is unnamed some single not_in diff free check match Version h = some (ap (drop 1) (sym is ∙ h))

@@ -5,7 +5,7 @@ set -euo pipefail
 export LC_ALL=C
 cd "$(dirname "$0")/.."
 
-usage=$'usage: netset merge|nets|not|ranges|count|check [FILE..] | not --in NET [FILE..] | minus|and A B.. | diff A B | free POOL LEN USED.. | show HOST | split NET LEN | nth NET INDEX | --help | --version\n'
+usage=$'usage: netset merge|nets|not|ranges|count|check [FILE..] | not --in NET [FILE..] | minus|and A B.. | diff A B | free POOL LEN USED.. | match [-v] [-c] [-q] LIST [FILE] | show HOST | split NET LEN | nth NET INDEX | --help | --version\n'
 
 room=$(mktemp -d)
 trap 'rm -rf "$room"' EXIT
@@ -176,6 +176,41 @@ rows_of_findings() {
     run 2 '' "$usage" '' check -k
 }
 
+# The lines of a file by a list.
+rows_of_matches() {
+    local bad=$': couldn\'t parse address in network: invalid IP address syntax\n'
+    run 0 $'10.0.0.1 a\n10.0.0.0/9\n' '' '10.0.0.1 a\n11.0.0.1\n10.0.0.0/9\n10.0.0.0/7\n::1\n' match ten
+    run 0 $'10.0.0.1\r\n \t10.2.3.4\tx # y\n::1\n' '' '10.0.0.1\r\n \t10.2.3.4\tx # y\n11.0.0.1\n::1' match both -
+    run 0 $'10.0.0.0/8\n' '' '' match ten ten
+    run 1 '' '' '10.0.0.0/8' match - -
+    run 1 '' '' '' match ten
+    run 1 '' '' '\n \n#10.0.0.1\n ;\xff\n::1\n' match ten
+    run 0 $'\n \n#10.0.0.1\n ;x\r\n::1\n' '' '\n10.0.0.1\n \n#10.0.0.1\n ;x\r\n::1' match -v ten
+    run 1 '' '' '' match -v ten
+    run 0 $'\n' '' '\n' match -v ten
+    run 0 $'2\n' '' '10.0.0.1\n11.0.0.1\n10.0.0.1' match -c ten
+    run 0 $'1\n' '' '10.0.0.1\n11.0.0.1\n10.0.0.1' match -v -c -v ten -
+    run 1 $'0\n' '' '11.0.0.1' match -c ten
+    run 0 '' '' '11.0.0.1\n10.0.0.1\nx' match -q ten
+    run 0 '' '' '11.0.0.1\n10.0.0.1' match -c -q ten
+    run 1 '' '' '11.0.0.1' match -q ten
+    run 2 '' "-:2$bad" '11.0.0.1\nx\n10.0.0.1' match -q ten
+    run 2 '' "-:3$bad" '11.0.0.1\n\n010.0.0.1\n10.0.0.1' match ten
+    run 2 '' "-:1$bad" '10.0.0.1#x' match ten
+    run 2 '' $'-:1: host part of address was not zero\n' '10.0.0.1/8 x' match -v ten
+    run 2 '' $'-:1: not UTF-8\n' '\xff' match ten
+    run 2 '' $'bad:1: couldn\'t parse length in network: invalid length text\n' '' match bad missing
+    run 2 '' $'missing: cannot be read\n' '' match missing bad
+    run 2 '' $'missing: cannot be read\n' '' match ten missing
+    run 2 '' $'.: cannot be read\n' '' match ten .
+    run 2 '' "$usage" '' match
+    run 2 '' "$usage" '' match -v
+    run 2 '' "$usage" '' match -x ten
+    run 2 '' "$usage" '' match ten -v
+    run 2 '' "$usage" '' match ten ten -
+    run 2 '' "$usage" '' match -- ten
+}
+
 # The commands on one host or network.
 rows_of_one_network() {
     run 0 $'network 192.0.2.0/24\nfirst 192.0.2.0\nlast 192.0.2.255\nmask 255.255.255.0\nlength 24\nfamily Ipv4\n' \
@@ -208,6 +243,8 @@ long_list() {
     run 0 "$output" '' "$input" merge
     output=$(seq 0 65535 | awk '{ print "10.1." int($1 / 256) "." $1 % 256 }')$'\n'
     run 0 "$output" '' '' split 10.1.0.0/16 32
+    run 0 "$input"$'\n' '' "$input" match ten
+    run 0 $'32768\n' '' "$input" match -c ten
 }
 
 # Either stream fails, or both.
@@ -223,6 +260,9 @@ rows_where_a_stream_fails() {
     run 0 '' '' '' check ten
     run 3 '' $'output failed\n' '' ranges ten
     run 3 '' $'output failed\n' '' not --in ::/0 ten
+    run 3 '' $'output failed\n' '10.0.0.1' match ten
+    run 3 '' $'output failed\n' '10.0.0.1' match -c ten
+    run 0 '' '' '10.0.0.1' match -q ten
     run 3 '' $'output failed\n' '' show ::1
     run 3 '' $'output failed\n' '' split ::/0 128
     run 3 '' $'output failed\n' '' nth ::/0 1
@@ -255,6 +295,7 @@ for build in netset netset.by-rattle; do
     rows_of_changes
     rows_of_pools
     rows_of_findings
+    rows_of_matches
     rows_of_one_network
     long_list
     if [[ -c /dev/full ]]; then

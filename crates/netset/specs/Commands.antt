@@ -1,6 +1,6 @@
 -- The commands, their arguments and what each answers.
 use Rattle.std.specs.Prelude.{◌≡◌, ℕ, ◌≤◌, ◌==◌, nat_lt, Bool, true, false, ◌&&◌, List, [], ◌∷◌, ◌++◌, length, codes, Option, Some}
-use Rattle.std.specs.List.{AllZip, list_any, slice_index}
+use Rattle.std.specs.List.{AllZip, list_all, list_any, slice_index}
 use Rattle.cidr.specs.either.IpText.{IsIpNetworkText}
 use Rattle.cidr.specs.declared.cidr.combined.IpCidr.{IpCidr}
 use Rattle.cidr.specs.declared.family.Family.{Family}
@@ -11,6 +11,7 @@ use Rattle.netset.specs.Free.{IsFreeText}
 use Rattle.netset.specs.Lists.{ListSays, network_in, networks_in}
 use Rattle.netset.specs.Changes.{AreChanges, AreSame, printed_changes}
 use Rattle.netset.specs.Combining.{form_of, name_of, takes, IsMade}
+use Rattle.netset.specs.Matching.{has, is_match_option, written_of, IsMatch, Picks}
 use Rattle.netset.specs.declared.operations.Form.{Form}
 use Rattle.netset.specs.declared.operations.Form.TheVariants.{Networks}
 use Rattle.netset.specs.declared.operations.Operation.{Operation}
@@ -28,6 +29,7 @@ pub data Request : Type 0 where
   Diff : List ℕ → List ℕ → Request
   Free : List ℕ → List ℕ → List (List ℕ) → Request
   Check : List (List ℕ) → Request
+  Match : List (List ℕ) → List ℕ → List ℕ → Request
   Single : SingleRequest → Request
   Help : Request
   Version : Request
@@ -35,6 +37,11 @@ pub data Request : Type 0 where
 -- - and something behind it
 abbrev pub is_option : List ℕ → Bool
 is_option word = nat_lt 1 (length word) && (slice_index word 0 == 45)
+
+-- the files that are read: those named, or the standard input, whose name is -
+abbrev pub read_files : List (List ℕ) → List (List ℕ)
+read_files [] = codes "-" ∷ []
+read_files (file ∷ files) = file ∷ files
 
 -- the arguments are this request; no file has the name of an option
 abbrev pub IsRequest : List (List ℕ) → Request → Type 0
@@ -47,6 +54,9 @@ IsRequest words (Diff old new) =
 IsRequest words (Free pool len used) = (words ≡ codes "free" ∷ pool ∷ len ∷ used)
     × (is_option pool ≡ false) × (list_any is_option used ≡ false) × (nat_lt 0 (length used) ≡ true)
 IsRequest words (Check files) = (words ≡ codes "check" ∷ files) × (list_any is_option files ≡ false)
+IsRequest words (Match options list file) = (files : List (List ℕ)) × (words ≡ codes "match" ∷ (options ++ list ∷ files))
+    × (list_all is_match_option options ≡ true) × (is_option list ≡ false) × (list_any is_option files ≡ false)
+    × (read_files files ≡ file ∷ [])
 IsRequest words (Single request) = IsSingle words request
 IsRequest words Help = words ≡ codes "--help" ∷ []
 IsRequest words Version = words ≡ codes "--version" ∷ []
@@ -54,11 +64,6 @@ IsRequest words Version = words ≡ codes "--version" ∷ []
 -- the arguments are no request
 abbrev pub IsUsage : List (List ℕ) → Type 0
 IsUsage words = (request : Request) → ¬ (IsRequest words request)
-
--- the files that are read: those named, or the standard input, whose name is -
-abbrev pub read_files : List (List ℕ) → List (List ℕ)
-read_files [] = codes "-" ∷ []
-read_files (file ∷ files) = file ∷ files
 
 -- these are the bytes of the files of these names
 abbrev pub AreTold : (List ℕ → Option (List ℕ)) → List (List ℕ) → List (List ℕ) → Type 0
@@ -99,6 +104,11 @@ IsFree n texts answer verdict = (said : List (List (List IpCidr))) × AllZip Lis
     × (sets : Family → List (List Bool)) × ((family : Family) → IsSetOf 129 (IsMade Says Minus said family) (sets family))
     × IsFreeText sets n answer verdict
 
+-- the lines of a file whose first field lies in a list
+abbrev pub IsMatchOf : List (List ℕ) → List ℕ → List ℕ → List ℕ → Verdict → Type 0
+IsMatchOf options networks text answer verdict = (said : List (List IpCidr)) × ListSays networks said
+    × IsMatch (Picks (Says said) (has (codes "-v") options)) (written_of options) text answer verdict
+
 -- what `--help` writes
 abbrev pub help_text : List ℕ
 help_text =
@@ -118,6 +128,9 @@ help_text =
     ++ codes "netset check [FILE..]   what is found in the lists, whose lines may be hosts too: set host\n"
     ++ codes "                        bits, other forms than the printed one, repeats, networks inside\n"
     ++ codes "                        others, and halves of one network\n"
+    ++ codes "netset match [-v] [-c] [-q] LIST [FILE]\n"
+    ++ codes "                        the lines of FILE whose first field lies in LIST, or with -v does not;\n"
+    ++ codes "                        -c their number, -q only the status\n"
     ++ codes "netset show HOST        the network of a host: its ends, mask, length and family\n"
     ++ codes "netset split NET LEN    the networks of this prefix length inside a network\n"
     ++ codes "netset nth NET INDEX    the address of a network at an index, from 0 on\n"
@@ -145,6 +158,8 @@ IsAnswer told (Free pool len used) answer verdict = (n : ℕ) × IsNumber len n 
     × ((texts : List (List ℕ)) → AreTold told (pool ∷ used) texts → IsFree n texts answer verdict)
 IsAnswer told (Check files) answer verdict =
     (texts : List (List ℕ)) → AreTold told (read_files files) texts → IsCheck (read_files files) texts answer verdict
+IsAnswer told (Match options list file) answer verdict =
+    (networks text : List ℕ) → told list ≡ Some networks → told file ≡ Some text → IsMatchOf options networks text answer verdict
 IsAnswer told (Single request) answer verdict = IsSingleAnswer request answer verdict
 IsAnswer told Help answer verdict = (answer ≡ help_text) × (verdict ≡ Yes)
 IsAnswer told Version answer verdict = (answer ≡ version_text) × (verdict ≡ Yes)

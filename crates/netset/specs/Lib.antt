@@ -1,5 +1,5 @@
 -- What has to be believed: what lists say, what commands answer, and a run of the program. `Reading`, `Command`,
--- `Collecting` and `Answering` are what private functions promise.
+-- `Collecting`, `Gathering` and `Answering` are what private functions promise.
 pub mod Lists
 pub mod Reading
 pub mod Printing
@@ -10,9 +10,12 @@ pub mod Changes
 pub mod Free
 pub mod Entries
 pub mod Findings
+pub mod Matching
 pub mod Combining
 pub mod Commands
 pub mod Command
 pub mod Unchecked
+pub mod Streaming
 pub mod Program
+pub mod Gathering
 pub mod Answering

@@ -5,11 +5,13 @@ use Rattle.cidr.specs.texts.Messages.{address_message, parse_message}
 use Rattle.cidr.specs.either.IpText.{IsIpNetworkText}
 use Rattle.cidr.specs.declared.cidr.combined.IpCidr.{IpCidr}
 use Rattle.cidr_io.specs.Arguments.{AreArguments, AreUnreadable}
-use Rattle.cidr_io.specs.Writing.{State, Answered, Says}
+use Rattle.cidr_io.specs.Writing.{State, Answered, Says as Tells}
 use Rattle.cidr_io.specs.declared.sink.OutputFailed.{OutputFailed}
 use Rattle.netset.specs.Lists.{ListSays, IsFirstError}
-use Rattle.netset.specs.Commands.{Request, Lists, NotIn, Diff, Free, Check, Single, Help, Version, IsRequest, IsUsage, read_files, AreTold, IsAnswer}
+use Rattle.netset.specs.Commands.{Request, Lists, NotIn, Diff, Free, Check, Match, Single, Help, Version, IsRequest, IsUsage, read_files, AreTold, IsAnswer, Says}
 use Rattle.netset.specs.Free.{IsBadLength}
+use Rattle.netset.specs.Matching.{has, written_of, Picks}
+use Rattle.netset.specs.Streaming.{IsBegun, IsCutAt, IsOfFile}
 use Rattle.netset.specs.Single.{IsBadSingle, IsNoNetwork}
 use Rattle.netset.specs.Unchecked.{IsUnchecked}
 use Rattle.netset.specs.declared.errors.ArgumentError.{ArgumentError}
@@ -52,6 +54,7 @@ IsRefused told (NotIn net files) (Err e) = IsBadArgument (λ text bad. (text ≡
 IsRefused told (Diff old new) (Err e) = IsUnread told (old ∷ new ∷ []) e
 IsRefused told (Free pool len used) (Err e) = IsBadArgument (IsBadLength len) e ⊎ IsUnread told (pool ∷ used) e
 IsRefused told (Check files) (Err e) = IsUnchecked told (read_files files) e
+IsRefused told (Match options list file) (Err e) = IsUnread told (list ∷ []) e
 IsRefused told (Single request) (Err e) = IsBadArgument (IsBadSingle request) e
 IsRefused told Help (Err e) = ⊥
 IsRefused told Version (Err e) = ⊥
@@ -63,11 +66,23 @@ by_output verdict (Err e) = Err error.Output
 
 -- What becomes of a request and of the sink: nothing is written where its lists are not read. Else its answer is
 -- written whole, or the sink has failed and a beginning of the answer was written, none if it had failed before.
-abbrev pub AnswersRequest : (List ℕ → Option (List ℕ)) → Request → State → State → Result Verdict CommandError → Type 0
-AnswersRequest told request old new r =
+abbrev pub AnswersWhole : (List ℕ → Option (List ℕ)) → Request → State → State → Result Verdict CommandError → Type 0
+AnswersWhole told request old new r =
     ((new ≡ old) × IsRefused told request r)
     ⊎ ((answer : List ℕ) × (verdict : Verdict) × (written : Result (Unit {0}) OutputFailed) × IsAnswer told request answer verdict
     × Answered old new answer written × (r ≡ by_output verdict written))
+
+-- the lines of the file of `match` were not read to their end, and a beginning of what belongs to those before was written
+abbrev pub IsCutShort : (List ℕ → Option (List ℕ)) → List (List ℕ) → List ℕ → List ℕ → State → State → Result Verdict CommandError → Type 0
+IsCutShort told options list file old new r = (e : CommandError) × (r ≡ Err e) × IsOfFile file e × (answer : List ℕ) × IsBegun old new answer e
+    × ((networks text : List ℕ) → told list ≡ Some networks → told file ≡ Some text → (said : List (List IpCidr)) × ListSays networks said
+    × IsCutAt (Picks (Says said) (has (codes "-v") options)) (written_of options) text answer e)
+
+-- what becomes of a request and of the sink
+abbrev pub AnswersRequest : (List ℕ → Option (List ℕ)) → Request → State → State → Result Verdict CommandError → Type 0
+AnswersRequest told (Match options list file) old new r =
+    AnswersWhole told (Match options list file) old new r ⊎ IsCutShort told options list file old new r
+AnswersRequest told request old new r = AnswersWhole told request old new r
 
 -- other arguments are usage, and nothing is written
 abbrev pub Answers : (List ℕ → Option (List ℕ)) → List (List ℕ) → State → State → Result Verdict CommandError → Type 0
@@ -91,7 +106,7 @@ argument_message bad.Index = codes "no index below 2^128"
 
 -- the line that is written to standard error
 abbrev pub error_line : CommandError → List ℕ
-error_line error.Usage = codes "usage: netset merge|nets|not|ranges|count|check [FILE..] | not --in NET [FILE..] | minus|and A B.. | diff A B | free POOL LEN USED.. | show HOST | split NET LEN | nth NET INDEX | --help | --version\n"
+error_line error.Usage = codes "usage: netset merge|nets|not|ranges|count|check [FILE..] | not --in NET [FILE..] | minus|and A B.. | diff A B | free POOL LEN USED.. | match [-v] [-c] [-q] LIST [FILE] | show HOST | split NET LEN | nth NET INDEX | --help | --version\n"
 error_line (error.Argument text e) = text.now ++ (codes ": " ++ (argument_message e ++ codes "\n"))
 error_line (error.Line name number e) =
     name.now ++ (codes ":" ++ (decimal number ++ (codes ": " ++ (line_message e ++ codes "\n"))))
@@ -102,7 +117,7 @@ error_line error.Output = codes "output failed\n"
 -- nothing for an answer, and else one line
 abbrev pub Reports : Result Verdict CommandError → State → State → Type 0
 Reports (Ok verdict) old new = new ≡ old
-Reports (Err e) old new = Says old new (error_line e)
+Reports (Err e) old new = Tells old new (error_line e)
 
 -- the exit status: 0 done or yes, 1 none, no or findings, 2 usage, reading or a line in error, 3 output or memory
 abbrev pub status_of : Result Verdict CommandError → ℕ

@@ -1,9 +1,11 @@
 //! The arguments of the program as commands.
-ghost use Rattle.std.specs.Prelude.{◌≡◌, ℕ, List, map, [], ◌∷◌, MatchOption};
-ghost use Rattle.std.specs.List.{list_any};
-ghost use Rattle.netset.specs.Commands.{Check, Diff, Free, NotIn, is_option, IsRequest, IsUsage};
+ghost use Rattle.std.specs.Prelude.{◌≡◌, ◌≢◌, false, ℕ, List, codes, map, [], ◌∷◌, MatchOption};
+ghost use Rattle.std.specs.Bool.{Decides};
+ghost use Rattle.std.specs.List.{list_any, prefix_len};
+ghost use Rattle.netset.specs.Commands.{Check, Diff, Free, Match, NotIn, is_option, read_files, IsRequest, IsUsage};
 ghost use Rattle.netset.specs.Command.{AreMisfits, IsNoLoneWord, request_of};
 ghost use Rattle.netset.specs.Combining.{name_of};
+ghost use Rattle.netset.specs.Matching.{is_match_option};
 
 use crate::operations::{Operation, operation_of, takes};
 use crate::single::{Single, single_of};
@@ -21,6 +23,8 @@ pub enum Command<'a> {
     Free(&'a str, &'a str, &'a [&'a str]),
     /// What is found in the lists of these files.
     Check(&'a [&'a str]),
+    /// The options, the list, and the file of which lines are picked.
+    Match(&'a [&'a str], &'a str, &'a str),
     /// A command on one host or network.
     Single(Single<'a>),
     /// The page of the commands.
@@ -105,6 +109,61 @@ fn check_of<'a>(words: &'a [&'a str]) -> Option<&'a [&'a str]>
     None
 }
 
+/// Whether a word is an option of the command `match`.
+fn is_match_option(word: &str) -> bool
+    ensures { result ≡ is_match_option word.now }
+{
+    word == "-v" || word == "-c" || word == "-q"
+}
+
+/// How many of the words are options of the command `match`, up to the first that is none.
+fn match_options(words: &[&str]) -> usize
+    ensures { result ≡ prefix_len is_match_option (map (λ w. w.now) words.now) }
+{
+    for (place, word) in words.iter().enumerate() {
+        if !is_match_option(word) {
+            return place;
+        }
+    }
+    words.len()
+}
+
+/// The file that is read where these are named.
+fn one_file<'a>(files: &[&'a str]) -> Option<&'a str>
+    ensures { MatchOption result ((file : List ℕ) → read_files (map (λ w. w.now) files.now) ≢ file ∷ [])
+        (λ file. read_files (map (λ w. w.now) files.now) ≡ file.now ∷ []) }
+{
+    match files {
+        [] => Some("-"),
+        [file] => Some(file),
+        _ => None,
+    }
+}
+
+/// Whether the command is `match`, and neither the list nor a file is an option.
+fn is_match(name: &str, list: &str, files: &[&str]) -> bool
+    ensures { Decides result ((name.now ≡ codes "match") × (is_option list.now ≡ false)
+        × (list_any is_option (map (λ w. w.now) files.now) ≡ false)) }
+{
+    name == "match" && !is_option(list) && !has_option(files)
+}
+
+/// The options, the list and the file of the command `match`.
+fn match_of<'a>(words: &'a [&'a str]) -> Option<(&'a [&'a str], &'a str, &'a str)>
+    ensures { MatchOption result
+        ((options : List (List ℕ)) (list file : List ℕ) → ¬ (IsRequest (map (λ w. w.now) words.now) (Match options list file)))
+        (λ found. IsRequest (map (λ w. w.now) words.now) (Match (map (λ w. w.now) found.0.now) found.1.now found.2.now)) }
+{
+    let (name, words) = words.split_first()?;
+    let (options, words) = words.split_at(match_options(words));
+    let (list, files) = words.split_first()?;
+    let file = one_file(files)?;
+    if is_match(name, list, files) {
+        return Some((options, list, file));
+    }
+    None
+}
+
 /// The command of a word that stands alone.
 fn lone_command<'a>(word: &str) -> Option<Command<'a>>
     ensures { MatchOption result (IsNoLoneWord word.now) (λ command. IsRequest (word.now ∷ []) (request_of command)) }
@@ -151,6 +210,9 @@ pub fn command_of<'a>(words: &'a [&'a str]) -> Option<Command<'a>>
     }
     if let Some(files) = check_of(words) {
         return Some(Command::Check(files));
+    }
+    if let Some((options, list, file)) = match_of(words) {
+        return Some(Command::Match(options, list, file));
     }
     let (name, files) = words.split_first()?;
     match operation_of(name) {

@@ -48,11 +48,11 @@ pub enum CommandError<'a> {
     Usage,
     /// The first argument that is wrong, and why; nothing was written.
     Argument(&'a str, ArgumentError),
-    /// The first line in error of this file, counted from 1; nothing was written.
+    /// The first line in error of this file, counted from 1; nothing was written, but by `match` lines before it.
     Line(&'a str, u64, LineError),
-    /// This file can't be read; nothing was written.
+    /// This file can't be read; nothing was written, but by `match` lines before.
     Input(&'a str),
-    /// There is no memory; nothing was written.
+    /// There is no memory; nothing was written, but by `match` lines before.
     NoMemory,
     /// The output has failed; a beginning of the answer was written.
     Output,

@@ -16,6 +16,7 @@ use crate::errors::CommandError;
 use crate::files::Sources;
 use crate::free::free;
 use crate::inside::not_in;
+use crate::matching::matching;
 use crate::operations::{Form, Operation, form_of};
 use crate::report::report;
 use crate::sets::Sets;
@@ -28,7 +29,7 @@ use std::alloc::Global;
 
 /// The page of the commands.
 const HELP: &str =
-    "netset merge [FILE..]   the shortest list of networks that has the addresses of all the lists\nnetset nets [FILE..]    the same\nnetset minus A B..      the addresses of A that no other list has\nnetset and A B..        the addresses that each of the lists has\nnetset not [FILE..]     the addresses of IPv4 and those of IPv6 that no list has\nnetset not --in NET [FILE..]\n                        the addresses of a network that no list has\nnetset ranges [FILE..]  the longest ranges of the addresses of all the lists, FIRST-LAST\nnetset count [FILE..]   how many addresses of IPv4 and of IPv6 the lists have\nnetset diff A B         the networks that B adds to A, as +NET, and that it lacks, as -NET\nnetset free POOL LEN USED..\n                        the first network of this prefix length in the addresses of\n                        POOL that no list of USED has\nnetset check [FILE..]   what is found in the lists, whose lines may be hosts too: set host\n                        bits, other forms than the printed one, repeats, networks inside\n                        others, and halves of one network\nnetset show HOST        the network of a host: its ends, mask, length and family\nnetset split NET LEN    the networks of this prefix length inside a network\nnetset nth NET INDEX    the address of a network at an index, from 0 on\nnetset --help           this page\nnetset --version        the version\n\nA line of a list is a network, an address or a range FIRST-LAST, and may end in a comment\nfrom # or ; on. The file - is the standard input, which is also read where no file is named.\nStatus: 0 done, 1 none, a difference or findings, 2 usage, a wrong argument, a file that\ncannot be read or a line in error, 3 output or memory.\n";
+    "netset merge [FILE..]   the shortest list of networks that has the addresses of all the lists\nnetset nets [FILE..]    the same\nnetset minus A B..      the addresses of A that no other list has\nnetset and A B..        the addresses that each of the lists has\nnetset not [FILE..]     the addresses of IPv4 and those of IPv6 that no list has\nnetset not --in NET [FILE..]\n                        the addresses of a network that no list has\nnetset ranges [FILE..]  the longest ranges of the addresses of all the lists, FIRST-LAST\nnetset count [FILE..]   how many addresses of IPv4 and of IPv6 the lists have\nnetset diff A B         the networks that B adds to A, as +NET, and that it lacks, as -NET\nnetset free POOL LEN USED..\n                        the first network of this prefix length in the addresses of\n                        POOL that no list of USED has\nnetset check [FILE..]   what is found in the lists, whose lines may be hosts too: set host\n                        bits, other forms than the printed one, repeats, networks inside\n                        others, and halves of one network\nnetset match [-v] [-c] [-q] LIST [FILE]\n                        the lines of FILE whose first field lies in LIST, or with -v does not;\n                        -c their number, -q only the status\nnetset show HOST        the network of a host: its ends, mask, length and family\nnetset split NET LEN    the networks of this prefix length inside a network\nnetset nth NET INDEX    the address of a network at an index, from 0 on\nnetset --help           this page\nnetset --version        the version\n\nA line of a list is a network, an address or a range FIRST-LAST, and may end in a comment\nfrom # or ; on. The file - is the standard input, which is also read where no file is named.\nStatus: 0 done, 1 none, a difference or findings, 2 usage, a wrong argument, a file that\ncannot be read or a line in error, 3 output or memory.\n";
 
 const VERSION: &str = "netset 0.1.0\n";
 
@@ -76,6 +77,7 @@ fn answer<'a, F: Sources, O: Sink>(
         Command::Diff(old, new) => diff(alloc, sources, old, new, out),
         Command::Free(pool, len, used) => free(alloc, sources, pool, len, used, out),
         Command::Check(files) => check(alloc, sources, files, out),
+        Command::Match(options, list, file) => matching(alloc, sources, options, list, file, out),
         Command::Single(single) => answer_single(single, out),
         Command::Help => by_output(Verdict::Yes, write_text(out, HELP)),
         Command::Version => by_output(Verdict::Yes, write_text(out, VERSION)),

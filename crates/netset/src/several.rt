@@ -38,7 +38,7 @@ fn add_file<'a, F: Sources>(
 }
 
 /// The addresses of the list of a file.
-fn read_file<'a, F: Sources>(
+pub fn read_file<'a, F: Sources>(
     alloc: Global,
     sources: &F,
     file: &'a str,

@@ -1,0 +1,486 @@
+-- Lines that are picked of a file.
+use Rattle.std.proofs.Common.{◌≡◌, ◌≢◌, ◌↔◌, refl, sym, ◌∙◌, ap, subst, inl, inr, ℕ, ◌+◌, ◌<◌, Bool, true, false, not, ◌==◌, if◌then◌else◌, List, [], ◌∷◌, ◌++◌, length, map, arith, codes, Option, Some, None, Result, Ok, Err, IsTrue, Decides, append_assoc, length-append}
+use Rattle.std.specs.Option.{IfSome}
+use Rattle.std.specs.Io.Buffered.{reader_buffer, reader_capacity, reader_inner, reader_remaining}
+use Rattle.std.specs.Io.KnownBytes.{prepend_known}
+use Rattle.std.specs.declared.io.buffered.BufReader.{BufReader}
+use Rattle.std.specs.List.{AllZip, flat_map, items_where_true}
+use Rattle.std.proofs.lemmas.Bool.{true≢false}
+use Rattle.std.proofs.lemmas.List.{append-nil, flat_map_more, map-id}
+use Rattle.std.proofs.lemmas.List.Concat.{flat_map-append}
+use Rattle.std.proofs.lemmas.List.Splits.{length-slice_split}
+use Rattle.cidr.specs.model.Network.{BeginsWith}
+use Rattle.cidr.specs.either.IpNetwork.{network_family}
+use Rattle.cidr.specs.declared.cidr.combined.IpCidr.{IpCidr}
+use Rattle.cidr.specs.declared.family.Family.{Family}
+use Rattle.cidr_table.specs.Cover.{Covers, IsFull}
+use Rattle.cidr_io.specs.Writing.{State, Whole, Part, Writes}
+use Rattle.cidr_io.specs.declared.sink.OutputFailed.{OutputFailed}
+use Rattle.cidr_io.proofs.Chains.{answered, part_none, then_flushed, then_writes, whole_part, whole_whole}
+use Rattle.netset.specs.Answering.{HasAddresses, ReadsFile}
+use Rattle.netset.specs.Collecting.{Collects}
+use Rattle.netset.specs.Commands.{Match, Says}
+use Rattle.netset.specs.Gathering.{Finishes, IsCounted, IsDone, IsLost, IsUnreadable, Streams, TakesPart, lines_of_part, rest_written}
+use Rattle.netset.specs.Lists.{is_line_feed, lines_of}
+use Rattle.netset.specs.Matching.{ArePicked, ArePickedBy, FieldSays, IsEnough, IsMatch, LiesIn, Picks, ReadTo, all_written, has, last_line, line_written, lines_among, lines_in, written_of}
+use Rattle.netset.specs.Printing.{Holds}
+use Rattle.netset.specs.Program.{AnswersRequest}
+use Rattle.netset.specs.Reading.{IsNextLine}
+use Rattle.netset.specs.Sets.{Held}
+use Rattle.netset.specs.Streaming.{IsCutAt, IsStop}
+use Rattle.netset.specs.declared.answers.Verdict.{Verdict}
+use Rattle.netset.specs.declared.answers.Verdict.TheVariants.{Yes, No}
+use Rattle.netset.specs.declared.errors.CommandError.{CommandError}
+use Rattle.netset.specs.declared.errors.CommandError.TheVariants as error
+use Rattle.netset.specs.declared.matching.Gathered.{Gathered}
+use Rattle.netset.specs.declared.matching.Written.{Written}
+use Rattle.netset.specs.declared.matching.Written.TheVariants as written
+use Rattle.netset.specs.declared.sets.Sets.{Sets}
+use Rattle.netset.proofs.Blocks.{nothing_held}
+use Rattle.netset.proofs.Collected.{held_lost, held_then, none_collected}
+use Rattle.netset.proofs.Combining.{turned_same}
+
+-- ---- lines
+among_more : (part : List ℕ) (parts : List (List ℕ)) → 0 < length parts → lines_among (part ∷ parts) ≡ part ∷ lines_among parts
+among_more part [] h = absurd (omega (arith, h))
+among_more part (next ∷ parts) h = refl
+
+-- the lines of the next part, and those behind it
+part_read : (text part : List ℕ) (more : Bool) (next : Option (List ℕ)) → IsNextLine text part more next
+    → (after : List (List ℕ)) × (lines_in text ≡ lines_of_part part more ++ after) × (more ≡ false → after ≡ [])
+    × (more ≡ true → (rest : List ℕ) × (next ≡ Some rest) × (after ≡ lines_in rest))
+part_read text part true next n = (
+  lines_in n.0,
+  ap lines_among n.2 ∙ among_more part (lines_of n.0) (omega (arith, length-slice_split is_line_feed n.0)),
+  λ e. absurd (true≢false e),
+  λ e. (n.0, n.1, refl),
+)
+part_read text part false next n = (
+  [],
+  ap lines_among n ∙ sym (append-nil (last_line part)),
+  λ e. refl,
+  λ e. absurd (true≢false (sym e)),
+)
+
+-- ---- lines that are picked
+zip_both : {A B : Type 0} (P : A → B → Type 0) (xs ys : List A) (ms ns : List B) → AllZip P xs ms → AllZip P ys ns → AllZip P (xs ++ ys) (ms ++ ns)
+zip_both P [] ys [] ns h k = k
+zip_both P [] ys (m ∷ ms) ns h k = absurd h
+zip_both P (x ∷ xs) ys [] ns h k = absurd h
+zip_both P (x ∷ xs) ys (m ∷ ms) ns h k = (h.0, zip_both P xs ys ms ns h.1 k)
+
+zip_same : {A B : Type 0} (P Q : A → B → Type 0) → ((x : A) (m : B) → P x m → Q x m) → (xs : List A) (ms : List B) → AllZip P xs ms → AllZip Q xs ms
+zip_same P Q f [] [] h = tt
+zip_same P Q f [] (m ∷ ms) h = absurd h
+zip_same P Q f (x ∷ xs) [] h = absurd h
+zip_same P Q f (x ∷ xs) (m ∷ ms) h = (f x m h.0, zip_same P Q f xs ms h.1)
+
+where_both : {A : Type 0} (P : A → Bool → Type 0) (xs ys : List A) (ms ns : List Bool) → AllZip P xs ms
+    → items_where_true (ms ++ ns) (xs ++ ys) ≡ items_where_true ms xs ++ items_where_true ns ys
+where_both P [] ys [] ns h = refl
+where_both P [] ys (m ∷ ms) ns h = absurd h
+where_both P (x ∷ xs) ys [] ns h = absurd h
+where_both {A} P (x ∷ xs) ys (true ∷ ms) ns h = ap (λ (k : List A). x ∷ k) (where_both P xs ys ms ns h.1)
+where_both P (x ∷ xs) ys (false ∷ ms) ns h = where_both P xs ys ms ns h.1
+
+pub none_picked : (P : List ℕ → Bool → Type 0) → ArePicked P [] []
+none_picked P = ([], tt, refl)
+
+pub one_picked : (P : List ℕ → Bool → Type 0) (line : List ℕ) → P line true → ArePicked P (line ∷ []) (line ∷ [])
+one_picked P line h = (true ∷ [], (h, tt), refl)
+
+pub one_passed : (P : List ℕ → Bool → Type 0) (line : List ℕ) → P line false → ArePicked P (line ∷ []) []
+one_passed P line h = (false ∷ [], (h, tt), refl)
+
+picked_both : (P : List ℕ → Bool → Type 0) (xs ys ps qs : List (List ℕ)) → ArePicked P xs ps → ArePicked P ys qs → ArePicked P (xs ++ ys) (ps ++ qs)
+picked_both P xs ys ps qs (ms, are, is) (ns, more, too) = (
+  ms ++ ns,
+  zip_both P xs ys ms ns are more,
+  ap (λ (k : List (List ℕ)). k ++ qs) is
+      ∙ (ap (λ (k : List (List ℕ)). items_where_true ms xs ++ k) too ∙ sym (where_both P xs ys ms ns are)),
+)
+
+picked_same : (P Q : List ℕ → Bool → Type 0) → ((line : List ℕ) (b : Bool) → P line b → Q line b) → (xs ps : List (List ℕ)) → ArePicked P xs ps → ArePicked Q xs ps
+picked_same P Q f xs ps (ms, are, is) = (ms, zip_same P Q f xs ms are, is)
+
+-- ---- which lines are picked
+pub within_is : (networks : List (List Bool)) (p : List Bool) (b : Bool) → (IsTrue b ↔ IsFull 129 (map (λ (x : List Bool). x) networks) p)
+    → Decides b ((a : List Bool) → length a ≡ 129 → BeginsWith a p → Covers networks a)
+within_is networks p b h = rw (map-id networks) at h
+
+decides_not : (P : Type 0) (b : Bool) → Decides b P → Decides (not b) (¬ P)
+decides_not P true d = (λ e. absurd (true≢false (sym e)), λ h. absurd (h (d.0 refl)))
+decides_not P false d = (λ e p. absurd (true≢false (sym (d.1 p))), λ h. refl)
+
+pub picks_by : (IsIn : Family → List Bool → Type 0) (inverted : Bool) (line : List ℕ) (said : Option IpCidr) (lies picked : Bool)
+    → picked ≡ (if inverted then not lies else lies) → FieldSays line said → Decides lies (LiesIn IsIn said) → Picks IsIn inverted line picked
+picks_by IsIn true line said lies picked e says d =
+    (said, says, subst (λ (k : Bool). Decides k (¬ (LiesIn IsIn said))) (sym e) (decides_not (LiesIn IsIn said) lies d))
+picks_by IsIn false line said lies picked e says d = (said, says, subst (λ (k : Bool). Decides k (LiesIn IsIn said)) (sym e) d)
+
+-- by the list as by its set
+lies_same : (said : List (List IpCidr)) (sets : Sets) → HasAddresses said sets → (what : Option IpCidr) → LiesIn (Held sets) what ↔ LiesIn (Says said) what
+lies_same said sets h None = (λ e. e, λ e. e)
+lies_same said sets h (Some network) = (
+  λ k a wide begins. ((h (network_family network)).exact a wide).0 (k a wide begins),
+  λ k a wide begins. ((h (network_family network)).exact a wide).1 (k a wide begins),
+)
+
+picks_same : (said : List (List IpCidr)) (sets : Sets) → HasAddresses said sets → (inverted : Bool) (line : List ℕ) (b : Bool)
+    → Picks (Held sets) inverted line b → Picks (Says said) inverted line b
+picks_same said sets h inverted line b (what, says, decides) =
+    let same = turned_same inverted (LiesIn (Held sets) what) (LiesIn (Says said) what) (lies_same said sets h what) in
+    (what, says, (λ e. same.0 (decides.0 e), λ k. decides.1 (same.1 k)))
+
+-- ---- what is written
+flat_none : (f : List ℕ → List ℕ) → ((l : List ℕ) → f l ≡ []) → (ls : List (List ℕ)) → flat_map f ls ≡ []
+flat_none f none [] = refl
+flat_none f none (l ∷ ls) = ap (λ (k : List ℕ). k ++ flat_map f ls) (none l) ∙ flat_none f none ls
+
+all_split : (what : Written) (picked : List (List ℕ)) → all_written what picked ≡ flat_map (line_written what) picked ++ rest_written what (length picked)
+all_split written.Lines picked = sym (append-nil (flat_map (line_written written.Lines) picked))
+all_split written.Count picked =
+    sym (ap (λ (k : List ℕ). k ++ rest_written written.Count (length picked)) (flat_none (line_written written.Count) (λ l. refl) picked))
+all_split written.Nothing picked = sym (ap (λ (k : List ℕ). k ++ []) (flat_none (line_written written.Nothing) (λ l. refl) picked))
+
+-- what is behind a block, the block, and a flush
+pub all_gone : (s t u v : State) (block next more : List ℕ) (r : Result (Unit {0}) OutputFailed) → Collects s t block next more (Ok tt) → Whole t u next → Writes u v [] r
+    → Writes s v (block ++ more) r
+all_gone s t u v block next more r (before, whole, split) wrote flushed =
+    subst (λ (k : List ℕ). Writes s v k r) (sym split) (then_flushed s u v (before ++ next) r (whole_whole s t u before next whole wrote) flushed)
+
+pub block_lost : (s t u : State) (block next more : List ℕ) → Collects s t block next more (Ok tt) → Part t u next → Part s u (block ++ more)
+block_lost s t u block next more (before, whole, split) part = subst (Part s u) (sym split) (whole_part s t u before next whole part)
+
+-- ---- one part
+module _ (P : List ℕ → Bool → Type 0) (what : Written) (file : List ℕ) (number : ℕ) where
+  pub takes_none : (part : List ℕ) (more : Bool) (s : State) (g : Gathered) → ArePicked P (lines_of_part part more) [] → TakesPart P what file number part more s s g g (Ok tt)
+  takes_none part more s g are = ([], are, omega arith, omega arith, none_collected s g.block)
+
+  pub takes_empty : (part : List ℕ) (more : Bool) (s : State) (g : Gathered) → lines_of_part part more ≡ [] → TakesPart P what file number part more s s g g (Ok tt)
+  takes_empty part more s g none =
+      takes_none part more s g (subst (λ (k : List (List ℕ)). ArePicked P k []) (sym none) (none_picked P))
+
+  pub takes_passed : (part : List ℕ) (more : Bool) (s : State) (g : Gathered) → lines_of_part part more ≡ part ∷ [] → P part false
+      → TakesPart P what file number part more s s g g (Ok tt)
+  takes_passed part more s g one passed =
+      takes_none part more s g (subst (λ (k : List (List ℕ)). ArePicked P k []) (sym one) (one_passed P part passed))
+
+  pub takes_picked : (part : List ℕ) (more : Bool) (s t : State) (before after : Gathered) → lines_of_part part more ≡ part ∷ [] → P part true
+      → after.count ≡ before.count + 1 → Collects s t before.block after.block (line_written what part) (Ok tt)
+      → TakesPart P what file number part more s t before after (Ok tt)
+  takes_picked part more s t before after one picks count collects = (
+    part ∷ [],
+    subst (λ (k : List (List ℕ)). ArePicked P k (part ∷ [])) (sym one) (one_picked P part picks),
+    count,
+    omega arith,
+    subst (λ (k : List ℕ). Collects s t before.block after.block k (Ok tt)) (sym (append-nil (line_written what part))) collects,
+  )
+
+module _ (P : List ℕ → Bool → Type 0) (what : Written) where
+  -- the lines before this number were read
+  pub record Passed (text : List ℕ) (left : Option (List ℕ)) (number : ℕ) (picked : List (List ℕ)) : Type 0 where
+    pub rest : List ℕ
+    pub known : left ≡ Some rest
+    pub read : List (List ℕ)
+    pub lines : lines_in text ≡ read ++ lines_in rest
+    pub place : number ≡ length read + 1
+    pub are : ArePicked P read picked
+
+  pub record Streamed (known left : Option (List ℕ)) (s t : State) (number count : ℕ) (block : List ℕ) : Type 0 where
+    pub picked : List (List ℕ)
+    pub held : Holds s t block (flat_map (line_written what) picked)
+    pub counted : count ≡ length picked
+    pub few : count < number
+    pub passed : IfSome known (λ text. Passed text left number picked)
+
+  -- the part of this number was taken too
+  pub record Reached (text : List ℕ) (next : Option (List ℕ)) (number : ℕ) (more : Bool) (picked : List (List ℕ)) : Type 0 where
+    pub read : List (List ℕ)
+    pub after : List (List ℕ)
+    pub to : ReadTo P text read after picked
+    pub over : more ≡ false → after ≡ []
+    pub on : more ≡ true → Passed text next (number + 1) picked
+
+  pub record Taken (known next : Option (List ℕ)) (s t : State) (number count : ℕ) (block : List ℕ) (more : Bool) : Type 0 where
+    pub picked : List (List ℕ)
+    pub held : Holds s t block (flat_map (line_written what) picked)
+    pub counted : count ≡ length picked
+    pub few : count < number + 1
+    pub reached : IfSome known (λ text. Reached text next number more picked)
+
+  nothing_passed : (known : Option (List ℕ)) → IfSome known (λ text. Passed text known 1 [])
+  nothing_passed None = tt
+  nothing_passed (Some text) = record { rest = text; known = refl; read = []; lines = refl; place = refl; are = none_picked P }
+
+  pub started : (known : Option (List ℕ)) (s : State) (count : ℕ) (block : List ℕ) → count ≡ 0 → block ≡ [] → Streamed known known s s 1 count block
+  started known s count block zero none = record {
+    picked = [];
+    held = subst (λ (k : List ℕ). Holds s s k []) (sym none) (nothing_held s);
+    counted = zero;
+    few = omega (arith, zero);
+    passed = nothing_passed known;
+  }
+
+  reached_by : (known left next : Option (List ℕ)) (number : ℕ) (part : List ℕ) (more : Bool) (picked one : List (List ℕ))
+      → IfSome known (λ text. Passed text left number picked) → IfSome left (λ text. IsNextLine text part more next)
+      → ArePicked P (lines_of_part part more) one → IfSome known (λ text. Reached text next number more (picked ++ one))
+  reached_by None left next number part more picked one p n k = tt
+  reached_by (Some text) left next number part more picked one p n k =
+      let (after, lines, over, on) = part_read p.rest part more next (rw p.known at n) in
+      let all : lines_in text ≡ (p.read ++ lines_of_part part more) ++ after =
+      p.lines ∙ (ap (λ (z : List (List ℕ)). p.read ++ z) lines ∙ sym (append_assoc p.read (lines_of_part part more) after)) in
+      let are : ArePicked P (p.read ++ lines_of_part part more) (picked ++ one) = picked_both P p.read (lines_of_part part more) picked one p.are k in
+      record {
+        read = p.read ++ lines_of_part part more;
+        after = after;
+        to = record { lines = all; are = are };
+        over = over;
+        on = λ e.
+            let (rest, known, is) = on e in
+            record {
+              rest = rest;
+              known = known;
+              read = p.read ++ lines_of_part part more;
+              lines = all ∙ ap (λ (z : List (List ℕ)). (p.read ++ lines_of_part part more) ++ z) is;
+              place = omega (arith, p.place, length-append p.read (lines_of_part part more), ap (λ (b : Bool). length (lines_of_part part b)) e);
+              are = are;
+            };
+      }
+
+  pub take_on : (file : List ℕ) (known left next : Option (List ℕ)) (s t u : State) (number : ℕ) (part : List ℕ) (more : Bool) (before after : Gathered)
+      → Streamed known left s t number before.count before.block → IfSome left (λ text. IsNextLine text part more next)
+      → TakesPart P what file number part more t u before after (Ok tt) → Taken known next s u number after.count after.block more
+  take_on file known left next s t u number part more before after st n (one, are, count, few, collects) = record {
+    picked = st.picked ++ one;
+    held = subst (Holds s u after.block) (sym (flat_map-append (line_written what) st.picked one))
+        (held_then s t u before.block after.block (flat_map (line_written what) st.picked) (flat_map (line_written what) one) st.held collects);
+    counted = omega (arith, count, st.counted, length-append st.picked one);
+    few = omega (arith, count, few, st.few);
+    reached = reached_by known left next number part more st.picked one st.passed n are;
+  }
+
+  passed_on : (known next : Option (List ℕ)) (number : ℕ) (more : Bool) (picked : List (List ℕ)) → more ≡ true
+      → IfSome known (λ text. Reached text next number more picked) → IfSome known (λ text. Passed text next (number + 1) picked)
+  passed_on None next number more picked e r = tt
+  passed_on (Some text) next number more picked e r = r.on e
+
+  pub go_on : (known next : Option (List ℕ)) (s t : State) (number count : ℕ) (block : List ℕ) (more done : Bool) → Decides done (IsDone what more count)
+      → done ≡ false → Taken known next s t number count block more → Streamed known next s t (number + 1) count block
+  go_on known next s t number count block true done d e k = record {
+    picked = k.picked;
+    held = k.held;
+    counted = k.counted;
+    few = k.few;
+    passed = passed_on known next number true k.picked refl k.reached;
+  }
+  go_on known next s t number count block false done d e k = absurd (true≢false (sym (d.1 (inl refl)) ∙ e))
+
+  -- ---- the end
+  some_picked : (picked : List (List ℕ)) (count : ℕ) → count ≡ length picked → 0 < count → picked ≢ []
+  some_picked picked count is some e = absurd (omega (arith, is, some, ap length e))
+
+  no_picked : (picked : List (List ℕ)) (count : ℕ) → count ≡ length picked → count ≡ 0 → picked ≡ []
+  no_picked [] count is none = refl
+  no_picked (line ∷ picked) count is none = absurd (omega (arith, is, none))
+
+  by_count : (picked : List (List ℕ)) (count : ℕ) (verdict : Verdict) → count ≡ length picked → IsCounted count verdict → ArePickedBy picked verdict
+  by_count picked count Yes is h = some_picked picked count is h
+  by_count picked count No is h = no_picked picked count is h
+
+  matched_whole : (known next : Option (List ℕ)) (number count : ℕ) (more : Bool) (picked : List (List ℕ)) (verdict : Verdict) → IsDone what more count
+      → count ≡ length picked → IsCounted count verdict → IfSome known (λ text. Reached text next number more picked)
+      → IfSome known (λ text. IsMatch P what text (all_written what picked) verdict)
+  matched_whole None next number count more picked verdict done is h r = tt
+  matched_whole (Some text) next number count more picked verdict done is h r =
+      let enough : IsEnough what r.after picked = elim done [
+        | inl e ↦ inl (r.over e)
+        | inr (nothing, some) ↦ inr (nothing, some_picked picked count is some)
+      ] in
+      (r.read, r.after, picked, r.to, enough, refl, by_count picked count verdict is h)
+
+  pub ended : (file : List ℕ) (known next : Option (List ℕ)) (s t u : State) (number : ℕ) (gathered : Gathered) (more done : Bool) (r : Result Verdict CommandError)
+      → Decides done (IsDone what more gathered.count) → done ≡ true → s.failed ≡ false
+      → Taken known next s t number gathered.count gathered.block more → Finishes what t u gathered r → Streams P what file known s u r
+  ended file known next s t u number gathered more done r d e fine k (verdict, w, counted, writes, is) =
+      let (before, whole, split) = k.held in
+      let rest : List ℕ = rest_written what gathered.count in
+      let all : before ++ (gathered.block ++ rest) ≡ all_written what k.picked =
+      sym (append_assoc before gathered.block rest) ∙ (ap (λ (z : List ℕ). z ++ rest) (sym split)
+      ∙ (ap (λ (n : ℕ). flat_map (line_written what) k.picked ++ rest_written what n) k.counted ∙ sym (all_split what k.picked))) in
+      let wrote : Writes s u (all_written what k.picked) w =
+      subst (λ (z : List ℕ). Writes s u z w) all (then_writes s t u before (gathered.block ++ rest) w whole writes) in
+      inl (
+        all_written what k.picked,
+        verdict,
+        w,
+        matched_whole known next number gathered.count more k.picked verdict (d.0 e) k.counted counted k.reached,
+        answered s u (all_written what k.picked) w fine wrote,
+        is,
+      )
+
+  -- ---- a file that is not read to its end
+  cut_here : (known left : Option (List ℕ)) (number : ℕ) (picked : List (List ℕ)) (e : CommandError)
+      → ((read after : List (List ℕ)) → IsStop read after e) → IfSome known (λ text. Passed text left number picked)
+      → IfSome known (λ text. IsCutAt P what text (flat_map (line_written what) picked) e)
+  cut_here None left number picked e stops p = tt
+  cut_here (Some text) left number picked e stops p =
+      (p.read, lines_in p.rest, picked, record { lines = p.lines; are = p.are }, stops p.read (lines_in p.rest), refl)
+
+  pub unread : (file : List ℕ) (known left : Option (List ℕ)) (s t : State) (number count : ℕ) (block : List ℕ) (e : CommandError) → IsUnreadable file e
+      → Streamed known left s t number count block → Streams P what file known s t (Err e)
+  unread file known left s t number count block error.Usage h st = absurd h
+  unread file known left s t number count block (error.Argument text e) h st = absurd h
+  unread file known left s t number count block (error.Line name n e) h st = absurd h
+  unread file known left s t number count block (error.Input name) h st =
+      let (before, whole, split) = st.held in
+      inr (
+        error.Input name,
+        refl,
+        h,
+        flat_map (line_written what) st.picked,
+        (before, block, split, whole),
+        cut_here known left number st.picked (error.Input name) (λ _ _. tt) st.passed,
+      )
+  unread file known left s t number count block error.NoMemory h st =
+      let (before, whole, split) = st.held in
+      inr (
+        error.NoMemory,
+        refl,
+        tt,
+        flat_map (line_written what) st.picked,
+        (before, block, split, whole),
+        cut_here known left number st.picked error.NoMemory (λ _ _. tt) st.passed,
+      )
+  unread file known left s t number count block error.Output h st = absurd h
+
+  pub nothing_read : (file : List ℕ) (known : Option (List ℕ)) (s : State) (e : CommandError) → IsUnreadable file e → Streams P what file known s s (Err e)
+  nothing_read file known s e h = unread file known known s s 1 0 [] e h (started known s 0 [] refl refl)
+
+  pub failed_before : (file : List ℕ) (known : Option (List ℕ)) (s : State) → s.failed ≡ true → Streams P what file known s s (Err error.Output)
+  failed_before file known s failed =
+      inr (error.Output, refl, tt, [], (part_none s [] failed, λ _. refl), cut_here known known 1 [] error.Output (λ _ _. tt) (nothing_passed known))
+
+  cut_at_line : (known left next : Option (List ℕ)) (number : ℕ) (part : List ℕ) (more : Bool) (picked : List (List ℕ)) (e : CommandError)
+      → lines_of_part part more ≡ part ∷ [] → IfSome left (λ text. IsNextLine text part more next) → IfSome known (λ text. Passed text left number picked)
+      → ((read after : List (List ℕ)) → number ≡ length read + 1 → IsStop read (part ∷ after) e)
+      → IfSome known (λ text. IsCutAt P what text (flat_map (line_written what) picked) e)
+  cut_at_line None left next number part more picked e one n p stops = tt
+  cut_at_line (Some text) left next number part more picked e one n p stops =
+      let (after, lines, over, on) = part_read p.rest part more next (rw p.known at n) in
+      let here : lines_in p.rest ≡ part ∷ after = lines ∙ ap (λ (z : List (List ℕ)). z ++ after) one in (
+        p.read,
+        part ∷ after,
+        picked,
+        record { lines = p.lines ∙ ap (λ (z : List (List ℕ)). p.read ++ z) here; are = p.are },
+        stops p.read after p.place,
+        refl,
+      )
+
+  cut_behind : (known left next : Option (List ℕ)) (number : ℕ) (part : List ℕ) (more : Bool) (picked : List (List ℕ)) (e : CommandError)
+      → lines_of_part part more ≡ part ∷ [] → P part true → ((read after : List (List ℕ)) → IsStop read after e)
+      → IfSome left (λ text. IsNextLine text part more next) → IfSome known (λ text. Passed text left number picked)
+      → IfSome known (λ text. IsCutAt P what text (flat_map (line_written what) (picked ++ part ∷ [])) e)
+  cut_behind None left next number part more picked e one h stops n p = tt
+  cut_behind (Some text) left next number part more picked e one h stops n p =
+      let (after, lines, over, on) = part_read p.rest part more next (rw p.known at n) in
+      let here : lines_in p.rest ≡ part ∷ after = lines ∙ ap (λ (z : List (List ℕ)). z ++ after) one in (
+        p.read ++ part ∷ [],
+        after,
+        picked ++ part ∷ [],
+        record {
+          lines = p.lines ∙ (ap (λ (z : List (List ℕ)). p.read ++ z) here ∙ sym (append_assoc p.read (part ∷ []) after));
+          are = picked_both P p.read (part ∷ []) picked (part ∷ []) p.are (one_picked P part h);
+        },
+        stops (p.read ++ part ∷ []) after,
+        refl,
+      )
+
+  pub lost : (file : List ℕ) (known left next : Option (List ℕ)) (s t u : State) (number count : ℕ) (block part : List ℕ) (more : Bool) (e : CommandError)
+      → s.failed ≡ false → Streamed known left s t number count block → IfSome left (λ text. IsNextLine text part more next)
+      → (lines_of_part part more ≡ part ∷ []) × IsLost P what file number part t u block e → Streams P what file known s u (Err e)
+  lost file known left next s t u number count block part more error.Usage fine st n h = absurd h.1
+  lost file known left next s t u number count block part more (error.Argument text e) fine st n h = absurd h.1
+  lost file known left next s t u number count block part more (error.Input name) fine st n h = absurd h.1
+  lost file known left next s t u number count block part more error.NoMemory fine st n h = absurd h.1
+  lost file known left next s t u number count block part more (error.Line name m e) fine st n (one, (same, place, bad, still)) =
+      let (before, whole, split) = st.held in
+      inr (
+        error.Line name m e,
+        refl,
+        same,
+        flat_map (line_written what) st.picked,
+        (before, block, split, subst (λ (z : State). Whole s z before) (sym still) whole),
+        cut_at_line known left next number part more st.picked (error.Line name m e) one n st.passed
+            (λ read after at. (place ∙ at, part, after, refl, bad)),
+      )
+  lost file known left next s t u number count block part more error.Output fine st n (one, (picks, failed)) =
+      let text : List ℕ = flat_map (line_written what) st.picked in
+      inr (
+        error.Output,
+        refl,
+        tt,
+        flat_map (line_written what) (st.picked ++ part ∷ []),
+        (
+          subst (Part s u) (flat_map_more (line_written what) [] st.picked part) (held_lost s t u block text (line_written what part) st.held failed),
+          λ before. absurd (true≢false (sym before ∙ fine)),
+        ),
+        cut_behind known left next number part more st.picked error.Output one picks (λ _ _. tt) n st.passed,
+      )
+
+pub by_error : (P : List ℕ → Bool → Type 0) (what : Written) (file : List ℕ) (known : Option (List ℕ)) (s t : State) (r : Result Verdict CommandError) (y e : CommandError)
+    → r ≡ Err y → y ≡ e → Streams P what file known s t (Err e) → Streams P what file known s t r
+by_error P what file known s t r y e is same h =
+    let failing : CommandError → Result Verdict CommandError = λ k. Err k in
+    subst (Streams P what file known s t) (sym (is ∙ ap failing same)) h
+
+-- ---- by the bytes of the files
+-- a reader in blocks has what the reader has that it reads from
+put_before_nothing : (known : Option (List ℕ)) → prepend_known [] known ≡ known
+put_before_nothing None = refl
+put_before_nothing (Some text) = refl
+
+pub fresh_reader : {R A : Type 0} (remaining : R → Option (List ℕ)) (inner : R) (reader : BufReader R A) → reader_inner reader ≡ inner → reader_buffer reader ≡ []
+    → reader_capacity reader ≡ 8192 → reader_remaining remaining reader ≡ remaining inner
+fresh_reader remaining inner reader same empty room =
+    ap (λ (n : ℕ). if n == 0 then None else prepend_known (reader_buffer reader) (remaining reader.inner)) room
+    ∙ (ap (λ (k : List ℕ). prepend_known k (remaining reader.inner)) empty
+    ∙ (put_before_nothing (remaining reader.inner) ∙ ap remaining same))
+
+known_match : (P Q : List ℕ → Bool → Type 0) → ((line : List ℕ) (b : Bool) → P line b → Q line b) → (what : Written) (known : Option (List ℕ)) (text answer : List ℕ) (verdict : Verdict)
+    → known ≡ Some text → IfSome known (λ k. IsMatch P what k answer verdict) → IsMatch Q what text answer verdict
+known_match P Q f what known text answer verdict is h =
+    let (read, left, picked, to, enough, written, by) = (rw is at h) in
+    (read, left, picked, record { lines = to.lines; are = picked_same P Q f read picked to.are }, enough, written, by)
+
+known_cut : (P Q : List ℕ → Bool → Type 0) → ((line : List ℕ) (b : Bool) → P line b → Q line b) → (what : Written) (known : Option (List ℕ)) (text answer : List ℕ) (e : CommandError)
+    → known ≡ Some text → IfSome known (λ k. IsCutAt P what k answer e) → IsCutAt Q what text answer e
+known_cut P Q f what known text answer e is h =
+    let (read, left, picked, to, stops, written) = (rw is at h) in
+    (read, left, picked, record { lines = to.lines; are = picked_same P Q f read picked to.are }, stops, written)
+
+pub matched : (told : List ℕ → Option (List ℕ)) (options : List (List ℕ)) (list file : List ℕ) (sets : Sets) (known : Option (List ℕ)) (s t : State) (r : Result Verdict CommandError)
+    → ReadsFile (told list) list (Ok sets) → ((text : List ℕ) → told file ≡ Some text → known ≡ Some text)
+    → Streams (Picks (Held sets) (has (codes "-v") options)) (written_of options) file known s t r → AnswersRequest told (Match options list file) s t r
+matched told options list file sets known s t r reads tells (inl (answer, verdict, w, match, written, is)) =
+    inl (inr (
+      answer,
+      verdict,
+      w,
+      λ networks text p q.
+          let (said, says, same) = reads networks p in
+          (said, says, known_match _ _ (picks_same said sets same (has (codes "-v") options)) (written_of options) known text answer verdict (tells text q) match),
+      written,
+      is,
+    ))
+matched told options list file sets known s t r reads tells (inr (e, is, of_file, answer, begun, cut)) =
+    inr (
+      e,
+      is,
+      of_file,
+      answer,
+      begun,
+      λ networks text p q.
+          let (said, says, same) = reads networks p in
+          (said, says, known_cut _ _ (picks_same said sets same (has (codes "-v") options)) (written_of options) known text answer e (tells text q) cut),
+    )

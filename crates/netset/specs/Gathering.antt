@@ -1,0 +1,91 @@
+-- What functions that pick lines of a file promise.
+use Rattle.std.specs.Prelude.{◌≡◌, ◌⊎◌, ℕ, ◌+◌, ◌<◌, ◌≤◌, Bool, true, false, List, [], ◌∷◌, ◌++◌, length, decimal, Option, IfSome, Result, Ok, Err}
+use Rattle.std.specs.List.{flat_map}
+use Rattle.cidr.specs.declared.cidr.combined.IpCidr.{IpCidr}
+use Rattle.cidr_io.specs.Writing.{State, Part, Writes, Answered}
+use Rattle.cidr_io.specs.declared.sink.OutputFailed.{OutputFailed}
+use Rattle.netset.specs.Collecting.{Collects}
+use Rattle.netset.specs.Matching.{ArePicked, FieldSays, IsBadField, IsMatch, last_line, line_written}
+use Rattle.netset.specs.Printing.{line}
+use Rattle.netset.specs.Program.{by_output}
+use Rattle.netset.specs.Streaming.{IsBegun, IsCutAt, IsOfFile}
+use Rattle.netset.specs.declared.answers.Verdict.{Verdict}
+use Rattle.netset.specs.declared.answers.Verdict.TheVariants.{Yes, No}
+use Rattle.netset.specs.declared.errors.CommandError.{CommandError}
+use Rattle.netset.specs.declared.errors.CommandError.TheVariants as error
+use Rattle.netset.specs.declared.errors.LineError.{LineError}
+use Rattle.netset.specs.declared.matching.Gathered.{Gathered}
+use Rattle.netset.specs.declared.matching.Written.{Written}
+use Rattle.netset.specs.declared.matching.Written.TheVariants as written
+
+-- what the first field of a line says, or its error
+abbrev pub ReadsField : List ℕ → Result (Option IpCidr) LineError → Type 0
+ReadsField line (Ok said) = FieldSays line said
+ReadsField line (Err e) = IsBadField line e
+
+-- whether a line is picked, or the error of its first field
+abbrev pub PicksOrNot : (List ℕ → Bool → Type 0) → List ℕ → Result Bool LineError → Type 0
+PicksOrNot PicksLine line (Ok picked) = PicksLine line picked
+PicksOrNot PicksLine line (Err e) = IsBadField line e
+
+-- the lines that a part up to a line feed is, or up to the end
+abbrev pub lines_of_part : List ℕ → Bool → List (List ℕ)
+lines_of_part part true = part ∷ []
+lines_of_part part false = last_line part
+
+-- the file is not read further
+abbrev pub IsUnreadable : List ℕ → CommandError → Type 0
+IsUnreadable file error.Usage = ⊥
+IsUnreadable file (error.Argument text e) = ⊥
+IsUnreadable file (error.Line name number e) = ⊥
+IsUnreadable file (error.Input name) = name.now ≡ file
+IsUnreadable file error.NoMemory = Unit {0}
+IsUnreadable file error.Output = ⊥
+
+-- a line is in error, and nothing is written; or the output failed at a line that is picked
+abbrev pub IsLost : (List ℕ → Bool → Type 0) → Written → List ℕ → ℕ → List ℕ → State → State → List ℕ → CommandError → Type 0
+IsLost PicksLine what file number part old new block error.Usage = ⊥
+IsLost PicksLine what file number part old new block (error.Argument text e) = ⊥
+IsLost PicksLine what file number part old new block (error.Line name n e) =
+    (name.now ≡ file) × (n ≡ number) × IsBadField part e × (new ≡ old)
+IsLost PicksLine what file number part old new block (error.Input name) = ⊥
+IsLost PicksLine what file number part old new block error.NoMemory = ⊥
+IsLost PicksLine what file number part old new block error.Output =
+    PicksLine part true × Part old new (block ++ line_written what part)
+
+-- the line of a part is gathered, if it is one and is picked
+abbrev pub TakesPart : (List ℕ → Bool → Type 0) → Written → List ℕ → ℕ → List ℕ → Bool → State → State → Gathered → Gathered
+    → Result (Unit {0}) CommandError → Type 0
+TakesPart PicksLine what file number part more old new before after (Ok _) = (picked : List (List ℕ))
+    × ArePicked PicksLine (lines_of_part part more) picked × (after.count ≡ before.count + length picked) × (length picked ≤ 1)
+    × Collects old new before.block after.block (flat_map (line_written what) picked) (Ok tt)
+TakesPart PicksLine what file number part more old new before after (Err e) =
+    (lines_of_part part more ≡ part ∷ []) × IsLost PicksLine what file number part old new before.block e
+
+-- what is written behind the lines
+abbrev pub rest_written : Written → ℕ → List ℕ
+rest_written written.Lines count = []
+rest_written written.Count count = line (decimal count)
+rest_written written.Nothing count = []
+
+-- yes if a line was counted
+abbrev pub IsCounted : ℕ → Verdict → Type 0
+IsCounted count Yes = 0 < count
+IsCounted count No = count ≡ 0
+
+-- all that was gathered is written
+abbrev pub Finishes : Written → State → State → Gathered → Result Verdict CommandError → Type 0
+Finishes what old new gathered r = (verdict : Verdict) × (w : Result (Unit {0}) OutputFailed) × IsCounted gathered.count verdict
+    × Writes old new (gathered.block ++ rest_written what gathered.count) w × (r ≡ by_output verdict w)
+
+-- no part is behind this one, or -q needs no more
+abbrev pub IsDone : Written → Bool → ℕ → Type 0
+IsDone what more count = (more ≡ false) ⊎ ((what ≡ written.Nothing) × (0 < count))
+
+-- what becomes of a file that is read line by line, of which these bytes are known
+abbrev pub Streams : (List ℕ → Bool → Type 0) → Written → List ℕ → Option (List ℕ) → State → State → Result Verdict CommandError → Type 0
+Streams PicksLine what file known old new r =
+    ((answer : List ℕ) × (verdict : Verdict) × (w : Result (Unit {0}) OutputFailed)
+    × IfSome known (λ text. IsMatch PicksLine what text answer verdict) × Answered old new answer w × (r ≡ by_output verdict w))
+    ⊎ ((e : CommandError) × (r ≡ Err e) × IsOfFile file e × (answer : List ℕ) × IsBegun old new answer e
+    × IfSome known (λ text. IsCutAt PicksLine what text answer e))

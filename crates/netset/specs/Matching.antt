@@ -1,0 +1,129 @@
+-- The lines of a file whose first field lies in a list.
+use Rattle.std.specs.Prelude.{◌≡◌, ◌≢◌, ◌⊎◌, ℕ, Bool, ◌||◌, if◌then◌else◌, List, [], ◌∷◌, ◌++◌, length, codes, decimal, Option, Some, None, IsUtf8}
+use Rattle.std.specs.Bool.{Decides}
+use Rattle.std.specs.Char.{is_ascii_whitespace}
+use Rattle.std.specs.List.{AllZip, before_first, flat_map, items_where_true, list_any}
+use Rattle.std.specs.Str.{IsTrimAsciiStart, bytes_eq}
+use Rattle.cidr.specs.either.IpNetwork.{network_family, network_prefix}
+use Rattle.cidr.specs.either.IpText.{IsIpNetworkText, IsIpRefused}
+use Rattle.cidr.specs.model.Network.{BeginsWith}
+use Rattle.cidr.specs.declared.cidr.combined.IpCidr.{IpCidr}
+use Rattle.cidr.specs.declared.family.Family.{Family}
+use Rattle.netset.specs.Combining.{Turned}
+use Rattle.netset.specs.Lists.{is_comment_sign, lines_of}
+use Rattle.netset.specs.Printing.{line}
+use Rattle.netset.specs.declared.answers.Verdict.{Verdict}
+use Rattle.netset.specs.declared.answers.Verdict.TheVariants.{Yes, No}
+use Rattle.netset.specs.declared.errors.LineError.{LineError}
+use Rattle.netset.specs.declared.errors.LineError.TheVariants.{NotUtf8, NoNetwork, NoAddress, TwoFamilies, Reversed}
+use Rattle.netset.specs.declared.matching.Written.{Written}
+use Rattle.netset.specs.declared.matching.Written.TheVariants as written
+
+-- ---- options
+-- the word is this one
+abbrev pub is_word : List ℕ → List ℕ → Bool
+is_word name word = bytes_eq word name
+
+-- an option of `match`
+abbrev pub is_match_option : List ℕ → Bool
+is_match_option word = (is_word (codes "-v") word || is_word (codes "-c") word) || is_word (codes "-q") word
+
+-- the option is given
+abbrev pub has : List ℕ → List (List ℕ) → Bool
+has name options = list_any (is_word name) options
+
+-- what is written of the lines: nothing with -q, else their number with -c, else the lines
+abbrev pub written_of : List (List ℕ) → Written
+written_of options = if has (codes "-q") options then written.Nothing
+    else if has (codes "-c") options then written.Count else written.Lines
+
+-- ---- lines
+-- a part that no line feed ends is no line where it is empty
+abbrev pub last_line : List ℕ → List (List ℕ)
+last_line [] = []
+last_line (byte ∷ part) = (byte ∷ part) ∷ []
+
+-- the lines among the parts between line feeds
+abbrev pub lines_among : List (List ℕ) → List (List ℕ)
+lines_among [] = []
+lines_among (part ∷ []) = last_line part
+lines_among (part ∷ next ∷ parts) = part ∷ lines_among (next ∷ parts)
+
+-- the lines of a text, each without its line feed, which the last may lack
+abbrev pub lines_in : List ℕ → List (List ℕ)
+lines_in text = lines_among (lines_of text)
+
+-- what stands before the first ASCII white space of a line, behind white space at its front
+abbrev pub IsFirstField : List ℕ → List ℕ → Type 0
+IsFirstField line field = (rest : List ℕ) × IsTrimAsciiStart line rest × (field ≡ before_first is_ascii_whitespace rest)
+
+-- the field is empty, or begins a comment
+abbrev pub SaysNothing : List ℕ → Type 0
+SaysNothing field = before_first is_comment_sign field ≡ []
+
+-- the first field says nothing, or this network
+abbrev pub FieldSays : List ℕ → Option IpCidr → Type 0
+FieldSays line None = (field : List ℕ) × IsFirstField line field × SaysNothing field
+FieldSays line (Some network) = (field : List ℕ) × IsFirstField line field × IsIpNetworkText field network
+
+-- the first field is in error: it is not UTF-8, or is no network, and this is the first error
+abbrev pub IsBadField : List ℕ → LineError → Type 0
+IsBadField line NotUtf8 = (field : List ℕ) × IsFirstField line field × ¬ (SaysNothing field) × ¬ (IsUtf8 field)
+IsBadField line (NoNetwork e) = (field : List ℕ) × IsFirstField line field × ¬ (SaysNothing field)
+    × IsIpRefused field e × ((n : IpCidr) → ¬ (IsIpNetworkText field n))
+IsBadField line (NoAddress e) = ⊥
+IsBadField line TwoFamilies = ⊥
+IsBadField line Reversed = ⊥
+
+-- ---- which lines are picked; `IsIn` tells the addresses of the list
+-- the network has only addresses of the list
+abbrev pub IsWithin : (Family → List Bool → Type 0) → IpCidr → Type 0
+IsWithin IsIn network =
+    (a : List Bool) → length a ≡ 129 → BeginsWith a (network_prefix network) → IsIn (network_family network) a
+
+-- there is a network, and it has only addresses of the list
+abbrev pub LiesIn : (Family → List Bool → Type 0) → Option IpCidr → Type 0
+LiesIn IsIn None = ⊥
+LiesIn IsIn (Some network) = IsWithin IsIn network
+
+-- whether a line is picked: if what its first field says lies in the list, or with -v if it does not
+abbrev pub Picks : (Family → List Bool → Type 0) → Bool → List ℕ → Bool → Type 0
+Picks IsIn inverted line picked =
+    (said : Option IpCidr) × FieldSays line said × Decides picked (Turned inverted (LiesIn IsIn said))
+
+-- the lines that are picked, in their order
+abbrev pub ArePicked : (List ℕ → Bool → Type 0) → List (List ℕ) → List (List ℕ) → Type 0
+ArePicked PicksLine lines picked =
+    (marks : List Bool) × AllZip PicksLine lines marks × (picked ≡ items_where_true marks lines)
+
+-- a text was read up to some lines that are left, and these were picked
+pub record ReadTo (PicksLine : List ℕ → Bool → Type 0) (text : List ℕ) (read left picked : List (List ℕ)) : Type 0 where
+  pub lines : lines_in text ≡ read ++ left
+  pub are : ArePicked PicksLine read picked
+
+-- ---- what is written
+-- of a picked line, while lines are read
+abbrev pub line_written : Written → List ℕ → List ℕ
+line_written written.Lines l = line l
+line_written written.Count l = []
+line_written written.Nothing l = []
+
+-- of all lines that were picked
+abbrev pub all_written : Written → List (List ℕ) → List ℕ
+all_written written.Lines picked = flat_map line picked
+all_written written.Count picked = line (decimal (length picked))
+all_written written.Nothing picked = []
+
+-- no line is left, or -q needs no more
+abbrev pub IsEnough : Written → List (List ℕ) → List (List ℕ) → Type 0
+IsEnough what left picked = (left ≡ []) ⊎ ((what ≡ written.Nothing) × (picked ≢ []))
+
+-- yes if a line was picked
+abbrev pub ArePickedBy : List (List ℕ) → Verdict → Type 0
+ArePickedBy picked Yes = picked ≢ []
+ArePickedBy picked No = picked ≡ []
+
+-- what is written of a text, and whether a line of it was picked
+abbrev pub IsMatch : (List ℕ → Bool → Type 0) → Written → List ℕ → List ℕ → Verdict → Type 0
+IsMatch PicksLine what text answer verdict = (read left picked : List (List ℕ)) × ReadTo PicksLine text read left picked
+    × IsEnough what left picked × (answer ≡ all_written what picked) × ArePickedBy picked verdict

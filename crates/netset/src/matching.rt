@@ -1,0 +1,316 @@
+//! The command `match`: the lines of a file whose first field lies in a list.
+ghost use Rattle.std.specs.Prelude.{◌≡◌, ◌<◌, ◌++◌, [], ◌∷◌, true, false, not, if◌then◌else◌, map, IfOk, IfErr, IfSome};
+ghost use Rattle.std.specs.Bool.{Decides};
+ghost use Rattle.cidr_io.specs.Writing.{Writes};
+ghost use Rattle.netset.specs.Collecting.{Collects};
+ghost use Rattle.netset.specs.Commands.{Match};
+ghost use Rattle.netset.specs.Gathering.{Finishes, IsCounted, IsDone, IsUnreadable, PicksOrNot, Streams, TakesPart, lines_of_part, rest_written};
+ghost use Rattle.netset.specs.Matching.{IsWithin, LiesIn, Picks, has, line_written, written_of};
+ghost use Rattle.netset.specs.Program.{AnswersRequest};
+ghost use Rattle.netset.specs.Reading.{IsNextLine};
+ghost use Rattle.netset.specs.Sets.{Held};
+
+use crate::answers::{Verdict, by_output};
+use crate::collecting::Block;
+use crate::errors::{CommandError, LineError, ReadError};
+use crate::fields::said;
+use crate::files::Sources;
+use crate::lines::next_line;
+use crate::sets::Sets;
+use crate::several::read_file;
+use cidr::IpCidr;
+use cidr_io::sink::{OutputFailed, Sink};
+use cidr_io::writing::flush;
+use itoa::Buffer;
+use std::alloc::Global;
+use std::io::{BufRead, BufReader, Read};
+
+/// What is written of the lines that are picked.
+#[derive(Clone, Copy, Debug, Drop, PartialEq)]
+pub enum Written {
+    /// The lines.
+    Lines,
+    /// How many they are.
+    Count,
+    /// Nothing.
+    Nothing,
+}
+
+/// Whether an option is given.
+fn has(options: &[&str], name: &str) -> bool
+    ensures { result ≡ has name.now (map (λ w. w.now) options.now) }
+{
+    options.contains(&name)
+}
+
+/// What is written of the lines by these options.
+fn written_of(options: &[&str]) -> Written
+    ensures { result ≡ written_of (map (λ w. w.now) options.now) }
+{
+    if has(options, "-q") {
+        Written::Nothing
+    } else if has(options, "-c") {
+        Written::Count
+    } else {
+        Written::Lines
+    }
+}
+
+impl Sets {
+    /// Whether there are all addresses of a network.
+    fn contains(&self, network: &IpCidr) -> bool
+        ensures { Decides result (IsWithin (Held self.now) network.now) }
+    {
+        match network {
+            IpCidr::V4(network) => self.v4.contains(network),
+            IpCidr::V6(network) => self.v6.contains(network),
+        }
+    }
+
+    /// Whether there is a network, and all its addresses are there.
+    fn have(&self, network: &Option<IpCidr>) -> bool
+        ensures { Decides result (LiesIn (Held self.now) network.now) }
+    {
+        match network {
+            Some(network) => self.contains(network),
+            None => false,
+        }
+    }
+}
+
+/// Which lines are picked, and what is written of them.
+#[derive(Clone, Copy)]
+struct Matcher<'a> {
+    sets: &'a Sets,
+    inverted: bool,
+    written: Written,
+}
+
+impl Matcher<'_> {
+    /// Whether a line is picked.
+    fn picks(&self, line: &[u8]) -> Result<bool, LineError>
+        ensures { PicksOrNot (Picks (Held self.now.sets.now) self.now.inverted) line.now result }
+    {
+        let network = said(line)?;
+        let lies = self.sets.have(&network);
+        Ok(turned(self.inverted, lies))
+    }
+}
+
+/// Whether a line is picked, by whether it lies in the list.
+fn turned(inverted: bool, lies: bool) -> bool
+    ensures { result ≡ (if inverted then not lies else lies) }
+{
+    if inverted { !lies } else { lies }
+}
+
+/// Whether a part up to a line feed or to the end is a line.
+fn is_line(part: &[u8], has_more: bool) -> bool
+    ensures line { result ≡ true → lines_of_part part.now has_more ≡ part.now ∷ [] }
+    ensures none { result ≡ false → lines_of_part part.now has_more ≡ [] }
+{
+    has_more || !part.is_empty()
+}
+
+/// Yes if a line was counted.
+fn verdict_of(count: u64) -> Verdict
+    ensures { IsCounted count result }
+{
+    if count > 0 { Verdict::Yes } else { Verdict::No }
+}
+
+/// The lines that were picked: how many, and what of them is not yet written.
+#[derive(Drop)]
+pub struct Gathered {
+    count: u64,
+    block: Block,
+}
+
+impl Gathered {
+    /// No lines.
+    fn new() -> Gathered
+        ensures count { result.count ≡ 0 }
+        ensures block { result.block ≡ [] }
+    {
+        Gathered {
+            count: 0,
+            block: Block::new(),
+        }
+    }
+
+    /// Adds what is written of a line.
+    fn push<S: Sink>(
+        &mut self,
+        written: Written,
+        out: &mut S,
+        line: &[u8],
+    ) -> Result<(), OutputFailed>
+        ensures count { self.new.count ≡ self.old.count }
+        ensures collects { Collects (S.state out.old) (S.state out.new) self.old.block self.new.block
+            (line_written written line.now) result }
+    {
+        match written {
+            Written::Lines => self.block.push_parts(out, &[line, b"\n"]),
+            Written::Count | Written::Nothing => Ok(()),
+        }
+    }
+
+    /// Takes the line of a part up to a line feed or to the end, if it is one and is picked.
+    fn take<'a, S: Sink>(
+        &mut self,
+        matcher: &Matcher<'_>,
+        file: &'a str,
+        number: u64,
+        part: &[u8],
+        has_more: bool,
+        out: &mut S,
+    ) -> Result<(), CommandError<'a>>
+        requires { self.old.count < number }
+        ensures { TakesPart (Picks (Held matcher.now.sets.now) matcher.now.inverted) matcher.now.written file.now number
+            part.now has_more (S.state out.old) (S.state out.new) self.old self.new result }
+    {
+        if !is_line(part, has_more) {
+            return Ok(());
+        }
+        match matcher.picks(part) {
+            Ok(true) => {
+                self.count += 1;
+                match self.push(matcher.written, out, part) {
+                    Ok(()) => Ok(()),
+                    Err(_) => Err(CommandError::Output),
+                }
+            }
+            Ok(false) => Ok(()),
+            Err(e) => Err(CommandError::Line(file, number, e)),
+        }
+    }
+
+    /// Whether no more lines are needed.
+    fn is_done(&self, written: Written, has_more: bool) -> bool
+        ensures { Decides result (IsDone written has_more self.now.count) }
+    {
+        !has_more || (written == Written::Nothing && self.count > 0)
+    }
+
+    /// Adds what is written behind the lines.
+    fn push_count<S: Sink>(&mut self, written: Written, out: &mut S) -> Result<(), OutputFailed>
+        ensures { Collects (S.state out.old) (S.state out.new) self.old.block self.new.block
+            (rest_written written self.old.count) result }
+    {
+        match written {
+            Written::Count => {
+                let mut digits = Buffer::new();
+                let count = digits.format(self.count);
+                self.block.push_parts(out, &[count.as_bytes(), b"\n"])
+            }
+            Written::Lines | Written::Nothing => Ok(()),
+        }
+    }
+
+    /// Writes what is not yet written.
+    fn write_rest<S: Sink>(&mut self, written: Written, out: &mut S) -> Result<(), OutputFailed>
+        ensures { Writes (S.state out.old) (S.state out.new) (self.old.block ++ rest_written written self.old.count) result }
+    {
+        self.push_count(written, out)?;
+        self.block.write(out)?;
+        flush(out)
+    }
+
+    /// Writes what is not yet written, and tells whether there was a line.
+    fn finish<'a, S: Sink>(
+        &mut self,
+        written: Written,
+        out: &mut S,
+    ) -> Result<Verdict, CommandError<'a>>
+        ensures { Finishes written (S.state out.old) (S.state out.new) self.old result }
+    {
+        let verdict = verdict_of(self.count);
+        by_output(verdict, self.write_rest(written, out))
+    }
+}
+
+/// Reads the next part of a file up to a line feed, without it, and tells whether there was one.
+fn next_part<'a, R: BufRead>(
+    file: &'a str,
+    reader: &mut R,
+    part: &mut Vec<u8>,
+) -> Result<bool, CommandError<'a>>
+    ensures part { IfOk result (λ more. IfSome (R.Read.remaining reader.old)
+        (λ text. IsNextLine text part.new.items more (R.Read.remaining reader.new))) }
+    ensures stopped { IfErr result (IsUnreadable file.now) }
+{
+    match next_line(reader, part) {
+        Ok(has_more) => Ok(has_more),
+        Err(ReadError::NoMemory) => Err(CommandError::NoMemory),
+        Err(_) => Err(CommandError::Input(file)),
+    }
+}
+
+/// Reads a file line by line, and writes the lines that are picked. An output that has failed before gets nothing.
+fn stream<'a, R: BufRead, S: Sink>(
+    alloc: Global,
+    matcher: &Matcher<'_>,
+    file: &'a str,
+    reader: &mut R,
+    out: &mut S,
+) -> Result<Verdict, CommandError<'a>>
+    ensures { Streams (Picks (Held matcher.now.sets.now) matcher.now.inverted) matcher.now.written file.now
+        (R.Read.remaining reader.old) (S.state out.old) (S.state out.new) result }
+{
+    if out.failed() {
+        return Err(CommandError::Output);
+    }
+    let mut part = Vec::new(alloc);
+    let mut gathered = Gathered::new();
+    for number in 1..u64::MAX {
+        let has_more = next_part(file, reader, &mut part)?;
+        gathered.take(matcher, file, number, part.as_slice(), has_more, out)?;
+        if gathered.is_done(matcher.written, has_more) {
+            return gathered.finish(matcher.written, out);
+        }
+    }
+    Err(CommandError::Input(file))
+}
+
+/// The same of a file that is read in blocks.
+fn stream_blocks<'a, R: Read + Drop, S: Sink>(
+    alloc: Global,
+    matcher: &Matcher<'_>,
+    file: &'a str,
+    reader: R,
+    out: &mut S,
+) -> Result<Verdict, CommandError<'a>>
+    ensures { Streams (Picks (Held matcher.now.sets.now) matcher.now.inverted) matcher.now.written file.now
+        (R.remaining reader) (S.state out.old) (S.state out.new) result }
+{
+    let Ok(mut reader) = BufReader::new(alloc, reader) else {
+        return Err(CommandError::NoMemory);
+    };
+    stream(alloc, matcher, file, &mut reader, out)
+}
+
+/// The command `match`.
+pub fn matching<'a, F: Sources, O: Sink>(
+    alloc: Global,
+    sources: &F,
+    options: &[&str],
+    list: &'a str,
+    file: &'a str,
+    out: &mut O,
+) -> Result<Verdict, CommandError<'a>>
+    ensures { AnswersRequest (F.told sources.now) (Match (map (λ w. w.now) options.now) list.now file.now)
+        (O.state out.old) (O.state out.new) result }
+{
+    let sets = read_file(alloc, sources, list)?;
+    let inverted = has(options, "-v");
+    let written = written_of(options);
+    let matcher = Matcher {
+        sets: &sets,
+        inverted,
+        written,
+    };
+    let Some(reader) = sources.open(file) else {
+        return Err(CommandError::Input(file));
+    };
+    stream_blocks(alloc, &matcher, file, reader, out)
+}
