@@ -274,6 +274,23 @@ rows_where_a_stream_fails() {
     run 2 '' '' 'x' merge
 }
 
+# Standard error shows how far reading is, where it is a terminal and the run takes longer than a second.
+slow_input() {
+    local slow='(printf "10.0.0.0/9\n"; sleep 1.2; printf "10.128.0.0/9\n") | "$program" merge' shown
+    if command -v script >/dev/null; then
+        shown=$(program=$program script -qec "$slow" /dev/null </dev/null)
+        if ! [[ $shown =~ ^([0-9]+\ bytes\ read$'\r')+$'\e[K10.0.0.0/8\r'$ ]]; then
+            differs=1
+            echo "$build on a terminal: not as wanted: ${shown@Q}" >&2
+        fi
+    fi
+    shown=$(program=$program sh -c "$slow" 2>&1)
+    if [[ $shown != 10.0.0.0/8 ]]; then
+        differs=1
+        echo "$build without a terminal: not as wanted: ${shown@Q}" >&2
+    fi
+}
+
 printf '10.0.0.0/8\n' >"$room/ten"
 printf '10.0.0.0/8\n::/0\n' >"$room/both"
 printf '8000::/1\n' >"$room/eight"
@@ -298,6 +315,7 @@ for build in netset netset.by-rattle; do
     rows_of_matches
     rows_of_one_network
     long_list
+    slow_input
     if [[ -c /dev/full ]]; then
         rows_where_a_stream_fails
     fi

@@ -1,8 +1,9 @@
 //! The files of a run and its standard input.
 ghost use Rattle.std.specs.Prelude.{◌≡◌, ℕ, List, Option, Some, None, IfSome};
 
-use std::io::{Input, Read};
-use std::rt::Files;
+use crate::terminal::{Progress, Watched};
+use std::io::{Eprint, Input, Read};
+use std::rt::{Clock, Files};
 use std::{fs, io};
 
 /// What lists are read from.
@@ -34,24 +35,27 @@ impl<F: Read + Drop, I: Read + Drop> Read for Opened<F, I> {
     }
 }
 
-/// The files of the system and its standard input, which nothing is told of.
+/// The files of the system and its standard input, which nothing is told of, and how far reading them is.
 #[derive(Clone, Copy)]
-pub struct System<'a, R: Files + Input> {
+pub struct System<'a, R: Files + Input + Clock + Eprint> {
     pub runtime: &'a R,
+    pub progress: &'a Progress<'a, R>,
 }
 
-impl<R: Files + Input> Sources for System<'_, R> {
-    type Reader = Opened<R::File, R::Reader>;
+impl<'a, R: Files + Input + Clock + Eprint> Sources for System<'a, R> {
+    type Reader = Watched<'a, Opened<R::File, R::Reader>, R>;
 
     ghost told = { λ _ _. None };
 
-    fn open(&self, name: &str) -> Option<Opened<R::File, R::Reader>> {
-        if name == "-" {
-            return Some(Opened::Input(self.runtime.reader()));
-        }
-        match fs::open(self.runtime, name) {
-            Ok(file) => Some(Opened::File(file)),
-            Err(_) => None,
-        }
+    fn open(&self, name: &str) -> Option<Self::Reader> {
+        let source = if name == "-" {
+            Opened::Input(self.runtime.reader())
+        } else {
+            Opened::File(fs::open(self.runtime, name).ok()?)
+        };
+        Some(Watched {
+            source,
+            progress: self.progress,
+        })
     }
 }

@@ -25,15 +25,23 @@ mod report;
 mod sets;
 mod several;
 mod single;
+mod terminal;
 
 use cidr_io::arguments::Given;
 use cidr_io::sink::Tracked;
 use files::System;
 use program::program;
+use std::io::IsTerminal;
 use std::process::ExitCode;
+use terminal::Progress;
 
 fn main(rt: HostRuntime) -> ExitCode {
     let (mut out, mut err) = (Tracked::new(rt.stdout()), Tracked::new(rt.stderr()));
-    let (arguments, sources) = (Given { system: &rt }, System { runtime: &rt });
+    let progress = Progress::new(&rt, rt.stderr().is_terminal());
+    let sources = System {
+        runtime: &rt,
+        progress: &progress,
+    };
+    let arguments = Given { system: &rt };
     ExitCode::from(program(rt.alloc(), &arguments, &sources, &mut out, &mut err))
 }
