@@ -19,3 +19,7 @@ pub mod Found
 pub mod Noted
 pub mod Checked
 pub mod MatchArguments
+pub mod Passed
+pub mod Resolved
+pub mod Stored
+pub mod Looked

@@ -10,7 +10,7 @@ use Rattle.cidr_sets.specs.Pools.{IsFirstFree}
 use Rattle.cidr_sets.specs.Sets.{IsSetOf}
 use Rattle.netset.specs.Answering.{AreRead}
 use Rattle.netset.specs.Combining.{IsMade, name_of}
-use Rattle.netset.specs.Commands.{Lists, NotIn, Diff, Free, Check, Match, Single, Help, Version, IsRequest, IsUsage, Says}
+use Rattle.netset.specs.Commands.{Lists, NotIn, Diff, Free, Check, Match, Look, Single, Help, Version, IsRequest, IsUsage, Says}
 use Rattle.netset.specs.Free.{IsFreeText}
 use Rattle.netset.specs.Program.{AnswersRequest, by_output}
 use Rattle.netset.specs.Sets.{Held, held}
@@ -61,13 +61,15 @@ pub no_request : (words : List (List ℕ)) (name : List ℕ) (files : List (List
     → files ≢ [] → ((request : SingleRequest) → ¬ (IsSingle words request)) → ((net : List ℕ) (fs : List (List ℕ)) → ¬ (IsRequest words (NotIn net fs)))
     → ((old new : List ℕ) → ¬ (IsRequest words (Diff old new))) → ((pool len : List ℕ) (used : List (List ℕ)) → ¬ (IsRequest words (Free pool len used)))
     → ((fs : List (List ℕ)) → ¬ (IsRequest words (Check fs)))
-    → ((options : List (List ℕ)) (list file : List ℕ) → ¬ (IsRequest words (Match options list file))) → IsUsage words
-no_request words name files is unnamed some single not_in diff free check match (Lists operation fs) h = unnamed operation (ap (λ (k : List (List ℕ)). get_or k 0 []) (sym is ∙ h.0))
-no_request words name files is unnamed some single not_in diff free check match (NotIn net fs) h = not_in net fs h
-no_request words name files is unnamed some single not_in diff free check match (Diff old new) h = diff old new h
-no_request words name files is unnamed some single not_in diff free check match (Free pool len used) h = free pool len used h
-no_request words name files is unnamed some single not_in diff free check match (Check fs) h = check fs h
-no_request words name files is unnamed some single not_in diff free check match (Match options list file) h = match options list file h
-no_request words name files is unnamed some single not_in diff free check match (Single request) h = single request h
-no_request words name files is unnamed some single not_in diff free check match Help h = some (ap (drop 1) (sym is ∙ h))
-no_request words name files is unnamed some single not_in diff free check match Version h = some (ap (drop 1) (sym is ∙ h))
+    → ((options : List (List ℕ)) (list file : List ℕ) → ¬ (IsRequest words (Match options list file)))
+    → ((table file : List ℕ) → ¬ (IsRequest words (Look table file))) → IsUsage words
+no_request words name files is unnamed some single not_in diff free check match look (Lists operation fs) h = unnamed operation (ap (λ (k : List (List ℕ)). get_or k 0 []) (sym is ∙ h.0))
+no_request words name files is unnamed some single not_in diff free check match look (NotIn net fs) h = not_in net fs h
+no_request words name files is unnamed some single not_in diff free check match look (Diff old new) h = diff old new h
+no_request words name files is unnamed some single not_in diff free check match look (Free pool len used) h = free pool len used h
+no_request words name files is unnamed some single not_in diff free check match look (Check fs) h = check fs h
+no_request words name files is unnamed some single not_in diff free check match look (Match options list file) h = match options list file h
+no_request words name files is unnamed some single not_in diff free check match look (Look table file) h = look table file h
+no_request words name files is unnamed some single not_in diff free check match look (Single request) h = single request h
+no_request words name files is unnamed some single not_in diff free check match look Help h = some (ap (drop 1) (sym is ∙ h))
+no_request words name files is unnamed some single not_in diff free check match look Version h = some (ap (drop 1) (sym is ∙ h))

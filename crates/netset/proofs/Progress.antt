@@ -69,7 +69,7 @@ finished (Some text) left next old now new number line false one is p n s g =
     let lines : lines_of text ≡ p.before ++ line ∷ [] = p.lines ∙ ap (λ k. p.before ++ k) (rw p.known at n) in
     (p.said ++ one ∷ [], rw lines (zip_behind LineSays p.before p.said line one p.fine s), grown_more old now new p.said one p.grown g)
 
-first_of_more : (text line : List ℕ) (more : Bool) (next : Option (List ℕ)) → IsNextLine text line more next → (after : List (List ℕ)) × (lines_of text ≡ line ∷ after)
+pub first_of_more : (text line : List ℕ) (more : Bool) (next : Option (List ℕ)) → IsNextLine text line more next → (after : List (List ℕ)) × (lines_of text ≡ line ∷ after)
 first_of_more text line true next n = (lines_of n.0, n.2)
 first_of_more text line false next n = ([], n)
 

@@ -5,7 +5,7 @@ set -euo pipefail
 export LC_ALL=C
 cd "$(dirname "$0")/.."
 
-usage=$'usage: netset merge|nets|not|ranges|count|check [FILE..] | not --in NET [FILE..] | minus|and A B.. | diff A B | free POOL LEN USED.. | match [-v] [-c] [-q] LIST [FILE] | show HOST | split NET LEN | nth NET INDEX | --help | --version\n'
+usage=$'usage: netset merge|nets|not|ranges|count|check [FILE..] | not --in NET [FILE..] | minus|and A B.. | diff A B | free POOL LEN USED.. | match [-v] [-c] [-q] LIST [FILE] | look TABLE [FILE] | show HOST | split NET LEN | nth NET INDEX | --help | --version\n'
 
 room=$(mktemp -d)
 trap 'rm -rf "$room"' EXIT
@@ -211,6 +211,34 @@ rows_of_matches() {
     run 2 '' "$usage" '' match -- ten
 }
 
+# The longest networks of addresses.
+rows_of_look_ups() {
+    run 0 $'10.2.0.1 10.0.0.0/8 ten\n10.1.2.3 10.1.0.0/16 x  y\n192.0.2.7 192.0.2.7\n192.0.2.8 -\n2001:db8::1 2001:db8::/32 \xff\n::1 ::/0 all\n' \
+        '' '10.2.0.1\n10.1.2.3 and more\r\n\n # 10.1.2.3\n192.0.2.7#\n192.0.2.8 ;\n2001:DB8:0::1\n\t::1' look owners
+    run 1 $'192.0.2.8 -\n' '' '192.0.2.8\n' look owners -
+    run 0 $'192.0.2.8 -\n::1 ::/0 all\n' '' '192.0.2.8\n::1' look owners
+    run 0 $'::1 ::/0 all\n192.0.2.8 -\n' '' '::1\n192.0.2.8' look owners
+    run 1 '' '' '' look owners
+    run 1 '' '' '\n;' look owners
+    run 1 $'10.0.0.1 -\n' '' '10.0.0.1' look nothing
+    run 1 '' '' '10.0.0.0/8 x' look -
+    run 0 $'10.0.0.1 10.0.0.0/8 x\n' '' '10.0.0.0/8 x' look - address
+    run 2 $'10.2.0.1 10.0.0.0/8 ten\n192.0.2.8 -\n' $'-:4: invalid IP address syntax\n' \
+        '10.2.0.1\n192.0.2.8\n\n10.0.0.0/8\n10.0.0.1' look owners
+    run 2 '' $'-:1: invalid IP address syntax\n' '010.0.0.1' look owners
+    run 2 $'10.2.0.1 10.0.0.0/8 ten\n' $'-:2: not UTF-8\n' '10.2.0.1\n\xff 10.0.0.1' look owners
+    run 2 '' $'bad:1: couldn\'t parse length in network: invalid length text\n' '10.0.0.1' look bad
+    run 2 '' $'-:2: host part of address was not zero\n' '10.0.0.0/8 10.0.0.1/8\n10.0.0.1/8 x' look - address
+    run 2 '' $'-:1: not UTF-8\n' '\xff x' look - address
+    run 2 '' $'missing: cannot be read\n' '' look missing bad
+    run 2 '' $'missing: cannot be read\n' '' look owners missing
+    run 2 '' $'.: cannot be read\n' '' look owners .
+    run 2 '' "$usage" '' look
+    run 2 '' "$usage" '' look owners - -
+    run 2 '' "$usage" '' look -k
+    run 2 '' "$usage" '' look owners -k
+}
+
 # The commands on one host or network.
 rows_of_one_network() {
     run 0 $'network 192.0.2.0/24\nfirst 192.0.2.0\nlast 192.0.2.255\nmask 255.255.255.0\nlength 24\nfamily Ipv4\n' \
@@ -245,6 +273,9 @@ long_list() {
     run 0 "$output" '' '' split 10.1.0.0/16 32
     run 0 "$input"$'\n' '' "$input" match ten
     run 0 $'32768\n' '' "$input" match -c ten
+    input=$output
+    output=$(seq 0 65535 | awk '{ print "10.1." int($1 / 256) "." $1 % 256 " 10.1." int($1 / 256) ".0/24 " int($1 / 256) }')$'\n'
+    run 0 "$output" '' "$input" look parts
 }
 
 # Either stream fails, or both.
@@ -259,6 +290,10 @@ rows_where_a_stream_fails() {
     run 3 '' $'output failed\n' '' check ten ten
     run 0 '' '' '' check ten
     run 3 '' $'output failed\n' '' ranges ten
+    run 3 '' $'output failed\n' '10.2.0.1' look owners
+    run 3 '' $'output failed\n' '10.2.0.1\nx' look owners
+    run 2 '' $'-:1: invalid IP address syntax\n' 'x' look owners
+    run 1 '' '' '' look owners
     run 3 '' $'output failed\n' '' not --in ::/0 ten
     run 3 '' $'output failed\n' '10.0.0.1' match ten
     run 3 '' $'output failed\n' '10.0.0.1' match -c ten
@@ -298,6 +333,11 @@ printf '::/1\n' >"$room/seven"
 printf '10.0.0.0/8\n8000::/1\n' >"$room/ten_and_eight"
 printf '10.0.0.0/29\n' >"$room/eight_addresses"
 printf '10.0.0.0/x\n' >"$room/bad"
+printf '10.0.0.0/8 ten\n10.1.0.0/16\tfirst\r\n\n# 10.2.0.0/16 x\n10.1.0.0/16  x  y \t; z\n192.0.2.7\n2001:db8::/32 \xff#\n::/0 all' \
+    >"$room/owners"
+: >"$room/nothing"
+printf '10.0.0.1\n' >"$room/address"
+seq 0 255 | awk '{ print "10.1." $1 ".0/24 " $1 }' >"$room/parts"
 output_file=$room/output
 error_file=$room/error
 tried=0
@@ -313,6 +353,7 @@ for build in netset netset.by-rattle; do
     rows_of_pools
     rows_of_findings
     rows_of_matches
+    rows_of_look_ups
     rows_of_one_network
     long_list
     slow_input

@@ -1,7 +1,7 @@
 -- The request that a command of the program is.
 use Rattle.std.specs.Prelude.{◌≡◌, ◌≢◌, ◌⊎◌, ℕ, true, false, List, length, codes, map}
 use Rattle.std.specs.List.{list_any}
-use Rattle.netset.specs.Commands.{Request, Lists, NotIn, Diff, Free, Check, Match, Single as ASingle, Help, Version, is_option}
+use Rattle.netset.specs.Commands.{Request, Lists, NotIn, Diff, Free, Check, Match, Look, Single as ASingle, Help, Version, is_option}
 use Rattle.netset.specs.Combining.{takes}
 use Rattle.netset.specs.declared.operations.Operation.{Operation}
 use Rattle.netset.specs.Single.{SingleRequest, Show, Split, Nth}
@@ -24,6 +24,7 @@ request_of (command.Diff old new) = Diff old.now new.now
 request_of (command.Free pool len used) = Free pool.now len.now (map (λ file. file.now) used.now)
 request_of (command.Check files) = Check (map (λ file. file.now) files.now)
 request_of (command.Match options list file) = Match (map (λ w. w.now) options.now) list.now file.now
+request_of (command.Look table file) = Look table.now file.now
 request_of (command.Single single) = ASingle (single_request single)
 request_of command.Help = Help
 request_of command.Version = Version

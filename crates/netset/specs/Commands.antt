@@ -1,5 +1,5 @@
 -- The commands, their arguments and what each answers.
-use Rattle.std.specs.Prelude.{◌≡◌, ℕ, ◌≤◌, ◌==◌, nat_lt, Bool, true, false, ◌&&◌, List, [], ◌∷◌, ◌++◌, length, codes, Option, Some}
+use Rattle.std.specs.Prelude.{◌≡◌, ℕ, ◌≤◌, ◌==◌, nat_lt, Bool, true, false, ◌&&◌, ◌⊎◌, List, [], ◌∷◌, ◌++◌, length, codes, Option, Some}
 use Rattle.std.specs.List.{AllZip, list_all, list_any, slice_index}
 use Rattle.cidr.specs.either.IpText.{IsIpNetworkText}
 use Rattle.cidr.specs.declared.cidr.combined.IpCidr.{IpCidr}
@@ -8,6 +8,7 @@ use Rattle.cidr_table.specs.Cover.{Covers}
 use Rattle.cidr_sets.specs.Sets.{IsSetOf}
 use Rattle.netset.specs.Findings.{IsCheck}
 use Rattle.netset.specs.Free.{IsFreeText}
+use Rattle.netset.specs.Look.{IsLook}
 use Rattle.netset.specs.Lists.{ListSays, network_in, networks_in}
 use Rattle.netset.specs.Changes.{AreChanges, AreSame, printed_changes}
 use Rattle.netset.specs.Combining.{form_of, name_of, takes, IsMade}
@@ -30,6 +31,7 @@ pub data Request : Type 0 where
   Free : List ℕ → List ℕ → List (List ℕ) → Request
   Check : List (List ℕ) → Request
   Match : List (List ℕ) → List ℕ → List ℕ → Request
+  Look : List ℕ → List ℕ → Request
   Single : SingleRequest → Request
   Help : Request
   Version : Request
@@ -57,6 +59,8 @@ IsRequest words (Check files) = (words ≡ codes "check" ∷ files) × (list_any
 IsRequest words (Match options list file) = (files : List (List ℕ)) × (words ≡ codes "match" ∷ (options ++ list ∷ files))
     × (list_all is_match_option options ≡ true) × (is_option list ≡ false) × (list_any is_option files ≡ false)
     × (read_files files ≡ file ∷ [])
+IsRequest words (Look table file) = ((words ≡ codes "look" ∷ table ∷ file ∷ []) ⊎ ((words ≡ codes "look" ∷ table ∷ []) × (file ≡ codes "-")))
+    × (is_option table ≡ false) × (is_option file ≡ false)
 IsRequest words (Single request) = IsSingle words request
 IsRequest words Help = words ≡ codes "--help" ∷ []
 IsRequest words Version = words ≡ codes "--version" ∷ []
@@ -131,6 +135,9 @@ help_text =
     ++ codes "netset match [-v] [-c] [-q] LIST [FILE]\n"
     ++ codes "                        the lines of FILE whose first field lies in LIST, or with -v does not;\n"
     ++ codes "                        -c their number, -q only the status\n"
+    ++ codes "netset look TABLE [FILE]\n"
+    ++ codes "                        the longest network of each address of FILE in the lines\n"
+    ++ codes "                        NET VALUE of TABLE, and its value\n"
     ++ codes "netset show HOST        the network of a host: its ends, mask, length and family\n"
     ++ codes "netset split NET LEN    the networks of this prefix length inside a network\n"
     ++ codes "netset nth NET INDEX    the address of a network at an index, from 0 on\n"
@@ -160,6 +167,8 @@ IsAnswer told (Check files) answer verdict =
     (texts : List (List ℕ)) → AreTold told (read_files files) texts → IsCheck (read_files files) texts answer verdict
 IsAnswer told (Match options list file) answer verdict =
     (networks text : List ℕ) → told list ≡ Some networks → told file ≡ Some text → IsMatchOf options networks text answer verdict
+IsAnswer told (Look table file) answer verdict =
+    (rows text : List ℕ) → told table ≡ Some rows → told file ≡ Some text → IsLook rows text answer verdict
 IsAnswer told (Single request) answer verdict = IsSingleAnswer request answer verdict
 IsAnswer told Help answer verdict = (answer ≡ help_text) × (verdict ≡ Yes)
 IsAnswer told Version answer verdict = (answer ≡ version_text) × (verdict ≡ Yes)

@@ -1,5 +1,5 @@
 -- What has to be believed: what lists say, what commands answer, and a run of the program. `Reading`, `Command`,
--- `Collecting`, `Gathering` and `Answering` are what private functions promise.
+-- `Collecting`, `Gathering`, `Answering` and `LookUps` are what private functions promise.
 pub mod Lists
 pub mod Reading
 pub mod Printing
@@ -11,6 +11,7 @@ pub mod Free
 pub mod Entries
 pub mod Findings
 pub mod Matching
+pub mod Look
 pub mod Combining
 pub mod Commands
 pub mod Command
@@ -19,3 +20,4 @@ pub mod Streaming
 pub mod Program
 pub mod Gathering
 pub mod Answering
+pub mod LookUps

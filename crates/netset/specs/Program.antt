@@ -8,8 +8,9 @@ use Rattle.cidr_io.specs.Arguments.{AreArguments, AreUnreadable}
 use Rattle.cidr_io.specs.Writing.{State, Answered, Says as Tells}
 use Rattle.cidr_io.specs.declared.sink.OutputFailed.{OutputFailed}
 use Rattle.netset.specs.Lists.{ListSays, IsFirstError}
-use Rattle.netset.specs.Commands.{Request, Lists, NotIn, Diff, Free, Check, Match, Single, Help, Version, IsRequest, IsUsage, read_files, AreTold, IsAnswer, Says}
+use Rattle.netset.specs.Commands.{Request, Lists, NotIn, Diff, Free, Check, Match, Look, Single, Help, Version, IsRequest, IsUsage, read_files, AreTold, IsAnswer, Says}
 use Rattle.netset.specs.Free.{IsBadLength}
+use Rattle.netset.specs.Look.{IsLookUntil, IsUnreadTable}
 use Rattle.netset.specs.Matching.{has, written_of, Picks}
 use Rattle.netset.specs.Streaming.{IsBegun, IsCutAt, IsOfFile}
 use Rattle.netset.specs.Single.{IsBadSingle, IsNoNetwork}
@@ -45,6 +46,11 @@ IsBadArgument IsBad (error.Input name) = ⊥
 IsBadArgument IsBad error.NoMemory = ⊥
 IsBadArgument IsBad error.Output = ⊥
 
+-- the error is that this file can't be read
+abbrev pub IsInputError : List ℕ → CommandError → Type 0
+IsInputError file (error.Input name) = name.now ≡ file
+IsInputError file e = ⊥
+
 -- why a request is not answered, and nothing is written
 abbrev pub IsRefused : (List ℕ → Option (List ℕ)) → Request → Result Verdict CommandError → Type 0
 IsRefused told request (Ok verdict) = ⊥
@@ -55,6 +61,7 @@ IsRefused told (Diff old new) (Err e) = IsUnread told (old ∷ new ∷ []) e
 IsRefused told (Free pool len used) (Err e) = IsBadArgument (IsBadLength len) e ⊎ IsUnread told (pool ∷ used) e
 IsRefused told (Check files) (Err e) = IsUnchecked told (read_files files) e
 IsRefused told (Match options list file) (Err e) = IsUnread told (list ∷ []) e
+IsRefused told (Look table file) (Err e) = IsUnreadTable (told table) table e ⊎ IsInputError file e
 IsRefused told (Single request) (Err e) = IsBadArgument (IsBadSingle request) e
 IsRefused told Help (Err e) = ⊥
 IsRefused told Version (Err e) = ⊥
@@ -63,6 +70,11 @@ IsRefused told Version (Err e) = ⊥
 abbrev pub by_output : Verdict → Result (Unit {0}) OutputFailed → Result Verdict CommandError
 by_output verdict (Ok _) = Ok verdict
 by_output verdict (Err e) = Err error.Output
+
+-- an error, or that of the output where it has failed
+abbrev pub or_output : CommandError → Result (Unit {0}) OutputFailed → CommandError
+or_output e (Ok _) = e
+or_output e (Err failed) = error.Output
 
 -- What becomes of a request and of the sink: nothing is written where its lists are not read. Else its answer is
 -- written whole, or the sink has failed and a beginning of the answer was written, none if it had failed before.
@@ -78,10 +90,17 @@ IsCutShort told options list file old new r = (e : CommandError) × (r ≡ Err e
     × ((networks text : List ℕ) → told list ≡ Some networks → told file ≡ Some text → (said : List (List IpCidr)) × ListSays networks said
     × IsCutAt (Picks (Says said) (has (codes "-v") options)) (written_of options) text answer e)
 
+-- the lines of the file of `look` were not read to their end, and what belongs to those before was written, or a beginning
+abbrev pub IsCutLook : (List ℕ → Option (List ℕ)) → List ℕ → List ℕ → State → State → Result Verdict CommandError → Type 0
+IsCutLook told table file old new r = (answer : List ℕ) × (e : CommandError) × (written : Result (Unit {0}) OutputFailed)
+    × ((rows text : List ℕ) → told table ≡ Some rows → told file ≡ Some text → IsLookUntil rows file text answer e)
+    × Answered old new answer written × (r ≡ Err (or_output e written))
+
 -- what becomes of a request and of the sink
 abbrev pub AnswersRequest : (List ℕ → Option (List ℕ)) → Request → State → State → Result Verdict CommandError → Type 0
 AnswersRequest told (Match options list file) old new r =
     AnswersWhole told (Match options list file) old new r ⊎ IsCutShort told options list file old new r
+AnswersRequest told (Look table file) old new r = AnswersWhole told (Look table file) old new r ⊎ IsCutLook told table file old new r
 AnswersRequest told request old new r = AnswersWhole told request old new r
 
 -- other arguments are usage, and nothing is written
@@ -106,7 +125,7 @@ argument_message bad.Index = codes "no index below 2^128"
 
 -- the line that is written to standard error
 abbrev pub error_line : CommandError → List ℕ
-error_line error.Usage = codes "usage: netset merge|nets|not|ranges|count|check [FILE..] | not --in NET [FILE..] | minus|and A B.. | diff A B | free POOL LEN USED.. | match [-v] [-c] [-q] LIST [FILE] | show HOST | split NET LEN | nth NET INDEX | --help | --version\n"
+error_line error.Usage = codes "usage: netset merge|nets|not|ranges|count|check [FILE..] | not --in NET [FILE..] | minus|and A B.. | diff A B | free POOL LEN USED.. | match [-v] [-c] [-q] LIST [FILE] | look TABLE [FILE] | show HOST | split NET LEN | nth NET INDEX | --help | --version\n"
 error_line (error.Argument text e) = text.now ++ (codes ": " ++ (argument_message e ++ codes "\n"))
 error_line (error.Line name number e) =
     name.now ++ (codes ":" ++ (decimal number ++ (codes ": " ++ (line_message e ++ codes "\n"))))

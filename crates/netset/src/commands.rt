@@ -2,7 +2,7 @@
 ghost use Rattle.std.specs.Prelude.{◌≡◌, ◌≢◌, false, ℕ, List, codes, map, [], ◌∷◌, MatchOption};
 ghost use Rattle.std.specs.Bool.{Decides};
 ghost use Rattle.std.specs.List.{list_any, prefix_len};
-ghost use Rattle.netset.specs.Commands.{Check, Diff, Free, Match, NotIn, is_option, read_files, IsRequest, IsUsage};
+ghost use Rattle.netset.specs.Commands.{Check, Diff, Free, Look, Match, NotIn, is_option, read_files, IsRequest, IsUsage};
 ghost use Rattle.netset.specs.Command.{AreMisfits, IsNoLoneWord, request_of};
 ghost use Rattle.netset.specs.Combining.{name_of};
 ghost use Rattle.netset.specs.Matching.{is_match_option};
@@ -25,6 +25,8 @@ pub enum Command<'a> {
     Check(&'a [&'a str]),
     /// The options, the list, and the file of which lines are picked.
     Match(&'a [&'a str], &'a str, &'a str),
+    /// The longest networks of the first file that have the addresses of the second one.
+    Look(&'a str, &'a str),
     /// A command on one host or network.
     Single(Single<'a>),
     /// The page of the commands.
@@ -164,6 +166,20 @@ fn match_of<'a>(words: &'a [&'a str]) -> Option<(&'a [&'a str], &'a str, &'a str
     None
 }
 
+/// The files of the command `look`, of which the second one is the standard input where it isn't named.
+fn look_of<'a>(words: &[&'a str]) -> Option<(&'a str, &'a str)>
+    ensures { MatchOption result ((table file : List ℕ) → ¬ (IsRequest (map (λ w. w.now) words.now) (Look table file)))
+        (λ files. IsRequest (map (λ w. w.now) words.now) (Look files.0.now files.1.now)) }
+{
+    match words {
+        [name, table] if *name == "look" && !is_option(table) => Some((table, "-")),
+        [name, table, file] if *name == "look" && !is_option(table) && !is_option(file) => {
+            Some((table, file))
+        }
+        _ => None,
+    }
+}
+
 /// The command of a word that stands alone.
 fn lone_command<'a>(word: &str) -> Option<Command<'a>>
     ensures { MatchOption result (IsNoLoneWord word.now) (λ command. IsRequest (word.now ∷ []) (request_of command)) }
@@ -213,6 +229,9 @@ pub fn command_of<'a>(words: &'a [&'a str]) -> Option<Command<'a>>
     }
     if let Some((options, list, file)) = match_of(words) {
         return Some(Command::Match(options, list, file));
+    }
+    if let Some((table, file)) = look_of(words) {
+        return Some(Command::Look(table, file));
     }
     let (name, files) = words.split_first()?;
     match operation_of(name) {

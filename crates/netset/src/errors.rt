@@ -11,7 +11,7 @@ pub enum LineError {
     NotUtf8,
     /// It is neither a network nor an address: the error of parsing it.
     NoNetwork(NetworkParseError),
-    /// An end of its range is no address: the error of parsing it.
+    /// Its first field, or an end of its range, is no address: the error of parsing it.
     NoAddress(AddrParseError),
     /// The ends of its range are of two families.
     TwoFamilies,
@@ -48,11 +48,11 @@ pub enum CommandError<'a> {
     Usage,
     /// The first argument that is wrong, and why; nothing was written.
     Argument(&'a str, ArgumentError),
-    /// The first line in error of this file, counted from 1; nothing was written, but by `match` lines before it.
+    /// The first line in error of this file, counted from 1; nothing was written, but by `match` and `look` lines before it.
     Line(&'a str, u64, LineError),
-    /// This file can't be read; nothing was written, but by `match` lines before.
+    /// This file can't be read; nothing was written, but by `match` and `look` lines before.
     Input(&'a str),
-    /// There is no memory; nothing was written, but by `match` lines before.
+    /// There is no memory; nothing was written, but by `match` and `look` lines before.
     NoMemory,
     /// The output has failed; a beginning of the answer was written.
     Output,

@@ -12,4 +12,4 @@ returns-in-None-2 c =
     let none : length c.in_ok-name.files.now ≡ 0 = omega (arith, same_length c.in_ok-name.files.now, ap length e) in
     true≢false (sym (ap (λ (n : ℕ). n == 0) none) ∙ (sym c.is_empty.ensures ∙ c.if-is_empty.false)))
     c.in_default.ensures c.in_default-not_in_of.ensures c.in_default-diff_of.ensures c.in_default-free_of.ensures c.in_default-check_of.ensures
-    c.in_default-match_of.ensures
+    c.in_default-match_of.ensures c.in_default-look_of.ensures

@@ -1,0 +1,366 @@
+-- Addresses that are looked up, one line after the other.
+use Rattle.std.proofs.Common.{◌≡◌, ◌⊎◌, refl, sym, ◌∙◌, ap, subst, inl, inr, ℕ, ◌+◌, ◌==◌, if◌then◌else◌, Bool, true, false, ◌||◌, List, [], ◌∷◌, ◌++◌, codes, map, is_some, option_map, option_copied, Bor, ap₂, append_assoc, Option, Some, None, Result, Ok, Err}
+use Rattle.std.specs.Io.Buffered.{reader_buffer, reader_capacity, reader_inner, reader_remaining}
+use Rattle.std.specs.Io.KnownBytes.{prepend_known}
+use Rattle.std.specs.Option.{IfSome}
+use Rattle.std.specs.List.{AllZip, flat_map, list_any}
+use Rattle.std.specs.declared.io.buffered.BufReader.{BufReader}
+use Rattle.std.proofs.lemmas.List.{append-nil, flat_map_more}
+use Rattle.std.proofs.lemmas.List.Folds.{list_any-append}
+use Rattle.cidr.specs.either.IpAddress.{IsIpText, address_family, plain_bits}
+use Rattle.cidr.specs.texts.Printed.{plain_text}
+use Rattle.cidr.specs.texts.PrintedAddress.{ip_text}
+use Rattle.cidr.specs.declared.addr.ip.IpAddr.{IpAddr}
+use Rattle.cidr.specs.declared.family.Family.{Family}
+use Rattle.cidr_io.specs.Writing.{State, Part, Writes, Answered}
+use Rattle.cidr_io.specs.declared.sink.OutputFailed.{OutputFailed}
+use Rattle.cidr_io.proofs.Chains.{part_none, part_more, answered, then_writes}
+use Rattle.cidr_table.specs.Prefixes.{IsLookedUp}
+use Rattle.netset.specs.Collecting.{Collects}
+use Rattle.netset.specs.Commands.{Look}
+use Rattle.netset.specs.Lists.{lines_of}
+use Rattle.netset.specs.Look.{AreFirst, EndsLooks, IsNoAddressField, IsSplit, IsTable, LineLooks, LookUp, TellsFound, found_line, gap, is_found, look_line, shown}
+use Rattle.netset.specs.LookUps.{EndsReading, IsErrorAt, LooksAll, LooksLine, LooksLines, LooksUp, PushesFound, ReadsTable, kept, resolved, unread, value_at, verdict_of}
+use Rattle.netset.specs.Program.{AnswersRequest}
+use Rattle.netset.specs.Reading.{IsNextLine, IsStopped}
+use Rattle.netset.specs.declared.errors.CommandError.{CommandError}
+use Rattle.netset.specs.declared.errors.CommandError.TheVariants as error
+use Rattle.netset.specs.declared.errors.ReadError.{ReadError}
+use Rattle.netset.specs.declared.errors.ReadError.TheVariants.{Line, Input, NoMemory}
+use Rattle.netset.specs.declared.look.LookError.{LookError}
+use Rattle.netset.specs.declared.look.LookError.TheVariants.{Reading, Output}
+use Rattle.netset.specs.declared.rows.Span.{Span}
+use Rattle.netset.specs.declared.table.Table.{Table}
+use Rattle.netset.proofs.Collected.{collected_more, none_collected}
+use Rattle.netset.proofs.Resolved.{looked_up_mapped}
+use Rattle.netset.proofs.Passed.{Passed, none_passed, one_passed, all_passed, error_passed, first_passed, one_more_passed, all_first}
+
+abbrev pub failing : LookError → Result Bool LookError
+failing e = Err e
+
+-- ---- one address
+same_some : {X Y : Type 0} (f : X → Y) (o : Option X) → is_some (option_map f o) ≡ is_some o
+same_some f None = refl
+same_some f (Some x) = refl
+
+pub looks_up : (table : Family → List (List Bool × List ℕ)) (address : IpAddr) (row : Option (List Bool × List ℕ)) (printed : Option (List ℕ × List ℕ))
+    (s t : State) (block rest : List ℕ) (r : Result Bool OutputFailed)
+    → IsLookedUp (λ (p : List Bool). p) (plain_bits address) (table (address_family address)) row
+    → printed ≡ option_map (shown (address_family address)) row → PushesFound (ip_text address) printed s t block rest r
+    → LooksUp table address s t block rest r
+looks_up table address row printed s t block rest (Ok found) looked is pushed = (
+  row,
+  looked,
+  subst (λ (k : Option (List ℕ × List ℕ)). Collects s t block rest (found_line (ip_text address) k) (Ok tt)) is pushed.0,
+  pushed.1 ∙ (ap (λ (k : Option (List ℕ × List ℕ)). is_some k) is ∙ same_some (shown (address_family address)) row),
+)
+looks_up table address row printed s t block rest (Err e) looked is pushed = (
+  row,
+  looked,
+  subst (λ (k : Option (List ℕ × List ℕ)). Part s t (block ++ found_line (ip_text address) k)) is pushed,
+)
+
+-- what is printed of a row, by the row and by its value
+printed_value : (family : Family) (values : List ℕ) (found : Option (List Bool × Span))
+    → option_map (λ (row : List Bool × Span). (plain_text family row.0, value_at values row.1)) found ≡ option_map (shown family) (option_map (resolved values) found)
+printed_value family values None = refl
+printed_value family values (Some row) = refl
+
+pub looks_up_in : (table : Family → List (List Bool × List ℕ)) (values : List ℕ) (rows : List (List Bool × Span)) (address : IpAddr) (family : Family) (asked : List Bool)
+    (found : Option (List Bool × Span)) (text : List ℕ) (s t : State) (block rest : List ℕ) (r : Result Bool OutputFailed) → address_family address ≡ family
+    → asked ≡ plain_bits address → table family ≡ map (resolved values) rows → IsLookedUp (λ (p : List Bool). p) asked rows found → text ≡ ip_text address
+    → PushesFound text (option_map (λ (row : List Bool × Span). (plain_text family row.0, value_at values row.1)) found) s t block rest r
+    → LooksUp table address s t block rest r
+looks_up_in table values rows address family asked found text s t block rest r of bits held looked shows pushed =
+    let row : Option (List Bool × List ℕ) = option_map (resolved values) found in
+    let here : IsLookedUp (λ (p : List Bool). p) (plain_bits address) (map (resolved values) rows) row =
+    subst (λ (k : List Bool). IsLookedUp (λ (p : List Bool). p) k (map (resolved values) rows) row) bits
+    (looked_up_mapped (value_at values) (λ (p : List Bool). p) asked rows found looked) in
+    looks_up table address row (option_map (λ (row : List Bool × Span). (plain_text family row.0, value_at values row.1)) found) s t block rest r
+    (subst (λ (k : List (List Bool × List ℕ)). IsLookedUp (λ (p : List Bool). p) (plain_bits address) k row) (sym held ∙ ap table (sym of)) here)
+    (ap (λ (k : Family). option_map (λ (row : List Bool × Span). (plain_text k row.0, value_at values row.1)) found) (sym of)
+    ∙ printed_value (address_family address) values found)
+    (subst (λ (k : List ℕ). PushesFound k (option_map (λ (row : List Bool × Span). (plain_text family row.0, value_at values row.1)) found) s t block rest r) shows pushed)
+
+-- ---- the line of an address
+regroup : (a b c d : List ℕ) → (a ++ (b ++ (c ++ []))) ++ d ≡ a ++ (b ++ (c ++ d))
+regroup a b c d = simp (append_assoc, append-nil)
+
+-- the first part of a line was lost
+pub front_lost : (s t : State) (block rest a c value : List ℕ) (r : Result Bool OutputFailed) (y : OutputFailed) → r ≡ Err y
+    → Part s t (block ++ (a ++ (codes " " ++ (c ++ [])))) → PushesFound a (Some (c, value)) s t block rest r
+front_lost s t block rest a c value r y is part =
+    let front : List ℕ = a ++ (codes " " ++ (c ++ [])) in
+    let behind : List ℕ = gap value ++ (value ++ codes "\n") in
+    subst (PushesFound a (Some (c, value)) s t block rest) (sym is)
+    (subst (λ (k : List ℕ). Part s t (block ++ k)) (regroup a (codes " ") c behind)
+    (subst (Part s t) (append_assoc block front behind) (part_more s t (block ++ front) behind part)))
+
+pub line_pushed : (s t u : State) (block middle rest a c : List ℕ) (r : Result (Unit {0}) OutputFailed) (value : List ℕ)
+    → Collects s t block middle (a ++ (codes " " ++ (c ++ []))) (Ok tt) → Collects t u middle rest (gap value ++ (value ++ codes "\n")) r
+    → Collects s u block rest (found_line a (Some (c, value))) r
+line_pushed s t u block middle rest a c r value first second =
+    subst (λ (k : List ℕ). Collects s u block rest k r) (regroup a (codes " ") c (gap value ++ (value ++ codes "\n")))
+    (collected_more s t u block middle rest (a ++ (codes " " ++ (c ++ []))) (gap value ++ (value ++ codes "\n")) r first second)
+
+pub value_lost : (s t u : State) (block middle rest a c value : List ℕ) (r : Result Bool OutputFailed) (y f : OutputFailed) → r ≡ Err y
+    → Collects s t block middle (a ++ (codes " " ++ (c ++ []))) (Ok tt) → Part t u (middle ++ (gap value ++ (value ++ codes "\n")))
+    → PushesFound a (Some (c, value)) s u block rest r
+value_lost s t u block middle rest a c value r y f is first part =
+    subst (PushesFound a (Some (c, value)) s u block rest) (sym is) (line_pushed s t u block middle rest a c (Err f) value first part)
+
+-- the row by the reference to it
+pub row_pushed : {C : Type 0} (text_of : C → List ℕ) (values : List ℕ) (found : Option (Bor (C × Span))) (row : Bor (C × Span)) (a : List ℕ) (s t : State)
+    (block rest : List ℕ) (r : Result Bool OutputFailed) → found ≡ Some row → PushesFound a (Some (text_of row.now.0, value_at values row.now.1)) s t block rest r
+    → PushesFound a (option_map (λ (k : C × Span). (text_of k.0, value_at values k.1)) (option_copied found)) s t block rest r
+row_pushed {C} text_of values found row a s t block rest r is h =
+    subst (λ (k : Option (Bor (C × Span))). PushesFound a (option_map (λ (k : C × Span). (text_of k.0, value_at values k.1)) (option_copied k)) s t block rest r)
+    (sym is) h
+
+-- the line of an address was lost
+pub line_lost : (table : Family → List (List Bool × List ℕ)) (line : List ℕ) (number : ℕ) (s t : State) (block rest first second : List ℕ) (address : IpAddr) (r : Result Bool LookError)
+    (y : LookError) (f : OutputFailed) → r ≡ Err y → y ≡ Output → IsSplit line first second → IsIpText first address → LooksUp table address s t block rest (Err f)
+    → LooksLine table line number s t block rest r
+line_lost table line number s t block rest first second address r y f is same split spells (row, looked, part) =
+    subst (LooksLine table line number s t block rest) (sym (is ∙ ap failing same))
+    (Some (record { address = address; found = row }), (first, second, split, spells, looked), part)
+
+-- ---- one line after the other
+-- so far
+pub record Looking (table : Family → List (List Bool × List ℕ)) (told left : Option (List ℕ)) (s t : State) (block rest : List ℕ) (found : Bool) (number : ℕ) : Type 0 where
+  pub looks : List (Option LookUp)
+  pub collected : Collects s t block rest (flat_map look_line looks) (Ok tt)
+  pub hit : found ≡ list_any is_found looks
+  pub passed : IfSome told (λ text. Passed (LineLooks table) text left looks number)
+
+none_read : (table : Family → List (List Bool × List ℕ)) (told : Option (List ℕ)) → IfSome told (λ text. Passed (LineLooks table) text told [] 1)
+none_read table None = tt
+none_read table (Some text) = none_passed (LineLooks table) text
+
+pub looking_started : (table : Family → List (List Bool × List ℕ)) (told : Option (List ℕ)) (s : State) (block : List ℕ) → Looking table told told s s block block false 1
+looking_started table told s block = record { looks = []; collected = none_collected s block; hit = refl; passed = none_read table told }
+
+-- whether one was found, behind a line
+abbrev pub IsEither : Bool → Bool → Bool → Type 0
+IsEither hit found after = ((hit ≡ true) × (after ≡ true)) ⊎ ((hit ≡ false) × (after ≡ found))
+
+either_or : (before one : Bool) (hit found after : Bool) → found ≡ before → hit ≡ one → IsEither hit found after → after ≡ (before || (one || false))
+either_or true one hit found after f h (inl e) = e.1
+either_or true one hit found after f h (inr e) = e.1 ∙ f
+either_or false true hit found after f h (inl e) = e.1
+either_or false true hit found after f h (inr e) = let no : true ≡ false = sym h ∙ e.0 in cc
+either_or false false hit found after f h (inl e) = let no : false ≡ true = sym h ∙ e.0 in cc
+either_or false false hit found after f h (inr e) = e.1 ∙ f
+
+hit_more : (looks : List (Option LookUp)) (look : Option LookUp) (hit found after : Bool) → found ≡ list_any is_found looks → hit ≡ is_found look
+    → IsEither hit found after → after ≡ list_any is_found (looks ++ look ∷ [])
+hit_more looks look hit found after f h either =
+    either_or (list_any is_found looks) (is_found look) hit found after f h either ∙ sym (list_any-append is_found looks (look ∷ []))
+
+one_collected : (s t u : State) (b c d : List ℕ) (looks : List (Option LookUp)) (look : Option LookUp) → Collects s t b c (flat_map look_line looks) (Ok tt)
+    → Collects t u c d (look_line look) (Ok tt) → Collects s u b d (flat_map look_line (looks ++ look ∷ [])) (Ok tt)
+one_collected s t u b c d looks look first more =
+    subst (λ (k : List ℕ). Collects s u b d k (Ok tt)) (flat_map_more look_line [] looks look)
+    (collected_more s t u b c d (flat_map look_line looks) (look_line look) (Ok tt) first more)
+
+one_read : (table : Family → List (List Bool × List ℕ)) (told left next : Option (List ℕ)) (looks : List (Option LookUp)) (number : ℕ) (line : List ℕ) (more : Bool) (look : Option LookUp)
+    → more ≡ true → IfSome told (λ text. Passed (LineLooks table) text left looks number) → IfSome left (λ text. IsNextLine text line more next) → LineLooks table line look
+    → IfSome told (λ text. Passed (LineLooks table) text next (looks ++ look ∷ []) (number + 1))
+one_read table None left next looks number line more look is p n says = tt
+one_read table (Some text) left next looks number line more look is p n says = one_passed (LineLooks table) text left next looks number line more look is p n says
+
+pub looked_on : (table : Family → List (List Bool × List ℕ)) (told left next : Option (List ℕ)) (s t u : State) (b c d : List ℕ) (found hit after : Bool) (number : ℕ)
+    (line : List ℕ) (more : Bool) → more ≡ true → Looking table told left s t b c found number → IfSome left (λ text. IsNextLine text line more next)
+    → LooksLine table line number t u c d (Ok hit) → IsEither hit found after → Looking table told next s u b d after (number + 1)
+looked_on table told left next s t u b c d found hit after number line more is l n (look, says, collects, tells) either = record {
+  looks = l.looks ++ look ∷ [];
+  collected = one_collected s t u b c d l.looks look l.collected collects;
+  hit = hit_more l.looks look hit found after l.hit tells either;
+  passed = one_read table told left next l.looks number line more look is l.passed n says;
+}
+
+all_read : (table : Family → List (List Bool × List ℕ)) (told left next : Option (List ℕ)) (looks : List (Option LookUp)) (number : ℕ) (line : List ℕ) (more : Bool) (look : Option LookUp)
+    → more ≡ false → IfSome told (λ text. Passed (LineLooks table) text left looks number) → IfSome left (λ text. IsNextLine text line more next) → LineLooks table line look
+    → IfSome told (λ text. AllZip (LineLooks table) (lines_of text) (looks ++ look ∷ []))
+all_read table None left next looks number line more look is p n says = tt
+all_read table (Some text) left next looks number line more look is p n says = all_passed (LineLooks table) text left next looks number line more look is p n says
+
+pub looked_at_all : (table : Family → List (List Bool × List ℕ)) (told left next : Option (List ℕ)) (s t u : State) (b c d : List ℕ) (found hit after : Bool) (number : ℕ)
+    (line : List ℕ) (more : Bool) → more ≡ false → Looking table told left s t b c found number → IfSome left (λ text. IsNextLine text line more next)
+    → LooksLine table line number t u c d (Ok hit) → IsEither hit found after → LooksLines table told s u b d (Ok after)
+looked_at_all table told left next s t u b c d found hit after number line more is l n (look, says, collects, tells) either = (
+  l.looks ++ look ∷ [],
+  one_collected s t u b c d l.looks look l.collected collects,
+  hit_more l.looks look hit found after l.hit tells either,
+  all_read table told left next l.looks number line more look is l.passed n says,
+)
+
+-- ---- where the lines end early
+first_read : (table : Family → List (List Bool × List ℕ)) (told left : Option (List ℕ)) (looks : List (Option LookUp)) (number : ℕ)
+    → IfSome told (λ text. Passed (LineLooks table) text left looks number) → IfSome told (λ text. AreFirst (LineLooks table) text looks)
+first_read table None left looks number p = tt
+first_read table (Some text) left looks number p = first_passed (LineLooks table) text left looks number p
+
+stopped_read : (table : Family → List (List Bool × List ℕ)) (told : Option (List ℕ)) (looks : List (Option LookUp)) (e : ReadError) → IsStopped e
+    → IfSome told (λ text. AreFirst (LineLooks table) text looks) → IfSome told (λ text. EndsReading table text looks e)
+stopped_read table None looks e stopped p = tt
+stopped_read table (Some text) looks (Line number e) stopped p = absurd stopped
+stopped_read table (Some text) looks Input stopped p = p
+stopped_read table (Some text) looks NoMemory stopped p = p
+
+pub looking_stopped : (table : Family → List (List Bool × List ℕ)) (told left : Option (List ℕ)) (s t : State) (b c : List ℕ) (found : Bool) (number : ℕ)
+    (r : Result Bool LookError) (e : ReadError) → r ≡ Err (Reading e) → IsStopped e → Looking table told left s t b c found number → LooksLines table told s t b c r
+looking_stopped table told left s t b c found number r e is stopped l =
+    subst (LooksLines table told s t b c) (sym is)
+    (l.looks, l.collected, stopped_read table told l.looks e stopped (first_read table told left l.looks number l.passed))
+
+error_read : (table : Family → List (List Bool × List ℕ)) (told left next : Option (List ℕ)) (looks : List (Option LookUp)) (number : ℕ) (line : List ℕ) (more : Bool) (e : ReadError)
+    → IfSome told (λ text. Passed (LineLooks table) text left looks number) → IfSome left (λ text. IsNextLine text line more next)
+    → IsErrorAt IsNoAddressField line number e → IfSome told (λ text. EndsReading table text looks e)
+error_read table None left next looks number line more e p n bad = tt
+error_read table (Some text) left next looks number line more (Line m e) p n bad =
+    error_passed (LineLooks table) IsNoAddressField text left next looks number line more m e p n bad.0 bad.1
+error_read table (Some text) left next looks number line more Input p n bad = first_passed (LineLooks table) text left looks number p
+error_read table (Some text) left next looks number line more NoMemory p n bad = first_passed (LineLooks table) text left looks number p
+
+front_read : (table : Family → List (List Bool × List ℕ)) (told left next : Option (List ℕ)) (looks : List (Option LookUp)) (number : ℕ) (line : List ℕ) (more : Bool) (look : Option LookUp)
+    → IfSome told (λ text. Passed (LineLooks table) text left looks number) → IfSome left (λ text. IsNextLine text line more next) → LineLooks table line look
+    → IfSome told (λ text. AreFirst (LineLooks table) text (looks ++ look ∷ []))
+front_read table None left next looks number line more look p n says = tt
+front_read table (Some text) left next looks number line more look p n says = one_more_passed (LineLooks table) text left next looks number line more look p n says
+
+looking_error : (table : Family → List (List Bool × List ℕ)) (told left next : Option (List ℕ)) (s t u : State) (b c d : List ℕ) (found : Bool) (number : ℕ) (line : List ℕ) (more : Bool)
+    (e : LookError) → Looking table told left s t b c found number → IfSome left (λ text. IsNextLine text line more next)
+    → LooksLine table line number t u c d (Err e) → LooksLines table told s u b d (Err e)
+looking_error table told left next s t u b c d found number line more (Reading e) l n (bad, collects) = (
+  l.looks,
+  subst (λ (k : List ℕ). Collects s u b d k (Ok tt)) (append-nil (flat_map look_line l.looks))
+      (collected_more s t u b c d (flat_map look_line l.looks) [] (Ok tt) l.collected collects),
+  error_read table told left next l.looks number line more e l.passed n bad,
+)
+looking_error table told left next s t u b c d found number line more Output l n (look, says, part) = (
+  l.looks ++ look ∷ [],
+  subst (λ (k : List ℕ). Part s u (b ++ k)) (flat_map_more look_line [] l.looks look)
+      (collected_more s t u b c d (flat_map look_line l.looks) (look_line look) (Err (record {})) l.collected part),
+  front_read table told left next l.looks number line more look l.passed n says,
+)
+
+pub looking_failed : (table : Family → List (List Bool × List ℕ)) (told left next : Option (List ℕ)) (s t u : State) (b c d : List ℕ) (found : Bool) (number : ℕ) (line : List ℕ)
+    (more : Bool) (r : Result Bool LookError) (y e : LookError) → r ≡ Err y → y ≡ e → Looking table told left s t b c found number
+    → IfSome left (λ text. IsNextLine text line more next) → LooksLine table line number t u c d (Err e) → LooksLines table told s u b d r
+looking_failed table told left next s t u b c d found number line more r y e is same l n h =
+    subst (LooksLines table told s u b d) (sym (is ∙ ap failing same)) (looking_error table told left next s t u b c d found number line more e l n h)
+
+-- ---- all lines written
+-- what was collected behind nothing, and then written
+written_rest : (s t u : State) (block rest text : List ℕ) (r : Result (Unit {0}) OutputFailed) → s.failed ≡ false → block ≡ [] → Collects s t block rest text (Ok tt)
+    → Writes t u rest r → Answered s u text r
+written_rest s t u block rest text r fine none (written, whole, split) wrote =
+    let all : text ≡ written ++ rest = ap (λ (k : List ℕ). k ++ text) (sym none) ∙ split in
+    answered s u text r fine (subst (λ (k : List ℕ). Writes s u k r) (sym all) (then_writes s t u written rest r whole wrote))
+
+pub looked_all : (table : Family → List (List Bool × List ℕ)) (told : Option (List ℕ)) (s t u : State) (block rest : List ℕ) (found : Bool) → s.failed ≡ false → block ≡ []
+    → LooksLines table told s t block rest (Ok found) → Writes t u rest (Ok tt) → LooksAll table told s u (Ok found)
+looked_all table told s t u block rest found fine none (looks, collected, hit, says) wrote =
+    (looks, written_rest s t u block rest (flat_map look_line looks) (Ok tt) fine none collected wrote, hit, says)
+
+pub looked_part : (table : Family → List (List Bool × List ℕ)) (told : Option (List ℕ)) (s t u : State) (block rest : List ℕ) (e : ReadError) → s.failed ≡ false → block ≡ []
+    → LooksLines table told s t block rest (Err (Reading e)) → Writes t u rest (Ok tt) → LooksAll table told s u (Err (Reading e))
+looked_part table told s t u block rest e fine none (looks, collected, ends) wrote =
+    (looks, written_rest s t u block rest (flat_map look_line looks) (Ok tt) fine none collected wrote, ends)
+
+pub looked_lost : (table : Family → List (List Bool × List ℕ)) (told : Option (List ℕ)) (s t : State) (block rest : List ℕ) → s.failed ≡ false → block ≡ []
+    → LooksLines table told s t block rest (Err Output) → LooksAll table told s t (Err Output)
+looked_lost table told s t block rest fine none (looks, part, ends) = (
+  looks,
+  record {},
+  answered s t (flat_map look_line looks) (Err (record {})) fine (subst (λ (k : List ℕ). Part s t (k ++ flat_map look_line looks)) none part),
+  ends,
+)
+
+all_told : (table : Family → List (List Bool × List ℕ)) (told : Option (List ℕ)) (looks : List (Option LookUp)) → IfSome told (λ text. AllZip (LineLooks table) (lines_of text) looks)
+    → IfSome told (λ text. AreFirst (LineLooks table) text looks)
+all_told table None looks h = tt
+all_told table (Some text) looks h = all_first (LineLooks table) text looks h
+
+part_told : (table : Family → List (List Bool × List ℕ)) (told : Option (List ℕ)) (looks : List (Option LookUp)) (e : ReadError) → IfSome told (λ text. EndsReading table text looks e)
+    → IfSome told (λ text. AreFirst (LineLooks table) text looks)
+part_told table None looks e h = tt
+part_told table (Some text) looks (Line number e) h = record { before = h.before; after = h.line ∷ h.after; lines = h.lines; fine = h.fine }
+part_told table (Some text) looks Input h = h
+part_told table (Some text) looks NoMemory h = h
+
+-- the rest was not written
+pub all_unwritten : (table : Family → List (List Bool × List ℕ)) (told : Option (List ℕ)) (s t u : State) (block rest : List ℕ) (found : Bool) (f : OutputFailed)
+    (r : Result Bool LookError) → r ≡ Err Output → s.failed ≡ false → block ≡ []
+    → LooksLines table told s t block rest (Ok found) → Writes t u rest (Err f) → LooksAll table told s u r
+all_unwritten table told s t u block rest found f r is fine none (looks, collected, hit, says) wrote =
+    subst (LooksAll table told s u) (sym is)
+    (looks, f, written_rest s t u block rest (flat_map look_line looks) (Err f) fine none collected wrote, all_told table told looks says)
+
+pub part_unwritten : (table : Family → List (List Bool × List ℕ)) (told : Option (List ℕ)) (s t u : State) (block rest : List ℕ) (e : ReadError) (f : OutputFailed)
+    (r : Result Bool LookError) → r ≡ Err Output → s.failed ≡ false → block ≡ []
+    → LooksLines table told s t block rest (Err (Reading e)) → Writes t u rest (Err f) → LooksAll table told s u r
+part_unwritten table told s t u block rest e f r is fine none (looks, collected, ends) wrote =
+    subst (LooksAll table told s u) (sym is)
+    (looks, f, written_rest s t u block rest (flat_map look_line looks) (Err f) fine none collected wrote, part_told table told looks e ends)
+
+nothing_told : (table : Family → List (List Bool × List ℕ)) (told : Option (List ℕ)) → IfSome told (λ text. AreFirst (LineLooks table) text [])
+nothing_told table None = tt
+nothing_told table (Some text) = record { before = []; after = lines_of text; lines = refl; fine = tt }
+
+-- the output had failed before
+pub nothing_looked : (table : Family → List (List Bool × List ℕ)) (told : Option (List ℕ)) (s : State) → s.failed ≡ true → LooksAll table told s s (Err Output)
+nothing_looked table told s failed = ([], record {}, (part_none s [] failed, λ _. refl), nothing_told table told)
+
+-- ---- the command
+told_looks : (P : List ℕ → Type 0) (left : Option (List ℕ)) (text : List ℕ) → left ≡ Some text → IfSome left P → P text
+told_looks P left text is h = subst (λ (k : Option (List ℕ)). IfSome k P) is h
+
+-- a reader in blocks has the bytes of what it reads
+pub opened : {T A : Type 0} (remaining : T → Option (List ℕ)) (r : BufReader T A) (inner : T) (text : List ℕ) → reader_inner r ≡ inner → reader_buffer r ≡ []
+    → reader_capacity r ≡ 8192 → remaining inner ≡ Some text → reader_remaining remaining r ≡ Some text
+opened remaining r inner text at empty room is =
+    ap₂ (λ (n : ℕ) (bs : List ℕ). if n == 0 then None else prepend_known bs (remaining r.inner)) room empty
+    ∙ ap (λ (o : Option (List ℕ)). prepend_known [] o) (ap remaining at ∙ is)
+
+module _ (told : List ℕ → Option (List ℕ)) (rows : List ℕ) (file : Bor (List ℕ)) (left : Option (List ℕ)) (table : Table) (s t : State)
+    (reads : ReadsTable (told rows) rows (Ok table)) (opens : (text : List ℕ) → told file.now ≡ Some text → left ≡ Some text) where
+  tells : (looks : List (Option LookUp)) (found : Bool) → found ≡ list_any is_found looks → TellsFound looks (verdict_of found)
+  tells looks true e = sym e
+  tells looks false e = sym e
+
+  pub looked_whole : (found : Bool) → LooksAll (kept table) left s t (Ok found) → AnswersRequest told (Look rows file.now) s t (Ok (verdict_of found))
+  looked_whole found (looks, written, hit, says) = inl (inr (
+    flat_map look_line looks,
+    verdict_of found,
+    Ok tt,
+    λ first second is at. (kept table, reads first is, looks, told_looks (λ text. AllZip (LineLooks (kept table)) (lines_of text) looks) left second (opens second at) says, refl, tells looks found hit),
+    written,
+    refl,
+  ))
+
+  ends_as : (text : List ℕ) (looks : List (Option LookUp)) (e : ReadError) → EndsReading (kept table) text looks e → EndsLooks (kept table) file.now text looks (unread file e)
+  ends_as text looks (Line number e) h = (refl, h)
+  ends_as text looks Input h = (refl, h)
+  ends_as text looks NoMemory h = h
+
+  pub ended_early : (e : ReadError) → LooksAll (kept table) left s t (Err (Reading e)) → AnswersRequest told (Look rows file.now) s t (Err (unread file e))
+  ended_early e (looks, written, ends) = inr (
+    flat_map look_line looks,
+    unread file e,
+    Ok tt,
+    λ first second is at. (kept table, reads first is, looks, ends_as second looks e (told_looks (λ text. EndsReading (kept table) text looks e) left second (opens second at) ends), refl),
+    written,
+    refl,
+  )
+
+  pub output_failed : LooksAll (kept table) left s t (Err Output) → AnswersRequest told (Look rows file.now) s t (Err error.Output)
+  output_failed (looks, f, written, ends) = inr (
+    flat_map look_line looks,
+    error.Output,
+    Err f,
+    λ first second is at. (kept table, reads first is, looks, told_looks (λ text. AreFirst (LineLooks (kept table)) text looks) left second (opens second at) ends, refl),
+    written,
+    refl,
+  )

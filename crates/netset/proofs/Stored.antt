@@ -1,0 +1,178 @@
+-- The rows of a table as they are read.
+use Rattle.std.proofs.Common.{◌≡◌, refl, sym, ◌∙◌, ap, ap₂, subst, ℕ, ◌+◌, ◌≤◌, Bool, true, false, List, [], ◌∷◌, ◌++◌, length, take, drop, map, arith, Bor, Option, Some, None, Result, Ok, Err, append-nil, length-append, length-drop, le_refl}
+use Rattle.std.specs.Option.{IfSome}
+use Rattle.std.specs.List.{AllZip, flat_map}
+use Rattle.std.proofs.lemmas.List.{drop-append-le, take-append-le, drop_at, take_all, map-append, flat_map_more}
+use Rattle.cidr.specs.declared.cidr.combined.IpCidr.{IpCidr}
+use Rattle.cidr.specs.declared.cidr.combined.IpCidr.TheVariants.{V4, V6}
+use Rattle.cidr.specs.declared.family.Family.{Family}
+use Rattle.cidr.specs.declared.family.Family.TheVariants.{Ipv4, Ipv6}
+use Rattle.cidr_table.specs.FiniteMap.{StoredRows}
+use Rattle.cidr_table.specs.LastRows.{AreLastRows}
+use Rattle.netset.specs.Look.{IsNoNetworkField, IsTable, IsUnreadTable, RowSays, row_in, rows_in, said_in}
+use Rattle.netset.specs.LookUps.{Adds, AreWithin, IsErrorAt, Pushes, ReadsRows, ReadsTable, Stores, kept, resolved, stored, unread, value_at}
+use Rattle.netset.specs.Reading.{IsNextLine, IsStopped}
+use Rattle.netset.specs.declared.errors.CommandError.{CommandError}
+use Rattle.netset.specs.declared.errors.ReadError.{ReadError}
+use Rattle.netset.specs.declared.errors.ReadError.TheVariants.{Line, Input, NoMemory}
+use Rattle.netset.specs.declared.rows.Rows.{Rows}
+use Rattle.netset.specs.declared.rows.Span.{Span}
+use Rattle.netset.specs.declared.table.Table.{Table}
+use Rattle.netset.proofs.Resolved.{last_rows_mapped}
+use Rattle.netset.proofs.Passed.{Passed, none_passed, one_passed, all_passed, error_passed}
+
+-- ---- values
+value_kept : (values more : List ℕ) (span : Span) → span.start + span.len ≤ length values → value_at (values ++ more) span ≡ value_at values span
+value_kept values more span within =
+    let front : span.start ≤ length values = omega (arith, within) in
+    let room : span.len ≤ length (drop span.start values) = omega (arith, within, length-drop span.start values) in
+    ap (take span.len) (drop-append-le span.start values more front) ∙ take-append-le span.len (drop span.start values) more room
+
+value_last : (values value : List ℕ) → value_at (values ++ value) (record { start = length values; len = length value }) ≡ value
+value_last values value = ap (take (length value)) (drop_at values value (length values) refl) ∙ take_all (length value) value (le_refl (length value))
+
+rows_kept : (values more : List ℕ) (rows : List (List Bool × Span)) → AreWithin values rows → map (resolved (values ++ more)) rows ≡ map (resolved values) rows
+rows_kept values more [] h = refl
+rows_kept values more (row ∷ rows) h =
+    ap₂ (λ (v : List ℕ) (xs : List (List Bool × List ℕ)). (row.0, v) ∷ xs) (value_kept values more row.1 h.0) (rows_kept values more rows h.1)
+
+within_kept : (values more : List ℕ) (rows : List (List Bool × Span)) → AreWithin values rows → AreWithin (values ++ more) rows
+within_kept values more [] h = tt
+within_kept values more (row ∷ rows) h = (omega (arith, h.0, length-append values more), within_kept values more rows h.1)
+
+within_both : (values : List ℕ) (rows others : List (List Bool × Span)) → AreWithin values rows → AreWithin values others → AreWithin values (rows ++ others)
+within_both values [] others h k = k
+within_both values (row ∷ rows) others h k = (h.0, within_both values rows others h.1 k)
+
+-- ---- one more row
+resolved_row : (family : Family) (network : IpCidr) (span : Span) (values : List ℕ)
+    → map (resolved values) (row_in family (network, span)) ≡ row_in family (network, value_at values span)
+resolved_row Ipv4 (V4 p) span values = refl
+resolved_row Ipv4 (V6 p) span values = refl
+resolved_row Ipv6 (V4 p) span values = refl
+resolved_row Ipv6 (V6 p) span values = refl
+
+row_within : (family : Family) (network : IpCidr) (span : Span) (values : List ℕ) → span.start + span.len ≤ length values
+    → AreWithin values (row_in family (network, span))
+row_within Ipv4 (V4 p) span values h = (h, tt)
+row_within Ipv4 (V6 p) span values h = tt
+row_within Ipv6 (V4 p) span values h = tt
+row_within Ipv6 (V6 p) span values h = (h, tt)
+
+abbrev span_of : List ℕ → List ℕ → Span
+span_of values value = record { start = length values; len = length value }
+
+row_stored : (values value : List ℕ) (rows : List (List Bool × Span)) (family : Family) (network : IpCidr) → AreWithin values rows
+    → map (resolved (values ++ value)) (rows ++ row_in family (network, span_of values value)) ≡ map (resolved values) rows ++ row_in family (network, value)
+row_stored values value rows family network h =
+    map-append (resolved (values ++ value)) rows (row_in family (network, span_of values value))
+    ∙ ap₂ (λ (a b : List (List Bool × List ℕ)). a ++ b) (rows_kept values value rows h)
+    (resolved_row family network (span_of values value) (values ++ value) ∙ ap (λ (v : List ℕ). row_in family (network, v)) (value_last values value))
+
+row_stored_within : (values value : List ℕ) (rows : List (List Bool × Span)) (family : Family) (network : IpCidr) → AreWithin values rows
+    → AreWithin (values ++ value) (rows ++ row_in family (network, span_of values value))
+row_stored_within values value rows family network h =
+    within_both (values ++ value) rows (row_in family (network, span_of values value)) (within_kept values value rows h)
+    (row_within family network (span_of values value) (values ++ value) (omega (arith, length-append values value)))
+
+-- ---- the rows that lines say
+pub none_stored : (rows : Rows) → rows.v4.items ≡ [] → rows.v6.items ≡ [] → Stores rows []
+none_stored rows four six =
+    let none : (family : Family) → stored rows family ≡ [] = elim [ Ipv4 ↦ four | Ipv6 ↦ six ] in
+    record {
+      same = λ family. ap (map (resolved rows.values.items)) (none family);
+      within = λ family. subst (AreWithin rows.values.items) (sym (none family)) tt;
+    }
+
+stored_more : (old new : Rows) (said : List (Option (IpCidr × List ℕ))) (one : Option (IpCidr × List ℕ)) → Stores old said → Adds old new one
+    → Stores new (said ++ one ∷ [])
+stored_more old new said None s same = subst (λ (k : Rows). Stores k (said ++ None ∷ [])) (sym same) (record {
+  same = λ family. s.same family ∙ (sym (append-nil (rows_in family said)) ∙ flat_map_more (said_in family) [] said None);
+  within = s.within;
+})
+stored_more old new said (Some (network, value)) s p = record {
+  same = λ family.
+      ap₂ (λ (vs : List ℕ) (rs : List (List Bool × Span)). map (resolved vs) rs) p.values (p.rows family)
+      ∙ (row_stored old.values.items value (stored old family) family network (s.within family)
+      ∙ (ap (λ (k : List (List Bool × List ℕ)). k ++ row_in family (network, value)) (s.same family)
+      ∙ flat_map_more (said_in family) [] said (Some (network, value))));
+  within = λ family.
+      subst (λ (vs : List ℕ). AreWithin vs (stored new family)) (sym p.values)
+      (subst (AreWithin (old.values.items ++ value)) (sym (p.rows family)) (row_stored_within old.values.items value (stored old family) family network (s.within family)));
+}
+
+-- ---- one line after the other
+abbrev pub Reads : List ℕ → Option (List ℕ) → Rows → ℕ → Type 0
+Reads text left rows number = (said : List (Option (IpCidr × List ℕ))) × Passed RowSays text left said number × Stores rows said
+
+pub rows_started : (told : Option (List ℕ)) (rows : Rows) → Stores rows [] → IfSome told (λ text. Reads text told rows 1)
+rows_started None rows h = tt
+rows_started (Some text) rows h = ([], none_passed RowSays text, h)
+
+pub rows_stepped : (told left next : Option (List ℕ)) (old new : Rows) (number : ℕ) (line : List ℕ) (more : Bool) (one : Option (IpCidr × List ℕ)) → more ≡ true
+    → IfSome told (λ text. Reads text left old number) → IfSome left (λ text. IsNextLine text line more next) → RowSays line one → Adds old new one
+    → IfSome told (λ text. Reads text next new (number + 1))
+rows_stepped None left next old new number line more one is h n says adds = tt
+rows_stepped (Some text) left next old new number line more one is (said, p, s) n says adds =
+    (said ++ one ∷ [], one_passed RowSays text left next said number line more one is p n says, stored_more old new said one s adds)
+
+pub rows_finished : (told left next : Option (List ℕ)) (old new : Rows) (number : ℕ) (line : List ℕ) (more : Bool) (one : Option (IpCidr × List ℕ)) → more ≡ false
+    → IfSome told (λ text. Reads text left old number) → IfSome left (λ text. IsNextLine text line more next) → RowSays line one → Adds old new one
+    → IfSome told (λ text. ReadsRows text (Ok new))
+rows_finished None left next old new number line more one is h n says adds = tt
+rows_finished (Some text) left next old new number line more one is (said, p, s) n says adds =
+    (said ++ one ∷ [], all_passed RowSays text left next said number line more one is p n says, stored_more old new said one s adds)
+
+abbrev failing : ReadError → Result Rows ReadError
+failing e = Err e
+
+rows_in_error : (told left next : Option (List ℕ)) (old : Rows) (number : ℕ) (line : List ℕ) (more : Bool) (e : ReadError)
+    → IfSome told (λ text. Reads text left old number) → IfSome left (λ text. IsNextLine text line more next) → IsErrorAt IsNoNetworkField line number e
+    → IfSome told (λ text. ReadsRows text (Err e))
+rows_in_error None left next old number line more e h n bad = tt
+rows_in_error (Some text) left next old number line more Input h n bad = tt
+rows_in_error (Some text) left next old number line more NoMemory h n bad = tt
+rows_in_error (Some text) left next old number line more (Line m e) (said, p, s) n bad =
+    (said, error_passed RowSays IsNoNetworkField text left next said number line more m e p n bad.0 bad.1)
+
+pub rows_failed : (told left next : Option (List ℕ)) (old : Rows) (number : ℕ) (line : List ℕ) (more : Bool) (r : Result Rows ReadError) (y e : ReadError)
+    → r ≡ Err y → y ≡ e → IfSome told (λ text. Reads text left old number) → IfSome left (λ text. IsNextLine text line more next)
+    → IsErrorAt IsNoNetworkField line number e → IfSome told (λ text. ReadsRows text r)
+rows_failed told left next old number line more r y e is same h n bad =
+    subst (λ (k : Result Rows ReadError). IfSome told (λ text. ReadsRows text k)) (sym (is ∙ ap failing same))
+    (rows_in_error told left next old number line more e h n bad)
+
+no_more_rows : (told : Option (List ℕ)) (e : ReadError) → IsStopped e → IfSome told (λ text. ReadsRows text (Err e))
+no_more_rows None e h = tt
+no_more_rows (Some text) (Line number e) h = absurd h
+no_more_rows (Some text) Input h = tt
+no_more_rows (Some text) NoMemory h = tt
+
+pub rows_stopped : (told : Option (List ℕ)) (r : Result Rows ReadError) (y e : ReadError) → r ≡ Err y → y ≡ e → IsStopped e
+    → IfSome told (λ text. ReadsRows text r)
+rows_stopped told r y e is same h =
+    subst (λ (k : Result Rows ReadError). IfSome told (λ text. ReadsRows text k)) (sym (is ∙ ap failing same)) (no_more_rows told e h)
+
+-- ---- the table of the rows
+-- what is read of a reader whose bytes are told
+told_rows : (left : Option (List ℕ)) (text : List ℕ) (r : Result Rows ReadError) → left ≡ Some text → IfSome left (λ text. ReadsRows text r) → ReadsRows text r
+told_rows left text r is h = rw is at h
+
+pub table_rows : (values : List ℕ) (rows : List (List Bool × Span)) (made ready : StoredRows (List Bool) Span) → AreLastRows rows made.rows → ready ≡ made
+    → AreLastRows (map (resolved values) rows) (map (resolved values) ready.rows)
+table_rows values rows made ready last same =
+    subst (λ (k : StoredRows (List Bool) Span). AreLastRows (map (resolved values) rows) (map (resolved values) k.rows)) (sym same)
+    (last_rows_mapped (value_at values) rows made.rows last)
+
+pub table_read : (told left : Option (List ℕ)) (name : List ℕ) (rows : Rows) (table : Table) → ((text : List ℕ) → told ≡ Some text → left ≡ Some text)
+    → IfSome left (λ text. ReadsRows text (Ok rows))
+    → ((family : Family) → AreLastRows (map (resolved rows.values.items) (stored rows family)) (kept table family)) → ReadsTable told name (Ok table)
+table_read told left name rows table opens reads last = λ text is.
+    let (said, says, s) = told_rows left text (Ok rows) (opens text is) reads in
+    (said, says, λ family. subst (λ (k : List (List Bool × List ℕ)). AreLastRows k (kept table family)) (s.same family) (last family))
+
+pub table_unread : (told left : Option (List ℕ)) (file : Bor (List ℕ)) (e : ReadError) → ((text : List ℕ) → told ≡ Some text → left ≡ Some text)
+    → IfSome left (λ text. ReadsRows text (Err e)) → IsUnreadTable told file.now (unread file e)
+table_unread told left file (Line number e) opens reads = (refl, λ text is. told_rows left text (Err (Line number e)) (opens text is) reads)
+table_unread told left file Input opens reads = refl
+table_unread told left file NoMemory opens reads = tt

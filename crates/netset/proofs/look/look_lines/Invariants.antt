@@ -1,0 +1,8 @@
+use Rattle.netset.specs.LookUps.{kept}
+use Rattle.netset.proofs.Looked.{Looking}
+use Rattle.netset.proofs.look.look_lines.Given as goal
+
+abbrev pub invariant-loop-number : goal.invariant-loop-number
+invariant-loop-number g l =
+    Looking (kept l.table) (g.R.Read.remaining l.fn.reader) (g.R.Read.remaining l.reader) (g.S.Sink.state l.fn.out) (g.S.Sink.state l.out)
+    l.fn.block l.block l.found l.number

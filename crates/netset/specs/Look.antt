@@ -1,0 +1,162 @@
+-- The longest network of a table that an address is in, and the value of that. A line of a table is a network or an
+-- address and, behind white space, its value: the rest of the line. A line that is looked up begins with an address.
+use Rattle.std.specs.Prelude.{◌≡◌, ◌≢◌, ℕ, ◌+◌, Bool, true, false, List, [], ◌∷◌, ◌++◌, length, drop, codes, is_some, Option, Some, None, option_map, IsUtf8}
+use Rattle.std.specs.Char.{is_ascii_whitespace}
+use Rattle.std.specs.List.{AllZip, before_first, flat_map, list_any}
+use Rattle.std.specs.Str.{IsTrimAscii}
+use Rattle.cidr.specs.either.IpAddress.{IsIpText, address_family, plain_bits}
+use Rattle.cidr.specs.either.IpText.{IsIpNetworkText, IsIpRefused}
+use Rattle.cidr.specs.texts.Messages.{ip_error}
+use Rattle.cidr.specs.texts.Printed.{plain_text}
+use Rattle.cidr.specs.texts.PrintedAddress.{ip_text}
+use Rattle.cidr.specs.declared.addr.ip.IpAddr.{IpAddr}
+use Rattle.cidr.specs.declared.cidr.combined.IpCidr.{IpCidr}
+use Rattle.cidr.specs.declared.cidr.combined.IpCidr.TheVariants.{V4, V6}
+use Rattle.cidr.specs.declared.family.Family.{Family}
+use Rattle.cidr.specs.declared.family.Family.TheVariants.{Ipv4, Ipv6}
+use Rattle.cidr_table.specs.LastRows.{AreLastRows}
+use Rattle.cidr_table.specs.Prefixes.{IsLookedUp}
+use Rattle.netset.specs.Lists.{IsField, IsNoAddress, lines_of}
+use Rattle.netset.specs.declared.answers.Verdict.{Verdict}
+use Rattle.netset.specs.declared.answers.Verdict.TheVariants.{Yes, No}
+use Rattle.netset.specs.declared.errors.CommandError.{CommandError}
+use Rattle.netset.specs.declared.errors.CommandError.TheVariants as error
+use Rattle.netset.specs.declared.errors.LineError.{LineError}
+use Rattle.netset.specs.declared.errors.LineError.TheVariants.{NotUtf8, NoNetwork, NoAddress}
+
+-- ---- lines
+-- the first field of a line that isn't blank, up to white space, and the rest without white space at both ends
+abbrev pub IsSplit : List ℕ → List ℕ → List ℕ → Type 0
+IsSplit line first rest = (field : List ℕ) × IsField line field × (field ≢ [])
+    × (first ≡ before_first is_ascii_whitespace field) × IsTrimAscii (drop (length first) field) rest
+
+-- the first field is no network, and this is the error
+abbrev pub IsNoNetworkField : List ℕ → LineError → Type 0
+IsNoNetworkField first NotUtf8 = ¬ (IsUtf8 first)
+IsNoNetworkField first (NoNetwork e) = IsIpRefused first e × ((n : IpCidr) → ¬ (IsIpNetworkText first n))
+IsNoNetworkField first e = ⊥
+
+-- the first field is no address, and this is the error
+abbrev pub IsNoAddressField : List ℕ → LineError → Type 0
+IsNoAddressField first NotUtf8 = ¬ (IsUtf8 first)
+IsNoAddressField first (NoAddress e) = (e ≡ ip_error) × IsNoAddress first
+IsNoAddressField first e = ⊥
+
+-- the line is in error by its first field
+abbrev pub IsBadLine : (List ℕ → LineError → Type 0) → List ℕ → LineError → Type 0
+IsBadLine IsBad line e = (first : List ℕ) × (rest : List ℕ) × IsSplit line first rest × IsBad first e
+
+-- this is what the first lines of a text say
+pub record AreFirst {S : Type 0} (Says : List ℕ → S → Type 0) (text : List ℕ) (said : List S) : Type 0 where
+  pub before : List (List ℕ)
+  pub after : List (List ℕ)
+  pub lines : lines_of text ≡ before ++ after
+  pub fine : AllZip Says before said
+
+-- the same of the lines before the first line in error, by its number from 1 on
+pub record AreBeforeError {S : Type 0} (Says : List ℕ → S → Type 0) (IsBad : List ℕ → LineError → Type 0) (text : List ℕ) (said : List S)
+    (number : ℕ) (e : LineError) : Type 0 where
+  pub before : List (List ℕ)
+  pub line : List ℕ
+  pub after : List (List ℕ)
+  pub lines : lines_of text ≡ before ++ line ∷ after
+  pub place : number ≡ length before + 1
+  pub fine : AllZip Says before said
+  pub fault : IsBadLine IsBad line e
+
+-- ---- a table
+-- the line of a table says nothing, or a network and its value
+abbrev pub RowSays : List ℕ → Option (IpCidr × List ℕ) → Type 0
+RowSays line None = IsField line []
+RowSays line (Some (network, value)) = (first : List ℕ) × IsSplit line first value × IsIpNetworkText first network
+
+-- a network of either family with what belongs to it, if it is of this family
+abbrev pub row_in : {V : Type 0} → Family → IpCidr × V → List (List Bool × V)
+row_in Ipv4 (V4 p, value) = (p, value) ∷ []
+row_in Ipv4 (V6 p, value) = []
+row_in Ipv6 (V4 p, value) = []
+row_in Ipv6 (V6 p, value) = (p, value) ∷ []
+
+-- that of a line, if it says one
+abbrev pub said_in : Family → Option (IpCidr × List ℕ) → List (List Bool × List ℕ)
+said_in family None = []
+said_in family (Some row) = row_in family row
+
+-- the networks of a family that the lines say
+abbrev pub rows_in : Family → List (Option (IpCidr × List ℕ)) → List (List Bool × List ℕ)
+rows_in family said = flat_map (said_in family) said
+
+-- what a text says as a table: the networks of each family, each once, with the value of its last line
+abbrev pub IsTable : List ℕ → (Family → List (List Bool × List ℕ)) → Type 0
+IsTable text table = (said : List (Option (IpCidr × List ℕ))) × AllZip RowSays (lines_of text) said
+    × ((family : Family) → AreLastRows (rows_in family said) (table family))
+
+-- why the table of a file is not read: its first line in error, the file or memory
+abbrev pub IsUnreadTable : Option (List ℕ) → List ℕ → CommandError → Type 0
+IsUnreadTable told name (error.Line file number e) = (file.now ≡ name) × ((text : List ℕ) → told ≡ Some text
+    → (said : List (Option (IpCidr × List ℕ))) × AreBeforeError RowSays IsNoNetworkField text said number e)
+IsUnreadTable told name (error.Input file) = file.now ≡ name
+IsUnreadTable told name error.NoMemory = Unit {0}
+IsUnreadTable told name e = ⊥
+
+-- ---- look-ups
+-- an address, and the longest network of a table that has it, with its value, if there is one
+pub record LookUp : Type 0 where
+  pub address : IpAddr
+  pub found : Option (List Bool × List ℕ)
+
+-- the line says nothing, or an address, which was looked up in the table
+abbrev pub LineLooks : (Family → List (List Bool × List ℕ)) → List ℕ → Option LookUp → Type 0
+LineLooks table line None = IsField line []
+LineLooks table line (Some look) = (first : List ℕ) × (rest : List ℕ) × IsSplit line first rest × IsIpText first look.address
+    × IsLookedUp (λ (p : List Bool). p) (plain_bits look.address) (table (address_family look.address)) look.found
+
+-- a space in front of a value, if there is one
+abbrev pub gap : List ℕ → List ℕ
+gap [] = []
+gap (b ∷ bs) = codes " "
+
+-- an address, its network and the value of that; or - where it has no network
+abbrev pub found_line : List ℕ → Option (List ℕ × List ℕ) → List ℕ
+found_line address None = address ++ codes " -\n"
+found_line address (Some (network, value)) = address ++ (codes " " ++ (network ++ (gap value ++ (value ++ codes "\n"))))
+
+-- the network as it is printed
+abbrev pub shown : Family → List Bool × List ℕ → List ℕ × List ℕ
+shown family (p, value) = (plain_text family p, value)
+
+-- the line that is written for a line, if it has an address
+abbrev pub look_line : Option LookUp → List ℕ
+look_line None = []
+look_line (Some look) = found_line (ip_text look.address) (option_map (shown (address_family look.address)) look.found)
+
+-- whether the address has a network
+abbrev pub is_found : Option LookUp → Bool
+is_found None = false
+is_found (Some look) = is_some look.found
+
+-- yes where an address has one
+abbrev pub TellsFound : List (Option LookUp) → Verdict → Type 0
+TellsFound looks Yes = list_any is_found looks ≡ true
+TellsFound looks No = list_any is_found looks ≡ false
+
+-- the addresses of a text, looked up in the table that another text says
+abbrev pub IsLook : List ℕ → List ℕ → List ℕ → Verdict → Type 0
+IsLook rows text answer verdict = (table : Family → List (List Bool × List ℕ)) × IsTable rows table
+    × (looks : List (Option LookUp)) × AllZip (LineLooks table) (lines_of text) looks
+    × (answer ≡ flat_map look_line looks) × TellsFound looks verdict
+
+-- why no more lines of a file are looked up than these: the next one is in error or can't be read, there is no memory,
+-- or the output has failed
+abbrev pub EndsLooks : (Family → List (List Bool × List ℕ)) → List ℕ → List ℕ → List (Option LookUp) → CommandError → Type 0
+EndsLooks table name text looks (error.Line file number e) =
+    (file.now ≡ name) × AreBeforeError (LineLooks table) IsNoAddressField text looks number e
+EndsLooks table name text looks (error.Input file) = (file.now ≡ name) × AreFirst (LineLooks table) text looks
+EndsLooks table name text looks error.NoMemory = AreFirst (LineLooks table) text looks
+EndsLooks table name text looks error.Output = AreFirst (LineLooks table) text looks
+EndsLooks table name text looks e = ⊥
+
+-- the same up to there
+abbrev pub IsLookUntil : List ℕ → List ℕ → List ℕ → List ℕ → CommandError → Type 0
+IsLookUntil rows name text answer e = (table : Family → List (List Bool × List ℕ)) × IsTable rows table
+    × (looks : List (Option LookUp)) × EndsLooks table name text looks e × (answer ≡ flat_map look_line looks)

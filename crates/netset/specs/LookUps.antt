@@ -1,0 +1,149 @@
+-- What functions that read a table and look addresses up promise.
+use Rattle.std.specs.Prelude.{◌≡◌, ℕ, ◌+◌, ◌≤◌, Bool, true, false, List, [], ◌++◌, length, take, drop, map, is_some, Option, Some, None, IfSome, Result, Ok, Err}
+use Rattle.std.specs.Borrow.{Bor}
+use Rattle.std.specs.List.{AllByRecursion, AllZip, flat_map, list_any}
+use Rattle.cidr.specs.either.IpAddress.{address_family, plain_bits}
+use Rattle.cidr.specs.declared.addr.ip.IpAddr.{IpAddr}
+use Rattle.cidr.specs.declared.cidr.combined.IpCidr.{IpCidr}
+use Rattle.cidr.specs.declared.family.Family.{Family}
+use Rattle.cidr.specs.declared.family.Family.TheVariants.{Ipv4, Ipv6}
+use Rattle.cidr_io.specs.Writing.{State, Part, Answered}
+use Rattle.cidr_io.specs.declared.sink.OutputFailed.{OutputFailed}
+use Rattle.cidr_table.specs.Prefixes.{IsLookedUp}
+use Rattle.netset.specs.Collecting.{Collects}
+use Rattle.netset.specs.Lists.{lines_of}
+use Rattle.netset.specs.Look.{AreBeforeError, AreFirst, IsBadLine, IsNoAddressField, IsNoNetworkField, IsTable, IsUnreadTable, LineLooks, LookUp, RowSays, found_line, is_found, look_line, row_in, rows_in}
+use Rattle.netset.specs.declared.answers.Verdict.{Verdict}
+use Rattle.netset.specs.declared.answers.Verdict.TheVariants.{Yes, No}
+use Rattle.netset.specs.declared.errors.CommandError.{CommandError}
+use Rattle.netset.specs.declared.errors.CommandError.TheVariants as error
+use Rattle.netset.specs.declared.errors.LineError.{LineError}
+use Rattle.netset.specs.declared.errors.ReadError.{ReadError}
+use Rattle.netset.specs.declared.errors.ReadError.TheVariants.{Line, Input, NoMemory}
+use Rattle.netset.specs.declared.look.LookError.{LookError}
+use Rattle.netset.specs.declared.look.LookError.TheVariants.{Reading, Output}
+use Rattle.netset.specs.declared.rows.Rows.{Rows}
+use Rattle.netset.specs.declared.rows.Span.{Span}
+use Rattle.netset.specs.declared.table.Table.{Table}
+
+-- the bytes of a value among those of all values
+abbrev pub value_at : List ℕ → Span → List ℕ
+value_at values span = take span.len (drop span.start values)
+
+-- a row with its value
+abbrev pub resolved : {C : Type 0} → List ℕ → C × Span → C × List ℕ
+resolved values row = (row.0, value_at values row.1)
+
+-- the rows of a family
+abbrev pub stored : Rows → Family → List (List Bool × Span)
+stored rows Ipv4 = rows.v4.items
+stored rows Ipv6 = rows.v6.items
+
+-- the values of rows lie in the bytes
+abbrev pub AreWithin : List ℕ → List (List Bool × Span) → Type 0
+AreWithin values rows = AllByRecursion (λ row. row.1.start + row.1.len ≤ length values) rows
+
+-- the rows that lines say
+pub record Stores (rows : Rows) (said : List (Option (IpCidr × List ℕ))) : Type 0 where
+  pub same : (family : Family) → map (resolved rows.values.items) (stored rows family) ≡ rows_in family said
+  pub within : (family : Family) → AreWithin rows.values.items (stored rows family)
+
+-- a value comes behind those before, and its row behind those of its family
+pub record Pushes (old new : Rows) (network : IpCidr) (value : List ℕ) : Type 0 where
+  pub values : new.values.items ≡ old.values.items ++ value
+  pub rows : (family : Family) → stored new family
+      ≡ stored old family ++ row_in family (network, record { start = length old.values.items; len = length value })
+
+-- the row of a line, if it says one
+abbrev pub Adds : Rows → Rows → Option (IpCidr × List ℕ) → Type 0
+Adds old new None = new ≡ old
+Adds old new (Some (network, value)) = Pushes old new network value
+
+-- the error is that of this line, or the line is not known to have one
+abbrev pub IsErrorAt : (List ℕ → LineError → Type 0) → List ℕ → ℕ → ReadError → Type 0
+IsErrorAt IsBad line number (Line n e) = (n ≡ number) × IsBadLine IsBad line e
+IsErrorAt IsBad line number Input = Unit {0}
+IsErrorAt IsBad line number NoMemory = Unit {0}
+
+-- the row that a line says, if it says one, comes behind those before
+abbrev pub AddsRow : List ℕ → ℕ → Rows → Rows → Result (Unit {0}) ReadError → Type 0
+AddsRow line number old new (Ok _) = (said : Option (IpCidr × List ℕ)) × RowSays line said × Adds old new said
+AddsRow line number old new (Err e) = IsErrorAt IsNoNetworkField line number e
+
+-- the rows that a text says, or its first line in error, or nothing of the text where reading has stopped
+abbrev pub ReadsRows : List ℕ → Result Rows ReadError → Type 0
+ReadsRows text (Ok rows) = (said : List (Option (IpCidr × List ℕ))) × AllZip RowSays (lines_of text) said × Stores rows said
+ReadsRows text (Err (Line number e)) =
+    (said : List (Option (IpCidr × List ℕ))) × AreBeforeError RowSays IsNoNetworkField text said number e
+ReadsRows text (Err Input) = Unit {0}
+ReadsRows text (Err NoMemory) = Unit {0}
+
+-- the rows of a table, of each key one
+abbrev pub kept : Table → Family → List (List Bool × List ℕ)
+kept table Ipv4 = map (resolved table.values.items) table.v4.rows
+kept table Ipv6 = map (resolved table.values.items) table.v6.rows
+
+-- the table of a file, or why it is not read
+abbrev pub ReadsTable : Option (List ℕ) → List ℕ → Result Table CommandError → Type 0
+ReadsTable told name (Ok table) = (text : List ℕ) → told ≡ Some text → IsTable text (kept table)
+ReadsTable told name (Err e) = IsUnreadTable told name e
+
+-- an error of reading a file
+abbrev pub unread : Bor (List ℕ) → ReadError → CommandError
+unread file (Line number e) = error.Line file number e
+unread file Input = error.Input file
+unread file NoMemory = error.NoMemory
+
+-- yes where an address was found
+abbrev pub verdict_of : Bool → Verdict
+verdict_of true = Yes
+verdict_of false = No
+
+-- an address was looked up, and its line was collected, or a beginning of what is collected was written
+abbrev pub LooksUp : (Family → List (List Bool × List ℕ)) → IpAddr → State → State → List ℕ → List ℕ → Result Bool OutputFailed → Type 0
+LooksUp table address old new block rest (Ok found) = (row : Option (List Bool × List ℕ))
+    × IsLookedUp (λ (p : List Bool). p) (plain_bits address) (table (address_family address)) row
+    × Collects old new block rest (look_line (Some (record { address = address; found = row }))) (Ok tt) × (found ≡ is_some row)
+LooksUp table address old new block rest (Err e) = (row : Option (List Bool × List ℕ))
+    × IsLookedUp (λ (p : List Bool). p) (plain_bits address) (table (address_family address)) row
+    × Part old new (block ++ look_line (Some (record { address = address; found = row })))
+
+-- the line of an address and of what was found, the same way
+abbrev pub PushesFound : List ℕ → Option (List ℕ × List ℕ) → State → State → List ℕ → List ℕ → Result Bool OutputFailed → Type 0
+PushesFound address row old new block rest (Ok found) = Collects old new block rest (found_line address row) (Ok tt) × (found ≡ is_some row)
+PushesFound address row old new block rest (Err e) = Part old new (block ++ found_line address row)
+
+-- the address of a line was looked up, the same way; or the line is in error
+abbrev pub LooksLine : (Family → List (List Bool × List ℕ)) → List ℕ → ℕ → State → State → List ℕ → List ℕ → Result Bool LookError → Type 0
+LooksLine table line number old new block rest (Ok found) = (look : Option LookUp) × LineLooks table line look
+    × Collects old new block rest (look_line look) (Ok tt) × (found ≡ is_found look)
+LooksLine table line number old new block rest (Err (Reading e)) =
+    IsErrorAt IsNoAddressField line number e × Collects old new block rest [] (Ok tt)
+LooksLine table line number old new block rest (Err Output) =
+    (look : Option LookUp) × LineLooks table line look × Part old new (block ++ look_line look)
+
+-- why no more lines are read
+abbrev pub EndsReading : (Family → List (List Bool × List ℕ)) → List ℕ → List (Option LookUp) → ReadError → Type 0
+EndsReading table text looks (Line number e) = AreBeforeError (LineLooks table) IsNoAddressField text looks number e
+EndsReading table text looks Input = AreFirst (LineLooks table) text looks
+EndsReading table text looks NoMemory = AreFirst (LineLooks table) text looks
+
+-- the addresses of a text were looked up, and their lines collected, to the end or to an error
+abbrev pub LooksLines : (Family → List (List Bool × List ℕ)) → Option (List ℕ) → State → State → List ℕ → List ℕ → Result Bool LookError → Type 0
+LooksLines table told old new block rest (Ok found) = (looks : List (Option LookUp))
+    × Collects old new block rest (flat_map look_line looks) (Ok tt) × (found ≡ list_any is_found looks)
+    × IfSome told (λ text. AllZip (LineLooks table) (lines_of text) looks)
+LooksLines table told old new block rest (Err (Reading e)) = (looks : List (Option LookUp))
+    × Collects old new block rest (flat_map look_line looks) (Ok tt) × IfSome told (λ text. EndsReading table text looks e)
+LooksLines table told old new block rest (Err Output) = (looks : List (Option LookUp))
+    × Part old new (block ++ flat_map look_line looks) × IfSome told (λ text. AreFirst (LineLooks table) text looks)
+
+-- the same, and the lines were written
+abbrev pub LooksAll : (Family → List (List Bool × List ℕ)) → Option (List ℕ) → State → State → Result Bool LookError → Type 0
+LooksAll table told old new (Ok found) = (looks : List (Option LookUp))
+    × Answered old new (flat_map look_line looks) (Ok tt) × (found ≡ list_any is_found looks)
+    × IfSome told (λ text. AllZip (LineLooks table) (lines_of text) looks)
+LooksAll table told old new (Err (Reading e)) = (looks : List (Option LookUp))
+    × Answered old new (flat_map look_line looks) (Ok tt) × IfSome told (λ text. EndsReading table text looks e)
+LooksAll table told old new (Err Output) = (looks : List (Option LookUp)) × (failed : OutputFailed)
+    × Answered old new (flat_map look_line looks) (Err failed) × IfSome told (λ text. AreFirst (LineLooks table) text looks)

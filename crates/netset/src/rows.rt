@@ -1,0 +1,106 @@
+//! Reading the rows of a table: networks with a value each.
+ghost use Rattle.std.specs.Prelude.{◌≡◌, [], IfSome, OnOk};
+ghost use Rattle.netset.specs.LookUps.{AddsRow, Pushes, ReadsRows, value_at};
+
+use crate::columns::{network_in, split_line};
+use crate::errors::ReadError;
+use crate::lines::next_line;
+use cidr::{IpCidr, Ipv4Cidr, Ipv6Cidr};
+use std::alloc::{AllocError, Global};
+use std::io::{BufRead, BufReader, Read};
+
+/// Where a value stands among the bytes of all values.
+#[derive(Clone, Copy, Debug, Drop, PartialEq)]
+pub struct Span {
+    pub start: usize,
+    pub len: usize,
+}
+
+/// The bytes of a value.
+pub fn value_of(values: &[u8], span: Span) -> &[u8]
+    ensures { result.now ≡ value_at values.now span }
+{
+    let Some((_, behind)) = values.split_at_checked(span.start) else {
+        return &[];
+    };
+    let Some((value, _)) = behind.split_at_checked(span.len) else {
+        return behind;
+    };
+    value
+}
+
+/// The networks of each family, each with the span of its value, and the bytes of all values.
+#[derive(Drop)]
+pub struct Rows {
+    pub v4: Vec<(Ipv4Cidr, Span)>,
+    pub v6: Vec<(Ipv6Cidr, Span)>,
+    pub values: Vec<u8>,
+}
+
+impl Rows {
+    /// No rows.
+    fn new(alloc: Global) -> Rows
+        ensures v4 { result.v4.items ≡ [] }
+        ensures v6 { result.v6.items ≡ [] }
+    {
+        Rows {
+            v4: Vec::new(alloc),
+            v6: Vec::new(alloc),
+            values: Vec::new(alloc),
+        }
+    }
+
+    /// Adds a network with its value to those of its family.
+    fn push(&mut self, network: &IpCidr, value: &[u8]) -> Result<(), AllocError>
+        ensures { OnOk result (Pushes self.old self.new network.now value.now) }
+    {
+        let span = Span {
+            start: self.values.len(),
+            len: value.len(),
+        };
+        self.values.extend_from_slice(value)?;
+        match network {
+            IpCidr::V4(network) => self.v4.push((*network, span))?,
+            IpCidr::V6(network) => self.v6.push((*network, span))?,
+        }
+        Ok(())
+    }
+
+    /// Adds the network and the value that a line says, if it says them.
+    fn add_line(&mut self, number: u64, line: &[u8]) -> Result<(), ReadError>
+        ensures { AddsRow line.now number self.old self.new result }
+    {
+        let Some((first, value)) = split_line(line) else {
+            return Ok(());
+        };
+        match network_in(first) {
+            Ok(network) => self.push(&network, value)?,
+            Err(e) => return Err(ReadError::Line(number, e)),
+        }
+        Ok(())
+    }
+}
+
+/// Reads the rows of a table to its end or to its first line in error.
+fn read_lines<R: BufRead>(alloc: Global, reader: &mut R) -> Result<Rows, ReadError>
+    ensures { IfSome (R.Read.remaining reader.old) (λ text. ReadsRows text result) }
+{
+    let mut rows = Rows::new(alloc);
+    let mut line = Vec::new(alloc);
+    for number in 1..u64::MAX {
+        let has_more = next_line(reader, &mut line)?;
+        rows.add_line(number, line.as_slice())?;
+        if !has_more {
+            return Ok(rows);
+        }
+    }
+    Err(ReadError::Input)
+}
+
+/// Reads the rows of a table in blocks, to its end or to its first line in error.
+pub fn read_rows<R: Read + Drop>(alloc: Global, reader: R) -> Result<Rows, ReadError>
+    ensures { IfSome (R.remaining reader) (λ text. ReadsRows text result) }
+{
+    let mut reader = BufReader::new(alloc, reader)?;
+    read_lines(alloc, &mut reader)
+}
