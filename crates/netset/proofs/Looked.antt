@@ -19,11 +19,11 @@ use Rattle.cidr_table.specs.Prefixes.{IsLookedUp}
 use Rattle.netset.specs.Collecting.{Collects}
 use Rattle.netset.specs.Commands.{Look}
 use Rattle.netset.specs.Lists.{lines_of}
-use Rattle.netset.specs.Look.{AreFirst, EndsLooks, IsNoAddressField, IsSplit, IsTable, LineLooks, LookUp, TellsFound, found_line, gap, is_found, look_line, shown}
-use Rattle.netset.specs.LookUps.{EndsReading, IsErrorAt, LooksAll, LooksLine, LooksLines, LooksUp, PushesFound, ReadsTable, kept, resolved, unread, value_at, verdict_of}
+use Rattle.netset.specs.Look.{IsBadLine, IsNoAddressField, IsSplit, LineLooks, LookUp, TellsFound, found_line, gap, is_found, look_line, shown}
+use Rattle.netset.specs.LookUps.{AreFirst, EndsReading, IsErrorAt, LooksAll, LooksLine, LooksLines, LooksUp, PushesFound, ReadsTable, kept, resolved, unread, value_at, verdict_of}
 use Rattle.netset.specs.Program.{AnswersRequest}
 use Rattle.netset.specs.Reading.{IsNextLine, IsStopped}
-use Rattle.netset.specs.declared.errors.CommandError.{CommandError}
+use Rattle.netset.specs.Streaming.{IsCut, IsOfFile}
 use Rattle.netset.specs.declared.errors.CommandError.TheVariants as error
 use Rattle.netset.specs.declared.errors.ReadError.{ReadError}
 use Rattle.netset.specs.declared.errors.ReadError.TheVariants.{Line, Input, NoMemory}
@@ -33,7 +33,7 @@ use Rattle.netset.specs.declared.rows.Span.{Span}
 use Rattle.netset.specs.declared.table.Table.{Table}
 use Rattle.netset.proofs.Collected.{collected_more, none_collected}
 use Rattle.netset.proofs.Resolved.{looked_up_mapped}
-use Rattle.netset.proofs.Passed.{Passed, none_passed, one_passed, all_passed, error_passed, first_passed, one_more_passed, all_first}
+use Rattle.netset.proofs.Passed.{Passed, none_passed, one_passed, all_passed, error_passed, first_passed, one_more_passed, all_first, cut_before, cut_behind}
 
 abbrev pub failing : LookError → Result Bool LookError
 failing e = Err e
@@ -340,15 +340,22 @@ module _ (told : List ℕ → Option (List ℕ)) (rows : List ℕ) (file : Bor (
     refl,
   ))
 
-  ends_as : (text : List ℕ) (looks : List (Option LookUp)) (e : ReadError) → EndsReading (kept table) text looks e → EndsLooks (kept table) file.now text looks (unread file e)
-  ends_as text looks (Line number e) h = (refl, h)
-  ends_as text looks Input h = (refl, h)
-  ends_as text looks NoMemory h = h
+  of_file : (e : ReadError) → IsOfFile file.now (unread file e)
+  of_file (Line number e) = refl
+  of_file Input = refl
+  of_file NoMemory = tt
+
+  ends_as : (text : List ℕ) (looks : List (Option LookUp)) (e : ReadError) → EndsReading (kept table) text looks e
+      → IsCut (AllZip (LineLooks (kept table))) (IsBadLine IsNoAddressField) (lines_of text) looks (unread file e)
+  ends_as text looks (Line number e) h = cut_before (LineLooks (kept table)) IsNoAddressField text looks number e file h
+  ends_as text looks Input h = cut_behind (LineLooks (kept table)) IsNoAddressField text looks (error.Input file) (λ _ _. tt) h
+  ends_as text looks NoMemory h = cut_behind (LineLooks (kept table)) IsNoAddressField text looks error.NoMemory (λ _ _. tt) h
 
   pub ended_early : (e : ReadError) → LooksAll (kept table) left s t (Err (Reading e)) → AnswersRequest told (Look rows file.now) s t (Err (unread file e))
   ended_early e (looks, written, ends) = inr (
-    flat_map look_line looks,
     unread file e,
+    of_file e,
+    flat_map look_line looks,
     Ok tt,
     λ first second is at. (kept table, reads first is, looks, ends_as second looks e (told_looks (λ text. EndsReading (kept table) text looks e) left second (opens second at) ends), refl),
     written,
@@ -357,10 +364,13 @@ module _ (told : List ℕ → Option (List ℕ)) (rows : List ℕ) (file : Bor (
 
   pub output_failed : LooksAll (kept table) left s t (Err Output) → AnswersRequest told (Look rows file.now) s t (Err error.Output)
   output_failed (looks, f, written, ends) = inr (
-    flat_map look_line looks,
     error.Output,
+    tt,
+    flat_map look_line looks,
     Err f,
-    λ first second is at. (kept table, reads first is, looks, told_looks (λ text. AreFirst (LineLooks (kept table)) text looks) left second (opens second at) ends, refl),
+    λ first second is at.
+        let first_lines = told_looks (λ text. AreFirst (LineLooks (kept table)) text looks) left second (opens second at) ends in
+        (kept table, reads first is, looks, cut_behind (LineLooks (kept table)) IsNoAddressField second looks error.Output (λ _ _. tt) first_lines, refl),
     written,
     refl,
   )

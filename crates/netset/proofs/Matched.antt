@@ -22,12 +22,12 @@ use Rattle.netset.specs.Collecting.{Collects}
 use Rattle.netset.specs.Commands.{Match, Says}
 use Rattle.netset.specs.Gathering.{Finishes, IsCounted, IsDone, IsLost, IsUnreadable, Streams, TakesPart, lines_of_part, rest_written}
 use Rattle.netset.specs.Lists.{is_line_feed, lines_of}
-use Rattle.netset.specs.Matching.{ArePicked, ArePickedBy, FieldSays, IsEnough, IsMatch, LiesIn, Picks, ReadTo, all_written, has, last_line, line_written, lines_among, lines_in, written_of}
+use Rattle.netset.specs.Matching.{ArePicked, ArePickedBy, FieldSays, IsBadField, IsCutAt, IsEnough, IsMatch, LiesIn, Picks, all_written, has, last_line, line_written, lines_among, lines_in, written_of}
 use Rattle.netset.specs.Printing.{Holds}
 use Rattle.netset.specs.Program.{AnswersRequest}
 use Rattle.netset.specs.Reading.{IsNextLine}
 use Rattle.netset.specs.Sets.{Held}
-use Rattle.netset.specs.Streaming.{IsCutAt, IsStop}
+use Rattle.netset.specs.Streaming.{IsStop, ReadTo}
 use Rattle.netset.specs.declared.answers.Verdict.{Verdict}
 use Rattle.netset.specs.declared.answers.Verdict.TheVariants.{Yes, No}
 use Rattle.netset.specs.declared.errors.CommandError.{CommandError}
@@ -198,7 +198,7 @@ module _ (P : List ℕ → Bool → Type 0) (what : Written) where
   pub record Reached (text : List ℕ) (next : Option (List ℕ)) (number : ℕ) (more : Bool) (picked : List (List ℕ)) : Type 0 where
     pub read : List (List ℕ)
     pub after : List (List ℕ)
-    pub to : ReadTo P text read after picked
+    pub to : ReadTo (ArePicked P) (lines_in text) read after picked
     pub over : more ≡ false → after ≡ []
     pub on : more ≡ true → Passed text next (number + 1) picked
 
@@ -321,11 +321,11 @@ module _ (P : List ℕ → Bool → Type 0) (what : Written) where
 
   -- ---- a file that is not read to its end
   cut_here : (known left : Option (List ℕ)) (number : ℕ) (picked : List (List ℕ)) (e : CommandError)
-      → ((read after : List (List ℕ)) → IsStop read after e) → IfSome known (λ text. Passed text left number picked)
+      → ((read after : List (List ℕ)) → IsStop IsBadField read after e) → IfSome known (λ text. Passed text left number picked)
       → IfSome known (λ text. IsCutAt P what text (flat_map (line_written what) picked) e)
   cut_here None left number picked e stops p = tt
   cut_here (Some text) left number picked e stops p =
-      (p.read, lines_in p.rest, picked, record { lines = p.lines; are = p.are }, stops p.read (lines_in p.rest), refl)
+      (picked, (p.read, lines_in p.rest, record { lines = p.lines; are = p.are }, stops p.read (lines_in p.rest)), refl)
 
   pub unread : (file : List ℕ) (known left : Option (List ℕ)) (s t : State) (number count : ℕ) (block : List ℕ) (e : CommandError) → IsUnreadable file e
       → Streamed known left s t number count block → Streams P what file known s t (Err e)
@@ -363,36 +363,40 @@ module _ (P : List ℕ → Bool → Type 0) (what : Written) where
 
   cut_at_line : (known left next : Option (List ℕ)) (number : ℕ) (part : List ℕ) (more : Bool) (picked : List (List ℕ)) (e : CommandError)
       → lines_of_part part more ≡ part ∷ [] → IfSome left (λ text. IsNextLine text part more next) → IfSome known (λ text. Passed text left number picked)
-      → ((read after : List (List ℕ)) → number ≡ length read + 1 → IsStop read (part ∷ after) e)
+      → ((read after : List (List ℕ)) → number ≡ length read + 1 → IsStop IsBadField read (part ∷ after) e)
       → IfSome known (λ text. IsCutAt P what text (flat_map (line_written what) picked) e)
   cut_at_line None left next number part more picked e one n p stops = tt
   cut_at_line (Some text) left next number part more picked e one n p stops =
       let (after, lines, over, on) = part_read p.rest part more next (rw p.known at n) in
       let here : lines_in p.rest ≡ part ∷ after = lines ∙ ap (λ (z : List (List ℕ)). z ++ after) one in (
-        p.read,
-        part ∷ after,
         picked,
-        record { lines = p.lines ∙ ap (λ (z : List (List ℕ)). p.read ++ z) here; are = p.are },
-        stops p.read after p.place,
+        (
+          p.read,
+          part ∷ after,
+          record { lines = p.lines ∙ ap (λ (z : List (List ℕ)). p.read ++ z) here; are = p.are },
+          stops p.read after p.place,
+        ),
         refl,
       )
 
   cut_behind : (known left next : Option (List ℕ)) (number : ℕ) (part : List ℕ) (more : Bool) (picked : List (List ℕ)) (e : CommandError)
-      → lines_of_part part more ≡ part ∷ [] → P part true → ((read after : List (List ℕ)) → IsStop read after e)
+      → lines_of_part part more ≡ part ∷ [] → P part true → ((read after : List (List ℕ)) → IsStop IsBadField read after e)
       → IfSome left (λ text. IsNextLine text part more next) → IfSome known (λ text. Passed text left number picked)
       → IfSome known (λ text. IsCutAt P what text (flat_map (line_written what) (picked ++ part ∷ [])) e)
   cut_behind None left next number part more picked e one h stops n p = tt
   cut_behind (Some text) left next number part more picked e one h stops n p =
       let (after, lines, over, on) = part_read p.rest part more next (rw p.known at n) in
       let here : lines_in p.rest ≡ part ∷ after = lines ∙ ap (λ (z : List (List ℕ)). z ++ after) one in (
-        p.read ++ part ∷ [],
-        after,
         picked ++ part ∷ [],
-        record {
-          lines = p.lines ∙ (ap (λ (z : List (List ℕ)). p.read ++ z) here ∙ sym (append_assoc p.read (part ∷ []) after));
-          are = picked_both P p.read (part ∷ []) picked (part ∷ []) p.are (one_picked P part h);
-        },
-        stops (p.read ++ part ∷ []) after,
+        (
+          p.read ++ part ∷ [],
+          after,
+          record {
+            lines = p.lines ∙ (ap (λ (z : List (List ℕ)). p.read ++ z) here ∙ sym (append_assoc p.read (part ∷ []) after));
+            are = picked_both P p.read (part ∷ []) picked (part ∷ []) p.are (one_picked P part h);
+          },
+          stops (p.read ++ part ∷ []) after,
+        ),
         refl,
       )
 
@@ -456,8 +460,9 @@ known_match P Q f what known text answer verdict is h =
 known_cut : (P Q : List ℕ → Bool → Type 0) → ((line : List ℕ) (b : Bool) → P line b → Q line b) → (what : Written) (known : Option (List ℕ)) (text answer : List ℕ) (e : CommandError)
     → known ≡ Some text → IfSome known (λ k. IsCutAt P what k answer e) → IsCutAt Q what text answer e
 known_cut P Q f what known text answer e is h =
-    let (read, left, picked, to, stops, written) = (rw is at h) in
-    (read, left, picked, record { lines = to.lines; are = picked_same P Q f read picked to.are }, stops, written)
+    let (picked, cut, written) = (rw is at h) in
+    let (read, left, to, stops) = cut in
+    (picked, (read, left, record { lines = to.lines; are = picked_same P Q f read picked to.are }, stops), written)
 
 pub matched : (told : List ℕ → Option (List ℕ)) (options : List (List ℕ)) (list file : List ℕ) (sets : Sets) (known : Option (List ℕ)) (s t : State) (r : Result Verdict CommandError)
     → ReadsFile (told list) list (Ok sets) → ((text : List ℕ) → told file ≡ Some text → known ≡ Some text)

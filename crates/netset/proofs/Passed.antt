@@ -1,10 +1,14 @@
 -- How far a text has been read, whatever its lines say.
-use Rattle.std.proofs.Common.{◌≡◌, refl, sym, ◌∙◌, ap, ℕ, ◌+◌, Bool, true, false, List, [], ◌∷◌, ◌++◌, length, arith, Option, Some, None, append_assoc, append-nil, length-append}
+use Rattle.std.proofs.Common.{◌≡◌, refl, sym, ◌∙◌, ap, ℕ, ◌+◌, Bor, Bool, true, false, List, [], ◌∷◌, ◌++◌, length, arith, Option, Some, append_assoc, append-nil, length-append}
 use Rattle.std.specs.Option.{IfSome}
 use Rattle.std.specs.List.{AllZip}
 use Rattle.netset.specs.Lists.{lines_of}
-use Rattle.netset.specs.Look.{AreBeforeError, AreFirst, IsBadLine}
+use Rattle.netset.specs.Look.{IsBadLine}
+use Rattle.netset.specs.LookUps.{AreBeforeError, AreFirst}
 use Rattle.netset.specs.Reading.{IsNextLine}
+use Rattle.netset.specs.Streaming.{IsCut, IsStop}
+use Rattle.netset.specs.declared.errors.CommandError.{CommandError}
+use Rattle.netset.specs.declared.errors.CommandError.TheVariants as error
 use Rattle.netset.specs.declared.errors.LineError.{LineError}
 use Rattle.netset.proofs.Progress.{first_of_more}
 use Rattle.netset.proofs.Zips.{zip_behind}
@@ -78,6 +82,21 @@ module _ {S : Type 0} (Says : List ℕ → S → Type 0) where
         lines = p.lines ∙ (ap (λ k. p.before ++ k) lines ∙ sym (append_assoc p.before (line ∷ []) after));
         fine = zip_behind Says p.before said line one p.fine s;
       }
+
+  -- the same up to the lines that are left, and why they are
+  pub cut_before : (IsBad : List ℕ → LineError → Type 0) (text : List ℕ) (said : List S) (number : ℕ) (e : LineError) (file : Bor (List ℕ))
+      → AreBeforeError Says IsBad text said number e → IsCut (AllZip Says) (IsBadLine IsBad) (lines_of text) said (error.Line file number e)
+  cut_before IsBad text said number e file h = (
+    h.before,
+    h.line ∷ h.after,
+    record { lines = h.lines; are = h.fine },
+    (h.place, h.line, h.after, refl, h.fault),
+  )
+
+  pub cut_behind : (IsBad : List ℕ → LineError → Type 0) (text : List ℕ) (said : List S) (e : CommandError)
+      → ((read left : List (List ℕ)) → IsStop (IsBadLine IsBad) read left e) → AreFirst Says text said
+      → IsCut (AllZip Says) (IsBadLine IsBad) (lines_of text) said e
+  cut_behind IsBad text said e stops h = (h.before, h.after, record { lines = h.lines; are = h.fine }, stops h.before h.after)
 
   -- all lines are the first ones
   pub all_first : (text : List ℕ) (said : List S) → AllZip Says (lines_of text) said → AreFirst Says text said

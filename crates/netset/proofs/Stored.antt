@@ -1,7 +1,6 @@
 -- The rows of a table as they are read.
 use Rattle.std.proofs.Common.{◌≡◌, refl, sym, ◌∙◌, ap, ap₂, subst, ℕ, ◌+◌, ◌≤◌, Bool, true, false, List, [], ◌∷◌, ◌++◌, length, take, drop, map, arith, Bor, Option, Some, None, Result, Ok, Err, append-nil, length-append, length-drop, le_refl}
 use Rattle.std.specs.Option.{IfSome}
-use Rattle.std.specs.List.{AllZip, flat_map}
 use Rattle.std.proofs.lemmas.List.{drop-append-le, take-append-le, drop_at, take_all, map-append, flat_map_more}
 use Rattle.cidr.specs.declared.cidr.combined.IpCidr.{IpCidr}
 use Rattle.cidr.specs.declared.cidr.combined.IpCidr.TheVariants.{V4, V6}
@@ -9,17 +8,16 @@ use Rattle.cidr.specs.declared.family.Family.{Family}
 use Rattle.cidr.specs.declared.family.Family.TheVariants.{Ipv4, Ipv6}
 use Rattle.cidr_table.specs.FiniteMap.{StoredRows}
 use Rattle.cidr_table.specs.LastRows.{AreLastRows}
-use Rattle.netset.specs.Look.{IsNoNetworkField, IsTable, IsUnreadTable, RowSays, row_in, rows_in, said_in}
-use Rattle.netset.specs.LookUps.{Adds, AreWithin, IsErrorAt, Pushes, ReadsRows, ReadsTable, Stores, kept, resolved, stored, unread, value_at}
+use Rattle.netset.specs.Look.{IsNoNetworkField, IsUnreadTable, RowSays, row_in, rows_in, said_in}
+use Rattle.netset.specs.LookUps.{Adds, AreWithin, IsErrorAt, ReadsRows, ReadsTable, Stores, kept, resolved, stored, unread, value_at}
 use Rattle.netset.specs.Reading.{IsNextLine, IsStopped}
-use Rattle.netset.specs.declared.errors.CommandError.{CommandError}
 use Rattle.netset.specs.declared.errors.ReadError.{ReadError}
 use Rattle.netset.specs.declared.errors.ReadError.TheVariants.{Line, Input, NoMemory}
 use Rattle.netset.specs.declared.rows.Rows.{Rows}
 use Rattle.netset.specs.declared.rows.Span.{Span}
 use Rattle.netset.specs.declared.table.Table.{Table}
 use Rattle.netset.proofs.Resolved.{last_rows_mapped}
-use Rattle.netset.proofs.Passed.{Passed, none_passed, one_passed, all_passed, error_passed}
+use Rattle.netset.proofs.Passed.{Passed, none_passed, one_passed, all_passed, cut_before, error_passed}
 
 -- ---- values
 value_kept : (values more : List ℕ) (span : Span) → span.start + span.len ≤ length values → value_at (values ++ more) span ≡ value_at values span
@@ -173,6 +171,11 @@ table_read told left name rows table opens reads last = λ text is.
 
 pub table_unread : (told left : Option (List ℕ)) (file : Bor (List ℕ)) (e : ReadError) → ((text : List ℕ) → told ≡ Some text → left ≡ Some text)
     → IfSome left (λ text. ReadsRows text (Err e)) → IsUnreadTable told file.now (unread file e)
-table_unread told left file (Line number e) opens reads = (refl, λ text is. told_rows left text (Err (Line number e)) (opens text is) reads)
+table_unread told left file (Line number e) opens reads = (
+  refl,
+  λ text is.
+      let (said, first) = told_rows left text (Err (Line number e)) (opens text is) reads in
+      (said, cut_before RowSays IsNoNetworkField text said number e file first),
+)
 table_unread told left file Input opens reads = refl
 table_unread told left file NoMemory opens reads = tt

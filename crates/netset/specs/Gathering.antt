@@ -5,10 +5,10 @@ use Rattle.cidr.specs.declared.cidr.combined.IpCidr.{IpCidr}
 use Rattle.cidr_io.specs.Writing.{State, Part, Writes, Answered}
 use Rattle.cidr_io.specs.declared.sink.OutputFailed.{OutputFailed}
 use Rattle.netset.specs.Collecting.{Collects}
-use Rattle.netset.specs.Matching.{ArePicked, FieldSays, IsBadField, IsMatch, last_line, line_written}
+use Rattle.netset.specs.Matching.{ArePicked, FieldSays, IsBadField, IsCutAt, IsMatch, last_line, line_written}
 use Rattle.netset.specs.Printing.{line}
 use Rattle.netset.specs.Program.{by_output}
-use Rattle.netset.specs.Streaming.{IsBegun, IsCutAt, IsOfFile}
+use Rattle.netset.specs.Streaming.{IsBegun, IsOfFile}
 use Rattle.netset.specs.declared.answers.Verdict.{Verdict}
 use Rattle.netset.specs.declared.answers.Verdict.TheVariants.{Yes, No}
 use Rattle.netset.specs.declared.errors.CommandError.{CommandError}

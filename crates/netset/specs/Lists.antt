@@ -2,8 +2,9 @@
 -- around it, and a comment behind it from # or ; on. Line feeds separate lines, so that a last one makes an empty line,
 -- which says nothing.
 use Rattle.std.specs.Prelude.{◌≡◌, ◌≢◌, ◌⊎◌, ℕ, ◌+◌, ◌==◌, Bool, ◌||◌, List, [], ◌∷◌, ◌++◌, length, map, IsUtf8}
+use Rattle.std.specs.Char.{is_ascii_whitespace}
 use Rattle.std.specs.List.{AllZip, slice_split, before_first, flat_map}
-use Rattle.std.specs.Str.{IsTrimAscii}
+use Rattle.std.specs.Str.{IsTrimAscii, IsTrimAsciiStart}
 use Rattle.std.specs.declared.cmp.Ordering.TheVariants.{Greater}
 use Rattle.cidr.specs.either.IpAddress.{IsIpText, address_family, ip_address_bits}
 use Rattle.cidr.specs.either.IpText.{IsIpNetworkText, IsIpRefused}
@@ -42,6 +43,11 @@ lines_of text = slice_split is_line_feed text
 -- the line without a comment and without ASCII white space at both ends, the carriage return of CRLF among it
 abbrev pub IsField : List ℕ → List ℕ → Type 0
 IsField line field = IsTrimAscii (before_first is_comment_sign line) field
+
+-- what stands before the first ASCII white space, behind white space at the front: `match` takes it of a line as it
+-- stands, so that a comment sign may be in it, and `look` of a line without its comment
+abbrev pub IsFirstField : List ℕ → List ℕ → Type 0
+IsFirstField bytes field = (rest : List ℕ) × IsTrimAsciiStart bytes rest × (field ≡ before_first is_ascii_whitespace rest)
 
 -- ---- what a line says
 -- the string is these two addresses with a hyphen between them

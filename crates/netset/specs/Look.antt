@@ -1,8 +1,7 @@
 -- The longest network of a table that an address is in, and the value of that. A line of a table is a network or an
 -- address and, behind white space, its value: the rest of the line. A line that is looked up begins with an address.
-use Rattle.std.specs.Prelude.{◌≡◌, ◌≢◌, ℕ, ◌+◌, Bool, true, false, List, [], ◌∷◌, ◌++◌, length, drop, codes, is_some, Option, Some, None, option_map, IsUtf8}
-use Rattle.std.specs.Char.{is_ascii_whitespace}
-use Rattle.std.specs.List.{AllZip, before_first, flat_map, list_any}
+use Rattle.std.specs.Prelude.{◌≡◌, ◌≢◌, ℕ, Bool, true, false, List, [], ◌∷◌, ◌++◌, length, drop, codes, is_some, Option, Some, None, option_map, IsUtf8}
+use Rattle.std.specs.List.{AllZip, flat_map, list_any}
 use Rattle.std.specs.Str.{IsTrimAscii}
 use Rattle.cidr.specs.either.IpAddress.{IsIpText, address_family, plain_bits}
 use Rattle.cidr.specs.either.IpText.{IsIpNetworkText, IsIpRefused}
@@ -16,7 +15,8 @@ use Rattle.cidr.specs.declared.family.Family.{Family}
 use Rattle.cidr.specs.declared.family.Family.TheVariants.{Ipv4, Ipv6}
 use Rattle.cidr_table.specs.LastRows.{AreLastRows}
 use Rattle.cidr_table.specs.Prefixes.{IsLookedUp}
-use Rattle.netset.specs.Lists.{IsField, IsNoAddress, lines_of}
+use Rattle.netset.specs.Lists.{IsField, IsFirstField, IsNoAddress, lines_of}
+use Rattle.netset.specs.Streaming.{IsCut}
 use Rattle.netset.specs.declared.answers.Verdict.{Verdict}
 use Rattle.netset.specs.declared.answers.Verdict.TheVariants.{Yes, No}
 use Rattle.netset.specs.declared.errors.CommandError.{CommandError}
@@ -28,7 +28,7 @@ use Rattle.netset.specs.declared.errors.LineError.TheVariants.{NotUtf8, NoNetwor
 -- the first field of a line that isn't blank, up to white space, and the rest without white space at both ends
 abbrev pub IsSplit : List ℕ → List ℕ → List ℕ → Type 0
 IsSplit line first rest = (field : List ℕ) × IsField line field × (field ≢ [])
-    × (first ≡ before_first is_ascii_whitespace field) × IsTrimAscii (drop (length first) field) rest
+    × IsFirstField field first × IsTrimAscii (drop (length first) field) rest
 
 -- the first field is no network, and this is the error
 abbrev pub IsNoNetworkField : List ℕ → LineError → Type 0
@@ -45,24 +45,6 @@ IsNoAddressField first e = ⊥
 -- the line is in error by its first field
 abbrev pub IsBadLine : (List ℕ → LineError → Type 0) → List ℕ → LineError → Type 0
 IsBadLine IsBad line e = (first : List ℕ) × (rest : List ℕ) × IsSplit line first rest × IsBad first e
-
--- this is what the first lines of a text say
-pub record AreFirst {S : Type 0} (Says : List ℕ → S → Type 0) (text : List ℕ) (said : List S) : Type 0 where
-  pub before : List (List ℕ)
-  pub after : List (List ℕ)
-  pub lines : lines_of text ≡ before ++ after
-  pub fine : AllZip Says before said
-
--- the same of the lines before the first line in error, by its number from 1 on
-pub record AreBeforeError {S : Type 0} (Says : List ℕ → S → Type 0) (IsBad : List ℕ → LineError → Type 0) (text : List ℕ) (said : List S)
-    (number : ℕ) (e : LineError) : Type 0 where
-  pub before : List (List ℕ)
-  pub line : List ℕ
-  pub after : List (List ℕ)
-  pub lines : lines_of text ≡ before ++ line ∷ after
-  pub place : number ≡ length before + 1
-  pub fine : AllZip Says before said
-  pub fault : IsBadLine IsBad line e
 
 -- ---- a table
 -- the line of a table says nothing, or a network and its value
@@ -94,7 +76,8 @@ IsTable text table = (said : List (Option (IpCidr × List ℕ))) × AllZip RowSa
 -- why the table of a file is not read: its first line in error, the file or memory
 abbrev pub IsUnreadTable : Option (List ℕ) → List ℕ → CommandError → Type 0
 IsUnreadTable told name (error.Line file number e) = (file.now ≡ name) × ((text : List ℕ) → told ≡ Some text
-    → (said : List (Option (IpCidr × List ℕ))) × AreBeforeError RowSays IsNoNetworkField text said number e)
+    → (said : List (Option (IpCidr × List ℕ)))
+    × IsCut (AllZip RowSays) (IsBadLine IsNoNetworkField) (lines_of text) said (error.Line file number e))
 IsUnreadTable told name (error.Input file) = file.now ≡ name
 IsUnreadTable told name error.NoMemory = Unit {0}
 IsUnreadTable told name e = ⊥
@@ -146,17 +129,7 @@ IsLook rows text answer verdict = (table : Family → List (List Bool × List �
     × (looks : List (Option LookUp)) × AllZip (LineLooks table) (lines_of text) looks
     × (answer ≡ flat_map look_line looks) × TellsFound looks verdict
 
--- why no more lines of a file are looked up than these: the next one is in error or can't be read, there is no memory,
--- or the output has failed
-abbrev pub EndsLooks : (Family → List (List Bool × List ℕ)) → List ℕ → List ℕ → List (Option LookUp) → CommandError → Type 0
-EndsLooks table name text looks (error.Line file number e) =
-    (file.now ≡ name) × AreBeforeError (LineLooks table) IsNoAddressField text looks number e
-EndsLooks table name text looks (error.Input file) = (file.now ≡ name) × AreFirst (LineLooks table) text looks
-EndsLooks table name text looks error.NoMemory = AreFirst (LineLooks table) text looks
-EndsLooks table name text looks error.Output = AreFirst (LineLooks table) text looks
-EndsLooks table name text looks e = ⊥
-
--- the same up to there
-abbrev pub IsLookUntil : List ℕ → List ℕ → List ℕ → List ℕ → CommandError → Type 0
-IsLookUntil rows name text answer e = (table : Family → List (List Bool × List ℕ)) × IsTable rows table
-    × (looks : List (Option LookUp)) × EndsLooks table name text looks e × (answer ≡ flat_map look_line looks)
+-- the same of the lines that were read, where the text was not read to its end, for this reason
+abbrev pub IsLookUntil : List ℕ → List ℕ → List ℕ → CommandError → Type 0
+IsLookUntil rows text answer e = (table : Family → List (List Bool × List ℕ)) × IsTable rows table × (looks : List (Option LookUp))
+    × IsCut (AllZip (LineLooks table)) (IsBadLine IsNoAddressField) (lines_of text) looks e × (answer ≡ flat_map look_line looks)

@@ -1,5 +1,5 @@
 -- What functions that read a table and look addresses up promise.
-use Rattle.std.specs.Prelude.{◌≡◌, ℕ, ◌+◌, ◌≤◌, Bool, true, false, List, [], ◌++◌, length, take, drop, map, is_some, Option, Some, None, IfSome, Result, Ok, Err}
+use Rattle.std.specs.Prelude.{◌≡◌, ℕ, ◌+◌, ◌≤◌, Bool, true, false, List, [], ◌∷◌, ◌++◌, length, take, drop, map, is_some, Option, Some, None, IfSome, Result, Ok, Err}
 use Rattle.std.specs.Borrow.{Bor}
 use Rattle.std.specs.List.{AllByRecursion, AllZip, flat_map, list_any}
 use Rattle.cidr.specs.either.IpAddress.{address_family, plain_bits}
@@ -12,7 +12,7 @@ use Rattle.cidr_io.specs.declared.sink.OutputFailed.{OutputFailed}
 use Rattle.cidr_table.specs.Prefixes.{IsLookedUp}
 use Rattle.netset.specs.Collecting.{Collects}
 use Rattle.netset.specs.Lists.{lines_of}
-use Rattle.netset.specs.Look.{AreBeforeError, AreFirst, IsBadLine, IsNoAddressField, IsNoNetworkField, IsTable, IsUnreadTable, LineLooks, LookUp, RowSays, found_line, is_found, look_line, row_in, rows_in}
+use Rattle.netset.specs.Look.{IsBadLine, IsNoAddressField, IsNoNetworkField, IsTable, IsUnreadTable, LineLooks, LookUp, RowSays, found_line, is_found, look_line, row_in, rows_in}
 use Rattle.netset.specs.declared.answers.Verdict.{Verdict}
 use Rattle.netset.specs.declared.answers.Verdict.TheVariants.{Yes, No}
 use Rattle.netset.specs.declared.errors.CommandError.{CommandError}
@@ -58,6 +58,24 @@ pub record Pushes (old new : Rows) (network : IpCidr) (value : List ℕ) : Type 
 abbrev pub Adds : Rows → Rows → Option (IpCidr × List ℕ) → Type 0
 Adds old new None = new ≡ old
 Adds old new (Some (network, value)) = Pushes old new network value
+
+-- this is what the first lines of a text say
+pub record AreFirst {S : Type 0} (Says : List ℕ → S → Type 0) (text : List ℕ) (said : List S) : Type 0 where
+  pub before : List (List ℕ)
+  pub after : List (List ℕ)
+  pub lines : lines_of text ≡ before ++ after
+  pub fine : AllZip Says before said
+
+-- the same of the lines before the first line in error, by its number from 1 on
+pub record AreBeforeError {S : Type 0} (Says : List ℕ → S → Type 0) (IsBad : List ℕ → LineError → Type 0) (text : List ℕ) (said : List S)
+    (number : ℕ) (e : LineError) : Type 0 where
+  pub before : List (List ℕ)
+  pub line : List ℕ
+  pub after : List (List ℕ)
+  pub lines : lines_of text ≡ before ++ line ∷ after
+  pub place : number ≡ length before + 1
+  pub fine : AllZip Says before said
+  pub fault : IsBadLine IsBad line e
 
 -- the error is that of this line, or the line is not known to have one
 abbrev pub IsErrorAt : (List ℕ → LineError → Type 0) → List ℕ → ℕ → ReadError → Type 0

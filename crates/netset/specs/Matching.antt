@@ -1,21 +1,22 @@
 -- The lines of a file whose first field lies in a list.
-use Rattle.std.specs.Prelude.{◌≡◌, ◌≢◌, ◌⊎◌, ℕ, Bool, ◌||◌, if◌then◌else◌, List, [], ◌∷◌, ◌++◌, length, codes, decimal, Option, Some, None, IsUtf8}
+use Rattle.std.specs.Prelude.{◌≡◌, ◌≢◌, ◌⊎◌, ℕ, Bool, ◌||◌, if◌then◌else◌, List, [], ◌∷◌, length, codes, decimal, Option, Some, None}
 use Rattle.std.specs.Bool.{Decides}
-use Rattle.std.specs.Char.{is_ascii_whitespace}
 use Rattle.std.specs.List.{AllZip, before_first, flat_map, items_where_true, list_any}
-use Rattle.std.specs.Str.{IsTrimAsciiStart, bytes_eq}
+use Rattle.std.specs.Str.{bytes_eq}
 use Rattle.cidr.specs.either.IpNetwork.{network_family, network_prefix}
-use Rattle.cidr.specs.either.IpText.{IsIpNetworkText, IsIpRefused}
+use Rattle.cidr.specs.either.IpText.{IsIpNetworkText}
 use Rattle.cidr.specs.model.Network.{BeginsWith}
 use Rattle.cidr.specs.declared.cidr.combined.IpCidr.{IpCidr}
 use Rattle.cidr.specs.declared.family.Family.{Family}
 use Rattle.netset.specs.Combining.{Turned}
-use Rattle.netset.specs.Lists.{is_comment_sign, lines_of}
+use Rattle.netset.specs.Lists.{IsFirstField, is_comment_sign, lines_of}
+use Rattle.netset.specs.Look.{IsNoNetworkField}
 use Rattle.netset.specs.Printing.{line}
+use Rattle.netset.specs.Streaming.{IsCut, ReadTo}
 use Rattle.netset.specs.declared.answers.Verdict.{Verdict}
 use Rattle.netset.specs.declared.answers.Verdict.TheVariants.{Yes, No}
+use Rattle.netset.specs.declared.errors.CommandError.{CommandError}
 use Rattle.netset.specs.declared.errors.LineError.{LineError}
-use Rattle.netset.specs.declared.errors.LineError.TheVariants.{NotUtf8, NoNetwork, NoAddress, TwoFamilies, Reversed}
 use Rattle.netset.specs.declared.matching.Written.{Written}
 use Rattle.netset.specs.declared.matching.Written.TheVariants as written
 
@@ -53,10 +54,6 @@ lines_among (part ∷ next ∷ parts) = part ∷ lines_among (next ∷ parts)
 abbrev pub lines_in : List ℕ → List (List ℕ)
 lines_in text = lines_among (lines_of text)
 
--- what stands before the first ASCII white space of a line, behind white space at its front
-abbrev pub IsFirstField : List ℕ → List ℕ → Type 0
-IsFirstField line field = (rest : List ℕ) × IsTrimAsciiStart line rest × (field ≡ before_first is_ascii_whitespace rest)
-
 -- the field is empty, or begins a comment
 abbrev pub SaysNothing : List ℕ → Type 0
 SaysNothing field = before_first is_comment_sign field ≡ []
@@ -66,14 +63,9 @@ abbrev pub FieldSays : List ℕ → Option IpCidr → Type 0
 FieldSays line None = (field : List ℕ) × IsFirstField line field × SaysNothing field
 FieldSays line (Some network) = (field : List ℕ) × IsFirstField line field × IsIpNetworkText field network
 
--- the first field is in error: it is not UTF-8, or is no network, and this is the first error
+-- the first field is in error: it says something, and no network
 abbrev pub IsBadField : List ℕ → LineError → Type 0
-IsBadField line NotUtf8 = (field : List ℕ) × IsFirstField line field × ¬ (SaysNothing field) × ¬ (IsUtf8 field)
-IsBadField line (NoNetwork e) = (field : List ℕ) × IsFirstField line field × ¬ (SaysNothing field)
-    × IsIpRefused field e × ((n : IpCidr) → ¬ (IsIpNetworkText field n))
-IsBadField line (NoAddress e) = ⊥
-IsBadField line TwoFamilies = ⊥
-IsBadField line Reversed = ⊥
+IsBadField line e = (field : List ℕ) × IsFirstField line field × ¬ (SaysNothing field) × IsNoNetworkField field e
 
 -- ---- which lines are picked; `IsIn` tells the addresses of the list
 -- the network has only addresses of the list
@@ -95,11 +87,6 @@ Picks IsIn inverted line picked =
 abbrev pub ArePicked : (List ℕ → Bool → Type 0) → List (List ℕ) → List (List ℕ) → Type 0
 ArePicked PicksLine lines picked =
     (marks : List Bool) × AllZip PicksLine lines marks × (picked ≡ items_where_true marks lines)
-
--- a text was read up to some lines that are left, and these were picked
-pub record ReadTo (PicksLine : List ℕ → Bool → Type 0) (text : List ℕ) (read left picked : List (List ℕ)) : Type 0 where
-  pub lines : lines_in text ≡ read ++ left
-  pub are : ArePicked PicksLine read picked
 
 -- ---- what is written
 -- of a picked line, while lines are read
@@ -125,5 +112,11 @@ ArePickedBy picked No = picked ≡ []
 
 -- what is written of a text, and whether a line of it was picked
 abbrev pub IsMatch : (List ℕ → Bool → Type 0) → Written → List ℕ → List ℕ → Verdict → Type 0
-IsMatch PicksLine what text answer verdict = (read left picked : List (List ℕ)) × ReadTo PicksLine text read left picked
+IsMatch PicksLine what text answer verdict = (read left picked : List (List ℕ))
+    × ReadTo (ArePicked PicksLine) (lines_in text) read left picked
     × IsEnough what left picked × (answer ≡ all_written what picked) × ArePickedBy picked verdict
+
+-- the text was not read to its end, for this reason, and this belongs to the lines that were picked
+abbrev pub IsCutAt : (List ℕ → Bool → Type 0) → Written → List ℕ → List ℕ → CommandError → Type 0
+IsCutAt PicksLine what text answer e = (picked : List (List ℕ))
+    × IsCut (ArePicked PicksLine) IsBadField (lines_in text) picked e × (answer ≡ flat_map (line_written what) picked)

@@ -11,8 +11,8 @@ use Rattle.netset.specs.Lists.{ListSays, IsFirstError}
 use Rattle.netset.specs.Commands.{Request, Lists, NotIn, Diff, Free, Check, Match, Look, Single, Help, Version, IsRequest, IsUsage, read_files, AreTold, IsAnswer, Says}
 use Rattle.netset.specs.Free.{IsBadLength}
 use Rattle.netset.specs.Look.{IsLookUntil, IsUnreadTable}
-use Rattle.netset.specs.Matching.{has, written_of, Picks}
-use Rattle.netset.specs.Streaming.{IsBegun, IsCutAt, IsOfFile}
+use Rattle.netset.specs.Matching.{has, written_of, IsCutAt, Picks}
+use Rattle.netset.specs.Streaming.{IsBegun, IsOfFile}
 use Rattle.netset.specs.Single.{IsBadSingle, IsNoNetwork}
 use Rattle.netset.specs.Unchecked.{IsUnchecked}
 use Rattle.netset.specs.declared.errors.ArgumentError.{ArgumentError}
@@ -92,8 +92,8 @@ IsCutShort told options list file old new r = (e : CommandError) × (r ≡ Err e
 
 -- the lines of the file of `look` were not read to their end, and what belongs to those before was written, or a beginning
 abbrev pub IsCutLook : (List ℕ → Option (List ℕ)) → List ℕ → List ℕ → State → State → Result Verdict CommandError → Type 0
-IsCutLook told table file old new r = (answer : List ℕ) × (e : CommandError) × (written : Result (Unit {0}) OutputFailed)
-    × ((rows text : List ℕ) → told table ≡ Some rows → told file ≡ Some text → IsLookUntil rows file text answer e)
+IsCutLook told table file old new r = (e : CommandError) × IsOfFile file e × (answer : List ℕ) × (written : Result (Unit {0}) OutputFailed)
+    × ((rows text : List ℕ) → told table ≡ Some rows → told file ≡ Some text → IsLookUntil rows text answer e)
     × Answered old new answer written × (r ≡ Err (or_output e written))
 
 -- what becomes of a request and of the sink

@@ -1,11 +1,9 @@
 -- A file that is read line by line, and not to its end.
-use Rattle.std.specs.Prelude.{◌≡◌, ℕ, ◌+◌, Bool, true, List, ◌∷◌, ◌++◌, length}
-use Rattle.std.specs.List.{flat_map}
+use Rattle.std.specs.Prelude.{◌≡◌, ℕ, ◌+◌, true, List, ◌∷◌, ◌++◌, length}
 use Rattle.cidr_io.specs.Writing.{State, Whole, Part}
-use Rattle.netset.specs.Matching.{IsBadField, ReadTo, line_written}
 use Rattle.netset.specs.declared.errors.CommandError.{CommandError}
 use Rattle.netset.specs.declared.errors.CommandError.TheVariants as error
-use Rattle.netset.specs.declared.matching.Written.{Written}
+use Rattle.netset.specs.declared.errors.LineError.{LineError}
 
 -- it is an error of reading this file, of memory or of the output
 abbrev pub IsOfFile : List ℕ → CommandError → Type 0
@@ -16,22 +14,26 @@ IsOfFile file (error.Input name) = name.now ≡ file
 IsOfFile file error.NoMemory = Unit {0}
 IsOfFile file error.Output = Unit {0}
 
+-- lines were read up to some that are left, and this is what those before say
+pub record ReadTo {S : Type 0} (Say : List (List ℕ) → S → Type 0) (all read left : List (List ℕ)) (said : S) : Type 0 where
+  pub lines : all ≡ read ++ left
+  pub are : Say read said
+
 -- what the error says of the lines: the first that is left is in error
-abbrev pub IsStop : List (List ℕ) → List (List ℕ) → CommandError → Type 0
-IsStop read left error.Usage = ⊥
-IsStop read left (error.Argument text e) = ⊥
-IsStop read left (error.Line name number e) = (number ≡ length read + 1)
-    × (line : List ℕ) × (after : List (List ℕ)) × (left ≡ line ∷ after) × IsBadField line e
-IsStop read left (error.Input name) = Unit {0}
-IsStop read left error.NoMemory = Unit {0}
-IsStop read left error.Output = Unit {0}
+abbrev pub IsStop : (List ℕ → LineError → Type 0) → List (List ℕ) → List (List ℕ) → CommandError → Type 0
+IsStop IsBad read left error.Usage = ⊥
+IsStop IsBad read left (error.Argument text e) = ⊥
+IsStop IsBad read left (error.Line name number e) = (number ≡ length read + 1)
+    × (line : List ℕ) × (after : List (List ℕ)) × (left ≡ line ∷ after) × IsBad line e
+IsStop IsBad read left (error.Input name) = Unit {0}
+IsStop IsBad read left error.NoMemory = Unit {0}
+IsStop IsBad read left error.Output = Unit {0}
+
+-- lines were read up to some that are left, for this reason
+abbrev pub IsCut : {S : Type 0} → (List (List ℕ) → S → Type 0) → (List ℕ → LineError → Type 0) → List (List ℕ) → S → CommandError → Type 0
+IsCut Say IsBad all said e = (read left : List (List ℕ)) × ReadTo Say all read left said × IsStop IsBad read left e
 
 -- a beginning of a text was written; where the output has failed it was the sink, which got nothing if it had before
 abbrev pub IsBegun : State → State → List ℕ → CommandError → Type 0
 IsBegun old new text error.Output = Part old new text × (old.failed ≡ true → new ≡ old)
 IsBegun old new text e = (front rest : List ℕ) × (text ≡ front ++ rest) × Whole old new front
-
--- the text was read up to some lines that are left, for this reason, and this belongs to the lines that were picked
-abbrev pub IsCutAt : (List ℕ → Bool → Type 0) → Written → List ℕ → List ℕ → CommandError → Type 0
-IsCutAt PicksLine what text answer e = (read left picked : List (List ℕ)) × ReadTo PicksLine text read left picked
-    × IsStop read left e × (answer ≡ flat_map (line_written what) picked)

@@ -1,30 +1,29 @@
 //! The fields of a line.
-ghost use Rattle.std.specs.Prelude.{◌≡◌, ◌≤◌, [], length, MatchOption, MatchResult};
-ghost use Rattle.std.specs.Char.{is_ascii_whitespace};
-ghost use Rattle.std.specs.List.{position_or_len};
+ghost use Rattle.std.specs.Prelude.{◌≤◌, [], length, MatchOption, MatchResult};
 ghost use Rattle.cidr.specs.either.IpAddress.{IsIpText};
 ghost use Rattle.cidr.specs.either.IpText.{IsIpNetworkText};
-ghost use Rattle.netset.specs.Lists.{IsField};
+ghost use Rattle.netset.specs.Lists.{IsField, IsFirstField};
 ghost use Rattle.netset.specs.Look.{IsNoAddressField, IsNoNetworkField, IsSplit};
 
 use crate::errors::LineError;
 use crate::lines::without_comment;
 use cidr::{IpAddr, IpCidr};
 
-/// How many bytes stand before the first white space.
-fn first_len(field: &[u8]) -> usize
-    ensures place { result ≡ position_or_len is_ascii_whitespace field.now }
-    ensures within { result ≤ length field.now }
+/// What stands before the first white space, behind white space at the front.
+pub fn first_field(bytes: &[u8]) -> &[u8]
+    ensures field { IsFirstField bytes.now result.now }
+    ensures within { length result.now ≤ length bytes.now }
 {
-    for (place, byte) in field.iter().enumerate() {
+    let rest = bytes.trim_ascii_start();
+    for (place, byte) in rest.iter().enumerate() {
         if byte.is_ascii_whitespace() {
-            return place;
+            return &rest[..place];
         }
     }
-    field.len()
+    rest
 }
 
-/// The first field of a line, and what stands behind it; `None` for a blank line.
+/// The first field of a line without its comment, and what stands behind it; `None` for a blank line.
 pub fn split_line(line: &[u8]) -> Option<(&[u8], &[u8])>
     ensures { MatchOption result (IsField line.now []) (λ parts. IsSplit line.now parts.0.now parts.1.now) }
 {
@@ -32,7 +31,8 @@ pub fn split_line(line: &[u8]) -> Option<(&[u8], &[u8])>
     if field.is_empty() {
         return None;
     }
-    let (first, rest) = field.split_at(first_len(field));
+    let first = first_field(field);
+    let (_, rest) = field.split_at(first.len());
     Some((first, rest.trim_ascii()))
 }
 
