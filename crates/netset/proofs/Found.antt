@@ -15,7 +15,7 @@ use Rattle.cidr.specs.declared.cidr.combined.IpCidr.TheVariants.{V4, V6}
 use Rattle.cidr_ext.specs.Tree.{IsHalfOf}
 use Rattle.cidr_table.specs.FiniteMap.{IsUnder}
 use Rattle.cidr_table.specs.Prefixes.{IsLookedUp}
-use Rattle.netset.specs.Findings.{AreFirsts, AreHalves, IsFinding, IsFirst, IsFirstIndex, IsInnermost, IsInnermostRow, IsInside, IsOnly, IsWithin, entry_key, entry_network, rank}
+use Rattle.netset.specs.Findings.{AreFirsts, AreHalves, IsFinding, IsFirst, IsFirstIndex, IsInnermost, IsInnermostRow, IsInside, IsOnly, IsInsideKey, entry_key, entry_network, rank}
 use Rattle.netset.specs.declared.entries.Entry.{Entry}
 use Rattle.netset.specs.declared.entries.Place.{Place}
 use Rattle.netset.specs.declared.findings.Finding.{Finding}
@@ -202,12 +202,12 @@ module _ (entries : List Entry) where
           )
 
       -- ---- the longest network around
-      as_key : (outer : IpCidr) → IsInside (entry_network entry) outer → IsWithin (entry_network entry) (any_of outer)
+      as_key : (outer : IpCidr) → IsInside (entry_network entry) outer → IsInsideKey (entry_network entry) (any_of outer)
       as_key outer h =
           subst (λ (bits : List Bool). BeginsWith (network_bits (entry_network entry)) bits × (length bits < length (network_bits (entry_network entry))))
           (sym (any_is outer)) h
 
-      as_network : (outer : IpCidr) → IsWithin (entry_network entry) (any_of outer) → IsInside (entry_network entry) outer
+      as_network : (outer : IpCidr) → IsInsideKey (entry_network entry) (any_of outer) → IsInside (entry_network entry) outer
       as_network outer h =
           subst (λ (bits : List Bool). BeginsWith (network_bits (entry_network entry)) bits × (length bits < length (network_bits (entry_network entry))))
           (any_is outer) h
@@ -216,7 +216,7 @@ module _ (entries : List Entry) where
       none_around none f kind holds =
           let (outer, place, is) = is_inside f kind in
           let (j, most, first) = subst (IsFinding entries i entry) is holds in
-          no_row (map entry_key entries) rows firsts (IsWithin (entry_network entry)) none j (any_of outer) (key_there outer j place first) (as_key outer most.inside)
+          no_row (map entry_key entries) rows firsts (IsInsideKey (entry_network entry)) none j (any_of outer) (key_there outer j place first) (as_key outer most.inside)
 
       -- the index that was found is inside the list
       pub around_within : (j : ℕ) → IsInnermostRow rows (entry_network entry) (Some j) → j < length entries
@@ -232,15 +232,15 @@ module _ (entries : List Entry) where
           same_Some key (entry_key other) (sym index.0 ∙ (slice_get-map entry_key entries j ∙ ap (option_map entry_key) here)) in
           let long : ℕ = length (any_bits key) in (
             record {
-              inside = as_network (entry_network other) (subst (IsWithin (entry_network entry)) is within);
+              inside = as_network (entry_network other) (subst (IsInsideKey (entry_network entry)) is within);
               longest = λ k one at inside. elim (cases_lt (length (network_bits (entry_network other))) (length (network_bits (entry_network one)))) [
                 | inr le ↦ le
                 | inl lt ↦
                     let size : long ≡ length (network_bits (entry_network other)) = ap (λ (c : AnyIpCidr). length (any_bits c)) is ∙ ap length (any_is (entry_network other)) in
                     let longer : long < length (any_bits (any_of (entry_network one))) = omega (arith, size, lt, ap length (any_is (entry_network one))) in
-                    let none : (row : AnyIpCidr × ℕ) → Contains rows row → ¬ (IsWithin (entry_network entry) row.0 × (long < length (any_bits row.0))) = λ row c h.
+                    let none : (row : AnyIpCidr × ℕ) → Contains rows row → ¬ (IsInsideKey (entry_network entry) row.0 × (long < length (any_bits row.0))) = λ row c h.
                     let least = longest row c h.0 in omega (arith, least, h.1) in
-                    absurd (no_row (map entry_key entries) rows firsts (λ c. IsWithin (entry_network entry) c × (long < length (any_bits c))) none k (entry_key one)
+                    absurd (no_row (map entry_key entries) rows firsts (λ c. IsInsideKey (entry_network entry) c × (long < length (any_bits c))) none k (entry_key one)
                     (slice_get-map entry_key entries k ∙ ap (option_map entry_key) at) (as_key (entry_network one) inside, longer))
               ];
             },

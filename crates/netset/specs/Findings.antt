@@ -127,14 +127,14 @@ abbrev pub AreFirsts : {C : Type 0} → List C → List (C × ℕ) → Type 0
 AreFirsts {C} keys rows = (row : C × ℕ) → Contains rows row ↔ IsFirstIndex keys row.0 row.1
 
 -- the network is inside that of the key, and is not all of it
-abbrev pub IsWithin : IpCidr → AnyIpCidr → Type 0
-IsWithin network key = BeginsWith (network_bits network) (any_bits key) × (length (any_bits key) < length (network_bits network))
+abbrev pub IsInsideKey : IpCidr → AnyIpCidr → Type 0
+IsInsideKey network key = BeginsWith (network_bits network) (any_bits key) × (length (any_bits key) < length (network_bits network))
 
 -- the row of the longest key that the network is inside, or none
 abbrev pub IsInnermostRow : List (AnyIpCidr × ℕ) → IpCidr → Option ℕ → Type 0
-IsInnermostRow rows network None = (row : AnyIpCidr × ℕ) → Contains rows row → ¬ (IsWithin network row.0)
-IsInnermostRow rows network (Some i) = (key : AnyIpCidr) × Contains rows (key, i) × IsWithin network key
-    × ((row : AnyIpCidr × ℕ) → Contains rows row → IsWithin network row.0 → length (any_bits row.0) ≤ length (any_bits key))
+IsInnermostRow rows network None = (row : AnyIpCidr × ℕ) → Contains rows row → ¬ (IsInsideKey network row.0)
+IsInnermostRow rows network (Some i) = (key : AnyIpCidr) × Contains rows (key, i) × IsInsideKey network key
+    × ((row : AnyIpCidr × ℕ) → Contains rows row → IsInsideKey network row.0 → length (any_bits row.0) ≤ length (any_bits key))
 
 -- of the findings of this rank none holds, or only this one
 abbrev pub IsOnly : (Finding → Type 0) → ℕ → Option Finding → Type 0
