@@ -19,7 +19,7 @@ use Rattle.netset.specs.Answering.{ReadsFile, changed}
 use Rattle.netset.specs.Changes.{AreMerged, AreSame, adds_first, merged, network_with, printed_changes, signed}
 use Rattle.netset.specs.Combining.{Steps}
 use Rattle.netset.specs.Commands.{Diff}
-use Rattle.netset.specs.Lists.{networks_in}
+use Rattle.netset.specs.Lists.{Text, networks_in}
 use Rattle.netset.specs.Program.{AnswersRequest, by_output}
 use Rattle.netset.specs.Sets.{Held, held}
 use Rattle.netset.specs.declared.answers.Verdict.{Verdict}
@@ -183,7 +183,7 @@ something_changed added lacking h = elim (none_or_some (changed added lacking Ip
 ]
 
 -- ---- what is written is what has changed from one list to the other
-pub diff_written : (told : List ℕ → Option (List ℕ)) (a b : List ℕ) (old new added lacking : Sets) (s t : State) (verdict : Verdict)
+pub diff_written : (told : List ℕ → Option Text) (a b : List ℕ) (old new added lacking : Sets) (s t : State) (verdict : Verdict)
     (w : Result (Unit {0}) OutputFailed) (r : Result Verdict CommandError) → ReadsFile (told a) a (Ok old) → ReadsFile (told b) b (Ok new)
     → ((family : Family) → IsSetOf 129 (λ p. Steps Difference (Held new family p) (Held old family p)) (held added family))
     → ((family : Family) → IsSetOf 129 (λ p. Steps Difference (Held old family p) (Held new family p)) (held lacking family))

@@ -6,6 +6,7 @@ use Rattle.cidr_io.specs.declared.sink.OutputFailed.{OutputFailed}
 use Rattle.netset.specs.Collecting.{Collects}
 use Rattle.netset.specs.Commands.{Check, read_files}
 use Rattle.netset.specs.Findings.{AreNotes, IsClean, note_line}
+use Rattle.netset.specs.Lists.{Text}
 use Rattle.netset.specs.Program.{AnswersRequest, by_output}
 use Rattle.netset.specs.Unchecked.{AreToldEntries}
 use Rattle.netset.specs.declared.answers.Verdict.{Verdict}
@@ -13,7 +14,7 @@ use Rattle.netset.specs.declared.entries.Entry.{Entry}
 use Rattle.netset.specs.declared.errors.CommandError.{CommandError}
 use Rattle.netset.specs.declared.findings.Note.{Note}
 
-pub check_written : (told : List ℕ → Option (List ℕ)) (files : List (List ℕ)) (entries : List Entry) (notes : List Note) (verdict : Verdict) (s t : State)
+pub check_written : (told : List ℕ → Option Text) (files : List (List ℕ)) (entries : List Entry) (notes : List Note) (verdict : Verdict) (s t : State)
     (w : Result (Unit {0}) OutputFailed) (r : Result Verdict CommandError) → AreToldEntries told (read_files files) entries → AreNotes entries notes
     → IsClean notes verdict → Answered s t (flat_map note_line notes) w → r ≡ by_output verdict w → AnswersRequest told (Check files) s t r
 check_written told files entries notes verdict s t w r are noted clean written is =

@@ -17,7 +17,7 @@ use Rattle.netset.specs.Answering.{AreRead, HasAddresses}
 use Rattle.netset.specs.Combining.{Combined, IsMade, Steps, Turned, form_of, step_of, turns}
 use Rattle.netset.specs.Commands.{Lists, NotIn, Says, read_files}
 use Rattle.netset.specs.Program.{AnswersRequest, by_output}
-use Rattle.netset.specs.Lists.{network_in}
+use Rattle.netset.specs.Lists.{Text, network_in}
 use Rattle.netset.specs.Reading.{Grows, listed}
 use Rattle.netset.specs.Sets.{Held, Prints, count_of, held, printed_sets}
 use Rattle.netset.specs.declared.lists.Lists.{Lists as Networks}
@@ -81,7 +81,7 @@ set_same P Q networks set f = record {
 }
 
 -- what is made of the sets is what is made of the lists
-pub lists_written : (told : List ℕ → Option (List ℕ)) (operation : Operation) (files : List (List ℕ)) (read : List Sets) (sets : Sets) (s t : State)
+pub lists_written : (told : List ℕ → Option Text) (operation : Operation) (files : List (List ℕ)) (read : List Sets) (sets : Sets) (s t : State)
     (w : Result (Unit {0}) OutputFailed) (r : Result Verdict CommandError) → AreRead told (read_files files) read
     → ((family : Family) → IsSetOf 129 (IsMade Held operation read family) (held sets family)) → Prints (form_of operation) s t (held sets) w
     → r ≡ by_output Yes w → AnswersRequest told (Lists operation files) s t r
@@ -110,7 +110,7 @@ network_set old new network sets four six grows set family =
     (grows family ∙ ap (λ (k : List (List Bool)). k ++ network_in family (network ∷ [])) (none family)) (set family)
 
 -- what both a network and the rest of the lists have
-pub not_in_written : (told : List ℕ → Option (List ℕ)) (net : List ℕ) (files : List (List ℕ)) (network : IpCidr) (read : List Sets) (rest whole sets : Sets)
+pub not_in_written : (told : List ℕ → Option Text) (net : List ℕ) (files : List (List ℕ)) (network : IpCidr) (read : List Sets) (rest whole sets : Sets)
     (s t : State) (w : Result (Unit {0}) OutputFailed) (r : Result Verdict CommandError) → IsIpNetworkText net network → AreRead told (read_files files) read
     → ((family : Family) → IsSetOf 129 (IsMade Held Not read family) (held rest family))
     → ((family : Family) → IsSetOf 129 (Covers (network_in family (network ∷ []))) (held whole family))

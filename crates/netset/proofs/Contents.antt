@@ -17,6 +17,7 @@ use Rattle.netset.specs.Lists.{IsNoAddress, hyphen, network_in}
 use Rattle.netset.specs.Reading.{AddsContent, Grows, ReadsField}
 use Rattle.netset.specs.declared.errors.LineError.{LineError}
 use Rattle.netset.specs.declared.errors.LineError.TheVariants.{NoAddress}
+use Rattle.netset.specs.declared.lines.HostBits.{HostBits}
 use Rattle.netset.specs.declared.lines.Content.{Content}
 use Rattle.netset.specs.declared.lines.Content.TheVariants.{Blank, Network, Ipv4Range, Ipv6Range}
 use Rattle.netset.specs.declared.lists.Lists.{Lists}
@@ -98,6 +99,6 @@ adds_v6 first last old new (Ok t) (range, set, six) four =
     (map (λ (p : List Bool). V6 p) range, (range, plain, refl), grows)
 
 -- ---- an end that is no address
-pub no_end : (field front back : List ℕ) (r : Result Content LineError) (y e : LineError) → r ≡ Err y → y ≡ e → e ≡ NoAddress ip_error
-    → field ≡ front ++ hyphen ∷ back → Lacks hyphen front → IsNoAddress front ⊎ IsNoAddress back → ReadsField field r
-no_end field front back r y e is same none split lacks bad = rw (is, same, none) (front, back, split, lacks, refl, bad)
+pub no_end : (bits : HostBits) (field front back : List ℕ) (r : Result Content LineError) (y e : LineError) → r ≡ Err y → y ≡ e → e ≡ NoAddress ip_error
+    → field ≡ front ++ hyphen ∷ back → Lacks hyphen front → IsNoAddress front ⊎ IsNoAddress back → ReadsField bits field r
+no_end bits field front back r y e is same none split lacks bad = rw (is, same, none) (front, back, split, lacks, refl, bad)

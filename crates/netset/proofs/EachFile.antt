@@ -1,5 +1,6 @@
 -- Lists that are read one after another.
-use Rattle.std.proofs.Common.{◌≡◌, refl, sym, ◌∙◌, ap, subst, arith, Bor, ℕ, ◌+◌, ◌<◌, ◌≤◌, List, Bool, [], ◌∷◌, ◌++◌, length, take, drop, get_or, Option, Some, Ok, Err}
+use Rattle.std.proofs.Common.{◌≡◌, refl, sym, ◌∙◌, ap, subst, arith, Bor, ℕ, ◌+◌, ◌<◌, ◌≤◌, List, Bool, [], ◌∷◌, ◌++◌, length, take, drop, get_or, Option, Some, Result, Ok, Err}
+use Rattle.std.specs.Option.{IfSome}
 use Rattle.std.specs.List.{AllZip}
 use Rattle.std.proofs.lemmas.List.Elements.{Contains-append_right}
 use Rattle.std.proofs.lemmas.List.{take_more, take_all, take-append-drop, at_drop_more, get_or-map}
@@ -8,21 +9,31 @@ use Rattle.cidr.specs.declared.family.Family.{Family}
 use Rattle.cidr.specs.declared.family.Family.TheVariants.{Ipv4, Ipv6}
 use Rattle.cidr_table.specs.Cover.{Covers}
 use Rattle.cidr_sets.specs.Sets.{IsSetOf}
-use Rattle.netset.specs.Lists.{ListSays, networks_in}
-use Rattle.netset.specs.Reading.{listed}
+use Rattle.netset.specs.Lists.{Text, text_by, ListSays, networks_in}
+use Rattle.netset.specs.Reading.{ReadsList, listed}
 use Rattle.netset.specs.Commands.{AreTold}
 use Rattle.netset.specs.Program.{IsUnread}
 use Rattle.netset.specs.Sets.{held}
 use Rattle.netset.specs.Answering.{IsFileError, AddsFile, AreRead, HasAddresses, ReadsFile}
 use Rattle.netset.proofs.Arguments.{bytes_of, same_length, within_bytes}
+use Rattle.netset.proofs.ReadBy.{bytes_read, text_same}
 use Rattle.netset.proofs.Zips.{zip_behind}
 use Rattle.netset.specs.declared.errors.CommandError.{CommandError}
 use Rattle.netset.specs.declared.errors.CommandError.TheVariants as error
+use Rattle.netset.specs.declared.errors.ReadError.{ReadError}
+use Rattle.netset.specs.declared.lines.HostBits.{HostBits}
 use Rattle.netset.specs.declared.lists.Lists.{Lists}
 use Rattle.netset.specs.declared.sets.Sets.{Sets}
 
+-- the list of a file, as it is read
+pub list_read : (told : Option Text) (left : Option (List ℕ)) (bits : HostBits) (old new : Lists) (r : Result (Unit {0}) ReadError)
+    → ((text : Text) → told ≡ Some text → left ≡ Some text.bytes) → ((text : Text) → told ≡ Some text → text.host_bits ≡ bits)
+    → IfSome left (λ bytes. ReadsList (text_by bits bytes) old new r) → (text : Text) → told ≡ Some text → ReadsList text old new r
+list_read told left bits old new r opens by h text is =
+    rw (text_same bits text (by text is)) at (bytes_read (λ bytes. ReadsList (text_by bits bytes) old new r) left text.bytes (opens text is) h)
+
 -- the list of one file as a set
-pub file_set : (told : Option (List ℕ)) (name : List ℕ) (old new : Lists) (sets : Sets) → old.v4.items ≡ [] → old.v6.items ≡ [] → AddsFile told name old new (Ok tt)
+pub file_set : (told : Option Text) (name : List ℕ) (old new : Lists) (sets : Sets) → old.v4.items ≡ [] → old.v6.items ≡ [] → AddsFile told name old new (Ok tt)
     → ((family : Family) → IsSetOf 129 (Covers (listed new family)) (held sets family)) → ReadsFile told name (Ok sets)
 file_set told name old new sets four six added set text is =
     let (said, says, grows) = added text is in
@@ -32,26 +43,26 @@ file_set told name old new sets four six added set text is =
       λ family. subst (λ (k : List (List Bool)). IsSetOf 129 (Covers k) (held sets family)) (grows family ∙ ap (λ (k : List (List Bool)). k ++ networks_in family said) (none family)) (set family),
     )
 
-pub none_read : (told : List ℕ → Option (List ℕ)) → AreRead told [] []
+pub none_read : (told : List ℕ → Option Text) → AreRead told [] []
 none_read told [] h = ([], tt, tt)
 none_read told (text ∷ texts) h = absurd h
 
 -- the texts of some files and one more
-pub last_told : (told : List ℕ → Option (List ℕ)) (names : List (List ℕ)) (name : List ℕ) (texts : List (List ℕ)) → AreTold told (names ++ name ∷ []) texts
-    → (front : List (List ℕ)) × (text : List ℕ) × (texts ≡ front ++ text ∷ []) × AreTold told names front × (told name ≡ Some text)
+pub last_told : (told : List ℕ → Option Text) (names : List (List ℕ)) (name : List ℕ) (texts : List Text) → AreTold told (names ++ name ∷ []) texts
+    → (front : List Text) × (text : Text) × (texts ≡ front ++ text ∷ []) × AreTold told names front × (told name ≡ Some text)
 last_told told [] name [] h = absurd h
 last_told told [] name (text ∷ []) h = ([], text, refl, tt, h.0)
 last_told told [] name (text ∷ other ∷ texts) h = absurd h.1
 last_told told (first ∷ names) name [] h = absurd h
 last_told told (first ∷ names) name (text ∷ texts) h =
     let (front, last, is, are, at) = last_told told names name texts h.1 in
-    (text ∷ front, last, ap (λ (k : List (List ℕ)). text ∷ k) is, (h.0, are), at)
+    (text ∷ front, last, ap (λ (k : List Text). text ∷ k) is, (h.0, are), at)
 
 pub next_taken : (names : List (List ℕ)) (i : ℕ) (name : List ℕ) → i < length names → get_or names i name ≡ name → take (i + 1) names ≡ take i names ++ name ∷ []
 next_taken names i name within at = take_more names i name within ∙ ap (λ (k : List ℕ). take i names ++ k ∷ []) at
 
 -- one more file
-file_read : (told : List ℕ → Option (List ℕ)) (names : List (List ℕ)) (i : ℕ) (name : List ℕ) (sets : List Sets) (set : Sets) → i < length names → get_or names i name ≡ name
+file_read : (told : List ℕ → Option Text) (names : List (List ℕ)) (i : ℕ) (name : List ℕ) (sets : List Sets) (set : Sets) → i < length names → get_or names i name ≡ name
     → AreRead told (take i names) sets → ReadsFile (told name) name (Ok set) → AreRead told (take (i + 1) names) (sets ++ set ∷ [])
 file_read told names i name sets set within at before read =
     let behind : AreRead told (take i names ++ name ∷ []) (sets ++ set ∷ []) = λ texts h.
@@ -59,14 +70,14 @@ file_read told names i name sets set within at before read =
     let (said, says, has) = before front are in
     let (one, last, is_set) = read text here in (
       said ++ one ∷ [],
-      subst (λ (k : List (List ℕ)). AllZip ListSays k (said ++ one ∷ [])) (sym is) (zip_behind ListSays front said text one says last),
+      subst (λ (k : List Text). AllZip ListSays k (said ++ one ∷ [])) (sym is) (zip_behind ListSays front said text one says last),
       zip_behind HasAddresses said sets one set has is_set,
     ) in
     let P : List (List ℕ) → Type 0 = λ k. AreRead told k (sets ++ set ∷ []) in
     subst P (sym (next_taken names i name within at)) behind
 
 -- a file that is not read
-not_read : (told : List ℕ → Option (List ℕ)) (names : List (List ℕ)) (i : ℕ) (name : List ℕ) (sets : List Sets) (e : CommandError) → i < length names → get_or names i name ≡ name
+not_read : (told : List ℕ → Option Text) (names : List (List ℕ)) (i : ℕ) (name : List ℕ) (sets : List Sets) (e : CommandError) → i < length names → get_or names i name ≡ name
     → AreRead told (take i names) sets → IsFileError (told name) name e → IsUnread told names e
 not_read told names i name sets error.Usage within at before h = absurd h
 not_read told names i name sets (error.Argument text e) within at before h = absurd h
@@ -85,28 +96,28 @@ not_read told names i name sets (error.Line file number e) within at before h =
     )
 
 -- the same of files by their names
-pub file_read_at : (told : List ℕ → Option (List ℕ)) (files : List (Bor (List ℕ))) (i : ℕ) (d : Bor (List ℕ)) (sets : List Sets) (set : Sets) → i < length files
+pub file_read_at : (told : List ℕ → Option Text) (files : List (Bor (List ℕ))) (i : ℕ) (d : Bor (List ℕ)) (sets : List Sets) (set : Sets) → i < length files
     → AreRead told (take i (bytes_of files)) sets → ReadsFile (told (get_or files i d).now) (get_or files i d).now (Ok set)
     → AreRead told (take (i + 1) (bytes_of files)) (sets ++ set ∷ [])
 file_read_at told files i d sets set within before read =
     file_read told (bytes_of files) i (get_or files i d).now sets set (within_bytes files i within)
     (get_or-map (λ (w : Bor (List ℕ)). w.now) files i d (get_or files i d).now within) before read
 
-pub file_not_read_at : (told : List ℕ → Option (List ℕ)) (files : List (Bor (List ℕ))) (i : ℕ) (d : Bor (List ℕ)) (sets : List Sets) (e : CommandError)
+pub file_not_read_at : (told : List ℕ → Option Text) (files : List (Bor (List ℕ))) (i : ℕ) (d : Bor (List ℕ)) (sets : List Sets) (e : CommandError)
     → i < length files → AreRead told (take i (bytes_of files)) sets → ReadsFile (told (get_or files i d).now) (get_or files i d).now (Err e)
     → IsUnread told (bytes_of files) e
 file_not_read_at told files i d sets e within before h =
     not_read told (bytes_of files) i (get_or files i d).now sets e (within_bytes files i within)
     (get_or-map (λ (w : Bor (List ℕ)). w.now) files i d (get_or files i d).now within) before h
 
-pub all_read_at : (told : List ℕ → Option (List ℕ)) (files : List (Bor (List ℕ))) (i : ℕ) (sets : List Sets) → length files ≤ i
+pub all_read_at : (told : List ℕ → Option Text) (files : List (Bor (List ℕ))) (i : ℕ) (sets : List Sets) → length files ≤ i
     → AreRead told (take i (bytes_of files)) sets → AreRead told (bytes_of files) sets
 all_read_at told files i sets past h =
     let P : List (List ℕ) → Type 0 = λ k. AreRead told k sets in
     subst P (take_all i (bytes_of files) (omega (arith, same_length files))) h
 
 -- a first file and the others
-pub first_read : (told : List ℕ → Option (List ℕ)) (name : List ℕ) (names : List (List ℕ)) (set : Sets) (sets : List Sets) → ReadsFile (told name) name (Ok set)
+pub first_read : (told : List ℕ → Option Text) (name : List ℕ) (names : List (List ℕ)) (set : Sets) (sets : List Sets) → ReadsFile (told name) name (Ok set)
     → AreRead told names sets → AreRead told (name ∷ names) (set ∷ sets)
 first_read told name names set sets first others [] h = absurd h
 first_read told name names set sets first others (text ∷ texts) h =
@@ -114,20 +125,20 @@ first_read told name names set sets first others (text ∷ texts) h =
     let (said, says, has) = others texts h.1 in
     (one ∷ said, (here, says), (is_set, has))
 
-pub first_not_read : (told : List ℕ → Option (List ℕ)) (name : List ℕ) (names : List (List ℕ)) (e : CommandError) → ReadsFile (told name) name (Err e)
+pub first_not_read : (told : List ℕ → Option Text) (name : List ℕ) (names : List (List ℕ)) (e : CommandError) → ReadsFile (told name) name (Err e)
     → IsUnread told (name ∷ names) e
 first_not_read told name names e h = not_read told (name ∷ names) 0 name [] e (omega arith) refl (none_read told) h
 
-said_first : (told : List ℕ → Option (List ℕ)) (name : List ℕ) (names : List (List ℕ)) (set : Sets) → ReadsFile (told name) name (Ok set)
-    → ((texts : List (List ℕ)) → AreTold told names texts → (said : List (List (List IpCidr))) × AllZip ListSays texts said)
-    → (texts : List (List ℕ)) → AreTold told (name ∷ names) texts → (said : List (List (List IpCidr))) × AllZip ListSays texts said
+said_first : (told : List ℕ → Option Text) (name : List ℕ) (names : List (List ℕ)) (set : Sets) → ReadsFile (told name) name (Ok set)
+    → ((texts : List Text) → AreTold told names texts → (said : List (List (List IpCidr))) × AllZip ListSays texts said)
+    → (texts : List Text) → AreTold told (name ∷ names) texts → (said : List (List (List IpCidr))) × AllZip ListSays texts said
 said_first told name names set first others [] h = absurd h
 said_first told name names set first others (text ∷ texts) h =
     let (one, here, is_set) = first text h.0 in
     let (said, says) = others texts h.1 in
     (one ∷ said, (here, says))
 
-pub others_not_read : (told : List ℕ → Option (List ℕ)) (name : List ℕ) (names : List (List ℕ)) (set : Sets) (e : CommandError) → ReadsFile (told name) name (Ok set)
+pub others_not_read : (told : List ℕ → Option Text) (name : List ℕ) (names : List (List ℕ)) (set : Sets) (e : CommandError) → ReadsFile (told name) name (Ok set)
     → IsUnread told names e → IsUnread told (name ∷ names) e
 others_not_read told name names set error.Usage first h = absurd h
 others_not_read told name names set (error.Argument text e) first h = absurd h

@@ -7,7 +7,7 @@ use Rattle.std.proofs.lemmas.List.Elements.{Contains-append_right}
 use Rattle.std.specs.List.{Contains}
 use Rattle.cidr_table.proofs.MapLaws.{contains_first}
 use Rattle.netset.specs.Entries.{AddsEntries, AddsEntry, AreAllEntries, AreEntries, HasAdded, IsFirstFault, IsLineFault, IsTextFault, LineHas}
-use Rattle.netset.specs.Lists.{lines_of}
+use Rattle.netset.specs.Lists.{Text, lines_of}
 use Rattle.netset.specs.Reading.{IsStopped}
 use Rattle.netset.specs.Unchecked.{AddsFileEntries, AreToldEntries, IsFileFault, IsUnchecked}
 use Rattle.netset.specs.declared.entries.Entry.{Entry}
@@ -96,8 +96,8 @@ pub reading_stopped : (file : List ℕ) (told : Option (List ℕ)) (old new : Li
 reading_stopped file told old new r y e is same h = passed_on file told old new r y e is same (no_line file told e h)
 
 -- ---- one list after another
-list_behind : (names texts : List (List ℕ)) (name text : List ℕ) (entries more : List Entry) → AreAllEntries names texts entries
-    → AreEntries name 1 (lines_of text) more → AreAllEntries (names ++ name ∷ []) (texts ++ text ∷ []) (entries ++ more)
+list_behind : (names : List (List ℕ)) (texts : List Text) (name : List ℕ) (text : Text) (entries more : List Entry) → AreAllEntries names texts entries
+    → AreEntries name 1 (lines_of text.bytes) more → AreAllEntries (names ++ name ∷ []) (texts ++ text ∷ []) (entries ++ more)
 list_behind [] [] name text entries more none are = (
   more,
   [],
@@ -115,20 +115,20 @@ list_behind (first ∷ names) (other ∷ texts) name text entries more (these, t
   ap (λ (k : List Entry). k ++ more) is ∙ append_assoc these those more,
 )
 
-pub no_entries : (told : List ℕ → Option (List ℕ)) → AreToldEntries told [] []
+pub no_entries : (told : List ℕ → Option Text) → AreToldEntries told [] []
 no_entries told [] h = refl
 no_entries told (text ∷ texts) h = absurd h
 
-pub file_behind : (told : List ℕ → Option (List ℕ)) (names : List (List ℕ)) (name : List ℕ) (old new : List Entry) → AreToldEntries told names old
+pub file_behind : (told : List ℕ → Option Text) (names : List (List ℕ)) (name : List ℕ) (old new : List Entry) → AreToldEntries told names old
     → AddsFileEntries (told name) name old new (Ok tt) → AreToldEntries told (names ++ name ∷ []) new
 file_behind told names name old new before adds texts h =
     let (front, text, is, are, here) = last_told told names name texts h in
     let (more, has, added) = adds text here in
-    subst (λ (k : List (List ℕ)). AreAllEntries (names ++ name ∷ []) k new) (sym is)
+    subst (λ (k : List Text). AreAllEntries (names ++ name ∷ []) k new) (sym is)
     (subst (AreAllEntries (names ++ name ∷ []) (front ++ text ∷ [])) (sym added) (list_behind names front name text old more (before front are) has))
 
 -- a file that is not read
-pub file_fault : (told : List ℕ → Option (List ℕ)) (names before after : List (List ℕ)) (name : List ℕ) (old : List Entry) (e : CommandError)
+pub file_fault : (told : List ℕ → Option Text) (names before after : List (List ℕ)) (name : List ℕ) (old : List Entry) (e : CommandError)
     → names ≡ before ++ name ∷ after → AreToldEntries told before old → IsFileFault (told name) name e → IsUnchecked told names e
 file_fault told names before after name old error.Usage whole fine h = absurd h
 file_fault told names before after name old (error.Argument text e) whole fine h = absurd h
@@ -142,11 +142,11 @@ file_fault told names before after name old (error.Line file number e) whole fin
   after,
   whole ∙ ap (λ (k : List ℕ). before ++ k ∷ after) (sym h.0),
   λ texts are. (old, fine texts are),
-  λ text is. subst (λ (k : List ℕ). IsFirstFault k text number e) (sym h.0) (h.1 text (ap told (sym h.0) ∙ is)),
+  λ text is. subst (λ (k : List ℕ). IsFirstFault k text.bytes number e) (sym h.0) (h.1 text (ap told (sym h.0) ∙ is)),
 )
 
 -- the same of the files behind a first one
-module _ (told : List ℕ → Option (List ℕ)) (first : List ℕ) (files : List (Bor (List ℕ))) (i : ℕ) (d : Bor (List ℕ)) (old : List Entry)
+module _ (told : List ℕ → Option Text) (first : List ℕ) (files : List (Bor (List ℕ))) (i : ℕ) (d : Bor (List ℕ)) (old : List Entry)
     (within : i < length files) (before : AreToldEntries told (first ∷ take i (bytes_of files)) old) where
   abbrev name_of : List ℕ
   name_of = (get_or files i d).now
@@ -169,7 +169,7 @@ module _ (told : List ℕ → Option (List ℕ)) (first : List ℕ) (files : Lis
       ∙ ap (λ (k : List ℕ). take i names ++ k ∷ drop (i + 1) names) named) in
       file_fault told (first ∷ names) (first ∷ take i names) (drop (i + 1) names) name_of old e (ap (λ (k : List (List ℕ)). first ∷ k) whole) before h
 
-pub all_files_at : (told : List ℕ → Option (List ℕ)) (first : List ℕ) (files : List (Bor (List ℕ))) (i : ℕ) (entries : List Entry) → length files ≤ i
+pub all_files_at : (told : List ℕ → Option Text) (first : List ℕ) (files : List (Bor (List ℕ))) (i : ℕ) (entries : List Entry) → length files ≤ i
     → AreToldEntries told (first ∷ take i (bytes_of files)) entries → AreToldEntries told (first ∷ bytes_of files) entries
 all_files_at told first files i entries past h =
     subst (λ (k : List (List ℕ)). AreToldEntries told (first ∷ k) entries) (take_all i (bytes_of files) (omega (arith, same_length files))) h

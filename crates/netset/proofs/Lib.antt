@@ -20,6 +20,8 @@ pub mod Noted
 pub mod Checked
 pub mod MatchArguments
 pub mod Passed
+pub mod ReadBy
 pub mod Resolved
 pub mod Stored
 pub mod Looked
+pub mod Options

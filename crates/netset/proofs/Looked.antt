@@ -18,7 +18,7 @@ use Rattle.cidr_io.proofs.Chains.{part_none, part_more, answered, then_writes}
 use Rattle.cidr_table.specs.Prefixes.{IsLookedUp}
 use Rattle.netset.specs.Collecting.{Collects}
 use Rattle.netset.specs.Commands.{Look}
-use Rattle.netset.specs.Lists.{lines_of}
+use Rattle.netset.specs.Lists.{Text, lines_of}
 use Rattle.netset.specs.Look.{IsBadLine, IsNoAddressField, IsSplit, LineLooks, LookUp, TellsFound, found_line, gap, is_found, look_line, shown}
 use Rattle.netset.specs.LookUps.{AreFirst, EndsReading, IsErrorAt, LooksAll, LooksLine, LooksLines, LooksUp, PushesFound, ReadsTable, kept, resolved, unread, value_at, verdict_of}
 use Rattle.netset.specs.Program.{AnswersRequest}
@@ -32,6 +32,7 @@ use Rattle.netset.specs.declared.look.LookError.TheVariants.{Reading, Output}
 use Rattle.netset.specs.declared.rows.Span.{Span}
 use Rattle.netset.specs.declared.table.Table.{Table}
 use Rattle.netset.proofs.Collected.{collected_more, none_collected}
+use Rattle.netset.proofs.ReadBy.{bytes_read}
 use Rattle.netset.proofs.Resolved.{looked_up_mapped}
 use Rattle.netset.proofs.Passed.{Passed, none_passed, one_passed, all_passed, error_passed, first_passed, one_more_passed, all_first, cut_before, cut_behind}
 
@@ -314,9 +315,6 @@ pub nothing_looked : (table : Family → List (List Bool × List ℕ)) (told : O
 nothing_looked table told s failed = ([], record {}, (part_none s [] failed, λ _. refl), nothing_told table told)
 
 -- ---- the command
-told_looks : (P : List ℕ → Type 0) (left : Option (List ℕ)) (text : List ℕ) → left ≡ Some text → IfSome left P → P text
-told_looks P left text is h = subst (λ (k : Option (List ℕ)). IfSome k P) is h
-
 -- a reader in blocks has the bytes of what it reads
 pub opened : {T A : Type 0} (remaining : T → Option (List ℕ)) (r : BufReader T A) (inner : T) (text : List ℕ) → reader_inner r ≡ inner → reader_buffer r ≡ []
     → reader_capacity r ≡ 8192 → remaining inner ≡ Some text → reader_remaining remaining r ≡ Some text
@@ -324,8 +322,8 @@ opened remaining r inner text at empty room is =
     ap₂ (λ (n : ℕ) (bs : List ℕ). if n == 0 then None else prepend_known bs (remaining r.inner)) room empty
     ∙ ap (λ (o : Option (List ℕ)). prepend_known [] o) (ap remaining at ∙ is)
 
-module _ (told : List ℕ → Option (List ℕ)) (rows : List ℕ) (file : Bor (List ℕ)) (left : Option (List ℕ)) (table : Table) (s t : State)
-    (reads : ReadsTable (told rows) rows (Ok table)) (opens : (text : List ℕ) → told file.now ≡ Some text → left ≡ Some text) where
+module _ (told : List ℕ → Option Text) (rows : List ℕ) (file : Bor (List ℕ)) (left : Option (List ℕ)) (table : Table) (s t : State)
+    (reads : ReadsTable (told rows) rows (Ok table)) (opens : (text : Text) → told file.now ≡ Some text → left ≡ Some text.bytes) where
   tells : (looks : List (Option LookUp)) (found : Bool) → found ≡ list_any is_found looks → TellsFound looks (verdict_of found)
   tells looks true e = sym e
   tells looks false e = sym e
@@ -335,7 +333,7 @@ module _ (told : List ℕ → Option (List ℕ)) (rows : List ℕ) (file : Bor (
     flat_map look_line looks,
     verdict_of found,
     Ok tt,
-    λ first second is at. (kept table, reads first is, looks, told_looks (λ text. AllZip (LineLooks (kept table)) (lines_of text) looks) left second (opens second at) says, refl, tells looks found hit),
+    λ first second is at. (kept table, reads first is, looks, bytes_read (λ text. AllZip (LineLooks (kept table)) (lines_of text) looks) left second.bytes (opens second at) says, refl, tells looks found hit),
     written,
     refl,
   ))
@@ -357,7 +355,7 @@ module _ (told : List ℕ → Option (List ℕ)) (rows : List ℕ) (file : Bor (
     of_file e,
     flat_map look_line looks,
     Ok tt,
-    λ first second is at. (kept table, reads first is, looks, ends_as second looks e (told_looks (λ text. EndsReading (kept table) text looks e) left second (opens second at) ends), refl),
+    λ first second is at. (kept table, reads first is, looks, ends_as second.bytes looks e (bytes_read (λ text. EndsReading (kept table) text looks e) left second.bytes (opens second at) ends), refl),
     written,
     refl,
   )
@@ -369,8 +367,8 @@ module _ (told : List ℕ → Option (List ℕ)) (rows : List ℕ) (file : Bor (
     flat_map look_line looks,
     Err f,
     λ first second is at.
-        let first_lines = told_looks (λ text. AreFirst (LineLooks (kept table)) text looks) left second (opens second at) ends in
-        (kept table, reads first is, looks, cut_behind (LineLooks (kept table)) IsNoAddressField second looks error.Output (λ _ _. tt) first_lines, refl),
+        let first_lines = bytes_read (λ text. AreFirst (LineLooks (kept table)) text looks) left second.bytes (opens second at) ends in
+        (kept table, reads first is, looks, cut_behind (LineLooks (kept table)) IsNoAddressField second.bytes looks error.Output (λ _ _. tt) first_lines, refl),
     written,
     refl,
   )

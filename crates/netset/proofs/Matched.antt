@@ -21,7 +21,7 @@ use Rattle.netset.specs.Answering.{HasAddresses, ReadsFile}
 use Rattle.netset.specs.Collecting.{Collects}
 use Rattle.netset.specs.Commands.{Match, Says}
 use Rattle.netset.specs.Gathering.{Finishes, IsCounted, IsDone, IsLost, IsUnreadable, Streams, TakesPart, lines_of_part, rest_written}
-use Rattle.netset.specs.Lists.{is_line_feed, lines_of}
+use Rattle.netset.specs.Lists.{Text, is_line_feed, lines_of}
 use Rattle.netset.specs.Matching.{ArePicked, ArePickedBy, FieldSays, IsBadField, IsCutAt, IsEnough, IsMatch, LiesIn, Picks, all_written, has, last_line, line_written, lines_among, lines_in, written_of}
 use Rattle.netset.specs.Printing.{Holds}
 use Rattle.netset.specs.Program.{AnswersRequest}
@@ -464,8 +464,8 @@ known_cut P Q f what known text answer e is h =
     let (read, left, to, stops) = cut in
     (picked, (read, left, record { lines = to.lines; are = picked_same P Q f read picked to.are }, stops), written)
 
-pub matched : (told : List ℕ → Option (List ℕ)) (options : List (List ℕ)) (list file : List ℕ) (sets : Sets) (known : Option (List ℕ)) (s t : State) (r : Result Verdict CommandError)
-    → ReadsFile (told list) list (Ok sets) → ((text : List ℕ) → told file ≡ Some text → known ≡ Some text)
+pub matched : (told : List ℕ → Option Text) (options : List (List ℕ)) (list file : List ℕ) (sets : Sets) (known : Option (List ℕ)) (s t : State) (r : Result Verdict CommandError)
+    → ReadsFile (told list) list (Ok sets) → ((text : Text) → told file ≡ Some text → known ≡ Some text.bytes)
     → Streams (Picks (Held sets) (has (codes "-v") options)) (written_of options) file known s t r → AnswersRequest told (Match options list file) s t r
 matched told options list file sets known s t r reads tells (inl (answer, verdict, w, match, written, is)) =
     inl (inr (
@@ -474,7 +474,7 @@ matched told options list file sets known s t r reads tells (inl (answer, verdic
       w,
       λ networks text p q.
           let (said, says, same) = reads networks p in
-          (said, says, known_match _ _ (picks_same said sets same (has (codes "-v") options)) (written_of options) known text answer verdict (tells text q) match),
+          (said, says, known_match _ _ (picks_same said sets same (has (codes "-v") options)) (written_of options) known text.bytes answer verdict (tells text q) match),
       written,
       is,
     ))
@@ -487,5 +487,5 @@ matched told options list file sets known s t r reads tells (inr (e, is, of_file
       begun,
       λ networks text p q.
           let (said, says, same) = reads networks p in
-          (said, says, known_cut _ _ (picks_same said sets same (has (codes "-v") options)) (written_of options) known text answer e (tells text q) cut),
+          (said, says, known_cut _ _ (picks_same said sets same (has (codes "-v") options)) (written_of options) known text.bytes answer e (tells text q) cut),
     )

@@ -12,6 +12,7 @@ use Rattle.netset.specs.Answering.{AreRead}
 use Rattle.netset.specs.Combining.{IsMade, name_of}
 use Rattle.netset.specs.Commands.{Lists, NotIn, Diff, Free, Check, Match, Look, Single, Help, Version, IsRequest, IsUsage, Says}
 use Rattle.netset.specs.Free.{IsFreeText}
+use Rattle.netset.specs.Lists.{Text}
 use Rattle.netset.specs.Program.{AnswersRequest, by_output}
 use Rattle.netset.specs.Sets.{Held, held}
 use Rattle.netset.specs.Single.{IsNumber, IsSingle, SingleRequest}
@@ -29,7 +30,7 @@ plain_free width networks n None h = rw (map-id networks) at h
 plain_free width networks n (Some p) h = rw (map-id networks) at h
 
 -- what is free of the sets is free of the lists
-pub free_written : (told : List ℕ → Option (List ℕ)) (pool len : List ℕ) (used : List (List ℕ)) (n : ℕ) (read : List Sets) (rest : Sets) (answer : List ℕ)
+pub free_written : (told : List ℕ → Option Text) (pool len : List ℕ) (used : List (List ℕ)) (n : ℕ) (read : List Sets) (rest : Sets) (answer : List ℕ)
     (verdict : Verdict) (s t : State) (w : Result (Unit {0}) OutputFailed) (r : Result Verdict CommandError) → IsNumber len n × (n ≤ 128)
     → AreRead told (pool ∷ used) read → ((family : Family) → IsSetOf 129 (IsMade Held Minus read family) (held rest family))
     → IsFreeText (held rest) n answer verdict → Answered s t answer w → r ≡ by_output verdict w → AnswersRequest told (Free pool len used) s t r

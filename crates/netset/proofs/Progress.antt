@@ -4,117 +4,119 @@ use Rattle.std.specs.Option.{IfSome}
 use Rattle.std.specs.List.{AllZip}
 use Rattle.std.proofs.lemmas.List.{append-nil, flat_map_more}
 use Rattle.cidr.specs.declared.cidr.combined.IpCidr.{IpCidr}
-use Rattle.netset.specs.Lists.{lines_of, LineSays, network_in, networks_in}
+use Rattle.netset.specs.Lists.{text_by, lines_of, LineSays, network_in, networks_in}
 use Rattle.netset.specs.Reading.{IsNextLine, IsStopped, IsReadError, IsLineError, listed, Grows, ReadsList}
 use Rattle.netset.proofs.Zips.{zip_behind}
 use Rattle.netset.specs.declared.errors.ReadError.{ReadError}
 use Rattle.netset.specs.declared.errors.ReadError.TheVariants.{Line, Input, NoMemory}
+use Rattle.netset.specs.declared.lines.HostBits.{HostBits}
 use Rattle.netset.specs.declared.lists.Lists.{Lists}
-
--- the lines before this number were read
-pub record Progress (text : List ℕ) (left : Option (List ℕ)) (old new : Lists) (number : ℕ) : Type 0 where
-  pub rest : List ℕ
-  pub known : left ≡ Some rest
-  pub before : List (List ℕ)
-  pub lines : lines_of text ≡ before ++ lines_of rest
-  pub place : number ≡ length before + 1
-  pub said : List (List IpCidr)
-  pub fine : AllZip LineSays before said
-  pub grown : Grows old new (λ family. networks_in family said)
-
-pub started : (told : Option (List ℕ)) (lists : Lists) → IfSome told (λ text. Progress text told lists lists 1)
-started None lists = tt
-started (Some text) lists = record {
-  rest = text;
-  known = refl;
-  before = [];
-  lines = refl;
-  place = refl;
-  said = [];
-  fine = tt;
-  grown = λ family. sym (append-nil (listed lists family));
-}
-
-grown_more : (old now new : Lists) (said : List (List IpCidr)) (one : List IpCidr) → Grows old now (λ family. networks_in family said)
-    → Grows now new (λ family. network_in family one) → Grows old new (λ family. networks_in family (said ++ one ∷ []))
-grown_more old now new said one g h family =
-    h family ∙ (ap (λ k. k ++ network_in family one) (g family) ∙ flat_map_more (network_in family) (listed old family) said one)
-
--- a line that has another behind it
-pub stepped : (told left next : Option (List ℕ)) (old now new : Lists) (number : ℕ) (line : List ℕ) (more : Bool) (one : List IpCidr)
-    → more ≡ true → IfSome told (λ text. Progress text left old now number) → IfSome left (λ text. IsNextLine text line more next) → LineSays line one
-    → Grows now new (λ family. network_in family one) → IfSome told (λ text. Progress text next old new (number + 1))
-stepped None left next old now new number line more one is p n s g = tt
-stepped (Some text) left next old now new number line false one is p n s g = cc
-stepped (Some text) left next old now new number line true one is p n s g =
-    let (rest, known, lines) = (rw p.known at n) in
-    record {
-      rest = rest;
-      known = known;
-      before = p.before ++ line ∷ [];
-      lines = p.lines ∙ (ap (λ k. p.before ++ k) lines ∙ sym (append_assoc p.before (line ∷ []) (lines_of rest)));
-      place = omega (arith, p.place, length-append p.before (line ∷ []));
-      said = p.said ++ one ∷ [];
-      fine = zip_behind LineSays p.before p.said line one p.fine s;
-      grown = grown_more old now new p.said one p.grown g;
-    }
-
--- the last line
-pub finished : (told left next : Option (List ℕ)) (old now new : Lists) (number : ℕ) (line : List ℕ) (more : Bool) (one : List IpCidr)
-    → more ≡ false → IfSome told (λ text. Progress text left old now number) → IfSome left (λ text. IsNextLine text line more next) → LineSays line one
-    → Grows now new (λ family. network_in family one) → IfSome told (λ text. ReadsList text old new (Ok tt))
-finished None left next old now new number line more one is p n s g = tt
-finished (Some text) left next old now new number line true one is p n s g = cc
-finished (Some text) left next old now new number line false one is p n s g =
-    let lines : lines_of text ≡ p.before ++ line ∷ [] = p.lines ∙ ap (λ k. p.before ++ k) (rw p.known at n) in
-    (p.said ++ one ∷ [], rw lines (zip_behind LineSays p.before p.said line one p.fine s), grown_more old now new p.said one p.grown g)
 
 pub first_of_more : (text line : List ℕ) (more : Bool) (next : Option (List ℕ)) → IsNextLine text line more next → (after : List (List ℕ)) × (lines_of text ≡ line ∷ after)
 first_of_more text line true next n = (lines_of n.0, n.2)
 first_of_more text line false next n = ([], n)
 
--- a line in error, or an end of reading
-failed_by : (told left next : Option (List ℕ)) (old now : Lists) (number : ℕ) (line : List ℕ) (more : Bool) (e : ReadError)
-    → IfSome told (λ text. Progress text left old now number) → IfSome left (λ text. IsNextLine text line more next) → IsLineError line number e
-    → IfSome told (λ text. IsReadError text e)
-failed_by None left next old now number line more e p n h = tt
-failed_by (Some text) left next old now number line more Input p n h = tt
-failed_by (Some text) left next old now number line more NoMemory p n h = tt
-failed_by (Some text) left next old now number line more (Line m e) p n h =
-    let (after, lines) = first_of_more p.rest line more next (rw p.known at n) in
-    record {
-      before = p.before;
-      line = line;
-      after = after;
-      lines = p.lines ∙ ap (λ k. p.before ++ k) lines;
-      place = h.0 ∙ p.place;
-      said = p.said;
-      fine = p.fine;
-      fault = h.1;
-    }
+module _ (bits : HostBits) where
+  -- the lines before this number were read
+  pub record Progress (text : List ℕ) (left : Option (List ℕ)) (old new : Lists) (number : ℕ) : Type 0 where
+    pub rest : List ℕ
+    pub known : left ≡ Some rest
+    pub before : List (List ℕ)
+    pub lines : lines_of text ≡ before ++ lines_of rest
+    pub place : number ≡ length before + 1
+    pub said : List (List IpCidr)
+    pub fine : AllZip (LineSays bits) before said
+    pub grown : Grows old new (λ family. networks_in family said)
 
-stopped_by : (told : Option (List ℕ)) (e : ReadError) → IsStopped e → IfSome told (λ text. IsReadError text e)
-stopped_by None e h = tt
-stopped_by (Some text) (Line number e) h = absurd h
-stopped_by (Some text) Input h = tt
-stopped_by (Some text) NoMemory h = tt
+  pub started : (told : Option (List ℕ)) (lists : Lists) → IfSome told (λ text. Progress text told lists lists 1)
+  started None lists = tt
+  started (Some text) lists = record {
+    rest = text;
+    known = refl;
+    before = [];
+    lines = refl;
+    place = refl;
+    said = [];
+    fine = tt;
+    grown = λ family. sym (append-nil (listed lists family));
+  }
 
-abbrev failing : ReadError → Result (Unit {0}) ReadError
-failing e = Err e
+  grown_more : (old now new : Lists) (said : List (List IpCidr)) (one : List IpCidr) → Grows old now (λ family. networks_in family said)
+      → Grows now new (λ family. network_in family one) → Grows old new (λ family. networks_in family (said ++ one ∷ []))
+  grown_more old now new said one g h family =
+      h family ∙ (ap (λ k. k ++ network_in family one) (g family) ∙ flat_map_more (network_in family) (listed old family) said one)
 
-passed_on : (told : Option (List ℕ)) (old new : Lists) (r : Result (Unit {0}) ReadError) (y e : ReadError) → r ≡ Err y → y ≡ e
-    → IfSome told (λ text. IsReadError text e) → IfSome told (λ text. ReadsList text old new r)
-passed_on told old new r y e is same h =
-    let P : Result (Unit {0}) ReadError → Type 0 = λ k. IfSome told (λ text. ReadsList text old new k) in
-    subst P (sym (is ∙ ap failing same)) h
+  -- a line that has another behind it
+  pub stepped : (told left next : Option (List ℕ)) (old now new : Lists) (number : ℕ) (line : List ℕ) (more : Bool) (one : List IpCidr)
+      → more ≡ true → IfSome told (λ text. Progress text left old now number) → IfSome left (λ text. IsNextLine text line more next) → LineSays bits line one
+      → Grows now new (λ family. network_in family one) → IfSome told (λ text. Progress text next old new (number + 1))
+  stepped None left next old now new number line more one is p n s g = tt
+  stepped (Some text) left next old now new number line false one is p n s g = cc
+  stepped (Some text) left next old now new number line true one is p n s g =
+      let (rest, known, lines) = (rw p.known at n) in
+      record {
+        rest = rest;
+        known = known;
+        before = p.before ++ line ∷ [];
+        lines = p.lines ∙ (ap (λ k. p.before ++ k) lines ∙ sym (append_assoc p.before (line ∷ []) (lines_of rest)));
+        place = omega (arith, p.place, length-append p.before (line ∷ []));
+        said = p.said ++ one ∷ [];
+        fine = zip_behind (LineSays bits) p.before p.said line one p.fine s;
+        grown = grown_more old now new p.said one p.grown g;
+      }
 
-pub failed : (told left next : Option (List ℕ)) (old now new : Lists) (number : ℕ) (line : List ℕ) (more : Bool) (r : Result (Unit {0}) ReadError) (y e : ReadError)
-    → r ≡ Err y → y ≡ e
-    → IfSome told (λ text. Progress text left old now number) → IfSome left (λ text. IsNextLine text line more next) → IsLineError line number e
-    → IfSome told (λ text. ReadsList text old new r)
-failed told left next old now new number line more r y e is same p n h =
-    passed_on told old new r y e is same (failed_by told left next old now number line more e p n h)
+  -- the last line
+  pub finished : (told left next : Option (List ℕ)) (old now new : Lists) (number : ℕ) (line : List ℕ) (more : Bool) (one : List IpCidr)
+      → more ≡ false → IfSome told (λ text. Progress text left old now number) → IfSome left (λ text. IsNextLine text line more next) → LineSays bits line one
+      → Grows now new (λ family. network_in family one) → IfSome told (λ text. ReadsList (text_by bits text) old new (Ok tt))
+  finished None left next old now new number line more one is p n s g = tt
+  finished (Some text) left next old now new number line true one is p n s g = cc
+  finished (Some text) left next old now new number line false one is p n s g =
+      let lines : lines_of text ≡ p.before ++ line ∷ [] = p.lines ∙ ap (λ k. p.before ++ k) (rw p.known at n) in
+      (p.said ++ one ∷ [], rw lines (zip_behind (LineSays bits) p.before p.said line one p.fine s), grown_more old now new p.said one p.grown g)
 
-pub stopped : (told : Option (List ℕ)) (old new : Lists) (r : Result (Unit {0}) ReadError) (y e : ReadError) → r ≡ Err y → y ≡ e → IsStopped e
-    → IfSome told (λ text. ReadsList text old new r)
-stopped told old new r y e is same h = passed_on told old new r y e is same (stopped_by told e h)
+  -- a line in error, or an end of reading
+  failed_by : (told left next : Option (List ℕ)) (old now : Lists) (number : ℕ) (line : List ℕ) (more : Bool) (e : ReadError)
+      → IfSome told (λ text. Progress text left old now number) → IfSome left (λ text. IsNextLine text line more next) → IsLineError bits line number e
+      → IfSome told (λ text. IsReadError (text_by bits text) e)
+  failed_by None left next old now number line more e p n h = tt
+  failed_by (Some text) left next old now number line more Input p n h = tt
+  failed_by (Some text) left next old now number line more NoMemory p n h = tt
+  failed_by (Some text) left next old now number line more (Line m e) p n h =
+      let (after, lines) = first_of_more p.rest line more next (rw p.known at n) in
+      record {
+        before = p.before;
+        line = line;
+        after = after;
+        lines = p.lines ∙ ap (λ k. p.before ++ k) lines;
+        place = h.0 ∙ p.place;
+        said = p.said;
+        fine = p.fine;
+        fault = h.1;
+      }
+
+  stopped_by : (told : Option (List ℕ)) (e : ReadError) → IsStopped e → IfSome told (λ text. IsReadError (text_by bits text) e)
+  stopped_by None e h = tt
+  stopped_by (Some text) (Line number e) h = absurd h
+  stopped_by (Some text) Input h = tt
+  stopped_by (Some text) NoMemory h = tt
+
+  abbrev failing : ReadError → Result (Unit {0}) ReadError
+  failing e = Err e
+
+  passed_on : (told : Option (List ℕ)) (old new : Lists) (r : Result (Unit {0}) ReadError) (y e : ReadError) → r ≡ Err y → y ≡ e
+      → IfSome told (λ text. IsReadError (text_by bits text) e) → IfSome told (λ text. ReadsList (text_by bits text) old new r)
+  passed_on told old new r y e is same h =
+      let P : Result (Unit {0}) ReadError → Type 0 = λ k. IfSome told (λ text. ReadsList (text_by bits text) old new k) in
+      subst P (sym (is ∙ ap failing same)) h
+
+  pub failed : (told left next : Option (List ℕ)) (old now new : Lists) (number : ℕ) (line : List ℕ) (more : Bool) (r : Result (Unit {0}) ReadError) (y e : ReadError)
+      → r ≡ Err y → y ≡ e
+      → IfSome told (λ text. Progress text left old now number) → IfSome left (λ text. IsNextLine text line more next) → IsLineError bits line number e
+      → IfSome told (λ text. ReadsList (text_by bits text) old new r)
+  failed told left next old now new number line more r y e is same p n h =
+      passed_on told old new r y e is same (failed_by told left next old now number line more e p n h)
+
+  pub stopped : (told : Option (List ℕ)) (old new : Lists) (r : Result (Unit {0}) ReadError) (y e : ReadError) → r ≡ Err y → y ≡ e → IsStopped e
+      → IfSome told (λ text. ReadsList (text_by bits text) old new r)
+  stopped told old new r y e is same h = passed_on told old new r y e is same (stopped_by told e h)

@@ -8,14 +8,17 @@ use Rattle.cidr.specs.declared.family.Family.{Family}
 use Rattle.cidr.specs.declared.family.Family.TheVariants.{Ipv4, Ipv6}
 use Rattle.cidr_table.specs.FiniteMap.{StoredRows}
 use Rattle.cidr_table.specs.LastRows.{AreLastRows}
+use Rattle.netset.specs.Lists.{Text, text_by}
 use Rattle.netset.specs.Look.{IsNoNetworkField, IsUnreadTable, RowSays, row_in, rows_in, said_in}
 use Rattle.netset.specs.LookUps.{Adds, AreWithin, IsErrorAt, ReadsRows, ReadsTable, Stores, kept, resolved, stored, unread, value_at}
 use Rattle.netset.specs.Reading.{IsNextLine, IsStopped}
 use Rattle.netset.specs.declared.errors.ReadError.{ReadError}
 use Rattle.netset.specs.declared.errors.ReadError.TheVariants.{Line, Input, NoMemory}
+use Rattle.netset.specs.declared.lines.HostBits.{HostBits}
 use Rattle.netset.specs.declared.rows.Rows.{Rows}
 use Rattle.netset.specs.declared.rows.Span.{Span}
 use Rattle.netset.specs.declared.table.Table.{Table}
+use Rattle.netset.proofs.ReadBy.{bytes_read, text_same}
 use Rattle.netset.proofs.Resolved.{last_rows_mapped}
 use Rattle.netset.proofs.Passed.{Passed, none_passed, one_passed, all_passed, cut_before, error_passed}
 
@@ -100,61 +103,63 @@ stored_more old new said (Some (network, value)) s p = record {
 }
 
 -- ---- one line after the other
-abbrev pub Reads : List ℕ → Option (List ℕ) → Rows → ℕ → Type 0
-Reads text left rows number = (said : List (Option (IpCidr × List ℕ))) × Passed RowSays text left said number × Stores rows said
+module _ (bits : HostBits) where
+  abbrev pub Reads : List ℕ → Option (List ℕ) → Rows → ℕ → Type 0
+  Reads text left rows number = (said : List (Option (IpCidr × List ℕ))) × Passed (RowSays bits) text left said number × Stores rows said
 
-pub rows_started : (told : Option (List ℕ)) (rows : Rows) → Stores rows [] → IfSome told (λ text. Reads text told rows 1)
-rows_started None rows h = tt
-rows_started (Some text) rows h = ([], none_passed RowSays text, h)
+  pub rows_started : (told : Option (List ℕ)) (rows : Rows) → Stores rows [] → IfSome told (λ text. Reads text told rows 1)
+  rows_started None rows h = tt
+  rows_started (Some text) rows h = ([], none_passed (RowSays bits) text, h)
 
-pub rows_stepped : (told left next : Option (List ℕ)) (old new : Rows) (number : ℕ) (line : List ℕ) (more : Bool) (one : Option (IpCidr × List ℕ)) → more ≡ true
-    → IfSome told (λ text. Reads text left old number) → IfSome left (λ text. IsNextLine text line more next) → RowSays line one → Adds old new one
-    → IfSome told (λ text. Reads text next new (number + 1))
-rows_stepped None left next old new number line more one is h n says adds = tt
-rows_stepped (Some text) left next old new number line more one is (said, p, s) n says adds =
-    (said ++ one ∷ [], one_passed RowSays text left next said number line more one is p n says, stored_more old new said one s adds)
+  pub rows_stepped : (told left next : Option (List ℕ)) (old new : Rows) (number : ℕ) (line : List ℕ) (more : Bool) (one : Option (IpCidr × List ℕ)) → more ≡ true
+      → IfSome told (λ text. Reads text left old number) → IfSome left (λ text. IsNextLine text line more next) → RowSays bits line one → Adds old new one
+      → IfSome told (λ text. Reads text next new (number + 1))
+  rows_stepped None left next old new number line more one is h n says adds = tt
+  rows_stepped (Some text) left next old new number line more one is (said, p, s) n says adds =
+      (said ++ one ∷ [], one_passed (RowSays bits) text left next said number line more one is p n says, stored_more old new said one s adds)
 
-pub rows_finished : (told left next : Option (List ℕ)) (old new : Rows) (number : ℕ) (line : List ℕ) (more : Bool) (one : Option (IpCidr × List ℕ)) → more ≡ false
-    → IfSome told (λ text. Reads text left old number) → IfSome left (λ text. IsNextLine text line more next) → RowSays line one → Adds old new one
-    → IfSome told (λ text. ReadsRows text (Ok new))
-rows_finished None left next old new number line more one is h n says adds = tt
-rows_finished (Some text) left next old new number line more one is (said, p, s) n says adds =
-    (said ++ one ∷ [], all_passed RowSays text left next said number line more one is p n says, stored_more old new said one s adds)
+  pub rows_finished : (told left next : Option (List ℕ)) (old new : Rows) (number : ℕ) (line : List ℕ) (more : Bool) (one : Option (IpCidr × List ℕ)) → more ≡ false
+      → IfSome told (λ text. Reads text left old number) → IfSome left (λ text. IsNextLine text line more next) → RowSays bits line one → Adds old new one
+      → IfSome told (λ text. ReadsRows (text_by bits text) (Ok new))
+  rows_finished None left next old new number line more one is h n says adds = tt
+  rows_finished (Some text) left next old new number line more one is (said, p, s) n says adds =
+      (said ++ one ∷ [], all_passed (RowSays bits) text left next said number line more one is p n says, stored_more old new said one s adds)
 
-abbrev failing : ReadError → Result Rows ReadError
-failing e = Err e
+  abbrev failing : ReadError → Result Rows ReadError
+  failing e = Err e
 
-rows_in_error : (told left next : Option (List ℕ)) (old : Rows) (number : ℕ) (line : List ℕ) (more : Bool) (e : ReadError)
-    → IfSome told (λ text. Reads text left old number) → IfSome left (λ text. IsNextLine text line more next) → IsErrorAt IsNoNetworkField line number e
-    → IfSome told (λ text. ReadsRows text (Err e))
-rows_in_error None left next old number line more e h n bad = tt
-rows_in_error (Some text) left next old number line more Input h n bad = tt
-rows_in_error (Some text) left next old number line more NoMemory h n bad = tt
-rows_in_error (Some text) left next old number line more (Line m e) (said, p, s) n bad =
-    (said, error_passed RowSays IsNoNetworkField text left next said number line more m e p n bad.0 bad.1)
+  rows_in_error : (told left next : Option (List ℕ)) (old : Rows) (number : ℕ) (line : List ℕ) (more : Bool) (e : ReadError)
+      → IfSome told (λ text. Reads text left old number) → IfSome left (λ text. IsNextLine text line more next) → IsErrorAt (IsNoNetworkField bits) line number e
+      → IfSome told (λ text. ReadsRows (text_by bits text) (Err e))
+  rows_in_error None left next old number line more e h n bad = tt
+  rows_in_error (Some text) left next old number line more Input h n bad = tt
+  rows_in_error (Some text) left next old number line more NoMemory h n bad = tt
+  rows_in_error (Some text) left next old number line more (Line m e) (said, p, s) n bad =
+      (said, error_passed (RowSays bits) (IsNoNetworkField bits) text left next said number line more m e p n bad.0 bad.1)
 
-pub rows_failed : (told left next : Option (List ℕ)) (old : Rows) (number : ℕ) (line : List ℕ) (more : Bool) (r : Result Rows ReadError) (y e : ReadError)
-    → r ≡ Err y → y ≡ e → IfSome told (λ text. Reads text left old number) → IfSome left (λ text. IsNextLine text line more next)
-    → IsErrorAt IsNoNetworkField line number e → IfSome told (λ text. ReadsRows text r)
-rows_failed told left next old number line more r y e is same h n bad =
-    subst (λ (k : Result Rows ReadError). IfSome told (λ text. ReadsRows text k)) (sym (is ∙ ap failing same))
-    (rows_in_error told left next old number line more e h n bad)
+  pub rows_failed : (told left next : Option (List ℕ)) (old : Rows) (number : ℕ) (line : List ℕ) (more : Bool) (r : Result Rows ReadError) (y e : ReadError)
+      → r ≡ Err y → y ≡ e → IfSome told (λ text. Reads text left old number) → IfSome left (λ text. IsNextLine text line more next)
+      → IsErrorAt (IsNoNetworkField bits) line number e → IfSome told (λ text. ReadsRows (text_by bits text) r)
+  rows_failed told left next old number line more r y e is same h n bad =
+      subst (λ (k : Result Rows ReadError). IfSome told (λ text. ReadsRows (text_by bits text) k)) (sym (is ∙ ap failing same))
+      (rows_in_error told left next old number line more e h n bad)
 
-no_more_rows : (told : Option (List ℕ)) (e : ReadError) → IsStopped e → IfSome told (λ text. ReadsRows text (Err e))
-no_more_rows None e h = tt
-no_more_rows (Some text) (Line number e) h = absurd h
-no_more_rows (Some text) Input h = tt
-no_more_rows (Some text) NoMemory h = tt
+  no_more_rows : (told : Option (List ℕ)) (e : ReadError) → IsStopped e → IfSome told (λ text. ReadsRows (text_by bits text) (Err e))
+  no_more_rows None e h = tt
+  no_more_rows (Some text) (Line number e) h = absurd h
+  no_more_rows (Some text) Input h = tt
+  no_more_rows (Some text) NoMemory h = tt
 
-pub rows_stopped : (told : Option (List ℕ)) (r : Result Rows ReadError) (y e : ReadError) → r ≡ Err y → y ≡ e → IsStopped e
-    → IfSome told (λ text. ReadsRows text r)
-rows_stopped told r y e is same h =
-    subst (λ (k : Result Rows ReadError). IfSome told (λ text. ReadsRows text k)) (sym (is ∙ ap failing same)) (no_more_rows told e h)
+  pub rows_stopped : (told : Option (List ℕ)) (r : Result Rows ReadError) (y e : ReadError) → r ≡ Err y → y ≡ e → IsStopped e
+      → IfSome told (λ text. ReadsRows (text_by bits text) r)
+  rows_stopped told r y e is same h =
+      subst (λ (k : Result Rows ReadError). IfSome told (λ text. ReadsRows (text_by bits text) k)) (sym (is ∙ ap failing same)) (no_more_rows told e h)
 
 -- ---- the table of the rows
 -- what is read of a reader whose bytes are told
-told_rows : (left : Option (List ℕ)) (text : List ℕ) (r : Result Rows ReadError) → left ≡ Some text → IfSome left (λ text. ReadsRows text r) → ReadsRows text r
-told_rows left text r is h = rw is at h
+told_rows : (bits : HostBits) (left : Option (List ℕ)) (text : Text) (r : Result Rows ReadError) → left ≡ Some text.bytes → text.host_bits ≡ bits
+    → IfSome left (λ bytes. ReadsRows (text_by bits bytes) r) → ReadsRows text r
+told_rows bits left text r is by h = rw (text_same bits text by) at (bytes_read (λ bytes. ReadsRows (text_by bits bytes) r) left text.bytes is h)
 
 pub table_rows : (values : List ℕ) (rows : List (List Bool × Span)) (made ready : StoredRows (List Bool) Span) → AreLastRows rows made.rows → ready ≡ made
     → AreLastRows (map (resolved values) rows) (map (resolved values) ready.rows)
@@ -162,20 +167,22 @@ table_rows values rows made ready last same =
     subst (λ (k : StoredRows (List Bool) Span). AreLastRows (map (resolved values) rows) (map (resolved values) k.rows)) (sym same)
     (last_rows_mapped (value_at values) rows made.rows last)
 
-pub table_read : (told left : Option (List ℕ)) (name : List ℕ) (rows : Rows) (table : Table) → ((text : List ℕ) → told ≡ Some text → left ≡ Some text)
-    → IfSome left (λ text. ReadsRows text (Ok rows))
+pub table_read : (told : Option Text) (left : Option (List ℕ)) (bits : HostBits) (name : List ℕ) (rows : Rows) (table : Table)
+    → ((text : Text) → told ≡ Some text → left ≡ Some text.bytes) → ((text : Text) → told ≡ Some text → text.host_bits ≡ bits)
+    → IfSome left (λ bytes. ReadsRows (text_by bits bytes) (Ok rows))
     → ((family : Family) → AreLastRows (map (resolved rows.values.items) (stored rows family)) (kept table family)) → ReadsTable told name (Ok table)
-table_read told left name rows table opens reads last = λ text is.
-    let (said, says, s) = told_rows left text (Ok rows) (opens text is) reads in
+table_read told left bits name rows table opens by reads last = λ text is.
+    let (said, says, s) = told_rows bits left text (Ok rows) (opens text is) (by text is) reads in
     (said, says, λ family. subst (λ (k : List (List Bool × List ℕ)). AreLastRows k (kept table family)) (s.same family) (last family))
 
-pub table_unread : (told left : Option (List ℕ)) (file : Bor (List ℕ)) (e : ReadError) → ((text : List ℕ) → told ≡ Some text → left ≡ Some text)
-    → IfSome left (λ text. ReadsRows text (Err e)) → IsUnreadTable told file.now (unread file e)
-table_unread told left file (Line number e) opens reads = (
+pub table_unread : (told : Option Text) (left : Option (List ℕ)) (bits : HostBits) (file : Bor (List ℕ)) (e : ReadError)
+    → ((text : Text) → told ≡ Some text → left ≡ Some text.bytes) → ((text : Text) → told ≡ Some text → text.host_bits ≡ bits)
+    → IfSome left (λ bytes. ReadsRows (text_by bits bytes) (Err e)) → IsUnreadTable told file.now (unread file e)
+table_unread told left bits file (Line number e) opens by reads = (
   refl,
   λ text is.
-      let (said, first) = told_rows left text (Err (Line number e)) (opens text is) reads in
-      (said, cut_before RowSays IsNoNetworkField text said number e file first),
+      let (said, first) = told_rows bits left text (Err (Line number e)) (opens text is) (by text is) reads in
+      (said, cut_before (RowSays text.host_bits) (IsNoNetworkField text.host_bits) text.bytes said number e file first),
 )
-table_unread told left file Input opens reads = refl
-table_unread told left file NoMemory opens reads = tt
+table_unread told left bits file Input opens by reads = refl
+table_unread told left bits file NoMemory opens by reads = tt

@@ -5,7 +5,7 @@ set -euo pipefail
 export LC_ALL=C
 cd "$(dirname "$0")/.."
 
-usage=$'usage: netset merge|nets|not|ranges|count|check [FILE..] | not --in NET [FILE..] | minus|and A B.. | diff A B | free POOL LEN USED.. | match [-v] [-c] [-q] LIST [FILE] | look TABLE [FILE] | show HOST | split NET LEN | nth NET INDEX | --help | --version\n'
+usage=$'usage: netset merge|nets|not|ranges|count|check [FILE..] | not --in NET [FILE..] | minus|and A B.. | diff A B | free POOL LEN USED.. | match [-v] [-c] [-q] LIST [FILE] | look TABLE [FILE] | show HOST | split NET LEN | nth NET INDEX | --help | --version; --host-bits behind a command for lists of networks\n'
 
 room=$(mktemp -d)
 trap 'rm -rf "$room"' EXIT
@@ -263,6 +263,40 @@ rows_of_one_network() {
     run 2 '' "$usage" '' nth 192.0.2.0/24 1 2
 }
 
+# Host bits of the networks of lists, set and cleared.
+rows_of_host_bits() {
+    local host=$'host part of address was not zero\n'
+    run 0 $'10.0.0.0/8\n192.0.2.1\n192.0.2.2\n192.0.2.4/30\n2001:db8::/32\n' '' \
+        '2001:DB8::5/32 # x\n10.0.0.7/8\n10.1.2.3/8\n192.0.2.1\n192.0.2.2/32\n192.0.2.4-192.0.2.7' merge --host-bits
+    run 0 $'0.0.0.0/0\n::/0\n' '' '255.255.255.255/0\n::1/0\n' nets --host-bits --host-bits -
+    run 0 $'10.128.0.0/9\n' '' '10.1.2.3/9\n' minus --host-bits ten -
+    run 0 $'10.0.0.0/9\n' '' '10.1.2.3/9\n' and --host-bits ten -
+    run 0 $'10.128.0.0/9\n' '' '10.1.2.3/9\n' not --host-bits --in 10.0.0.0/8
+    run 1 $'-10.128.0.0/9\n' '' '10.1.2.3/9\n' diff --host-bits ten -
+    run 0 $'10.128.0.0/26\n' '' '10.1.2.3/9\n' free --host-bits ten 26 -
+    run 0 $'10.1.0.0-10.1.255.255\n' '' '10.1.2.3/16\n' ranges --host-bits
+    run 0 $'Ipv4 256\nIpv6 0\n' '' '10.1.2.3/24\n10.1.2.4/24' count --host-bits
+    run 0 $'11.0.0.1\n' '' '10.0.0.1\n11.0.0.1' match --host-bits -v hosts
+    run 2 '' "-:1: $host" '10.0.0.1/8' match --host-bits hosts
+    run 0 $'10.0.0.1 10.0.0.0/8\n' '' '10.0.0.1' look --host-bits hosts
+    run 2 '' "hosts:1: $host" '' look hosts
+    run 2 '' "hosts:1: $host" '' match hosts
+    run 2 '' "-:2: $host" '10.0.0.0/8\n10.0.0.7/8' merge
+    run 2 '' "10.0.0.1/8: $host" '' not --host-bits --in 10.0.0.1/8
+    run 2 '' $'-:1: invalid length for network: Network length 33 is too long for Ipv4 (maximum: 32)\n' '10.0.0.7/33' merge --host-bits
+    run 2 '' $'-:2: couldn\'t parse address in network: invalid IP address syntax\n' '10.0.0.7/8\n010.0.0.7/8' merge --host-bits
+    run 2 '' $'-:1: invalid IP address syntax\n' '10.0.0.7/8-10.0.0.9' merge --host-bits
+    run 2 '' $'-:1: not UTF-8\n' '\xff' merge --host-bits
+    run 2 '' "$usage" '' check --host-bits
+    run 2 '' "$usage" '' show --host-bits ::1
+    run 2 '' "$usage" '' show --host-bits
+    run 2 '' "$usage" '' --help --host-bits
+    run 2 '' "$usage" '' --host-bits merge
+    run 2 '' "$usage" '' merge ten --host-bits
+    run 2 '' "$usage" '' match -v --host-bits ten
+    run 2 '' "$usage" '' minus --host-bits ten
+}
+
 # More than one block of 8192 bytes, in order.
 long_list() {
     local input output
@@ -336,6 +370,7 @@ printf '10.0.0.0/x\n' >"$room/bad"
 printf '10.0.0.0/8 ten\n10.1.0.0/16\tfirst\r\n\n# 10.2.0.0/16 x\n10.1.0.0/16  x  y \t; z\n192.0.2.7\n2001:db8::/32 \xff#\n::/0 all' \
     >"$room/owners"
 : >"$room/nothing"
+printf '10.0.0.7/8\n' >"$room/hosts"
 printf '10.0.0.1\n' >"$room/address"
 seq 0 255 | awk '{ print "10.1." $1 ".0/24 " $1 }' >"$room/parts"
 output_file=$room/output
@@ -355,6 +390,7 @@ for build in netset netset.by-rattle; do
     rows_of_matches
     rows_of_look_ups
     rows_of_one_network
+    rows_of_host_bits
     long_list
     slow_input
     if [[ -c /dev/full ]]; then

@@ -1,7 +1,7 @@
 -- The request that a command of the program is.
-use Rattle.std.specs.Prelude.{◌≡◌, ◌≢◌, ◌⊎◌, ℕ, true, false, List, length, codes, map}
+use Rattle.std.specs.Prelude.{◌≡◌, ◌≢◌, ◌⊎◌, ℕ, Bool, true, false, List, [], ◌∷◌, length, codes, map}
 use Rattle.std.specs.List.{list_any}
-use Rattle.netset.specs.Commands.{Request, Lists, NotIn, Diff, Free, Check, Match, Look, Single as ASingle, Help, Version, is_option}
+use Rattle.netset.specs.Commands.{Request, Lists, NotIn, Diff, Free, Check, Match, Look, Single as ASingle, Help, Version, is_option, is_reading_option}
 use Rattle.netset.specs.Combining.{takes}
 use Rattle.netset.specs.declared.operations.Operation.{Operation}
 use Rattle.netset.specs.Single.{SingleRequest, Show, Split, Nth}
@@ -36,3 +36,9 @@ IsNoLoneWord word = (word ≢ codes "--help") × (word ≢ codes "--version")
 -- they are no files of the operation
 abbrev pub AreMisfits : Operation → List (List ℕ) → Type 0
 AreMisfits operation files = (list_any is_option files ≡ true) ⊎ (takes operation (length files) ≡ false)
+
+-- an option of reading stands behind the command
+abbrev pub has_reading_option : List (List ℕ) → Bool
+has_reading_option [] = false
+has_reading_option (command ∷ []) = false
+has_reading_option (command ∷ word ∷ words) = is_reading_option word

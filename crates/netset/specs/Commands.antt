@@ -1,6 +1,6 @@
 -- The commands, their arguments and what each answers.
-use Rattle.std.specs.Prelude.{◌≡◌, ℕ, ◌≤◌, ◌==◌, nat_lt, Bool, true, false, ◌&&◌, ◌⊎◌, List, [], ◌∷◌, ◌++◌, length, codes, Option, Some}
-use Rattle.std.specs.List.{AllZip, list_all, list_any, slice_index}
+use Rattle.std.specs.Prelude.{◌≡◌, ℕ, ◌≤◌, ◌==◌, nat_lt, Bool, true, false, if◌then◌else◌, ◌&&◌, ◌⊎◌, List, [], ◌∷◌, ◌++◌, length, drop, take_while, codes, Option, Some}
+use Rattle.std.specs.List.{AllZip, list_all, list_any, prefix_len, slice_index}
 use Rattle.cidr.specs.either.IpText.{IsIpNetworkText}
 use Rattle.cidr.specs.declared.cidr.combined.IpCidr.{IpCidr}
 use Rattle.cidr.specs.declared.family.Family.{Family}
@@ -9,10 +9,12 @@ use Rattle.cidr_sets.specs.Sets.{IsSetOf}
 use Rattle.netset.specs.Findings.{IsCheck}
 use Rattle.netset.specs.Free.{IsFreeText}
 use Rattle.netset.specs.Look.{IsLook}
-use Rattle.netset.specs.Lists.{ListSays, network_in, networks_in}
+use Rattle.netset.specs.Lists.{Text, ListSays, network_in, networks_in}
 use Rattle.netset.specs.Changes.{AreChanges, AreSame, printed_changes}
 use Rattle.netset.specs.Combining.{form_of, name_of, takes, IsMade}
-use Rattle.netset.specs.Matching.{has, is_match_option, written_of, IsMatch, Picks}
+use Rattle.netset.specs.Matching.{has, is_match_option, is_word, written_of, IsMatch, Picks}
+use Rattle.netset.specs.declared.lines.HostBits.{HostBits}
+use Rattle.netset.specs.declared.lines.HostBits.TheVariants.{Refused, Cleared}
 use Rattle.netset.specs.declared.operations.Form.{Form}
 use Rattle.netset.specs.declared.operations.Form.TheVariants.{Networks}
 use Rattle.netset.specs.declared.operations.Operation.{Operation}
@@ -69,8 +71,44 @@ IsRequest words Version = words ≡ codes "--version" ∷ []
 abbrev pub IsUsage : List (List ℕ) → Type 0
 IsUsage words = (request : Request) → ¬ (IsRequest words request)
 
--- these are the bytes of the files of these names
-abbrev pub AreTold : (List ℕ → Option (List ℕ)) → List (List ℕ) → List (List ℕ) → Type 0
+-- ---- options of reading, which stand behind the command
+abbrev pub is_reading_option : List ℕ → Bool
+is_reading_option word = is_word (codes "--host-bits") word
+
+-- those of the arguments
+abbrev pub reading_options : List (List ℕ) → List (List ℕ)
+reading_options [] = []
+reading_options (command ∷ words) = take_while is_reading_option words
+
+-- the arguments without them
+abbrev pub without_options : List (List ℕ) → List (List ℕ)
+without_options [] = []
+without_options (command ∷ words) = command ∷ drop (prefix_len is_reading_option words) words
+
+-- what is done with host bits
+abbrev pub host_bits_of : List (List ℕ) → HostBits
+host_bits_of options = if has (codes "--host-bits") options then Cleared else Refused
+
+-- whether lists of networks are read: `check` reads hosts, and tells their host bits
+abbrev pub reads_networks : Request → Bool
+reads_networks (Lists operation files) = true
+reads_networks (NotIn net files) = true
+reads_networks (Diff old new) = true
+reads_networks (Free pool len used) = true
+reads_networks (Check files) = false
+reads_networks (Match options list file) = true
+reads_networks (Look table file) = true
+reads_networks (Single request) = false
+reads_networks Help = false
+reads_networks Version = false
+
+-- the request may be read this way
+abbrev pub MayRead : HostBits → Request → Type 0
+MayRead Refused request = Unit {0}
+MayRead Cleared request = reads_networks request ≡ true
+
+-- these are the lists of the files of these names
+abbrev pub AreTold : (List ℕ → Option Text) → List (List ℕ) → List Text → Type 0
 AreTold told names texts = AllZip (λ name text. told name ≡ Some text) names texts
 
 -- what is printed of the shortest list of networks of each family that has these addresses: the list, their ranges, or
@@ -84,18 +122,18 @@ abbrev pub Says : List (List IpCidr) → Family → List Bool → Type 0
 Says said family a = Covers (networks_in family said) a
 
 -- what the operation makes of the lists
-abbrev pub IsMadeOf : Operation → List (List ℕ) → List ℕ → Type 0
+abbrev pub IsMadeOf : Operation → List Text → List ℕ → Type 0
 IsMadeOf operation texts answer =
     (said : List (List (List IpCidr))) × AllZip ListSays texts said × IsPrintOf (form_of operation) (IsMade Says operation said) answer
 
 -- the addresses of a network that none of the lists has
-abbrev pub IsNotIn : IpCidr → List (List ℕ) → List ℕ → Type 0
+abbrev pub IsNotIn : IpCidr → List Text → List ℕ → Type 0
 IsNotIn network texts answer = (said : List (List (List IpCidr))) × AllZip ListSays texts said
     × IsPrintOf Networks (λ family a. Covers (network_in family (network ∷ [])) a × IsMade Says Not said family a)
     answer
 
 -- what a list has and another has not, both ways
-abbrev pub IsDiff : List ℕ → List ℕ → List ℕ → Verdict → Type 0
+abbrev pub IsDiff : Text → Text → List ℕ → Verdict → Type 0
 IsDiff old new answer verdict =
     (before : List (List IpCidr)) × (after : List (List IpCidr)) × ListSays old before × ListSays new after
     × (changes : Family → List (Sign × List Bool))
@@ -103,13 +141,13 @@ IsDiff old new answer verdict =
     × (answer ≡ printed_changes changes) × AreSame changes verdict
 
 -- the first network of n bits that has only addresses of the first list that no other has
-abbrev pub IsFree : ℕ → List (List ℕ) → List ℕ → Verdict → Type 0
+abbrev pub IsFree : ℕ → List Text → List ℕ → Verdict → Type 0
 IsFree n texts answer verdict = (said : List (List (List IpCidr))) × AllZip ListSays texts said
     × (sets : Family → List (List Bool)) × ((family : Family) → IsSetOf 129 (IsMade Says Minus said family) (sets family))
     × IsFreeText sets n answer verdict
 
 -- the lines of a file whose first field lies in a list
-abbrev pub IsMatchOf : List (List ℕ) → List ℕ → List ℕ → List ℕ → Verdict → Type 0
+abbrev pub IsMatchOf : List (List ℕ) → Text → List ℕ → List ℕ → Verdict → Type 0
 IsMatchOf options networks text answer verdict = (said : List (List IpCidr)) × ListSays networks said
     × IsMatch (Picks (Says said) (has (codes "-v") options)) (written_of options) text answer verdict
 
@@ -146,6 +184,8 @@ help_text =
     ++ codes "\n"
     ++ codes "A line of a list is a network, an address or a range FIRST-LAST, and may end in a comment\n"
     ++ codes "from # or ; on. The file - is the standard input, which is also read where no file is named.\n"
+    ++ codes "With --host-bits behind a command that reads lists, but check, a bit set behind the prefix of\n"
+    ++ codes "a network in a list is taken as unset, and is no error.\n"
     ++ codes "Status: 0 done, 1 none, a difference or findings, 2 usage, a wrong argument, a file that\n"
     ++ codes "cannot be read or a line in error, 3 output or memory.\n"
 
@@ -154,21 +194,21 @@ abbrev pub version_text : List ℕ
 version_text = codes "netset 0.1.0\n"
 
 -- what a request is answered with, and whether the answer is none or no, from what is told of the files
-abbrev pub IsAnswer : (List ℕ → Option (List ℕ)) → Request → List ℕ → Verdict → Type 0
+abbrev pub IsAnswer : (List ℕ → Option Text) → Request → List ℕ → Verdict → Type 0
 IsAnswer told (Lists operation files) answer verdict =
-    ((texts : List (List ℕ)) → AreTold told (read_files files) texts → IsMadeOf operation texts answer) × (verdict ≡ Yes)
+    ((texts : List Text) → AreTold told (read_files files) texts → IsMadeOf operation texts answer) × (verdict ≡ Yes)
 IsAnswer told (NotIn net files) answer verdict = (network : IpCidr) × IsIpNetworkText net network
-    × ((texts : List (List ℕ)) → AreTold told (read_files files) texts → IsNotIn network texts answer) × (verdict ≡ Yes)
+    × ((texts : List Text) → AreTold told (read_files files) texts → IsNotIn network texts answer) × (verdict ≡ Yes)
 IsAnswer told (Diff old new) answer verdict =
-    (before after : List ℕ) → told old ≡ Some before → told new ≡ Some after → IsDiff before after answer verdict
+    (before after : Text) → told old ≡ Some before → told new ≡ Some after → IsDiff before after answer verdict
 IsAnswer told (Free pool len used) answer verdict = (n : ℕ) × IsNumber len n × (n ≤ 128)
-    × ((texts : List (List ℕ)) → AreTold told (pool ∷ used) texts → IsFree n texts answer verdict)
+    × ((texts : List Text) → AreTold told (pool ∷ used) texts → IsFree n texts answer verdict)
 IsAnswer told (Check files) answer verdict =
-    (texts : List (List ℕ)) → AreTold told (read_files files) texts → IsCheck (read_files files) texts answer verdict
+    (texts : List Text) → AreTold told (read_files files) texts → IsCheck (read_files files) texts answer verdict
 IsAnswer told (Match options list file) answer verdict =
-    (networks text : List ℕ) → told list ≡ Some networks → told file ≡ Some text → IsMatchOf options networks text answer verdict
+    (networks text : Text) → told list ≡ Some networks → told file ≡ Some text → IsMatchOf options networks text.bytes answer verdict
 IsAnswer told (Look table file) answer verdict =
-    (rows text : List ℕ) → told table ≡ Some rows → told file ≡ Some text → IsLook rows text answer verdict
+    (rows text : Text) → told table ≡ Some rows → told file ≡ Some text → IsLook rows text.bytes answer verdict
 IsAnswer told (Single request) answer verdict = IsSingleAnswer request answer verdict
 IsAnswer told Help answer verdict = (answer ≡ help_text) × (verdict ≡ Yes)
 IsAnswer told Version answer verdict = (answer ≡ version_text) × (verdict ≡ Yes)

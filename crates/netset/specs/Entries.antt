@@ -3,7 +3,7 @@ use Rattle.std.specs.Prelude.{◌≡◌, ◌≢◌, ◌↔◌, ℕ, ◌+◌, Lis
 use Rattle.cidr.specs.either.IpText.{IsIpHostText, IsIpHostRefused, ip_host_text}
 use Rattle.cidr.specs.texts.Printed.{plain_host_text}
 use Rattle.cidr.specs.declared.inet.combined.IpInet.{IpInet}
-use Rattle.netset.specs.Lists.{lines_of, IsField}
+use Rattle.netset.specs.Lists.{Text, lines_of, IsField}
 use Rattle.netset.specs.declared.entries.Entry.{Entry}
 use Rattle.netset.specs.declared.errors.LineError.{LineError}
 use Rattle.netset.specs.declared.errors.LineError.TheVariants.{NotUtf8, NoNetwork, NoAddress, TwoFamilies, Reversed}
@@ -25,12 +25,12 @@ AreEntries file number (line ∷ lines) entries = (one : Option Entry) × (rest 
     × LineHas file number line one × AreEntries file (number + 1) lines rest × (entries ≡ option_to_list one ++ rest)
 
 -- the entries of lists, of these names and these texts, one list after another
-abbrev pub AreAllEntries : List (List ℕ) → List (List ℕ) → List Entry → Type 0
+abbrev pub AreAllEntries : List (List ℕ) → List Text → List Entry → Type 0
 AreAllEntries [] [] entries = entries ≡ []
 AreAllEntries [] (text ∷ texts) entries = ⊥
 AreAllEntries (file ∷ files) [] entries = ⊥
 AreAllEntries (file ∷ files) (text ∷ texts) entries = (these : List Entry) × (those : List Entry)
-    × AreEntries file 1 (lines_of text) these × AreAllEntries files texts those × (entries ≡ these ++ those)
+    × AreEntries file 1 (lines_of text.bytes) these × AreAllEntries files texts those × (entries ≡ these ++ those)
 
 -- the line is in error: its field is not UTF-8, or neither a network nor a host, and this is the first error
 abbrev pub HasNoHost : List ℕ → LineError → Type 0

@@ -13,6 +13,7 @@ use Rattle.cidr.specs.declared.cidr.combined.IpCidr.{IpCidr}
 use Rattle.cidr.specs.declared.inet.combined.IpInet.{IpInet}
 use Rattle.cidr_ext.specs.Tree.{AreSiblings}
 use Rattle.netset.specs.Entries.{AreAllEntries}
+use Rattle.netset.specs.Lists.{Text}
 use Rattle.netset.specs.Printing.{line}
 use Rattle.netset.specs.declared.answers.Verdict.{Verdict}
 use Rattle.netset.specs.declared.answers.Verdict.TheVariants.{Yes, No}
@@ -109,7 +110,7 @@ IsClean notes Yes = notes ≡ []
 IsClean notes No = notes ≢ []
 
 -- all findings in the lists of these names and texts, one a line
-abbrev pub IsCheck : List (List ℕ) → List (List ℕ) → List ℕ → Verdict → Type 0
+abbrev pub IsCheck : List (List ℕ) → List Text → List ℕ → Verdict → Type 0
 IsCheck names texts answer verdict = (entries : List Entry) × AreAllEntries names texts entries
     × (notes : List Note) × AreNotes entries notes × (answer ≡ flat_map note_line notes) × IsClean notes verdict
 

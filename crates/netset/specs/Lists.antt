@@ -1,4 +1,4 @@
--- What the bytes of a list of networks say: a network, an address or a range of addresses a line, with white space
+-- What a list of networks says: a network, an address or a range of addresses a line, with white space
 -- around it, and a comment behind it from # or ; on. Line feeds separate lines, so that a last one makes an empty line,
 -- which says nothing.
 use Rattle.std.specs.Prelude.{◌≡◌, ◌≢◌, ◌⊎◌, ℕ, ◌+◌, ◌==◌, Bool, ◌||◌, List, [], ◌∷◌, ◌++◌, length, map, IsUtf8}
@@ -7,7 +7,8 @@ use Rattle.std.specs.List.{AllZip, slice_split, before_first, flat_map}
 use Rattle.std.specs.Str.{IsTrimAscii, IsTrimAsciiStart}
 use Rattle.std.specs.declared.cmp.Ordering.TheVariants.{Greater}
 use Rattle.cidr.specs.either.IpAddress.{IsIpText, address_family, ip_address_bits}
-use Rattle.cidr.specs.either.IpText.{IsIpNetworkText, IsIpRefused}
+use Rattle.cidr.specs.either.IpHost.{host_network}
+use Rattle.cidr.specs.either.IpText.{IsIpHostRefused, IsIpHostText, IsIpNetworkText, IsIpRefused}
 use Rattle.cidr.specs.model.Bits.{bit_cmp}
 use Rattle.cidr.specs.texts.Messages.{ip_error}
 use Rattle.cidr.specs.texts.Refusal.{Lacks}
@@ -15,12 +16,16 @@ use Rattle.cidr.specs.declared.addr.ip.IpAddr.{IpAddr}
 use Rattle.cidr.specs.declared.addr.ip.IpAddr.TheVariants as address
 use Rattle.cidr.specs.declared.cidr.combined.IpCidr.{IpCidr}
 use Rattle.cidr.specs.declared.cidr.combined.IpCidr.TheVariants.{V4, V6}
+use Rattle.cidr.specs.declared.errors.NetworkParseError.{NetworkParseError}
 use Rattle.cidr.specs.declared.family.Family.{Family}
 use Rattle.cidr.specs.declared.family.Family.TheVariants.{Ipv4, Ipv6}
+use Rattle.cidr.specs.declared.inet.combined.IpInet.{IpInet}
 use Rattle.cidr_sets.specs.Ranges.{IsBetween}
 use Rattle.cidr_sets.specs.Sets.{IsSetOf}
 use Rattle.netset.specs.declared.errors.LineError.{LineError}
 use Rattle.netset.specs.declared.errors.LineError.TheVariants.{NotUtf8, NoNetwork, NoAddress, TwoFamilies, Reversed}
+use Rattle.netset.specs.declared.lines.HostBits.{HostBits}
+use Rattle.netset.specs.declared.lines.HostBits.TheVariants.{Refused, Cleared}
 use Rattle.netset.specs.declared.lines.Content.{Content}
 use Rattle.netset.specs.declared.lines.Content.TheVariants.{Blank, Network, Ipv4Range, Ipv6Range}
 
@@ -35,6 +40,14 @@ is_comment_sign byte = (byte == 35) || (byte == 59)
 -- `b'-'`
 abbrev pub hyphen : ℕ
 hyphen = 45
+
+-- a list: its bytes, and what is done with a set bit after the prefix of a network
+pub record Text : Type 0 where
+  pub bytes : List ℕ
+  pub host_bits : HostBits
+
+abbrev pub text_by : HostBits → List ℕ → Text
+text_by bits bytes = record { bytes = bytes; host_bits = bits }
 
 -- the bytes between line feeds
 abbrev pub lines_of : List ℕ → List (List ℕ)
@@ -55,12 +68,19 @@ abbrev pub AreEnds : List ℕ → IpAddr → IpAddr → Type 0
 AreEnds text first last =
     (front : List ℕ) × (back : List ℕ) × (text ≡ front ++ hyphen ∷ back) × IsIpText front first × IsIpText back last
 
+-- the string is a network, or a host whose network it is
+abbrev pub IsNetworkBy : HostBits → List ℕ → IpCidr → Type 0
+IsNetworkBy Refused text network = IsIpNetworkText text network
+IsNetworkBy Cleared text network = (host : IpInet) × IsIpHostText text host × (network ≡ host_network host)
+
 -- the field is empty, a network or an address, or a range of one family, whose first address is not above its last
-abbrev pub IsContent : List ℕ → Content → Type 0
-IsContent field Blank = field ≡ []
-IsContent field (Network network) = IsIpNetworkText field network
-IsContent field (Ipv4Range first last) = AreEnds field (address.V4 first) (address.V4 last) × (bit_cmp first last ≢ Greater)
-IsContent field (Ipv6Range first last) = AreEnds field (address.V6 first) (address.V6 last) × (bit_cmp first last ≢ Greater)
+abbrev pub IsContent : HostBits → List ℕ → Content → Type 0
+IsContent bits field Blank = field ≡ []
+IsContent bits field (Network network) = IsNetworkBy bits field network
+IsContent bits field (Ipv4Range first last) =
+    AreEnds field (address.V4 first) (address.V4 last) × (bit_cmp first last ≢ Greater)
+IsContent bits field (Ipv6Range first last) =
+    AreEnds field (address.V6 first) (address.V6 last) × (bit_cmp first last ≢ Greater)
 
 -- its networks: for a range the shortest list that has exactly the addresses from the first to the last
 abbrev pub AreNetworks : Content → List IpCidr → Type 0
@@ -72,47 +92,52 @@ AreNetworks (Ipv6Range first last) said =
     (networks : List (List Bool)) × IsSetOf 129 (IsBetween first last) networks × (said ≡ map (λ p. V6 p) networks)
 
 -- the line says these networks
-abbrev pub LineSays : List ℕ → List IpCidr → Type 0
-LineSays line said = (field : List ℕ) × (content : Content) × IsField line field × IsContent field content × AreNetworks content said
+abbrev pub LineSays : HostBits → List ℕ → List IpCidr → Type 0
+LineSays bits line said =
+    (field : List ℕ) × (content : Content) × IsField line field × IsContent bits field content × AreNetworks content said
 
 -- ---- a line in error
 -- the string is no address of either family
 abbrev pub IsNoAddress : List ℕ → Type 0
 IsNoAddress text = (a : IpAddr) → ¬ (IsIpText text a)
 
+-- the string is no network, or no host, and this is the first error
+abbrev pub IsNoNetworkBy : HostBits → List ℕ → NetworkParseError → Type 0
+IsNoNetworkBy Refused text e = IsIpRefused text e × ((n : IpCidr) → ¬ (IsIpNetworkText text n))
+IsNoNetworkBy Cleared text e = IsIpHostRefused text e × ((h : IpInet) → ¬ (IsIpHostText text h))
+
 -- the first error of a field: it is not UTF-8; else, without a hyphen, it is no network, and this is the first error;
 -- else what stands before its first hyphen is no address, or what stands behind it; else the two are of two families;
 -- else the first is above the last
-abbrev pub IsFieldError : List ℕ → LineError → Type 0
-IsFieldError field NotUtf8 = ¬ (IsUtf8 field)
-IsFieldError field (NoNetwork e) =
-    (field ≢ []) × Lacks hyphen field × IsIpRefused field e × ((n : IpCidr) → ¬ (IsIpNetworkText field n))
-IsFieldError field (NoAddress e) = (front : List ℕ) × (back : List ℕ) × (field ≡ front ++ hyphen ∷ back) × Lacks hyphen front
+abbrev pub IsFieldError : HostBits → List ℕ → LineError → Type 0
+IsFieldError bits field NotUtf8 = ¬ (IsUtf8 field)
+IsFieldError bits field (NoNetwork e) = (field ≢ []) × Lacks hyphen field × IsNoNetworkBy bits field e
+IsFieldError bits field (NoAddress e) = (front : List ℕ) × (back : List ℕ) × (field ≡ front ++ hyphen ∷ back) × Lacks hyphen front
     × (e ≡ ip_error) × (IsNoAddress front ⊎ IsNoAddress back)
-IsFieldError field TwoFamilies =
+IsFieldError bits field TwoFamilies =
     (first : IpAddr) × (last : IpAddr) × AreEnds field first last × (address_family first ≢ address_family last)
-IsFieldError field Reversed = (first : IpAddr) × (last : IpAddr) × AreEnds field first last
+IsFieldError bits field Reversed = (first : IpAddr) × (last : IpAddr) × AreEnds field first last
     × (address_family first ≡ address_family last) × (bit_cmp (ip_address_bits first) (ip_address_bits last) ≡ Greater)
 
 -- the line is in error
-abbrev pub IsInError : List ℕ → LineError → Type 0
-IsInError line e = (field : List ℕ) × IsField line field × IsFieldError field e
+abbrev pub IsInError : HostBits → List ℕ → LineError → Type 0
+IsInError bits line e = (field : List ℕ) × IsField line field × IsFieldError bits field e
 
 -- ---- a list
 -- what each line of a list says
-abbrev pub ListSays : List ℕ → List (List IpCidr) → Type 0
-ListSays text said = AllZip LineSays (lines_of text) said
+abbrev pub ListSays : Text → List (List IpCidr) → Type 0
+ListSays text said = AllZip (LineSays text.host_bits) (lines_of text.bytes) said
 
 -- the first line in error, by its number from 1 on
-pub record IsFirstError (text : List ℕ) (number : ℕ) (e : LineError) : Type 0 where
+pub record IsFirstError (text : Text) (number : ℕ) (e : LineError) : Type 0 where
   pub before : List (List ℕ)
   pub line : List ℕ
   pub after : List (List ℕ)
-  pub lines : lines_of text ≡ before ++ line ∷ after
+  pub lines : lines_of text.bytes ≡ before ++ line ∷ after
   pub place : number ≡ length before + 1
   pub said : List (List IpCidr)
-  pub fine : AllZip LineSays before said
-  pub fault : IsInError line e
+  pub fine : AllZip (LineSays text.host_bits) before said
+  pub fault : IsInError text.host_bits line e
 
 -- the networks of a family among those that a line says
 abbrev pub network_in : Family → List IpCidr → List (List Bool)

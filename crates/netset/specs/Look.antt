@@ -4,7 +4,6 @@ use Rattle.std.specs.Prelude.{◌≡◌, ◌≢◌, ℕ, Bool, true, false, List
 use Rattle.std.specs.List.{AllZip, flat_map, list_any}
 use Rattle.std.specs.Str.{IsTrimAscii}
 use Rattle.cidr.specs.either.IpAddress.{IsIpText, address_family, plain_bits}
-use Rattle.cidr.specs.either.IpText.{IsIpNetworkText, IsIpRefused}
 use Rattle.cidr.specs.texts.Messages.{ip_error}
 use Rattle.cidr.specs.texts.Printed.{plain_text}
 use Rattle.cidr.specs.texts.PrintedAddress.{ip_text}
@@ -15,7 +14,7 @@ use Rattle.cidr.specs.declared.family.Family.{Family}
 use Rattle.cidr.specs.declared.family.Family.TheVariants.{Ipv4, Ipv6}
 use Rattle.cidr_table.specs.LastRows.{AreLastRows}
 use Rattle.cidr_table.specs.Prefixes.{IsLookedUp}
-use Rattle.netset.specs.Lists.{IsField, IsFirstField, IsNoAddress, lines_of}
+use Rattle.netset.specs.Lists.{Text, IsField, IsFirstField, IsNetworkBy, IsNoAddress, IsNoNetworkBy, lines_of}
 use Rattle.netset.specs.Streaming.{IsCut}
 use Rattle.netset.specs.declared.answers.Verdict.{Verdict}
 use Rattle.netset.specs.declared.answers.Verdict.TheVariants.{Yes, No}
@@ -23,6 +22,7 @@ use Rattle.netset.specs.declared.errors.CommandError.{CommandError}
 use Rattle.netset.specs.declared.errors.CommandError.TheVariants as error
 use Rattle.netset.specs.declared.errors.LineError.{LineError}
 use Rattle.netset.specs.declared.errors.LineError.TheVariants.{NotUtf8, NoNetwork, NoAddress}
+use Rattle.netset.specs.declared.lines.HostBits.{HostBits}
 
 -- ---- lines
 -- the first field of a line that isn't blank, up to white space, and the rest without white space at both ends
@@ -31,10 +31,10 @@ IsSplit line first rest = (field : List ℕ) × IsField line field × (field ≢
     × IsFirstField field first × IsTrimAscii (drop (length first) field) rest
 
 -- the first field is no network, and this is the error
-abbrev pub IsNoNetworkField : List ℕ → LineError → Type 0
-IsNoNetworkField first NotUtf8 = ¬ (IsUtf8 first)
-IsNoNetworkField first (NoNetwork e) = IsIpRefused first e × ((n : IpCidr) → ¬ (IsIpNetworkText first n))
-IsNoNetworkField first e = ⊥
+abbrev pub IsNoNetworkField : HostBits → List ℕ → LineError → Type 0
+IsNoNetworkField bits first NotUtf8 = ¬ (IsUtf8 first)
+IsNoNetworkField bits first (NoNetwork e) = IsNoNetworkBy bits first e
+IsNoNetworkField bits first e = ⊥
 
 -- the first field is no address, and this is the error
 abbrev pub IsNoAddressField : List ℕ → LineError → Type 0
@@ -48,9 +48,9 @@ IsBadLine IsBad line e = (first : List ℕ) × (rest : List ℕ) × IsSplit line
 
 -- ---- a table
 -- the line of a table says nothing, or a network and its value
-abbrev pub RowSays : List ℕ → Option (IpCidr × List ℕ) → Type 0
-RowSays line None = IsField line []
-RowSays line (Some (network, value)) = (first : List ℕ) × IsSplit line first value × IsIpNetworkText first network
+abbrev pub RowSays : HostBits → List ℕ → Option (IpCidr × List ℕ) → Type 0
+RowSays bits line None = IsField line []
+RowSays bits line (Some (network, value)) = (first : List ℕ) × IsSplit line first value × IsNetworkBy bits first network
 
 -- a network of either family with what belongs to it, if it is of this family
 abbrev pub row_in : {V : Type 0} → Family → IpCidr × V → List (List Bool × V)
@@ -69,15 +69,15 @@ abbrev pub rows_in : Family → List (Option (IpCidr × List ℕ)) → List (Lis
 rows_in family said = flat_map (said_in family) said
 
 -- what a text says as a table: the networks of each family, each once, with the value of its last line
-abbrev pub IsTable : List ℕ → (Family → List (List Bool × List ℕ)) → Type 0
-IsTable text table = (said : List (Option (IpCidr × List ℕ))) × AllZip RowSays (lines_of text) said
+abbrev pub IsTable : Text → (Family → List (List Bool × List ℕ)) → Type 0
+IsTable text table = (said : List (Option (IpCidr × List ℕ))) × AllZip (RowSays text.host_bits) (lines_of text.bytes) said
     × ((family : Family) → AreLastRows (rows_in family said) (table family))
 
 -- why the table of a file is not read: its first line in error, the file or memory
-abbrev pub IsUnreadTable : Option (List ℕ) → List ℕ → CommandError → Type 0
-IsUnreadTable told name (error.Line file number e) = (file.now ≡ name) × ((text : List ℕ) → told ≡ Some text
+abbrev pub IsUnreadTable : Option Text → List ℕ → CommandError → Type 0
+IsUnreadTable told name (error.Line file number e) = (file.now ≡ name) × ((text : Text) → told ≡ Some text
     → (said : List (Option (IpCidr × List ℕ)))
-    × IsCut (AllZip RowSays) (IsBadLine IsNoNetworkField) (lines_of text) said (error.Line file number e))
+    × IsCut (AllZip (RowSays text.host_bits)) (IsBadLine (IsNoNetworkField text.host_bits)) (lines_of text.bytes) said (error.Line file number e))
 IsUnreadTable told name (error.Input file) = file.now ≡ name
 IsUnreadTable told name error.NoMemory = Unit {0}
 IsUnreadTable told name e = ⊥
@@ -124,12 +124,12 @@ TellsFound looks Yes = list_any is_found looks ≡ true
 TellsFound looks No = list_any is_found looks ≡ false
 
 -- the addresses of a text, looked up in the table that another text says
-abbrev pub IsLook : List ℕ → List ℕ → List ℕ → Verdict → Type 0
+abbrev pub IsLook : Text → List ℕ → List ℕ → Verdict → Type 0
 IsLook rows text answer verdict = (table : Family → List (List Bool × List ℕ)) × IsTable rows table
     × (looks : List (Option LookUp)) × AllZip (LineLooks table) (lines_of text) looks
     × (answer ≡ flat_map look_line looks) × TellsFound looks verdict
 
 -- the same of the lines that were read, where the text was not read to its end, for this reason
-abbrev pub IsLookUntil : List ℕ → List ℕ → List ℕ → CommandError → Type 0
+abbrev pub IsLookUntil : Text → List ℕ → List ℕ → CommandError → Type 0
 IsLookUntil rows text answer e = (table : Family → List (List Bool × List ℕ)) × IsTable rows table × (looks : List (Option LookUp))
     × IsCut (AllZip (LineLooks table)) (IsBadLine IsNoAddressField) (lines_of text) looks e × (answer ≡ flat_map look_line looks)

@@ -11,13 +11,14 @@ use Rattle.cidr_io.specs.Writing.{State, Part, Answered}
 use Rattle.cidr_io.specs.declared.sink.OutputFailed.{OutputFailed}
 use Rattle.cidr_table.specs.Prefixes.{IsLookedUp}
 use Rattle.netset.specs.Collecting.{Collects}
-use Rattle.netset.specs.Lists.{lines_of}
+use Rattle.netset.specs.Lists.{Text, lines_of}
 use Rattle.netset.specs.Look.{IsBadLine, IsNoAddressField, IsNoNetworkField, IsTable, IsUnreadTable, LineLooks, LookUp, RowSays, found_line, is_found, look_line, row_in, rows_in}
 use Rattle.netset.specs.declared.answers.Verdict.{Verdict}
 use Rattle.netset.specs.declared.answers.Verdict.TheVariants.{Yes, No}
 use Rattle.netset.specs.declared.errors.CommandError.{CommandError}
 use Rattle.netset.specs.declared.errors.CommandError.TheVariants as error
 use Rattle.netset.specs.declared.errors.LineError.{LineError}
+use Rattle.netset.specs.declared.lines.HostBits.{HostBits}
 use Rattle.netset.specs.declared.errors.ReadError.{ReadError}
 use Rattle.netset.specs.declared.errors.ReadError.TheVariants.{Line, Input, NoMemory}
 use Rattle.netset.specs.declared.look.LookError.{LookError}
@@ -84,15 +85,16 @@ IsErrorAt IsBad line number Input = Unit {0}
 IsErrorAt IsBad line number NoMemory = Unit {0}
 
 -- the row that a line says, if it says one, comes behind those before
-abbrev pub AddsRow : List ℕ → ℕ → Rows → Rows → Result (Unit {0}) ReadError → Type 0
-AddsRow line number old new (Ok _) = (said : Option (IpCidr × List ℕ)) × RowSays line said × Adds old new said
-AddsRow line number old new (Err e) = IsErrorAt IsNoNetworkField line number e
+abbrev pub AddsRow : HostBits → List ℕ → ℕ → Rows → Rows → Result (Unit {0}) ReadError → Type 0
+AddsRow bits line number old new (Ok _) = (said : Option (IpCidr × List ℕ)) × RowSays bits line said × Adds old new said
+AddsRow bits line number old new (Err e) = IsErrorAt (IsNoNetworkField bits) line number e
 
 -- the rows that a text says, or its first line in error, or nothing of the text where reading has stopped
-abbrev pub ReadsRows : List ℕ → Result Rows ReadError → Type 0
-ReadsRows text (Ok rows) = (said : List (Option (IpCidr × List ℕ))) × AllZip RowSays (lines_of text) said × Stores rows said
-ReadsRows text (Err (Line number e)) =
-    (said : List (Option (IpCidr × List ℕ))) × AreBeforeError RowSays IsNoNetworkField text said number e
+abbrev pub ReadsRows : Text → Result Rows ReadError → Type 0
+ReadsRows text (Ok rows) = (said : List (Option (IpCidr × List ℕ)))
+    × AllZip (RowSays text.host_bits) (lines_of text.bytes) said × Stores rows said
+ReadsRows text (Err (Line number e)) = (said : List (Option (IpCidr × List ℕ)))
+    × AreBeforeError (RowSays text.host_bits) (IsNoNetworkField text.host_bits) text.bytes said number e
 ReadsRows text (Err Input) = Unit {0}
 ReadsRows text (Err NoMemory) = Unit {0}
 
@@ -102,8 +104,8 @@ kept table Ipv4 = map (resolved table.values.items) table.v4.rows
 kept table Ipv6 = map (resolved table.values.items) table.v6.rows
 
 -- the table of a file, or why it is not read
-abbrev pub ReadsTable : Option (List ℕ) → List ℕ → Result Table CommandError → Type 0
-ReadsTable told name (Ok table) = (text : List ℕ) → told ≡ Some text → IsTable text (kept table)
+abbrev pub ReadsTable : Option Text → List ℕ → Result Table CommandError → Type 0
+ReadsTable told name (Ok table) = (text : Text) → told ≡ Some text → IsTable text (kept table)
 ReadsTable told name (Err e) = IsUnreadTable told name e
 
 -- an error of reading a file

@@ -17,6 +17,7 @@ use Rattle.netset.specs.declared.answers.Verdict.{Verdict}
 use Rattle.netset.specs.declared.answers.Verdict.TheVariants.{Yes, No}
 use Rattle.netset.specs.declared.errors.CommandError.{CommandError}
 use Rattle.netset.specs.declared.errors.LineError.{LineError}
+use Rattle.netset.specs.declared.lines.HostBits.TheVariants.{Refused}
 use Rattle.netset.specs.declared.matching.Written.{Written}
 use Rattle.netset.specs.declared.matching.Written.TheVariants as written
 
@@ -65,7 +66,7 @@ FieldSays line (Some network) = (field : List ℕ) × IsFirstField line field ×
 
 -- the first field is in error: it says something, and no network
 abbrev pub IsBadField : List ℕ → LineError → Type 0
-IsBadField line e = (field : List ℕ) × IsFirstField line field × ¬ (SaysNothing field) × IsNoNetworkField field e
+IsBadField line e = (field : List ℕ) × IsFirstField line field × ¬ (SaysNothing field) × IsNoNetworkField Refused field e
 
 -- ---- which lines are picked; `IsIn` tells the addresses of the list
 -- the network has only addresses of the list

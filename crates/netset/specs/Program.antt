@@ -1,5 +1,5 @@
 -- What a run of the program does with its arguments, the files, standard output and standard error.
-use Rattle.std.specs.Prelude.{◌≡◌, ℕ, List, [], ◌∷◌, ◌++◌, ◌⊎◌, codes, decimal, Option, Some, Result, Ok, Err, Contains}
+use Rattle.std.specs.Prelude.{◌≡◌, ℕ, List, [], ◌∷◌, ◌++◌, ◌⊎◌, codes, decimal, Option, Some, option_map, Result, Ok, Err, Contains}
 use Rattle.std.specs.List.{AllZip}
 use Rattle.cidr.specs.texts.Messages.{address_message, parse_message}
 use Rattle.cidr.specs.either.IpText.{IsIpNetworkText}
@@ -7,8 +7,8 @@ use Rattle.cidr.specs.declared.cidr.combined.IpCidr.{IpCidr}
 use Rattle.cidr_io.specs.Arguments.{AreArguments, AreUnreadable}
 use Rattle.cidr_io.specs.Writing.{State, Answered, Says as Tells}
 use Rattle.cidr_io.specs.declared.sink.OutputFailed.{OutputFailed}
-use Rattle.netset.specs.Lists.{ListSays, IsFirstError}
-use Rattle.netset.specs.Commands.{Request, Lists, NotIn, Diff, Free, Check, Match, Look, Single, Help, Version, IsRequest, IsUsage, read_files, AreTold, IsAnswer, Says}
+use Rattle.netset.specs.Lists.{Text, text_by, ListSays, IsFirstError}
+use Rattle.netset.specs.Commands.{Request, Lists, NotIn, Diff, Free, Check, Match, Look, Single, Help, Version, IsRequest, IsUsage, MayRead, host_bits_of, reading_options, without_options, read_files, AreTold, IsAnswer, Says}
 use Rattle.netset.specs.Free.{IsBadLength}
 use Rattle.netset.specs.Look.{IsLookUntil, IsUnreadTable}
 use Rattle.netset.specs.Matching.{has, written_of, IsCutAt, Picks}
@@ -19,6 +19,7 @@ use Rattle.netset.specs.declared.errors.ArgumentError.{ArgumentError}
 use Rattle.netset.specs.declared.errors.ArgumentError.TheVariants as bad
 use Rattle.netset.specs.declared.errors.LineError.{LineError}
 use Rattle.netset.specs.declared.errors.LineError.TheVariants.{NotUtf8, NoNetwork, NoAddress, TwoFamilies, Reversed}
+use Rattle.netset.specs.declared.lines.HostBits.{HostBits}
 use Rattle.netset.specs.declared.answers.Verdict.{Verdict}
 use Rattle.netset.specs.declared.answers.Verdict.TheVariants.{Yes, No}
 use Rattle.netset.specs.declared.errors.CommandError.{CommandError}
@@ -26,13 +27,13 @@ use Rattle.netset.specs.declared.errors.CommandError.TheVariants as error
 
 -- why the lists of these names are not read: the first line in error of the first list that has one, a file that can't
 -- be read, or memory
-abbrev pub IsUnread : (List ℕ → Option (List ℕ)) → List (List ℕ) → CommandError → Type 0
+abbrev pub IsUnread : (List ℕ → Option Text) → List (List ℕ) → CommandError → Type 0
 IsUnread told names error.Usage = ⊥
 IsUnread told names (error.Argument text e) = ⊥
 IsUnread told names (error.Line name number e) =
     (before : List (List ℕ)) × (after : List (List ℕ)) × (names ≡ before ++ name.now ∷ after)
-    × ((texts : List (List ℕ)) → AreTold told before texts → (said : List (List (List IpCidr))) × AllZip ListSays texts said)
-    × ((text : List ℕ) → told name.now ≡ Some text → IsFirstError text number e)
+    × ((texts : List Text) → AreTold told before texts → (said : List (List (List IpCidr))) × AllZip ListSays texts said)
+    × ((text : Text) → told name.now ≡ Some text → IsFirstError text number e)
 IsUnread told names (error.Input name) = Contains names name.now
 IsUnread told names error.NoMemory = Unit {0}
 IsUnread told names error.Output = ⊥
@@ -52,7 +53,7 @@ IsInputError file (error.Input name) = name.now ≡ file
 IsInputError file e = ⊥
 
 -- why a request is not answered, and nothing is written
-abbrev pub IsRefused : (List ℕ → Option (List ℕ)) → Request → Result Verdict CommandError → Type 0
+abbrev pub IsRefused : (List ℕ → Option Text) → Request → Result Verdict CommandError → Type 0
 IsRefused told request (Ok verdict) = ⊥
 IsRefused told (Lists operation files) (Err e) = IsUnread told (read_files files) e
 IsRefused told (NotIn net files) (Err e) = IsBadArgument (λ text bad. (text ≡ net) × IsNoNetwork net bad) e
@@ -78,36 +79,49 @@ or_output e (Err failed) = error.Output
 
 -- What becomes of a request and of the sink: nothing is written where its lists are not read. Else its answer is
 -- written whole, or the sink has failed and a beginning of the answer was written, none if it had failed before.
-abbrev pub AnswersWhole : (List ℕ → Option (List ℕ)) → Request → State → State → Result Verdict CommandError → Type 0
+abbrev pub AnswersWhole : (List ℕ → Option Text) → Request → State → State → Result Verdict CommandError → Type 0
 AnswersWhole told request old new r =
     ((new ≡ old) × IsRefused told request r)
     ⊎ ((answer : List ℕ) × (verdict : Verdict) × (written : Result (Unit {0}) OutputFailed) × IsAnswer told request answer verdict
     × Answered old new answer written × (r ≡ by_output verdict written))
 
 -- the lines of the file of `match` were not read to their end, and a beginning of what belongs to those before was written
-abbrev pub IsCutShort : (List ℕ → Option (List ℕ)) → List (List ℕ) → List ℕ → List ℕ → State → State → Result Verdict CommandError → Type 0
+abbrev pub IsCutShort : (List ℕ → Option Text) → List (List ℕ) → List ℕ → List ℕ → State → State → Result Verdict CommandError → Type 0
 IsCutShort told options list file old new r = (e : CommandError) × (r ≡ Err e) × IsOfFile file e × (answer : List ℕ) × IsBegun old new answer e
-    × ((networks text : List ℕ) → told list ≡ Some networks → told file ≡ Some text → (said : List (List IpCidr)) × ListSays networks said
-    × IsCutAt (Picks (Says said) (has (codes "-v") options)) (written_of options) text answer e)
+    × ((networks text : Text) → told list ≡ Some networks → told file ≡ Some text → (said : List (List IpCidr)) × ListSays networks said
+    × IsCutAt (Picks (Says said) (has (codes "-v") options)) (written_of options) text.bytes answer e)
 
 -- the lines of the file of `look` were not read to their end, and what belongs to those before was written, or a beginning
-abbrev pub IsCutLook : (List ℕ → Option (List ℕ)) → List ℕ → List ℕ → State → State → Result Verdict CommandError → Type 0
+abbrev pub IsCutLook : (List ℕ → Option Text) → List ℕ → List ℕ → State → State → Result Verdict CommandError → Type 0
 IsCutLook told table file old new r = (e : CommandError) × IsOfFile file e × (answer : List ℕ) × (written : Result (Unit {0}) OutputFailed)
-    × ((rows text : List ℕ) → told table ≡ Some rows → told file ≡ Some text → IsLookUntil rows text answer e)
+    × ((rows text : Text) → told table ≡ Some rows → told file ≡ Some text → IsLookUntil rows text.bytes answer e)
     × Answered old new answer written × (r ≡ Err (or_output e written))
 
 -- what becomes of a request and of the sink
-abbrev pub AnswersRequest : (List ℕ → Option (List ℕ)) → Request → State → State → Result Verdict CommandError → Type 0
+abbrev pub AnswersRequest : (List ℕ → Option Text) → Request → State → State → Result Verdict CommandError → Type 0
 AnswersRequest told (Match options list file) old new r =
     AnswersWhole told (Match options list file) old new r ⊎ IsCutShort told options list file old new r
 AnswersRequest told (Look table file) old new r = AnswersWhole told (Look table file) old new r ⊎ IsCutLook told table file old new r
 AnswersRequest told request old new r = AnswersWhole told request old new r
 
+-- the lists of the files, read this way
+abbrev pub told_by : HostBits → (List ℕ → Option (List ℕ)) → List ℕ → Option Text
+told_by bits told name = option_map (text_by bits) (told name)
+
+-- what becomes of a request whose lists are read this way: usage where it may not be, and then nothing is written
+abbrev pub AnswersBy : HostBits → (List ℕ → Option (List ℕ)) → Request → State → State → Result Verdict CommandError → Type 0
+AnswersBy bits told request old new r = (MayRead bits request × AnswersRequest (told_by bits told) request old new r)
+    ⊎ (¬ (MayRead bits request) × (r ≡ Err error.Usage) × (new ≡ old))
+
 -- other arguments are usage, and nothing is written
-abbrev pub Answers : (List ℕ → Option (List ℕ)) → List (List ℕ) → State → State → Result Verdict CommandError → Type 0
-Answers told words old new r =
+abbrev pub AnswersWords : HostBits → (List ℕ → Option (List ℕ)) → List (List ℕ) → State → State → Result Verdict CommandError → Type 0
+AnswersWords bits told words old new r =
     (IsUsage words × (r ≡ Err error.Usage) × (new ≡ old))
-    ⊎ ((request : Request) × IsRequest words request × AnswersRequest told request old new r)
+    ⊎ ((request : Request) × IsRequest words request × AnswersBy bits told request old new r)
+
+-- the same of arguments with options of reading
+abbrev pub Answers : (List ℕ → Option (List ℕ)) → List (List ℕ) → State → State → Result Verdict CommandError → Type 0
+Answers told words old new r = AnswersWords (host_bits_of (reading_options words)) told (without_options words) old new r
 
 -- the message of a line in error
 abbrev pub line_message : LineError → List ℕ
@@ -125,7 +139,7 @@ argument_message bad.Index = codes "no index below 2^128"
 
 -- the line that is written to standard error
 abbrev pub error_line : CommandError → List ℕ
-error_line error.Usage = codes "usage: netset merge|nets|not|ranges|count|check [FILE..] | not --in NET [FILE..] | minus|and A B.. | diff A B | free POOL LEN USED.. | match [-v] [-c] [-q] LIST [FILE] | look TABLE [FILE] | show HOST | split NET LEN | nth NET INDEX | --help | --version\n"
+error_line error.Usage = codes "usage: netset merge|nets|not|ranges|count|check [FILE..] | not --in NET [FILE..] | minus|and A B.. | diff A B | free POOL LEN USED.. | match [-v] [-c] [-q] LIST [FILE] | look TABLE [FILE] | show HOST | split NET LEN | nth NET INDEX | --help | --version; --host-bits behind a command for lists of networks\n"
 error_line (error.Argument text e) = text.now ++ (codes ": " ++ (argument_message e ++ codes "\n"))
 error_line (error.Line name number e) =
     name.now ++ (codes ":" ++ (decimal number ++ (codes ": " ++ (line_message e ++ codes "\n"))))

@@ -3,11 +3,12 @@ use Rattle.std.specs.Prelude.{◌≡◌, ◌≢◌, ℕ, Bool, true, false, List
 use Rattle.cidr.specs.declared.cidr.combined.IpCidr.{IpCidr}
 use Rattle.cidr.specs.declared.family.Family.{Family}
 use Rattle.cidr.specs.declared.family.Family.TheVariants.{Ipv4, Ipv6}
-use Rattle.netset.specs.Lists.{lines_of, IsField, IsContent, IsFieldError, AreNetworks, LineSays, IsInError, ListSays, IsFirstError, network_in, networks_in}
+use Rattle.netset.specs.Lists.{Text, lines_of, IsField, IsContent, IsFieldError, AreNetworks, LineSays, IsInError, ListSays, IsFirstError, network_in, networks_in}
 use Rattle.netset.specs.declared.errors.LineError.{LineError}
 use Rattle.netset.specs.declared.errors.ReadError.{ReadError}
 use Rattle.netset.specs.declared.errors.ReadError.TheVariants.{Line, Input, NoMemory}
 use Rattle.netset.specs.declared.lines.Content.{Content}
+use Rattle.netset.specs.declared.lines.HostBits.{HostBits}
 use Rattle.netset.specs.declared.lists.Lists.{Lists}
 
 -- the first line of a text; if it is not the last, the others are what the reader has left
@@ -21,12 +22,12 @@ DropsLineFeed old new true = old ≡ new ++ 10 ∷ []
 DropsLineFeed old new false = (new ≡ old) × ((line : List ℕ) → old ≢ line ++ 10 ∷ [])
 
 -- what a field says, or its error
-abbrev pub ReadsField : List ℕ → Result Content LineError → Type 0
-ReadsField field r = MatchResult r (IsContent field) (IsFieldError field)
+abbrev pub ReadsField : HostBits → List ℕ → Result Content LineError → Type 0
+ReadsField bits field r = MatchResult r (IsContent bits field) (IsFieldError bits field)
 
 -- what the field of a line says, or its error
-abbrev pub ReadsLine : List ℕ → Result Content LineError → Type 0
-ReadsLine line r = (field : List ℕ) × IsField line field × ReadsField field r
+abbrev pub ReadsLine : HostBits → List ℕ → Result Content LineError → Type 0
+ReadsLine bits line r = (field : List ℕ) × IsField line field × ReadsField bits field r
 
 -- no line is in error
 abbrev pub IsStopped : ReadError → Type 0
@@ -35,7 +36,7 @@ IsStopped Input = Unit {0}
 IsStopped NoMemory = Unit {0}
 
 -- the first line in error, or nothing of the text where reading has stopped
-abbrev pub IsReadError : List ℕ → ReadError → Type 0
+abbrev pub IsReadError : Text → ReadError → Type 0
 IsReadError text (Line number e) = IsFirstError text number e
 IsReadError text Input = Unit {0}
 IsReadError text NoMemory = Unit {0}
@@ -54,17 +55,17 @@ abbrev pub AddsContent : Content → Lists → Lists → Type 0
 AddsContent content old new = (said : List IpCidr) × AreNetworks content said × Grows old new (λ family. network_in family said)
 
 -- the error is that of this line, or the line is not known to have one
-abbrev pub IsLineError : List ℕ → ℕ → ReadError → Type 0
-IsLineError line number (Line n e) = (n ≡ number) × IsInError line e
-IsLineError line number Input = Unit {0}
-IsLineError line number NoMemory = Unit {0}
+abbrev pub IsLineError : HostBits → List ℕ → ℕ → ReadError → Type 0
+IsLineError bits line number (Line n e) = (n ≡ number) × IsInError bits line e
+IsLineError bits line number Input = Unit {0}
+IsLineError bits line number NoMemory = Unit {0}
 
 -- the networks that a line says come behind those before
-abbrev pub AddsLine : List ℕ → ℕ → Lists → Lists → Result (Unit {0}) ReadError → Type 0
-AddsLine line number old new (Ok _) = (said : List IpCidr) × LineSays line said × Grows old new (λ family. network_in family said)
-AddsLine line number old new (Err e) = IsLineError line number e
+abbrev pub AddsLine : HostBits → List ℕ → ℕ → Lists → Lists → Result (Unit {0}) ReadError → Type 0
+AddsLine bits line number old new (Ok _) = (said : List IpCidr) × LineSays bits line said × Grows old new (λ family. network_in family said)
+AddsLine bits line number old new (Err e) = IsLineError bits line number e
 
 -- the networks that a text says come behind those before
-abbrev pub ReadsList : List ℕ → Lists → Lists → Result (Unit {0}) ReadError → Type 0
+abbrev pub ReadsList : Text → Lists → Lists → Result (Unit {0}) ReadError → Type 0
 ReadsList text old new (Ok _) = (said : List (List IpCidr)) × ListSays text said × Grows old new (λ family. networks_in family said)
 ReadsList text old new (Err e) = IsReadError text e

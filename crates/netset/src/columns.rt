@@ -1,12 +1,11 @@
 //! The fields of a line.
 ghost use Rattle.std.specs.Prelude.{◌≤◌, [], length, MatchOption, MatchResult};
 ghost use Rattle.cidr.specs.either.IpAddress.{IsIpText};
-ghost use Rattle.cidr.specs.either.IpText.{IsIpNetworkText};
-ghost use Rattle.netset.specs.Lists.{IsField, IsFirstField};
+ghost use Rattle.netset.specs.Lists.{IsField, IsFirstField, IsNetworkBy};
 ghost use Rattle.netset.specs.Look.{IsNoAddressField, IsNoNetworkField, IsSplit};
 
 use crate::errors::LineError;
-use crate::lines::without_comment;
+use crate::lines::{HostBits, network_of, without_comment};
 use cidr::{IpAddr, IpCidr};
 
 /// What stands before the first white space, behind white space at the front.
@@ -37,13 +36,13 @@ pub fn split_line(line: &[u8]) -> Option<(&[u8], &[u8])>
 }
 
 /// The network that a field is.
-pub fn network_in(field: &[u8]) -> Result<IpCidr, LineError>
-    ensures { MatchResult result (IsIpNetworkText field.now) (IsNoNetworkField field.now) }
+pub fn network_in(host_bits: HostBits, field: &[u8]) -> Result<IpCidr, LineError>
+    ensures { MatchResult result (IsNetworkBy host_bits field.now) (IsNoNetworkField host_bits field.now) }
 {
     let Ok(text) = str::from_utf8(field) else {
         return Err(LineError::NotUtf8);
     };
-    match text.parse::<IpCidr>() {
+    match network_of(host_bits, text) {
         Ok(network) => Ok(network),
         Err(e) => Err(LineError::NoNetwork(e)),
     }

@@ -2,11 +2,12 @@
 ghost use Rattle.std.specs.Prelude.{◌≡◌, ◌≢◌, false, ℕ, List, codes, map, [], ◌∷◌, MatchOption};
 ghost use Rattle.std.specs.Bool.{Decides};
 ghost use Rattle.std.specs.List.{list_any, prefix_len};
-ghost use Rattle.netset.specs.Commands.{Check, Diff, Free, Look, Match, NotIn, is_option, read_files, IsRequest, IsUsage};
-ghost use Rattle.netset.specs.Command.{AreMisfits, IsNoLoneWord, request_of};
+ghost use Rattle.netset.specs.Commands.{Check, Diff, Free, Look, Match, MayRead, NotIn, host_bits_of, is_option, read_files, reading_options, reads_networks, without_options, IsRequest, IsUsage};
+ghost use Rattle.netset.specs.Command.{AreMisfits, IsNoLoneWord, has_reading_option, request_of};
 ghost use Rattle.netset.specs.Combining.{name_of};
 ghost use Rattle.netset.specs.Matching.{is_match_option};
 
+use crate::lines::HostBits;
 use crate::operations::{Operation, operation_of, takes};
 use crate::single::{Single, single_of};
 
@@ -33,6 +34,56 @@ pub enum Command<'a> {
     Help,
     /// The version.
     Version,
+}
+
+impl Command<'_> {
+    /// Whether lists of networks are read.
+    fn reads_networks(&self) -> bool
+        ensures { result ≡ reads_networks (request_of self.now) }
+    {
+        match self {
+            Command::Lists(_, _)
+            | Command::NotIn(_, _)
+            | Command::Diff(_, _)
+            | Command::Free(_, _, _)
+            | Command::Match(_, _, _)
+            | Command::Look(_, _) => true,
+            Command::Check(_) | Command::Single(_) | Command::Help | Command::Version => false,
+        }
+    }
+
+    /// Whether the command may be read this way.
+    pub fn may_read(&self, host_bits: HostBits) -> bool
+        ensures { Decides result (MayRead host_bits (request_of self.now)) }
+    {
+        match host_bits {
+            HostBits::Refused => true,
+            HostBits::Cleared => self.reads_networks(),
+        }
+    }
+}
+
+/// Whether an option of reading stands behind the command.
+fn has_reading_option(words: &[&str]) -> bool
+    ensures { result ≡ has_reading_option (map (λ w. w.now) words.now) }
+{
+    match words {
+        [_, word, ..] => *word == "--host-bits",
+        _ => false,
+    }
+}
+
+/// Takes the options of reading behind the command out of the words, and tells what they ask for.
+pub fn take_options(words: &mut Vec<&str>) -> HostBits
+    ensures host_bits { result ≡ host_bits_of (reading_options (map (λ w. w.now) words.old.items)) }
+    ensures rest { map (λ w. w.now) words.new.items ≡ without_options (map (λ w. w.now) words.old.items) }
+{
+    let mut host_bits = HostBits::Refused;
+    while has_reading_option(words.as_slice()) {
+        words.remove(1);
+        host_bits = HostBits::Cleared;
+    }
+    host_bits
 }
 
 /// Whether a word is an option, and no file: `-` and something behind it.

@@ -5,7 +5,7 @@ ghost use Rattle.netset.specs.Matching.{SaysNothing};
 
 use crate::columns::{first_field, network_in};
 use crate::errors::LineError;
-use crate::lines::without_comment;
+use crate::lines::{HostBits, without_comment};
 use cidr::IpCidr;
 
 /// Whether a field is empty or begins a comment.
@@ -23,7 +23,7 @@ pub fn said(line: &[u8]) -> Result<Option<IpCidr>, LineError>
     if says_nothing(field) {
         return Ok(None);
     }
-    match network_in(field) {
+    match network_in(HostBits::Refused, field) {
         Ok(network) => Ok(Some(network)),
         Err(e) => Err(e),
     }

@@ -1,13 +1,16 @@
 //! The files of a run and its standard input.
 ghost use Rattle.std.specs.Prelude.{◌≡◌, ℕ, List, Option, Some, None, IfSome};
+ghost use Rattle.netset.specs.Lists.{Text};
+ghost use Rattle.netset.specs.Program.{told_by};
 
+use crate::lines::HostBits;
 use crate::terminal::{Progress, Watched};
 use std::io::{Eprint, Input, Read};
-use std::rt::{Clock, Files};
-use std::{fs, io};
+use std::rt::Clock;
+use std::{fs, io, rt};
 
-/// What lists are read from.
-pub trait Sources {
+/// What a run reads: its files and its standard input.
+pub trait Files {
     type Reader: Read + Drop;
 
     /// The bytes of the file of a name, if they are told. The name `-` is that of the standard input.
@@ -17,6 +20,44 @@ pub trait Sources {
     fn open(&self, name: &str) -> Option<Self::Reader>
         ensures { IfSome result (λ reader. (text : List ℕ) → told self.now name.now ≡ Some text
             → Self.Reader.remaining reader ≡ Some text) };
+}
+
+/// What lists are read from, and how.
+pub trait Sources {
+    type Reader: Read + Drop;
+
+    /// The list of the file of a name, if it is told. The name `-` is that of the standard input.
+    ghost told: { Self → List ℕ → Option Text };
+
+    /// Opens the file of this name; `None` where it can't be opened.
+    fn open(&self, name: &str) -> Option<Self::Reader>
+        ensures { IfSome result (λ reader. (text : Text) → told self.now name.now ≡ Some text
+            → Self.Reader.remaining reader ≡ Some text.bytes) };
+
+    /// What is done with a set bit after the prefix of a network.
+    fn host_bits(&self) -> HostBits
+        ensures { (name : List ℕ) (text : Text) → told self.now name ≡ Some text → text.host_bits ≡ result };
+}
+
+/// The files of a run, and how their lists are read.
+#[derive(Clone, Copy)]
+pub struct ReadBy<'a, F: Files> {
+    pub files: &'a F,
+    pub host_bits: HostBits,
+}
+
+impl<F: Files> Sources for ReadBy<'_, F> {
+    type Reader = F::Reader;
+
+    ghost told = { λ s. told_by s.host_bits (F.told s.files.now) };
+
+    fn open(&self, name: &str) -> Option<F::Reader> {
+        self.files.open(name)
+    }
+
+    fn host_bits(&self) -> HostBits {
+        self.host_bits
+    }
 }
 
 /// A file or the standard input.
@@ -37,12 +78,12 @@ impl<F: Read + Drop, I: Read + Drop> Read for Opened<F, I> {
 
 /// The files of the system and its standard input, which nothing is told of, and how far reading them is.
 #[derive(Clone, Copy)]
-pub struct System<'a, R: Files + Input + Clock + Eprint> {
+pub struct System<'a, R: rt::Files + Input + Clock + Eprint> {
     pub runtime: &'a R,
     pub progress: &'a Progress<'a, R>,
 }
 
-impl<'a, R: Files + Input + Clock + Eprint> Sources for System<'a, R> {
+impl<'a, R: rt::Files + Input + Clock + Eprint> Files for System<'a, R> {
     type Reader = Watched<'a, Opened<R::File, R::Reader>, R>;
 
     ghost told = { λ _ _. None };

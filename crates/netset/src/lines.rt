@@ -4,13 +4,24 @@ ghost use Rattle.std.specs.List.{before_first};
 ghost use Rattle.cidr.specs.either.IpAddress.{IsIpText};
 ghost use Rattle.cidr.specs.texts.Messages.{ip_error};
 ghost use Rattle.cidr.specs.declared.addr.ip.IpAddr.TheVariants.{V4, V6};
-ghost use Rattle.netset.specs.Lists.{AreEnds, IsNoAddress, is_comment_sign};
+ghost use Rattle.netset.specs.Lists.{AreEnds, IsNetworkBy, IsNoAddress, IsNoNetworkBy, is_comment_sign};
 ghost use Rattle.netset.specs.Reading.{IsNextLine, DropsLineFeed, IsStopped, ReadsField, ReadsLine};
+ghost use Rattle.netset.specs.declared.lines.HostBits.{HostBits as Bits};
 ghost use Rattle.netset.specs.declared.errors.LineError.TheVariants.{NoAddress};
 
 use crate::errors::{LineError, ReadError};
-use cidr::{IpAddr, IpCidr, Ipv4Addr, Ipv6Addr};
+use cidr::errors::NetworkParseError;
+use cidr::{IpAddr, IpCidr, IpInet, Ipv4Addr, Ipv6Addr};
 use std::io::BufRead;
+
+/// What is done with a set bit after the prefix of a network.
+#[derive(Clone, Copy, Debug, Drop, PartialEq)]
+pub enum HostBits {
+    /// It is an error.
+    Refused,
+    /// It is taken as unset.
+    Cleared,
+}
 
 /// What a line says.
 #[derive(Clone, Copy)]
@@ -80,7 +91,7 @@ fn end_of(text: &str) -> Result<IpAddr, LineError>
 
 /// The range from an IPv4 address to another one.
 fn ipv4_range(first: Ipv4Addr, last: Ipv4Addr) -> Result<Content, LineError>
-    ensures { (field : List ℕ) → AreEnds field (V4 first) (V4 last) → ReadsField field result }
+    ensures { (bits : Bits) (field : List ℕ) → AreEnds field (V4 first) (V4 last) → ReadsField bits field result }
 {
     if first.cmp(&last).is_gt() {
         return Err(LineError::Reversed);
@@ -90,7 +101,7 @@ fn ipv4_range(first: Ipv4Addr, last: Ipv4Addr) -> Result<Content, LineError>
 
 /// The range from an IPv6 address to another one.
 fn ipv6_range(first: Ipv6Addr, last: Ipv6Addr) -> Result<Content, LineError>
-    ensures { (field : List ℕ) → AreEnds field (V6 first) (V6 last) → ReadsField field result }
+    ensures { (bits : Bits) (field : List ℕ) → AreEnds field (V6 first) (V6 last) → ReadsField bits field result }
 {
     if first.cmp(&last).is_gt() {
         return Err(LineError::Reversed);
@@ -100,7 +111,7 @@ fn ipv6_range(first: Ipv6Addr, last: Ipv6Addr) -> Result<Content, LineError>
 
 /// The range from an address to another one.
 fn range_of(first: IpAddr, last: IpAddr) -> Result<Content, LineError>
-    ensures { (field : List ℕ) → AreEnds field first last → ReadsField field result }
+    ensures { (bits : Bits) (field : List ℕ) → AreEnds field first last → ReadsField bits field result }
 {
     match first {
         IpAddr::V4(first) => match last {
@@ -114,15 +125,28 @@ fn range_of(first: IpAddr, last: IpAddr) -> Result<Content, LineError>
     }
 }
 
+/// The network that a string is.
+pub fn network_of(host_bits: HostBits, field: &str) -> Result<IpCidr, NetworkParseError>
+    ensures { MatchResult result (IsNetworkBy host_bits field.now) (IsNoNetworkBy host_bits field.now) }
+{
+    match host_bits {
+        HostBits::Refused => field.parse(),
+        HostBits::Cleared => match field.parse::<IpInet>() {
+            Ok(host) => Ok(host.network()),
+            Err(e) => Err(e),
+        },
+    }
+}
+
 /// What a field says.
-fn content_of_field(field: &str) -> Result<Content, LineError>
-    ensures { ReadsField field.now result }
+fn content_of_field(host_bits: HostBits, field: &str) -> Result<Content, LineError>
+    ensures { ReadsField host_bits field.now result }
 {
     if field.is_empty() {
         return Ok(Content::Blank);
     }
     let Some((front, back)) = field.split_once('-') else {
-        return match field.parse() {
+        return match network_of(host_bits, field) {
             Ok(network) => Ok(Content::Network(network)),
             Err(e) => Err(LineError::NoNetwork(e)),
         };
@@ -133,12 +157,12 @@ fn content_of_field(field: &str) -> Result<Content, LineError>
 }
 
 /// What a line says.
-pub fn content_of(line: &[u8]) -> Result<Content, LineError>
-    ensures { ReadsLine line.now result }
+pub fn content_of(host_bits: HostBits, line: &[u8]) -> Result<Content, LineError>
+    ensures { ReadsLine host_bits line.now result }
 {
     let field = without_comment(line).trim_ascii();
     match str::from_utf8(field) {
-        Ok(text) => content_of_field(text),
+        Ok(text) => content_of_field(host_bits, text),
         Err(_) => Err(LineError::NotUtf8),
     }
 }

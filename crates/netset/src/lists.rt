@@ -2,11 +2,11 @@
 ghost use Rattle.std.specs.Prelude.{◌≡◌, List, [], ◌∷◌, ◌++◌, map, IfSome, OnOk};
 ghost use Rattle.cidr_sets.specs.Ranges.{IsBetween};
 ghost use Rattle.cidr_sets.specs.Sets.{IsSetOf};
-ghost use Rattle.netset.specs.Lists.{network_in};
+ghost use Rattle.netset.specs.Lists.{network_in, text_by};
 ghost use Rattle.netset.specs.Reading.{AddsContent, AddsLine, Grows, ReadsList};
 
 use crate::errors::ReadError;
-use crate::lines::{Content, content_of, next_line};
+use crate::lines::{Content, HostBits, content_of, next_line};
 use cidr::{IpCidr, Ipv4Cidr, Ipv6Cidr};
 use cidr_sets::{Addressed, NetworkSet};
 use std::alloc::{AllocError, Global};
@@ -55,10 +55,16 @@ impl Lists {
     }
 
     /// Adds the networks that a line says.
-    fn add_line(&mut self, alloc: Global, number: u64, line: &[u8]) -> Result<(), ReadError>
-        ensures { AddsLine line.now number self.old self.new result }
+    fn add_line(
+        &mut self,
+        alloc: Global,
+        host_bits: HostBits,
+        number: u64,
+        line: &[u8],
+    ) -> Result<(), ReadError>
+        ensures { AddsLine host_bits line.now number self.old self.new result }
     {
-        match content_of(line) {
+        match content_of(host_bits, line) {
             Ok(content) => Ok(self.push_content(alloc, &content)?),
             Err(e) => Err(ReadError::Line(number, e)),
         }
@@ -82,13 +88,19 @@ fn push_range<C: Addressed + Copy>(
 }
 
 /// Reads a list to its end or to its first line in error, and adds its networks.
-fn read_lines<R: BufRead>(alloc: Global, reader: &mut R, lists: &mut Lists) -> Result<(), ReadError>
-    ensures { IfSome (R.Read.remaining reader.old) (λ text. ReadsList text lists.old lists.new result) }
+fn read_lines<R: BufRead>(
+    alloc: Global,
+    host_bits: HostBits,
+    reader: &mut R,
+    lists: &mut Lists,
+) -> Result<(), ReadError>
+    ensures { IfSome (R.Read.remaining reader.old)
+        (λ bytes. ReadsList (text_by host_bits bytes) lists.old lists.new result) }
 {
     let mut line = Vec::new(alloc);
     for number in 1..u64::MAX {
         let has_more = next_line(reader, &mut line)?;
-        lists.add_line(alloc, number, line.as_slice())?;
+        lists.add_line(alloc, host_bits, number, line.as_slice())?;
         if !has_more {
             return Ok(());
         }
@@ -99,11 +111,12 @@ fn read_lines<R: BufRead>(alloc: Global, reader: &mut R, lists: &mut Lists) -> R
 /// Reads a list in blocks, to its end or to its first line in error, and adds its networks.
 pub fn read_list<R: Read + Drop>(
     alloc: Global,
+    host_bits: HostBits,
     reader: R,
     lists: &mut Lists,
 ) -> Result<(), ReadError>
-    ensures { IfSome (R.remaining reader) (λ text. ReadsList text lists.old lists.new result) }
+    ensures { IfSome (R.remaining reader) (λ bytes. ReadsList (text_by host_bits bytes) lists.old lists.new result) }
 {
     let mut reader = BufReader::new(alloc, reader)?;
-    read_lines(alloc, &mut reader, lists)
+    read_lines(alloc, host_bits, &mut reader, lists)
 }

@@ -5,17 +5,18 @@ ghost use Rattle.netset.specs.Combining.{form_of};
 ghost use Rattle.netset.specs.Commands.{Lists};
 ghost use Rattle.netset.specs.Sets.{Prints, held};
 ghost use Rattle.netset.specs.Answering.{AnswersTexts};
-ghost use Rattle.netset.specs.Program.{Answers, AnswersRequest, Runs};
+ghost use Rattle.netset.specs.Program.{AnswersRequest, AnswersWords, Runs};
 
 use crate::answers::{Verdict, by_output};
 use crate::changes::diff;
 use crate::check::check;
 use crate::combine::made;
-use crate::commands::{Command, command_of};
+use crate::commands::{Command, command_of, take_options};
 use crate::errors::CommandError;
-use crate::files::Sources;
+use crate::files::{Files, ReadBy, Sources};
 use crate::free::free;
 use crate::inside::not_in;
+use crate::lines::HostBits;
 use crate::look::look;
 use crate::matching::matching;
 use crate::operations::{Form, Operation, form_of};
@@ -30,7 +31,7 @@ use std::alloc::Global;
 
 /// The page of the commands.
 const HELP: &str =
-    "netset merge [FILE..]   the shortest list of networks that has the addresses of all the lists\nnetset nets [FILE..]    the same\nnetset minus A B..      the addresses of A that no other list has\nnetset and A B..        the addresses that each of the lists has\nnetset not [FILE..]     the addresses of IPv4 and those of IPv6 that no list has\nnetset not --in NET [FILE..]\n                        the addresses of a network that no list has\nnetset ranges [FILE..]  the longest ranges of the addresses of all the lists, FIRST-LAST\nnetset count [FILE..]   how many addresses of IPv4 and of IPv6 the lists have\nnetset diff A B         the networks that B adds to A, as +NET, and that it lacks, as -NET\nnetset free POOL LEN USED..\n                        the first network of this prefix length in the addresses of\n                        POOL that no list of USED has\nnetset check [FILE..]   what is found in the lists, whose lines may be hosts too: set host\n                        bits, other forms than the printed one, repeats, networks inside\n                        others, and halves of one network\nnetset match [-v] [-c] [-q] LIST [FILE]\n                        the lines of FILE whose first field lies in LIST, or with -v does not;\n                        -c their number, -q only the status\nnetset look TABLE [FILE]\n                        the longest network of each address of FILE in the lines\n                        NET VALUE of TABLE, and its value\nnetset show HOST        the network of a host: its ends, mask, length and family\nnetset split NET LEN    the networks of this prefix length inside a network\nnetset nth NET INDEX    the address of a network at an index, from 0 on\nnetset --help           this page\nnetset --version        the version\n\nA line of a list is a network, an address or a range FIRST-LAST, and may end in a comment\nfrom # or ; on. The file - is the standard input, which is also read where no file is named.\nStatus: 0 done, 1 none, a difference or findings, 2 usage, a wrong argument, a file that\ncannot be read or a line in error, 3 output or memory.\n";
+    "netset merge [FILE..]   the shortest list of networks that has the addresses of all the lists\nnetset nets [FILE..]    the same\nnetset minus A B..      the addresses of A that no other list has\nnetset and A B..        the addresses that each of the lists has\nnetset not [FILE..]     the addresses of IPv4 and those of IPv6 that no list has\nnetset not --in NET [FILE..]\n                        the addresses of a network that no list has\nnetset ranges [FILE..]  the longest ranges of the addresses of all the lists, FIRST-LAST\nnetset count [FILE..]   how many addresses of IPv4 and of IPv6 the lists have\nnetset diff A B         the networks that B adds to A, as +NET, and that it lacks, as -NET\nnetset free POOL LEN USED..\n                        the first network of this prefix length in the addresses of\n                        POOL that no list of USED has\nnetset check [FILE..]   what is found in the lists, whose lines may be hosts too: set host\n                        bits, other forms than the printed one, repeats, networks inside\n                        others, and halves of one network\nnetset match [-v] [-c] [-q] LIST [FILE]\n                        the lines of FILE whose first field lies in LIST, or with -v does not;\n                        -c their number, -q only the status\nnetset look TABLE [FILE]\n                        the longest network of each address of FILE in the lines\n                        NET VALUE of TABLE, and its value\nnetset show HOST        the network of a host: its ends, mask, length and family\nnetset split NET LEN    the networks of this prefix length inside a network\nnetset nth NET INDEX    the address of a network at an index, from 0 on\nnetset --help           this page\nnetset --version        the version\n\nA line of a list is a network, an address or a range FIRST-LAST, and may end in a comment\nfrom # or ; on. The file - is the standard input, which is also read where no file is named.\nWith --host-bits behind a command that reads lists, but check, a bit set behind the prefix of\na network in a list is taken as unset, and is no error.\nStatus: 0 done, 1 none, a difference or findings, 2 usage, a wrong argument, a file that\ncannot be read or a line in error, 3 output or memory.\n";
 
 const VERSION: &str = "netset 0.1.0\n";
 
@@ -60,18 +61,24 @@ fn lists<'a, F: Sources, O: Sink>(
     by_output(Verdict::Yes, write_made(operation, &sets, out))
 }
 
-/// Answers the program's arguments, which come without its name.
-fn answer<'a, F: Sources, O: Sink>(
+/// Answers the program's arguments, which come without its name and without options of reading.
+fn answer<'a, F: Files, O: Sink>(
     alloc: Global,
-    sources: &F,
+    files: &F,
+    host_bits: HostBits,
     words: &'a [&'a str],
     out: &mut O,
 ) -> Result<Verdict, CommandError<'a>>
-    ensures { Answers (F.told sources.now) (map (λ w. w.now) words.now) (O.state out.old) (O.state out.new) result }
+    ensures { AnswersWords host_bits (F.told files.now) (map (λ w. w.now) words.now)
+        (O.state out.old) (O.state out.new) result }
 {
     let Some(command) = command_of(words) else {
         return Err(CommandError::Usage);
     };
+    if !command.may_read(host_bits) {
+        return Err(CommandError::Usage);
+    }
+    let sources = &ReadBy { files, host_bits };
     match command {
         Command::Lists(operation, files) => lists(alloc, sources, operation, files, out),
         Command::NotIn(net, files) => not_in(alloc, sources, net, files, out),
@@ -87,37 +94,38 @@ fn answer<'a, F: Sources, O: Sink>(
 }
 
 /// Answers the arguments as strings, reports and returns the exit status.
-fn answer_texts<F: Sources, O: Sink, E: Sink>(
+fn answer_texts<F: Files, O: Sink, E: Sink>(
     alloc: Global,
-    sources: &F,
+    files: &F,
     texts: &[String],
     out: &mut O,
     err: &mut E,
 ) -> u8
-    ensures { AnswersTexts (F.told sources.now) (map string_bytes texts.now) (O.state out.old) (O.state out.new)
+    ensures { AnswersTexts (F.told files.now) (map string_bytes texts.now) (O.state out.old) (O.state out.new)
         (E.state err.old) (E.state err.new) result }
 {
-    let Ok(words) = borrowed(alloc, texts) else {
+    let Ok(mut words) = borrowed(alloc, texts) else {
         return report(&Err(CommandError::NoMemory), err);
     };
-    report(&answer(alloc, sources, words.as_slice(), out), err)
+    let host_bits = take_options(&mut words);
+    report(&answer(alloc, files, host_bits, words.as_slice(), out), err)
 }
 
 /// Answers the arguments on `out`, writes the line that belongs to the answer, if there is one, to `err`, and returns
 /// the exit status: 0 for an answer, 1 for none, no or findings, 2 for usage, a file that can't be read and a line in error, 3 where the output
 /// failed or there is no memory.
-pub fn program<A: Arguments, F: Sources, O: Sink, E: Sink>(
+pub fn program<A: Arguments, F: Files, O: Sink, E: Sink>(
     alloc: Global,
     arguments: &A,
-    sources: &F,
+    files: &F,
     out: &mut O,
     err: &mut E,
 ) -> u8
-    ensures { Runs (A.told arguments.now) (F.told sources.now) (O.state out.old) (O.state out.new)
+    ensures { Runs (A.told arguments.now) (F.told files.now) (O.state out.old) (O.state out.new)
         (E.state err.old) (E.state err.new) result }
 {
     match texts_of(alloc, arguments) {
-        Ok(texts) => answer_texts(alloc, sources, texts.as_slice(), out, err),
+        Ok(texts) => answer_texts(alloc, files, texts.as_slice(), out, err),
         Err(Unreadable::NotText) => report(&Err(CommandError::Usage), err),
         Err(Unreadable::NoMemory) => report(&Err(CommandError::NoMemory), err),
     }

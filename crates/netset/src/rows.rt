@@ -1,10 +1,11 @@
 //! Reading the rows of a table: networks with a value each.
 ghost use Rattle.std.specs.Prelude.{◌≡◌, [], IfSome, OnOk};
+ghost use Rattle.netset.specs.Lists.{text_by};
 ghost use Rattle.netset.specs.LookUps.{AddsRow, Pushes, ReadsRows, value_at};
 
 use crate::columns::{network_in, split_line};
 use crate::errors::ReadError;
-use crate::lines::next_line;
+use crate::lines::{HostBits, next_line};
 use cidr::{IpCidr, Ipv4Cidr, Ipv6Cidr};
 use std::alloc::{AllocError, Global};
 use std::io::{BufRead, BufReader, Read};
@@ -67,13 +68,13 @@ impl Rows {
     }
 
     /// Adds the network and the value that a line says, if it says them.
-    fn add_line(&mut self, number: u64, line: &[u8]) -> Result<(), ReadError>
-        ensures { AddsRow line.now number self.old self.new result }
+    fn add_line(&mut self, host_bits: HostBits, number: u64, line: &[u8]) -> Result<(), ReadError>
+        ensures { AddsRow host_bits line.now number self.old self.new result }
     {
         let Some((first, value)) = split_line(line) else {
             return Ok(());
         };
-        match network_in(first) {
+        match network_in(host_bits, first) {
             Ok(network) => self.push(&network, value)?,
             Err(e) => return Err(ReadError::Line(number, e)),
         }
@@ -82,14 +83,18 @@ impl Rows {
 }
 
 /// Reads the rows of a table to its end or to its first line in error.
-fn read_lines<R: BufRead>(alloc: Global, reader: &mut R) -> Result<Rows, ReadError>
-    ensures { IfSome (R.Read.remaining reader.old) (λ text. ReadsRows text result) }
+fn read_lines<R: BufRead>(
+    alloc: Global,
+    host_bits: HostBits,
+    reader: &mut R,
+) -> Result<Rows, ReadError>
+    ensures { IfSome (R.Read.remaining reader.old) (λ bytes. ReadsRows (text_by host_bits bytes) result) }
 {
     let mut rows = Rows::new(alloc);
     let mut line = Vec::new(alloc);
     for number in 1..u64::MAX {
         let has_more = next_line(reader, &mut line)?;
-        rows.add_line(number, line.as_slice())?;
+        rows.add_line(host_bits, number, line.as_slice())?;
         if !has_more {
             return Ok(rows);
         }
@@ -98,9 +103,13 @@ fn read_lines<R: BufRead>(alloc: Global, reader: &mut R) -> Result<Rows, ReadErr
 }
 
 /// Reads the rows of a table in blocks, to its end or to its first line in error.
-pub fn read_rows<R: Read + Drop>(alloc: Global, reader: R) -> Result<Rows, ReadError>
-    ensures { IfSome (R.remaining reader) (λ text. ReadsRows text result) }
+pub fn read_rows<R: Read + Drop>(
+    alloc: Global,
+    host_bits: HostBits,
+    reader: R,
+) -> Result<Rows, ReadError>
+    ensures { IfSome (R.remaining reader) (λ bytes. ReadsRows (text_by host_bits bytes) result) }
 {
     let mut reader = BufReader::new(alloc, reader)?;
-    read_lines(alloc, &mut reader)
+    read_lines(alloc, host_bits, &mut reader)
 }

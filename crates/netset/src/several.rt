@@ -29,7 +29,7 @@ fn add_file<'a, F: Sources>(
     let Some(reader) = sources.open(file) else {
         return Err(CommandError::Input(file));
     };
-    match read_list(alloc, reader, lists) {
+    match read_list(alloc, sources.host_bits(), reader, lists) {
         Ok(()) => Ok(()),
         Err(ReadError::Line(number, e)) => Err(CommandError::Line(file, number, e)),
         Err(ReadError::Input) => Err(CommandError::Input(file)),

@@ -121,7 +121,7 @@ pub fn read_table<'a, F: Sources>(
     let Some(reader) = sources.open(file) else {
         return Err(CommandError::Input(file));
     };
-    match read_rows(alloc, reader) {
+    match read_rows(alloc, sources.host_bits(), reader) {
         Ok(rows) => Ok(Table::of_rows(alloc, rows)?),
         Err(e) => Err(unread(file, e)),
     }

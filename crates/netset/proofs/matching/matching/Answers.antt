@@ -1,9 +1,14 @@
-use Rattle.std.proofs.Common.{inl, refl, map, []}
+use Rattle.std.proofs.Common.{ℕ, List, Option, inl, refl, ap, map, option_map, []}
 use Rattle.std.proofs.lemmas.Result.{err_from_is_err_and}
+use Rattle.netset.specs.Lists.{Text}
 use Rattle.netset.specs.declared.errors.CommandError.TheVariants as error
 use Rattle.netset.proofs.EachFile.{first_not_read}
 use Rattle.netset.proofs.Matched.{matched, nothing_read}
 use Rattle.netset.proofs.matching.matching.Goals as goal
+
+-- the bytes of a list
+abbrev bytes_told : Option Text → Option (List ℕ)
+bytes_told told = option_map (λ (text : Text). text.bytes) told
 
 pub returns-in_err-sets : goal.returns-in_err-sets
 returns-in_err-sets g c =
@@ -13,8 +18,9 @@ returns-in_err-sets g c =
 pub returns-in_default : goal.returns-in_default
 returns-in_default g c =
     matched (g.F.Sources.told c.args.sources.now) (map (λ w. w.now) c.args.options.now) c.args.list.now c.args.file.now c.in_ok-sets.sets
-    (g.F.Sources.told c.args.sources.now c.args.file.now) (g.O.Sink.state c.args.out.now) (g.O.Sink.state c.args.out.now) _ c.in_ok-sets.ensures (λ text is. is)
-    (nothing_read _ _ c.args.file.now (g.F.Sources.told c.args.sources.now c.args.file.now) (g.O.Sink.state c.args.out.now) (error.Input c.args.file) refl)
+    (bytes_told (g.F.Sources.told c.args.sources.now c.args.file.now)) (g.O.Sink.state c.args.out.now) (g.O.Sink.state c.args.out.now) _ c.in_ok-sets.ensures
+    (λ text is. ap bytes_told is)
+    (nothing_read _ _ c.args.file.now (bytes_told (g.F.Sources.told c.args.sources.now c.args.file.now)) (g.O.Sink.state c.args.out.now) (error.Input c.args.file) refl)
 
 pub returns : goal.returns
 returns g c =
