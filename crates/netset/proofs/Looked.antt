@@ -1,7 +1,6 @@
 -- Addresses that are looked up, one line after the other.
-use Rattle.std.proofs.Common.{◌≡◌, ◌⊎◌, refl, sym, ◌∙◌, ap, subst, inl, inr, ℕ, ◌+◌, ◌==◌, if◌then◌else◌, Bool, true, false, ◌||◌, List, [], ◌∷◌, ◌++◌, codes, map, is_some, option_map, option_copied, Bor, ap₂, append_assoc, Option, Some, None, Result, Ok, Err}
+use Rattle.std.proofs.Common.{◌≡◌, ◌⊎◌, refl, sym, ◌∙◌, ap, subst, inl, inr, ℕ, ◌+◌, Bool, true, false, ◌||◌, List, [], ◌∷◌, ◌++◌, codes, map, is_some, option_map, option_copied, Bor, append_assoc, Option, Some, None, Result, Ok, Err}
 use Rattle.std.specs.Io.Buffered.{reader_buffer, reader_capacity, reader_inner, reader_remaining}
-use Rattle.std.specs.Io.KnownBytes.{prepend_known}
 use Rattle.std.specs.Option.{IfSome}
 use Rattle.std.specs.List.{AllZip, flat_map, list_any}
 use Rattle.std.specs.declared.io.buffered.BufReader.{BufReader}
@@ -23,7 +22,7 @@ use Rattle.netset.specs.Look.{IsBadLine, IsNoAddressField, IsSplit, LineLooks, L
 use Rattle.netset.specs.LookUps.{AreFirst, EndsReading, IsErrorAt, LooksAll, LooksLine, LooksLines, LooksUp, PushesFound, ReadsTable, kept, resolved, unread, value_at, verdict_of}
 use Rattle.netset.specs.Program.{AnswersRequest}
 use Rattle.netset.specs.Reading.{IsNextLine, IsStopped}
-use Rattle.netset.specs.Streaming.{IsCut, IsOfFile}
+use Rattle.netset.specs.Streaming.{IsCut, IsOfFile, IsWritten}
 use Rattle.netset.specs.declared.errors.CommandError.TheVariants as error
 use Rattle.netset.specs.declared.errors.ReadError.{ReadError}
 use Rattle.netset.specs.declared.errors.ReadError.TheVariants.{Line, Input, NoMemory}
@@ -32,6 +31,7 @@ use Rattle.netset.specs.declared.look.LookError.TheVariants.{Reading, Output}
 use Rattle.netset.specs.declared.rows.Span.{Span}
 use Rattle.netset.specs.declared.table.Table.{Table}
 use Rattle.netset.proofs.Collected.{collected_more, none_collected}
+use Rattle.netset.proofs.Matched.{fresh_reader}
 use Rattle.netset.proofs.ReadBy.{bytes_read}
 use Rattle.netset.proofs.Resolved.{looked_up_mapped}
 use Rattle.netset.proofs.Passed.{Passed, none_passed, one_passed, all_passed, error_passed, first_passed, one_more_passed, all_first, cut_before, cut_behind}
@@ -318,9 +318,7 @@ nothing_looked table told s failed = ([], record {}, (part_none s [] failed, λ 
 -- a reader in blocks has the bytes of what it reads
 pub opened : {T A : Type 0} (remaining : T → Option (List ℕ)) (r : BufReader T A) (inner : T) (text : List ℕ) → reader_inner r ≡ inner → reader_buffer r ≡ []
     → reader_capacity r ≡ 8192 → remaining inner ≡ Some text → reader_remaining remaining r ≡ Some text
-opened remaining r inner text at empty room is =
-    ap₂ (λ (n : ℕ) (bs : List ℕ). if n == 0 then None else prepend_known bs (remaining r.inner)) room empty
-    ∙ ap (λ (o : Option (List ℕ)). prepend_known [] o) (ap remaining at ∙ is)
+opened remaining r inner text at empty room is = fresh_reader remaining inner r at empty room ∙ is
 
 module _ (told : List ℕ → Option Text) (rows : List ℕ) (file : Bor (List ℕ)) (left : Option (List ℕ)) (table : Table) (s t : State)
     (reads : ReadsTable (told rows) rows (Ok table)) (opens : (text : Text) → told file.now ≡ Some text → left ≡ Some text.bytes) where
@@ -349,26 +347,31 @@ module _ (told : List ℕ → Option Text) (rows : List ℕ) (file : Bor (List �
   ends_as text looks Input h = cut_behind (LineLooks (kept table)) IsNoAddressField text looks (error.Input file) (λ _ _. tt) h
   ends_as text looks NoMemory h = cut_behind (LineLooks (kept table)) IsNoAddressField text looks error.NoMemory (λ _ _. tt) h
 
+  gone : (e : ReadError) (text : List ℕ) → Answered s t text (Ok tt) → IsWritten s t text (unread file e)
+  gone (Line number e) text h = h
+  gone Input text h = h
+  gone NoMemory text h = h
+
   pub ended_early : (e : ReadError) → LooksAll (kept table) left s t (Err (Reading e)) → AnswersRequest told (Look rows file.now) s t (Err (unread file e))
   ended_early e (looks, written, ends) = inr (
     unread file e,
+    refl,
     of_file e,
     flat_map look_line looks,
-    Ok tt,
-    λ first second is at. (kept table, reads first is, looks, ends_as second.bytes looks e (bytes_read (λ text. EndsReading (kept table) text looks e) left second.bytes (opens second at) ends), refl),
-    written,
-    refl,
+    gone e (flat_map look_line looks) written,
+    λ first second is at.
+        let ends_here = bytes_read (λ text. EndsReading (kept table) text looks e) left second.bytes (opens second at) ends in
+        (kept table, reads first is, looks, ends_as second.bytes looks e ends_here, refl),
   )
 
   pub output_failed : LooksAll (kept table) left s t (Err Output) → AnswersRequest told (Look rows file.now) s t (Err error.Output)
   output_failed (looks, f, written, ends) = inr (
     error.Output,
+    refl,
     tt,
     flat_map look_line looks,
-    Err f,
+    written,
     λ first second is at.
         let first_lines = bytes_read (λ text. AreFirst (LineLooks (kept table)) text looks) left second.bytes (opens second at) ends in
         (kept table, reads first is, looks, cut_behind (LineLooks (kept table)) IsNoAddressField second.bytes looks error.Output (λ _ _. tt) first_lines, refl),
-    written,
-    refl,
   )

@@ -1,5 +1,5 @@
--- How far a text has been read, whatever its lines say.
-use Rattle.std.proofs.Common.{◌≡◌, refl, sym, ◌∙◌, ap, ℕ, ◌+◌, Bor, Bool, true, false, List, [], ◌∷◌, ◌++◌, length, arith, Option, Some, append_assoc, append-nil, length-append}
+-- How far a text has been read, by what each of its lines says.
+use Rattle.std.proofs.Common.{◌≡◌, refl, sym, ◌∙◌, ℕ, ◌+◌, Bor, Bool, true, false, List, [], ◌∷◌, ◌++◌, Option, Some, append_assoc, append-nil}
 use Rattle.std.specs.Option.{IfSome}
 use Rattle.std.specs.List.{AllZip}
 use Rattle.netset.specs.Lists.{lines_of}
@@ -10,77 +10,65 @@ use Rattle.netset.specs.Streaming.{IsCut, IsStop}
 use Rattle.netset.specs.declared.errors.CommandError.{CommandError}
 use Rattle.netset.specs.declared.errors.CommandError.TheVariants as error
 use Rattle.netset.specs.declared.errors.LineError.{LineError}
-use Rattle.netset.proofs.Progress.{first_of_more}
+use Rattle.netset.proofs.LinesRead.{LinesRead, line_read, last_read, none_read, stops_at}
 use Rattle.netset.proofs.Zips.{zip_behind}
 
 module _ {S : Type 0} (Says : List ℕ → S → Type 0) where
-  -- the lines before this number were read
-  pub record Passed (text : List ℕ) (left : Option (List ℕ)) (said : List S) (number : ℕ) : Type 0 where
-    pub rest : List ℕ
-    pub known : left ≡ Some rest
-    pub before : List (List ℕ)
-    pub lines : lines_of text ≡ before ++ lines_of rest
-    pub place : number ≡ length before + 1
-    pub fine : AllZip Says before said
+  -- the lines before this number were read, and say this
+  abbrev pub Passed : List ℕ → Option (List ℕ) → List S → ℕ → Type 0
+  Passed text left said number = LinesRead (AllZip Says) text left said number
+
+  one_said : (said : List S) (line : List ℕ) (one : S) → Says line one → (before : List (List ℕ)) → AllZip Says before said
+      → AllZip Says (before ++ line ∷ []) (said ++ one ∷ [])
+  one_said said line one s before fine = zip_behind Says before said line one fine s
 
   pub none_passed : (text : List ℕ) → Passed text (Some text) [] 1
-  none_passed text = record { rest = text; known = refl; before = []; lines = refl; place = refl; fine = tt }
+  none_passed text = none_read (AllZip Says) (Some text) [] tt
 
   -- a line that has another behind it
   pub one_passed : (text : List ℕ) (left next : Option (List ℕ)) (said : List S) (number : ℕ) (line : List ℕ) (more : Bool) (one : S) → more ≡ true
       → Passed text left said number → IfSome left (λ text. IsNextLine text line more next) → Says line one
       → Passed text next (said ++ one ∷ []) (number + 1)
-  one_passed text left next said number line false one is p n s = cc
-  one_passed text left next said number line true one is p n s =
-      let (rest, known, lines) = (rw p.known at n) in
-      record {
-        rest = rest;
-        known = known;
-        before = p.before ++ line ∷ [];
-        lines = p.lines ∙ (ap (λ k. p.before ++ k) lines ∙ sym (append_assoc p.before (line ∷ []) (lines_of rest)));
-        place = omega (arith, p.place, length-append p.before (line ∷ []));
-        fine = zip_behind Says p.before said line one p.fine s;
-      }
+  one_passed text left next said number line more one is p n s =
+      line_read (AllZip Says) (Some text) left next said (said ++ one ∷ []) number line more is p n (λ before _. one_said said line one s before)
 
   -- the last line
   pub all_passed : (text : List ℕ) (left next : Option (List ℕ)) (said : List S) (number : ℕ) (line : List ℕ) (more : Bool) (one : S) → more ≡ false
       → Passed text left said number → IfSome left (λ text. IsNextLine text line more next) → Says line one
       → AllZip Says (lines_of text) (said ++ one ∷ [])
-  all_passed text left next said number line true one is p n s = cc
-  all_passed text left next said number line false one is p n s =
-      let lines : lines_of text ≡ p.before ++ line ∷ [] = p.lines ∙ ap (λ k. p.before ++ k) (rw p.known at n) in
-      rw lines (zip_behind Says p.before said line one p.fine s)
+  all_passed text left next said number line more one is p n s =
+      last_read (AllZip Says) (Some text) left next said (said ++ one ∷ []) number line more is p n (λ before _. one_said said line one s before)
 
   -- a line in error
   pub error_passed : (IsBad : List ℕ → LineError → Type 0) (text : List ℕ) (left next : Option (List ℕ)) (said : List S) (number : ℕ) (line : List ℕ) (more : Bool)
       (n : ℕ) (e : LineError) → Passed text left said number → IfSome left (λ text. IsNextLine text line more next) → n ≡ number → IsBadLine IsBad line e
       → AreBeforeError Says IsBad text said n e
   error_passed IsBad text left next said number line more n e p next_is at bad =
-      let (after, lines) = first_of_more p.rest line more next (rw p.known at next_is) in
+      let here = stops_at (AllZip Says) (Some text) left next said number line more p next_is in
       record {
-        before = p.before;
+        before = here.before;
         line = line;
-        after = after;
-        lines = p.lines ∙ ap (λ k. p.before ++ k) lines;
-        place = at ∙ p.place;
-        fine = p.fine;
+        after = here.after;
+        lines = here.lines;
+        place = at ∙ here.place;
+        fine = here.done;
         fault = bad;
       }
 
   -- no more lines
   pub first_passed : (text : List ℕ) (left : Option (List ℕ)) (said : List S) (number : ℕ) → Passed text left said number → AreFirst Says text said
-  first_passed text left said number p = record { before = p.before; after = lines_of p.rest; lines = p.lines; fine = p.fine }
+  first_passed text left said number p = record { before = p.before; after = lines_of p.rest; lines = p.lines; fine = p.done }
 
   -- one more line, and no more
   pub one_more_passed : (text : List ℕ) (left next : Option (List ℕ)) (said : List S) (number : ℕ) (line : List ℕ) (more : Bool) (one : S)
       → Passed text left said number → IfSome left (λ text. IsNextLine text line more next) → Says line one → AreFirst Says text (said ++ one ∷ [])
   one_more_passed text left next said number line more one p n s =
-      let (after, lines) = first_of_more p.rest line more next (rw p.known at n) in
+      let here = stops_at (AllZip Says) (Some text) left next said number line more p n in
       record {
-        before = p.before ++ line ∷ [];
-        after = after;
-        lines = p.lines ∙ (ap (λ k. p.before ++ k) lines ∙ sym (append_assoc p.before (line ∷ []) after));
-        fine = zip_behind Says p.before said line one p.fine s;
+        before = here.before ++ line ∷ [];
+        after = here.after;
+        lines = here.lines ∙ sym (append_assoc here.before (line ∷ []) here.after);
+        fine = one_said said line one s here.before here.done;
       }
 
   -- the same up to the lines that are left, and why they are

@@ -12,7 +12,7 @@ use Rattle.netset.specs.declared.errors.ReadError.TheVariants.{Line, Input, NoMe
 use Rattle.netset.specs.declared.lines.HostBits.{HostBits}
 use Rattle.netset.specs.declared.lists.Lists.{Lists}
 
-pub first_of_more : (text line : List ℕ) (more : Bool) (next : Option (List ℕ)) → IsNextLine text line more next → (after : List (List ℕ)) × (lines_of text ≡ line ∷ after)
+first_of_more : (text line : List ℕ) (more : Bool) (next : Option (List ℕ)) → IsNextLine text line more next → (after : List (List ℕ)) × (lines_of text ≡ line ∷ after)
 first_of_more text line true next n = (lines_of n.0, n.2)
 first_of_more text line false next n = ([], n)
 

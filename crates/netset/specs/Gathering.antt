@@ -8,7 +8,7 @@ use Rattle.netset.specs.Collecting.{Collects}
 use Rattle.netset.specs.Matching.{ArePicked, FieldSays, IsBadField, IsCutAt, IsMatch, last_line, line_written}
 use Rattle.netset.specs.Printing.{line}
 use Rattle.netset.specs.Program.{by_output}
-use Rattle.netset.specs.Streaming.{IsBegun, IsOfFile}
+use Rattle.netset.specs.Streaming.{IsBegun, IsCutShort}
 use Rattle.netset.specs.declared.answers.Verdict.{Verdict}
 use Rattle.netset.specs.declared.answers.Verdict.TheVariants.{Yes, No}
 use Rattle.netset.specs.declared.errors.CommandError.{CommandError}
@@ -87,5 +87,4 @@ abbrev pub Streams : (List ℕ → Bool → Type 0) → Written → List ℕ →
 Streams PicksLine what file known old new r =
     ((answer : List ℕ) × (verdict : Verdict) × (w : Result (Unit {0}) OutputFailed)
     × IfSome known (λ text. IsMatch PicksLine what text answer verdict) × Answered old new answer w × (r ≡ by_output verdict w))
-    ⊎ ((e : CommandError) × (r ≡ Err e) × IsOfFile file e × (answer : List ℕ) × IsBegun old new answer e
-    × IfSome known (λ text. IsCutAt PicksLine what text answer e))
+    ⊎ IsCutShort IsBegun (λ answer e. IfSome known (λ text. IsCutAt PicksLine what text answer e)) file old new r

@@ -130,6 +130,6 @@ IsLook rows text answer verdict = (table : Family → List (List Bool × List �
     × (answer ≡ flat_map look_line looks) × TellsFound looks verdict
 
 -- the same of the lines that were read, where the text was not read to its end, for this reason
-abbrev pub IsLookUntil : Text → List ℕ → List ℕ → CommandError → Type 0
-IsLookUntil rows text answer e = (table : Family → List (List Bool × List ℕ)) × IsTable rows table × (looks : List (Option LookUp))
+abbrev pub IsLookCut : Text → List ℕ → List ℕ → CommandError → Type 0
+IsLookCut rows text answer e = (table : Family → List (List Bool × List ℕ)) × IsTable rows table × (looks : List (Option LookUp))
     × IsCut (AllZip (LineLooks table)) (IsBadLine IsNoAddressField) (lines_of text) looks e × (answer ≡ flat_map look_line looks)

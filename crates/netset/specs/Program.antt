@@ -10,9 +10,9 @@ use Rattle.cidr_io.specs.declared.sink.OutputFailed.{OutputFailed}
 use Rattle.netset.specs.Lists.{Text, text_by, ListSays, IsFirstError}
 use Rattle.netset.specs.Commands.{Request, Lists, NotIn, Diff, Free, Check, Match, Look, Single, Help, Version, IsRequest, IsUsage, MayRead, host_bits_of, reading_options, without_options, read_files, AreTold, IsAnswer, Says}
 use Rattle.netset.specs.Free.{IsBadLength}
-use Rattle.netset.specs.Look.{IsLookUntil, IsUnreadTable}
+use Rattle.netset.specs.Look.{IsLookCut, IsUnreadTable}
 use Rattle.netset.specs.Matching.{has, written_of, IsCutAt, Picks}
-use Rattle.netset.specs.Streaming.{IsBegun, IsOfFile}
+use Rattle.netset.specs.Streaming.{IsBegun, IsCutShort, IsWritten}
 use Rattle.netset.specs.Single.{IsBadSingle, IsNoNetwork}
 use Rattle.netset.specs.Unchecked.{IsUnchecked}
 use Rattle.netset.specs.declared.errors.ArgumentError.{ArgumentError}
@@ -72,11 +72,6 @@ abbrev pub by_output : Verdict → Result (Unit {0}) OutputFailed → Result Ver
 by_output verdict (Ok _) = Ok verdict
 by_output verdict (Err e) = Err error.Output
 
--- an error, or that of the output where it has failed
-abbrev pub or_output : CommandError → Result (Unit {0}) OutputFailed → CommandError
-or_output e (Ok _) = e
-or_output e (Err failed) = error.Output
-
 -- What becomes of a request and of the sink: nothing is written where its lists are not read. Else its answer is
 -- written whole, or the sink has failed and a beginning of the answer was written, none if it had failed before.
 abbrev pub AnswersWhole : (List ℕ → Option Text) → Request → State → State → Result Verdict CommandError → Type 0
@@ -85,23 +80,23 @@ AnswersWhole told request old new r =
     ⊎ ((answer : List ℕ) × (verdict : Verdict) × (written : Result (Unit {0}) OutputFailed) × IsAnswer told request answer verdict
     × Answered old new answer written × (r ≡ by_output verdict written))
 
--- the lines of the file of `match` were not read to their end, and a beginning of what belongs to those before was written
-abbrev pub IsCutShort : (List ℕ → Option Text) → List (List ℕ) → List ℕ → List ℕ → State → State → Result Verdict CommandError → Type 0
-IsCutShort told options list file old new r = (e : CommandError) × (r ≡ Err e) × IsOfFile file e × (answer : List ℕ) × IsBegun old new answer e
-    × ((networks text : Text) → told list ≡ Some networks → told file ≡ Some text → (said : List (List IpCidr)) × ListSays networks said
-    × IsCutAt (Picks (Says said) (has (codes "-v") options)) (written_of options) text.bytes answer e)
+-- what belongs to the lines that `match` has read of its file, if it was not read to its end
+abbrev pub IsMatchUntil : (List ℕ → Option Text) → List (List ℕ) → List ℕ → List ℕ → List ℕ → CommandError → Type 0
+IsMatchUntil told options list file answer e = (networks text : Text) → told list ≡ Some networks → told file ≡ Some text
+    → (said : List (List IpCidr)) × ListSays networks said
+    × IsCutAt (Picks (Says said) (has (codes "-v") options)) (written_of options) text.bytes answer e
 
--- the lines of the file of `look` were not read to their end, and what belongs to those before was written, or a beginning
-abbrev pub IsCutLook : (List ℕ → Option Text) → List ℕ → List ℕ → State → State → Result Verdict CommandError → Type 0
-IsCutLook told table file old new r = (e : CommandError) × IsOfFile file e × (answer : List ℕ) × (written : Result (Unit {0}) OutputFailed)
-    × ((rows text : Text) → told table ≡ Some rows → told file ≡ Some text → IsLookUntil rows text.bytes answer e)
-    × Answered old new answer written × (r ≡ Err (or_output e written))
+-- the same of `look`
+abbrev pub IsLookUntil : (List ℕ → Option Text) → List ℕ → List ℕ → List ℕ → CommandError → Type 0
+IsLookUntil told table file answer e =
+    (rows text : Text) → told table ≡ Some rows → told file ≡ Some text → IsLookCut rows text.bytes answer e
 
 -- what becomes of a request and of the sink
 abbrev pub AnswersRequest : (List ℕ → Option Text) → Request → State → State → Result Verdict CommandError → Type 0
 AnswersRequest told (Match options list file) old new r =
-    AnswersWhole told (Match options list file) old new r ⊎ IsCutShort told options list file old new r
-AnswersRequest told (Look table file) old new r = AnswersWhole told (Look table file) old new r ⊎ IsCutLook told table file old new r
+    AnswersWhole told (Match options list file) old new r ⊎ IsCutShort IsBegun (IsMatchUntil told options list file) file old new r
+AnswersRequest told (Look table file) old new r =
+    AnswersWhole told (Look table file) old new r ⊎ IsCutShort IsWritten (IsLookUntil told table file) file old new r
 AnswersRequest told request old new r = AnswersWhole told request old new r
 
 -- the lists of the files, read this way

@@ -1,6 +1,7 @@
 -- A file that is read line by line, and not to its end.
-use Rattle.std.specs.Prelude.{◌≡◌, ℕ, ◌+◌, true, List, ◌∷◌, ◌++◌, length}
+use Rattle.std.specs.Prelude.{◌≡◌, ℕ, ◌+◌, true, false, List, ◌∷◌, ◌++◌, length, Result, Err}
 use Rattle.cidr_io.specs.Writing.{State, Whole, Part}
+use Rattle.netset.specs.declared.answers.Verdict.{Verdict}
 use Rattle.netset.specs.declared.errors.CommandError.{CommandError}
 use Rattle.netset.specs.declared.errors.CommandError.TheVariants as error
 use Rattle.netset.specs.declared.errors.LineError.{LineError}
@@ -19,15 +20,11 @@ pub record ReadTo {S : Type 0} (Say : List (List ℕ) → S → Type 0) (all rea
   pub lines : all ≡ read ++ left
   pub are : Say read said
 
--- what the error says of the lines: the first that is left is in error
+-- what the error says of the lines: if it is one of a line, the first that is left is in error
 abbrev pub IsStop : (List ℕ → LineError → Type 0) → List (List ℕ) → List (List ℕ) → CommandError → Type 0
-IsStop IsBad read left error.Usage = ⊥
-IsStop IsBad read left (error.Argument text e) = ⊥
 IsStop IsBad read left (error.Line name number e) = (number ≡ length read + 1)
     × (line : List ℕ) × (after : List (List ℕ)) × (left ≡ line ∷ after) × IsBad line e
-IsStop IsBad read left (error.Input name) = Unit {0}
-IsStop IsBad read left error.NoMemory = Unit {0}
-IsStop IsBad read left error.Output = Unit {0}
+IsStop IsBad read left e = Unit {0}
 
 -- lines were read up to some that are left, for this reason
 abbrev pub IsCut : {S : Type 0} → (List (List ℕ) → S → Type 0) → (List ℕ → LineError → Type 0) → List (List ℕ) → S → CommandError → Type 0
@@ -37,3 +34,14 @@ IsCut Say IsBad all said e = (read left : List (List ℕ)) × ReadTo Say all rea
 abbrev pub IsBegun : State → State → List ℕ → CommandError → Type 0
 IsBegun old new text error.Output = Part old new text × (old.failed ≡ true → new ≡ old)
 IsBegun old new text e = (front rest : List ℕ) × (text ≡ front ++ rest) × Whole old new front
+
+-- the same, and all of it where the output has not failed
+abbrev pub IsWritten : State → State → List ℕ → CommandError → Type 0
+IsWritten old new text error.Output = IsBegun old new text error.Output
+IsWritten old new text e = Whole old new text × (new.failed ≡ false)
+
+-- a file was not read to its end, and of what belongs to the lines that were read this was written
+abbrev pub IsCutShort : (State → State → List ℕ → CommandError → Type 0) → (List ℕ → CommandError → Type 0) → List ℕ → State → State
+    → Result Verdict CommandError → Type 0
+IsCutShort Goes Belongs file old new r = (e : CommandError) × (r ≡ Err e) × IsOfFile file e
+    × (answer : List ℕ) × Goes old new answer e × Belongs answer e
