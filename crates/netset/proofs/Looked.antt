@@ -331,7 +331,9 @@ module _ (told : List ℕ → Option Text) (rows : List ℕ) (file : Bor (List �
     flat_map look_line looks,
     verdict_of found,
     Ok tt,
-    λ first second is at. (kept table, reads first is, looks, bytes_read (λ text. AllZip (LineLooks (kept table)) (lines_of text) looks) left second.bytes (opens second at) says, refl, tells looks found hit),
+    λ first second is at.
+        let each = bytes_read (λ text. AllZip (LineLooks (kept table)) (lines_of text) looks) left second.bytes (opens second at) says in
+        (kept table, reads first is, looks, each, refl, tells looks found hit),
     written,
     refl,
   ))

@@ -48,7 +48,7 @@ pub enum CommandError<'a> {
     Usage,
     /// The first argument that is wrong, and why; nothing was written.
     Argument(&'a str, ArgumentError),
-    /// The first line in error of this file, counted from 1; nothing was written, but by `match` and `look` lines before it.
+    /// The first line in error of this file, from 1 on; nothing was written, but by `match` and `look` lines before it.
     Line(&'a str, u64, LineError),
     /// This file can't be read; nothing was written, but by `match` and `look` lines before.
     Input(&'a str),

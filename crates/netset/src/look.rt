@@ -56,7 +56,8 @@ fn look_line<S: Sink>(
     block: &mut Block,
     out: &mut S,
 ) -> Result<bool, LookError>
-    ensures { LooksLine (kept table.now) line.now number (S.state out.old) (S.state out.new) block.old block.new result }
+    ensures { LooksLine (kept table.now) line.now number (S.state out.old) (S.state out.new)
+        block.old block.new result }
 {
     let Some((first, _)) = split_line(line) else {
         return Ok(false);
