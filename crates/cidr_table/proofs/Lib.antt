@@ -6,6 +6,7 @@ pub mod Narrowing
 pub mod RowPlaces
 pub mod MapLaws
 pub mod Writes
+pub mod InTurn
 pub mod Printed
 pub mod Insides
 pub mod Links

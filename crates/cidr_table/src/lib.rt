@@ -86,8 +86,8 @@
 //! goes along links, each to the longest key that begins the last one. `into_lookups` takes the table itself, for a
 //! struct that holds the result, which gives the table back where rows are to change.
 //!
-//! `get_mut`, `lookup_mut` and `value_mut` return a reference to a value, for writing in its row: no key changes, and
-//! nothing is allocated.
+//! `get_mut`, `lookup_mut` and `value_mut` return a reference to a value, for writing in its row, and `for_each_mut`
+//! calls a closure with each: no key changes, and nothing is allocated.
 //!
 //! `longest_match` is a function over any `Probe`, which counts the comparisons with keys. With n the number of rows
 //! and d that of the binary digits of n, it makes at most `(len + 1) * d` of them, where `len` is the number of bits

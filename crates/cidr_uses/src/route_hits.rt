@@ -1,5 +1,5 @@
 //! Hits counted in the routes of a table, written by its public calls only.
-ghost use Rattle.std.specs.Prelude.{◌≡◌, ◌↔◌, ℕ, Contains, IsTrue, MatchOption, EachIndex, slice_index, sum};
+ghost use Rattle.std.specs.Prelude.{◌≡◌, ◌↔◌, ℕ, Contains, IsTrue, MatchOption, EachIndex, slice_index, map, ◌/◌, sum};
 ghost use Rattle.std.specs.Map.{keys_of, values_of};
 ghost use Rattle.cidr_table.specs.FiniteMap.{IsInserted};
 ghost use Rattle.cidr_uses.specs.Routing.{HasNoRoute, IsHit};
@@ -43,6 +43,13 @@ pub fn clear_all_hits<C: NetworkBits + Copy>(routes: &mut LpmTable<C, u32>)
             *hits = 0;
         }
     }
+}
+
+/// Halves the hits of each route, so that old ones count less.
+pub fn halve_all_hits<C: NetworkBits + Copy>(routes: &mut LpmTable<C, u32>)
+    ensures { routes.new.rows ≡ map (λ route. (route.0, route.1 / 2)) routes.old.rows }
+{
+    routes.for_each_mut(|_, hits| *hits /= 2);
 }
 
 /// All hits of the routes.

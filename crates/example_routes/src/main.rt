@@ -61,6 +61,8 @@ fn write(rt: &HostRuntime, routes: &mut Routes) -> Result<(), Failure> {
         *hits = hits.wrapping_add(7);
     }
     println!(rt; "{:?}", routes.get(&"10.0.0.0/8".parse()?))?; // Some(9)
+    routes.for_each_mut(|_, hits| *hits = (*hits).min(7));
+    println!(rt; "{:?}", routes.get(&"10.0.0.0/8".parse()?))?; // Some(7)
     Ok(())
 }
 

@@ -1,5 +1,5 @@
 //! Calls that every map has, and all rows that match, on a table of either family.
-use cidr::AnyIpCidr;
+use cidr::{AnyIpCidr, BitString};
 use cidr_table::LpmTable;
 use std::alloc::Global;
 use std::test::Fail;
@@ -147,6 +147,26 @@ fn a_value_is_written_in_its_row_alone(rt: HostRuntime) -> Result<(), Fail> {
     assert_eq!(rt; routes.remove(&network("any")?), Some(2));
     assert_eq!(rt; routes.lookup_mut(&network("::1")?).copied(), None);
     assert_eq!(rt; routes.len(), 2);
+    Ok(())
+}
+
+#[test]
+fn each_value_is_written_once_in_the_order_of_the_keys(rt: HostRuntime) -> Result<(), Fail> {
+    let mut routes = filled(rt.alloc(), INSERTED)?;
+    let mut calls: u32 = 0;
+    routes.for_each_mut(|key, value| {
+        calls = calls.wrapping_add(10);
+        *value = value.wrapping_add(calls).wrapping_mul(key.len() as u32);
+    });
+    assert_eq!(rt; calls, 30);
+    // 10 + 2 of `any`, 20 + 1 and 30 + 3, each by the number of bits of its key
+    assert_eq!(rt;
+        routes,
+        filled(
+            rt.alloc(),
+            &[("any", 0), ("0.0.0.0/0", 21), ("10.0.0.0/8", 297)]
+        )?
+    );
     Ok(())
 }
 

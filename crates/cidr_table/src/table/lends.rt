@@ -6,6 +6,7 @@ ghost use Rattle.std.specs.List.Sorted.{IsStrictlySortedBy};
 ghost use Rattle.std.specs.Map.{keys_of, values_of};
 ghost use Rattle.cidr_table.specs.FiniteMap.{IsUnder};
 ghost use Rattle.cidr_table.specs.Prefixes.{IsValueLookedUp};
+ghost use Rattle.cidr_table.specs.Writing.{CallLeaves, AreWrittenInTurn};
 
 use crate::table::LpmTable;
 use cidr::NetworkBits;
@@ -52,7 +53,7 @@ impl<C: NetworkBits + Copy, V> LpmTable<C, V> {
 
     /// The value of the row at an index, for writing, or `None` from the number of rows on. `row` returns its key.
     ///
-    /// Each takes the same time, so that a loop over the indices is how all values are written.
+    /// Each takes the same time, so that a loop over the indices may write all values, also where it is to stop early.
     ///
     /// ```
     /// for index in 0..routes.len() {
@@ -72,6 +73,22 @@ impl<C: NetworkBits + Copy, V> LpmTable<C, V> {
         }
     }
 
+    /// Calls `write` once with each key and its value, in the order of the keys: it may write the value. It allocates
+    /// nothing.
+    ///
+    /// ```
+    /// routes.for_each_mut(|_, hits| *hits = (*hits).min(7));
+    /// routes.get(&"10.0.0.0/8".parse()?) // Some(7)
+    /// ```
+    pub fn for_each_mut<F: FnMut(&C, &mut V)>(&mut self, write: F)
+        requires { F.IsAlwaysCallable write }
+        ensures rows { AreWrittenInTurn (CallLeaves F.FnMut.steps) write self.old.rows self.new.rows }
+        ensures capacity { self.new.capacity ≡ self.old.capacity }
+        ensures sorted { IsStrictlySortedBy C.cmp (keys_of self.new.rows) }
+    {
+        write_each(&mut self.rows, write);
+    }
+
     /// The value of the row at an index, which there is.
     fn value_at(&mut self, place: usize) -> &mut V
         requires { place < length self.old.rows }
@@ -80,5 +97,16 @@ impl<C: NetworkBits + Copy, V> LpmTable<C, V> {
     {
         let row = &mut self.rows[place];
         &mut row.1
+    }
+}
+
+/// Calls `write` with each key and its value.
+fn write_each<C, V, F: FnMut(&C, &mut V)>(rows: &mut [(C, V)], mut write: F)
+    requires { F.IsAlwaysCallable write }
+    ensures { AreWrittenInTurn (CallLeaves F.FnMut.steps) write rows.old rows.new }
+{
+    for place in 0..rows.len() {
+        let row = &mut rows[place];
+        write(&row.0, &mut row.1);
     }
 }

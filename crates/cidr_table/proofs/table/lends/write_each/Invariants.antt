@@ -1,0 +1,7 @@
+use denote.Param.Always.{always_mut}
+use Rattle.cidr_table.specs.Writing.{CallLeaves}
+use Rattle.cidr_table.proofs.InTurn.{IsAt}
+use Rattle.cidr_table.proofs.table.lends.write_each.Given as goal
+
+abbrev pub invariant-loop-place : goal.invariant-loop-place
+invariant-loop-place g l = always_mut g.F.FnMut l.write × IsAt (CallLeaves g.F.FnMut.steps) l.fn.write l.fn.rows l.write l.rows l.place
