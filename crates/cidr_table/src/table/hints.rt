@@ -30,8 +30,8 @@ impl Hints {
         }
         let bits = rows.len().ilog2().saturating_sub(3).min(16);
         let parts = 1usize.wrapping_shl(bits);
-        // A part has one entry, or at most half as many as keys.
-        let entries = (rows.len() / 2).saturating_add(parts);
+        // A part has one entry, or at most as many as these.
+        let entries = most_entries(rows.len(), rows.len()).saturating_add(parts);
         let mut hints = Hints {
             rest: 64u32.saturating_sub(bits),
             parts: Vec::with_capacity(alloc, parts.saturating_add(1))?,
@@ -61,8 +61,8 @@ impl Hints {
     ) -> Result<(), AllocError> {
         let begin = narrow(self.starts.len());
         self.parts.push(begin)?;
-        let count = end.saturating_sub(place).max(2);
-        let bits = count.ilog2().saturating_sub(1);
+        let count = most_entries(end.saturating_sub(place), rows.len());
+        let bits = count.max(1).ilog2();
         let mut start = place;
         for entry in 0..1u64.wrapping_shl(bits) {
             let before = first | entry.wrapping_shl(self.rest.saturating_sub(bits));
@@ -88,6 +88,15 @@ impl Hints {
         let from = self.starts.get(at).copied()?;
         let to = self.starts.get(at.wrapping_add(1)).copied()?;
         Some((from as usize, to as usize))
+    }
+}
+
+/// How many entries there are for some of the keys at most: of a large table, more would not stay in the cache.
+fn most_entries(keys: usize, rows: usize) -> usize {
+    if rows < 1 << 18 {
+        keys - keys / 4
+    } else {
+        keys / 2
     }
 }
 

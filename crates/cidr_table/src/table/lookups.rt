@@ -81,7 +81,7 @@ impl<C: NetworkBits + Copy, V> LpmTable<C, V> {
         longest(self.ascending(), asked)
     }
 
-    /// The rows, made ready for many look-ups: it goes a few times through them, and allocates up to seven bytes for
+    /// The rows, made ready for many look-ups: it goes a few times through them, and allocates up to eight bytes for
     /// each. The result borrows the table, which cannot change meanwhile.
     ///
     /// ```
