@@ -343,6 +343,47 @@ rows_where_a_stream_fails() {
     run 2 '' '' 'x' merge
 }
 
+# refuse INPUT ARGUMENT..: runs the program with its first allocation refused, with its second one, and so on until there
+# is none to refuse. It is to end with status 3 and `no memory`, and to write nothing; `match` and `look` may have written
+# a beginning of their answer.
+refuse() {
+    local input=$1 end=0 status n begun
+    shift
+    printf '%b' "$input" | (cd "$room" && "$program" "$@") >"$room/whole" || end=$?
+    for ((n = 1; n <= 99; n++)); do
+        status=0
+        printf '%b' "$input" | (cd "$room" && REFUSE=$n LD_PRELOAD=$room/refuse.so "$program" "$@") >"$room/output" 2>"$room/error" ||
+            status=$?
+        ((n == 1 || status != end)) || return 0
+        begun=0
+        [[ $1 != match && $1 != look ]] || begun=$(wc -c <"$room/output")
+        if ((status != 3)) || ! has "$room/error" $'no memory\n' || ! head -c "$begun" "$room/whole" | cmp -s - "$room/output"; then
+            break
+        fi
+    done
+    differs=1
+    echo "$build ${*@Q}, allocation $n refused: not as wanted" >&2
+}
+
+# Memory that is refused, to commands that read lists.
+rows_without_memory() {
+    local command
+    "${CC:-cc}" -shared -fPIC -o "$room/refuse.so" runs/refuse.c -ldl
+    for command in merge nets not ranges count; do
+        refuse '10.0.0.0/9\n10.128.0.0/9\n::1-::8\n' "$command" - both
+    done
+    for command in minus and diff; do
+        refuse '10.0.0.0/9\n::/1\n' "$command" both -
+    done
+    refuse '10.0.0.1/9\n10.0.0.0/9\n10.128.0.0/9\n::\n' check - both
+    refuse '10.0.0.0/9\n' not --in ::/0 -
+    refuse '10.0.0.0/9\n' merge --host-bits -
+    refuse '10.0.0.0/9\n' free both 9 -
+    refuse '10.0.0.1\n::1 x\n11.0.0.1' match ten_and_eight
+    refuse '10.0.0.1\n11.0.0.1' match -c -v both
+    refuse '10.0.0.1\n11.0.0.1\n2001:db8::1' look owners
+}
+
 # Standard error shows how far reading is, where it is a terminal and the run takes longer than a second.
 slow_input() {
     local slow='(printf "10.0.0.0/9\n"; sleep 1.2; printf "10.128.0.0/9\n") | "$program" merge' shown
@@ -393,6 +434,9 @@ for build in netset netset.by-rattle; do
     rows_of_host_bits
     long_list
     slow_input
+    if command -v "${CC:-cc}" >/dev/null; then
+        rows_without_memory
+    fi
     if [[ -c /dev/full ]]; then
         rows_where_a_stream_fails
     fi
