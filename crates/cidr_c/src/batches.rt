@@ -5,7 +5,7 @@ ghost use Rattle.cidr_c.specs.Codes.{no_memory, no_value};
 ghost use Rattle.cidr_c.specs.Values.{network_in};
 
 use crate::codes::{NO_MEMORY, NO_VALUE};
-use crate::values::{CValue, network_of, network_value};
+use crate::values::{CValue, network_of, put_network};
 use cidr::AnyIpCidr;
 use std::alloc::Global;
 
@@ -36,6 +36,6 @@ pub fn put(networks: &[AnyIpCidr], out: &mut [CValue])
     ensures values { map network_in (take (length networks.now) out.new) ≡ networks.now }
 {
     for i in 0..networks.len() {
-        out[i] = network_value(&networks[i]);
+        put_network(&networks[i], &mut out[i]);
     }
 }

@@ -7,7 +7,7 @@ ghost use Rattle.cidr_c.specs.Calls.{IsReadBytes};
 ghost use Rattle.cidr_c.specs.Values.{IsHost, IsNetwork, host_in, network_in};
 
 use crate::codes::{OK, compact_code};
-use crate::values::{CValue, host_value, network_value};
+use crate::values::{CValue, put_host, put_network};
 use cidr::{AnyIpCidr, IpInet};
 
 /// Reads the network whose compact bytes come first, and how many they are: 0 and both, or the number of the first
@@ -19,7 +19,7 @@ pub extern "C" fn pcidr_network_from_bytes(bytes: &[u8], out: &mut CValue, used:
 {
     match AnyIpCidr::from_compact(bytes) {
         Ok((network, count)) => {
-            *out = network_value(&network);
+            put_network(&network, out);
             *used = count;
             OK
         }
@@ -35,7 +35,7 @@ pub extern "C" fn pcidr_host_from_bytes(bytes: &[u8], out: &mut CValue, used: &m
 {
     match IpInet::from_compact(bytes) {
         Ok((host, count)) => {
-            *out = host_value(&host);
+            put_host(&host, out);
             *used = count;
             OK
         }

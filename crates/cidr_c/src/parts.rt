@@ -5,14 +5,18 @@ ghost use Rattle.cidr.specs.model.Network.{BeginsWith, first_of, last_of, mask_o
 ghost use Rattle.cidr.specs.model.Host.{first_host};
 ghost use Rattle.cidr.specs.either.IpHost.{IpWrapsDown, IpWrapsUp, host_address, host_at, host_network, ip_stepped_down, ip_stepped_up};
 ghost use Rattle.cidr.specs.either.IpNetwork.{address_by, any_bits, any_of};
+ghost use Rattle.cidr.specs.declared.cidr.any.AnyIpCidr.TheVariants.{V4, V6};
 ghost use Rattle.cidr_c.specs.Calls.{IsAnswer, IsMade, IsStepped};
 ghost use Rattle.cidr_c.specs.Codes.{no_value, order_code};
 ghost use Rattle.cidr_c.specs.Values.{IsAddress, IsHost, IsNetwork, address_in, host_in, host_order, network_in};
 
 use crate::codes::{NO_VALUE, OK, WRAPPED, order_code};
-use crate::values::{CValue, address_value, host_of, host_value, network_of, network_value};
+use crate::values::{
+    CValue, host_of, ipv4_network, ipv6_network, is_ipv4, is_ipv6, network_of, put_address,
+    put_host, put_network,
+};
 use cidr::laws::hosts::order_is_by_family_address_and_length;
-use cidr::{AnyIpCidr, IpInet, NetworkBits};
+use cidr::{AnyIpCidr, IpInet, Ipv4Cidr, Ipv6Cidr, NetworkBits};
 
 /// The first address of the network of a host.
 #[unsafe(no_mangle)]
@@ -23,7 +27,7 @@ pub extern "C" fn pcidr_first(host: &CValue, out: &mut CValue) -> u32
     let Some(host) = host_of(host) else {
         return NO_VALUE;
     };
-    *out = address_value(&host.first_address());
+    put_address(&host.first_address(), out);
     OK
 }
 
@@ -36,7 +40,7 @@ pub extern "C" fn pcidr_last(host: &CValue, out: &mut CValue) -> u32
     let Some(host) = host_of(host) else {
         return NO_VALUE;
     };
-    *out = address_value(&host.last_address());
+    put_address(&host.last_address(), out);
     OK
 }
 
@@ -49,7 +53,7 @@ pub extern "C" fn pcidr_mask(host: &CValue, out: &mut CValue) -> u32
     let Some(host) = host_of(host) else {
         return NO_VALUE;
     };
-    *out = address_value(&host.mask());
+    put_address(&host.mask(), out);
     OK
 }
 
@@ -61,7 +65,7 @@ pub extern "C" fn pcidr_address(host: &CValue, out: &mut CValue) -> u32
     let Some(host) = host_of(host) else {
         return NO_VALUE;
     };
-    *out = address_value(&host.address());
+    put_address(&host.address(), out);
     OK
 }
 
@@ -74,7 +78,7 @@ pub extern "C" fn pcidr_network(host: &CValue, out: &mut CValue) -> u32
     let Some(host) = host_of(host) else {
         return NO_VALUE;
     };
-    *out = network_value(&AnyIpCidr::from(host.network()));
+    put_network(&AnyIpCidr::from(host.network()), out);
     OK
 }
 
@@ -85,20 +89,49 @@ pub extern "C" fn pcidr_contains(outer: &CValue, inner: &CValue) -> u32
         IsAnswer result (BeginsWith (any_bits (network_in inner.now)) (any_bits (network_in outer.now))) }
     ensures other { ¬ (IsNetwork outer.now × IsNetwork inner.now) → result ≡ no_value }
 {
+    if is_ipv4(outer) && is_ipv4(inner) {
+        return match (ipv4_network(outer), ipv4_network(inner)) {
+            (Some(outer), Some(inner)) => ipv4_answer(&outer, &inner),
+            _ => NO_VALUE,
+        };
+    }
+    if is_ipv6(outer) && is_ipv6(inner) {
+        return match (ipv6_network(outer), ipv6_network(inner)) {
+            (Some(outer), Some(inner)) => ipv6_answer(&outer, &inner),
+            _ => NO_VALUE,
+        };
+    }
     match (network_of(outer), network_of(inner)) {
-        (Some(outer), Some(inner)) => answer(&outer, &inner),
+        (Some(outer), Some(inner)) => any_answer(&outer, &inner),
         _ => NO_VALUE,
     }
 }
 
 /// 1 where the first network contains the second, and 0 where not.
-fn answer(outer: &AnyIpCidr, inner: &AnyIpCidr) -> u32
+#[inline(always)]
+fn ipv4_answer(outer: &Ipv4Cidr, inner: &Ipv4Cidr) -> u32
+    ensures { IsAnswer result (BeginsWith (any_bits (V4 inner.now)) (any_bits (V4 outer.now))) }
+{
+    u32::from(outer.contains_cidr(inner))
+}
+
+/// The same for IPv6.
+#[inline(always)]
+fn ipv6_answer(outer: &Ipv6Cidr, inner: &Ipv6Cidr) -> u32
+    ensures { IsAnswer result (BeginsWith (any_bits (V6 inner.now)) (any_bits (V6 outer.now))) }
+{
+    u32::from(outer.contains_cidr(inner))
+}
+
+/// The same for networks of any family.
+fn any_answer(outer: &AnyIpCidr, inner: &AnyIpCidr) -> u32
     ensures { IsAnswer result (BeginsWith (any_bits inner.now) (any_bits outer.now)) }
 {
     if outer.contains_cidr(inner) { 1 } else { 0 }
 }
 
 /// How two networks compare, by their bits.
+#[inline(always)]
 fn compared<C: NetworkBits>(one: &C, other: &C) -> u32
     ensures { result ≡ order_code (bit_cmp (C.bits one.now) (C.bits other.now)) }
 {
@@ -113,6 +146,18 @@ pub extern "C" fn pcidr_compare(one: &CValue, other: &CValue) -> u32
         result ≡ order_code (bit_cmp (any_bits (network_in one.now)) (any_bits (network_in other.now))) }
     ensures other { ¬ (IsNetwork one.now × IsNetwork other.now) → result ≡ no_value }
 {
+    if is_ipv4(one) && is_ipv4(other) {
+        return match (ipv4_network(one), ipv4_network(other)) {
+            (Some(one), Some(other)) => compared(&one, &other),
+            _ => NO_VALUE,
+        };
+    }
+    if is_ipv6(one) && is_ipv6(other) {
+        return match (ipv6_network(one), ipv6_network(other)) {
+            (Some(one), Some(other)) => compared(&one, &other),
+            _ => NO_VALUE,
+        };
+    }
     match (network_of(one), network_of(other)) {
         (Some(one), Some(other)) => compared(&one, &other),
         _ => NO_VALUE,
@@ -152,7 +197,7 @@ pub extern "C" fn pcidr_step_up(host: &CValue, high: u64, low: u64, out: &mut CV
         return NO_VALUE;
     };
     let (host, wraps) = host.overflowing_add(joined(high, low));
-    *out = host_value(&host);
+    put_host(&host, out);
     if wraps { WRAPPED } else { OK }
 }
 
@@ -166,7 +211,7 @@ pub extern "C" fn pcidr_step_down(host: &CValue, high: u64, low: u64, out: &mut 
         return NO_VALUE;
     };
     let (host, wraps) = host.overflowing_sub(joined(high, low));
-    *out = host_value(&host);
+    put_host(&host, out);
     if wraps { WRAPPED } else { OK }
 }
 
@@ -182,7 +227,7 @@ pub extern "C" fn pcidr_at(host: &CValue, high: u64, low: u64, out: &mut CValue)
         return NO_VALUE;
     };
     let (host, wraps) = host.first().overflowing_add(joined(high, low));
-    *out = host_value(&host);
+    put_host(&host, out);
     if wraps { WRAPPED } else { OK }
 }
 

@@ -11,7 +11,7 @@ ghost use Rattle.cidr_c.specs.Codes.{address_code, parse_code};
 ghost use Rattle.cidr_c.specs.Values.{IsAddress, IsHost, IsNetwork, address_in, host_in, network_in};
 
 use crate::codes::{ADDRESS, NOT_UTF8, OK, parse_code};
-use crate::values::{CValue, address_value, host_value, network_value};
+use crate::values::{CValue, put_address, put_host, put_network};
 use cidr::parsers::{parse_loose_ip, parse_short_any_ip_cidr};
 use cidr::{AnyIpCidr, IpAddr, IpInet};
 use std::str::FromStr;
@@ -26,7 +26,7 @@ pub extern "C" fn pcidr_read_address(text: &[u8], out: &mut CValue) -> u32
     };
     match IpAddr::from_str(text) {
         Ok(address) => {
-            *out = address_value(&address);
+            put_address(&address, out);
             OK
         }
         Err(_) => ADDRESS,
@@ -44,7 +44,7 @@ pub extern "C" fn pcidr_read_loose_address(text: &[u8], out: &mut CValue) -> u32
     };
     match parse_loose_ip(text) {
         Ok(address) => {
-            *out = address_value(&address);
+            put_address(&address, out);
             OK
         }
         Err(_) => ADDRESS,
@@ -61,7 +61,7 @@ pub extern "C" fn pcidr_read_host(text: &[u8], out: &mut CValue) -> u32
     };
     match IpInet::from_str(text) {
         Ok(host) => {
-            *out = host_value(&host);
+            put_host(&host, out);
             OK
         }
         Err(e) => parse_code(&e),
@@ -78,7 +78,7 @@ pub extern "C" fn pcidr_read_network(text: &[u8], out: &mut CValue) -> u32
     };
     match AnyIpCidr::from_str(text) {
         Ok(network) => {
-            *out = network_value(&network);
+            put_network(&network, out);
             OK
         }
         Err(e) => parse_code(&e),
@@ -97,7 +97,7 @@ pub extern "C" fn pcidr_read_short_network(text: &[u8], out: &mut CValue) -> u32
     };
     match parse_short_any_ip_cidr(text) {
         Ok(network) => {
-            *out = network_value(&network);
+            put_network(&network, out);
             OK
         }
         Err(e) => parse_code(&e),

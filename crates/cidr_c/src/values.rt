@@ -1,6 +1,7 @@
 //! Values as they cross between C and the library.
-ghost use Rattle.std.specs.Prelude.{◌≡◌, ◌<◌, ◌^◌, MatchOption};
+ghost use Rattle.std.specs.Prelude.{◌≡◌, ◌<◌, ◌≤◌, ◌^◌, ◌↔◌, IsTrue, MatchOption};
 ghost use Rattle.cidr.specs.model.Bits.{bits};
+ghost use Rattle.cidr.specs.declared.cidr.any.AnyIpCidr.TheVariants.{V4, V6};
 ghost use Rattle.cidr_c.specs.Values.{IsLow, IsAddress, IsHost, IsNetwork, address_in, host_in, network_in, number_in};
 
 use cidr::{AnyIpCidr, IpAddr, IpInet, Ipv4Addr, Ipv4Cidr, Ipv4Inet, Ipv6Addr, Ipv6Cidr, Ipv6Inet};
@@ -25,6 +26,7 @@ pub struct CValue {
 }
 
 /// The IPv4 address of the lower half.
+#[inline(always)]
 fn ipv4_in(value: &CValue) -> Option<Ipv4Addr>
     ensures { MatchOption result (¬ (IsLow value.now)) (λ a. IsLow value.now × (a ≡ bits 32 value.now.low)) }
 {
@@ -41,6 +43,53 @@ fn ipv6_in(value: &CValue) -> Ipv6Addr
     Ipv6Addr::from_bits(u128::from(value.high) * (1 << 64) + u128::from(value.low))
 }
 
+/// Whether the tag is below those of IPv6.
+#[inline(always)]
+pub fn is_ipv4(value: &CValue) -> bool
+    ensures { IsTrue result ↔ (value.now.tag < 64) }
+{
+    value.tag < IPV6
+}
+
+/// Whether the tag is one of those from the first of IPv6 on, but not that of `Any`.
+#[inline(always)]
+pub fn is_ipv6(value: &CValue) -> bool
+    ensures { IsTrue result ↔ ((64 ≤ value.now.tag) × (value.now.tag < 255)) }
+{
+    value.tag >= IPV6 && value.tag < ANY
+}
+
+/// The IPv4 network that a value with the tag of an IPv4 prefix length is, if it is one.
+#[inline(always)]
+pub fn ipv4_network(value: &CValue) -> Option<Ipv4Cidr>
+    ensures { value.now.tag < 64 → MatchOption result (¬ (IsNetwork value.now))
+        (λ network. IsNetwork value.now × (V4 network ≡ network_in value.now)) }
+{
+    if value.tag > 32 {
+        return None;
+    }
+    let address = ipv4_in(value)?;
+    match Ipv4Cidr::new(address, value.tag) {
+        Ok(network) => Some(network),
+        Err(_) => None,
+    }
+}
+
+/// The IPv6 network that a value with the tag of an IPv6 prefix length is, if it is one.
+#[inline(always)]
+pub fn ipv6_network(value: &CValue) -> Option<Ipv6Cidr>
+    ensures { 64 ≤ value.now.tag → value.now.tag < 255 → MatchOption result (¬ (IsNetwork value.now))
+        (λ network. IsNetwork value.now × (V6 network ≡ network_in value.now)) }
+{
+    if value.tag < IPV6 {
+        return None;
+    }
+    match Ipv6Cidr::new(ipv6_in(value), value.tag - IPV6) {
+        Ok(network) => Some(network),
+        Err(_) => None,
+    }
+}
+
 /// The network that a value is, if it is one.
 #[inline(always)]
 pub fn network_of(value: &CValue) -> Option<AnyIpCidr>
@@ -54,23 +103,22 @@ pub fn network_of(value: &CValue) -> Option<AnyIpCidr>
         return Some(AnyIpCidr::Any);
     }
     if value.tag < IPV6 {
-        let address = ipv4_in(value)?;
-        return match Ipv4Cidr::new(address, value.tag) {
-            Ok(network) => Some(AnyIpCidr::V4(network)),
-            Err(_) => None,
-        };
+        let network = ipv4_network(value)?;
+        return Some(AnyIpCidr::V4(network));
     }
-    match Ipv6Cidr::new(ipv6_in(value), value.tag - IPV6) {
-        Ok(network) => Some(AnyIpCidr::V6(network)),
-        Err(_) => None,
-    }
+    let network = ipv6_network(value)?;
+    Some(AnyIpCidr::V6(network))
 }
 
 /// The host that a value is, if it is one.
+#[inline(always)]
 pub fn host_of(value: &CValue) -> Option<IpInet>
     ensures { MatchOption result (¬ (IsHost value.now)) (λ host. IsHost value.now × (host ≡ host_in value.now)) }
 {
     if value.tag < IPV6 {
+        if value.tag > 32 {
+            return None;
+        }
         let address = ipv4_in(value)?;
         return match Ipv4Inet::new(address, value.tag) {
             Ok(host) => Some(IpInet::V4(host)),
@@ -98,71 +146,77 @@ pub fn address_of(value: &CValue) -> Option<IpAddr>
     None
 }
 
-/// An IPv4 address with a tag.
+/// Makes the value an IPv4 address with a tag. Each field is written by itself: the value has bytes that belong to none,
+/// which a copy of the whole would take along.
+#[inline(always)]
 #[tactic(auto, using(crate::proofs::Bits::number_laws))]
-fn ipv4_value(address: Ipv4Addr, tag: u8) -> CValue
-    ensures high { result.high ≡ 0 }
-    ensures low { result.low < 2 ^ 32 }
-    ensures bits { bits 32 result.low ≡ address }
-    ensures tag { result.tag ≡ tag }
+fn put_ipv4(address: Ipv4Addr, tag: u8, out: &mut CValue)
+    ensures high { out.new.high ≡ 0 }
+    ensures low { out.new.low < 2 ^ 32 }
+    ensures bits { bits 32 out.new.low ≡ address }
+    ensures tag { out.new.tag ≡ tag }
 {
-    CValue {
-        high: 0,
-        low: u64::from(address.to_bits()),
-        tag,
-    }
+    out.high = 0;
+    out.low = u64::from(address.to_bits());
+    out.tag = tag;
 }
 
-/// An IPv6 address with a tag.
+/// The same for an IPv6 address.
+#[inline(always)]
 #[tactic(auto, using(crate::proofs::Bits::number_laws))]
-fn ipv6_value(address: Ipv6Addr, tag: u8) -> CValue
-    ensures bits { bits 128 (number_in result) ≡ address }
-    ensures tag { result.tag ≡ tag }
+fn put_ipv6(address: Ipv6Addr, tag: u8, out: &mut CValue)
+    ensures bits { bits 128 (number_in out.new) ≡ address }
+    ensures tag { out.new.tag ≡ tag }
 {
     let bits = address.to_bits();
-    CValue {
-        high: (bits / (1 << 64)) as u64,
-        low: (bits % (1 << 64)) as u64,
-        tag,
-    }
+    out.high = (bits / (1 << 64)) as u64;
+    out.low = (bits % (1 << 64)) as u64;
+    out.tag = tag;
 }
 
-/// The value of a network.
-pub fn network_value(network: &AnyIpCidr) -> CValue
-    ensures is_network { IsNetwork result }
-    ensures network { network_in result ≡ network.now }
+/// Makes the value a network.
+#[inline(always)]
+pub fn put_network(network: &AnyIpCidr, out: &mut CValue)
+    ensures is_network { IsNetwork out.new }
+    ensures network { network_in out.new ≡ network.now }
 {
     match network {
-        AnyIpCidr::Any => CValue {
-            high: 0,
-            low: 0,
-            tag: ANY,
-        },
-        AnyIpCidr::V4(network) => ipv4_value(network.first_address(), network.network_length()),
+        AnyIpCidr::Any => {
+            out.high = 0;
+            out.low = 0;
+            out.tag = ANY;
+        }
+        AnyIpCidr::V4(network) => put_ipv4(network.first_address(), network.network_length(), out),
         AnyIpCidr::V6(network) => {
-            ipv6_value(network.first_address(), network.network_length() + IPV6)
+            put_ipv6(
+                network.first_address(),
+                network.network_length() + IPV6,
+                out,
+            )
         }
     }
 }
 
-/// The value of a host.
-pub fn host_value(host: &IpInet) -> CValue
-    ensures is_host { IsHost result }
-    ensures host { host_in result ≡ host.now }
+/// Makes the value a host.
+#[inline(always)]
+pub fn put_host(host: &IpInet, out: &mut CValue)
+    ensures is_host { IsHost out.new }
+    ensures host { host_in out.new ≡ host.now }
 {
     match host {
-        IpInet::V4(host) => ipv4_value(host.address(), host.network_length()),
-        IpInet::V6(host) => ipv6_value(host.address(), host.network_length() + IPV6),
+        IpInet::V4(host) => put_ipv4(host.address(), host.network_length(), out),
+        IpInet::V6(host) => put_ipv6(host.address(), host.network_length() + IPV6, out),
     }
 }
 
-/// The value of an address.
-pub fn address_value(address: &IpAddr) -> CValue
-    ensures is_address { IsAddress result }
-    ensures address { address_in result ≡ address.now }
+/// Makes the value an address.
+#[inline(always)]
+pub fn put_address(address: &IpAddr, out: &mut CValue)
+    ensures is_address { IsAddress out.new }
+    ensures address { address_in out.new ≡ address.now }
 {
     match address {
-        IpAddr::V4(address) => ipv4_value(*address, 32),
-        IpAddr::V6(address) => ipv6_value(*address, 192),
+        IpAddr::V4(address) => put_ipv4(*address, 32, out),
+        IpAddr::V6(address) => put_ipv6(*address, 192, out),
     }
 }

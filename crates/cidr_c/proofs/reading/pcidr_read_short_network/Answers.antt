@@ -19,5 +19,5 @@ pub returns-in-Ok-parse_short_any_ip_cidr : goal.returns-in-Ok-parse_short_any_i
 returns-in-Ok-parse_short_any_ip_cidr c =
     let told = c.in-Ok.ensures.cases in
     read_value (ReadsAny (ReadsShort (Reads IsShortIpText (parse_error.AddrParseError ip_error)) ReadsIpNetwork)) parse_code IsNetwork network_in
-    c.args.text.now c.in-Ok.text.now told.1 told.0 c.args.out.now c.network_value.result c.in-Ok-parse_short_any_ip_cidr.network
-    c.network_value.ensures.is_network c.network_value.ensures.network c.in-Ok-parse_short_any_ip_cidr.ensures
+    c.args.text.now c.in-Ok.text.now told.1 told.0 c.args.out.now _ c.in-Ok-parse_short_any_ip_cidr.network
+    c.put_network.ensures.is_network c.put_network.ensures.network c.in-Ok-parse_short_any_ip_cidr.ensures
