@@ -25,3 +25,4 @@ pub mod Resolved
 pub mod Stored
 pub mod Looked
 pub mod Options
+pub mod Anywhere

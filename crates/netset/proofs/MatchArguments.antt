@@ -47,8 +47,10 @@ no_match_option word none =
     let v : is_word (codes "-v") word ≡ false = named_as word (codes "-v") (is_word (codes "-v") word) none refl refl in
     let c : is_word (codes "-c") word ≡ false = named_as word (codes "-c") (is_word (codes "-c") word) none refl refl in
     let q : is_word (codes "-q") word ≡ false = named_as word (codes "-q") (is_word (codes "-q") word) none refl refl in
-    ap (λ (k : Bool). (k || is_word (codes "-c") word) || is_word (codes "-q") word) v
-    ∙ (ap (λ (k : Bool). k || is_word (codes "-q") word) c ∙ q)
+    let any : is_word (codes "--any") word ≡ false = named_as word (codes "--any") (is_word (codes "--any") word) none refl refl in
+    ap (λ (k : Bool). ((k || is_word (codes "-c") word) || is_word (codes "-q") word) || is_word (codes "--any") word) v
+    ∙ (ap (λ (k : Bool). (k || is_word (codes "-q") word) || is_word (codes "--any") word) c
+    ∙ (ap (λ (k : Bool). k || is_word (codes "--any") word) q ∙ any))
 
 -- an option among others
 pub any_of : (name : List ℕ) (words : List (Bor (List ℕ))) → list_any (λ (w : Bor (List ℕ)). bytes_eq w.now name) words ≡ list_any (is_word name) (bytes_of words)

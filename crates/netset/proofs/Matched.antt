@@ -10,7 +10,7 @@ use Rattle.std.proofs.lemmas.List.{append-nil, flat_map_more, map-id}
 use Rattle.std.proofs.lemmas.List.Concat.{flat_map-append}
 use Rattle.std.proofs.lemmas.List.Splits.{length-slice_split}
 use Rattle.cidr.specs.model.Network.{BeginsWith}
-use Rattle.cidr.specs.either.IpNetwork.{network_family}
+use Rattle.cidr.specs.either.IpNetwork.{network_family, network_prefix}
 use Rattle.cidr.specs.declared.cidr.combined.IpCidr.{IpCidr}
 use Rattle.cidr.specs.declared.family.Family.{Family}
 use Rattle.cidr_table.specs.Cover.{Covers, IsFull}
@@ -19,10 +19,11 @@ use Rattle.cidr_io.specs.declared.sink.OutputFailed.{OutputFailed}
 use Rattle.cidr_io.proofs.Chains.{answered, part_none, then_flushed, then_writes, whole_part, whole_whole}
 use Rattle.netset.specs.Answering.{HasAddresses, ReadsFile}
 use Rattle.netset.specs.Collecting.{Collects}
+use Rattle.netset.specs.Combining.{Turned}
 use Rattle.netset.specs.Commands.{Match, Says}
 use Rattle.netset.specs.Gathering.{Finishes, IsCounted, IsDone, IsLost, IsUnreadable, Streams, TakesPart, lines_of_part, rest_written}
 use Rattle.netset.specs.Lists.{Text, is_line_feed, lines_of}
-use Rattle.netset.specs.Matching.{ArePicked, ArePickedBy, FieldSays, IsBadField, IsCutAt, IsEnough, IsMatch, LiesIn, Picks, all_written, has, last_line, line_written, lines_among, lines_in, written_of}
+use Rattle.netset.specs.Matching.{AreWithin, ArePicked, ArePickedBy, FieldSays, HasOneIn, IsCutAt, IsEnough, IsErrorBy, IsMatch, LiesIn, Picks, PicksAnywhere, PicksByField, all_written, has, last_line, line_written, lines_among, lines_in, written_of}
 use Rattle.netset.specs.Printing.{Holds}
 use Rattle.netset.specs.Program.{AnswersRequest}
 use Rattle.netset.specs.Reading.{IsNextLine}
@@ -32,6 +33,7 @@ use Rattle.netset.specs.declared.answers.Verdict.{Verdict}
 use Rattle.netset.specs.declared.answers.Verdict.TheVariants.{Yes, No}
 use Rattle.netset.specs.declared.errors.CommandError.{CommandError}
 use Rattle.netset.specs.declared.errors.CommandError.TheVariants as error
+use Rattle.netset.specs.declared.errors.LineError.{LineError}
 use Rattle.netset.specs.declared.matching.Gathered.{Gathered}
 use Rattle.netset.specs.declared.matching.Written.{Written}
 use Rattle.netset.specs.declared.matching.Written.TheVariants as written
@@ -83,25 +85,29 @@ where_both P (x ∷ xs) ys [] ns h = absurd h
 where_both {A} P (x ∷ xs) ys (true ∷ ms) ns h = ap (λ (k : List A). x ∷ k) (where_both P xs ys ms ns h.1)
 where_both P (x ∷ xs) ys (false ∷ ms) ns h = where_both P xs ys ms ns h.1
 
-pub none_picked : (P : List ℕ → Bool → Type 0) → ArePicked P [] []
+pub none_picked : (P : List ℕ → Result Bool LineError → Type 0) → ArePicked P [] []
 none_picked P = ([], tt, refl)
 
-pub one_picked : (P : List ℕ → Bool → Type 0) (line : List ℕ) → P line true → ArePicked P (line ∷ []) (line ∷ [])
+pub one_picked : (P : List ℕ → Result Bool LineError → Type 0) (line : List ℕ) → P line (Ok true) → ArePicked P (line ∷ []) (line ∷ [])
 one_picked P line h = (true ∷ [], (h, tt), refl)
 
-pub one_passed : (P : List ℕ → Bool → Type 0) (line : List ℕ) → P line false → ArePicked P (line ∷ []) []
+pub one_passed : (P : List ℕ → Result Bool LineError → Type 0) (line : List ℕ) → P line (Ok false) → ArePicked P (line ∷ []) []
 one_passed P line h = (false ∷ [], (h, tt), refl)
 
-picked_both : (P : List ℕ → Bool → Type 0) (xs ys ps qs : List (List ℕ)) → ArePicked P xs ps → ArePicked P ys qs → ArePicked P (xs ++ ys) (ps ++ qs)
+picked_both : (P : List ℕ → Result Bool LineError → Type 0) (xs ys ps qs : List (List ℕ)) → ArePicked P xs ps → ArePicked P ys qs → ArePicked P (xs ++ ys) (ps ++ qs)
 picked_both P xs ys ps qs (ms, are, is) (ns, more, too) = (
   ms ++ ns,
-  zip_both P xs ys ms ns are more,
+  zip_both (λ (line : List ℕ) (mark : Bool). P line (Ok mark)) xs ys ms ns are more,
   ap (λ (k : List (List ℕ)). k ++ qs) is
-      ∙ (ap (λ (k : List (List ℕ)). items_where_true ms xs ++ k) too ∙ sym (where_both P xs ys ms ns are)),
+      ∙ (ap (λ (k : List (List ℕ)). items_where_true ms xs ++ k) too ∙ sym (where_both (λ (line : List ℕ) (mark : Bool). P line (Ok mark)) xs ys ms ns are)),
 )
 
-picked_same : (P Q : List ℕ → Bool → Type 0) → ((line : List ℕ) (b : Bool) → P line b → Q line b) → (xs ps : List (List ℕ)) → ArePicked P xs ps → ArePicked Q xs ps
-picked_same P Q f xs ps (ms, are, is) = (ms, zip_same P Q f xs ms are, is)
+picked_same : (P Q : List ℕ → Result Bool LineError → Type 0) → ((line : List ℕ) (r : Result Bool LineError) → P line r → Q line r) → (xs ps : List (List ℕ)) → ArePicked P xs ps → ArePicked Q xs ps
+picked_same P Q f xs ps (ms, are, is) = (
+  ms,
+  zip_same (λ (line : List ℕ) (mark : Bool). P line (Ok mark)) (λ (line : List ℕ) (mark : Bool). Q line (Ok mark)) (λ line mark. f line (Ok mark)) xs ms are,
+  is,
+)
 
 -- ---- which lines are picked
 pub within_is : (networks : List (List Bool)) (p : List Bool) (b : Bool) → (IsTrue b ↔ IsFull 129 (map (λ (x : List Bool). x) networks) p)
@@ -112,25 +118,54 @@ decides_not : (P : Type 0) (b : Bool) → Decides b P → Decides (not b) (¬ P)
 decides_not P true d = (λ e. absurd (true≢false (sym e)), λ h. absurd (h (d.0 refl)))
 decides_not P false d = (λ e p. absurd (true≢false (sym (d.1 p))), λ h. refl)
 
+decides_same : (P Q : Type 0) (b : Bool) → P ↔ Q → Decides b P → Decides b Q
+decides_same P Q b same d = (λ e. same.0 (d.0 e), λ k. d.1 (same.1 k))
+
+turned_by : (P : Type 0) (inverted lies picked : Bool) → picked ≡ (if inverted then not lies else lies) → Decides lies P → Decides picked (Turned inverted P)
+turned_by P true lies picked e d = subst (λ (k : Bool). Decides k (¬ P)) (sym e) (decides_not P lies d)
+turned_by P false lies picked e d = subst (λ (k : Bool). Decides k P) (sym e) d
+
 pub picks_by : (IsIn : Family → List Bool → Type 0) (inverted : Bool) (line : List ℕ) (said : Option IpCidr) (lies picked : Bool)
-    → picked ≡ (if inverted then not lies else lies) → FieldSays line said → Decides lies (LiesIn IsIn said) → Picks IsIn inverted line picked
-picks_by IsIn true line said lies picked e says d =
-    (said, says, subst (λ (k : Bool). Decides k (¬ (LiesIn IsIn said))) (sym e) (decides_not (LiesIn IsIn said) lies d))
-picks_by IsIn false line said lies picked e says d = (said, says, subst (λ (k : Bool). Decides k (LiesIn IsIn said)) (sym e) d)
+    → picked ≡ (if inverted then not lies else lies) → FieldSays line said → Decides lies (LiesIn IsIn said) → PicksByField IsIn inverted line (Ok picked)
+picks_by IsIn inverted line said lies picked e says d = (said, says, turned_by (LiesIn IsIn said) inverted lies picked e d)
+
+pub picks_anywhere : (IsIn : Family → List Bool → Type 0) (inverted : Bool) (line : List ℕ) (found picked : Bool)
+    → picked ≡ (if inverted then not found else found) → Decides found (HasOneIn IsIn line) → PicksAnywhere IsIn inverted line (Ok picked)
+picks_anywhere IsIn inverted line found picked e d = turned_by (HasOneIn IsIn line) inverted found picked e d
 
 -- by the list as by its set
-lies_same : (said : List (List IpCidr)) (sets : Sets) → HasAddresses said sets → (what : Option IpCidr) → LiesIn (Held sets) what ↔ LiesIn (Says said) what
-lies_same said sets h None = (λ e. e, λ e. e)
-lies_same said sets h (Some network) = (
-  λ k a wide begins. ((h (network_family network)).exact a wide).0 (k a wide begins),
-  λ k a wide begins. ((h (network_family network)).exact a wide).1 (k a wide begins),
-)
+module _ (said : List (List IpCidr)) (sets : Sets) (h : HasAddresses said sets) where
+  within_same : (family : Family) (prefix : List Bool) → AreWithin (Held sets) family prefix ↔ AreWithin (Says said) family prefix
+  within_same family prefix = (
+    λ k a wide begins. ((h family).exact a wide).0 (k a wide begins),
+    λ k a wide begins. ((h family).exact a wide).1 (k a wide begins),
+  )
 
-picks_same : (said : List (List IpCidr)) (sets : Sets) → HasAddresses said sets → (inverted : Bool) (line : List ℕ) (b : Bool)
-    → Picks (Held sets) inverted line b → Picks (Says said) inverted line b
-picks_same said sets h inverted line b (what, says, decides) =
-    let same = turned_same inverted (LiesIn (Held sets) what) (LiesIn (Says said) what) (lies_same said sets h what) in
-    (what, says, (λ e. same.0 (decides.0 e), λ k. decides.1 (same.1 k)))
+  lies_same : (what : Option IpCidr) → LiesIn (Held sets) what ↔ LiesIn (Says said) what
+  lies_same None = (λ e. e, λ e. e)
+  lies_same (Some network) = within_same (network_family network) (network_prefix network)
+
+  one_same : (line : List ℕ) → HasOneIn (Held sets) line ↔ HasOneIn (Says said) line
+  one_same line = (
+    λ (family, (word, among, (text, bare, (address, spells, within)))).
+        (family, (word, among, (text, bare, (address, spells, (within_same family address).0 within)))),
+    λ (family, (word, among, (text, bare, (address, spells, within)))).
+        (family, (word, among, (text, bare, (address, spells, (within_same family address).1 within)))),
+  )
+
+  picks_same : (anywhere inverted : Bool) (line : List ℕ) (r : Result Bool LineError) → Picks anywhere (Held sets) inverted line r
+      → Picks anywhere (Says said) inverted line r
+  picks_same true inverted line (Ok picked) d =
+      decides_same (Turned inverted (HasOneIn (Held sets) line)) (Turned inverted (HasOneIn (Says said) line)) picked
+      (turned_same inverted (HasOneIn (Held sets) line) (HasOneIn (Says said) line) (one_same line)) d
+  picks_same true inverted line (Err e) bad = absurd bad
+  picks_same false inverted line (Ok picked) (what, says, d) = (
+    what,
+    says,
+    decides_same (Turned inverted (LiesIn (Held sets) what)) (Turned inverted (LiesIn (Says said) what)) picked
+        (turned_same inverted (LiesIn (Held sets) what) (LiesIn (Says said) what) (lies_same what)) d,
+  )
+  picks_same false inverted line (Err e) bad = bad
 
 -- ---- what is written
 flat_none : (f : List ℕ → List ℕ) → ((l : List ℕ) → f l ≡ []) → (ls : List (List ℕ)) → flat_map f ls ≡ []
@@ -153,7 +188,7 @@ pub block_lost : (s t u : State) (block next more : List ℕ) → Collects s t b
 block_lost s t u block next more (before, whole, split) part = subst (Part s u) (sym split) (whole_part s t u before next whole part)
 
 -- ---- one part
-module _ (P : List ℕ → Bool → Type 0) (what : Written) (file : List ℕ) (number : ℕ) where
+module _ (P : List ℕ → Result Bool LineError → Type 0) (what : Written) (file : List ℕ) (number : ℕ) where
   pub takes_none : (part : List ℕ) (more : Bool) (s : State) (g : Gathered) → ArePicked P (lines_of_part part more) [] → TakesPart P what file number part more s s g g (Ok tt)
   takes_none part more s g are = ([], are, omega arith, omega arith, none_collected s g.block)
 
@@ -161,12 +196,12 @@ module _ (P : List ℕ → Bool → Type 0) (what : Written) (file : List ℕ) (
   takes_empty part more s g none =
       takes_none part more s g (subst (λ (k : List (List ℕ)). ArePicked P k []) (sym none) (none_picked P))
 
-  pub takes_passed : (part : List ℕ) (more : Bool) (s : State) (g : Gathered) → lines_of_part part more ≡ part ∷ [] → P part false
+  pub takes_passed : (part : List ℕ) (more : Bool) (s : State) (g : Gathered) → lines_of_part part more ≡ part ∷ [] → P part (Ok false)
       → TakesPart P what file number part more s s g g (Ok tt)
   takes_passed part more s g one passed =
       takes_none part more s g (subst (λ (k : List (List ℕ)). ArePicked P k []) (sym one) (one_passed P part passed))
 
-  pub takes_picked : (part : List ℕ) (more : Bool) (s t : State) (before after : Gathered) → lines_of_part part more ≡ part ∷ [] → P part true
+  pub takes_picked : (part : List ℕ) (more : Bool) (s t : State) (before after : Gathered) → lines_of_part part more ≡ part ∷ [] → P part (Ok true)
       → after.count ≡ before.count + 1 → Collects s t before.block after.block (line_written what part) (Ok tt)
       → TakesPart P what file number part more s t before after (Ok tt)
   takes_picked part more s t before after one picks count collects = (
@@ -177,7 +212,7 @@ module _ (P : List ℕ → Bool → Type 0) (what : Written) (file : List ℕ) (
     subst (λ (k : List ℕ). Collects s t before.block after.block k (Ok tt)) (sym (append-nil (line_written what part))) collects,
   )
 
-module _ (P : List ℕ → Bool → Type 0) (what : Written) where
+module _ (P : List ℕ → Result Bool LineError → Type 0) (what : Written) where
   -- the lines before this number were read
   pub record Passed (text : List ℕ) (left : Option (List ℕ)) (number : ℕ) (picked : List (List ℕ)) : Type 0 where
     pub rest : List ℕ
@@ -321,7 +356,7 @@ module _ (P : List ℕ → Bool → Type 0) (what : Written) where
 
   -- ---- a file that is not read to its end
   cut_here : (known left : Option (List ℕ)) (number : ℕ) (picked : List (List ℕ)) (e : CommandError)
-      → ((read after : List (List ℕ)) → IsStop IsBadField read after e) → IfSome known (λ text. Passed text left number picked)
+      → ((read after : List (List ℕ)) → IsStop (IsErrorBy P) read after e) → IfSome known (λ text. Passed text left number picked)
       → IfSome known (λ text. IsCutAt P what text (flat_map (line_written what) picked) e)
   cut_here None left number picked e stops p = tt
   cut_here (Some text) left number picked e stops p =
@@ -363,7 +398,7 @@ module _ (P : List ℕ → Bool → Type 0) (what : Written) where
 
   cut_at_line : (known left next : Option (List ℕ)) (number : ℕ) (part : List ℕ) (more : Bool) (picked : List (List ℕ)) (e : CommandError)
       → lines_of_part part more ≡ part ∷ [] → IfSome left (λ text. IsNextLine text part more next) → IfSome known (λ text. Passed text left number picked)
-      → ((read after : List (List ℕ)) → number ≡ length read + 1 → IsStop IsBadField read (part ∷ after) e)
+      → ((read after : List (List ℕ)) → number ≡ length read + 1 → IsStop (IsErrorBy P) read (part ∷ after) e)
       → IfSome known (λ text. IsCutAt P what text (flat_map (line_written what) picked) e)
   cut_at_line None left next number part more picked e one n p stops = tt
   cut_at_line (Some text) left next number part more picked e one n p stops =
@@ -380,7 +415,7 @@ module _ (P : List ℕ → Bool → Type 0) (what : Written) where
       )
 
   cut_behind : (known left next : Option (List ℕ)) (number : ℕ) (part : List ℕ) (more : Bool) (picked : List (List ℕ)) (e : CommandError)
-      → lines_of_part part more ≡ part ∷ [] → P part true → ((read after : List (List ℕ)) → IsStop IsBadField read after e)
+      → lines_of_part part more ≡ part ∷ [] → P part (Ok true) → ((read after : List (List ℕ)) → IsStop (IsErrorBy P) read after e)
       → IfSome left (λ text. IsNextLine text part more next) → IfSome known (λ text. Passed text left number picked)
       → IfSome known (λ text. IsCutAt P what text (flat_map (line_written what) (picked ++ part ∷ [])) e)
   cut_behind None left next number part more picked e one h stops n p = tt
@@ -432,7 +467,7 @@ module _ (P : List ℕ → Bool → Type 0) (what : Written) where
         cut_behind known left next number part more st.picked error.Output one picks (λ _ _. tt) n st.passed,
       )
 
-pub by_error : (P : List ℕ → Bool → Type 0) (what : Written) (file : List ℕ) (known : Option (List ℕ)) (s t : State) (r : Result Verdict CommandError) (y e : CommandError)
+pub by_error : (P : List ℕ → Result Bool LineError → Type 0) (what : Written) (file : List ℕ) (known : Option (List ℕ)) (s t : State) (r : Result Verdict CommandError) (y e : CommandError)
     → r ≡ Err y → y ≡ e → Streams P what file known s t (Err e) → Streams P what file known s t r
 by_error P what file known s t r y e is same h =
     let failing : CommandError → Result Verdict CommandError = λ k. Err k in
@@ -451,22 +486,31 @@ fresh_reader remaining inner reader same empty room =
     ∙ (ap (λ (k : List ℕ). prepend_known k (remaining reader.inner)) empty
     ∙ (put_before_nothing (remaining reader.inner) ∙ ap remaining same))
 
-known_match : (P Q : List ℕ → Bool → Type 0) → ((line : List ℕ) (b : Bool) → P line b → Q line b) → (what : Written) (known : Option (List ℕ)) (text answer : List ℕ) (verdict : Verdict)
+known_match : (P Q : List ℕ → Result Bool LineError → Type 0) → ((line : List ℕ) (r : Result Bool LineError) → P line r → Q line r) → (what : Written) (known : Option (List ℕ)) (text answer : List ℕ) (verdict : Verdict)
     → known ≡ Some text → IfSome known (λ k. IsMatch P what k answer verdict) → IsMatch Q what text answer verdict
 known_match P Q f what known text answer verdict is h =
     let (read, left, picked, to, enough, written, by) = (rw is at h) in
     (read, left, picked, record { lines = to.lines; are = picked_same P Q f read picked to.are }, enough, written, by)
 
-known_cut : (P Q : List ℕ → Bool → Type 0) → ((line : List ℕ) (b : Bool) → P line b → Q line b) → (what : Written) (known : Option (List ℕ)) (text answer : List ℕ) (e : CommandError)
+stop_same : (P Q : List ℕ → Result Bool LineError → Type 0) → ((line : List ℕ) (r : Result Bool LineError) → P line r → Q line r) → (read left : List (List ℕ)) (e : CommandError)
+    → IsStop (IsErrorBy P) read left e → IsStop (IsErrorBy Q) read left e
+stop_same P Q f read left error.Usage h = tt
+stop_same P Q f read left (error.Argument text e) h = tt
+stop_same P Q f read left (error.Line name number e) (place, line, after, is, bad) = (place, line, after, is, f line (Err e) bad)
+stop_same P Q f read left (error.Input name) h = tt
+stop_same P Q f read left error.NoMemory h = tt
+stop_same P Q f read left error.Output h = tt
+
+known_cut : (P Q : List ℕ → Result Bool LineError → Type 0) → ((line : List ℕ) (r : Result Bool LineError) → P line r → Q line r) → (what : Written) (known : Option (List ℕ)) (text answer : List ℕ) (e : CommandError)
     → known ≡ Some text → IfSome known (λ k. IsCutAt P what k answer e) → IsCutAt Q what text answer e
 known_cut P Q f what known text answer e is h =
     let (picked, cut, written) = (rw is at h) in
     let (read, left, to, stops) = cut in
-    (picked, (read, left, record { lines = to.lines; are = picked_same P Q f read picked to.are }, stops), written)
+    (picked, (read, left, record { lines = to.lines; are = picked_same P Q f read picked to.are }, stop_same P Q f read left e stops), written)
 
 pub matched : (told : List ℕ → Option Text) (options : List (List ℕ)) (list file : List ℕ) (sets : Sets) (known : Option (List ℕ)) (s t : State) (r : Result Verdict CommandError)
     → ReadsFile (told list) list (Ok sets) → ((text : Text) → told file ≡ Some text → known ≡ Some text.bytes)
-    → Streams (Picks (Held sets) (has (codes "-v") options)) (written_of options) file known s t r → AnswersRequest told (Match options list file) s t r
+    → Streams (Picks (has (codes "--any") options) (Held sets) (has (codes "-v") options)) (written_of options) file known s t r → AnswersRequest told (Match options list file) s t r
 matched told options list file sets known s t r reads tells (inl (answer, verdict, w, match, written, is)) =
     inl (inr (
       answer,
@@ -474,7 +518,7 @@ matched told options list file sets known s t r reads tells (inl (answer, verdic
       w,
       λ networks text p q.
           let (said, says, same) = reads networks p in
-          (said, says, known_match _ _ (picks_same said sets same (has (codes "-v") options)) (written_of options) known text.bytes answer verdict (tells text q) match),
+          (said, says, known_match _ _ (picks_same said sets same (has (codes "--any") options) (has (codes "-v") options)) (written_of options) known text.bytes answer verdict (tells text q) match),
       written,
       is,
     ))
@@ -487,5 +531,5 @@ matched told options list file sets known s t r reads tells (inr (e, is, of_file
       begun,
       λ networks text p q.
           let (said, says, same) = reads networks p in
-          (said, says, known_cut _ _ (picks_same said sets same (has (codes "-v") options)) (written_of options) known text.bytes answer e (tells text q) cut),
+          (said, says, known_cut _ _ (picks_same said sets same (has (codes "--any") options) (has (codes "-v") options)) (written_of options) known text.bytes answer e (tells text q) cut),
     )

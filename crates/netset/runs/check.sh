@@ -5,7 +5,7 @@ set -euo pipefail
 export LC_ALL=C
 cd "$(dirname "$0")/.."
 
-usage=$'usage: netset merge|nets|not|ranges|count|check [FILE..] | not --in NET [FILE..] | minus|and A B.. | diff A B | free POOL LEN USED.. | match [-v] [-c] [-q] LIST [FILE] | look TABLE [FILE] | show HOST | split NET LEN | nth NET INDEX | --help | --version; --host-bits behind a command for lists of networks\n'
+usage=$'usage: netset merge|nets|not|ranges|count|check [FILE..] | not --in NET [FILE..] | minus|and A B.. | diff A B | free POOL LEN USED.. | match [--any] [-v] [-c] [-q] LIST [FILE] | look TABLE [FILE] | show HOST | split NET LEN | nth NET INDEX | --help | --version; --host-bits behind a command for lists of networks\n'
 
 room=$(mktemp -d)
 trap 'rm -rf "$room"' EXIT
@@ -239,6 +239,31 @@ rows_of_look_ups() {
     run 2 '' "$usage" '' look owners -k
 }
 
+# The lines of a file with an address of a list anywhere.
+rows_of_logs() {
+    local found missed
+    found=$'10.0.0.1\n  src=10.0.0.1,x\n(10.0.0.1)\nto 10.0.0.1:80: no\nip:10.0.0.1...\n10.1.0.0/7 \xff\n::ffff:10.2.3.4\n'
+    run 0 "$found" '' "$found" match --any ten
+    missed=$'\n11.0.0.1\n1.10.0.0.1\n10.0.0.1.5\n010.0.0.1\nx10.0.0.1\n10.0.0.1x\n10.0.0.256\n10.0.0\n....\n#\n10:11:12\n::1\n'
+    run 1 '' '' "$missed" match --any ten
+    run 0 "$missed" '' "$found$missed" match --any -v ten
+    found=$'[8000::1]:443\nfrom 8000::1: no\n8000::1.\n8000::1%eth0,\n10.0.0.1-8000::/48\n8000:::\nFFFF::10.0.0.1\n'
+    run 0 "$found" '' "$found" match --any eight
+    missed=$'x:8000::1\n8000::1:x\n8000::1::\n8000:1\n10:11:12\n7fff::1\n10.0.0.1\n8000::g\n:\n::\n'
+    run 1 '' '' "$missed" match --any eight
+    run 0 $'10\n' '' "$found$missed" match -c -v --any eight
+    run 0 $'2\n' '' '10.0.0.1\n8000::1 \n11.0.0.1 7fff::1' match -c --any ten_and_eight
+    run 0 $'11.0.0.1 10.0.0.1\n' '' '11.0.0.1 10.0.0.1' match --any ten
+    run 0 '' '' '\xff\n11.0.0.1 10.0.0.1\n' match --any -q ten -
+    run 1 '' '' '' match --any ten
+    run 1 '' '' '10.0.0.1\n' match -v --any ten
+    run 2 '' $'bad:1: couldn\'t parse length in network: invalid length text\n' '' match --any bad missing
+    run 2 '' $'missing: cannot be read\n' '' match --any ten missing
+    run 2 '' "$usage" '' match ten --any
+    run 2 '' "$usage" '' match --anywhere ten
+    run 2 '' "$usage" '' match --any
+}
+
 # The commands on one host or network.
 rows_of_one_network() {
     run 0 $'network 192.0.2.0/24\nfirst 192.0.2.0\nlast 192.0.2.255\nmask 255.255.255.0\nlength 24\nfamily Ipv4\n' \
@@ -307,6 +332,7 @@ long_list() {
     run 0 "$output" '' '' split 10.1.0.0/16 32
     run 0 "$input"$'\n' '' "$input" match ten
     run 0 $'32768\n' '' "$input" match -c ten
+    run 0 $'32768\n' '' "$input" match --any -c ten
     input=$output
     output=$(seq 0 65535 | awk '{ print "10.1." int($1 / 256) "." $1 % 256 " 10.1." int($1 / 256) ".0/24 " int($1 / 256) }')$'\n'
     run 0 "$output" '' "$input" look parts
@@ -331,6 +357,7 @@ rows_where_a_stream_fails() {
     run 3 '' $'output failed\n' '' not --in ::/0 ten
     run 3 '' $'output failed\n' '10.0.0.1' match ten
     run 3 '' $'output failed\n' '10.0.0.1' match -c ten
+    run 3 '' $'output failed\n' '(10.0.0.1)' match --any ten
     run 0 '' '' '10.0.0.1' match -q ten
     run 3 '' $'output failed\n' '' show ::1
     run 3 '' $'output failed\n' '' split ::/0 128
@@ -430,6 +457,7 @@ for build in netset netset.by-rattle; do
     rows_of_findings
     rows_of_matches
     rows_of_look_ups
+    rows_of_logs
     rows_of_one_network
     rows_of_host_bits
     long_list

@@ -146,10 +146,10 @@ IsFree n texts answer verdict = (said : List (List (List IpCidr))) × AllZip Lis
     × (sets : Family → List (List Bool)) × ((family : Family) → IsSetOf 129 (IsMade Says Minus said family) (sets family))
     × IsFreeText sets n answer verdict
 
--- the lines of a file whose first field lies in a list
+-- the lines of a file that a list picks
 abbrev pub IsMatchOf : List (List ℕ) → Text → List ℕ → List ℕ → Verdict → Type 0
 IsMatchOf options networks text answer verdict = (said : List (List IpCidr)) × ListSays networks said
-    × IsMatch (Picks (Says said) (has (codes "-v") options)) (written_of options) text answer verdict
+    × IsMatch (Picks (has (codes "--any") options) (Says said) (has (codes "-v") options)) (written_of options) text answer verdict
 
 -- what `--help` writes
 abbrev pub help_text : List ℕ
@@ -170,9 +170,10 @@ help_text =
     ++ codes "netset check [FILE..]   what is found in the lists, whose lines may be hosts too: set host\n"
     ++ codes "                        bits, other forms than the printed one, repeats, networks inside\n"
     ++ codes "                        others, and halves of one network\n"
-    ++ codes "netset match [-v] [-c] [-q] LIST [FILE]\n"
-    ++ codes "                        the lines of FILE whose first field lies in LIST, or with -v does not;\n"
-    ++ codes "                        -c their number, -q only the status\n"
+    ++ codes "netset match [--any] [-v] [-c] [-q] LIST [FILE]\n"
+    ++ codes "                        the lines of FILE whose first field lies in LIST, or with --any those\n"
+    ++ codes "                        that have an address of LIST anywhere; -v all the other lines,\n"
+    ++ codes "                        -c only their number, -q only the status\n"
     ++ codes "netset look TABLE [FILE]\n"
     ++ codes "                        the longest network of each address of FILE in the lines\n"
     ++ codes "                        NET VALUE of TABLE, and its value\n"

@@ -23,11 +23,6 @@ abbrev pub ReadsField : List ℕ → Result (Option IpCidr) LineError → Type 0
 ReadsField line (Ok said) = FieldSays line said
 ReadsField line (Err e) = IsBadField line e
 
--- whether a line is picked, or the error of its first field
-abbrev pub PicksOrNot : (List ℕ → Bool → Type 0) → List ℕ → Result Bool LineError → Type 0
-PicksOrNot PicksLine line (Ok picked) = PicksLine line picked
-PicksOrNot PicksLine line (Err e) = IsBadField line e
-
 -- the lines that a part up to a line feed is, or up to the end
 abbrev pub lines_of_part : List ℕ → Bool → List (List ℕ)
 lines_of_part part true = part ∷ []
@@ -43,18 +38,18 @@ IsUnreadable file error.NoMemory = Unit {0}
 IsUnreadable file error.Output = ⊥
 
 -- a line is in error, and nothing is written; or the output failed at a line that is picked
-abbrev pub IsLost : (List ℕ → Bool → Type 0) → Written → List ℕ → ℕ → List ℕ → State → State → List ℕ → CommandError → Type 0
+abbrev pub IsLost : (List ℕ → Result Bool LineError → Type 0) → Written → List ℕ → ℕ → List ℕ → State → State → List ℕ → CommandError → Type 0
 IsLost PicksLine what file number part old new block error.Usage = ⊥
 IsLost PicksLine what file number part old new block (error.Argument text e) = ⊥
 IsLost PicksLine what file number part old new block (error.Line name n e) =
-    (name.now ≡ file) × (n ≡ number) × IsBadField part e × (new ≡ old)
+    (name.now ≡ file) × (n ≡ number) × PicksLine part (Err e) × (new ≡ old)
 IsLost PicksLine what file number part old new block (error.Input name) = ⊥
 IsLost PicksLine what file number part old new block error.NoMemory = ⊥
 IsLost PicksLine what file number part old new block error.Output =
-    PicksLine part true × Part old new (block ++ line_written what part)
+    PicksLine part (Ok true) × Part old new (block ++ line_written what part)
 
 -- the line of a part is gathered, if it is one and is picked
-abbrev pub TakesPart : (List ℕ → Bool → Type 0) → Written → List ℕ → ℕ → List ℕ → Bool → State → State → Gathered → Gathered
+abbrev pub TakesPart : (List ℕ → Result Bool LineError → Type 0) → Written → List ℕ → ℕ → List ℕ → Bool → State → State → Gathered → Gathered
     → Result (Unit {0}) CommandError → Type 0
 TakesPart PicksLine what file number part more old new before after (Ok _) = (picked : List (List ℕ))
     × ArePicked PicksLine (lines_of_part part more) picked × (after.count ≡ before.count + length picked) × (length picked ≤ 1)
@@ -83,7 +78,7 @@ abbrev pub IsDone : Written → Bool → ℕ → Type 0
 IsDone what more count = (more ≡ false) ⊎ ((what ≡ written.Nothing) × (0 < count))
 
 -- what becomes of a file that is read line by line, of which these bytes are known
-abbrev pub Streams : (List ℕ → Bool → Type 0) → Written → List ℕ → Option (List ℕ) → State → State → Result Verdict CommandError → Type 0
+abbrev pub Streams : (List ℕ → Result Bool LineError → Type 0) → Written → List ℕ → Option (List ℕ) → State → State → Result Verdict CommandError → Type 0
 Streams PicksLine what file known old new r =
     ((answer : List ℕ) × (verdict : Verdict) × (w : Result (Unit {0}) OutputFailed)
     × IfSome known (λ text. IsMatch PicksLine what text answer verdict) × Answered old new answer w × (r ≡ by_output verdict w))

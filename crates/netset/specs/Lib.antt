@@ -10,6 +10,7 @@ pub mod Changes
 pub mod Free
 pub mod Entries
 pub mod Findings
+pub mod Words
 pub mod Matching
 pub mod Look
 pub mod Combining

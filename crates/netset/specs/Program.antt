@@ -84,7 +84,7 @@ AnswersWhole told request old new r =
 abbrev pub IsMatchUntil : (List ℕ → Option Text) → List (List ℕ) → List ℕ → List ℕ → List ℕ → CommandError → Type 0
 IsMatchUntil told options list file answer e = (networks text : Text) → told list ≡ Some networks → told file ≡ Some text
     → (said : List (List IpCidr)) × ListSays networks said
-    × IsCutAt (Picks (Says said) (has (codes "-v") options)) (written_of options) text.bytes answer e
+    × IsCutAt (Picks (has (codes "--any") options) (Says said) (has (codes "-v") options)) (written_of options) text.bytes answer e
 
 -- the same of `look`
 abbrev pub IsLookUntil : (List ℕ → Option Text) → List ℕ → List ℕ → List ℕ → CommandError → Type 0
@@ -134,7 +134,7 @@ argument_message bad.Index = codes "no index below 2^128"
 
 -- the line that is written to standard error
 abbrev pub error_line : CommandError → List ℕ
-error_line error.Usage = codes "usage: netset merge|nets|not|ranges|count|check [FILE..] | not --in NET [FILE..] | minus|and A B.. | diff A B | free POOL LEN USED.. | match [-v] [-c] [-q] LIST [FILE] | look TABLE [FILE] | show HOST | split NET LEN | nth NET INDEX | --help | --version; --host-bits behind a command for lists of networks\n"
+error_line error.Usage = codes "usage: netset merge|nets|not|ranges|count|check [FILE..] | not --in NET [FILE..] | minus|and A B.. | diff A B | free POOL LEN USED.. | match [--any] [-v] [-c] [-q] LIST [FILE] | look TABLE [FILE] | show HOST | split NET LEN | nth NET INDEX | --help | --version; --host-bits behind a command for lists of networks\n"
 error_line (error.Argument text e) = text.now ++ (codes ": " ++ (argument_message e ++ codes "\n"))
 error_line (error.Line name number e) =
     name.now ++ (codes ":" ++ (decimal number ++ (codes ": " ++ (line_message e ++ codes "\n"))))

@@ -166,7 +166,7 @@ fn check_of<'a>(words: &'a [&'a str]) -> Option<&'a [&'a str]>
 fn is_match_option(word: &str) -> bool
     ensures { result ≡ is_match_option word.now }
 {
-    word == "-v" || word == "-c" || word == "-q"
+    word == "-v" || word == "-c" || word == "-q" || word == "--any"
 }
 
 /// How many of the words are options of the command `match`, up to the first that is none.

@@ -30,6 +30,7 @@ mod several;
 mod single;
 mod table;
 mod terminal;
+mod words;
 
 use cidr_io::arguments::Given;
 use cidr_io::sink::Tracked;

@@ -1,11 +1,11 @@
-//! The command `match`: the lines of a file whose first field lies in a list.
+//! The command `match`: the lines of a file whose first field lies in a list, or that have an address of it.
 ghost use Rattle.std.specs.Prelude.{◌≡◌, ◌<◌, ◌++◌, [], ◌∷◌, true, false, not, if◌then◌else◌, map, IfOk, IfErr, IfSome};
 ghost use Rattle.std.specs.Bool.{Decides};
 ghost use Rattle.cidr_io.specs.Writing.{Writes};
 ghost use Rattle.netset.specs.Collecting.{Collects};
 ghost use Rattle.netset.specs.Commands.{Match};
-ghost use Rattle.netset.specs.Gathering.{Finishes, IsCounted, IsDone, IsUnreadable, PicksOrNot, Streams, TakesPart, lines_of_part, rest_written};
-ghost use Rattle.netset.specs.Matching.{IsWithin, LiesIn, Picks, has, line_written, written_of};
+ghost use Rattle.netset.specs.Gathering.{Finishes, IsCounted, IsDone, IsUnreadable, Streams, TakesPart, lines_of_part, rest_written};
+ghost use Rattle.netset.specs.Matching.{IsWithin, LiesIn, Picks, PicksByField, has, line_written, written_of};
 ghost use Rattle.netset.specs.Program.{AnswersRequest};
 ghost use Rattle.netset.specs.Reading.{IsNextLine};
 ghost use Rattle.netset.specs.Sets.{Held};
@@ -82,22 +82,33 @@ impl Sets {
 #[derive(Clone, Copy)]
 struct Matcher<'a> {
     sets: &'a Sets,
+    anywhere: bool,
     inverted: bool,
     written: Written,
 }
 
 impl Matcher<'_> {
-    /// Whether a line is picked.
-    fn picks(&self, line: &[u8]) -> Result<bool, LineError>
-        ensures { PicksOrNot (Picks (Held self.now.sets.now) self.now.inverted) line.now result }
+    /// Whether a line is picked by its first field.
+    fn picks_by_field(&self, line: &[u8]) -> Result<bool, LineError>
+        ensures { PicksByField (Held self.now.sets.now) self.now.inverted line.now result }
     {
         let network = said(line)?;
         let lies = self.sets.have(&network);
         Ok(turned(self.inverted, lies))
     }
+
+    /// Whether a line is picked.
+    fn picks(&self, line: &[u8]) -> Result<bool, LineError>
+        ensures { Picks self.now.anywhere (Held self.now.sets.now) self.now.inverted line.now result }
+    {
+        if self.anywhere {
+            return Ok(turned(self.inverted, self.sets.have_one(line)));
+        }
+        self.picks_by_field(line)
+    }
 }
 
-/// Whether a line is picked, by whether it lies in the list.
+/// Whether a line is picked, by whether it is picked without `-v`.
 fn turned(inverted: bool, lies: bool) -> bool
     ensures { result ≡ (if inverted then not lies else lies) }
 {
@@ -166,8 +177,9 @@ impl Gathered {
         out: &mut S,
     ) -> Result<(), CommandError<'a>>
         requires { self.old.count < number }
-        ensures { TakesPart (Picks (Held matcher.now.sets.now) matcher.now.inverted) matcher.now.written file.now number
-            part.now has_more (S.state out.old) (S.state out.new) self.old self.new result }
+        ensures { TakesPart (Picks matcher.now.anywhere (Held matcher.now.sets.now) matcher.now.inverted)
+            matcher.now.written file.now number part.now has_more (S.state out.old) (S.state out.new)
+            self.old self.new result }
     {
         if !is_line(part, has_more) {
             return Ok(());
@@ -254,8 +266,8 @@ fn stream<'a, R: BufRead, S: Sink>(
     reader: &mut R,
     out: &mut S,
 ) -> Result<Verdict, CommandError<'a>>
-    ensures { Streams (Picks (Held matcher.now.sets.now) matcher.now.inverted) matcher.now.written file.now
-        (R.Read.remaining reader.old) (S.state out.old) (S.state out.new) result }
+    ensures { Streams (Picks matcher.now.anywhere (Held matcher.now.sets.now) matcher.now.inverted)
+        matcher.now.written file.now (R.Read.remaining reader.old) (S.state out.old) (S.state out.new) result }
 {
     if out.failed() {
         return Err(CommandError::Output);
@@ -280,8 +292,8 @@ fn stream_blocks<'a, R: Read + Drop, S: Sink>(
     reader: R,
     out: &mut S,
 ) -> Result<Verdict, CommandError<'a>>
-    ensures { Streams (Picks (Held matcher.now.sets.now) matcher.now.inverted) matcher.now.written file.now
-        (R.remaining reader) (S.state out.old) (S.state out.new) result }
+    ensures { Streams (Picks matcher.now.anywhere (Held matcher.now.sets.now) matcher.now.inverted)
+        matcher.now.written file.now (R.remaining reader) (S.state out.old) (S.state out.new) result }
 {
     let Ok(mut reader) = BufReader::new(alloc, reader) else {
         return Err(CommandError::NoMemory);
@@ -302,10 +314,12 @@ pub fn matching<'a, F: Sources, O: Sink>(
         (O.state out.old) (O.state out.new) result }
 {
     let sets = read_file(alloc, sources, list)?;
+    let anywhere = has(options, "--any");
     let inverted = has(options, "-v");
     let written = written_of(options);
     let matcher = Matcher {
         sets: &sets,
+        anywhere,
         inverted,
         written,
     };

@@ -8,30 +8,30 @@ use Rattle.netset.proofs.matching.stream.Goals as goal
 
 pub returns-then-failed : goal.returns-then-failed
 returns-then-failed g c =
-    failed_before (Picks (Held c.args.matcher.now.sets.now) c.args.matcher.now.inverted) c.args.matcher.now.written c.args.file.now
+    failed_before (Picks c.args.matcher.now.anywhere (Held c.args.matcher.now.sets.now) c.args.matcher.now.inverted) c.args.matcher.now.written c.args.file.now
     (g.R.Read.remaining c.args.reader.now) (g.S.Sink.state c.args.out.now) (sym c.if-failed.ensures)
 
 pub loop-number-init : goal.loop-number-init
 loop-number-init g c =
-    started (Picks (Held c.args.matcher.now.sets.now) c.args.matcher.now.inverted) c.args.matcher.now.written
+    started (Picks c.args.matcher.now.anywhere (Held c.args.matcher.now.sets.now) c.args.matcher.now.inverted) c.args.matcher.now.written
     (g.R.Read.remaining c.args.reader.now) (g.S.Sink.state c.args.out.now) c.new-gathered.result.count c.new-gathered.result.block
     c.new-gathered.ensures.count c.new-gathered.ensures.block
 
 pub returns-in_err-has_more : goal.returns-in_err-has_more
 returns-in_err-has_more g c =
     let (y, is, same) = err_from_is_err_and c.from_residual.result c.from_residual.ensures.1 in
-    by_error (Picks (Held c.args.matcher.now.sets.now) c.args.matcher.now.inverted) c.args.matcher.now.written c.args.file.now
+    by_error (Picks c.args.matcher.now.anywhere (Held c.args.matcher.now.sets.now) c.args.matcher.now.inverted) c.args.matcher.now.written c.args.file.now
     (g.R.Read.remaining c.args.reader.now) (g.S.Sink.state c.args.out.now) (g.S.Sink.state c.loop-number.out) c.from_residual.result y _ is same
-    (unread (Picks (Held c.args.matcher.now.sets.now) c.args.matcher.now.inverted) c.args.matcher.now.written c.args.file.now
+    (unread (Picks c.args.matcher.now.anywhere (Held c.args.matcher.now.sets.now) c.args.matcher.now.inverted) c.args.matcher.now.written c.args.file.now
     (g.R.Read.remaining c.args.reader.now) (g.R.Read.remaining c.loop-number.reader) (g.S.Sink.state c.args.out.now) (g.S.Sink.state c.loop-number.out)
     c.loop-number.number c.loop-number.gathered.count c.loop-number.gathered.block _ c.in_err-has_more.ensures.stopped c.loop-number.invariant)
 
 pub returns-in_err-take : goal.returns-in_err-take
 returns-in_err-take g c =
     let (y, is, same) = err_from_is_err_and c.from_residual-in_err-take.result c.from_residual-in_err-take.ensures.1 in
-    by_error (Picks (Held c.args.matcher.now.sets.now) c.args.matcher.now.inverted) c.args.matcher.now.written c.args.file.now
+    by_error (Picks c.args.matcher.now.anywhere (Held c.args.matcher.now.sets.now) c.args.matcher.now.inverted) c.args.matcher.now.written c.args.file.now
     (g.R.Read.remaining c.args.reader.now) (g.S.Sink.state c.args.out.now) (g.S.Sink.state c.take.new.out) c.from_residual-in_err-take.result y _ is same
-    (lost (Picks (Held c.args.matcher.now.sets.now) c.args.matcher.now.inverted) c.args.matcher.now.written c.args.file.now
+    (lost (Picks c.args.matcher.now.anywhere (Held c.args.matcher.now.sets.now) c.args.matcher.now.inverted) c.args.matcher.now.written c.args.file.now
     (g.R.Read.remaining c.args.reader.now) (g.R.Read.remaining c.loop-number.reader) (g.R.Read.remaining c.next_part.new.reader)
     (g.S.Sink.state c.args.out.now) (g.S.Sink.state c.loop-number.out) (g.S.Sink.state c.take.new.out)
     c.loop-number.number c.loop-number.gathered.count c.loop-number.gathered.block c.next_part.new.part.items c.in_ok-has_more.has_more _
@@ -39,11 +39,11 @@ returns-in_err-take g c =
 
 pub returns-then-is_done : goal.returns-then-is_done
 returns-then-is_done g c =
-    ended (Picks (Held c.args.matcher.now.sets.now) c.args.matcher.now.inverted) c.args.matcher.now.written c.args.file.now
+    ended (Picks c.args.matcher.now.anywhere (Held c.args.matcher.now.sets.now) c.args.matcher.now.inverted) c.args.matcher.now.written c.args.file.now
     (g.R.Read.remaining c.args.reader.now) (g.R.Read.remaining c.next_part.new.reader)
     (g.S.Sink.state c.args.out.now) (g.S.Sink.state c.take.new.out) (g.S.Sink.state c.finish.new.out)
     c.loop-number.number c.take.new.self c.in_ok-has_more.has_more c.is_done.result c.finish.result c.is_done.ensures c.if-is_done.true (sym c.if-failed.ensures)
-    (take_on (Picks (Held c.args.matcher.now.sets.now) c.args.matcher.now.inverted) c.args.matcher.now.written c.args.file.now
+    (take_on (Picks c.args.matcher.now.anywhere (Held c.args.matcher.now.sets.now) c.args.matcher.now.inverted) c.args.matcher.now.written c.args.file.now
     (g.R.Read.remaining c.args.reader.now) (g.R.Read.remaining c.loop-number.reader) (g.R.Read.remaining c.next_part.new.reader)
     (g.S.Sink.state c.args.out.now) (g.S.Sink.state c.loop-number.out) (g.S.Sink.state c.take.new.out)
     c.loop-number.number c.next_part.new.part.items c.in_ok-has_more.has_more c.loop-number.gathered c.take.new.self
@@ -52,11 +52,11 @@ returns-then-is_done g c =
 
 pub loop-number-preserved : goal.loop-number-preserved
 loop-number-preserved g c =
-    go_on (Picks (Held c.args.matcher.now.sets.now) c.args.matcher.now.inverted) c.args.matcher.now.written
+    go_on (Picks c.args.matcher.now.anywhere (Held c.args.matcher.now.sets.now) c.args.matcher.now.inverted) c.args.matcher.now.written
     (g.R.Read.remaining c.args.reader.now) (g.R.Read.remaining c.next_part.new.reader)
     (g.S.Sink.state c.args.out.now) (g.S.Sink.state c.take.new.out)
     c.loop-number.number c.take.new.self.count c.take.new.self.block c.in_ok-has_more.has_more c.is_done.result c.is_done.ensures c.if-is_done.false
-    (take_on (Picks (Held c.args.matcher.now.sets.now) c.args.matcher.now.inverted) c.args.matcher.now.written c.args.file.now
+    (take_on (Picks c.args.matcher.now.anywhere (Held c.args.matcher.now.sets.now) c.args.matcher.now.inverted) c.args.matcher.now.written c.args.file.now
     (g.R.Read.remaining c.args.reader.now) (g.R.Read.remaining c.loop-number.reader) (g.R.Read.remaining c.next_part.new.reader)
     (g.S.Sink.state c.args.out.now) (g.S.Sink.state c.loop-number.out) (g.S.Sink.state c.take.new.out)
     c.loop-number.number c.next_part.new.part.items c.in_ok-has_more.has_more c.loop-number.gathered c.take.new.self
@@ -64,6 +64,6 @@ loop-number-preserved g c =
 
 pub returns : goal.returns
 returns g c =
-    unread (Picks (Held c.args.matcher.now.sets.now) c.args.matcher.now.inverted) c.args.matcher.now.written c.args.file.now
+    unread (Picks c.args.matcher.now.anywhere (Held c.args.matcher.now.sets.now) c.args.matcher.now.inverted) c.args.matcher.now.written c.args.file.now
     (g.R.Read.remaining c.args.reader.now) (g.R.Read.remaining c.loop-number.reader) (g.S.Sink.state c.args.out.now) (g.S.Sink.state c.loop-number.out)
     c.loop-number.number c.loop-number.gathered.count c.loop-number.gathered.block (error.Input c.args.file) refl c.loop-number.invariant

@@ -6,7 +6,7 @@ use Rattle.netset.proofs.matching.stream_blocks.Goals as goal
 
 pub returns-in_default : goal.returns-in_default
 returns-in_default g c =
-    nothing_read (Picks (Held c.args.matcher.now.sets.now) c.args.matcher.now.inverted) c.args.matcher.now.written c.args.file.now
+    nothing_read (Picks c.args.matcher.now.anywhere (Held c.args.matcher.now.sets.now) c.args.matcher.now.inverted) c.args.matcher.now.written c.args.file.now
     (g.R.Read.remaining c.args.reader) (g.S.Sink.state c.args.out.now) error.NoMemory tt
 
 pub returns : goal.returns
