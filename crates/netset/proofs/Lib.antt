@@ -26,3 +26,7 @@ pub mod Stored
 pub mod Looked
 pub mod Options
 pub mod Anywhere
+pub mod Agreeing
+pub mod Telling
+pub mod Loading
+pub mod Running

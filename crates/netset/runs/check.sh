@@ -5,7 +5,7 @@ set -euo pipefail
 export LC_ALL=C
 cd "$(dirname "$0")/.."
 
-usage=$'usage: netset merge|nets|not|ranges|count|check [FILE..] | not --in NET [FILE..] | minus|and A B.. | diff A B | free POOL LEN USED.. | match [--any] [-v] [-c] [-q] LIST [FILE] | look TABLE [FILE] | show HOST | split NET LEN | nth NET INDEX | --help | --version; --host-bits behind a command for lists of networks\n'
+usage=$'usage: netset merge|nets|not|ranges|count|check [FILE..] | not --in NET [FILE..] | minus|and A B.. | diff A B | free POOL LEN USED.. | match [--any] [-v] [-c] [-q] LIST [FILE] | look TABLE [FILE] | show HOST | split NET LEN | nth NET INDEX | --help | --version; --host-bits behind a command for lists of networks, -k behind one for lists\n'
 
 room=$(mktemp -d)
 trap 'rm -rf "$room"' EXIT
@@ -77,7 +77,7 @@ rows() {
     run 0 $'10.0.0.0-11.255.255.255\n' '' '11.0.0.0/8' ranges ten -
     run 0 '' '' '' ranges
     run 2 '' $'-:1: not UTF-8\n' '\xff' ranges
-    run 2 '' "$usage" '' ranges -k
+    run 2 '' "$usage" '' ranges - -k
     run 0 $'Ipv4 0\nIpv6 0\n' '' '' count
     run 0 $'Ipv4 257\nIpv6 1\n' '' '10.0.0.1\n10.0.1.0/24\n10.0.1.7\n::1' count
     run 0 $'Ipv4 4294967296\nIpv6 340282366920938463463374607431768211456\n' '' '0.0.0.0/0\n::/0' count
@@ -89,7 +89,7 @@ rows() {
     run 2 '' "$usage" '' --help merge
     run 2 '' "$usage" ''
     run 2 '' "$usage" '' merged
-    run 2 '' "$usage" '' merge -k
+    run 2 '' "$usage" '' merge -x
     run 2 '' "$usage" '' merge ten --help
     run 2 '' "$usage" '' --help ten
     run 2 '' "$usage" '' merge $'\xff'
@@ -134,7 +134,7 @@ rows_of_changes() {
     run 2 '' "$usage" '' diff ten
     run 2 '' "$usage" '' diff ten both -
     run 2 '' "$usage" '' diff ten -k
-    run 2 '' "$usage" '' diff -k ten
+    run 2 '' "$usage" '' diff -x ten
 }
 
 # The first free network of a pool.
@@ -150,7 +150,7 @@ rows_of_pools() {
     run 2 '' $'x: no prefix length inside the network\n' '' free missing x -
     run 2 '' $'missing: cannot be read\n' '' free ten 8 missing
     run 2 '' "$usage" '' free ten 8
-    run 2 '' "$usage" '' free -k 8 ten
+    run 2 '' "$usage" '' free -x 8 ten
     run 2 '' "$usage" '' free ten 8 both -k
 }
 
@@ -173,7 +173,7 @@ rows_of_findings() {
     run 2 '' $'bad:1: couldn\'t parse length in network: invalid length text\n' '' check ten ten bad
     run 2 '' $'-:1: not UTF-8\n' '\xff' check
     run 2 '' $'missing: cannot be read\n' '' check ten missing
-    run 2 '' "$usage" '' check -k
+    run 2 '' "$usage" '' check -x
 }
 
 # The lines of a file by a list.
@@ -235,7 +235,7 @@ rows_of_look_ups() {
     run 2 '' $'.: cannot be read\n' '' look owners .
     run 2 '' "$usage" '' look
     run 2 '' "$usage" '' look owners - -
-    run 2 '' "$usage" '' look -k
+    run 2 '' "$usage" '' look -x
     run 2 '' "$usage" '' look owners -k
 }
 
@@ -322,6 +322,34 @@ rows_of_host_bits() {
     run 2 '' "$usage" '' minus --host-bits ten
 }
 
+# Each line in error.
+rows_of_all_errors() {
+    local host=$'host part of address was not zero\n' none=$'couldn\'t parse address in network: invalid IP address syntax\n'
+    run 0 $'10.0.0.0/8\n' '' '10.128.0.0/9\n10.0.0.0/9' merge -k
+    run 0 $'10.0.0.0/8\n' '' '10.128.0.1/9\n10.0.0.0/9' merge -k --host-bits
+    run 2 '' "-:1: $host-:3: $none-:4: not UTF-8"$'\n' '10.0.0.1/8\n10.0.0.1\nx\n\xff\n' merge -k
+    run 2 '' "-:3: $none-:4: not UTF-8"$'\n' '10.0.0.1/8\n10.0.0.1\nx\n\xff' merge --host-bits -k
+    run 2 '' "hosts:1: ${host}-:1: ${none}hosts:1: $host" 'ten\n' minus -k hosts - hosts
+    run 2 '' "hosts:1: ${host}missing: cannot be read"$'\n' '' and -k hosts missing hosts
+    run 2 '' "hosts:1: $host" '' not -k --in 10.0.0.1/8 hosts
+    run 2 '' "10.0.0.1/8: $host" '' not -k --in 10.0.0.1/8 ten
+    run 1 $'-10.0.0.0/8\n' '' '' diff -k ten -
+    run 0 '' '' '10.0.0.0/8\n' diff -k - -
+    run 2 '' "hosts:1: ${host}hosts:1: $host" '' diff -k hosts hosts
+    run 2 '' "hosts:1: $host" '' free -k ten 8 hosts
+    run 2 '' "-:1: $none-:2: $none" 'x\n10.0.0.1-10.0.0.2\n10.0.0.1/8' check -k
+    run 2 '' "hosts:1: $host" 'x' match -k -v hosts
+    run 2 '' "-:1: $none" 'x\ny' match -k ten
+    run 0 $'10.0.0.1\n' '' '10.0.0.1\n11.0.0.1' match -k ten
+    run 2 '' "hosts:1: $host" '' look -k hosts
+    run 0 $'10.0.0.1 10.0.0.0/8\n' '' '10.0.0.1' look -k --host-bits hosts
+    run 0 $'10.1.2.3 10.1.0.0/16 x  y\n' '' '10.1.2.3' look -k owners
+    run 2 '' "$usage" '' show -k ::1
+    run 2 '' "$usage" '' -k merge
+    run 2 '' "$usage" '' merge ten -k
+    run 2 '' "$usage" '' check -k --host-bits
+}
+
 # More than one block of 8192 bytes, in order.
 long_list() {
     local input output
@@ -405,6 +433,7 @@ rows_without_memory() {
     refuse '10.0.0.1/9\n10.0.0.0/9\n10.128.0.0/9\n::\n' check - both
     refuse '10.0.0.0/9\n' not --in ::/0 -
     refuse '10.0.0.0/9\n' merge --host-bits -
+    refuse '10.0.0.0/9\n' merge -k both -
     refuse '10.0.0.0/9\n' free both 9 -
     refuse '10.0.0.1\n::1 x\n11.0.0.1' match ten_and_eight
     refuse '10.0.0.1\n11.0.0.1' match -c -v both
@@ -460,6 +489,7 @@ for build in netset netset.by-rattle; do
     rows_of_logs
     rows_of_one_network
     rows_of_host_bits
+    rows_of_all_errors
     long_list
     slow_input
     if command -v "${CC:-cc}" >/dev/null; then

@@ -1,5 +1,5 @@
 -- What functions that read several lists promise.
-use Rattle.std.specs.Prelude.{◌≡◌, ℕ, Bool, List, [], ◌∷◌, Option, Some, Result, Ok, Err, ◌⊎◌}
+use Rattle.std.specs.Prelude.{◌≡◌, ℕ, Bool, List, [], ◌∷◌, Option, Some, Result, Ok, Err}
 use Rattle.std.specs.List.{AllZip}
 use Rattle.cidr.specs.declared.cidr.combined.IpCidr.{IpCidr}
 use Rattle.cidr.specs.declared.family.Family.{Family}
@@ -9,9 +9,7 @@ use Rattle.netset.specs.Lists.{Text, ListSays, IsFirstError, networks_in}
 use Rattle.netset.specs.Reading.{Grows}
 use Rattle.netset.specs.Sets.{held}
 use Rattle.netset.specs.Commands.{AreTold, Says}
-use Rattle.netset.specs.Program.{IsUnread, Answers, Reports, status_of}
-use Rattle.cidr_io.specs.Writing.{State}
-use Rattle.netset.specs.declared.answers.Verdict.{Verdict}
+use Rattle.netset.specs.Program.{IsUnread}
 use Rattle.netset.specs.declared.changes.Sign.{Sign}
 use Rattle.netset.specs.declared.errors.CommandError.{CommandError}
 use Rattle.netset.specs.declared.errors.CommandError.TheVariants as error
@@ -61,9 +59,3 @@ ReadsBoth told old new (Err e) = IsUnread told (old ∷ new ∷ []) e
 -- the networks of two sets with their signs
 abbrev pub changed : Sets → Sets → Family → List (Sign × List Bool)
 changed added lacking family = merged (λ p. p) (held added family) (held lacking family)
-
--- a run whose arguments are these, or have no memory
-abbrev pub AnswersTexts : (List ℕ → Option (List ℕ)) → List (List ℕ) → State → State → State → State → ℕ → Type 0
-AnswersTexts told words out new_out err new_err status =
-    (r : Result Verdict CommandError) × Reports r err new_err × (status ≡ status_of r)
-    × (Answers told words out new_out r ⊎ ((r ≡ Err error.NoMemory) × (new_out ≡ out)))

@@ -1,5 +1,5 @@
 -- The commands, their arguments and what each answers.
-use Rattle.std.specs.Prelude.{◌≡◌, ℕ, ◌≤◌, ◌==◌, nat_lt, Bool, true, false, if◌then◌else◌, ◌&&◌, ◌⊎◌, List, [], ◌∷◌, ◌++◌, length, drop, take_while, codes, Option, Some}
+use Rattle.std.specs.Prelude.{◌≡◌, ℕ, ◌≤◌, ◌==◌, nat_lt, Bool, true, false, if◌then◌else◌, ◌&&◌, ◌||◌, ◌⊎◌, List, [], ◌∷◌, ◌++◌, length, drop, take_while, codes, Option, Some}
 use Rattle.std.specs.List.{AllZip, list_all, list_any, prefix_len, slice_index}
 use Rattle.cidr.specs.either.IpText.{IsIpNetworkText}
 use Rattle.cidr.specs.declared.cidr.combined.IpCidr.{IpCidr}
@@ -13,7 +13,7 @@ use Rattle.netset.specs.Lists.{Text, ListSays, network_in, networks_in}
 use Rattle.netset.specs.Changes.{AreChanges, AreSame, printed_changes}
 use Rattle.netset.specs.Combining.{form_of, name_of, takes, IsMade}
 use Rattle.netset.specs.Matching.{has, is_match_option, is_word, written_of, IsMatch, Picks}
-use Rattle.netset.specs.declared.lines.HostBits.{HostBits}
+use Rattle.netset.specs.declared.commands.Reading.{Reading}
 use Rattle.netset.specs.declared.lines.HostBits.TheVariants.{Refused, Cleared}
 use Rattle.netset.specs.declared.operations.Form.{Form}
 use Rattle.netset.specs.declared.operations.Form.TheVariants.{Networks}
@@ -73,7 +73,7 @@ IsUsage words = (request : Request) → ¬ (IsRequest words request)
 
 -- ---- options of reading, which stand behind the command
 abbrev pub is_reading_option : List ℕ → Bool
-is_reading_option word = is_word (codes "--host-bits") word
+is_reading_option word = is_word (codes "--host-bits") word || is_word (codes "-k") word
 
 -- those of the arguments
 abbrev pub reading_options : List (List ℕ) → List (List ℕ)
@@ -85,9 +85,12 @@ abbrev pub without_options : List (List ℕ) → List (List ℕ)
 without_options [] = []
 without_options (command ∷ words) = command ∷ drop (prefix_len is_reading_option words) words
 
--- what is done with host bits
-abbrev pub host_bits_of : List (List ℕ) → HostBits
-host_bits_of options = if has (codes "--host-bits") options then Cleared else Refused
+-- what they ask for
+abbrev pub reading_of : List (List ℕ) → Reading
+reading_of options = record {
+  host_bits = if has (codes "--host-bits") options then Cleared else Refused;
+  keeps_going = has (codes "-k") options;
+}
 
 -- whether lists of networks are read: `check` reads hosts, and tells their host bits
 abbrev pub reads_networks : Request → Bool
@@ -102,10 +105,16 @@ reads_networks (Single request) = false
 reads_networks Help = false
 reads_networks Version = false
 
--- the request may be read this way
-abbrev pub MayRead : HostBits → Request → Type 0
-MayRead Refused request = Unit {0}
-MayRead Cleared request = reads_networks request ≡ true
+-- whether lists are read
+abbrev pub reads_lists : Request → Bool
+reads_lists (Single request) = false
+reads_lists Help = false
+reads_lists Version = false
+reads_lists request = true
+
+-- the lists of the request may be read this way
+abbrev pub MayRead : Reading → Request → Type 0
+MayRead reading request = (reading.host_bits ≡ Cleared → reads_networks request ≡ true) × (reading.keeps_going ≡ true → reads_lists request ≡ true)
 
 -- these are the lists of the files of these names
 abbrev pub AreTold : (List ℕ → Option Text) → List (List ℕ) → List Text → Type 0
@@ -187,6 +196,7 @@ help_text =
     ++ codes "from # or ; on. The file - is the standard input, which is also read where no file is named.\n"
     ++ codes "With --host-bits behind a command that reads lists, but check, a bit set behind the prefix of\n"
     ++ codes "a network in a list is taken as unset, and is no error.\n"
+    ++ codes "With -k behind a command that reads lists each line in error is told, and not only the first.\n"
     ++ codes "Status: 0 done, 1 none, a difference or findings, 2 usage, a wrong argument, a file that\n"
     ++ codes "cannot be read or a line in error, 3 output or memory.\n"
 

@@ -1,5 +1,5 @@
 -- What has to be believed: what lists say, what commands answer, and a run of the program. `Reading`, `Command`,
--- `Collecting`, `Gathering`, `Answering` and `LookUps` are what private functions promise.
+-- `Collecting`, `Gathering`, `Loading`, `Answering` and `LookUps` are what private functions promise.
 pub mod Lists
 pub mod Reading
 pub mod Printing
@@ -18,7 +18,10 @@ pub mod Commands
 pub mod Command
 pub mod Unchecked
 pub mod Streaming
+pub mod Keeping
+pub mod Opened
 pub mod Program
+pub mod Loading
 pub mod Gathering
 pub mod Answering
 pub mod LookUps

@@ -1,15 +1,16 @@
 -- What a run of the program does with its arguments, the files, standard output and standard error.
-use Rattle.std.specs.Prelude.{◌≡◌, ℕ, List, [], ◌∷◌, ◌++◌, ◌⊎◌, codes, decimal, Option, Some, option_map, Result, Ok, Err, Contains}
+use Rattle.std.specs.Prelude.{◌≡◌, ◌≢◌, ℕ, true, false, List, [], ◌∷◌, ◌++◌, ◌⊎◌, codes, Option, Some, option_map, Result, Ok, Err, Contains}
 use Rattle.std.specs.List.{AllZip}
-use Rattle.cidr.specs.texts.Messages.{address_message, parse_message}
+use Rattle.cidr.specs.texts.Messages.{parse_message}
 use Rattle.cidr.specs.either.IpText.{IsIpNetworkText}
 use Rattle.cidr.specs.declared.cidr.combined.IpCidr.{IpCidr}
 use Rattle.cidr_io.specs.Arguments.{AreArguments, AreUnreadable}
 use Rattle.cidr_io.specs.Writing.{State, Answered, Says as Tells}
 use Rattle.cidr_io.specs.declared.sink.OutputFailed.{OutputFailed}
 use Rattle.netset.specs.Lists.{Text, text_by, ListSays, IsFirstError}
-use Rattle.netset.specs.Commands.{Request, Lists, NotIn, Diff, Free, Check, Match, Look, Single, Help, Version, IsRequest, IsUsage, MayRead, host_bits_of, reading_options, without_options, read_files, AreTold, IsAnswer, Says}
+use Rattle.netset.specs.Commands.{Request, Lists, NotIn, Diff, Free, Check, Match, Look, Single, Help, Version, IsRequest, IsUsage, MayRead, reading_of, reading_options, without_options, read_files, AreTold, IsAnswer, Says}
 use Rattle.netset.specs.Free.{IsBadLength}
+use Rattle.netset.specs.Keeping.{AreTellings, fault_line, kind_of, lists_of}
 use Rattle.netset.specs.Look.{IsLookCut, IsUnreadTable}
 use Rattle.netset.specs.Matching.{has, written_of, IsCutAt, Picks}
 use Rattle.netset.specs.Streaming.{IsBegun, IsCutShort, IsWritten}
@@ -17,8 +18,7 @@ use Rattle.netset.specs.Single.{IsBadSingle, IsNoNetwork}
 use Rattle.netset.specs.Unchecked.{IsUnchecked}
 use Rattle.netset.specs.declared.errors.ArgumentError.{ArgumentError}
 use Rattle.netset.specs.declared.errors.ArgumentError.TheVariants as bad
-use Rattle.netset.specs.declared.errors.LineError.{LineError}
-use Rattle.netset.specs.declared.errors.LineError.TheVariants.{NotUtf8, NoNetwork, NoAddress, TwoFamilies, Reversed}
+use Rattle.netset.specs.declared.commands.Reading.{Reading}
 use Rattle.netset.specs.declared.lines.HostBits.{HostBits}
 use Rattle.netset.specs.declared.answers.Verdict.{Verdict}
 use Rattle.netset.specs.declared.answers.Verdict.TheVariants.{Yes, No}
@@ -103,28 +103,9 @@ AnswersRequest told request old new r = AnswersWhole told request old new r
 abbrev pub told_by : HostBits → (List ℕ → Option (List ℕ)) → List ℕ → Option Text
 told_by bits told name = option_map (text_by bits) (told name)
 
--- what becomes of a request whose lists are read this way: usage where it may not be, and then nothing is written
-abbrev pub AnswersBy : HostBits → (List ℕ → Option (List ℕ)) → Request → State → State → Result Verdict CommandError → Type 0
-AnswersBy bits told request old new r = (MayRead bits request × AnswersRequest (told_by bits told) request old new r)
-    ⊎ (¬ (MayRead bits request) × (r ≡ Err error.Usage) × (new ≡ old))
-
--- other arguments are usage, and nothing is written
-abbrev pub AnswersWords : HostBits → (List ℕ → Option (List ℕ)) → List (List ℕ) → State → State → Result Verdict CommandError → Type 0
-AnswersWords bits told words old new r =
-    (IsUsage words × (r ≡ Err error.Usage) × (new ≡ old))
-    ⊎ ((request : Request) × IsRequest words request × AnswersBy bits told request old new r)
-
--- the same of arguments with options of reading
-abbrev pub Answers : (List ℕ → Option (List ℕ)) → List (List ℕ) → State → State → Result Verdict CommandError → Type 0
-Answers told words old new r = AnswersWords (host_bits_of (reading_options words)) told (without_options words) old new r
-
--- the message of a line in error
-abbrev pub line_message : LineError → List ℕ
-line_message NotUtf8 = codes "not UTF-8"
-line_message (NoNetwork e) = parse_message e
-line_message (NoAddress e) = address_message e
-line_message TwoFamilies = codes "the ends of the range are of two families"
-line_message Reversed = codes "the first address of the range is above the last one"
+-- the arguments are no request, or one whose lists may not be read this way
+abbrev pub IsUsageBy : Reading → List (List ℕ) → Type 0
+IsUsageBy reading words = IsUsage words ⊎ ((request : Request) × IsRequest words request × ¬ (MayRead reading request))
 
 -- the message of an argument that is wrong
 abbrev pub argument_message : ArgumentError → List ℕ
@@ -134,10 +115,9 @@ argument_message bad.Index = codes "no index below 2^128"
 
 -- the line that is written to standard error
 abbrev pub error_line : CommandError → List ℕ
-error_line error.Usage = codes "usage: netset merge|nets|not|ranges|count|check [FILE..] | not --in NET [FILE..] | minus|and A B.. | diff A B | free POOL LEN USED.. | match [--any] [-v] [-c] [-q] LIST [FILE] | look TABLE [FILE] | show HOST | split NET LEN | nth NET INDEX | --help | --version; --host-bits behind a command for lists of networks\n"
+error_line error.Usage = codes "usage: netset merge|nets|not|ranges|count|check [FILE..] | not --in NET [FILE..] | minus|and A B.. | diff A B | free POOL LEN USED.. | match [--any] [-v] [-c] [-q] LIST [FILE] | look TABLE [FILE] | show HOST | split NET LEN | nth NET INDEX | --help | --version; --host-bits behind a command for lists of networks, -k behind one for lists\n"
 error_line (error.Argument text e) = text.now ++ (codes ": " ++ (argument_message e ++ codes "\n"))
-error_line (error.Line name number e) =
-    name.now ++ (codes ":" ++ (decimal number ++ (codes ": " ++ (line_message e ++ codes "\n"))))
+error_line (error.Line name number e) = fault_line name.now (number, e)
 error_line (error.Input name) = name.now ++ codes ": cannot be read\n"
 error_line error.NoMemory = codes "no memory\n"
 error_line error.Output = codes "output failed\n"
@@ -158,10 +138,50 @@ status_of (Err (error.Input name)) = 2
 status_of (Err error.NoMemory) = 3
 status_of (Err error.Output) = 3
 
+-- why no more lists are read whole: the first of these can't be read, or memory
+abbrev pub IsLoadError : List (List ℕ) → CommandError → Type 0
+IsLoadError names (error.Input file) = (after : List (List ℕ)) × (names ≡ file.now ∷ after)
+IsLoadError names error.NoMemory = Unit {0}
+IsLoadError names e = ⊥
+
+-- a request whose lists are read whole first: each line in error is told, and then nothing is written; where there is
+-- none, the request is answered
+abbrev pub KeepsGoing : (List ℕ → Option Text) → Request → State → State → State → State → ℕ → Type 0
+KeepsGoing told request out new_out err new_err status = (lines : List ℕ) × (mid : State) × Tells err mid lines
+    × ((((texts : List Text) → AreTold told (lists_of request) texts → AreTellings (kind_of request) (lists_of request) texts lines)
+    × (((lines ≢ []) × (new_out ≡ out) × (new_err ≡ mid) × (status ≡ 2))
+    ⊎ ((lines ≡ []) × (r : Result Verdict CommandError) × AnswersRequest told request out new_out r × Reports r mid new_err × (status ≡ status_of r))))
+    ⊎ ((before after : List (List ℕ)) × (lists_of request ≡ before ++ after)
+    × ((texts : List Text) → AreTold told before texts → AreTellings (kind_of request) before texts lines)
+    × (e : CommandError) × IsLoadError after e × (new_out ≡ out) × Reports (Err e) mid new_err × (status ≡ status_of (Err e))))
+
+-- what becomes of a request, its lists read this way
+abbrev pub RunsRequest : Reading → (List ℕ → Option Text) → Request → State → State → State → State → ℕ → Type 0
+RunsRequest reading told request out new_out err new_err status =
+    ((reading.keeps_going ≡ true) × KeepsGoing told request out new_out err new_err status)
+    ⊎ ((reading.keeps_going ≡ false) × (r : Result Verdict CommandError) × AnswersRequest told request out new_out r
+    × Reports r err new_err × (status ≡ status_of r))
+
+-- the run ends with this error, and nothing is written to standard output
+abbrev pub EndsWith : CommandError → State → State → State → State → ℕ → Type 0
+EndsWith e out new_out err new_err status = (new_out ≡ out) × Reports (Err e) err new_err × (status ≡ status_of (Err e))
+
+-- what becomes of arguments without options of reading; others than those of a request are usage
+abbrev pub RunsWords : Reading → (List ℕ → Option (List ℕ)) → List (List ℕ) → State → State → State → State → ℕ → Type 0
+RunsWords reading told words out new_out err new_err status =
+    (IsUsageBy reading words × EndsWith error.Usage out new_out err new_err status)
+    ⊎ ((request : Request) × IsRequest words request × MayRead reading request
+    × RunsRequest reading (told_by reading.host_bits told) request out new_out err new_err status)
+
+-- the same of arguments with options of reading, or there was no memory for them
+abbrev pub RunsArguments : (List ℕ → Option (List ℕ)) → List (List ℕ) → State → State → State → State → ℕ → Type 0
+RunsArguments told words out new_out err new_err status =
+    RunsWords (reading_of (reading_options words)) told (without_options words) out new_out err new_err status
+    ⊎ EndsWith error.NoMemory out new_out err new_err status
+
 -- A run, from the arguments and the files to the exit status.
 abbrev pub Runs : Option (List (List ℕ)) → (List ℕ → Option (List ℕ)) → State → State → State → State → ℕ → Type 0
 Runs words told out new_out err new_err status =
-    (r : Result Verdict CommandError) × Reports r err new_err × (status ≡ status_of r)
-    × (((given : List (List ℕ)) × AreArguments words given × Answers told given out new_out r)
-    ⊎ ((AreUnreadable words × (r ≡ Err error.Usage) × (new_out ≡ out))
-    ⊎ ((r ≡ Err error.NoMemory) × (new_out ≡ out))))
+    ((given : List (List ℕ)) × AreArguments words given × RunsArguments told given out new_out err new_err status)
+    ⊎ ((AreUnreadable words × EndsWith error.Usage out new_out err new_err status)
+    ⊎ EndsWith error.NoMemory out new_out err new_err status)

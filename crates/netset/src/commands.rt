@@ -2,7 +2,7 @@
 ghost use Rattle.std.specs.Prelude.{◌≡◌, ◌≢◌, false, ℕ, List, codes, map, [], ◌∷◌, MatchOption};
 ghost use Rattle.std.specs.Bool.{Decides};
 ghost use Rattle.std.specs.List.{list_any, prefix_len};
-ghost use Rattle.netset.specs.Commands.{Check, Diff, Free, Look, Match, MayRead, NotIn, host_bits_of, is_option, read_files, reading_options, reads_networks, without_options, IsRequest, IsUsage};
+ghost use Rattle.netset.specs.Commands.{Check, Diff, Free, Look, Match, MayRead, NotIn, is_option, read_files, reading_of, reading_options, reads_lists, reads_networks, without_options, IsRequest, IsUsage};
 ghost use Rattle.netset.specs.Command.{AreMisfits, IsNoLoneWord, has_reading_option, request_of};
 ghost use Rattle.netset.specs.Combining.{name_of};
 ghost use Rattle.netset.specs.Matching.{is_match_option};
@@ -36,6 +36,14 @@ pub enum Command<'a> {
     Version,
 }
 
+/// How lists are read.
+#[derive(Clone, Copy, Debug, Drop, PartialEq)]
+pub struct Reading {
+    pub host_bits: HostBits,
+    /// Whether reading goes on behind a line in error, to tell others too.
+    pub keeps_going: bool,
+}
+
 impl Command<'_> {
     /// Whether lists of networks are read.
     fn reads_networks(&self) -> bool
@@ -52,14 +60,22 @@ impl Command<'_> {
         }
     }
 
-    /// Whether the command may be read this way.
-    pub fn may_read(&self, host_bits: HostBits) -> bool
-        ensures { Decides result (MayRead host_bits (request_of self.now)) }
+    /// Whether lists are read.
+    fn reads_lists(&self) -> bool
+        ensures { result ≡ reads_lists (request_of self.now) }
     {
-        match host_bits {
-            HostBits::Refused => true,
-            HostBits::Cleared => self.reads_networks(),
+        match self {
+            Command::Single(_) | Command::Help | Command::Version => false,
+            _ => true,
         }
+    }
+
+    /// Whether the command may be read this way.
+    pub fn may_read(&self, reading: Reading) -> bool
+        ensures { Decides result (MayRead reading (request_of self.now)) }
+    {
+        (reading.host_bits == HostBits::Refused || self.reads_networks())
+            && (!reading.keeps_going || self.reads_lists())
     }
 }
 
@@ -68,22 +84,28 @@ fn has_reading_option(words: &[&str]) -> bool
     ensures { result ≡ has_reading_option (map (λ w. w.now) words.now) }
 {
     match words {
-        [_, word, ..] => *word == "--host-bits",
+        [_, word, ..] => *word == "--host-bits" || *word == "-k",
         _ => false,
     }
 }
 
 /// Takes the options of reading behind the command out of the words, and tells what they ask for.
-pub fn take_options(words: &mut Vec<&str>) -> HostBits
-    ensures host_bits { result ≡ host_bits_of (reading_options (map (λ w. w.now) words.old.items)) }
+pub fn take_options(words: &mut Vec<&str>) -> Reading
+    ensures asked { result ≡ reading_of (reading_options (map (λ w. w.now) words.old.items)) }
     ensures rest { map (λ w. w.now) words.new.items ≡ without_options (map (λ w. w.now) words.old.items) }
 {
-    let mut host_bits = HostBits::Refused;
+    let mut reading = Reading {
+        host_bits: HostBits::Refused,
+        keeps_going: false,
+    };
     while has_reading_option(words.as_slice()) {
-        words.remove(1);
-        host_bits = HostBits::Cleared;
+        if words.remove(1) == "-k" {
+            reading.keeps_going = true;
+        } else {
+            reading.host_bits = HostBits::Cleared;
+        }
     }
-    host_bits
+    reading
 }
 
 /// Whether a word is an option, and no file: `-` and something behind it.

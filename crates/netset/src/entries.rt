@@ -31,7 +31,7 @@ pub struct Entry<'a> {
 }
 
 /// The entry that a line has; `None` for a line that says nothing.
-fn entry_of<'a>(place: Place<'a>, line: &[u8]) -> Result<Option<Entry<'a>>, LineError>
+pub fn entry_of<'a>(place: Place<'a>, line: &[u8]) -> Result<Option<Entry<'a>>, LineError>
     ensures { ReadsEntry place.entry.file.now place.entry.number line.now result }
 {
     let field = without_comment(line).trim_ascii();

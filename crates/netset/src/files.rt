@@ -68,6 +68,10 @@ pub enum Opened<F: Read + Drop, I: Read + Drop> {
 }
 
 impl<F: Read + Drop, I: Read + Drop> Read for Opened<F, I> {
+    ghost use Rattle.netset.specs.Opened.{opened_remaining};
+
+    ghost remaining = { opened_remaining F.remaining I.remaining };
+
     fn read(&mut self, buf: &mut [u8]) -> io::Result<usize> {
         match self {
             Opened::File(file) => file.read(buf),

@@ -15,6 +15,7 @@ mod files;
 mod findings;
 mod free;
 mod inside;
+mod keeping;
 mod lines;
 mod lists;
 mod look;

@@ -1,22 +1,22 @@
 //! A run of the program, from its arguments to its exit status.
-ghost use Rattle.std.specs.Prelude.{◌≡◌, map};
+ghost use Rattle.std.specs.Prelude.{◌≡◌, map, MatchOption};
 ghost use Rattle.std.specs.String.{string_bytes};
 ghost use Rattle.netset.specs.Combining.{form_of};
-ghost use Rattle.netset.specs.Commands.{Lists};
+ghost use Rattle.netset.specs.Command.{request_of};
+ghost use Rattle.netset.specs.Commands.{IsRequest, Lists, MayRead};
 ghost use Rattle.netset.specs.Sets.{Prints, held};
-ghost use Rattle.netset.specs.Answering.{AnswersTexts};
-ghost use Rattle.netset.specs.Program.{AnswersRequest, AnswersWords, Runs};
+ghost use Rattle.netset.specs.Program.{AnswersRequest, IsUsageBy, KeepsGoing, Runs, RunsArguments};
 
 use crate::answers::{Verdict, by_output};
 use crate::changes::diff;
 use crate::check::check;
 use crate::combine::made;
-use crate::commands::{Command, command_of, take_options};
+use crate::commands::{Command, Reading, command_of, take_options};
 use crate::errors::CommandError;
 use crate::files::{Files, ReadBy, Sources};
 use crate::free::free;
 use crate::inside::not_in;
-use crate::lines::HostBits;
+use crate::keeping::{Loaded, load};
 use crate::look::look;
 use crate::matching::matching;
 use crate::operations::{Form, Operation, form_of};
@@ -31,7 +31,7 @@ use std::alloc::Global;
 
 /// The page of the commands.
 const HELP: &str =
-    "netset merge [FILE..]   the shortest list of networks that has the addresses of all the lists\nnetset nets [FILE..]    the same\nnetset minus A B..      the addresses of A that no other list has\nnetset and A B..        the addresses that each of the lists has\nnetset not [FILE..]     the addresses of IPv4 and those of IPv6 that no list has\nnetset not --in NET [FILE..]\n                        the addresses of a network that no list has\nnetset ranges [FILE..]  the longest ranges of the addresses of all the lists, FIRST-LAST\nnetset count [FILE..]   how many addresses of IPv4 and of IPv6 the lists have\nnetset diff A B         the networks that B adds to A, as +NET, and that it lacks, as -NET\nnetset free POOL LEN USED..\n                        the first network of this prefix length in the addresses of\n                        POOL that no list of USED has\nnetset check [FILE..]   what is found in the lists, whose lines may be hosts too: set host\n                        bits, other forms than the printed one, repeats, networks inside\n                        others, and halves of one network\nnetset match [--any] [-v] [-c] [-q] LIST [FILE]\n                        the lines of FILE whose first field lies in LIST, or with --any those\n                        that have an address of LIST anywhere; -v all the other lines,\n                        -c only their number, -q only the status\nnetset look TABLE [FILE]\n                        the longest network of each address of FILE in the lines\n                        NET VALUE of TABLE, and its value\nnetset show HOST        the network of a host: its ends, mask, length and family\nnetset split NET LEN    the networks of this prefix length inside a network\nnetset nth NET INDEX    the address of a network at an index, from 0 on\nnetset --help           this page\nnetset --version        the version\n\nA line of a list is a network, an address or a range FIRST-LAST, and may end in a comment\nfrom # or ; on. The file - is the standard input, which is also read where no file is named.\nWith --host-bits behind a command that reads lists, but check, a bit set behind the prefix of\na network in a list is taken as unset, and is no error.\nStatus: 0 done, 1 none, a difference or findings, 2 usage, a wrong argument, a file that\ncannot be read or a line in error, 3 output or memory.\n";
+    "netset merge [FILE..]   the shortest list of networks that has the addresses of all the lists\nnetset nets [FILE..]    the same\nnetset minus A B..      the addresses of A that no other list has\nnetset and A B..        the addresses that each of the lists has\nnetset not [FILE..]     the addresses of IPv4 and those of IPv6 that no list has\nnetset not --in NET [FILE..]\n                        the addresses of a network that no list has\nnetset ranges [FILE..]  the longest ranges of the addresses of all the lists, FIRST-LAST\nnetset count [FILE..]   how many addresses of IPv4 and of IPv6 the lists have\nnetset diff A B         the networks that B adds to A, as +NET, and that it lacks, as -NET\nnetset free POOL LEN USED..\n                        the first network of this prefix length in the addresses of\n                        POOL that no list of USED has\nnetset check [FILE..]   what is found in the lists, whose lines may be hosts too: set host\n                        bits, other forms than the printed one, repeats, networks inside\n                        others, and halves of one network\nnetset match [--any] [-v] [-c] [-q] LIST [FILE]\n                        the lines of FILE whose first field lies in LIST, or with --any those\n                        that have an address of LIST anywhere; -v all the other lines,\n                        -c only their number, -q only the status\nnetset look TABLE [FILE]\n                        the longest network of each address of FILE in the lines\n                        NET VALUE of TABLE, and its value\nnetset show HOST        the network of a host: its ends, mask, length and family\nnetset split NET LEN    the networks of this prefix length inside a network\nnetset nth NET INDEX    the address of a network at an index, from 0 on\nnetset --help           this page\nnetset --version        the version\n\nA line of a list is a network, an address or a range FIRST-LAST, and may end in a comment\nfrom # or ; on. The file - is the standard input, which is also read where no file is named.\nWith --host-bits behind a command that reads lists, but check, a bit set behind the prefix of\na network in a list is taken as unset, and is no error.\nWith -k behind a command that reads lists each line in error is told, and not only the first.\nStatus: 0 done, 1 none, a difference or findings, 2 usage, a wrong argument, a file that\ncannot be read or a line in error, 3 output or memory.\n";
 
 const VERSION: &str = "netset 0.1.0\n";
 
@@ -61,24 +61,27 @@ fn lists<'a, F: Sources, O: Sink>(
     by_output(Verdict::Yes, write_made(operation, &sets, out))
 }
 
-/// Answers the program's arguments, which come without its name and without options of reading.
-fn answer<'a, F: Files, O: Sink>(
+/// The command that the arguments are, if its lists may be read this way.
+fn command_by<'a>(reading: Reading, words: &'a [&'a str]) -> Option<Command<'a>>
+    ensures { MatchOption result (IsUsageBy reading (map (λ w. w.now) words.now))
+        (λ command. IsRequest (map (λ w. w.now) words.now) (request_of command) × MayRead reading (request_of command)) }
+{
+    let command = command_of(words)?;
+    if command.may_read(reading) {
+        return Some(command);
+    }
+    None
+}
+
+/// Answers a command.
+fn answer<'a, F: Sources, O: Sink>(
     alloc: Global,
-    files: &F,
-    host_bits: HostBits,
-    words: &'a [&'a str],
+    sources: &F,
+    command: Command<'a>,
     out: &mut O,
 ) -> Result<Verdict, CommandError<'a>>
-    ensures { AnswersWords host_bits (F.told files.now) (map (λ w. w.now) words.now)
-        (O.state out.old) (O.state out.new) result }
+    ensures { AnswersRequest (F.told sources.now) (request_of command.entry) (O.state out.old) (O.state out.new) result }
 {
-    let Some(command) = command_of(words) else {
-        return Err(CommandError::Usage);
-    };
-    if !command.may_read(host_bits) {
-        return Err(CommandError::Usage);
-    }
-    let sources = &ReadBy { files, host_bits };
     match command {
         Command::Lists(operation, files) => lists(alloc, sources, operation, files, out),
         Command::NotIn(net, files) => not_in(alloc, sources, net, files, out),
@@ -93,6 +96,34 @@ fn answer<'a, F: Files, O: Sink>(
     }
 }
 
+/// Tells the lines in error of the lists of a command, and answers it if there are none, reports and returns the exit
+/// status. The lists are read whole first.
+fn keep_going<'a, F: Sources, O: Sink, E: Sink>(
+    alloc: Global,
+    sources: &F,
+    command: Command<'a>,
+    out: &mut O,
+    err: &mut E,
+) -> u8
+    ensures { KeepsGoing (F.told sources.now) (request_of command.entry) (O.state out.old) (O.state out.new)
+        (E.state err.old) (E.state err.new) result }
+{
+    let Ok(names) = command.lists(alloc) else {
+        return report(&Err(CommandError::NoMemory), err);
+    };
+    match load(alloc, sources, command.kind(), names.as_slice(), err) {
+        Ok((_, true)) => 2,
+        Ok((lists, false)) => {
+            let loaded = Loaded {
+                lists: lists.as_slice(),
+                sources,
+            };
+            report(&answer(alloc, &loaded, command, out), err)
+        }
+        Err(e) => report(&Err(e), err),
+    }
+}
+
 /// Answers the arguments as strings, reports and returns the exit status.
 fn answer_texts<F: Files, O: Sink, E: Sink>(
     alloc: Global,
@@ -101,14 +132,24 @@ fn answer_texts<F: Files, O: Sink, E: Sink>(
     out: &mut O,
     err: &mut E,
 ) -> u8
-    ensures { AnswersTexts (F.told files.now) (map string_bytes texts.now) (O.state out.old) (O.state out.new)
+    ensures { RunsArguments (F.told files.now) (map string_bytes texts.now) (O.state out.old) (O.state out.new)
         (E.state err.old) (E.state err.new) result }
 {
     let Ok(mut words) = borrowed(alloc, texts) else {
         return report(&Err(CommandError::NoMemory), err);
     };
-    let host_bits = take_options(&mut words);
-    report(&answer(alloc, files, host_bits, words.as_slice(), out), err)
+    let reading = take_options(&mut words);
+    let Some(command) = command_by(reading, words.as_slice()) else {
+        return report(&Err(CommandError::Usage), err);
+    };
+    let sources = ReadBy {
+        files,
+        host_bits: reading.host_bits,
+    };
+    if reading.keeps_going {
+        return keep_going(alloc, &sources, command, out, err);
+    }
+    report(&answer(alloc, &sources, command, out), err)
 }
 
 /// Answers the arguments on `out`, writes the line that belongs to the answer, if there is one, to `err`, and returns

@@ -2,7 +2,8 @@
 ghost use Rattle.std.specs.Prelude.{◌≡◌, Err};
 ghost use Rattle.std.specs.List.{flat_map};
 ghost use Rattle.cidr_io.specs.Writing.{Answered, Says, Writes};
-ghost use Rattle.netset.specs.Program.{Reports, status_of, error_line, line_message, argument_message};
+ghost use Rattle.netset.specs.Keeping.{line_message};
+ghost use Rattle.netset.specs.Program.{Reports, status_of, error_line, argument_message};
 
 use crate::answers::Verdict;
 use crate::errors::{ArgumentError, CommandError, LineError};
@@ -12,7 +13,7 @@ use cidr_io::writing::{flush, write_all};
 use itoa::Buffer;
 
 const USAGE: &str =
-    "usage: netset merge|nets|not|ranges|count|check [FILE..] | not --in NET [FILE..] | minus|and A B.. | diff A B | free POOL LEN USED.. | match [--any] [-v] [-c] [-q] LIST [FILE] | look TABLE [FILE] | show HOST | split NET LEN | nth NET INDEX | --help | --version; --host-bits behind a command for lists of networks\n";
+    "usage: netset merge|nets|not|ranges|count|check [FILE..] | not --in NET [FILE..] | minus|and A B.. | diff A B | free POOL LEN USED.. | match [--any] [-v] [-c] [-q] LIST [FILE] | look TABLE [FILE] | show HOST | split NET LEN | nth NET INDEX | --help | --version; --host-bits behind a command for lists of networks, -k behind one for lists\n";
 
 /// The longest message of an error.
 const MOST_MESSAGE: usize = 99;
@@ -69,7 +70,7 @@ pub fn write_line<S: Sink>(out: &mut S, parts: &[&str]) -> Result<(), OutputFail
 }
 
 /// Writes the line of an error, as far as the sink takes it.
-fn say<E: Sink>(error: &CommandError<'_>, err: &mut E)
+pub fn say<E: Sink>(error: &CommandError<'_>, err: &mut E)
     ensures { Says (E.state err.old) (E.state err.new) (error_line error.now) }
 {
     let _ = match error {

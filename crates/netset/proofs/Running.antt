@@ -1,0 +1,63 @@
+-- Runs with options of reading.
+use Rattle.std.proofs.Common.{◌≡◌, refl, subst, inl, inr, ℕ, Bool, true, false, List, [], Option, Result, Err}
+use Rattle.cidr_io.specs.Writing.{State}
+use Rattle.netset.specs.Commands.{Request, IsRequest, MayRead, reading_of, reading_options, without_options}
+use Rattle.netset.specs.Keeping.{kept_or, kind_of, lists_of}
+use Rattle.netset.specs.Lists.{Text}
+use Rattle.netset.specs.Loading.{IsLoaded, IsUnloaded}
+use Rattle.netset.specs.Program.{AnswersRequest, KeepsGoing, Reports, RunsArguments, RunsRequest, RunsWords, status_of, told_by}
+use Rattle.netset.specs.declared.answers.Verdict.{Verdict}
+use Rattle.netset.specs.declared.commands.Reading.{Reading}
+use Rattle.netset.specs.declared.errors.CommandError.{CommandError}
+use Rattle.netset.specs.declared.errors.CommandError.TheVariants as error
+use Rattle.netset.specs.declared.keeping.Kept.{Kept}
+use Rattle.netset.specs.declared.keeping.Kind.{Kind}
+use Rattle.netset.proofs.Agreeing.{kept_agree, request_more}
+use Rattle.netset.proofs.Loading.{none_told}
+
+-- ---- with lists that are read whole first
+module _ (told : List ℕ → Option Text) (request : Request) (kind : Kind) (names : List (List ℕ)) (out s t : State) (is_kind : kind ≡ kind_of request)
+    (are : names ≡ lists_of request) where
+  loaded_of : (lists : List Kept) (found : Bool) → IsLoaded told kind names s t lists found → IsLoaded told (kind_of request) (lists_of request) s t lists found
+  loaded_of lists found h =
+      subst (λ (k : List (List ℕ)). IsLoaded told (kind_of request) k s t lists found) are (subst (λ (k : Kind). IsLoaded told k names s t lists found) is_kind h)
+
+  unloaded_of : (e : CommandError) → IsUnloaded told kind names s t e → IsUnloaded told (kind_of request) (lists_of request) s t e
+  unloaded_of e h =
+      subst (λ (k : List (List ℕ)). IsUnloaded told (kind_of request) k s t e) are (subst (λ (k : Kind). IsUnloaded told k names s t e) is_kind h)
+
+  pub lines_in_error : (lists : List Kept) → IsLoaded told kind names s t lists true → KeepsGoing told request out out s t 2
+  lines_in_error lists h =
+      let (kept, lines, (tells, fine), any) = loaded_of lists true h in
+      (lines, t, tells, inl (fine, inl (any, refl, refl, refl)))
+
+  pub no_line_in_error : (lists : List Kept) (new u : State) (r : Result Verdict CommandError) (status : ℕ) → IsLoaded told kind names s t lists false
+      → AnswersRequest (kept_or lists told) request out new r → Reports r t u → status ≡ status_of r → KeepsGoing told request out new s u status
+  no_line_in_error lists new u r status h answers says is =
+      let (kept, lines, (tells, fine), any) = loaded_of lists false h in
+      (lines, t, tells, inl (fine, inr (any, r, request_more told (kept_or lists told) (kept_agree told lists kept) request out new r answers, says, is)))
+
+  pub not_loaded : (u : State) (e : CommandError) (status : ℕ) → IsUnloaded told kind names s t e → Reports (Err e) t u → status ≡ status_of (Err e)
+      → KeepsGoing told request out out s u status
+  not_loaded u e status h says is =
+      let (before, after, split, why, lines, (tells, fine)) = unloaded_of e h in
+      (lines, t, tells, inr (before, after, split, fine, e, why, refl, says, is))
+
+pub no_names : (told : List ℕ → Option Text) (request : Request) (out s u : State) (status : ℕ) → Reports (Err error.NoMemory) s u → status ≡ status_of (Err error.NoMemory)
+    → KeepsGoing told request out out s u status
+no_names told request out s u status says is =
+    let none = none_told told (kind_of request) s in
+    ([], s, none.0, inr ([], lists_of request, refl, none.1, error.NoMemory, tt, refl, says, is))
+
+-- ---- arguments
+pub run_words : (reading : Reading) (told : List ℕ → Option (List ℕ)) (words rest : List (List ℕ)) (out new s t : State) (status : ℕ)
+    → reading ≡ reading_of (reading_options words) → rest ≡ without_options words → RunsWords reading told rest out new s t status
+    → RunsArguments told words out new s t status
+run_words reading told words rest out new s t status asked left h =
+    inl (subst (λ (k : Reading). RunsWords k told (without_options words) out new s t status) asked
+    (subst (λ (k : List (List ℕ)). RunsWords reading told k out new s t status) left h))
+
+pub run_request : (reading : Reading) (told : List ℕ → Option (List ℕ)) (words : List (List ℕ)) (request : Request) (out new s t : State) (status : ℕ)
+    → IsRequest words request × MayRead reading request → RunsRequest reading (told_by reading.host_bits told) request out new s t status
+    → RunsWords reading told words out new s t status
+run_request reading told words request out new s t status is h = inr (request, is.0, is.1, h)
