@@ -1,12 +1,12 @@
 -- Octets at the front of a text.
-use Rattle.std.proofs.Common.{◌≡◌, ◌≢◌, ℕ, ◌+◌, ◌*◌, ◌/◌, ◌%◌, ◌^◌, ◌<◌, ◌≤◌, Bool, List, [], ◌∷◌, ◌++◌, length, get_or, drop, decimal, refl, sym, ap, ◌∙◌, subst, arith, inl, inr}
+use Rattle.std.proofs.Common.{◌≡◌, ℕ, ◌+◌, ◌-◌, ◌/◌, ◌%◌, ◌^◌, ◌<◌, ◌≤◌, Bool, List, [], ◌∷◌, ◌++◌, length, get_or, drop, decimal, refl, sym, ap, ap₂, ◌∙◌, subst, arith, inl, inr}
 use Rattle.std.proofs.lemmas.Bool.{cases_lt}
 use Rattle.std.proofs.lemmas.Fmt.{decimal_digit, decimal_step, decimal_is_IsNumeral, first_decimal, decimal-digits_value}
-use Rattle.std.proofs.lemmas.Str.Parse.{numerals_by_value, tells_digits}
+use Rattle.std.proofs.lemmas.Str.Parse.{numerals_by_value, tells_digits, digit_at}
 use Rattle.std.specs.Str.Parse.{digits_value}
 use Rattle.cidr.specs.texts.Ipv4Text.{IsOctetText, IsJoined, IsIpv4Text}
 use Rattle.cidr.specs.model.Address.{octet_bits}
-use Rattle.cidr.specs.internal.Reading.{NoDigitFirst, StopsAtDot, IsFirstPart, NoPartFirst}
+use Rattle.cidr.specs.internal.Reading.{IsNoDigit, IsDigitCount, digits_text, StopsAtDot, IsFirstPart, NoPartFirst}
 
 -- the octet text of a number is its decimal
 pub IsOctetText-decimal : (n : ℕ) → n < 256 → IsOctetText (decimal n) n
@@ -54,15 +54,6 @@ places t n h =
       ]
     ]
 
-one_octet_text : (n : ℕ) → n < 10 → IsOctetText ((48 + n) ∷ []) n
-one_octet_text n h = subst (λ t. IsOctetText t n) (decimal_digit n h) (IsOctetText-decimal n (omega arith))
-
-two_octet_text : (n : ℕ) → 10 ≤ n → n < 100 → IsOctetText ((48 + n / 10) ∷ (48 + n % 10) ∷ []) n
-two_octet_text n h k = subst (λ t. IsOctetText t n) (two_digits n h k) (IsOctetText-decimal n (omega arith))
-
-three_octet_text : (n : ℕ) → 100 ≤ n → n < 256 → IsOctetText ((48 + n / 100) ∷ (48 + n / 10 % 10) ∷ (48 + n % 10) ∷ []) n
-three_octet_text n h k = subst (λ t. IsOctetText t n) (three_digits n h k) (IsOctetText-decimal n k)
-
 -- what may follow an octet
 stops : (more : List ℕ) → StopsAtDot more → get_or more 0 0 < 48
 stops more (inl e) = rw e (omega arith)
@@ -78,115 +69,116 @@ same_tail x y xs ys e = ap (drop 1) e
 spread : (text t more s : List ℕ) → text ≡ t ++ more → t ≡ s → text ≡ s ++ more
 spread text t more s e f = e ∙ ap (λ x. x ++ more) f
 
-pub no_octet : (text : List ℕ) → NoDigitFirst text → NoPartFirst IsOctetText text
-no_octet text none t m more h stop e = elim (places t m h) [
-  | One t m small f ↦ let head : get_or text 0 0 ≡ 48 + m = ap (λ x. get_or x 0 0) (spread text t more _ e f) in omega (arith, none)
-  | Two t m low high f ↦ let head : get_or text 0 0 ≡ 48 + m / 10 = ap (λ x. get_or x 0 0) (spread text t more _ e f) in omega (arith, none)
-  | Three t m low high f ↦ let head : get_or text 0 0 ≡ 48 + m / 100 = ap (λ x. get_or x 0 0) (spread text t more _ e f) in omega (arith, none)
+-- ---- the digits at the front
+-- the first bytes of a text by their values as digits, and how many of them are digits
+pub record DigitsFirst (text : List ℕ) (a b c count : ℕ) : Type 0 where
+  pub long : 3 ≤ length text
+  pub first : get_or text 0 0 ≡ 48 + a
+  pub second : b < 10 → get_or text 1 0 ≡ 48 + b
+  pub no_second : 10 ≤ b → IsNoDigit (get_or text 1 0)
+  pub third : c < 10 → get_or text 2 0 ≡ 48 + c
+  pub no_third : 10 ≤ c → IsNoDigit (get_or text 2 0)
+  pub counted : IsDigitCount b c count
+
+pub digits_first : (text : List ℕ) (a b c count : ℕ) → 3 ≤ length text → a < 10 → (a < 10 → get_or text 0 0 ≡ 48 + a)
+    → (b < 10 → get_or text 1 0 ≡ 48 + b) → (10 ≤ b → IsNoDigit (get_or text 1 0))
+    → (c < 10 → get_or text 2 0 ≡ 48 + c) → (10 ≤ c → IsNoDigit (get_or text 2 0)) → IsDigitCount b c count → DigitsFirst text a b c count
+digits_first text a b c count long small first second no_second third no_third counted =
+    record { long = long; first = first small; second = second; no_second = no_second; third = third; no_third = no_third; counted = counted }
+
+module _ (x y z : ℕ) (tail : List ℕ) (a b c count : ℕ) (d : DigitsFirst (x ∷ y ∷ z ∷ tail) a b c count) where
+  -- they come first
+  split : IsDigitCount b c count → x ∷ y ∷ z ∷ tail ≡ digits_text a b c count ++ drop count (x ∷ y ∷ z ∷ tail)
+  split (inl (e, none)) = rw e (ap (λ k. k ∷ y ∷ z ∷ tail) d.first)
+  split (inr (inl (e, two, none))) = rw e (ap₂ (λ k l. k ∷ l ∷ z ∷ tail) d.first (d.second two))
+  split (inr (inr (e, two, three))) = rw e (ap₂ (λ k l. k ∷ l ∷ z ∷ tail) d.first (d.second two) ∙ ap (λ l. (48 + a) ∷ (48 + b) ∷ l ∷ tail) (d.third three))
+
+  -- an octet before a dot or the end has exactly these digits
+  only_digits : (t : List ℕ) (m : ℕ) (more : List ℕ) → Places t m → StopsAtDot more → x ∷ y ∷ z ∷ tail ≡ t ++ more → IsDigitCount b c count
+      → (t ≡ digits_text a b c count) × (more ≡ drop count (x ∷ y ∷ z ∷ tail))
+  only_digits t m more (One _ _ small f) stop e (inl (n, none)) =
+      let both = spread _ t more _ e f in
+      rw n (f ∙ ap (λ k. k ∷ []) (sym (same_head _ _ _ _ both) ∙ d.first), sym (same_tail _ _ _ _ both))
+  only_digits t m more (One _ _ small f) stop e (inr (inl (n, two, none))) =
+      let next : y ≡ get_or more 0 0 = ap (λ t. get_or t 0 0) (same_tail _ _ _ _ (spread _ t more _ e f)) in
+      absurd (omega (arith, next, stops more stop, d.second two))
+  only_digits t m more (One _ _ small f) stop e (inr (inr (n, two, three))) =
+      let next : y ≡ get_or more 0 0 = ap (λ t. get_or t 0 0) (same_tail _ _ _ _ (spread _ t more _ e f)) in
+      absurd (omega (arith, next, stops more stop, d.second two))
+  only_digits t m more (Two _ _ low high f) stop e (inl (n, none)) =
+      let next : y ≡ 48 + m % 10 = same_head _ _ _ _ (same_tail _ _ _ _ (spread _ t more _ e f)) in
+      absurd (omega (arith, next, d.no_second none))
+  only_digits t m more (Two _ _ low high f) stop e (inr (inl (n, two, none))) =
+      let both = spread _ t more _ e f in
+      let later = same_tail _ _ _ _ both in
+      rw n (f ∙ ap₂ (λ k l. k ∷ l ∷ []) (sym (same_head _ _ _ _ both) ∙ d.first) (sym (same_head _ _ _ _ later) ∙ d.second two), sym (same_tail _ _ _ _ later))
+  only_digits t m more (Two _ _ low high f) stop e (inr (inr (n, two, three))) =
+      let next : z ≡ get_or more 0 0 = ap (λ t. get_or t 0 0) (same_tail _ _ _ _ (same_tail _ _ _ _ (spread _ t more _ e f))) in
+      absurd (omega (arith, next, stops more stop, d.third three))
+  only_digits t m more (Three _ _ low high f) stop e (inl (n, none)) =
+      let next : y ≡ 48 + m / 10 % 10 = same_head _ _ _ _ (same_tail _ _ _ _ (spread _ t more _ e f)) in
+      absurd (omega (arith, next, d.no_second none))
+  only_digits t m more (Three _ _ low high f) stop e (inr (inl (n, two, none))) =
+      let next : z ≡ 48 + m % 10 = same_head _ _ _ _ (same_tail _ _ _ _ (same_tail _ _ _ _ (spread _ t more _ e f))) in
+      absurd (omega (arith, next, d.no_third none))
+  only_digits t m more (Three _ _ low high f) stop e (inr (inr (n, two, three))) =
+      let both = spread _ t more _ e f in
+      let later = same_tail _ _ _ _ both in
+      let last = same_tail _ _ _ _ later in
+      rw n (
+        f ∙ ap₂ (λ k l. k ∷ l ∷ (48 + m % 10) ∷ []) (sym (same_head _ _ _ _ both) ∙ d.first) (sym (same_head _ _ _ _ later) ∙ d.second two)
+            ∙ ap (λ l. (48 + a) ∷ (48 + b) ∷ l ∷ []) (sym (same_head _ _ _ _ last) ∙ d.third three),
+        sym (same_tail _ _ _ _ last),
+      )
+
+  octet_here : (n : ℕ) → IsOctetText (digits_text a b c count) n → IsFirstPart IsOctetText (x ∷ y ∷ z ∷ tail) n (drop count (x ∷ y ∷ z ∷ tail))
+  octet_here n h = record {
+    front = digits_text a b c count;
+    spelled = split d.counted;
+    part = h;
+    only = λ t m more k stop e.
+        let (same, left) = only_digits t m more (places t m k) stop e d.counted in
+        (sym k.value ∙ ap (digits_value 10) same ∙ h.value, left);
+  }
+
+  none_here : ((n : ℕ) → ¬ (IsOctetText (digits_text a b c count) n)) → NoPartFirst IsOctetText (x ∷ y ∷ z ∷ tail)
+  none_here none t m more k stop e =
+      none m (subst (λ s. IsOctetText s m) (only_digits t m more (places t m k) stop e d.counted).0 k)
+
+pub octet_first : (text : List ℕ) (a b c count n : ℕ) → DigitsFirst text a b c count → IsOctetText (digits_text a b c count) n
+    → IsFirstPart IsOctetText text n (drop count text)
+octet_first [] a b c count n d h = absurd (omega (arith, d.long))
+octet_first (x ∷ []) a b c count n d h = absurd (omega (arith, d.long))
+octet_first (x ∷ y ∷ []) a b c count n d h = absurd (omega (arith, d.long))
+octet_first (x ∷ y ∷ z ∷ tail) a b c count n d h = octet_here x y z tail a b c count d n h
+
+pub no_octet_first : (text : List ℕ) (a b c count : ℕ) → DigitsFirst text a b c count → ((n : ℕ) → ¬ (IsOctetText (digits_text a b c count) n))
+    → NoPartFirst IsOctetText text
+no_octet_first [] a b c count d none = absurd (omega (arith, d.long))
+no_octet_first (x ∷ []) a b c count d none = absurd (omega (arith, d.long))
+no_octet_first (x ∷ y ∷ []) a b c count d none = absurd (omega (arith, d.long))
+no_octet_first (x ∷ y ∷ z ∷ tail) a b c count d none = none_here x y z tail a b c count d none
+
+-- ---- an octet that is the whole text
+pub octet_length : (text : List ℕ) (n : ℕ) → IsOctetText text n → (1 ≤ length text) × (length text ≤ 3)
+octet_length text n h = elim (places text n h) [
+  | One t m small f ↦ (omega (arith, ap length f), omega (arith, ap length f))
+  | Two t m low high f ↦ (omega (arith, ap length f), omega (arith, ap length f))
+  | Three t m low high f ↦ (omega (arith, ap length f), omega (arith, ap length f))
 ]
 
-pub zero_octet : (text rest : List ℕ) (n : ℕ) → text ≡ (48 + n) ∷ rest → n ≡ 0 → IsFirstPart IsOctetText text 0 rest
-zero_octet text rest n s z = record {
-  front = 48 ∷ [];
-  spelled = s ∙ ap (λ k. (48 + k) ∷ rest) z;
-  part = one_octet_text 0 (omega arith);
-  only = λ t m more h stop e. elim (places t m h) [
-    | One t m small f ↦
-        let both = sym s ∙ spread text t more _ e f in
-        let head = same_head _ _ _ _ both in
-        (omega arith, sym (same_tail _ _ _ _ both))
-    | Two t m low high f ↦ let head = same_head _ _ _ _ (sym s ∙ spread text t more _ e f) in absurd (omega arith)
-    | Three t m low high f ↦ let head = same_head _ _ _ _ (sym s ∙ spread text t more _ e f) in absurd (omega arith)
-  ];
-}
+pub no_digit_at : (text : List ℕ) (n i : ℕ) → i < length text → IsNoDigit (get_or text i 0) → ¬ (IsOctetText text n)
+no_digit_at text n i l none h = let there = digit_at text i h.digits.1 l in omega (arith, none)
 
-pub short_octet : (text rest : List ℕ) (n : ℕ) → text ≡ (48 + n) ∷ rest → n < 10 → 0 < n → NoDigitFirst rest → IsFirstPart IsOctetText text n rest
-short_octet text rest n s small pos none = record {
-  front = (48 + n) ∷ [];
-  spelled = s;
-  part = one_octet_text n small;
-  only = λ t m more h stop e. elim (places t m h) [
-    | One t m small f ↦
-        let both = sym s ∙ spread text t more _ e f in
-        let head = same_head _ _ _ _ both in
-        (omega arith, sym (same_tail _ _ _ _ both))
-    | Two t m low high f ↦
-        let next : get_or rest 0 0 ≡ 48 + m % 10 = ap (λ x. get_or x 0 0) (same_tail _ _ _ _ (sym s ∙ spread text t more _ e f)) in absurd (omega (arith, none))
-    | Three t m low high f ↦
-        let next : get_or rest 0 0 ≡ 48 + m / 10 % 10 = ap (λ x. get_or x 0 0) (same_tail _ _ _ _ (sym s ∙ spread text t more _ e f)) in absurd (omega (arith, none))
-  ];
-}
-
--- two digits at the front
-pub middle_octet : (text after rest : List ℕ) (i j : ℕ) → text ≡ (48 + i) ∷ after → i < 10 → i ≢ 0 → after ≡ (48 + j) ∷ rest → j < 10
-    → NoDigitFirst rest → IsFirstPart IsOctetText text (i * 10 + j) rest
-middle_octet text after rest i j s hi pos s' hj none =
-    let whole : text ≡ (48 + i) ∷ (48 + j) ∷ rest = s ∙ ap (λ t. (48 + i) ∷ t) s' in
-    let n : ℕ = i * 10 + j in
-    let q : n / 10 ≡ i = omega arith in
-    let r : n % 10 ≡ j = omega arith in
-    record {
-      front = (48 + i) ∷ (48 + j) ∷ [];
-      spelled = whole;
-      part = rw (q, r) at (two_octet_text n (omega arith) (omega arith));
-      only = λ t m more h stop e. elim (places t m h) [
-        | One t m small f ↦
-            let both = sym whole ∙ spread text t more _ e f in
-            let low = stops more stop in
-            let next : 48 + j ≡ get_or more 0 0 = ap (λ x. get_or x 0 0) (same_tail _ _ _ _ both) in absurd (omega arith)
-        | Two t m low high f ↦
-            let both = sym whole ∙ spread text t more _ e f in
-            let head = same_head _ _ _ _ both in
-            let later = same_tail _ _ _ _ both in
-            let second = same_head _ _ _ _ later in
-            (omega arith, sym (same_tail _ _ _ _ later))
-        | Three t m low high f ↦
-            let both = sym whole ∙ spread text t more _ e f in
-            let third : get_or rest 0 0 ≡ 48 + m % 10 = ap (λ x. get_or x 0 0) (same_tail _ _ _ _ (same_tail _ _ _ _ both)) in absurd (omega (arith, none))
-      ];
-    }
-
-module _ (text after later rest : List ℕ) (i j k : ℕ) (s : text ≡ (48 + i) ∷ after) (hi : i < 10) (pos : i ≢ 0)
-    (s' : after ≡ (48 + j) ∷ later) (hj : j < 10) (s'' : later ≡ (48 + k) ∷ rest) (hk : k < 10) where
-  whole : text ≡ (48 + i) ∷ (48 + j) ∷ (48 + k) ∷ rest
-  whole = s ∙ ap (λ t. (48 + i) ∷ t) (s' ∙ ap (λ t. (48 + j) ∷ t) s'')
-
-  -- a shorter octet would end at a digit
-  three_places : (t : List ℕ) (m : ℕ) (more : List ℕ) → IsOctetText t m → StopsAtDot more → text ≡ t ++ more → (m ≡ (i * 10 + j) * 10 + k) × (more ≡ rest) × (m < 256)
-  three_places t m more h stop e =
-      let low = stops more stop in
-      elim (places t m h) [
-        | One t m small f ↦
-            let both = sym whole ∙ spread text t more _ e f in
-            let next : 48 + j ≡ get_or more 0 0 = ap (λ x. get_or x 0 0) (same_tail _ _ _ _ both) in absurd (omega arith)
-        | Two t m low' high f ↦
-            let both = sym whole ∙ spread text t more _ e f in
-            let next : 48 + k ≡ get_or more 0 0 = ap (λ x. get_or x 0 0) (same_tail _ _ _ _ (same_tail _ _ _ _ both)) in absurd (omega arith)
-        | Three t m low' high f ↦
-            let both = sym whole ∙ spread text t more _ e f in
-            let head = same_head _ _ _ _ both in
-            let two = same_tail _ _ _ _ both in
-            let second = same_head _ _ _ _ two in
-            let three = same_tail _ _ _ _ two in
-            let third = same_head _ _ _ _ three in
-            (omega arith, sym (same_tail _ _ _ _ three), high)
-      ]
-
-  pub long_octet : (i * 10 + j) * 10 + k < 256 → IsFirstPart IsOctetText text ((i * 10 + j) * 10 + k) rest
-  long_octet fits =
-      let n : ℕ = (i * 10 + j) * 10 + k in
-      let q : n / 100 ≡ i = omega arith in
-      let r : n / 10 % 10 ≡ j = omega arith in
-      let u : n % 10 ≡ k = omega arith in
-      record {
-        front = (48 + i) ∷ (48 + j) ∷ (48 + k) ∷ [];
-        spelled = whole;
-        part = rw (q, r, u) at (three_octet_text n (omega arith) fits);
-        only = λ t m more h stop e. let (a, b, _) = three_places t m more h stop e in (a, b);
-      }
-
-  pub large_octet : 256 ≤ (i * 10 + j) * 10 + k → NoPartFirst IsOctetText text
-  large_octet large t m more h stop e = let (a, _, b) = three_places t m more h stop e in omega arith
+-- the digits at the front, in the middle and at the end of a text of one, two or three
+pub whole_digits : (text : List ℕ) (a b c : ℕ) → 1 ≤ length text → length text ≤ 3 → get_or text 0 0 ≡ 48 + a → get_or text (length text / 2) 0 ≡ 48 + b
+    → get_or text (length text - 1) 0 ≡ 48 + c → digits_text a b c (length text) ≡ text
+whole_digits [] a b c some few first middle last = absurd (omega arith)
+whole_digits (x ∷ []) a b c some few first middle last = ap (λ k. k ∷ []) (sym first)
+whole_digits (x ∷ y ∷ []) a b c some few first middle last = ap₂ (λ k l. k ∷ l ∷ []) (sym first) (sym middle)
+whole_digits (x ∷ y ∷ z ∷ []) a b c some few first middle last =
+    ap₂ (λ k l. k ∷ l ∷ (48 + c) ∷ []) (sym first) (sym middle) ∙ ap (λ l. x ∷ y ∷ l ∷ []) (sym last)
+whole_digits (x ∷ y ∷ z ∷ u ∷ text) a b c some few first middle last = absurd (omega arith)
 
 -- ---- four octets
 four_items : (o : List ℕ) → length o ≡ 4 → o ≡ get_or o 0 0 ∷ get_or o 1 0 ∷ get_or o 2 0 ∷ get_or o 3 0 ∷ []

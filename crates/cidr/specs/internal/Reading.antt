@@ -1,5 +1,5 @@
 -- What the parsers of a part of a string promise each other.
-use Rattle.std.specs.Prelude.{◌≡◌, ◌≢◌, ℕ, ◌+◌, ◌*◌, ◌^◌, ◌<◌, ◌≤◌, ◌↔◌, ◌⊎◌, Bool, true, List, [], ◌∷◌, ◌++◌, length, flat_map, Option, Some, None, MatchOption, slice_index, Result, Ok}
+use Rattle.std.specs.Prelude.{◌≡◌, ◌≢◌, ℕ, ◌+◌, ◌*◌, ◌^◌, ◌<◌, ◌≤◌, ◌↔◌, ◌⊎◌, Bool, true, List, [], ◌∷◌, ◌++◌, length, take, flat_map, Option, Some, None, MatchOption, slice_index, Result, Ok}
 use Rattle.std.specs.Borrow.{Bor}
 use Rattle.std.specs.Char.{digit_value}
 use Rattle.std.specs.Net.Reader.{read_separator, read_segments}
@@ -12,13 +12,31 @@ use Rattle.cidr.specs.declared.errors.NetworkParseError.{NetworkParseError}
 abbrev pub TakesByte : ℕ → List ℕ → Option (Bor (List ℕ)) → Type 0
 TakesByte byte text r = MatchOption r ((rest : List ℕ) → text ≢ byte ∷ rest) (λ rest. text ≡ byte ∷ rest.now)
 
--- no decimal digit stands first
-abbrev pub NoDigitFirst : List ℕ → Type 0
-NoDigitFirst text = 48 ≤ slice_index text 0 → 57 < slice_index text 0
+-- this byte is no decimal digit
+abbrev pub IsNoDigit : ℕ → Type 0
+IsNoDigit byte = 48 ≤ byte → 57 < byte
 
--- a decimal digit was read
-abbrev pub TakesDigit : List ℕ → Option (ℕ × Bor (List ℕ)) → Type 0
-TakesDigit text r = MatchOption r (NoDigitFirst text) (λ p. (text ≡ (48 + p.0) ∷ p.1.now) × (p.0 < 10))
+-- how many digits come first, of three bytes that have these values, of which the first is a digit
+abbrev pub IsDigitCount : ℕ → ℕ → ℕ → Type 0
+IsDigitCount second third count =
+    ((count ≡ 1) × (10 ≤ second)) ⊎ (((count ≡ 2) × (second < 10) × (10 ≤ third)) ⊎ ((count ≡ 3) × (second < 10) × (third < 10)))
+
+-- the first one, two or three of these are values of digits
+pub record AreDigits (first second third count : ℕ) : Type 0 where
+  pub some : 1 ≤ count
+  pub few : count ≤ 3
+  pub one : first < 10
+  pub two : 1 < count → second < 10
+  pub three : 2 < count → third < 10
+
+-- the string of the first of these digits
+abbrev pub digits_text : ℕ → ℕ → ℕ → ℕ → List ℕ
+digits_text first second third count = take count ((48 + first) ∷ (48 + second) ∷ (48 + third) ∷ [])
+
+-- the octet that it represents was read
+abbrev pub ReadsOctet : ℕ → ℕ → ℕ → ℕ → Option ℕ → Type 0
+ReadsOctet first second third count r =
+    MatchOption r ((n : ℕ) → ¬ (IsOctetText (digits_text first second third count) n)) (IsOctetText (digits_text first second third count))
 
 -- the string is at its end, or a dot comes next
 abbrev pub StopsAtDot : List ℕ → Type 0

@@ -1,39 +1,67 @@
 //! Parsing the parts of address strings, in one pass over the bytes.
-ghost use Rattle.std.specs.Prelude.{◌≡◌, List, ℕ, Bool, MatchOption};
+ghost use Rattle.std.specs.Prelude.{◌≡◌, ◌+◌, ◌<◌, ◌≤◌, List, ℕ, Bool, MatchOption, length};
 ghost use Rattle.cidr.specs.model.Address.{octet_bits};
 ghost use Rattle.cidr.specs.texts.Ipv4Text.{dot, IsOctetText, IsIpv4Text};
-ghost use Rattle.cidr.specs.internal.Reading.{TakesByte, TakesDigit, TakesPart, TakesFirst};
+ghost use Rattle.cidr.specs.internal.Reading.{IsNoDigit, IsDigitCount, AreDigits, ReadsOctet, TakesByte, TakesPart, TakesFirst};
 
-/// The value of the decimal digit at the front, and what follows it.
-fn take_digit(text: &[u8]) -> Option<(u8, &[u8])>
-    ensures { TakesDigit text.now result }
+/// The value of a decimal digit, and of any other byte a number above 9.
+fn decimal_value(byte: u8) -> u8
+    ensures digit { result < 10 → byte ≡ 48 + result }
+    ensures other { 10 ≤ result → IsNoDigit byte }
 {
-    match text {
-        [digit @ b'0'..=b'9', rest @ ..] => Some((*digit - b'0', rest)),
-        _ => None,
+    byte.wrapping_sub(b'0')
+}
+
+/// How many digits come first, by what `decimal_value` returns of the second and the third byte. The first is a digit.
+fn digit_count(second: u8, third: u8) -> usize
+    ensures { IsDigitCount second third result }
+{
+    if second > 9 {
+        1
+    } else if third > 9 {
+        2
+    } else {
+        3
+    }
+}
+
+/// The octet of the first one, two or three digits. All three numbers are computed and then one is chosen, so that no
+/// branch hangs on how many digits there are, which can't be foreseen.
+fn octet_of(first: u8, second: u8, third: u8, count: usize) -> Option<u8>
+    requires { AreDigits first second third count }
+    ensures { ReadsOctet first second third count result }
+{
+    let one = u32::from(first);
+    let two = one * 10 + u32::from(second);
+    let three = two * 10 + u32::from(third);
+    let value = if count > 2 {
+        three
+    } else if count > 1 {
+        two
+    } else {
+        one
+    };
+    if value > 255 || first == 0 && count > 1 {
+        None
+    } else {
+        Some(value as u8)
     }
 }
 
 /// The octet at the front, of as many digits as can be one, and what follows it.
 fn take_octet(text: &[u8]) -> Option<(u8, &[u8])>
+    requires { 3 ≤ length text.now }
     ensures { TakesPart IsOctetText text.now result }
 {
-    let (first, after_first) = take_digit(text)?;
-    if first == 0 {
-        return Some((0, after_first));
-    }
-    let Some((second, after_second)) = take_digit(after_first) else {
-        return Some((first, after_first));
-    };
-    let two = first * 10 + second;
-    let Some((third, after_third)) = take_digit(after_second) else {
-        return Some((two, after_second));
-    };
-    let three = u16::from(two) * 10 + u16::from(third);
-    if three > 255 {
+    let first = decimal_value(text[0]);
+    let second = decimal_value(text[1]);
+    let third = decimal_value(text[2]);
+    if first > 9 {
         return None;
     }
-    Some((three as u8, after_third))
+    let count = digit_count(second, third);
+    let octet = octet_of(first, second, third, count)?;
+    Some((octet, &text[count..]))
 }
 
 /// What follows this byte at the front.
@@ -50,6 +78,9 @@ pub(crate) fn take_byte(text: &[u8], byte: u8) -> Option<&[u8]>
 fn take_octet_and_dot(text: &[u8]) -> Option<(u8, &[u8])>
     ensures { TakesFirst text.now result }
 {
+    if text.len() < 3 {
+        return None;
+    }
     let (octet, rest) = take_octet(text)?;
     Some((octet, take_byte(rest, b'.')?))
 }
@@ -58,8 +89,17 @@ fn take_octet_and_dot(text: &[u8]) -> Option<(u8, &[u8])>
 fn read_octet(text: &[u8]) -> Option<u8>
     ensures { MatchOption result ((n : ℕ) → ¬ (IsOctetText text.now n)) (IsOctetText text.now) }
 {
-    let (octet, rest) = take_octet(text)?;
-    if rest.is_empty() { Some(octet) } else { None }
+    let count = text.len();
+    if count == 0 || count > 3 {
+        return None;
+    }
+    let first = decimal_value(text[0]);
+    let second = decimal_value(text[count / 2]);
+    let third = decimal_value(text[count - 1]);
+    if first > 9 || second > 9 || third > 9 {
+        return None;
+    }
+    octet_of(first, second, third, count)
 }
 
 /// The four octets of an IPv4 string.
