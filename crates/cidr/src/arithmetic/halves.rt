@@ -240,7 +240,11 @@ impl Halves {
         requires { len ≤ 128 }
         ensures { IsTrue result ↔ (self / 2 ^ (128 - len) ≡ other / 2 ^ (128 - len)) }
     {
-        self.shared_len(other) >= len
+        if len <= 64 {
+            half::shared_len(self.upper, other.upper) >= len
+        } else {
+            self.upper == other.upper && 64 + half::shared_len(self.lower, other.lower) >= len
+        }
     }
 
     /// Bit `i`, the most significant first.
@@ -248,11 +252,8 @@ impl Halves {
         requires { i < 128 }
         ensures { result ≡ (bit_at self (127 - i) == 1) }
     {
-        if i < 64 {
-            half::bit(self.upper, i)
-        } else {
-            half::bit(self.lower, i - 64)
-        }
+        let half = if i < 64 { self.upper } else { self.lower };
+        half::bit(half, i % 64)
     }
 
     /// The number whose bit `i` is `b`, the most significant first.
