@@ -1,4 +1,5 @@
-//! calls ROUNDS: times calls of Rust's standard library and of the crate `cidr` on the values that `cidr_bench` has.
+//! calls ROUNDS [ROW]: times calls of Rust's standard library and of the crate `cidr` on the values that `cidr_bench`
+//! has, or of one row alone.
 //! Prints of each a line with tabs between: the name of the row, and the nanoseconds that one call takes, by the crate
 //! where there is one and by `std::net` alone, `-` where it has no such call. Each is the least of five turns.
 //! Compiled with `--cfg crate_cidr` where the crate is at hand.
@@ -11,7 +12,7 @@ use std::time::Instant;
 
 /// How many values a row has that takes one after the other, how many one that takes pairs, and how often that goes over
 /// them in a round.
-const MANY: usize = 1024;
+const MANY: usize = 16_384;
 const COUNT: usize = 64;
 const PASSES: u32 = 16;
 
@@ -182,6 +183,11 @@ fn time(rounds: u32, calls: usize, mut work: impl FnMut(u32) -> u32) -> f64 {
     least / (f64::from(rounds.max(1)) * calls as f64)
 }
 
+/// The rounds of a row with `MANY` values, which make as many calls as those of one with pairs.
+fn rounds_of_many(rounds: u32) -> u32 {
+    (rounds / 16).max(1)
+}
+
 /// A call with each value in a round.
 fn each<T>(rounds: u32, values: &[T], call: impl Fn(&T) -> u32) -> f64 {
     time(rounds, values.len(), |rounds| {
@@ -209,10 +215,24 @@ fn pairs<T, U>(rounds: u32, ones: &[T], others: &[U], call: impl Fn(&T, &U) -> u
     })
 }
 
-/// Prints the line of a row, by the crate and by the standard library alone.
-fn row(name: &str, by_crate: Option<f64>, by_std: Option<f64>) {
-    let shown = |time: Option<f64>| time.map_or("-".to_string(), |time| format!("{time:.3}"));
-    println!("{name}\t{}\t{}", shown(by_crate), shown(by_std));
+/// Whether the row is to be done.
+fn wants(name: &str) -> bool {
+    std::env::args().nth(2).is_none_or(|row| row == name)
+}
+
+/// Does a row by the standard library alone, and prints its line.
+fn by_std(name: &str, time: impl FnOnce() -> f64) {
+    if wants(name) {
+        println!("{name}\t-\t{:.3}", time());
+    }
+}
+
+/// Does a row by the crate, and prints its line.
+#[cfg(crate_cidr)]
+fn by_crate(name: &str, time: impl FnOnce() -> f64) {
+    if wants(name) {
+        println!("{name}\t{:.3}\t-", time());
+    }
 }
 
 fn main() {
@@ -257,17 +277,18 @@ mod alone {
     }
 
     pub fn all(rounds: u32) {
-        row("read IPv4 address", None, Some(read::<Ipv4Addr>(rounds, &texts(ipv4_sample, false))));
-        row("read IPv6 address", None, Some(read::<Ipv6Addr>(rounds, &texts(ipv6_sample, false))));
+        let rounds = rounds_of_many(rounds);
+        by_std("read IPv4 address", || read::<Ipv4Addr>(rounds, &texts(ipv4_sample, false)));
+        by_std("read IPv6 address", || read::<Ipv6Addr>(rounds, &texts(ipv6_sample, false)));
         let address = |index| match ip_random(index).0 {
             IpAddr::V4(_) => (IpAddr::V4(ipv4_sample(index).0), 0),
             IpAddr::V6(_) => (IpAddr::V6(ipv6_sample(index).0), 0),
         };
-        row("read IpAddr", None, Some(read::<IpAddr>(rounds, &texts(address, false))));
+        by_std("read IpAddr", || read::<IpAddr>(rounds, &texts(address, false)));
         let v4: Vec<Ipv4Addr> = (0..MANY).map(|index| ipv4_sample(index).0).collect();
-        row("print IPv4 address", None, Some(print(rounds, &v4)));
+        by_std("print IPv4 address", || print(rounds, &v4));
         let v6: Vec<Ipv6Addr> = (0..MANY).map(|index| ipv6_sample(index).0).collect();
-        row("print IPv6 address", None, Some(print(rounds, &v6)));
+        by_std("print IPv6 address", || print(rounds, &v6));
     }
 }
 
@@ -348,40 +369,38 @@ mod beside {
         pairs((rounds / 16).max(1), &orders, &many, |order, values| sort(order, values))
     }
 
-    fn by_crate(name: &str, time: f64) {
-        row(name, Some(time), None);
-    }
-
     fn strings(rounds: u32) {
+        let few = rounds;
+        let rounds = rounds_of_many(rounds);
         let networks_v4 = texts(ipv4_random, true);
-        by_crate("read IPv4 network", read::<Ipv4Cidr>(rounds, &networks_v4));
-        by_crate("read IPv6 network", read::<Ipv6Cidr>(rounds, &texts(ipv6_random, true)));
-        by_crate("read IpCidr", read::<IpCidr>(rounds, &texts(ip_random, true)));
-        by_crate("read AnyIpCidr", read::<AnyIpCidr>(rounds, &texts(ip_random, true)));
+        by_crate("read IPv4 network", || read::<Ipv4Cidr>(rounds, &networks_v4));
+        by_crate("read IPv6 network", || read::<Ipv6Cidr>(rounds, &texts(ipv6_random, true)));
+        by_crate("read IpCidr", || read::<IpCidr>(rounds, &texts(ip_random, true)));
+        by_crate("read AnyIpCidr", || read::<AnyIpCidr>(rounds, &texts(ip_random, true)));
         let hosts_v4 = texts(ipv4_sample, true);
-        by_crate("read IPv4 host", read::<Ipv4Inet>(rounds, &hosts_v4));
-        by_crate("read IPv6 host", read::<Ipv6Inet>(rounds, &texts(ipv6_sample, true)));
+        by_crate("read IPv4 host", || read::<Ipv4Inet>(rounds, &hosts_v4));
+        by_crate("read IPv6 host", || read::<Ipv6Inet>(rounds, &texts(ipv6_sample, true)));
         let cleared = |text: &String| {
             parse_cidr_ignore_hostbits::<Ipv4Cidr, _>(text, |address| address.parse::<Ipv4Addr>()).ok().number()
         };
-        by_crate("read IPv4 network, host bits cleared", each(rounds, &hosts_v4, cleared));
+        by_crate("read IPv4 network, host bits cleared", || each(rounds, &hosts_v4, cleared));
         let loose = [
             "127.1", "10.0.0.1", "0x7f000001", "3221225985", "192.0.513", "0300.0.2.1", "0xc0.0.0x201", "198.51.100.255",
         ];
-        by_crate("read loose IPv4 address", each(rounds, &loose, |text| inet_addr(text).number()));
+        by_crate("read loose IPv4 address", || each(few, &loose, |text| inet_addr(text).number()));
         let short = ["10", "10/8", "192.168", "172.16/12", "192.0.2", "198.51.100/25", "203.0.113.7", "100.64/10"];
-        by_crate("read short IPv4 network", each(rounds, &short, |text| parse_short_ipv4_cidr(text).ok().number()));
+        by_crate("read short IPv4 network", || each(few, &short, |text| parse_short_ipv4_cidr(text).ok().number()));
 
         let v4s: Vec<Ipv4Cidr> = (0..MANY).map(|index| v4(ipv4_random(index))).collect();
-        by_crate("print IPv4 network", print(rounds, &v4s));
+        by_crate("print IPv4 network", || print(rounds, &v4s));
         let v6s: Vec<Ipv6Cidr> = (0..MANY).map(|index| v6(ipv6_random(index))).collect();
-        by_crate("print IPv6 network", print(rounds, &v6s));
+        by_crate("print IPv6 network", || print(rounds, &v6s));
         let both = |index| match ip_random(index) {
             (IpAddr::V4(address), len) => IpCidr::V4(v4((address, len))),
             (IpAddr::V6(address), len) => IpCidr::V6(v6((address, len))),
         };
         let ips: Vec<IpCidr> = (0..MANY).map(both).collect();
-        by_crate("print IpCidr", print(rounds, &ips));
+        by_crate("print IpCidr", || print(rounds, &ips));
     }
 
     fn networks(rounds: u32) {
@@ -392,15 +411,15 @@ mod beside {
         let addresses_v6: Vec<Ipv6Addr> = (0..COUNT).map(ipv6_address).collect();
         let either = |index| if is_ipv4(index) { ipv4_address(index).into() } else { ipv6_address(index).into() };
         let addresses: Vec<IpAddr> = (0..COUNT).map(either).collect();
-        by_crate("contains IPv4", pairs(rounds, &v4s, &addresses_v4, |one, other| u32::from(one.contains(other))));
-        by_crate("contains IPv6", pairs(rounds, &v6s, &addresses_v6, |one, other| u32::from(one.contains(other))));
-        by_crate("contains AnyIpCidr", pairs(rounds, &anys, &addresses, |one, other| u32::from(one.contains(other))));
-        by_crate("cmp IPv4", pairs(rounds, &v4s, &v4s, |one, other| u32::from(one.cmp(other).is_lt())));
-        by_crate("cmp IPv6", pairs(rounds, &v6s, &v6s, |one, other| u32::from(one.cmp(other).is_lt())));
-        by_crate("cmp AnyIpCidr", pairs(rounds, &anys, &anys, |one, other| u32::from(one.cmp(other).is_lt())));
-        by_crate("sort 64 IPv4", sorts(rounds, &v4s));
-        by_crate("sort 64 IPv6", sorts(rounds, &v6s));
-        by_crate("sort 64 AnyIpCidr", sorts(rounds, &anys));
+        by_crate("contains IPv4", || pairs(rounds, &v4s, &addresses_v4, |one, other| u32::from(one.contains(other))));
+        by_crate("contains IPv6", || pairs(rounds, &v6s, &addresses_v6, |one, other| u32::from(one.contains(other))));
+        by_crate("contains AnyIpCidr", || pairs(rounds, &anys, &addresses, |one, other| u32::from(one.contains(other))));
+        by_crate("cmp IPv4", || pairs(rounds, &v4s, &v4s, |one, other| u32::from(one.cmp(other).is_lt())));
+        by_crate("cmp IPv6", || pairs(rounds, &v6s, &v6s, |one, other| u32::from(one.cmp(other).is_lt())));
+        by_crate("cmp AnyIpCidr", || pairs(rounds, &anys, &anys, |one, other| u32::from(one.cmp(other).is_lt())));
+        by_crate("sort 64 IPv4", || sorts(rounds, &v4s));
+        by_crate("sort 64 IPv6", || sorts(rounds, &v6s));
+        by_crate("sort 64 AnyIpCidr", || sorts(rounds, &anys));
     }
 
     fn steps(rounds: u32) {
@@ -413,19 +432,19 @@ mod beside {
         let steps: Vec<u128> = (0..COUNT).map(|index| u128::from(random(index) >> (index % 64))).collect();
         let moved_v4 = |(host, wraps): (Ipv4Inet, bool)| host.address().number() ^ u32::from(wraps);
         let moved_v6 = |(host, wraps): (Ipv6Inet, bool)| host.address().number() ^ u32::from(wraps);
-        by_crate("step up IPv4", pairs(rounds, &v4s, &steps, |host, step| moved_v4(host.overflowing_add(*step))));
-        by_crate("step down IPv4", pairs(rounds, &v4s, &steps, |host, step| moved_v4(host.overflowing_sub(*step))));
-        by_crate("step up IPv6", pairs(rounds, &v6s, &steps, |host, step| moved_v6(host.overflowing_add(*step))));
-        by_crate("step down IPv6", pairs(rounds, &v6s, &steps, |host, step| moved_v6(host.overflowing_sub(*step))));
+        by_crate("step up IPv4", || pairs(rounds, &v4s, &steps, |host, step| moved_v4(host.overflowing_add(*step))));
+        by_crate("step down IPv4", || pairs(rounds, &v4s, &steps, |host, step| moved_v4(host.overflowing_sub(*step))));
+        by_crate("step up IPv6", || pairs(rounds, &v6s, &steps, |host, step| moved_v6(host.overflowing_add(*step))));
+        by_crate("step down IPv6", || pairs(rounds, &v6s, &steps, |host, step| moved_v6(host.overflowing_sub(*step))));
         let walk_v4 = v4((Ipv4Addr::new(192, 0, 2, 0), 24));
         let walk_v6 = v6((Ipv6Addr::from(0x2001_0db8u128 << 96), 120));
         let sum_v4 = |sum, network: &Ipv4Cidr| network.iter().addresses().fold(sum, |sum, it| mixed(sum, it.number()));
         let sum_v6 = |sum, network: &Ipv6Cidr| network.iter().addresses().fold(sum, |sum, it| mixed(sum, it.number()));
         let sum_ip = |sum, network: &IpCidr| network.iter().addresses().fold(sum, |sum, it| mixed(sum, it.number()));
-        by_crate("walk IPv4", time(rounds, 256, |rounds| (0..rounds).fold(0, |sum, _| sum_v4(sum, black_box(&walk_v4)))));
-        by_crate("walk IPv6", time(rounds, 256, |rounds| (0..rounds).fold(0, |sum, _| sum_v6(sum, black_box(&walk_v6)))));
+        by_crate("walk IPv4", || time(rounds, 256, |rounds| (0..rounds).fold(0, |sum, _| sum_v4(sum, black_box(&walk_v4)))));
+        by_crate("walk IPv6", || time(rounds, 256, |rounds| (0..rounds).fold(0, |sum, _| sum_v6(sum, black_box(&walk_v6)))));
         let both = [IpCidr::V4(walk_v4), IpCidr::V6(walk_v6)];
-        by_crate("walk IpCidr", time(rounds, 512, |rounds| (0..rounds).fold(0, |sum, _| black_box(&both).iter().fold(sum, sum_ip))));
+        by_crate("walk IpCidr", || time(rounds, 512, |rounds| (0..rounds).fold(0, |sum, _| black_box(&both).iter().fold(sum, sum_ip))));
     }
 
     pub fn all(rounds: u32) {

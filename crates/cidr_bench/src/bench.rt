@@ -75,14 +75,23 @@ impl<C: Call2<T, U>, T, U> Work for Pairs<'_, C, T, U> {
     }
 }
 
+/// Which rows are done.
+#[derive(Clone, Copy)]
+pub enum Rows<'a> {
+    /// Those whose names contain this.
+    Like(&'a str),
+    /// The one of this name, by the library and not in the plain way.
+    OfLibrary(&'a str),
+}
+
 /// What the program is asked to do.
 #[derive(Drop)]
 pub struct Bench<'a> {
     pub rt: &'a HostRuntime,
     /// How many rounds a turn has.
     pub rounds: u32,
-    /// What the names of the rows to be done contain.
-    pub row: &'a str,
+    /// Which rows are to be done.
+    pub rows: Rows<'a>,
     /// Whether only rows whose results differ are printed.
     pub quiet: bool,
 }
@@ -93,14 +102,17 @@ impl Bench<'_> {
         Bench {
             rt: self.rt,
             rounds: (self.rounds / times.max(1)).max(1),
-            row: self.row,
+            rows: self.rows,
             quiet: self.quiet,
         }
     }
 
     /// Whether the row with this name is to be done.
     pub fn wants(&self, name: &str) -> bool {
-        name.contains(self.row)
+        match self.rows {
+            Rows::Like(part) => name.contains(part),
+            Rows::OfLibrary(row) => name == row,
+        }
     }
 
     /// Does the work by the library and in a plain way by turns, and prints its line.
@@ -110,6 +122,9 @@ impl Bench<'_> {
         mut library: L,
         mut plain: P,
     ) -> io::Result<()> {
+        if let Rows::OfLibrary(_) = self.rows {
+            return self.alone(name, library);
+        }
         if !self.wants(name) {
             return Ok(());
         }

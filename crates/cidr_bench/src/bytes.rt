@@ -3,11 +3,10 @@
 use crate::bench::{Bench, Call, Each};
 use crate::masked::{ipv4_mask, ipv6_mask};
 use crate::numbers::{Number, bytes_number, folded, with_length};
-use crate::samples::{Sample, samples};
-use crate::values::MANY;
+use crate::samples::{Sample, made, samples};
 use arrayvec::ArrayVec;
 use cidr::{IpCidr, Ipv4Cidr, Ipv6Cidr, PrefixBytes};
-use std::array::from_fn;
+use std::alloc::{AllocError, Global};
 use std::io;
 use std::marker::PhantomData;
 
@@ -228,45 +227,44 @@ fn padded<W: Written + Drop>(index: usize) -> Bytes {
 }
 
 /// The bytes of random networks of type `W`.
-fn inputs<W: Written + Drop>() -> [Bytes; MANY] {
-    from_fn(|index| padded::<W>(index))
+fn inputs<W: Written + Drop>(alloc: Global) -> Result<Vec<Bytes>, AllocError> {
+    made(alloc, |index| padded::<W>(index))
 }
 
 /// Times compact bytes and prefix bytes.
 pub fn compare_all(bench: &Bench<'_>) -> io::Result<()> {
-    let (either, v4, v6) = (
-        inputs::<IpCidr>(),
-        inputs::<Ipv4Cidr>(),
-        inputs::<Ipv6Cidr>(),
-    );
+    let alloc = bench.rt.alloc();
+    let either = inputs::<IpCidr>(alloc)?;
+    let v4 = inputs::<Ipv4Cidr>(alloc)?;
+    let v6 = inputs::<Ipv6Cidr>(alloc)?;
     bench.compare(
         "write compact bytes",
-        Each(WriteCompact, &samples::<IpCidr>()),
-        Each(WriteCompact, &samples::<Plain>()),
+        Each(WriteCompact, samples::<IpCidr>(alloc)?.as_slice()),
+        Each(WriteCompact, samples::<Plain>(alloc)?.as_slice()),
     )?;
     bench.compare(
         "read compact bytes",
-        Each(ReadCompact, &either),
-        Each(PlainReadCompact, &either),
+        Each(ReadCompact, either.as_slice()),
+        Each(PlainReadCompact, either.as_slice()),
     )?;
     bench.compare(
         "write prefix bytes IPv4",
-        Each(WritePrefix, &samples::<Ipv4Cidr>()),
-        Each(PlainWritePrefix, &samples::<(u32, u8)>()),
+        Each(WritePrefix, samples::<Ipv4Cidr>(alloc)?.as_slice()),
+        Each(PlainWritePrefix, samples::<(u32, u8)>(alloc)?.as_slice()),
     )?;
     bench.compare(
         "write prefix bytes IPv6",
-        Each(WritePrefix, &samples::<Ipv6Cidr>()),
-        Each(PlainWritePrefix, &samples::<(u128, u8)>()),
+        Each(WritePrefix, samples::<Ipv6Cidr>(alloc)?.as_slice()),
+        Each(PlainWritePrefix, samples::<(u128, u8)>(alloc)?.as_slice()),
     )?;
     bench.compare(
         "read prefix bytes IPv4",
-        Each(ReadPrefix::<Ipv4Cidr>(PhantomData), &v4),
-        Each(PlainReadPrefix4, &v4),
+        Each(ReadPrefix::<Ipv4Cidr>(PhantomData), v4.as_slice()),
+        Each(PlainReadPrefix4, v4.as_slice()),
     )?;
     bench.compare(
         "read prefix bytes IPv6",
-        Each(ReadPrefix::<Ipv6Cidr>(PhantomData), &v6),
-        Each(PlainReadPrefix6, &v6),
+        Each(ReadPrefix::<Ipv6Cidr>(PhantomData), v6.as_slice()),
+        Each(PlainReadPrefix6, v6.as_slice()),
     )
 }

@@ -1,7 +1,7 @@
 //! Times calls of the library beside plain ways to do the same work, in one run.
 //!
 //! The first argument is the number of rounds of a turn, and a second one, if given, is a part of the names of the rows
-//! to be done. Each line has the row's name, the nanoseconds that one call takes here and in the plain way, each the
+//! to be done; with a third one it is the name of one row, of no table and no set, which the library does alone. Each line has the row's name, the nanoseconds that one call takes here and in the plain way, each the
 //! least of five turns, and the first as a fraction of the second, with a tab between each two; where there is no plain
 //! way, `-` stands for it. Without an argument nothing is timed: each row but those of large tables is done, and
 //! printed where the library and the plain way have different results.
@@ -31,7 +31,7 @@ mod tables;
 mod values;
 mod walking;
 
-use bench::Bench;
+use bench::{Bench, Rows};
 use std::{env, io};
 
 fn main(rt: HostRuntime) -> io::Result<()> {
@@ -41,26 +41,34 @@ fn main(rt: HostRuntime) -> io::Result<()> {
         .and_then(|word| word.as_str().parse::<u32>().ok())
         .unwrap_or(0);
     let row = words.next();
+    let row = row.as_ref().map_or("", |word| word.as_str());
     let bench = Bench {
         rt: &rt,
         rounds: rounds.max(1),
-        row: row.as_ref().map_or("", |word| word.as_str()),
+        rows: if words.next().is_some() {
+            Rows::OfLibrary(row)
+        } else {
+            Rows::Like(row)
+        },
         quiet: rounds == 0,
     };
     if !bench.quiet {
         println!(rt; "row\tns\tplain ns\tratio")?;
     }
-    reading::compare_all(&bench)?;
+    reading::compare_all(&bench.slower(16))?;
     loose::compare_all(&bench)?;
     long::time_all(&bench)?;
-    printing::compare_all(&bench)?;
-    bytes::compare_all(&bench)?;
+    printing::compare_all(&bench.slower(16))?;
+    bytes::compare_all(&bench.slower(16))?;
     idle::compare_all(&bench)?;
     containing::compare_all(&bench)?;
     ordering::compare_all(&bench)?;
     bits::compare_all(&bench)?;
     stepping::compare_all(&bench)?;
     walking::compare_all(&bench)?;
+    if let Rows::OfLibrary(_) = bench.rows {
+        return Ok(());
+    }
     tables::compare_all(&bench.slower(500))?;
     loading::compare_all(&bench.slower(1_000))?;
     covering::compare_all(&bench.slower(100))?;

@@ -131,29 +131,39 @@ impl Sample for net::Ipv6Addr {
 
 /// Times printing.
 pub fn compare_all(bench: &Bench<'_>) -> io::Result<()> {
+    let alloc = bench.rt.alloc();
     bench.compare(
         "print IPv4 address",
-        Each(Print, &samples::<Ipv4Addr>()),
-        Each(Format, &samples::<net::Ipv4Addr>()),
+        Each(Print, samples::<Ipv4Addr>(alloc)?.as_slice()),
+        Each(Format, samples::<net::Ipv4Addr>(alloc)?.as_slice()),
     )?;
     bench.compare(
         "print IPv6 address",
-        Each(Print, &samples::<Ipv6Addr>()),
-        Each(Format, &samples::<net::Ipv6Addr>()),
+        Each(Print, samples::<Ipv6Addr>(alloc)?.as_slice()),
+        Each(Format, samples::<net::Ipv6Addr>(alloc)?.as_slice()),
     )?;
     bench.compare(
         "print IPv4 network",
-        Each(Print, &samples::<Ipv4Cidr>()),
-        Each(FormatNetwork, &samples::<Plain<net::Ipv4Addr>>()),
+        Each(Print, samples::<Ipv4Cidr>(alloc)?.as_slice()),
+        Each(
+            FormatNetwork,
+            samples::<Plain<net::Ipv4Addr>>(alloc)?.as_slice(),
+        ),
     )?;
     bench.compare(
         "print IPv6 network",
-        Each(Print, &samples::<Ipv6Cidr>()),
-        Each(FormatNetwork, &samples::<Plain<net::Ipv6Addr>>()),
+        Each(Print, samples::<Ipv6Cidr>(alloc)?.as_slice()),
+        Each(
+            FormatNetwork,
+            samples::<Plain<net::Ipv6Addr>>(alloc)?.as_slice(),
+        ),
     )?;
     bench.compare(
         "print IpCidr",
-        Each(Print, &samples::<IpCidr>()),
-        Each(FormatNetwork, &samples::<Plain<net::IpAddr>>()),
+        Each(Print, samples::<IpCidr>(alloc)?.as_slice()),
+        Each(
+            FormatNetwork,
+            samples::<Plain<net::IpAddr>>(alloc)?.as_slice(),
+        ),
     )
 }

@@ -3,12 +3,11 @@
 use crate::bench::{Bench, Call, Each};
 use crate::masked::{ipv4_mask, ipv6_mask};
 use crate::numbers::{Number, with_length};
-use crate::samples::Sample;
-use crate::values::MANY;
+use crate::samples::{Sample, made};
 use arrayvec::ArrayString;
 use cidr::parsers::parse_cidr_ignore_hostbits;
 use cidr::{AnyIpCidr, IpAddr, IpCidr, Ipv4Addr, Ipv4Cidr, Ipv4Inet, Ipv6Addr, Ipv6Cidr, Ipv6Inet};
-use std::array::from_fn;
+use std::alloc::{AllocError, Global};
 use std::marker::PhantomData;
 use std::str::FromStr;
 use std::{io, net};
@@ -159,8 +158,8 @@ fn wide(text: &ArrayString<39>) -> Text {
 }
 
 /// The texts of random values of type `W`.
-fn texts<W: Written + Drop>() -> [Text; MANY] {
-    from_fn(|index| W::sample(index).text())
+fn texts<W: Written + Drop>(alloc: Global) -> Result<Vec<Text>, AllocError> {
+    made(alloc, |index| W::sample(index).text())
 }
 
 /// Times reading of texts of type `W` as values of type `T`, beside the same of type `P`.
@@ -169,11 +168,11 @@ where
     T: FromStr<Err: Drop> + Number + Drop,
     P: FromStr<Err: Drop> + Number + Drop,
 {
-    let texts = texts::<W>();
+    let texts = texts::<W>(bench.rt.alloc())?;
     bench.compare(
         name,
-        Each(Read::<T>(PhantomData), &texts),
-        Each(Read::<P>(PhantomData), &texts),
+        Each(Read::<T>(PhantomData), texts.as_slice()),
+        Each(Read::<P>(PhantomData), texts.as_slice()),
     )
 }
 
@@ -186,11 +185,11 @@ fn compare_parts<W: Written + Drop, T, A: PlainAddress>(
 where
     T: FromStr<Err: Drop> + Number + Drop,
 {
-    let texts = texts::<W>();
+    let texts = texts::<W>(bench.rt.alloc())?;
     bench.compare(
         name,
-        Each(Read::<T>(PhantomData), &texts),
-        Each(PlainRead::<A>(PhantomData, host_bits), &texts),
+        Each(Read::<T>(PhantomData), texts.as_slice()),
+        Each(PlainRead::<A>(PhantomData, host_bits), texts.as_slice()),
     )
 }
 
@@ -206,13 +205,13 @@ pub fn compare_all(bench: &Bench<'_>) -> io::Result<()> {
     compare_parts::<IpCidr, AnyIpCidr, net::IpAddr>(bench, "read AnyIpCidr", refused)?;
     compare_parts::<Ipv4Inet, Ipv4Inet, net::Ipv4Addr>(bench, "read IPv4 host", kept)?;
     compare_parts::<Ipv6Inet, Ipv6Inet, net::Ipv6Addr>(bench, "read IPv6 host", kept)?;
-    let texts = texts::<Ipv4Inet>();
+    let texts = texts::<Ipv4Inet>(bench.rt.alloc())?;
     bench.compare(
         "read IPv4 network, host bits cleared",
-        Each(ClearHostBits, &texts),
+        Each(ClearHostBits, texts.as_slice()),
         Each(
             PlainRead::<net::Ipv4Addr>(PhantomData, HostBits::Cleared),
-            &texts,
+            texts.as_slice(),
         ),
     )
 }

@@ -2,7 +2,7 @@
 
 use crate::values::{MANY, random, random_ipv4, random_ipv4_len, random_ipv6, random_ipv6_len};
 use cidr::{IpAddr, IpCidr, Ipv4Addr, Ipv4Cidr, Ipv4Inet, Ipv6Addr, Ipv6Cidr, Ipv6Inet};
-use std::array::from_fn;
+use std::alloc::{AllocError, Global};
 
 /// A value of which there are random ones.
 pub trait Sample {
@@ -11,8 +11,19 @@ pub trait Sample {
 }
 
 /// As many random values as a row has.
-pub fn samples<T: Sample>() -> [T; MANY] {
-    from_fn(|index| T::sample(index))
+pub fn samples<T: Sample + Drop>(alloc: Global) -> Result<Vec<T>, AllocError> {
+    made(alloc, |index| T::sample(index))
+}
+
+/// As many values as a row has, each made of its index.
+pub fn made<T: Drop, F: Fn(usize) -> T>(alloc: Global, value: F) -> Result<Vec<T>, AllocError>
+    requires { F.IsAlwaysCallable value }
+{
+    let mut values = Vec::with_capacity(alloc, MANY)?;
+    for index in 0..MANY {
+        values.push(value(index))?;
+    }
+    Ok(values)
 }
 
 impl Sample for Ipv4Inet {

@@ -60,8 +60,8 @@ pub fn mixed(sum: u32, next: u32) -> u32 {
     sum.wrapping_mul(5) ^ next
 }
 
-/// How many different values a row has that takes them one after the other.
-pub const MANY: usize = 1024;
+/// How many different values a row has that takes them one after the other: more than a processor can learn to foresee.
+pub const MANY: usize = 16_384;
 
 /// How long the prefixes of an IPv4 routing table are: more than half have 24 bits, nearly all others 16 to 23.
 const IPV4_LENGTHS: [u8; 32] = [
