@@ -165,30 +165,25 @@ shared-lower u v l m s e low lower shared k fits =
       )
     ]
 
--- the first bits, of which there are no more than the upper halves have
-pub shared-short : (u v l m s k : ℕ) → k ≤ 64 → l < 2 ^ 64 → m < 2 ^ 64 → ((k : ℕ) → k ≤ 64 → (k ≤ s) ↔ (u / 2 ^ (64 - k) ≡ v / 2 ^ (64 - k)))
-    → (k ≤ s) ↔ (joined u l / 2 ^ (128 - k) ≡ joined v m / 2 ^ (128 - k))
-shared-short u v l m s k within low lower shared =
-    let same = same-halves k u l v m (omega arith) low lower in
-    let part = shared k within in (
-      λ few. same.1 (part.0 few, div-whole 64 k l within low ∙ sym (div-whole 64 k m within lower)),
-      λ equal. part.1 (same.0 equal).0,
-    )
-
--- more first bits than these are the same only if the upper halves are
-pub same-upper : (u v l m k : ℕ) → 64 < k → k ≤ 128 → l < 2 ^ 64 → m < 2 ^ 64 → joined u l / 2 ^ (128 - k) ≡ joined v m / 2 ^ (128 - k) → u ≡ v
-same-upper u v l m k longer fits low lower equal =
-    let none : 64 - k ≡ 0 = omega arith in
-    let whole : u / 2 ^ 0 ≡ v / 2 ^ 0 = rw none at ((same-halves k u l v m fits low lower).0 equal).0 in
-    omega arith
-
--- s is how many first bits of the upper halves are the same, which differ
+-- or of the upper halves, which are not the same
 pub shared-upper : (u v l m s : ℕ) → u ≢ v → l < 2 ^ 64 → m < 2 ^ 64 → s ≤ 64 → ((k : ℕ) → k ≤ 64 → (k ≤ s) ↔ (u / 2 ^ (64 - k) ≡ v / 2 ^ (64 - k)))
     → (k : ℕ) → k ≤ 128 → (k ≤ s) ↔ (joined u l / 2 ^ (128 - k) ≡ joined v m / 2 ^ (128 - k))
-shared-upper u v l m s other low lower most shared k fits = elim (cases_lt 64 k) [
-  | inl longer ↦ (λ few. absurd (omega arith), λ equal. absurd (other (same-upper u v l m k longer fits low lower equal)))
-  | inr within ↦ shared-short u v l m s k within low lower shared
-]
+shared-upper u v l m s other low lower most shared k fits =
+    let same = same-halves k u l v m fits low lower in
+    elim (cases_lt 64 k) [
+      | inl longer ↦
+          let none : 64 - k ≡ 0 = omega arith in (
+            λ few. absurd (omega arith),
+            λ equal.
+                let whole : u / 2 ^ 0 ≡ v / 2 ^ 0 = rw none at (same.0 equal).0 in
+                absurd (other (omega arith)),
+          )
+      | inr within ↦
+          let part = shared k within in (
+            λ few. same.1 (part.0 few, div-whole 64 k l within low ∙ sym (div-whole 64 k m within lower)),
+            λ equal. part.1 (same.0 equal).0,
+          )
+    ]
 
 -- ---- single bits by halves
 bit-low : (h k n : ℕ) → k < h → bit_at (n % 2 ^ h) k ≡ bit_at n k

@@ -240,11 +240,7 @@ impl Halves {
         requires { len ≤ 128 }
         ensures { IsTrue result ↔ (self / 2 ^ (128 - len) ≡ other / 2 ^ (128 - len)) }
     {
-        if len <= 64 {
-            half::shared_len(self.upper, other.upper) >= len
-        } else {
-            self.upper == other.upper && 64 + half::shared_len(self.lower, other.lower) >= len
-        }
+        self.shared_len(other) >= len
     }
 
     /// Bit `i`, the most significant first.
