@@ -1,10 +1,11 @@
 //! Times calls of the library beside plain ways to do the same work, in one run.
 //!
 //! The first argument is the number of rounds of a turn, and a second one, if given, is a part of the names of the rows
-//! to be done; with a third one it is the name of one row, of no table and no set, which the library does alone. Each line has the row's name, the nanoseconds that one call takes here and in the plain way, each the
-//! least of five turns, and the first as a fraction of the second, with a tab between each two; where there is no plain
-//! way, `-` stands for it. Without an argument nothing is timed: each row but those of large tables is done, and
-//! printed where the library and the plain way have different results.
+//! to be done; with a third one it is the name of one row, of no table and no set, which the library does alone. Each
+//! line has the row's name, the nanoseconds that one call takes here and in the plain way, each the least of five
+//! turns, and the first as a fraction of the second, with a tab between each two; where there is no plain way, `-`
+//! stands for it. Without an argument nothing is timed: each row but those of large tables is done, and printed where
+//! the library and the plain way have different results.
 #![tactic(auto)]
 
 mod bench;

@@ -23,6 +23,9 @@ returns-then-first-gt9 c n h = elim c.then-first-gt9.branch [
 
 pub returns : goal.returns
 returns c =
+    let first = c.decimal_value-first.ensures.digit (omega arith) in
+    let second = c.decimal_value-second.ensures.digit (omega arith) in
+    let third = c.decimal_value-third.ensures.digit (omega arith) in
     subst (λ t. MatchOption c.octet_of.result ((n : ℕ) → ¬ (IsOctetText t n)) (IsOctetText t))
-    (whole_digits _ _ _ _ (omega arith) (omega arith) (c.decimal_value-first.ensures.digit (omega arith)) (c.decimal_value-second.ensures.digit (omega arith)) (c.decimal_value-third.ensures.digit (omega arith)))
+    (whole_digits _ _ _ _ (omega arith) (omega arith) first second third)
     c.octet_of.ensures
