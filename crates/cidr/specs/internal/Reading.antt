@@ -6,11 +6,17 @@ use Rattle.std.specs.Net.Reader.{read_separator, read_segments}
 use Rattle.cidr.specs.model.Bits.{bits}
 use Rattle.cidr.specs.texts.Ipv4Text.{dot, IsOctetText, IsJoined}
 use Rattle.cidr.specs.texts.Ipv6Text.{IsGroupText}
+use Rattle.cidr.specs.texts.NetworkText.{slash}
 use Rattle.cidr.specs.declared.errors.NetworkParseError.{NetworkParseError}
 
 -- this byte was read
 abbrev pub TakesByte : ℕ → List ℕ → Option (Bor (List ℕ)) → Type 0
 TakesByte byte text r = MatchOption r ((rest : List ℕ) → text ≢ byte ∷ rest) (λ rest. text ≡ byte ∷ rest.now)
+
+-- a slash stands here, and none after it
+abbrev pub IsLastSlash : List ℕ → ℕ → Type 0
+IsLastSlash text i =
+    (i < length text) × (slice_index text i ≡ slash) × ((k : ℕ) → i < k → k < length text → slice_index text k ≢ slash)
 
 -- this byte is no decimal digit
 abbrev pub IsNoDigit : ℕ → Type 0

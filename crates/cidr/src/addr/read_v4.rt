@@ -5,7 +5,7 @@ ghost use Rattle.cidr.specs.texts.Ipv4Text.{dot, IsOctetText, IsIpv4Text};
 ghost use Rattle.cidr.specs.internal.Reading.{IsNoDigit, IsDigitCount, AreDigits, ReadsOctet, TakesByte, TakesPart, TakesFirst};
 
 /// The value of a decimal digit, and of any other byte a number above 9.
-fn decimal_value(byte: u8) -> u8
+pub(crate) fn decimal_value(byte: u8) -> u8
     ensures digit { result < 10 → byte ≡ 48 + result }
     ensures other { 10 ≤ result → IsNoDigit byte }
 {

@@ -1,5 +1,5 @@
 //! Parsing the parts of a network's string.
-ghost use Rattle.std.specs.Prelude.{◌≡◌, ◌<◌, ℕ, MatchOption};
+ghost use Rattle.std.specs.Prelude.{◌≡◌, ◌<◌, ◌∷◌, [], ℕ, MatchOption};
 ghost use Rattle.std.specs.Fn.{FnOnceReturnsAt};
 ghost use Rattle.cidr.specs.either.IpAddress.{IsIpText};
 ghost use Rattle.cidr.specs.model.Views.{seen};
@@ -8,25 +8,50 @@ ghost use Rattle.cidr.specs.texts.Messages.{ip_error};
 ghost use Rattle.cidr.specs.texts.NetworkText.{slash, IsByteText, IsLengthText};
 ghost use Rattle.cidr.specs.texts.Refusal.{Lacks, CutsAtLastSlash};
 ghost use Rattle.cidr.specs.texts.Parsing.{ReadsSlashed, ReadsCut};
-ghost use Rattle.cidr.specs.internal.Reading.{AreParts};
+ghost use Rattle.cidr.specs.internal.Reading.{AreParts, IsLastSlash};
 
 use crate::addr::error::AddrParseError;
 use crate::addr::ip::IpAddr;
-use crate::addr::read_v4::take_byte;
+use crate::addr::read_v4::{decimal_value, take_byte};
 use crate::errors::{NetworkParseError, ParseIntError};
 use crate::internal_traits::address_bits::AddressText;
 
-/// What precedes the last slash, and the bytes after it, if there is one.
+/// The index of the last slash, if there is one.
+#[inline(never)]
+fn last_slash(bytes: &[u8]) -> Option<usize>
+    ensures { MatchOption result (Lacks slash bytes.now) (IsLastSlash bytes.now) }
+{
+    for i in (0..bytes.len()).rev() {
+        if bytes[i] == b'/' {
+            return Some(i);
+        }
+    }
+    None
+}
+
+/// What precedes the last slash, and the bytes after it, if there is one. Most prefix lengths have two digits, so that
+/// it is looked for before two bytes first.
 pub(crate) fn cut_at_last_slash(s: &str) -> Option<(&str, &[u8])>
     ensures { MatchOption result (Lacks slash s.now) (λ x. CutsAtLastSlash s.now x.0.now x.1.now) }
 {
     let bytes = s.as_bytes();
-    for i in (0..bytes.len()).rev() {
-        if bytes[i] == b'/' {
-            return Some((&s[..i], &bytes[i + 1..]));
-        }
+    let i = match bytes {
+        [front @ .., b'/', tens, ones] if *tens != b'/' && *ones != b'/' => front.len(),
+        _ => last_slash(bytes)?,
+    };
+    Some((&s[..i], &bytes[i + 1..]))
+}
+
+/// The number that two decimal digits write.
+fn read_two_digits(tens: u8, ones: u8) -> Option<u8>
+    ensures { let digits = tens ∷ ones ∷ [] in
+        MatchOption result ((n : ℕ) → ¬ (IsByteText digits n)) (IsByteText digits) }
+{
+    let (tens, ones) = (decimal_value(tens), decimal_value(ones));
+    if tens > 9 || ones > 9 {
+        return None;
     }
-    None
+    Some(tens * 10 + ones)
 }
 
 /// The number below 256 that the digits write.
@@ -35,6 +60,9 @@ fn read_digits(digits: &[u8]) -> Option<u8>
 {
     if digits.is_empty() {
         return None;
+    }
+    if let [tens, ones] = digits {
+        return read_two_digits(*tens, *ones);
     }
     let mut value = 0u8;
     for digit in digits {
