@@ -23,7 +23,10 @@ ones-shr w k h =
 pub ones-shr_half : (k : ℕ) → k ≤ 64 → 18446744073709551615 / 2 ^ k ≡ 2 ^ (64 - k) - 1
 ones-shr_half k h = ones-shr 64 k h
 
-pub ruleset ones_laws = (ones-shr_half)
+pub ones-shr_word : (k : ℕ) → k ≤ 32 → 4294967295 / 2 ^ k ≡ 2 ^ (32 - k) - 1
+ones-shr_word k h = ones-shr 32 k h
+
+pub ruleset ones_laws = (ones-shr_half, ones-shr_word)
 
 -- the first k bits of one number and the other bits of another fit the width
 pub parts_within : (w k n m : ℕ) → n < 2 ^ w → n - n % 2 ^ (w - k) + m % 2 ^ (w - k) < 2 ^ w

@@ -17,15 +17,12 @@ pub(crate) fn same_first_bits(value: u32, other: u32, len: u8) -> bool
 }
 
 /// The greatest number of the bits from `len` on, of 32: all ones.
+#[tactic(auto, using(crate::proofs::HalfNumbers::ones_laws))]
 pub(crate) fn host_mask(len: u8) -> u32
     requires { len ≤ 32 }
     ensures { result ≡ 2 ^ (32 - len) - 1 }
 {
-    if len == 0 {
-        u32::MAX
-    } else {
-        (1 << (32 - len)) - 1
-    }
+    (0xffff_ffff_u64 >> len) as u32
 }
 
 /// The number of the bits from `len` on, of 32.
@@ -106,7 +103,7 @@ pub(crate) fn bit(value: u32, i: u8) -> bool
     requires { i < 32 }
     ensures { result ≡ (bit_at value (31 - i) == 1) }
 {
-    value >> (31 - i) & 1 == 1
+    value >> (31 - u32::from(i)) & 1 == 1
 }
 
 /// The number of 32 bits whose bit `i` is `b`, the most significant first.
@@ -115,6 +112,6 @@ pub(crate) fn with_bit(value: u32, i: u8, b: bool) -> u32
     ensures set { bit_at result (31 - i) ≡ cond b 1 0 }
     ensures kept { (k : ℕ) → k < 32 → k ≢ 31 - i → bit_at result k ≡ bit_at value k }
 {
-    let place = 1 << (31 - i);
+    let place = 1 << (31 - u32::from(i));
     if b { value | place } else { value & !place }
 }

@@ -6,14 +6,14 @@ use Rattle.cidr.proofs.arithmetic.with_bit.Goals as goal
 
 pub returns-then-b-clause-set : goal.returns-then-b-clause-set
 returns-then-b-clause-set c =
-    bit_at_set_same w32 c.args.value (31 - c.args.i) (omega arith) ∙ sym (ap (λ b. cond b 1 0) c.if-b.true)
+    rw c.from.ensures (bit_at_set_same w32 c.args.value (31 - c.args.i) (omega arith) ∙ sym (ap (λ b. cond b 1 0) c.if-b.true))
 
 pub returns-then-b-clause-kept : goal.returns-then-b-clause-kept
-returns-then-b-clause-kept c k l other = bit_at_set_other w32 c.args.value (31 - c.args.i) (omega arith) k other
+returns-then-b-clause-kept c k l other = rw c.from.ensures (bit_at_set_other w32 c.args.value (31 - c.args.i) (omega arith) k other)
 
 pub returns-else-b-clause-set : goal.returns-else-b-clause-set
 returns-else-b-clause-set c =
-    bit_at_clear_same w32 c.args.value (31 - c.args.i) (omega arith) ∙ sym (ap (λ b. cond b 1 0) c.if-b.false)
+    rw c.from.ensures (bit_at_clear_same w32 c.args.value (31 - c.args.i) (omega arith) ∙ sym (ap (λ b. cond b 1 0) c.if-b.false))
 
 pub returns-else-b-clause-kept : goal.returns-else-b-clause-kept
-returns-else-b-clause-kept c k l other = bit_at_clear_other w32 c.args.value (31 - c.args.i) (omega arith) k l other
+returns-else-b-clause-kept c k l other = rw c.from.ensures (bit_at_clear_other w32 c.args.value (31 - c.args.i) (omega arith) k l other)
