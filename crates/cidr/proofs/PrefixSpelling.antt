@@ -1,15 +1,14 @@
 -- Prefix bytes: what is written, and what an input begins with.
-use Rattle.std.proofs.Common.{◌≡◌, ℕ, zero, suc, ◌+◌, ◌-◌, ◌*◌, ◌≤◌, Bool, false, List, [], ◌∷◌, ◌++◌, length, take, drop, set, replicate, get_or, Result, Ok, Err, refl, sym, ap, ap₂, ◌∙◌, subst, arith, inl, inr, take_at, take_all, append_assoc, length-append, length-take-le, take-append-drop}
+use Rattle.std.proofs.Common.{◌≡◌, ℕ, zero, suc, ◌+◌, ◌-◌, ◌*◌, ◌<◌, ◌≤◌, Bool, false, List, [], ◌∷◌, ◌++◌, length, take, drop, replicate, get_or, Result, Ok, Err, refl, sym, ap, ap₂, ◌∙◌, subst, arith, inl, inr, take_at, take_all, append_assoc, append-nil, length-append, length-take-le, take-append-drop}
+use Rattle.std.proofs.lemmas.Bool.{cases_lt}
 use Rattle.std.proofs.lemmas.List.{take-take, drop-take, drop-replicate, replicate-append-replicate, take-append-le}
 use Rattle.std.proofs.lemmas.Grind.{flat_map-append}
-use Rattle.std.specs.List.{refill, slice_range}
 use Rattle.cidr.specs.model.Address.{parts_of, octet_bits}
 use Rattle.cidr.specs.model.Bits.{bits, number}
-use Rattle.cidr.specs.model.Host.{host_of}
 use Rattle.cidr.specs.model.Network.{width_of, zeros, first_of}
 use Rattle.cidr.specs.laws.BitLaws.{bits-zero}
 use Rattle.cidr.specs.laws.NetworkLaws.{length-first_of}
-use Rattle.cidr.specs.bytes.Compact.{tag_of, octet_count, host_bytes}
+use Rattle.cidr.specs.bytes.Compact.{octet_count}
 use Rattle.cidr.specs.bytes.Prefix.{octets_for, prefix_bytes, SpellsPrefix, HasPrefix, IsPrefixRefused, ReadsPrefix}
 use Rattle.cidr.specs.declared.errors.PrefixBytesError.{PrefixBytesError}
 use Rattle.cidr.specs.declared.errors.PrefixBytesError.TheVariants.{LengthTooLong, Truncated}
@@ -48,22 +47,17 @@ cut_octets m p h =
     ap (λ n. take k (parts_of 8 n (first_of (8 * m) p))) split ∙ first_parts 8 k (m - k) (first_of (8 * m) p) ∙
     ap (parts_of 8 k) (first_of-less (8 * m) (8 * k) p (omega arith) (omega arith))
 
--- compact bytes with the length in place of the tag, cut after the prefix
-pub written : (f : Family) (p a : List Bool) (n count : ℕ) (compact lent : List ℕ) → length p ≤ width_of f → n ≡ length p → a ≡ first_of (width_of f) p
-    → compact ≡ host_bytes f (host_of a n) → lent ≡ compact → count ≡ octets_for n
-    → take (1 + count) (refill (length compact) compact (set lent 0 n)) ≡ prefix_bytes p
-written f p a n count compact lent within len address is same many =
+-- the length, and then an address's octets cut after the prefix
+pub written : (f : Family) (p a : List Bool) (n count : ℕ) (none lent all : List ℕ) → length p ≤ width_of f → n ≡ length p → a ≡ first_of (width_of f) p
+    → count ≡ octets_for n → none ≡ [] → lent ≡ none ++ n ∷ [] → all ≡ lent ++ take count (parts_of 8 (octet_count f) a) → all ≡ prefix_bytes p
+written f p a n count none lent all within len address many empty one more =
     let m = octet_count f in
-    let octets = parts_of 8 m (first_of (width_of f) p) in
-    let whole : compact ≡ tag_of f n ∷ octets = is ∙ ap (λ x. host_bytes f (host_of x n)) address in
-    let filled : refill (length compact) compact (set lent 0 n) ≡ n ∷ octets =
-    ap₂ (λ x y. refill (length x) x (set y 0 n)) whole (same ∙ whole) ∙
-    ap (λ t. n ∷ t) (take_at octets (drop (suc (length octets)) (tag_of f n ∷ octets)) (length octets) refl) in
-    let one_more : 1 + count ≡ suc (octets_for (length p)) = omega (arith, many, ap octets_for len) in
+    let k = octets_for (length p) in
     let width = octet_width f in
-    let cut : take (octets_for (length p)) octets ≡ parts_of 8 (octets_for (length p)) (first_of (8 * octets_for (length p)) p) =
-    ap (λ w. take (octets_for (length p)) (parts_of 8 m (first_of w p))) (sym width) ∙ cut_octets m p (omega arith) in
-    ap₂ take one_more filled ∙ ap₂ (λ x t. x ∷ t) len cut
+    let cut : take k (parts_of 8 m (first_of (width_of f) p)) ≡ parts_of 8 k (first_of (8 * k) p) =
+    ap (λ w. take k (parts_of 8 m (first_of w p))) (sym width) ∙ cut_octets m p (omega arith) in
+    let octets : take count (parts_of 8 m a) ≡ parts_of 8 k (first_of (8 * k) p) = ap₂ (λ i b. take i (parts_of 8 m b)) (many ∙ ap octets_for len) address ∙ cut in
+    more ∙ ap₂ (λ x y. x ++ y) (one ∙ ap₂ (λ x y. x ++ y ∷ []) empty len) octets
 
 pub spells_written : (w : ℕ) (p : List Bool) → length p ≤ w → SpellsPrefix w (prefix_bytes p) p
 spells_written w p h =
@@ -93,6 +87,21 @@ padded m w octets written same h e =
     let after : drop n (replicate m 0) ≡ replicate (m - n) 0 = drop-replicate n m 0 in
     ap₂ (λ x y. octet_bits (x ++ y)) same after ∙ flat_map-append (bits 8) octets (replicate (m - n) 0) ∙
     ap (λ t. octet_bits octets ++ t) (zero_octets (m - n) ∙ ap zeros rest)
+
+-- as many octets as an address has
+pub whole_octets : (m w : ℕ) (octets all : List ℕ) → all ≡ take m octets → m ≤ length octets → w ≡ 8 * m
+    → octet_bits all ≡ first_of w (octet_bits (take m octets))
+whole_octets m w octets all is enough e =
+    let full : length (octet_bits (take m octets)) ≡ w = omega (arith, e, length-octet_bits (take m octets), length-take-le m octets enough) in
+    let none : w - length (octet_bits (take m octets)) ≡ 0 = omega (arith, full) in
+    ap octet_bits is ∙ sym (ap (λ n. octet_bits (take m octets) ++ zeros n) none ∙ append-nil (octet_bits (take m octets)))
+
+-- too few octets, and zeros after them
+pub few_octets : (m w : ℕ) (octets written : List ℕ) → written ≡ octets → length octets < m → w ≡ 8 * m
+    → octet_bits (written ++ drop (length octets) (replicate m 0)) ≡ first_of w (octet_bits (take m octets))
+few_octets m w octets written same few e =
+    let all : take m octets ≡ octets = take_all m octets (omega arith) in
+    rw all (padded m w octets written same (omega arith) e)
 
 -- ---- reading
 -- an input that begins with a prefix: its length, its octets, and what follows
@@ -196,15 +205,36 @@ reads_prefix w n rest p within enough value = record {
   refused = tt;
 }
 
+-- the first bits of octets, of which the first k have them, and zeros after those
+module _ (w n k : ℕ) (octets : List ℕ) (enough : n ≤ length (octet_bits (take k octets))) where
+  pub first_bits : take n (first_of w (octet_bits (take k octets))) ≡ take n (octet_bits octets)
+  first_bits =
+      let front = octet_bits (take k octets) in
+      let back = octet_bits (drop k octets) in
+      let split : octet_bits octets ≡ front ++ back = ap octet_bits (sym (take-append-drop k octets)) ∙ flat_map-append (bits 8) (take k octets) (drop k octets) in
+      take-append-le n front (zeros (w - length front)) enough ∙ sym (ap (take n) split ∙ take-append-le n front back enough)
+
+-- whatever octets follow those of a prefix
+any_octets : (w m n : ℕ) (octets : List ℕ) → w ≡ 8 * m → n ≤ w → octets_for n ≤ length octets
+    → take n (first_of w (octet_bits (take m octets))) ≡ take n (first_of w (octet_bits (take (octets_for n) octets)))
+any_octets w m n octets e within enough =
+    let fewest : n ≤ length (octet_bits (take (octets_for n) octets)) =
+    omega (arith, length-octet_bits (take (octets_for n) octets), length-take-le (octets_for n) octets enough) in
+    let more : n ≤ length (octet_bits (take m octets)) = elim (cases_lt (length octets) m) [
+      | inl few ↦ rw (take_all m octets (omega arith)) (omega (arith, length-octet_bits octets))
+      | inr many ↦ omega (arith, e, length-octet_bits (take m octets), length-take-le m octets many)
+    ] in
+    first_bits w n m octets more ∙ sym (first_bits w n (octets_for n) octets fewest)
+
 -- what a reader finds at the front
-pub reads_front : (w : ℕ) (bytes : List ℕ) (p a : List Bool) (octets : List ℕ) (count : ℕ) → 1 ≤ length bytes → get_or bytes 0 0 ≤ w
+pub reads_front : (w m : ℕ) (bytes : List ℕ) (p a : List Bool) (count : ℕ) → w ≡ 8 * m → 1 ≤ length bytes → get_or bytes 0 0 ≤ w
     → count ≡ octets_for (get_or bytes 0 0) → count ≤ length (take (length bytes - 1) (drop 1 bytes))
-    → octets ≡ slice_range (take (length bytes - 1) (drop 1 bytes)) 0 count → a ≡ first_of w (octet_bits octets) → p ≡ take (get_or bytes 0 0) a
+    → a ≡ first_of w (octet_bits (take m (take (length bytes - 1) (drop 1 bytes)))) → p ≡ take (get_or bytes 0 0) a
     → ReadsPrefix w bytes (Ok (p, 1 + count))
-reads_front w [] p a octets count some within many enough are address value = absurd (omega arith)
-reads_front w (n ∷ rest) p a octets count some within many enough are address value =
+reads_front w m [] p a count e some within many enough address value = absurd (omega arith)
+reads_front w m (n ∷ rest) p a count e some within many enough address value =
     let all : take (length (n ∷ rest) - 1) rest ≡ rest = take_all (length (n ∷ rest) - 1) rest (omega arith) in
-    let first : octets ≡ take (octets_for n) rest = are ∙ ap₂ take (omega (arith, many)) all in
     let held : octets_for n ≤ length rest = omega (arith, many, ap length all) in
-    let prefix : p ≡ take n (first_of w (octet_bits (take (octets_for n) rest))) = value ∙ ap (take n) (address ∙ ap (λ o. first_of w (octet_bits o)) first) in
+    let prefix : p ≡ take n (first_of w (octet_bits (take (octets_for n) rest))) =
+    value ∙ ap (take n) (address ∙ ap (λ o. first_of w (octet_bits (take m o))) all) ∙ any_octets w m n rest e within held in
     subst (λ k. ReadsPrefix w (n ∷ rest) (Ok (p, 1 + k))) (sym many) (reads_prefix w n rest p within held prefix)

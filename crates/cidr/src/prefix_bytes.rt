@@ -61,9 +61,10 @@ impl<A: PrefixOctets> PrefixBytes for Network<A> {
 
     fn to_prefix_bytes(&self) -> ArrayVec<u8, 17> {
         let len = self.network_length();
-        let mut bytes = self.first_address().compact(len);
-        bytes[0] = len;
-        bytes.truncate(1 + octets_for(len));
+        let mut bytes = ArrayVec::new();
+        bytes.push(len);
+        self.first_address()
+            .push_octets(octets_for(len), &mut bytes);
         bytes
     }
 
@@ -75,9 +76,10 @@ impl<A: PrefixOctets> PrefixBytes for Network<A> {
             return Err(PrefixBytesError::LengthTooLong);
         }
         let count = octets_for(*len);
-        let Some(octets) = octets.get(..count) else {
+        if octets.len() < count {
             return Err(PrefixBytesError::Truncated);
-        };
+        }
+        // the network of the first `len` bits, whatever octets follow
         let address = A::of_octets(octets);
         Ok((Network::holding(address, *len), 1 + count))
     }

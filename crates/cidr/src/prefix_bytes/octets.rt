@@ -1,34 +1,73 @@
 //! The octets of the prefix of an address.
-ghost use Rattle.std.specs.Prelude.{◌≡◌, ◌≤◌, length};
+ghost use Rattle.std.specs.Prelude.{◌≡◌, ◌≤◌, ◌+◌, ◌++◌, length, take};
+ghost use Rattle.arrayvec.specs.ArrayVec.{array_vec_len};
 ghost use Rattle.cidr.specs.bytes.Compact.{octet_count};
-ghost use Rattle.cidr.specs.model.Address.{octet_bits};
+ghost use Rattle.cidr.specs.model.Address.{octet_bits, parts_of};
 ghost use Rattle.cidr.specs.model.Network.{width_of, first_of};
 
 use crate::addr::v4::Ipv4Addr;
 use crate::addr::v6::Ipv6Addr;
 use crate::compact::octets::AddressOctets;
 use crate::internal_traits::single_bits::SingleBits;
+use arrayvec::ArrayVec;
 
-/// An address that is made of its first octets.
+/// Appends the first `count` octets. All are gone over, so that there is no loop of a length that can't be foreseen.
+#[inline(always)]
+fn push_first(octets: &[u8], count: usize, bytes: &mut ArrayVec<u8, 17>)
+    requires { array_vec_len bytes.old + length octets.now ≤ 17 }
+    ensures { bytes.new.items ≡ bytes.old.items ++ take count octets.now }
+{
+    for (i, octet) in octets.iter().enumerate() {
+        if i < count {
+            bytes.push(*octet);
+        }
+    }
+}
+
+/// An address by its first octets.
 pub trait PrefixOctets: AddressOctets + SingleBits {
-    /// The address that begins with these octets, and then has zeros.
+    /// Appends the first `count` octets.
+    fn push_octets(self, count: usize, bytes: &mut ArrayVec<u8, 17>)
+        requires { array_vec_len bytes.old ≤ 1 }
+        ensures { let octets = parts_of 8 (octet_count Self.FAMILY) (Self.bits self) in
+            bytes.new.items ≡ bytes.old.items ++ take count octets };
+
+    /// The address that begins with these octets, as many as it has, and then has zeros.
     fn of_octets(octets: &[u8]) -> Self
-        requires { length octets.now ≤ octet_count Self.FAMILY }
-        ensures { Self.bits result ≡ first_of (width_of Self.FAMILY) (octet_bits octets.now) };
+        ensures { let first = take (octet_count Self.FAMILY) octets.now in
+            Self.bits result ≡ first_of (width_of Self.FAMILY) (octet_bits first) };
 }
 
 impl PrefixOctets for Ipv4Addr {
+    fn push_octets(self, count: usize, bytes: &mut ArrayVec<u8, 17>) {
+        push_first(&self.octets(), count, bytes);
+    }
+
     fn of_octets(octets: &[u8]) -> Ipv4Addr {
-        let mut all = [0; 4];
-        all[..octets.len()].copy_from_slice(octets);
-        Ipv4Addr::from(all)
+        match octets.first_chunk::<4>() {
+            Some(all) => Ipv4Addr::from(*all),
+            None => {
+                let mut all = [0; 4];
+                all[..octets.len()].copy_from_slice(octets);
+                Ipv4Addr::from(all)
+            }
+        }
     }
 }
 
 impl PrefixOctets for Ipv6Addr {
+    fn push_octets(self, count: usize, bytes: &mut ArrayVec<u8, 17>) {
+        push_first(&self.octets(), count, bytes);
+    }
+
     fn of_octets(octets: &[u8]) -> Ipv6Addr {
-        let mut all = [0; 16];
-        all[..octets.len()].copy_from_slice(octets);
-        Ipv6Addr::from(all)
+        match octets.first_chunk::<16>() {
+            Some(all) => Ipv6Addr::from(*all),
+            None => {
+                let mut all = [0; 16];
+                all[..octets.len()].copy_from_slice(octets);
+                Ipv6Addr::from(all)
+            }
+        }
     }
 }

@@ -1,5 +1,5 @@
 -- What is written, and that it spells the network.
-use Rattle.std.proofs.Common.{◌≤◌, length, sym, ◌∙◌, subst}
+use Rattle.std.proofs.Common.{◌≤◌, length, sym, subst}
 use Rattle.cidr.specs.bytes.Prefix.{SpellsPrefix}
 use Rattle.cidr.specs.model.Network.{width_of}
 use Rattle.cidr.proofs.PrefixSpelling.{written, spells_written}
@@ -8,8 +8,8 @@ use Rattle.cidr.proofs.prefix_bytes.NetworkPrefixBytes.to_prefix_bytes.Goals as 
 pub returns-clause-bytes : goal.returns-clause-bytes
 returns-clause-bytes g c =
     let within : length c.args.self.now ≤ width_of g.A.AddressBits.FAMILY = rw c.network_length-len.ensures.value at c.network_length-len.ensures.fits in
-    c.truncate.ensures.items ∙ written g.A.AddressBits.FAMILY c.args.self.now _ _ _ c.compact-bytes.result.items c.deref_mut.result.now within
-    c.network_length-len.ensures.value c.first_address.ensures c.compact-bytes.ensures c.deref_mut.ensures.value c.octets_for.ensures
+    written g.A.AddressBits.FAMILY c.args.self.now _ _ _ c.new-bytes.result.items c.push.new.self.items c.push_octets.new.bytes.items within
+    c.network_length-len.ensures.value c.first_address.ensures c.octets_for.ensures c.new-bytes.ensures c.push.ensures.items c.push_octets.ensures
 
 pub returns-clause-spells : goal.returns-clause-spells
 returns-clause-spells g c =
