@@ -312,7 +312,9 @@ impl<A: AddressBits> Network<A> {
         ensures begins { IsTrue result ↔ BeginsWith other.now self.now }
         ensures holds { IsTrue result ↔ HoldsAll (HasWidth (width_of A.FAMILY)) self.now other.now }
     {
-        self.len <= other.len && self.contains(&other.address)
+        // both are made, so that no branch hangs on the lengths
+        let begins = self.contains(&other.address);
+        self.len <= other.len && begins
     }
 
     /// The network, to be printed with its prefix length also where that is full.
