@@ -70,9 +70,9 @@ pub ruleset order_laws = (cmp-networks, eq-networks, first_of-take, length-take-
 pub least : (m n : ℕ) → ord_min nat_cmp m n ≡ min m n
 least m n = elim (cases_lt n m) [ inl low ↦ grind (arith, nat_tests) | inr high ↦ grind (arith, nat_tests) ]
 
-pub least_of_three : (m n x y s r j : ℕ) → r ≡ ord_min nat_cmp m j → j ≡ ord_min nat_cmp n s → m ≡ x → n ≡ y → r ≡ min x (min y s)
+pub least_of_three : (m n x y s r j : ℕ) → r ≡ ord_min nat_cmp j s → j ≡ ord_min nat_cmp m n → m ≡ x → n ≡ y → r ≡ min (min x y) s
 least_of_three m n x y s r j h k first second =
-    h ∙ least m j ∙ ap₂ min first (k ∙ least n s ∙ ap (λ t. min t s) second)
+    h ∙ least j s ∙ ap (λ t. min t s) (k ∙ least m n ∙ ap₂ min first second)
 
 -- two numbers in one: the first counts more than the second
 pub key_cmp : (r x m y n : ℕ) → m < r → n < r → nat_cmp (x * r + m) (y * r + n) ≡ ordering_then (nat_cmp x y) (nat_cmp m n)

@@ -32,10 +32,10 @@ shared_by_numbers w n a b e f h same =
 
 -- of their first bits
 pub shared_of_first : (n m s : ℕ) (a b : List Bool) → n ≤ length a → m ≤ length b → IsSharedLength a b s
-    → IsSharedLength (take n a) (take m b) (min n (min m s))
+    → IsSharedLength (take n a) (take m b) (min (min n m) s)
 shared_of_first n m s a b ha hb is =
     let (t, long, one, other) = is.shared in
-    let r = min n (min m s) in
+    let r = min (min n m) s in
     let size : length (take r t) ≡ r = omega (arith, length-take r t) in
     let begins : (k : ℕ) (c : List Bool) → r ≤ k → BeginsWith c t → BeginsWith (take k c) (take r t) =
     λ k c within h. ap (λ j. take j (take k c)) size ∙ take-take r k c within ∙ sym (take-take r (length t) c (omega arith))
@@ -50,7 +50,7 @@ shared_of_first n m s a b ha hb is =
 
 -- of two networks, by their first addresses
 pub networks_share : (w n s : ℕ) (p q a b : List Bool) → a ≡ first_of w p → b ≡ first_of w q → IsSharedLength a b s
-    → n ≡ min (length p) (min (length q) s) → IsSharedLength p q n
+    → n ≡ min (min (length p) (length q)) s → IsSharedLength p q n
 networks_share w n s p q a b first second is e =
     let within : (t : List Bool) → length t ≤ length (first_of w t) = λ t. omega (arith, length-append t (zeros (w - length t))) in
     let shown : (t : List Bool) → take (length t) (first_of w t) ≡ t = λ t. take_at t (zeros (w - length t)) (length t) refl in

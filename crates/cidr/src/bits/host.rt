@@ -86,7 +86,8 @@ impl<A: SingleBits> BitString for Host<A> {
     }
 
     fn shared_prefix_len(&self, other: &Host<A>) -> usize {
-        let shared = self.address().shared_len(other.address());
-        usize::from(min(self.network_length(), min(other.network_length(), shared)))
+        // the lengths first, which need no branch
+        let shorter = min(self.network_length(), other.network_length());
+        usize::from(min(shorter, self.address().shared_len(other.address())))
     }
 }

@@ -12,8 +12,12 @@ use std::cmp::min;
 pub(crate) fn shared_length<A: SingleBits>(one: &Network<A>, other: &Network<A>) -> u8
     ensures { IsSharedLength one.now other.now result }
 {
-    let shared = one.first_address().shared_len(other.first_address());
-    min(one.network_length(), min(other.network_length(), shared))
+    // the lengths first, which need no branch
+    let shorter = min(one.network_length(), other.network_length());
+    min(
+        shorter,
+        one.first_address().shared_len(other.first_address()),
+    )
 }
 
 impl<A: SingleBits> BitString for Network<A> {

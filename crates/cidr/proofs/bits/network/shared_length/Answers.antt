@@ -11,8 +11,8 @@ returns g c =
     let second = c.network_length-2 in
     let p = c.args.one.now in
     let q = c.args.other.now in
-    let s = c.shared_len-shared.result in
-    networks_share (width_of g.A.AddressBits.FAMILY) c.min-2.result s p q (g.A.AddressBits.bits c.first_address.result)
-    (g.A.AddressBits.bits c.first_address-2.result) c.first_address.ensures c.first_address-2.ensures c.shared_len-shared.ensures
-    (least_of_three first.result second.result (length p) (length q) s c.min-2.result c.min.result
-    c.min-2.ensures c.min.ensures first.ensures.value second.ensures.value)
+    let s = c.shared_len.result in
+    networks_share (width_of g.A.AddressBits.FAMILY) c.min.result s p q (g.A.AddressBits.bits c.first_address.result)
+    (g.A.AddressBits.bits c.first_address-2.result) c.first_address.ensures c.first_address-2.ensures c.shared_len.ensures
+    (least_of_three first.result second.result (length p) (length q) s c.min.result c.min-shorter.result
+    c.min.ensures c.min-shorter.ensures first.ensures.value second.ensures.value)

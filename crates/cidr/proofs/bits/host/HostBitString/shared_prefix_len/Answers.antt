@@ -10,11 +10,11 @@ returns g c =
     let second = c.network_length-2 in
     let p = c.args.self.now in
     let q = c.args.other.now in
-    let s = c.shared_len-shared.result in
-    let least = c.from.ensures ∙ least_of_three first.result second.result p.len q.len s c.min-2.result c.min.result
-    c.min-2.ensures c.min.ensures first.ensures.value second.ensures.value in
+    let s = c.shared_len.result in
+    let least = c.from.ensures ∙ least_of_three first.result second.result p.len q.len s c.min.result c.min-shorter.result
+    c.min.ensures c.min-shorter.ensures first.ensures.value second.ensures.value in
     let here = rw c.address.ensures.value at c.address.ensures.width in
     let there = rw c.address-2.ensures.value at c.address-2.ensures.width in
     rw least (shared_of_first p.len q.len s p.address q.address
     (omega (arith, here, first.ensures.value, first.ensures.fits)) (omega (arith, there, second.ensures.value, second.ensures.fits))
-    (rw (c.address.ensures.value, c.address-2.ensures.value) at c.shared_len-shared.ensures))
+    (rw (c.address.ensures.value, c.address-2.ensures.value) at c.shared_len.ensures))
