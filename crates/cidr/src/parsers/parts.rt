@@ -45,10 +45,6 @@ pub(crate) fn take_number(text: &[u8], radix: u8, most: u32) -> Option<(u32, &[u
     let mut value = 0u64;
     let mut count = 0;
     for byte in text {
-        if value == 0 && *byte == b'0' {
-            count += 1;
-            continue;
-        }
         let Some(digit) = hex_value(*byte) else {
             break;
         };

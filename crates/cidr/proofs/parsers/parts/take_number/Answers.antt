@@ -3,7 +3,7 @@ use Rattle.std.proofs.Common.{◌≡◌, ◌+◌, ◌*◌, ◌≤◌, get_or, sy
 use Rattle.std.specs.Char.{digit_value}
 use Rattle.cidr.proofs.GroupReading.{past_end, other_byte}
 use Rattle.cidr.proofs.NumberReading.{more_digits, no_number, large_number, first_number}
-use Rattle.cidr.proofs.parsers.parts.take_number.Goals.{else-loop-byte-test, then-loop-byte-test+else-value-eq0+in_default, then-loop-byte-test+else-value-eq0+in-Some+then-digit-radix}
+use Rattle.cidr.proofs.parsers.parts.take_number.Goals.{else-loop-byte-test, then-loop-byte-test+in_default, then-loop-byte-test+in-Some+then-digit-radix}
 use Rattle.cidr.proofs.parsers.parts.take_number.Goals as goal
 
 pub loop-byte-init : goal.loop-byte-init
@@ -27,8 +27,8 @@ pub returns-then-count-eq0 : goal.returns-then-count-eq0
 returns-then-count-eq0 c =
     let stop : c.args.radix ≤ digit_value (get_or c.args.text.now c.loop-byte.count 0) = elim c.loop-byte-test.branch [
       | else-loop-byte-test w ↦ omega (arith, c.requires.hexadecimal, past_end c.args.text.now _ _ c.loop-byte.invariant.0 w.loop-byte-test.false)
-      | then-loop-byte-test+else-value-eq0+in_default w ↦ omega (arith, c.requires.hexadecimal, other_byte c.args.text.now _ _ _ c.loop-byte.invariant.0 refl w.in_default.ensures)
-      | then-loop-byte-test+else-value-eq0+in-Some+then-digit-radix w ↦ rw (c.loop-byte.invariant.0, ← w.in-Some.ensures.1) w.if-digit-radix.true
+      | then-loop-byte-test+in_default w ↦ omega (arith, c.requires.hexadecimal, other_byte c.args.text.now _ _ _ c.loop-byte.invariant.0 refl w.in_default.ensures)
+      | then-loop-byte-test+in-Some+then-digit-radix w ↦ rw (c.loop-byte.invariant.0, ← w.in-Some.ensures.1) w.if-digit-radix.true
     ] in
     no_number c.args.radix (c.args.most + 1) c.args.text.now c.requires.hexadecimal (rw c.if-count-eq0.true at stop)
 
@@ -36,15 +36,7 @@ pub returns-else-count-eq0 : goal.returns-else-count-eq0
 returns-else-count-eq0 c =
     let stop : c.args.radix ≤ digit_value (get_or c.args.text.now c.loop-byte.count 0) = elim c.loop-byte-test.branch [
       | else-loop-byte-test w ↦ omega (arith, c.requires.hexadecimal, past_end c.args.text.now _ _ c.loop-byte.invariant.0 w.loop-byte-test.false)
-      | then-loop-byte-test+else-value-eq0+in_default w ↦ omega (arith, c.requires.hexadecimal, other_byte c.args.text.now _ _ _ c.loop-byte.invariant.0 refl w.in_default.ensures)
-      | then-loop-byte-test+else-value-eq0+in-Some+then-digit-radix w ↦ rw (c.loop-byte.invariant.0, ← w.in-Some.ensures.1) w.if-digit-radix.true
+      | then-loop-byte-test+in_default w ↦ omega (arith, c.requires.hexadecimal, other_byte c.args.text.now _ _ _ c.loop-byte.invariant.0 refl w.in_default.ensures)
+      | then-loop-byte-test+in-Some+then-digit-radix w ↦ rw (c.loop-byte.invariant.0, ← w.in-Some.ensures.1) w.if-digit-radix.true
     ] in
     first_number c.args.radix (c.args.most + 1) c.args.text.now c.requires.hexadecimal _ _ c.loop-byte.invariant.1 c.if-count-eq0.false (omega arith) stop
-
--- a zero before any other digit
-pub loop-byte-preserved-then-byte-eq48 : goal.loop-byte-preserved-then-byte-eq48
-loop-byte-preserved-then-byte-eq48 c =
-    let place = c.loop-byte.invariant.0 in
-    let digit : digit_value (get_or c.args.text.now c.loop-byte.count 0) ≡ 0 = rw (place, c.if-byte-eq48.true) refl in
-    let next : c.loop-byte.value * c.args.radix + 0 ≡ c.loop-byte.value = rw c.if-value-eq0.true (omega arith) in
-    (omega arith, rw (← next) (more_digits _ _ _ _ _ _ c.loop-byte.invariant.1 (omega arith) digit (omega (arith, c.requires.positive)) (rw c.if-value-eq0.true (omega arith))))
