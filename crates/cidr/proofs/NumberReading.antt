@@ -30,6 +30,10 @@ large_digits radix limit ds i value digit h l e large =
     omega arith
 
 -- ---- digits at the front
+pub other_digit : (radix : ℕ) (text : List ℕ) (count i byte : ℕ) → count ≡ i → byte ≡ get_or text i 0 → ¬ (digit_value byte < radix)
+    → radix ≤ digit_value (get_or text count 0)
+other_digit radix text count i byte e is h = let v = digit_value byte in let none : radix ≤ v = omega arith in rw (e, ← is) none
+
 -- digits that a text begins with begin those that end at another byte
 longer : (radix : ℕ) (f r g s : List ℕ) → f ++ r ≡ g ++ s → AllDigits radix f → radix ≤ digit_value (get_or s 0 0) → (u : List ℕ) × (g ≡ f ++ u) × (r ≡ u ++ s)
 longer radix [] r g s e h stop = (g, refl, e)

@@ -15,7 +15,7 @@ use crate::parsers::parts::{Part, after_plus, read_parts, take_number};
 struct LoosePart;
 
 /// The radix of the number at the front, and the string from its digits on.
-fn radix_and_digits(text: &[u8]) -> (u8, &[u8])
+fn radix_and_digits(text: &[u8]) -> (u32, &[u8])
     ensures { LeadsToDigits text.now result.0 result.1.now }
 {
     match take_byte(text, b'0') {
@@ -30,7 +30,12 @@ impl Part for LoosePart {
 
     fn take(text: &[u8]) -> Option<(u32, &[u8])> {
         let (radix, digits) = radix_and_digits(text);
-        take_number(digits, radix, u32::MAX)
+        // each with a radix that the compiler knows
+        match radix {
+            16 => take_number(digits, 16, u32::MAX),
+            10 => take_number(digits, 10, u32::MAX),
+            _ => take_number(digits, 8, u32::MAX),
+        }
     }
 }
 

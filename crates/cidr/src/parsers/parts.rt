@@ -4,7 +4,6 @@ ghost use Rattle.cidr.specs.texts.NetworkText.{IsNumberText};
 ghost use Rattle.cidr.specs.internal.Reading.{TakesPart};
 ghost use Rattle.cidr.specs.internal.Joined.{IsAfterPlus, JoinsParts, JoinsNone};
 
-use crate::addr::hex::hex_value;
 use crate::addr::read_v4::take_byte;
 
 /// A form of the numbers that stand between dots.
@@ -37,20 +36,17 @@ pub(crate) fn after_plus(text: &[u8]) -> &[u8]
 
 /// The number up to `most` that the digits at the front write, and what follows them.
 #[inline(always)]
-pub(crate) fn take_number(text: &[u8], radix: u8, most: u32) -> Option<(u32, &[u8])>
-    requires positive { 0 < radix }
+pub(crate) fn take_number(text: &[u8], radix: u32, most: u32) -> Option<(u32, &[u8])>
+    requires positive { 2 ≤ radix }
     requires hexadecimal { radix ≤ 16 }
     ensures { TakesPart (IsNumberText radix (most + 1)) text.now result }
 {
     let mut value = 0u64;
     let mut count = 0;
     for byte in text {
-        let Some(digit) = hex_value(*byte) else {
+        let Some(digit) = char::from(*byte).to_digit(radix) else {
             break;
         };
-        if digit >= radix {
-            break;
-        }
         value = value * u64::from(radix) + u64::from(digit);
         if value > u64::from(most) {
             return None;
