@@ -4,14 +4,12 @@ use Rattle.std.proofs.lemmas.Bool.{cases_eq, cases_lt, eqb-true}
 use Rattle.std.proofs.lemmas.Bool.Decides.{nat_tests}
 use Rattle.std.specs.Char.{digit_value}
 use Rattle.cidr.specs.declared.addr.hex.TheConstants.{DIGIT_VALUES}
+use Rattle.cidr.proofs.TextTables.{both_of}
 
 -- both are the same below n
 same_below : (ℕ → ℕ) → (ℕ → ℕ) → ℕ → Bool
 same_below f g zero = true
 same_below f g (suc n) = (f n == g n) && same_below f g n
-
-both_of : (x y : Bool) → (x && y) ≡ true → (x ≡ true) × (y ≡ true)
-both_of x y h = grind arith
 
 same_at : (f g : ℕ → ℕ) (n : ℕ) → same_below f g n ≡ true → (b : ℕ) → b < n → f b ≡ g b
 unfolding same_below

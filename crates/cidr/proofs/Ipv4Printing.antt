@@ -32,7 +32,7 @@ IsIpv4Text-ipv4_text a e =
       value = sym (flat_map-parts_of 8 4 a e);
     }
 
-pub dotted_pushed : (old : List ℕ) (a b c d : ℕ) → ((((((old ++ decimal a) ++ dot ∷ []) ++ decimal b) ++ dot ∷ []) ++ decimal c) ++ dot ∷ []) ++ decimal d ≡ old ++ dotted (a ∷ b ∷ c ∷ d ∷ [])
+pub dotted_pushed : (old : List ℕ) (a b c d : ℕ) → (((old ++ (decimal a ++ dot ∷ [])) ++ (decimal b ++ dot ∷ [])) ++ (decimal c ++ dot ∷ [])) ++ decimal d ≡ old ++ dotted (a ∷ b ∷ c ∷ d ∷ [])
 dotted_pushed old a b c d = simp append_assoc
 
 pub ruleset ipv4_text_laws = (IsIpv4Text-ipv4_text)

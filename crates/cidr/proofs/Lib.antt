@@ -42,6 +42,8 @@ pub mod CompactErrors
 pub mod PrefixSpelling
 pub mod Ipv6Reading
 pub mod Ipv6Whole
+pub mod TextTables
+pub mod DecimalTable
 pub mod Ipv4Printing
 pub mod HashInputs
 pub mod HexDigits

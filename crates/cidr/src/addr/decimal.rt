@@ -1,25 +1,83 @@
 //! Printing numbers in decimal into a string of fixed capacity.
-ghost use Rattle.std.specs.Prelude.{◌≡◌, ◌+◌, ◌≤◌, ◌++◌, length, decimal};
+ghost use Rattle.std.specs.Prelude.{◌≡◌, ◌+◌, ◌≤◌, [], ◌∷◌, ◌++◌, length, take, decimal, IsAscii};
+ghost use Rattle.cidr.specs.texts.Ipv4Text.{dot};
 
 use arrayvec::ArrayString;
 
+/// The numbers below 256 in decimal, each with dots behind it up to four bytes. A table has no branch to mispredict.
+const NUMBERS: &str = "\
+    0...1...2...3...4...5...6...7...8...9...10..11..12..13..14..15..16..17..18..19..20..21..22..23..24..\
+    25..26..27..28..29..30..31..32..33..34..35..36..37..38..39..40..41..42..43..44..45..46..47..48..49..\
+    50..51..52..53..54..55..56..57..58..59..60..61..62..63..64..65..66..67..68..69..70..71..72..73..74..\
+    75..76..77..78..79..80..81..82..83..84..85..86..87..88..89..90..91..92..93..94..95..96..97..98..99..\
+    100.101.102.103.104.105.106.107.108.109.110.111.112.113.114.115.116.117.118.119.120.121.122.123.124.\
+    125.126.127.128.129.130.131.132.133.134.135.136.137.138.139.140.141.142.143.144.145.146.147.148.149.\
+    150.151.152.153.154.155.156.157.158.159.160.161.162.163.164.165.166.167.168.169.170.171.172.173.174.\
+    175.176.177.178.179.180.181.182.183.184.185.186.187.188.189.190.191.192.193.194.195.196.197.198.199.\
+    200.201.202.203.204.205.206.207.208.209.210.211.212.213.214.215.216.217.218.219.220.221.222.223.224.\
+    225.226.227.228.229.230.231.232.233.234.235.236.237.238.239.240.241.242.243.244.245.246.247.248.249.\
+    250.251.252.253.254.255.";
+
+/// The first bytes of the number in decimal with dots behind it.
+#[inline(always)]
+fn number_row(n: u8, len: usize) -> &'static str
+    requires { len ≤ 4 }
+    ensures value { result.now ≡ take len (decimal n ++ dot ∷ dot ∷ dot ∷ []) }
+    ensures len { length result.now ≡ len }
+    ensures ascii { IsAscii result.now }
+{
+    let start = usize::from(n) * 4;
+    &NUMBERS[start..start + len]
+}
+
+/// How many decimal digits the number has.
+#[inline(always)]
+#[tactic(auto, using(crate::proofs::DecimalTable::digit_laws))]
+fn digits(n: u8) -> usize
+    ensures value { result ≡ length (decimal n) }
+    ensures few { result ≤ 3 }
+{
+    if n >= 100 {
+        3
+    } else if n >= 10 {
+        2
+    } else {
+        1
+    }
+}
+
+/// Appends the first bytes of an ASCII string. All of it is copied, since a copy of a fixed length is one instruction.
+#[inline(always)]
+pub(crate) fn push_first<const CAP: usize>(text: &mut ArrayString<CAP>, padded: &str, len: usize)
+    requires ascii { IsAscii padded.now }
+    requires part { len ≤ length padded.now }
+    requires room { length text.old.bytes + length padded.now ≤ CAP }
+    ensures { text.new.bytes ≡ text.old.bytes ++ take len padded.now }
+{
+    let end = text.len() + len;
+    text.push_str(padded);
+    text.truncate(end);
+}
+
 /// Appends the number in decimal.
-#[tactic(auto, using(crate::specs::laws::DecimalLaws::decimal_laws))]
+#[inline(always)]
 pub(crate) fn push_decimal<const CAP: usize>(text: &mut ArrayString<CAP>, n: u8)
     requires { length text.old.bytes + 3 ≤ CAP }
     ensures bytes { text.new.bytes ≡ text.old.bytes ++ decimal n }
     ensures len { length text.new.bytes ≤ length text.old.bytes + 3 }
 {
-    if n >= 100 {
-        text.push(char::from(b'0' + n / 100));
-        text.push(char::from(b'0' + n / 10 % 10));
-        text.push(char::from(b'0' + n % 10));
-    } else if n >= 10 {
-        text.push(char::from(b'0' + n / 10));
-        text.push(char::from(b'0' + n % 10));
-    } else {
-        text.push(char::from(b'0' + n));
-    }
+    push_first(text, number_row(n, 3), digits(n));
+}
+
+/// Appends the number in decimal and a dot.
+#[inline(always)]
+#[tactic(auto, using(crate::proofs::DecimalTable::dot_laws))]
+pub(crate) fn push_decimal_dot<const CAP: usize>(text: &mut ArrayString<CAP>, n: u8)
+    requires { length text.old.bytes + 4 ≤ CAP }
+    ensures bytes { text.new.bytes ≡ text.old.bytes ++ (decimal n ++ dot ∷ []) }
+    ensures len { length text.new.bytes ≤ length text.old.bytes + 4 }
+{
+    push_first(text, number_row(n, 4), digits(n) + 1);
 }
 
 /// The number in decimal.

@@ -10,7 +10,7 @@ ghost use Rattle.cidr.specs.texts.Ipv4Text.{IsIpv4Text};
 ghost use Rattle.cidr.specs.texts.AddressText.{Reads};
 ghost use Rattle.cidr.specs.texts.PrintedAddress.{ipv4_text};
 
-use crate::addr::decimal::push_decimal;
+use crate::addr::decimal::{push_decimal, push_decimal_dot};
 use crate::addr::error::AddrParseError;
 use crate::addr::read_v4::read_ipv4;
 use arrayvec::ArrayString;
@@ -105,6 +105,7 @@ impl Ipv4Addr {
     }
 
     /// Appends the printed string.
+    #[inline(always)]
     pub(crate) fn push_to<const CAP: usize>(&self, text: &mut ArrayString<CAP>)
         requires { length text.old.bytes + 15 ≤ CAP }
         ensures bytes { text.new.bytes ≡ text.old.bytes ++ ipv4_text self.now }
@@ -112,12 +113,9 @@ impl Ipv4Addr {
         ensures width { length self.now ≡ 32 }
     {
         let [a, b, c, d] = self.octets();
-        push_decimal(text, a);
-        text.push('.');
-        push_decimal(text, b);
-        text.push('.');
-        push_decimal(text, c);
-        text.push('.');
+        push_decimal_dot(text, a);
+        push_decimal_dot(text, b);
+        push_decimal_dot(text, c);
         push_decimal(text, d);
     }
 
