@@ -189,6 +189,20 @@ shared-upper u v l m s other low lower most shared k fits =
     ]
 
 -- ---- single bits by halves
+-- a bit that is moved down
+place-shr : (w k : ℕ) → k ≤ w → 2 ^ w / 2 ^ k ≡ 2 ^ (w - k)
+place-shr w k h =
+    let rows : 2 ^ w ≡ 2 ^ (w - k) * 2 ^ k = ap (λ j. 2 ^ j) (omega arith) ∙ pow-add 2 (w - k) k in
+    ap (λ x. x / 2 ^ k) rows ∙ shl-shr (2 ^ (w - k)) k
+
+pub place-shr_pair : (k : ℕ) → k ≤ 127 → 170141183460469231731687303715884105728 / 2 ^ k ≡ 2 ^ (127 - k)
+place-shr_pair k h = place-shr 127 k h
+
+pub place-shr_word : (k : ℕ) → k ≤ 31 → 2147483648 / 2 ^ k ≡ 2 ^ (31 - k)
+place-shr_word k h = place-shr 31 k h
+
+pub ruleset place_laws = (place-shr_pair, place-shr_word)
+
 bit-low : (h k n : ℕ) → k < h → bit_at (n % 2 ^ h) k ≡ bit_at n k
 bit-low h k n fits =
     let width : (h - suc k) + (1 + k) ≡ h = omega arith in

@@ -1,9 +1,12 @@
 -- Single bits of an address, by the number of the address, over any width.
-use Rattle.std.proofs.Common.{◌≡◌, ◌≢◌, ℕ, zero, suc, ◌-◌, ◌<◌, Bool, true, false, List, length, get_or, set, cond, ◌==◌, refl, sym, ap, ◌∙◌, arith, inl, inr}
+use Rattle.std.proofs.Common.{◌≡◌, ◌≢◌, ℕ, zero, suc, ◌+◌, ◌-◌, ◌%◌, ◌^◌, ◌<◌, Bool, true, false, not, List, length, get_or, set, cond, ◌==◌, refl, sym, ap, ◌∙◌, arith, inl, inr}
 use Rattle.std.specs.Int.{bit_at}
+use Rattle.std.specs.Int.Bits.{bit_xor}
 use Rattle.std.proofs.lemmas.Bool.{cases_eq}
 use Rattle.std.proofs.lemmas.List.{ext_get_or, length-set, get_or-set_same, get_or-set_other}
+use Rattle.std.proofs.lemmas.Nat.Bits.{bit_at_xor, bit_at-pow_same, bit_at-pow_other, bit_at-lt}
 use Rattle.cidr.specs.model.Bits.{bits, number}
+use Rattle.cidr.specs.model.BitString.{inverted}
 use Rattle.cidr.specs.laws.BitLaws.{length-bits, bits-number}
 
 -- bit i of the bits of a number
@@ -39,4 +42,19 @@ bits-with_bit w i n b a h e here others =
     back true = refl
     back false = refl
 
-pub ruleset single_bit_laws = (bits-with_bit)
+-- and one whose bit is inverted
+pub bits-flipped : (w i : ℕ) (a : List Bool) → i < w → length a ≡ w → bits w (bit_xor (number a) (2 ^ (w - 1 - i))) ≡ set a i (inverted i a)
+bits-flipped w i a h e =
+    let n = number a in
+    let k = w - 1 - i in
+    let here = bit_at_xor n (2 ^ k) k ∙ ap (λ x. (bit_at n k + x) % 2) (bit_at-pow_same k) ∙ other_digit (bit_at n k) (bit_at-lt n k)
+    ∙ ap (λ b. cond (not b) 1 0) (sym (get_or-number w i a h e)) in
+    bits-with_bit w i (bit_xor n (2 ^ k)) (inverted i a) a h e here (λ j within apart.
+    omega (arith, bit_at_xor n (2 ^ k) j, bit_at-pow_other k j apart, bit_at-lt n j))
+  where
+    other_digit : (d : ℕ) → d < 2 → (d + 1) % 2 ≡ cond (not (d == 1)) 1 0
+    other_digit zero h = refl
+    other_digit (suc zero) h = refl
+    other_digit (suc (suc d)) h = absurd (omega arith)
+
+pub ruleset single_bit_laws = (bits-with_bit, bits-flipped)

@@ -1,8 +1,8 @@
 -- Networks as strings of bits, by their first addresses.
-use Rattle.std.proofs.Common.{◌≡◌, ℕ, zero, suc, ◌+◌, ◌-◌, ◌<◌, ◌≤◌, min, Bool, false, List, [], ◌∷◌, ◌++◌, length, get_or, set, take, slice_get, Some, refl, sym, ap, ap₂, ◌∙◌, arith, take_at, drop_at, length-append, length-take}
-use Rattle.std.proofs.lemmas.List.{append-nil, take_all, length-set, get_or_append_left, set-append_left, set_at}
+use Rattle.std.proofs.Common.{◌≡◌, ℕ, zero, suc, ◌+◌, ◌-◌, ◌<◌, ◌≤◌, min, Bool, false, not, List, [], ◌∷◌, ◌++◌, length, get_or, set, take, slice_get, Some, refl, sym, ap, ap₂, ◌∙◌, arith, take_at, drop_at, length-append, length-take}
+use Rattle.std.proofs.lemmas.List.{append-nil, take_all, length-set, get_or-take, get_or_append_left, set-append_left, set_at}
 use Rattle.std.proofs.lemmas.Option.{slice_get-get_or}
-use Rattle.cidr.specs.model.BitString.{host_clipped}
+use Rattle.cidr.specs.model.BitString.{host_clipped, inverted}
 use Rattle.cidr.specs.model.Host.{Host, IsHost, host_of}
 use Rattle.cidr.specs.model.Network.{width_of, zeros, first_of, IsFirstAddress}
 use Rattle.cidr.specs.declared.family.Family.{Family}
@@ -13,6 +13,10 @@ use Rattle.cidr.specs.laws.NetworkLaws.{length-first_of}
 pub network_bit : (w i : ℕ) (p : List Bool) (b : Bool) → i < length p → b ≡ get_or (first_of w p) i false → slice_get p i ≡ Some b
 network_bit w i p b h e =
     slice_get-get_or p i false h ∙ ap Some (sym (e ∙ get_or_append_left p (zeros (w - length p)) false i h))
+
+-- and so is its inverse
+pub inverted_first : (w i j : ℕ) (p a : List Bool) → i < length p → j ≡ i → a ≡ first_of w p → inverted j a ≡ inverted i p
+inverted_first w i j p a h place first = rw (first, place) (ap not (get_or_append_left p (zeros (w - length p)) false i h))
 
 -- the first address of a network is one, and tells the network
 pub is_first : (w n : ℕ) (q a : List Bool) → length q ≤ w → n ≡ length q → a ≡ first_of w q → IsFirstAddress w n a
@@ -85,6 +89,10 @@ take-set zero i b a h = absurd (omega arith)
 take-set (suc n) i b [] h = absurd (omega arith)
 take-set (suc n) zero b (c ∷ a) h = refl
 take-set (suc n) (suc i) b (c ∷ a) h = ap (λ t. c ∷ t) (take-set n i b a (omega arith))
+
+-- and inverted
+pub inverted_taken : (n i : ℕ) (a : List Bool) → i < length (take n a) → inverted i a ≡ inverted i (take n a)
+inverted_taken n i a h = ap not (sym (get_or-take n a i false (omega (arith, length-take n a))))
 
 -- an address has 32 bits at least and 128 at most
 pub width_least : (family : Family) → 32 ≤ width_of family

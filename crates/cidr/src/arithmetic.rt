@@ -1,6 +1,7 @@
 //! The arithmetic of networks on the numbers of IPv4 addresses, of 32 bits. `halves` has that of 128 bits.
 ghost use Rattle.std.specs.Prelude.{◌≡◌, ◌≢◌, ◌+◌, ◌-◌, ◌*◌, ◌/◌, ◌%◌, ◌^◌, ◌<◌, ◌≤◌, ◌↔◌, ◌==◌, ℕ, cond, IsTrue};
 ghost use Rattle.std.specs.Int.{bit_at};
+ghost use Rattle.std.specs.Int.Bits.{bit_xor};
 ghost use Rattle.std.specs.Ordering.{nat_cmp, ordering_then};
 
 pub(crate) mod half;
@@ -114,4 +115,13 @@ pub(crate) fn with_bit(value: u32, i: u8, b: bool) -> u32
 {
     let place = 1 << (31 - u32::from(i));
     if b { value | place } else { value & !place }
+}
+
+/// The number of 32 bits with bit `i` inverted, the most significant first.
+#[tactic(auto, using(crate::proofs::HalfNumbers::place_laws))]
+pub(crate) fn with_flipped_bit(value: u32, i: u8) -> u32
+    requires { i < 32 }
+    ensures { result ≡ bit_xor value (2 ^ (31 - i)) }
+{
+    value ^ ((1 << 31) >> i)
 }

@@ -1,6 +1,7 @@
 //! The arithmetic of networks on numbers of 128 bits, in two halves.
 ghost use Rattle.std.specs.Prelude.{◌≡◌, ◌≢◌, ◌+◌, ◌-◌, ◌*◌, ◌/◌, ◌%◌, ◌^◌, ◌<◌, ◌≤◌, ◌↔◌, ◌==◌, ℕ, cond, IsTrue};
 ghost use Rattle.std.specs.Int.{bit_at};
+ghost use Rattle.std.specs.Int.Bits.{bit_xor};
 ghost use Rattle.std.specs.Ordering.{nat_cmp, ordering_then};
 ghost use Rattle.cidr.specs.internal.Halves.{joined};
 
@@ -263,5 +264,14 @@ impl Halves {
         } else {
             Halves::new(self.upper, half::with_bit(self.lower, i - 64, b))
         }
+    }
+
+    /// The number with bit `i` inverted, the most significant first.
+    #[tactic(auto, using(crate::proofs::HalfNumbers::place_laws))]
+    pub(crate) fn with_flipped_bit(self, i: u8) -> Halves
+        requires { i < 128 }
+        ensures { result ≡ bit_xor self (2 ^ (127 - i)) }
+    {
+        Halves::split(self.join() ^ ((1 << 127) >> i))
     }
 }

@@ -93,8 +93,16 @@ impl BitString for AnyIpCidr {
         requires { i < length (any_bits self.old) }
         ensures { any_bits self.new ≡ any_with_bit i (inverted i (any_bits self.old)) (any_bits self.old) }
     {
-        let b = self.get(i);
-        self.set(i, !b);
+        if i == 0 {
+            let ipv6 = self.get(i);
+            *self = of_family(!ipv6);
+            return;
+        }
+        match self {
+            AnyIpCidr::Any => {}
+            AnyIpCidr::V4(network) => network.flip(i - 1),
+            AnyIpCidr::V6(network) => network.flip(i - 1),
+        }
     }
 
     fn clip(&mut self, k: usize) {

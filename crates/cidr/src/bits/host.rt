@@ -50,8 +50,8 @@ impl<A: SingleBits> BitString for Host<A> {
         ensures bits { network_of self.new ≡ set (network_of self.old) i (inverted i (network_of self.old)) }
         ensures host { self.new ≡ host_with_bit i (inverted i self.old.address) self.old }
     {
-        let b = self.get(i);
-        self.set(i, !b);
+        let len = self.network_length();
+        *self = Host::new_unchecked(self.address().with_flipped_bit(place(i, len)), len);
     }
 
     fn clip(&mut self, k: usize)

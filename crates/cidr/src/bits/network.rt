@@ -55,8 +55,9 @@ impl<A: SingleBits> BitString for Network<A> {
         requires { i < length self.old }
         ensures { self.new ≡ set self.old i (inverted i self.old) }
     {
-        let b = self.get(i);
-        self.set(i, !b);
+        let len = self.network_length();
+        let flipped = self.first_address().with_flipped_bit(place(i, len));
+        *self = Network::new_unchecked(flipped, len);
     }
 
     fn clip(&mut self, k: usize) {

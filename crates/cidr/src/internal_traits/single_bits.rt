@@ -1,11 +1,11 @@
 //! Single bits of an address, and how many bits two addresses begin with alike.
 ghost use Rattle.std.specs.Prelude.{◌≡◌, ◌<◌, false, get_or, set};
-ghost use Rattle.cidr.specs.model.BitString.{IsSharedLength, leading};
+ghost use Rattle.cidr.specs.model.BitString.{IsSharedLength, inverted, leading};
 ghost use Rattle.cidr.specs.model.Network.{width_of};
 
 use crate::addr::v4::Ipv4Addr;
 use crate::addr::v6::Ipv6Addr;
-use crate::arithmetic::{bit, shared_len, with_bit};
+use crate::arithmetic::{bit, shared_len, with_bit, with_flipped_bit};
 use crate::internal_traits::address_bits::AddressBits;
 
 /// The bits of an address one by one, the most significant first.
@@ -19,6 +19,11 @@ pub trait SingleBits: AddressBits {
     fn with_bit(self, i: u8, b: bool) -> Self
         requires { i < width_of Self.FAMILY }
         ensures { Self.bits result ≡ set (Self.bits self) i b };
+
+    /// The address with bit `i` inverted.
+    fn with_flipped_bit(self, i: u8) -> Self
+        requires { i < width_of Self.FAMILY }
+        ensures { Self.bits result ≡ set (Self.bits self) i (inverted i (Self.bits self)) };
 
     /// The number that the first 64 bits are; bits that are missing count as unset.
     fn first_64(self) -> u64
@@ -39,6 +44,11 @@ impl SingleBits for Ipv4Addr {
         Ipv4Addr::from_bits(with_bit(self.to_bits(), i, b))
     }
 
+    #[tactic(auto, using(crate::proofs::SingleBits::single_bit_laws))]
+    fn with_flipped_bit(self, i: u8) -> Ipv4Addr {
+        Ipv4Addr::from_bits(with_flipped_bit(self.to_bits(), i))
+    }
+
     fn first_64(self) -> u64 {
         u64::from(self.to_bits()) << 32
     }
@@ -56,6 +66,11 @@ impl SingleBits for Ipv6Addr {
     #[tactic(auto, using(crate::proofs::SingleBits::single_bit_laws))]
     fn with_bit(self, i: u8, b: bool) -> Ipv6Addr {
         Ipv6Addr::from_halves(self.halves().with_bit(i, b))
+    }
+
+    #[tactic(auto, using(crate::proofs::SingleBits::single_bit_laws))]
+    fn with_flipped_bit(self, i: u8) -> Ipv6Addr {
+        Ipv6Addr::from_halves(self.halves().with_flipped_bit(i))
     }
 
     #[tactic(auto, using(crate::proofs::LeadingBits::leading_laws))]
