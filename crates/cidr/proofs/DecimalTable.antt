@@ -31,7 +31,8 @@ number_in_table n at len e h few =
     let short : (t : List ℕ) → take len (take 4 t) ≡ take len t = λ t. take-take len 4 t few in
     let row = row_at 4 NUMBERS.now (λ k. take 4 (three_digits k ++ dots)) refl n h in
     rw (width, e)
-    (sym (short (drop (n * 4) NUMBERS.now)) ∙ ap (take len) (row ∙ ap (λ t. take 4 (t ++ dots)) (three_digits_are n h)) ∙ short _)
+    (sym (short (drop (n * 4) NUMBERS.now))
+    ∙ ap (take len) (row ∙ ap (λ t. take 4 (t ++ dots)) (three_digits_are n h)) ∙ short _)
 
 pub IsAscii-numbers : IsAscii NUMBERS.now
 IsAscii-numbers = IsAscii-from_test NUMBERS.now refl
@@ -53,7 +54,8 @@ up_to_dot : (t more : List ℕ) → take (suc (length t)) (t ++ dot ∷ more) �
 up_to_dot [] more = refl
 up_to_dot (x ∷ t) more = ap (λ r. x ∷ r) (up_to_dot t more)
 
-pub number_and_dot : (t : List ℕ) → length t ≤ 3 → take (length t + 1) (take 4 (t ++ dot ∷ dot ∷ dot ∷ [])) ≡ t ++ dot ∷ []
+pub number_and_dot : (t : List ℕ) → length t ≤ 3
+    → take (length t + 1) (take 4 (t ++ dot ∷ dot ∷ dot ∷ [])) ≡ t ++ dot ∷ []
 number_and_dot t few =
     let next : length t + 1 ≡ suc (length t) = omega arith in
     take-take (length t + 1) 4 _ (omega arith) ∙ ap (λ (k : ℕ). take k (t ++ dot ∷ dot ∷ dot ∷ [])) next

@@ -1,10 +1,10 @@
--- The table of hexadecimal digits, held against std's value of a digit at each of the 256 bytes.
-use Rattle.std.proofs.Common.{◌≡◌, ℕ, zero, suc, ◌<◌, ◌≤◌, Bool, true, ◌&&◌, ◌==◌, get_or, refl, ◌∙◌, arith, inl, inr, if◌then◌else◌, nat_lt}
+-- The tables of hexadecimal digits, held against std's values and digits at each of the 256 bytes.
+use Rattle.std.proofs.Common.{◌≡◌, ℕ, zero, suc, ◌+◌, ◌-◌, ◌*◌, ◌/◌, ◌%◌, ◌<◌, ◌≤◌, [], ◌∷◌, take, drop, IsAscii, Bool, true, ◌&&◌, ◌==◌, get_or, refl, ◌∙◌, arith, inl, inr, if◌then◌else◌, nat_lt}
 use Rattle.std.proofs.lemmas.Bool.{cases_eq, cases_lt, eqb-true}
 use Rattle.std.proofs.lemmas.Bool.Decides.{nat_tests}
-use Rattle.std.specs.Char.{digit_value}
-use Rattle.cidr.specs.declared.addr.hex.TheConstants.{DIGIT_VALUES}
-use Rattle.cidr.proofs.TextTables.{both_of}
+use Rattle.std.specs.Char.{digit_value, digit_char}
+use Rattle.cidr.specs.declared.addr.hex.TheConstants.{DIGIT_VALUES, PAIRS}
+use Rattle.cidr.proofs.TextTables.{both_of, row_at, IsAscii-from_test}
 
 -- both are the same below n
 same_below : (ℕ → ℕ) → (ℕ → ℕ) → ℕ → Bool
@@ -42,3 +42,13 @@ digit_in_table b i e l h =
 
 pub none_in_table : (b i : ℕ) → i ≡ b → b < 256 → 16 ≤ get_or DIGIT_VALUES i 0 → ¬ (digit_value b < 16)
 none_in_table b i e l h = value_above (digit_value b) (rw (stands b i e l) at h)
+
+-- the two digits of a byte stand in the table of pairs
+pub pair_in_table : (n at : ℕ) → at ≡ n → n < 256
+    → take (at * 2 + 2 - at * 2) (drop (at * 2) PAIRS.now) ≡ digit_char (n / 16) ∷ digit_char (n % 16) ∷ []
+pair_in_table n at e h =
+    let width : at * 2 + 2 - at * 2 ≡ 2 = omega arith in
+    rw (width, e) (row_at 2 PAIRS.now (λ k. digit_char (k / 16) ∷ digit_char (k % 16) ∷ []) refl n h)
+
+pub IsAscii-pairs : IsAscii PAIRS.now
+IsAscii-pairs = IsAscii-from_test PAIRS.now refl

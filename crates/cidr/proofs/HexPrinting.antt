@@ -26,7 +26,35 @@ pub hex_one : (n : ℕ) (old : List ℕ) → n < 16 → old ++ digit_char (n % 1
 unfolding hex
 hex_one n old k = rw (lt-leb 4096 n (omega arith), lt-leb 256 n (omega arith), lt-leb 16 n k) refl
 
-pub ruleset hex_laws = (hex_four, hex_three, hex_two, hex_one)
+-- the same, two digits at a time
+high_pair : (n : ℕ) → n / 256 / 16 ≡ n / 4096
+high_pair n = omega arith
+
+low_pair : (n : ℕ) → n % 256 / 16 ≡ n / 16 % 16
+low_pair n = omega arith
+
+last_of_pair : (n : ℕ) → n % 256 % 16 ≡ n % 16
+last_of_pair n = omega arith
+
+pub hex_four_pairs : (n : ℕ) (old : List ℕ) → 4096 ≤ n
+    → (old ++ digit_char (n / 256 / 16) ∷ digit_char (n / 256 % 16) ∷ [])
+    ++ digit_char (n % 256 / 16) ∷ digit_char (n % 256 % 16) ∷ [] ≡ old ++ hex n
+hex_four_pairs n old h = rw (high_pair n, low_pair n, last_of_pair n, ← hex_four n old h) (simp append_assoc)
+
+pub hex_three_pairs : (n : ℕ) (old : List ℕ) → 256 ≤ n → n < 4096
+    → (old ++ digit_char (n / 256) ∷ []) ++ digit_char (n % 256 / 16) ∷ digit_char (n % 256 % 16) ∷ [] ≡ old ++ hex n
+hex_three_pairs n old h k =
+    let small : n / 256 ≡ n / 256 % 16 = omega arith in
+    rw (low_pair n, last_of_pair n, ← hex_three n old h k, ← small) (simp append_assoc)
+
+pub hex_two_pairs : (n : ℕ) (old : List ℕ) → 16 ≤ n → n < 256
+    → old ++ digit_char (n % 256 / 16) ∷ digit_char (n % 256 % 16) ∷ [] ≡ old ++ hex n
+hex_two_pairs n old h k = rw (low_pair n, last_of_pair n, ← hex_two n old h k) (simp append_assoc)
+
+pub hex_one_alone : (n : ℕ) (old : List ℕ) → n < 16 → old ++ digit_char n ∷ [] ≡ old ++ hex n
+hex_one_alone n old h = let small : n % 16 ≡ n = omega arith in rw (← hex_one n old h, small) refl
+
+pub ruleset hex_laws = (hex_four_pairs, hex_three_pairs, hex_two_pairs, hex_one_alone)
 
 -- one more group
 pub groups_more : (s : ℕ) (front : List ℕ) (x : ℕ) (old : List ℕ) → (((old ++ groups_text (s ∷ front)) ++ 58 ∷ []) ++ hex x) ≡ old ++ groups_text (s ∷ (front ++ x ∷ []))

@@ -155,6 +155,7 @@ impl Ipv6Addr {
     }
 
     /// Appends the printed string.
+    #[inline(always)]
     pub(crate) fn push_to<const CAP: usize>(&self, text: &mut ArrayString<CAP>)
         requires { length text.old.bytes + 39 ≤ CAP }
         ensures bytes { text.new.bytes ≡ text.old.bytes ++ ipv6_text self.now }

@@ -16,10 +16,12 @@ range-requires-clause-end_boundary c =
 pub returns-clause-value : goal.returns-clause-value
 returns-clause-value c =
     let at = c.from-start.result in
-    let read : c.range.result.now ≡ take (at * 4 + c.args.len - at * 4) (drop (at * 4) NUMBERS.now) = c.range.ensures.value in
+    let read : c.range.result.now ≡ take (at * 4 + c.args.len - at * 4) (drop (at * 4) NUMBERS.now) =
+    c.range.ensures.value in
     read ∙ number_in_table c.args.n at c.args.len c.from-start.ensures (omega arith) (omega arith)
 
 pub returns-clause-ascii : goal.returns-clause-ascii
 returns-clause-ascii c =
     let at = c.from-start.result in
-    IsAscii-part NUMBERS.now c.range.result.now (at * 4 + c.args.len - at * 4) (at * 4) IsAscii-numbers c.range.ensures.value
+    let len = at * 4 + c.args.len - at * 4 in
+    IsAscii-part NUMBERS.now c.range.result.now len (at * 4) IsAscii-numbers c.range.ensures.value
