@@ -130,11 +130,15 @@ fn mixed(sum: u32, next: u32) -> u32 {
 
 fn bytes_number(bytes: &[u8]) -> u32 {
     let mut sum = bytes.len() as u64;
-    for part in bytes.chunks(8) {
-        match part.first_chunk::<8>() {
-            Some(eight) => sum = sum.rotate_left(9) ^ u64::from_le_bytes(*eight),
-            None => part.iter().for_each(|byte| sum = sum.rotate_left(9) ^ u64::from(*byte)),
+    match bytes.last_chunk::<8>() {
+        Some(last) => {
+            for part in bytes.chunks_exact(8) {
+                let eight = part.first_chunk::<8>().unwrap_or(last);
+                sum = sum.rotate_left(9) ^ u64::from_le_bytes(*eight);
+            }
+            sum = sum.rotate_left(9) ^ u64::from_le_bytes(*last);
         }
+        None => bytes.iter().for_each(|byte| sum = sum.rotate_left(9) ^ u64::from(*byte)),
     }
     folded(u128::from(sum))
 }

@@ -42,16 +42,20 @@ impl Number for u128 {
     }
 }
 
-/// One number out of bytes, eight at a time, and then one by one.
+/// One number out of bytes, eight at a time and then the last eight, and where there are fewer, one by one.
 pub fn bytes_number(bytes: &[u8]) -> u32 {
     let mut sum = bytes.len() as u64;
-    for part in bytes.chunks(8) {
-        match part.first_chunk::<8>() {
-            Some(eight) => sum = sum.rotate_left(9) ^ u64::from_le_bytes(*eight),
-            None => {
-                for byte in part {
-                    sum = sum.rotate_left(9) ^ u64::from(*byte);
-                }
+    match bytes.last_chunk::<8>() {
+        Some(last) => {
+            for part in bytes.chunks_exact(8) {
+                let eight = part.first_chunk::<8>().unwrap_or(last);
+                sum = sum.rotate_left(9) ^ u64::from_le_bytes(*eight);
+            }
+            sum = sum.rotate_left(9) ^ u64::from_le_bytes(*last);
+        }
+        None => {
+            for byte in bytes {
+                sum = sum.rotate_left(9) ^ u64::from(*byte);
             }
         }
     }
