@@ -6,7 +6,8 @@ use Rattle.std.proofs.lemmas.List.{get_or-append_right, get_or_past, take_all}
 use Rattle.std.proofs.Math.Nat.{pow-le-pow_right}
 use Rattle.std.specs.Char.{digit_value}
 use Rattle.std.specs.Str.Parse.{AllDigits, digits_value}
-use Rattle.cidr.specs.internal.Reading.{IsFirstGroup, NoGroupFirst}
+use Rattle.cidr.specs.texts.Ipv6Text.{colon}
+use Rattle.cidr.specs.internal.Reading.{IsFirstGroup, NoGroupFirst, IsFullGroup}
 
 -- what has been read of a group
 pub record HasGroup (text : List ℕ) (count value : ℕ) : Type 0 where
@@ -87,3 +88,26 @@ past_end text count i e end = rw (get_or_past text count 0 (omega arith)) (lit�
 
 pub other_byte : (text : List ℕ) (count i byte : ℕ) → count ≡ i → byte ≡ get_or text i 0 → ¬ (digit_value byte < 16) → 16 ≤ digit_value (get_or text count 0)
 other_byte text count i byte e is h = let v = digit_value byte in let large : 16 ≤ v = omega arith in rw (e, ← is) large
+
+-- ---- four digits and a colon
+abbrev pub first_four : List ℕ → List ℕ
+first_four text = get_or text 0 0 ∷ get_or text 1 0 ∷ get_or text 2 0 ∷ get_or text 3 0 ∷ []
+
+pub full_group : (text : List ℕ) (n : ℕ) → 5 ≤ length text → get_or text 4 0 ≡ colon → AllDigits 16 (first_four text)
+    → n ≡ digits_value 16 (first_four text) → IsFullGroup text n (take (length text - 5) (drop 5 text))
+full_group (a ∷ b ∷ c ∷ d ∷ e ∷ rest) n long is digits value =
+    let all : take (length (a ∷ b ∷ c ∷ d ∷ e ∷ rest) - 5) rest ≡ rest = take_all _ _ (omega arith) in
+    record {
+      first = record {
+        front = a ∷ b ∷ c ∷ d ∷ [];
+        spelled = rw (all, is) refl;
+        group = ((lit≤ tt, digits), lit≤ tt, sym value);
+        ends = lit≤ tt;
+      };
+      four = refl;
+    }
+full_group [] n long is digits value = absurd (omega arith)
+full_group (a ∷ []) n long is digits value = absurd (omega arith)
+full_group (a ∷ b ∷ []) n long is digits value = absurd (omega arith)
+full_group (a ∷ b ∷ c ∷ []) n long is digits value = absurd (omega arith)
+full_group (a ∷ b ∷ c ∷ d ∷ []) n long is digits value = absurd (omega arith)

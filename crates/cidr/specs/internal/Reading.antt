@@ -1,11 +1,11 @@
 -- What the parsers of a part of a string promise each other.
-use Rattle.std.specs.Prelude.{◌≡◌, ◌≢◌, ℕ, ◌+◌, ◌*◌, ◌^◌, ◌<◌, ◌≤◌, ◌↔◌, ◌⊎◌, Bool, true, List, [], ◌∷◌, ◌++◌, length, take, flat_map, Option, Some, None, MatchOption, slice_index, Result, Ok}
+use Rattle.std.specs.Prelude.{◌≡◌, ◌≢◌, ℕ, ◌+◌, ◌*◌, ◌^◌, ◌<◌, ◌≤◌, ◌↔◌, ◌⊎◌, nat_lt, if◌then◌else◌, Bool, true, List, [], ◌∷◌, ◌++◌, length, take, flat_map, Option, MatchOption, slice_index, Result, Ok}
 use Rattle.std.specs.Borrow.{Bor}
 use Rattle.std.specs.Char.{digit_value}
-use Rattle.std.specs.Net.Reader.{read_separator, read_segments}
+use Rattle.std.specs.Net.Reader.{read_segments}
 use Rattle.cidr.specs.model.Bits.{bits}
 use Rattle.cidr.specs.texts.Ipv4Text.{dot, IsOctetText, IsJoined}
-use Rattle.cidr.specs.texts.Ipv6Text.{IsGroupText}
+use Rattle.cidr.specs.texts.Ipv6Text.{colon, IsGroupText}
 use Rattle.cidr.specs.texts.NetworkText.{slash}
 use Rattle.cidr.specs.declared.errors.NetworkParseError.{NetworkParseError}
 
@@ -68,6 +68,10 @@ TakesFirst text r =
     MatchOption r ((n m : ℕ) (ns : List ℕ) → ¬ (IsJoined IsOctetText text (n ∷ m ∷ ns)))
     (λ p. (n m : ℕ) (ns : List ℕ) → IsJoined IsOctetText text (n ∷ m ∷ ns) ↔ ((n ≡ p.0) × IsJoined IsOctetText p.1.now (m ∷ ns)))
 
+-- the value of a byte as a digit, where it is one in radix 16, or else a number that four digits can't write
+abbrev pub IsDigitOrNo : ℕ → ℕ → Type 0
+IsDigitOrNo value n = ((value < 16) × (n ≡ value)) ⊎ ((16 ≤ value) × (n ≡ 16 ^ 4))
+
 -- no hexadecimal digit stands first
 abbrev pub NoHexFirst : List ℕ → Type 0
 NoHexFirst text = 16 ≤ digit_value (slice_index text 0)
@@ -86,9 +90,23 @@ NoGroupFirst text = (t : List ℕ) (n : ℕ) (more : List ℕ) → IsGroupText t
 abbrev pub TakesGroup : List ℕ → Option (ℕ × Bor (List ℕ)) → Type 0
 TakesGroup text r = MatchOption r (NoGroupFirst text) (λ p. IsFirstGroup text p.0 p.1.now)
 
--- the string after a colon, or all of it for the first group
-abbrev pub TakesSeparator : Bool → List ℕ → Option (Bor (List ℕ)) → Type 0
-TakesSeparator first text r = MatchOption r (None ≡ read_separator first text) (λ group. Some group.now ≡ read_separator first text)
+-- a group of four digits stands first, and a colon follows it
+pub record IsFullGroup (text : List ℕ) (n : ℕ) (rest : List ℕ) : Type 0 where
+  pub first : IsFirstGroup text n (colon ∷ rest)
+  pub four : length first.front ≡ 4
+
+abbrev pub TakesFullGroup : List ℕ → Option (ℕ × Bor (List ℕ)) → Type 0
+TakesFullGroup text r =
+    MatchOption r ((n : ℕ) (rest : List ℕ) → ¬ (IsFullGroup text n rest)) (λ p. IsFullGroup text p.0 p.1.now)
+
+-- two colons were read
+abbrev pub TakesTwoColons : List ℕ → Option (Bor (List ℕ)) → Type 0
+TakesTwoColons text r =
+    MatchOption r ((rest : List ℕ) → text ≢ colon ∷ colon ∷ rest) (λ rest. text ≡ colon ∷ colon ∷ rest.now)
+
+-- what is left after so many groups, with the colon behind the last of them
+abbrev pub with_colon : ℕ → List ℕ → List ℕ
+with_colon count rest = if nat_lt 0 count then colon ∷ rest else rest
 
 -- the number whose bits are those of the parts, of k bits each
 pub record WritesParts (k : ℕ) (parts : List ℕ) (n : ℕ) : Type 0 where
@@ -105,10 +123,19 @@ pub record IsFound (room : ℕ) (text : List ℕ) (n count : ℕ) (rest : List �
   pub fits : count ≤ room
   pub number : WritesParts 16 groups n
 
--- what is left after the groups is neither nothing nor `::`
+-- the same, where this is left after the colon behind them, or nothing where the last of them ends the string
+pub record FindsGroups (room : ℕ) (text : List ℕ) (n count : ℕ) (rest : List ℕ) : Type 0 where
+  pub left : List ℕ
+  pub found : IsFound room text n count left
+  pub all : rest ≡ [] → left ≡ []
+  pub some : rest ≢ [] → left ≡ with_colon count rest
+  pub fewer : rest ≢ [] → 0 < count → count < room
+
+-- what is left after the groups is neither nothing nor `::`, or they take up all the room
 pub record IsStuck (room : ℕ) (text : List ℕ) : Type 0 where
   pub left : (read_segments room true text).2 ≢ []
-  pub other : ((read_segments room true text).1 ≡ true) ⊎ (slice_index (read_segments room true text).2 0 ≡ dot)
+  pub other : ((read_segments room true text).1 ≡ true) ⊎ ((length (read_segments room true text).0 ≡ room)
+      ⊎ ((rest : List ℕ) → (read_segments room true text).2 ≢ colon ∷ colon ∷ rest))
 
 -- an address and a length, as they are
 abbrev pub AreParts : {A : Type 0} → A → ℕ → Result (A × ℕ) NetworkParseError → Type 0

@@ -1,33 +1,57 @@
 //! Hexadecimal digits and their values.
-ghost use Rattle.std.specs.Prelude.{◌≡◌, ◌/◌, ◌%◌, ◌<◌, [], ◌∷◌, length};
+ghost use Rattle.std.specs.Prelude.{◌≡◌, ◌/◌, ◌%◌, ◌^◌, ◌<◌, ◌≤◌, [], ◌∷◌, length};
 ghost use Rattle.std.specs.Char.{digit_char, digit_value};
 ghost use Rattle.std.specs.Option.{SomeIff};
+ghost use Rattle.std.specs.Str.Parse.{AllDigits, digits_value};
+ghost use Rattle.cidr.specs.internal.Reading.{IsDigitOrNo};
 
-/// The value of each byte as a hexadecimal digit, or 0xff where it is none. A table has no branch to mispredict.
-static DIGIT_VALUES: [u8; 256] = *b"\
-    \xff\xff\xff\xff\xff\xff\xff\xff\xff\xff\xff\xff\xff\xff\xff\xff\
-    \xff\xff\xff\xff\xff\xff\xff\xff\xff\xff\xff\xff\xff\xff\xff\xff\
-    \xff\xff\xff\xff\xff\xff\xff\xff\xff\xff\xff\xff\xff\xff\xff\xff\
-    \x00\x01\x02\x03\x04\x05\x06\x07\x08\x09\xff\xff\xff\xff\xff\xff\
-    \xff\x0a\x0b\x0c\x0d\x0e\x0f\xff\xff\xff\xff\xff\xff\xff\xff\xff\
-    \xff\xff\xff\xff\xff\xff\xff\xff\xff\xff\xff\xff\xff\xff\xff\xff\
-    \xff\x0a\x0b\x0c\x0d\x0e\x0f\xff\xff\xff\xff\xff\xff\xff\xff\xff\
-    \xff\xff\xff\xff\xff\xff\xff\xff\xff\xff\xff\xff\xff\xff\xff\xff\
-    \xff\xff\xff\xff\xff\xff\xff\xff\xff\xff\xff\xff\xff\xff\xff\xff\
-    \xff\xff\xff\xff\xff\xff\xff\xff\xff\xff\xff\xff\xff\xff\xff\xff\
-    \xff\xff\xff\xff\xff\xff\xff\xff\xff\xff\xff\xff\xff\xff\xff\xff\
-    \xff\xff\xff\xff\xff\xff\xff\xff\xff\xff\xff\xff\xff\xff\xff\xff\
-    \xff\xff\xff\xff\xff\xff\xff\xff\xff\xff\xff\xff\xff\xff\xff\xff\
-    \xff\xff\xff\xff\xff\xff\xff\xff\xff\xff\xff\xff\xff\xff\xff\xff\
-    \xff\xff\xff\xff\xff\xff\xff\xff\xff\xff\xff\xff\xff\xff\xff\xff\
-    \xff\xff\xff\xff\xff\xff\xff\xff\xff\xff\xff\xff\xff\xff\xff\xff";
+/// What the table has for a byte that is no digit: more than four digits write.
+const NO: u32 = 0x1_0000;
+
+/// The value of each byte as a hexadecimal digit. A table has no branch to mispredict.
+static DIGIT_VALUES: [u32; 256] = [
+    NO, NO, NO, NO, NO, NO, NO, NO, NO, NO, NO, NO, NO, NO, NO, NO, NO, NO, NO, NO, NO, NO, NO, NO,
+    NO, NO, NO, NO, NO, NO, NO, NO, NO, NO, NO, NO, NO, NO, NO, NO, NO, NO, NO, NO, NO, NO, NO, NO,
+    0, 1, 2, 3, 4, 5, 6, 7, 8, 9, NO, NO, NO, NO, NO, NO, NO, 10, 11, 12, 13, 14, 15, NO, NO, NO,
+    NO, NO, NO, NO, NO, NO, NO, NO, NO, NO, NO, NO, NO, NO, NO, NO, NO, NO, NO, NO, NO, NO, NO, 10,
+    11, 12, 13, 14, 15, NO, NO, NO, NO, NO, NO, NO, NO, NO, NO, NO, NO, NO, NO, NO, NO, NO, NO, NO,
+    NO, NO, NO, NO, NO, NO, NO, NO, NO, NO, NO, NO, NO, NO, NO, NO, NO, NO, NO, NO, NO, NO, NO, NO,
+    NO, NO, NO, NO, NO, NO, NO, NO, NO, NO, NO, NO, NO, NO, NO, NO, NO, NO, NO, NO, NO, NO, NO, NO,
+    NO, NO, NO, NO, NO, NO, NO, NO, NO, NO, NO, NO, NO, NO, NO, NO, NO, NO, NO, NO, NO, NO, NO, NO,
+    NO, NO, NO, NO, NO, NO, NO, NO, NO, NO, NO, NO, NO, NO, NO, NO, NO, NO, NO, NO, NO, NO, NO, NO,
+    NO, NO, NO, NO, NO, NO, NO, NO, NO, NO, NO, NO, NO, NO, NO, NO, NO, NO, NO, NO, NO, NO, NO, NO,
+    NO, NO, NO, NO, NO, NO, NO, NO, NO, NO, NO, NO, NO, NO,
+];
+
+/// The value of the hexadecimal digit, which may be of either case, or `NO`.
+fn digit_or_no(byte: u8) -> u32
+    ensures value { IsDigitOrNo (digit_value byte) result }
+    ensures small { result ≤ 16 ^ 4 }
+{
+    DIGIT_VALUES[usize::from(byte)]
+}
 
 /// The value of the hexadecimal digit, which may be of either case.
 pub(crate) fn hex_value(byte: u8) -> Option<u8>
     ensures { SomeIff result (digit_value byte < 16) (digit_value byte) }
 {
-    let value = DIGIT_VALUES[usize::from(byte)];
-    if value < 16 { Some(value) } else { None }
+    let value = digit_or_no(byte);
+    if value < 16 { Some(value as u8) } else { None }
+}
+
+/// The number that four hexadecimal digits write. One test is enough for all four: where one of the bytes is no digit,
+/// the number is too large.
+pub(crate) fn hex_number(a: u8, b: u8, c: u8, d: u8) -> Option<u16>
+    ensures { let digits = a ∷ b ∷ c ∷ d ∷ [] in
+        SomeIff result (AllDigits 16 digits) (digits_value 16 digits) }
+{
+    let front = digit_or_no(a) * 16 + digit_or_no(b);
+    let number = (front * 16 + digit_or_no(c)) * 16 + digit_or_no(d);
+    if number < NO {
+        Some(number as u16)
+    } else {
+        None
+    }
 }
 
 /// The two digits of each byte, in lower case.

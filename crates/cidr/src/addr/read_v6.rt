@@ -2,9 +2,10 @@
 ghost use Rattle.std.specs.Prelude.{◌≡◌, ◌+◌, ◌≤◌, List, ℕ, Bool, MatchOption};
 ghost use Rattle.cidr.specs.model.Bits.{bits};
 ghost use Rattle.cidr.specs.texts.Ipv6Text.{IsIpv6Text};
-ghost use Rattle.cidr.specs.internal.Reading.{TakesGroup, TakesSeparator, IsFound, IsStuck};
+ghost use Rattle.cidr.specs.internal.Reading.{TakesGroup, TakesFullGroup, TakesTwoColons};
+ghost use Rattle.cidr.specs.internal.Reading.{FindsGroups, IsStuck, with_colon};
 
-use crate::addr::hex::hex_value;
+use crate::addr::hex::{hex_number, hex_value};
 use crate::addr::read_v4::{read_ipv4, take_byte};
 use crate::addr::v4::Ipv4Addr;
 
@@ -32,6 +33,18 @@ fn take_group(text: &[u8]) -> Option<(u16, &[u8])>
     }
 }
 
+/// The value of a group of four digits and a colon at the front, and what follows the colon.
+#[inline(always)]
+fn take_full_group(text: &[u8]) -> Option<(u16, &[u8])>
+    ensures { TakesFullGroup text.now result }
+{
+    if text.len() < 5 || text[4] != b':' {
+        return None;
+    }
+    let group = hex_number(text[0], text[1], text[2], text[3])?;
+    Some((group, &text[5..]))
+}
+
 /// Groups with colons between them. An IPv4 string may stand for the last two, and nothing follows it.
 #[derive(Clone, Copy)]
 struct Groups<'a> {
@@ -39,27 +52,16 @@ struct Groups<'a> {
     number: u128,
     /// How many they are.
     count: usize,
-    /// What follows them.
+    /// What follows the colon behind them. It is empty where the last of them ends the string.
     rest: &'a [u8],
 }
 
-/// The string from the next group on: after a colon, unless the group is the first.
-fn take_separator(text: &[u8], first: bool) -> Option<&[u8]>
-    ensures { TakesSeparator first text.now result }
-{
-    if first {
-        Some(text)
-    } else {
-        take_byte(text, b':')
-    }
-}
-
-/// As many groups as there are at the front, up to `room`, or nothing where a dot ends a group that begins no IPv4
-/// string.
+/// As many groups as there are at the front, up to `room`, or nothing where neither the end of the string nor two
+/// colons follow.
 #[inline(always)]
-fn take_groups(text: &[u8], room: usize) -> Option<Groups<'_>>
+fn read_groups(text: &[u8], room: usize) -> Option<Groups<'_>>
     requires { room ≤ 8 }
-    ensures { MatchOption result (IsStuck room text.now) (λ g. IsFound room text.now g.number g.count g.rest.now) }
+    ensures { MatchOption result (IsStuck room text.now) (λ g. FindsGroups room text.now g.number g.count g.rest.now) }
 {
     let mut groups = Groups {
         number: 0,
@@ -67,45 +69,81 @@ fn take_groups(text: &[u8], room: usize) -> Option<Groups<'_>>
         rest: text,
     };
     while groups.count < room {
-        let Some(group_text) = take_separator(groups.rest, groups.count == 0) else {
-            break;
+        // Most groups have four digits, and are not the last.
+        if let Some((group, rest)) = take_full_group(groups.rest) {
+            groups = Groups {
+                number: (groups.number << 16) + u128::from(group),
+                count: groups.count + 1,
+                rest,
+            };
+            continue;
+        }
+        let Some((group, after)) = take_group(groups.rest) else {
+            return if groups.count > 0 && groups.rest.is_empty() {
+                None
+            } else {
+                Some(groups)
+            };
         };
-        let Some((group, after)) = take_group(group_text) else {
-            break;
-        };
-        if groups.count + 1 < room && take_byte(after, b'.').is_some() {
-            let last = Ipv4Addr::from(read_ipv4(group_text)?);
+        if let Some(rest) = take_byte(after, b':') {
+            groups = Groups {
+                number: (groups.number << 16) + u128::from(group),
+                count: groups.count + 1,
+                rest,
+            };
+            continue;
+        }
+        if after.is_empty() {
             return Some(Groups {
-                number: (groups.number << 32) + u128::from(last.to_bits()),
-                count: groups.count + 2,
-                rest: &[],
+                number: (groups.number << 16) + u128::from(group),
+                count: groups.count + 1,
+                rest: after,
             });
         }
-        groups = Groups {
-            number: (groups.number << 16) + u128::from(group),
-            count: groups.count + 1,
-            rest: after,
-        };
+        if groups.count + 1 == room {
+            return None;
+        }
+        let last = Ipv4Addr::from(read_ipv4(groups.rest)?);
+        return Some(Groups {
+            number: (groups.number << 32) + u128::from(last.to_bits()),
+            count: groups.count + 2,
+            rest: &[],
+        });
     }
-    Some(groups)
+    if groups.count == 0 {
+        Some(groups)
+    } else {
+        None
+    }
+}
+
+/// What follows two colons after so many groups. Where there are some, the first colon has been taken with them.
+fn take_two_colons(text: &[u8], count: usize) -> Option<&[u8]>
+    ensures { TakesTwoColons (with_colon count text.now) result }
+{
+    let second = if count > 0 {
+        text
+    } else {
+        take_byte(text, b':')?
+    };
+    take_byte(second, b':')
 }
 
 /// The number of the IPv6 address that the string is parsed as.
 pub(crate) fn read_ipv6(text: &[u8]) -> Option<u128>
     ensures { MatchOption result ((a : List Bool) → ¬ (IsIpv6Text text.now a)) (λ n. IsIpv6Text text.now (bits 128 n)) }
 {
-    let head = take_groups(text, 8)?;
-    if head.count == 8 {
-        return if head.rest.is_empty() {
+    let head = read_groups(text, 8)?;
+    if head.rest.is_empty() {
+        return if head.count == 8 {
             Some(head.number)
         } else {
             None
         };
     }
-    let after_first = take_byte(head.rest, b':')?;
-    let after_both = take_byte(after_first, b':')?;
+    let tail_text = take_two_colons(head.rest, head.count)?;
     // The two colons stand for one group at least.
-    let tail = take_groups(after_both, 7 - head.count)?;
+    let tail = read_groups(tail_text, 7 - head.count)?;
     if !tail.rest.is_empty() {
         return None;
     }
