@@ -1,6 +1,7 @@
 //! Printing the groups of an IPv6 address into a string of a fixed capacity.
-ghost use Rattle.std.specs.Prelude.{◌≡◌, ◌+◌, ◌*◌, ◌-◌, ◌≤◌, ◌++◌, length, take, bytes_eq};
-ghost use Rattle.std.specs.Net.Text.{hex, groups_text, longest_zero_run, compressed_text, hex_groups_text};
+ghost use Rattle.std.specs.Prelude.{◌≡◌, ◌+◌, ◌*◌, ◌-◌, ◌<◌, ◌≤◌, ◌==◌, ◌++◌, length, map, take, bytes_eq};
+ghost use Rattle.std.specs.Net.Text.{hex, groups_text, longest_zero_run, hex_groups_text};
+ghost use Rattle.cidr.specs.model.Bits.{number};
 ghost use Rattle.cidr.specs.texts.Canonical.{mapped_groups};
 
 use crate::addr::hex::{hex_digit, hex_pair};
@@ -46,38 +47,52 @@ fn push_groups<const CAP: usize>(text: &mut ArrayString<CAP>, groups: &[u16])
     }
 }
 
+/// The longest run of zeros among eight groups, for each number with a bit that is set for each zero, the highest one
+/// for the first group. The first hexadecimal digit is where the run starts, the second its length. A table has no
+/// branch to mispredict.
+static RUNS: [u8; 256] = *b"\
+    \x00\x71\x61\x62\x51\x51\x52\x53\x41\x41\x41\x62\x42\x42\x43\x44\
+    \x31\x31\x31\x62\x31\x31\x52\x53\x32\x32\x32\x32\x33\x33\x34\x35\
+    \x21\x21\x21\x62\x21\x21\x52\x53\x21\x21\x21\x62\x42\x42\x43\x44\
+    \x22\x22\x22\x22\x22\x22\x22\x53\x23\x23\x23\x23\x24\x24\x25\x26\
+    \x11\x11\x11\x62\x11\x11\x52\x53\x11\x11\x11\x62\x42\x42\x43\x44\
+    \x11\x11\x11\x62\x11\x11\x52\x53\x32\x32\x32\x32\x33\x33\x34\x35\
+    \x12\x12\x12\x12\x12\x12\x12\x53\x12\x12\x12\x12\x12\x12\x43\x44\
+    \x13\x13\x13\x13\x13\x13\x13\x13\x14\x14\x14\x14\x15\x15\x16\x17\
+    \x01\x01\x01\x62\x01\x01\x52\x53\x01\x01\x01\x62\x42\x42\x43\x44\
+    \x01\x01\x01\x62\x01\x01\x52\x53\x32\x32\x32\x32\x33\x33\x34\x35\
+    \x01\x01\x01\x62\x01\x01\x52\x53\x01\x01\x01\x62\x42\x42\x43\x44\
+    \x22\x22\x22\x22\x22\x22\x22\x53\x23\x23\x23\x23\x24\x24\x25\x26\
+    \x02\x02\x02\x02\x02\x02\x02\x53\x02\x02\x02\x02\x02\x02\x43\x44\
+    \x02\x02\x02\x02\x02\x02\x02\x53\x02\x02\x02\x02\x33\x33\x34\x35\
+    \x03\x03\x03\x03\x03\x03\x03\x03\x03\x03\x03\x03\x03\x03\x03\x44\
+    \x04\x04\x04\x04\x04\x04\x04\x04\x05\x05\x05\x05\x06\x06\x07\x08";
+
+/// Which of the groups are zeros, as a number with a bit for each group, the highest for the first.
+#[inline(always)]
+#[tactic(auto, using(crate::proofs::ZeroRuns::place_laws))]
+fn zero_places(groups: &[u16]) -> usize
+    requires { length groups.now ≡ 8 }
+    ensures value { result ≡ number (map (λ g. g == 0) groups.now) }
+    ensures fits { result < 256 }
+{
+    let mut places = 0;
+    for group in groups {
+        places = 2 * places + if *group == 0 { 1 } else { 0 };
+    }
+    places
+}
+
 /// The start and the length of the longest run of zeros, the first one of that length.
-fn zero_run(groups: &[u16]) -> (usize, usize)
+#[inline(always)]
+#[tactic(auto, using(crate::proofs::ZeroRuns::run_laws))]
+fn longest_run(groups: &[u16]) -> (usize, usize)
+    requires { length groups.now ≡ 8 }
     ensures value { result ≡ longest_zero_run groups.now }
     ensures fits { result.0 + result.1 ≤ length groups.now }
 {
-    let mut start = groups.len();
-    let mut len = 0;
-    let mut run = 0;
-    for i in (0..groups.len()).rev() {
-        run = if groups[i] == 0 { run + 1 } else { 0 };
-        if run >= len {
-            start = i;
-            len = run;
-        }
-    }
-    (start, len)
-}
-
-/// The start and the length of the run of zeros that `::` stands for. It is shorter than two where there is none.
-#[inline(always)]
-#[tactic(auto, using(crate::proofs::ZeroRuns::shortened_laws))]
-fn shortened_run(groups: &[u16]) -> (usize, usize)
-    requires { length groups.now ≡ 8 }
-    ensures text { hex_groups_text groups.now ≡ compressed_text groups.now result }
-    ensures fits { result.0 + result.1 ≤ length groups.now }
-{
-    // Of two groups next to each other, one is the second, the fourth, the sixth or the last.
-    if groups[1] != 0 && groups[3] != 0 && groups[5] != 0 && groups[7] != 0 {
-        (0, 0)
-    } else {
-        zero_run(groups)
-    }
+    let run = RUNS[zero_places(groups)];
+    (usize::from(run / 16), usize::from(run % 16))
 }
 
 /// Whether the groups are those of an IPv4 address in an IPv6 address: five of zeros, one of ones, and two more.
@@ -90,13 +105,14 @@ pub(crate) fn is_mapped(groups: &[u16]) -> bool
 
 /// Appends eight groups, the longest run of two zeros or more as `::`.
 #[inline(always)]
+#[tactic(auto, unfolding(std::specs::Net::Text::hex_groups_text))]
 pub(crate) fn push_hex_groups<const CAP: usize>(text: &mut ArrayString<CAP>, groups: &[u16])
     requires eight { length groups.now ≡ 8 }
     requires room { length text.old.bytes + 39 ≤ CAP }
     ensures bytes { text.new.bytes ≡ text.old.bytes ++ hex_groups_text groups.now }
     ensures len { length text.new.bytes ≤ length text.old.bytes + 39 }
 {
-    let (start, len) = shortened_run(groups);
+    let (start, len) = longest_run(groups);
     if len > 1 {
         push_groups(text, &groups[..start]);
         text.push_str("::");
