@@ -205,6 +205,7 @@ impl AddressText for Ipv4Addr {
         text.parse()
     }
 
+    #[inline(always)]
     fn push_to(&self, text: &mut ArrayString<43>) {
         self.push_to(text);
     }
@@ -290,6 +291,7 @@ impl AddressText for Ipv6Addr {
         text.parse()
     }
 
+    #[inline(always)]
     fn push_to(&self, text: &mut ArrayString<43>) {
         self.push_to(text);
     }
