@@ -1,14 +1,14 @@
 -- Walks from one address to another: how long they are, and what stands at their ends.
-use Rattle.std.proofs.Common.{◌≡◌, ℕ, suc, ◌+◌, ◌-◌, ◌^◌, ◌<◌, ◌≤◌, Bool, true, false, List, [], ◌∷◌, ◌++◌, length, map, refl, sym, ap, ap₂, ◌∙◌, subst, arith, IsTrue, Option, Some, length-append}
+use Rattle.std.proofs.Common.{◌≡◌, ℕ, suc, ◌+◌, ◌-◌, ◌^◌, ◌<◌, ◌≤◌, Bool, List, [], ◌∷◌, ◌++◌, length, map, take, drop, refl, sym, ap, ap₂, ◌∙◌, subst, arith, Option, Some, length-append, take_at}
 use Rattle.std.specs.List.{range_with_len}
-use Rattle.std.proofs.lemmas.List.{same_from_push, map-append}
+use Rattle.std.proofs.lemmas.List.{map-append}
 use Rattle.std.proofs.lemmas.List.FromFn.{length-map-range_with_len, map-range_with_len_more}
 use Rattle.cidr.specs.model.Bits.{bits, number}
 use Rattle.cidr.specs.laws.BitLaws.{number-bits, number-lt}
 use Rattle.cidr.specs.model.Network.{width_of}
 use Rattle.cidr.specs.model.Host.{Host}
 use Rattle.cidr.specs.model.Pair.{Pair, IsPair, first_of_pair, second_of_pair}
-use Rattle.cidr.specs.model.Walk.{walk_between, pair_walk, hosts_of, pair_hosts, hosts_left, LosesFirst, LosesLast}
+use Rattle.cidr.specs.model.Walk.{walk_between, pair_walk, hosts_of, pair_hosts, hosts_left}
 use Rattle.cidr.specs.declared.family.Family.{Family}
 use Rattle.cidr.proofs.NetworkNumbers.{same_from_number}
 
@@ -28,20 +28,6 @@ walk-second w p q l h =
     let s = same_from_number w (number q) q l refl in
     rw (n, map-range_with_len_more (bits w) (number p) (number q - number p) (number q) (omega arith), s) refl
 
-first_is : (w : ℕ) (p q x : List Bool) (rest : List (List Bool)) → length p ≡ w → walk_between w p q ≡ x ∷ rest → x ≡ p
-first_is w p q x rest l e =
-    let n : length (walk_between w p q) ≡ suc (length rest) = ap length e in
-    let h : number p ≤ number q = omega (arith, length-walk_between w p q) in
-    let f = walk-first w p q l h in
-    cc
-
-second_is : (w : ℕ) (p q x : List Bool) (rest : List (List Bool)) → length q ≡ w → walk_between w p q ≡ rest ++ x ∷ [] → x ≡ q
-second_is w p q x rest l e =
-    let n : length (walk_between w p q) ≡ length (rest ++ x ∷ []) = ap length e in
-    let h : number p ≤ number q = omega (arith, length-walk_between w p q, length-append rest (x ∷ [])) in
-    let k = same_from_push rest (map (bits w) (range_with_len (number p) (number q - number p))) x q (sym e ∙ walk-second w p q l h) in
-    k.1
-
 -- without its first, or its second address
 pub walk-after_first : (w : ℕ) (p q : List Bool) → length p ≡ w → length q ≡ w → number p < number q → walk_between w p q ≡ p ∷ walk_between w (bits w (number p + 1)) q
 walk-after_first w p q l m h =
@@ -59,61 +45,38 @@ walk-before_second w p q l m h =
     let n : number q - 1 + 1 - number p ≡ number q - number p = omega arith in
     walk-second w p q m (omega arith) ∙ rw (back, n) refl
 
--- ---- hosts given from the ends of what is left
--- a list of one
-only : {X : Type 0} (xs : List X) → 0 < length xs → (2 ≤ length xs → IsTrue false) → (x : X) × (xs ≡ x ∷ [])
-only [] a b = absurd (omega arith)
-only (x ∷ []) a b = (x, refl)
-only (x ∷ y ∷ xs) a b = let h : IsTrue false = b (omega arith) in (cc)
-
--- The pair p of a walk is kept, and its host h is given from one end: now this is left of the walk, and then that, of the pair q.
-pub record IsStep {P : Type 0} (family : P → Family) (pair : P → Pair) (o : Option P) (p q : P) (now left : List (Family × Host)) (f : Family) (h : Host) : Type 0 where
+-- ---- the hosts at the ends of what is left
+-- The pair p of a walk is kept, and now this is left; h is a host of the family of the pair.
+pub record IsEnd {P : Type 0} (family : P → Family) (pair : P → Pair) (o : Option P) (p : P)
+    (now : List (Family × Host)) (f : Family) (h : Host) : Type 0 where
   pub kept : Some p ≡ o
   pub view : hosts_left family pair o ≡ now
+  pub some : 0 < length (pair_walk (family p) (pair p))
   pub is : IsPair (width_of (family p)) (pair p)
   pub same_family : f ≡ family p
 
--- the pair q that is left is of the family and the length of p
-pub record IsRest {P : Type 0} (family : P → Family) (pair : P → Pair) (p q : P) (left : List (Family × Host)) : Type 0 where
-  pub same_family : family q ≡ family p
-  pub same_len : (pair q).len ≡ (pair p).len
-  pub view : left ≡ pair_hosts (family q) (pair q)
-
-module _ {P : Type 0} {family : P → Family} {pair : P → Pair} {o : Option P} {p q : P} {now left : List (Family × Host)} {f : Family} {h : Host} (s : IsStep family pair o p q now left f h) where
+module _ {P : Type 0} {family : P → Family} {pair : P → Pair} {o : Option P} {p : P}
+    {now : List (Family × Host)} {f : Family} {h : Host} (s : IsEnd family pair o p now f h) where
   whole : pair_hosts (family p) (pair p) ≡ now
   whole = subst (λ (k : Option P). hosts_left family pair k ≡ now) (sym s.kept) s.view
 
-  rest_hosts : IsRest family pair p q left → hosts_of (family p) (pair p).len (pair_walk (family q) (pair q)) ≡ left
-  rest_hosts r = ap₂ (λ a n. hosts_of a n (pair_walk (family q) (pair q))) (sym r.same_family) (sym r.same_len) ∙ sym r.view
+  ordered : number (pair p).first ≤ number (pair p).second
+  ordered = omega (arith, s.some, length-walk_between (width_of (family p)) (pair p).first (pair p).second)
 
-  first_host : (x : List Bool) (rest : List (List Bool)) → h ≡ first_of_pair (pair p) → pair_walk (family p) (pair p) ≡ x ∷ rest → now ≡ (f, h) ∷ hosts_of (family p) (pair p).len rest
-  first_host x rest same_h e =
-      let y = first_is (width_of (family p)) (pair p).first (pair p).second x rest s.is.first_width e in
-      sym whole ∙ ap (hosts_of (family p) (pair p).len) e ∙ rw (y, s.same_family, same_h) refl
+  pub lowest_is : h ≡ first_of_pair (pair p) → now ≡ (f, h) ∷ drop 1 now
+  lowest_is same_h =
+      let e = walk-first (width_of (family p)) (pair p).first (pair p).second s.is.first_width ordered in
+      rw (← whole, e, s.same_family, same_h) refl
 
-  second_host : (x : List Bool) (rest : List (List Bool)) → h ≡ second_of_pair (pair p) → pair_walk (family p) (pair p) ≡ rest ++ x ∷ [] → now ≡ hosts_of (family p) (pair p).len rest ++ (f, h) ∷ []
-  second_host x rest same_h e =
-      let y = second_is (width_of (family p)) (pair p).first (pair p).second x rest s.is.second_width e in
-      sym whole ∙ ap (hosts_of (family p) (pair p).len) e ∙ rw (y, s.same_family, same_h, map-append) refl
-
-  -- one of two or more, from the front
-  pub front_more : h ≡ first_of_pair (pair p) → LosesFirst true (pair_walk (family p) (pair p)) (pair_walk (family q) (pair q)) → IsRest family pair p q left → now ≡ (f, h) ∷ left
-  front_more same_h loses r =
-      first_host loses.0 (pair_walk (family q) (pair q)) same_h loses.1 ∙ ap (λ t. (f, h) ∷ t) (rest_hosts r)
-
-  -- the last one, from the front
-  pub front_last : h ≡ first_of_pair (pair p) → 0 < length (pair_walk (family p) (pair p)) → (2 ≤ length (pair_walk (family p) (pair p)) → IsTrue false) → left ≡ [] → now ≡ (f, h) ∷ left
-  front_last same_h some one r =
-      let last = only (pair_walk (family p) (pair p)) some one in
-      first_host last.0 [] same_h last.1 ∙ rw r refl
-
-  -- one of two or more, from the back
-  pub back_more : h ≡ second_of_pair (pair p) → LosesLast true (pair_walk (family p) (pair p)) (pair_walk (family q) (pair q)) → IsRest family pair p q left → now ≡ left ++ (f, h) ∷ []
-  back_more same_h loses r =
-      second_host loses.0 (pair_walk (family q) (pair q)) same_h loses.1 ∙ ap (λ t. t ++ (f, h) ∷ []) (rest_hosts r)
-
-  -- the last one, from the back
-  pub back_last : h ≡ second_of_pair (pair p) → 0 < length (pair_walk (family p) (pair p)) → (2 ≤ length (pair_walk (family p) (pair p)) → IsTrue false) → left ≡ [] → now ≡ left ++ (f, h) ∷ []
-  back_last same_h some one r =
-      let last = only (pair_walk (family p) (pair p)) some one in
-      second_host last.0 [] same_h last.1 ∙ rw r refl
+  pub highest_is : h ≡ second_of_pair (pair p) → now ≡ take (length now - 1) now ++ (f, h) ∷ []
+  highest_is same_h =
+      let w = width_of (family p) in
+      let first = (pair p).first in
+      let second = (pair p).second in
+      let before = map (bits w) (range_with_len (number first) (number second - number first)) in
+      let hosts = hosts_of (family p) (pair p).len before in
+      let e = walk-second w first second s.is.second_width ordered in
+      let k : now ≡ hosts ++ (f, h) ∷ [] =
+      sym whole ∙ ap (hosts_of (family p) (pair p).len) e ∙ rw (map-append, s.same_family, same_h) refl in
+      let n : length now - 1 ≡ length hosts = omega (arith, ap length k, length-append hosts ((f, h) ∷ [])) in
+      k ∙ ap (λ t. t ++ (f, h) ∷ []) (sym (ap₂ take n k ∙ take_at hosts ((f, h) ∷ []) (length hosts) refl))

@@ -1,5 +1,5 @@
 //! The walk over the addresses of a network or a pair, as hosts and as addresses.
-ghost use Rattle.std.specs.Prelude.{◌≡◌, length, IfSome};
+ghost use Rattle.std.specs.Prelude.{◌≡◌, ◌-◌, ◌++◌, ◌∷◌, [], length, drop, take, IfSome, MatchOption};
 ghost use Rattle.std.specs.Iterator.{YieldsFirstBy, YieldsLastBy, item_count, UpTo, at_most};
 ghost use Rattle.std.specs.Iterator.SizeHint.{IsWithinCount};
 ghost use Rattle.cidr.specs.model.Views.{in_family};
@@ -97,6 +97,46 @@ where
     {
         InetAddressIterator { inner: self }
     }
+
+    /// The lowest host that is left.
+    fn lowest(&self) -> Option<A::Inet>
+        ensures { MatchOption result (self.now ≡ [])
+            (λ host. self.now ≡ in_family A.Inet.family_of A.Inet.host host ∷ drop 1 self.now) }
+    {
+        Some(self.state.as_ref()?.first())
+    }
+
+    /// The highest host that is left.
+    fn highest(&self) -> Option<A::Inet>
+        ensures { MatchOption result (self.now ≡ []) (λ host.
+            self.now ≡ take (length self.now - 1) self.now ++ in_family A.Inet.family_of A.Inet.host host ∷ []) }
+    {
+        Some(self.state.as_ref()?.second())
+    }
+
+    /// Drops the lowest host that is left.
+    fn drop_lowest(&mut self)
+        ensures { self.new ≡ drop 1 self.old }
+    {
+        if let Some(pair) = &mut self.state {
+            let has_more = pair._inc_first();
+            if !has_more {
+                self.state = None;
+            }
+        }
+    }
+
+    /// Drops the highest host that is left.
+    fn drop_highest(&mut self)
+        ensures { self.new ≡ take (length self.old - 1) self.old }
+    {
+        if let Some(pair) = &mut self.state {
+            let has_more = pair._dec_second();
+            if !has_more {
+                self.state = None;
+            }
+        }
+    }
 }
 
 impl<A: Address> Clone for InetIterator<A>
@@ -125,12 +165,8 @@ where
     ghost remaining = { item_count (λ it. it) };
 
     fn next(&mut self) -> Option<A::Inet> {
-        let pair = self.state.as_mut()?;
-        let host = pair.first();
-        let has_more = pair._inc_first();
-        if !has_more {
-            self.state = None;
-        }
+        let host = self.lowest()?;
+        self.drop_lowest();
         Some(host)
     }
 
@@ -151,12 +187,8 @@ where
     ghost next_back_gives = { YieldsLastBy (in_family A.Inet.family_of A.Inet.host) (λ it. it) };
 
     fn next_back(&mut self) -> Option<A::Inet> {
-        let pair = self.state.as_mut()?;
-        let host = pair.second();
-        let has_more = pair._dec_second();
-        if !has_more {
-            self.state = None;
-        }
+        let host = self.highest()?;
+        self.drop_highest();
         Some(host)
     }
 }
@@ -244,7 +276,10 @@ where
     ghost remaining = { item_count (λ it. it) };
 
     fn next(&mut self) -> Option<A> {
-        Some(self.inner.next()?.address())
+        // the address is taken before the step, so that no host is kept over it
+        let address = self.inner.lowest()?.address();
+        self.inner.drop_lowest();
+        Some(address)
     }
 
     fn size_hint(&self) -> (usize, Option<usize>)
@@ -264,7 +299,10 @@ where
     ghost next_back_gives = { YieldsLastBy (in_family A.family_of A.bits) (λ it. it) };
 
     fn next_back(&mut self) -> Option<A> {
-        Some(self.inner.next_back()?.address())
+        // the address is taken before the step, so that no host is kept over it
+        let address = self.inner.highest()?.address();
+        self.inner.drop_highest();
+        Some(address)
     }
 }
 
