@@ -5,7 +5,7 @@ ghost use Rattle.std.specs.Option.{SomeIff};
 ghost use Rattle.std.specs.Str.Parse.{AllDigits, digits_value};
 ghost use Rattle.cidr.specs.internal.Reading.{IsDigitOrNo};
 
-/// What the table has for a byte that is no digit: more than four digits write.
+/// What the table has for a byte that is no hexadecimal digit: a number above all that four digits write.
 const NO: u32 = 0x1_0000;
 
 /// The value of each byte as a hexadecimal digit. A table has no branch to mispredict.
@@ -32,11 +32,11 @@ fn digit_or_no(byte: u8) -> u32
 }
 
 /// The value of the hexadecimal digit, which may be of either case.
-pub(crate) fn hex_value(byte: u8) -> Option<u8>
+pub(crate) fn hex_value(byte: u8) -> Option<u32>
     ensures { SomeIff result (digit_value byte < 16) (digit_value byte) }
 {
     let value = digit_or_no(byte);
-    if value < 16 { Some(value as u8) } else { None }
+    if value < 16 { Some(value) } else { None }
 }
 
 /// The number that four hexadecimal digits write. One test is enough for all four: where one of the bytes is no digit,

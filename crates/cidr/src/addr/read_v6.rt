@@ -23,7 +23,7 @@ fn take_group(text: &[u8]) -> Option<(u16, &[u8])>
         if count == 4 {
             return None;
         }
-        value = value * 16 + u16::from(digit);
+        value = value * 16 + digit as u16;
         count += 1;
     }
     if count == 0 {

@@ -18,11 +18,11 @@ overflow_mul-value c = let small = short_value _ _ _ c.loop-byte.invariant.1 (om
 pub overflow_add-value : goal.overflow_add-value
 overflow_add-value c =
     let small = short_value _ _ _ c.loop-byte.invariant.1 (omega arith) (omega (arith, c.loop-byte.invariant.1.few)) in
-    omega (arith, c.from.ensures, c.in-Some.ensures)
+    omega (arith, c.in-Some.ensures)
 
 pub loop-byte-preserved : goal.loop-byte-preserved
 loop-byte-preserved c =
-    (omega arith, more_group _ _ _ _ _ _ c.loop-byte.invariant.1 c.if-count-eq4.false c.loop-byte.invariant.0 c.loop-byte-test.true refl (c.in-Some.ensures.0, c.from.ensures ∙ c.in-Some.ensures.1))
+    (omega arith, more_group _ _ _ _ _ _ c.loop-byte.invariant.1 c.if-count-eq4.false c.loop-byte.invariant.0 c.loop-byte-test.true refl c.in-Some.ensures)
 
 pub returns-then-count-eq0 : goal.returns-then-count-eq0
 returns-then-count-eq0 c =
