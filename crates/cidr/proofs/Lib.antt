@@ -48,6 +48,7 @@ pub mod Ipv4Printing
 pub mod HashInputs
 pub mod HexDigits
 pub mod HexPrinting
+pub mod MappedAddresses
 pub mod ZeroRuns
 pub mod Ipv6Printing
 pub mod NetworkPrinting

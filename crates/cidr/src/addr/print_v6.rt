@@ -1,8 +1,7 @@
 //! Printing the groups of an IPv6 address into a string of a fixed capacity.
-ghost use Rattle.std.specs.Prelude.{◌≡◌, ◌+◌, ◌*◌, ◌-◌, ◌<◌, ◌≤◌, ◌==◌, ◌++◌, length, map, take, bytes_eq};
+ghost use Rattle.std.specs.Prelude.{◌≡◌, ◌+◌, ◌*◌, ◌-◌, ◌<◌, ◌≤◌, ◌==◌, ◌++◌, length, map};
 ghost use Rattle.std.specs.Net.Text.{hex, groups_text, longest_zero_run, hex_groups_text};
 ghost use Rattle.cidr.specs.model.Bits.{number};
-ghost use Rattle.cidr.specs.texts.Canonical.{mapped_groups};
 
 use crate::addr::hex::{hex_digit, hex_pair};
 use arrayvec::ArrayString;
@@ -93,14 +92,6 @@ fn longest_run(groups: &[u16]) -> (usize, usize)
 {
     let run = RUNS[zero_places(groups)];
     (usize::from(run / 16), usize::from(run % 16))
-}
-
-/// Whether the groups are those of an IPv4 address in an IPv6 address: five of zeros, one of ones, and two more.
-pub(crate) fn is_mapped(groups: &[u16]) -> bool
-    requires { length groups.now ≡ 8 }
-    ensures { result ≡ bytes_eq (take 6 groups.now) mapped_groups }
-{
-    matches!(groups, [0, 0, 0, 0, 0, 0xffff, ..])
 }
 
 /// Appends eight groups, the longest run of two zeros or more as `::`.

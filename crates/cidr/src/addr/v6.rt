@@ -1,5 +1,5 @@
 //! The IPv6 address.
-ghost use Rattle.std.specs.Prelude.{◌≡◌, ◌+◌, ◌*◌, ◌/◌, ◌%◌, ◌^◌, ◌<◌, ◌≤◌, [], ◌∷◌, ◌++◌, List, ℕ, length, refl, Some};
+ghost use Rattle.std.specs.Prelude.{◌≡◌, ◌+◌, ◌*◌, ◌/◌, ◌%◌, ◌^◌, ◌<◌, ◌≤◌, [], ◌∷◌, ◌++◌, List, ℕ, length, take, bytes_eq, refl, Some};
 ghost use Rattle.std.specs.Ordering.{as_partial_cmp};
 ghost use Rattle.std.specs.Cmp.{partial_equiv_from_equiv};
 ghost use Rattle.std.specs.Hash as fed;
@@ -8,11 +8,11 @@ ghost use Rattle.cidr.specs.laws.BitLaws.{bit_eq_equiv, bit_eq_ties, bit_cmp_tot
 ghost use Rattle.cidr.specs.model.Address.{parts_of, octet_bits, group_bits, groups_of};
 ghost use Rattle.cidr.specs.texts.AddressText.{Reads};
 ghost use Rattle.cidr.specs.texts.Ipv6Text.{IsIpv6Text};
-ghost use Rattle.cidr.specs.texts.Canonical.{IsCanonicalText};
+ghost use Rattle.cidr.specs.texts.Canonical.{IsCanonicalText, mapped_groups};
 ghost use Rattle.cidr.specs.texts.PrintedAddress.{ipv6_text};
 
 use crate::addr::error::AddrParseError;
-use crate::addr::print_v6::{is_mapped, push_hex_groups};
+use crate::addr::print_v6::push_hex_groups;
 use crate::addr::read_v6::read_ipv6;
 use crate::addr::v4::Ipv4Addr;
 use crate::arithmetic::halves::Halves;
@@ -154,6 +154,15 @@ impl Ipv6Addr {
         Halves::new(self.upper, self.lower)
     }
 
+    /// Whether this is an IPv4-mapped address: five groups of zeros, one of ones, and two more.
+    #[tactic(auto, using(crate::proofs::MappedAddresses::mapped_laws))]
+    fn is_mapped(&self) -> bool
+        ensures value { result ≡ bytes_eq (take 6 (groups_of self.now)) mapped_groups }
+        ensures width { length self.now ≡ 128 }
+    {
+        self.upper == 0 && self.lower >> 32 == 0xffff
+    }
+
     /// Appends the printed string.
     #[inline(always)]
     pub(crate) fn push_to<const CAP: usize>(&self, text: &mut ArrayString<CAP>)
@@ -162,12 +171,11 @@ impl Ipv6Addr {
         ensures len { length text.new.bytes ≤ length text.old.bytes + 39 }
         ensures width { length self.now ≡ 128 }
     {
-        let groups = self.segments();
-        if is_mapped(&groups) {
+        if self.is_mapped() {
             text.push_str("::ffff:");
             Ipv4Addr::from_bits((self.halves().lower() & 0xffff_ffff) as u32).push_to(text);
         } else {
-            push_hex_groups(text, &groups);
+            push_hex_groups(text, &self.segments());
         }
     }
 

@@ -9,6 +9,7 @@ use crate::internal_traits::address_bits::AddressText;
 use arrayvec::ArrayString;
 
 /// Appends a slash and the prefix length.
+#[inline(always)]
 #[tactic(auto, using(crate::proofs::NetworkPrinting::slash_laws))]
 fn push_length(text: &mut ArrayString<43>, n: u8)
     requires { length text.old.bytes + 4 ≤ 43 }
