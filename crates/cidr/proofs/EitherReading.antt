@@ -99,14 +99,14 @@ ip_no_address text part e is h =
     let refused = refused_address text part e is h in
     (refused, λ n t. refused_none (network_family n) ip_error text (parse_error.AddrParseError e) (network_prefix n) (refused (network_family n)) (network_text_of text n t))
 
-ip_no_length : (text front back : List ℕ) (a : IpAddr) (e : ParseIntError) → CutsAtLastSlash text front back → IsIpText front a
+pub ip_no_length : (text front back : List ℕ) (a : IpAddr) (e : ParseIntError) → CutsAtLastSlash text front back → IsIpText front a
     → Reads IsLengthText (record {}) back (Err e) → ReadsIpNetwork text (Err (parse_error.NetworkLengthParseError e))
 ip_no_length text front back (address.V4 a) e cut h l =
     reads_network_in text front back Ipv4 a cut h V4 (λ p k. k) (Err (parse_error.NetworkLengthParseError e)) (reads_no_length Ipv4 ip_error text front back a e cut h l)
 ip_no_length text front back (address.V6 a) e cut h l =
     reads_network_in text front back Ipv6 a cut h V6 (λ p k. k) (Err (parse_error.NetworkLengthParseError e)) (reads_no_length Ipv6 ip_error text front back a e cut h l)
 
-ip_reads_new : (text front back : List ℕ) (a : IpAddr) (n : ℕ) → CutsAtLastSlash text front back → IsIpText front a → IsLengthText back n → ReadsIpNetwork text (ip_network_from a n)
+pub ip_reads_new : (text front back : List ℕ) (a : IpAddr) (n : ℕ) → CutsAtLastSlash text front back → IsIpText front a → IsLengthText back n → ReadsIpNetwork text (ip_network_from a n)
 ip_reads_new text front back (address.V4 a) n cut h l =
     reads_network_in text front back Ipv4 a cut h V4 (λ p k. k) (network_from Ipv4 a n) (reads_new Ipv4 ip_error text front back a n cut h l)
 ip_reads_new text front back (address.V6 a) n cut h l =

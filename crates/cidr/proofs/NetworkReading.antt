@@ -36,7 +36,7 @@ module _ (family : Family) (error : AddressError) where
       → ReadsNetworkAs family error text (Err (parse_error.AddrParseError e))
   reads_no_address text e lacks h = refuses text (parse_error.AddrParseError e) (h.0, text, inl (lacks, refl), h.1)
 
-  reads_no_front : (text front back : List ℕ) (e : AddressError) → CutsAtLastSlash text front back
+  pub reads_no_front : (text front back : List ℕ) (e : AddressError) → CutsAtLastSlash text front back
       → Reads (IsAddressText family) error front (Err e) → ReadsNetworkAs family error text (Err (parse_error.AddrParseError e))
   reads_no_front text front back e cut h = refuses text (parse_error.AddrParseError e) (h.0, front, inr (back, cut), h.1)
 

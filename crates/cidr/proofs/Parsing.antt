@@ -1,6 +1,5 @@
 -- What the parts of a text with a slash give.
 use Rattle.std.proofs.Common.{◌≡◌, ℕ, List, Result, Ok, Err, IfOk, refl, ap, subst, inl, inr}
-use Rattle.cidr.specs.texts.NetworkText.{IsLengthText}
 use Rattle.cidr.specs.model.Views.{seen, in_family}
 use Rattle.cidr.specs.texts.Parsing.{ReadsSlashed, ReadsCut}
 use Rattle.cidr.specs.internal.Reading.{AreParts}
@@ -14,9 +13,6 @@ module _ {A : Type 0} (parts : Result (A × ℕ) NetworkParseError) where
   same_error : {R : Type 0} (e f : NetworkParseError) → parts ≡ Err e → parts ≡ Err f → ◌≡◌ {A = Result R NetworkParseError} (Err e) (Err f)
   same_error e f h k = cc
 
-  error_is : (e f : NetworkParseError) → parts ≡ Err e → parts ≡ Err f → e ≡ f
-  error_is e f h k = cc
-
   same_parts : (p q : A × ℕ) → parts ≡ Ok p → parts ≡ Ok q → p ≡ q
   same_parts p q h k = cc
 
@@ -24,13 +20,13 @@ module _ {A : Type 0} (parts : Result (A × ℕ) NetworkParseError) where
   not_both e p h k = absurd (cc)
 
   module _ {R : Type 0} (Makes : A → ℕ → Result R NetworkParseError → Type 0) where
-    pub refused_follows : (returned : Result A AddressError) (back : List ℕ) (e : NetworkParseError) → parts ≡ Err e → ReadsSlashed AreParts returned back parts
+    refused_follows : (returned : Result A AddressError) (back : List ℕ) (e : NetworkParseError) → parts ≡ Err e → ReadsSlashed AreParts returned back parts
         → ReadsSlashed Makes returned back (Err e)
     refused_follows (Err x) back e is h = same_error e (parse_error.AddrParseError x) is h
     refused_follows (Ok a) back e is (inl (n, l, h)) = not_both e (a, n) is h
     refused_follows (Ok a) back e is (inr (none, h)) = inr (none, same_error e (parse_error.NetworkLengthParseError (record {})) is h)
 
-    pub made_follows : (returned : Result A AddressError) (back : List ℕ) (p : A × ℕ) (r : Result R NetworkParseError) → parts ≡ Ok p → Makes p.0 p.1 r
+    made_follows : (returned : Result A AddressError) (back : List ℕ) (p : A × ℕ) (r : Result R NetworkParseError) → parts ≡ Ok p → Makes p.0 p.1 r
         → ReadsSlashed AreParts returned back parts → ReadsSlashed Makes returned back r
     made_follows (Err x) back p r is made h = not_both (parse_error.AddrParseError x) p h is
     made_follows (Ok b) back p r is made (inl (m, l, h)) = inl (m, l, subst (λ q. Makes q.0 q.1 r) (same_parts p (b, m) is h) made)
@@ -70,24 +66,6 @@ asked_as known h = record {
   asked = known h.front h.returned h.asked;
   follows = h.follows;
 }
-
--- ---- what an address and a length text gave
-pub both_read : {A : Type 0} (returned : Result A AddressError) (back : List ℕ) (p : A × ℕ) → ReadsSlashed AreParts returned back (Ok p) → (returned ≡ Ok p.0) × IsLengthText back p.1
-both_read (Err x) back p h = not_both (Ok p) (parse_error.AddrParseError x) p h refl
-both_read (Ok b) back p (inl (m, l, h)) =
-    let same = same_parts (Ok p) (b, m) p h refl in
-    (ap (λ q. Ok q.0) same, subst (λ q. IsLengthText back q.1) same l)
-both_read (Ok b) back p (inr (none, h)) = not_both (Ok p) (parse_error.NetworkLengthParseError (record {})) p h refl
-
--- the address's error, or that of the length text
-module _ {A : Type 0} (Known : Result A AddressError → Type 0) (P : NetworkParseError → Type 0) (back : List ℕ)
-    (no_address : (x : AddressError) → Known (Err x) → P (parse_error.AddrParseError x))
-    (no_length : (a : A) → Known (Ok a) → ((n : ℕ) → ¬ (IsLengthText back n)) → P (parse_error.NetworkLengthParseError (record {}))) where
-  pub by_part_error : (returned : Result A AddressError) (e : NetworkParseError) → Known returned → ReadsSlashed AreParts returned back (Err e) → P e
-  by_part_error (Err x) e known h = subst P (error_is {A = A} (Err e) (parse_error.AddrParseError x) e h refl) (no_address x known)
-  by_part_error (Ok b) e known (inl (m, l, h)) = not_both (Err e) e (b, m) refl h
-  by_part_error (Ok b) e known (inr (none, h)) =
-      subst P (error_is {A = A} (Err e) (parse_error.NetworkLengthParseError (record {})) e h refl) (no_length b known none)
 
 -- ---- a value and its family
 pub seen_in_family : {N V E : Type 0} (family : N → Family) (view : N → V) (f : Family) (r : Result N E) (v : Result V E) → seen view r ≡ v → IfOk r (λ n. family n ≡ f)

@@ -165,9 +165,9 @@ where
     ghost remaining = { item_count (λ it. it) };
 
     fn next(&mut self) -> Option<A::Inet> {
-        let host = self.lowest()?;
+        let host = self.lowest();
         self.drop_lowest();
-        Some(host)
+        host
     }
 
     fn size_hint(&self) -> (usize, Option<usize>)
@@ -187,9 +187,9 @@ where
     ghost next_back_gives = { YieldsLastBy (in_family A.Inet.family_of A.Inet.host) (λ it. it) };
 
     fn next_back(&mut self) -> Option<A::Inet> {
-        let host = self.highest()?;
+        let host = self.highest();
         self.drop_highest();
-        Some(host)
+        host
     }
 }
 

@@ -15,7 +15,7 @@ use crate::family::Family;
 use crate::inet::combined::IpInet;
 use crate::inet_iterator::InetIterator;
 use crate::inet_pair::combined::IpInetPair;
-use crate::text::read::read_either_family;
+use crate::text::read::{cut_at_last_slash, read_length};
 use crate::text::with_length::WithLength;
 use arrayvec::ArrayString;
 use std::fmt;
@@ -388,11 +388,12 @@ impl FromStr for IpCidr {
     ghost from_str_gives = { ReadsIpNetwork };
 
     fn from_str(s: &str) -> Result<IpCidr, NetworkParseError> {
-        match read_either_family(s) {
-            None => Ok(IpCidr::new_host(s.parse::<IpAddr>()?)),
-            Some(Ok((address, len))) => IpCidr::new(address, len),
-            Some(Err(e)) => Err(e),
-        }
+        let Some((front, back)) = cut_at_last_slash(s) else {
+            return Ok(IpCidr::new_host(s.parse::<IpAddr>()?));
+        };
+        let address = front.parse::<IpAddr>()?;
+        let len = read_length(back)?;
+        IpCidr::new(address, len)
     }
 }
 

@@ -18,7 +18,7 @@ use crate::inet::host::Host;
 use crate::inet_pair::host_pair::HostPair;
 use crate::internal_traits::address_bits::{AddressBits, AddressText};
 use crate::text::print::{forced, plain};
-use crate::text::read::read_one_family;
+use crate::text::read::{cut_at_last_slash, read_length};
 use crate::text::with_length::WithLength;
 use arrayvec::ArrayString;
 use std::alloc::AllocError;
@@ -438,11 +438,12 @@ impl<A: AddressText> FromStr for Network<A> {
     ghost from_str_gives = { ReadsNetwork A.FAMILY };
 
     fn from_str(s: &str) -> Result<Network<A>, NetworkParseError> {
-        match read_one_family(s) {
-            None => Ok(Network::new_host(A::read(s)?)),
-            Some(Ok((address, len))) => Network::new(address, len),
-            Some(Err(e)) => Err(e),
-        }
+        let Some((front, back)) = cut_at_last_slash(s) else {
+            return Ok(Network::new_host(A::read(s)?));
+        };
+        let address = A::read(front)?;
+        let len = read_length(back)?;
+        Network::new(address, len)
     }
 }
 

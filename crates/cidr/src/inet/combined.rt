@@ -16,7 +16,7 @@ use crate::cidr::combined::IpCidr;
 use crate::errors::{NetworkLengthTooLongError, NetworkParseError};
 use crate::family::Family;
 use crate::inet::host::{Ipv4Inet, Ipv6Inet};
-use crate::text::read::read_either_family;
+use crate::text::read::{cut_at_last_slash, read_length};
 use crate::text::with_length::WithLength;
 use arrayvec::ArrayString;
 use std::fmt;
@@ -480,11 +480,12 @@ impl FromStr for IpInet {
     ghost from_str_gives = { ReadsIpHost };
 
     fn from_str(s: &str) -> Result<IpInet, NetworkParseError> {
-        match read_either_family(s) {
-            None => Ok(IpInet::new_host(s.parse::<IpAddr>()?)),
-            Some(Ok((address, len))) => Ok(IpInet::new(address, len)?),
-            Some(Err(e)) => Err(e),
-        }
+        let Some((front, back)) = cut_at_last_slash(s) else {
+            return Ok(IpInet::new_host(s.parse::<IpAddr>()?));
+        };
+        let address = front.parse::<IpAddr>()?;
+        let len = read_length(back)?;
+        Ok(IpInet::new(address, len)?)
     }
 }
 

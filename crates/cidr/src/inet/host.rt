@@ -16,7 +16,7 @@ use crate::errors::{NetworkLengthTooLongError, NetworkParseError};
 use crate::family::Family;
 use crate::internal_traits::address_bits::{AddressBits, AddressText};
 use crate::text::print::{forced, plain};
-use crate::text::read::read_one_family;
+use crate::text::read::{cut_at_last_slash, read_length};
 use crate::text::with_length::WithLength;
 use arrayvec::ArrayString;
 use std::alloc::AllocError;
@@ -488,11 +488,12 @@ impl<A: AddressText> FromStr for Host<A> {
     ghost from_str_gives = { ReadsHost A.FAMILY };
 
     fn from_str(s: &str) -> Result<Host<A>, NetworkParseError> {
-        match read_one_family(s) {
-            None => Ok(Host::new_host(A::read(s)?)),
-            Some(Ok((address, len))) => Ok(Host::new(address, len)?),
-            Some(Err(e)) => Err(e),
-        }
+        let Some((front, back)) = cut_at_last_slash(s) else {
+            return Ok(Host::new_host(A::read(s)?));
+        };
+        let address = A::read(front)?;
+        let len = read_length(back)?;
+        Ok(Host::new(address, len)?)
     }
 }
 

@@ -1,20 +1,16 @@
 //! Parsing the parts of a network's string.
 ghost use Rattle.std.specs.Prelude.{◌≡◌, ◌<◌, ◌∷◌, [], ℕ, MatchOption};
 ghost use Rattle.std.specs.Fn.{FnOnceReturnsAt};
-ghost use Rattle.cidr.specs.either.IpAddress.{IsIpText};
-ghost use Rattle.cidr.specs.model.Views.{seen};
-ghost use Rattle.cidr.specs.texts.AddressText.{IsAddressText, Reads, address_error};
-ghost use Rattle.cidr.specs.texts.Messages.{ip_error};
+ghost use Rattle.cidr.specs.texts.AddressText.{Reads};
 ghost use Rattle.cidr.specs.texts.NetworkText.{slash, IsByteText, IsLengthText};
 ghost use Rattle.cidr.specs.texts.Refusal.{Lacks, CutsAtLastSlash};
 ghost use Rattle.cidr.specs.texts.Parsing.{ReadsSlashed, ReadsCut};
 ghost use Rattle.cidr.specs.internal.Reading.{AreParts, IsLastSlash};
+ghost use Rattle.cidr.specs.declared.errors.NetworkParseError.TheVariants as parse_error;
 
 use crate::addr::error::AddrParseError;
-use crate::addr::ip::IpAddr;
 use crate::addr::read_v4::{decimal_value, take_byte};
 use crate::errors::{NetworkParseError, ParseIntError};
-use crate::internal_traits::address_bits::AddressText;
 
 /// The index of the last slash, if there is one.
 #[inline(never)]
@@ -79,14 +75,14 @@ fn read_digits(digits: &[u8]) -> Option<u8>
 }
 
 /// The number of a prefix length's string.
-pub(crate) fn read_length(text: &[u8]) -> Result<u8, ParseIntError>
-    ensures { Reads IsLengthText (record {}) text.now result }
+pub(crate) fn read_length(text: &[u8]) -> Result<u8, NetworkParseError>
+    ensures { Reads IsLengthText (parse_error.NetworkLengthParseError (record {})) text.now result }
 {
     let digits = match take_byte(text, b'+') {
         Some(digits) => read_digits(digits),
         None => read_digits(text),
     };
-    digits.ok_or(ParseIntError {})
+    digits.ok_or(NetworkParseError::NetworkLengthParseError(ParseIntError {}))
 }
 
 /// The address and the prefix length that follows it, where parsing the address returned `address`. Its error comes
@@ -98,13 +94,8 @@ pub(crate) fn with_length_text<A: Copy>(
 ) -> Result<(A, u8), NetworkParseError>
     ensures { ReadsSlashed AreParts address text.now result }
 {
-    match address {
-        Ok(address) => match read_length(text) {
-            Ok(len) => Ok((address, len)),
-            Err(length_error) => Err(NetworkParseError::NetworkLengthParseError(length_error)),
-        },
-        Err(e) => Err(NetworkParseError::AddrParseError(e)),
-    }
+    let address = address?;
+    Ok((address, read_length(text)?))
 }
 
 /// What both parts of a string with a slash are parsed as, by `address_parser` what precedes the last one.
@@ -122,27 +113,4 @@ where
 {
     let (front, back) = cut_at_last_slash(s)?;
     Some(with_length_text(address_parser(front), back))
-}
-
-/// What both parts of a string with a slash are parsed as, the address strictly and of one family.
-#[inline(always)]
-pub(crate) fn read_one_family<A: AddressText>(s: &str) -> Option<Result<(A, u8), NetworkParseError>>
-    ensures { MatchOption result (Lacks slash s.now) (ReadsCut (λ text r.
-        Reads (IsAddressText A.FAMILY) (address_error A.FAMILY) text (seen A.bits r)) AreParts s.now) }
-{
-    let address = |text: &str| -> Result<A, AddrParseError>
-        ensures { Reads (IsAddressText A.FAMILY) (address_error A.FAMILY) text.now (seen A.bits result) }
-    { A::read(text) };
-    read_at_slash(s, address)
-}
-
-/// What both parts of a string with a slash are parsed as, the address strictly and of either family.
-#[inline(always)]
-pub(crate) fn read_either_family(s: &str) -> Option<Result<(IpAddr, u8), NetworkParseError>>
-    ensures { MatchOption result (Lacks slash s.now) (ReadsCut (Reads IsIpText ip_error) AreParts s.now) }
-{
-    let address = |text: &str| -> Result<IpAddr, AddrParseError>
-        ensures { Reads IsIpText ip_error text.now result }
-    { text.parse::<IpAddr>() };
-    read_at_slash(s, address)
 }

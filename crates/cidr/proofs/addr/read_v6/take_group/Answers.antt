@@ -1,5 +1,5 @@
 -- A group of one to four hexadecimal digits, by where its digits end.
-use Rattle.std.proofs.Common.{◌≤◌, ◌∙◌, get_or, arith, refl}
+use Rattle.std.proofs.Common.{◌≤◌, get_or, arith, refl}
 use Rattle.std.specs.Char.{digit_value}
 use Rattle.cidr.proofs.GroupReading.{short_value, five_digits, more_group, no_group, first_group, past_end, other_byte}
 use Rattle.cidr.proofs.addr.read_v6.take_group.Goals.{else-loop-byte-test, then-loop-byte-test+in_default}

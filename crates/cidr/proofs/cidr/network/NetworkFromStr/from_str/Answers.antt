@@ -1,28 +1,33 @@
 -- Reading a network: each way out of the reader, by what reading the parts gave.
+use Rattle.std.proofs.Common.{refl}
 use Rattle.std.proofs.lemmas.Result.{err_from_is_err_and}
 use Rattle.cidr.specs.texts.AddressText.{address_error}
-use Rattle.cidr.proofs.NetworkReading.{MakesNetwork, reads_no_address, network_slashed_read}
-use Rattle.cidr.proofs.Parsing.{refused_follows, made_follows}
+use Rattle.cidr.proofs.NetworkReading.{reads_no_address, reads_no_front, reads_no_length, reads_new}
 use Rattle.cidr.proofs.cidr.network.NetworkFromStr.from_str.Goals as goal
 
-pub returns-in_err-read-in-None : goal.returns-in_err-read-in-None
-returns-in_err-read-in-None g c =
+pub returns-in_err-read : goal.returns-in_err-read
+returns-in_err-read g c =
     let family = g.A.AddressBits.FAMILY in
     let p = err_from_is_err_and c.from_residual.result c.from_residual.ensures.1 in
-    rw (p.1, p.2) (reads_no_address family (address_error family) c.args.s.now _ c.in-None.ensures c.in_err-read-in-None.ensures)
+    rw (p.1, p.2) (reads_no_address family (address_error family) c.args.s.now _ c.in_default.ensures c.in_err-read.ensures)
 
-pub returns-in-Some-Ok : goal.returns-in-Some-Ok
-returns-in-Some-Ok g c =
+pub returns-in_err-address : goal.returns-in_err-address
+returns-in_err-address g c =
     let family = g.A.AddressBits.FAMILY in
-    let Makes = MakesNetwork family g.A.AddressBits.bits in
-    let h = c.in-Some-Ok.ensures in
-    network_slashed_read family (address_error family) _ Makes c.args.s.now h.front h.back h.returned _ (λ a n h. h) h.cut h.asked
-    (made_follows _ Makes _ _ _ _ c.in-Some-Ok.field-0-is c.new.ensures.value h.follows)
+    let residual = c.from_residual-in_err-address in
+    let p = err_from_is_err_and residual.result residual.ensures.1 in
+    rw (p.1, p.2) (reads_no_front family (address_error family) c.args.s.now _ _ _ c.in-Some.ensures c.in_err-address.ensures)
 
-pub returns-in-Some-Err : goal.returns-in-Some-Err
-returns-in-Some-Err g c =
+pub returns-in_err-len : goal.returns-in_err-len
+returns-in_err-len g c =
     let family = g.A.AddressBits.FAMILY in
-    let Makes = MakesNetwork family g.A.AddressBits.bits in
-    let h = c.in-Some-Err.ensures in
-    network_slashed_read family (address_error family) _ Makes c.args.s.now h.front h.back h.returned _ (λ a n h. h) h.cut h.asked
-    (refused_follows _ Makes _ _ _ c.in-Some-Err.field-0-is h.follows)
+    let residual = c.from_residual-in_err-len in
+    let p = err_from_is_err_and residual.result residual.ensures.1 in
+    rw (p.1, p.2, c.in_err-len.ensures.0) (reads_no_length family (address_error family) c.args.s.now _ _ _ (record {}) c.in-Some.ensures
+    c.in_ok-address.ensures (refl, c.in_err-len.ensures.1))
+
+pub returns : goal.returns
+returns g c =
+    let family = g.A.AddressBits.FAMILY in
+    rw c.new.ensures.value (reads_new family (address_error family) c.args.s.now _ _ _ _ c.in-Some.ensures c.in_ok-address.ensures
+    c.in_ok-len.ensures)
