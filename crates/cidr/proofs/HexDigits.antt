@@ -1,7 +1,8 @@
 -- The tables of hexadecimal digits, held against std's values and digits at each of the 256 bytes.
-use Rattle.std.proofs.Common.{◌≡◌, ℕ, zero, suc, ◌+◌, ◌-◌, ◌*◌, ◌/◌, ◌%◌, ◌^◌, ◌<◌, ◌≤◌, [], ◌∷◌, take, drop, IsAscii, Bool, true, ◌&&◌, ◌==◌, get_or, refl, arith, inl, inr, if◌then◌else◌, nat_lt}
+use Rattle.std.proofs.Common.{◌≡◌, ℕ, zero, suc, ◌+◌, ◌-◌, ◌*◌, ◌/◌, ◌%◌, ◌^◌, ◌<◌, ◌≤◌, [], ◌∷◌, take, drop, IsAscii, Bool, true, ◌&&◌, ◌==◌, get_or, refl, sym, ap, ◌∙◌, arith, inl, inr, if◌then◌else◌, nat_lt}
 use Rattle.std.proofs.lemmas.Bool.{cases_eq, cases_lt, eqb-true}
 use Rattle.std.proofs.lemmas.Bool.Decides.{nat_tests}
+use Rattle.std.proofs.lemmas.List.{drop-drop, drop-take}
 use Rattle.std.specs.Char.{digit_value, digit_char}
 use Rattle.cidr.specs.internal.Reading.{IsDigitOrNo}
 use Rattle.cidr.specs.declared.addr.hex.TheConstants.{DIGIT_VALUES, PAIRS}
@@ -83,6 +84,16 @@ pub pair_in_table : (n at : ℕ) → at ≡ n → n < 256
 pair_in_table n at e h =
     let width : at * 2 + 2 - at * 2 ≡ 2 = omega arith in
     rw (width, e) (row_at 2 PAIRS.now (λ k. digit_char (k / 16) ∷ digit_char (k % 16) ∷ []) refl n h)
+
+-- and so does a digit alone
+pub digit_in_pairs : (n at : ℕ) → at ≡ n → n < 16 → take (at * 2 + 1 + 1 - (at * 2 + 1)) (drop (at * 2 + 1) PAIRS.now) ≡ digit_char n ∷ []
+digit_in_pairs n at e h =
+    let width : at * 2 + 1 + 1 - (at * 2 + 1) ≡ 1 = omega arith in
+    let pair = row_at 2 PAIRS.now (λ k. digit_char (k / 16) ∷ digit_char (k % 16) ∷ []) refl n (omega arith) in
+    let second : n % 16 ≡ n = omega arith in
+    rw (width, e)
+    (sym (ap (take 1) (drop-drop 1 (n * 2) PAIRS.now)) ∙ sym (drop-take 1 1 (drop (n * 2) PAIRS.now)) ∙ ap (drop 1) pair
+    ∙ ap (λ d. digit_char d ∷ []) second)
 
 pub IsAscii-pairs : IsAscii PAIRS.now
 IsAscii-pairs = IsAscii-from_test PAIRS.now refl

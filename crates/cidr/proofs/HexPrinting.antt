@@ -51,8 +51,9 @@ pub hex_two_pairs : (n : ℕ) (old : List ℕ) → 16 ≤ n → n < 256
     → old ++ digit_char (n % 256 / 16) ∷ digit_char (n % 256 % 16) ∷ [] ≡ old ++ hex n
 hex_two_pairs n old h k = rw (low_pair n, last_of_pair n, ← hex_two n old h k) (simp append_assoc)
 
-pub hex_one_alone : (n : ℕ) (old : List ℕ) → n < 16 → old ++ digit_char n ∷ [] ≡ old ++ hex n
-hex_one_alone n old h = let small : n % 16 ≡ n = omega arith in rw (← hex_one n old h, small) refl
+pub hex_one_alone : (n : ℕ) (old : List ℕ) → n < 16 → old ++ digit_char (n % 256) ∷ [] ≡ old ++ hex n
+hex_one_alone n old h =
+    let small : n % 256 ≡ n % 16 = omega arith in rw (small, ← hex_one n old h) refl
 
 pub ruleset hex_laws = (hex_four_pairs, hex_three_pairs, hex_two_pairs, hex_one_alone)
 

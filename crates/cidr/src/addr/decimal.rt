@@ -48,7 +48,7 @@ fn digits(n: u8) -> usize
 
 /// Appends the first bytes of an ASCII string. All of it is copied, since a copy of a fixed length is one instruction.
 #[inline(always)]
-pub(crate) fn push_first<const CAP: usize>(text: &mut ArrayString<CAP>, padded: &str, len: usize)
+fn push_first<const CAP: usize>(text: &mut ArrayString<CAP>, padded: &str, len: usize)
     requires ascii { IsAscii padded.now }
     requires part { len ≤ length padded.now }
     requires room { length text.old.bytes + length padded.now ≤ CAP }

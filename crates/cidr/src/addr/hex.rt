@@ -75,15 +75,13 @@ pub(crate) fn hex_pair(byte: u8) -> &'static str
     &PAIRS[start..start + 2]
 }
 
-/// The digits in lower case.
-static DIGITS: [u8; 16] = *b"0123456789abcdef";
-
 /// The hexadecimal digit, in lower case.
-pub(crate) fn hex_digit(digit: u16) -> char
+#[inline(always)]
+pub(crate) fn hex_digit(digit: u8) -> &'static str
     requires { digit < 16 }
-    ensures value { result ≡ digit_char digit }
-    ensures ascii { result < 128 }
+    ensures value { result.now ≡ digit_char digit ∷ [] }
+    ensures len { length result.now ≡ 1 }
 {
-    // All are ASCII. The mask tells the compiler so, which else tests how many bytes each takes in UTF-8.
-    char::from(DIGITS[usize::from(digit)] & 0x7f)
+    let start = usize::from(digit) * 2 + 1;
+    &PAIRS[start..start + 1]
 }

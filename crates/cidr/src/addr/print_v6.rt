@@ -20,12 +20,12 @@ fn push_hex<const CAP: usize>(text: &mut ArrayString<CAP>, group: u16)
         text.push_str(hex_pair(high));
         text.push_str(hex_pair(low));
     } else if group >= 0x100 {
-        text.push(hex_digit(group / 0x100));
+        text.push_str(hex_digit(high));
         text.push_str(hex_pair(low));
     } else if group >= 0x10 {
         text.push_str(hex_pair(low));
     } else {
-        text.push(hex_digit(group));
+        text.push_str(hex_digit(low));
     }
 }
 
