@@ -14,7 +14,9 @@ returns-then-value-from c =
     let place = c.loop-byte.invariant.0 in
     let digit : digit_value (get_or c.args.text.now c.loop-byte.count 0) ≡ c.in-Some.digit = rw (place, ← c.from.ensures) (sym c.in-Some.ensures.value.1) in
     let below : c.in-Some.digit < c.args.radix = rw c.in-Some.ensures.value.1 c.in-Some.ensures.value.0 in
-    let next : c.loop-byte.value * c.args.radix + c.in-Some.digit ≡ c.loop-byte.value * c.from-in-loop-byte.result + c.from-in-loop-byte-2.result = rw (c.from-in-loop-byte.ensures, c.from-in-loop-byte-2.ensures) refl in
+    let radix = c.from-in-loop-byte in
+    let next : c.loop-byte.value * c.args.radix + c.in-Some.digit ≡ c.loop-byte.value * radix.result + c.from-in-loop-byte-2.result =
+    rw (radix.ensures, c.from-in-loop-byte-2.ensures) refl in
     large_number c.args.radix (c.args.most + 1) c.args.text.now c.requires.hexadecimal _ _ _ c.loop-byte.invariant.1 (omega arith) digit below (omega arith)
 
 pub loop-byte-preserved : goal.loop-byte-preserved
@@ -22,7 +24,9 @@ loop-byte-preserved c =
     let place = c.loop-byte.invariant.0 in
     let digit : digit_value (get_or c.args.text.now c.loop-byte.count 0) ≡ c.in-Some.digit = rw (place, ← c.from.ensures) (sym c.in-Some.ensures.value.1) in
     let below : c.in-Some.digit < c.args.radix = rw c.in-Some.ensures.value.1 c.in-Some.ensures.value.0 in
-    let next : c.loop-byte.value * c.args.radix + c.in-Some.digit ≡ c.loop-byte.value * c.from-in-loop-byte.result + c.from-in-loop-byte-2.result = rw (c.from-in-loop-byte.ensures, c.from-in-loop-byte-2.ensures) refl in
+    let radix = c.from-in-loop-byte in
+    let next : c.loop-byte.value * c.args.radix + c.in-Some.digit ≡ c.loop-byte.value * radix.result + c.from-in-loop-byte-2.result =
+    rw (radix.ensures, c.from-in-loop-byte-2.ensures) refl in
     (omega arith, rw (← next) (more_digits _ _ _ _ _ _ c.loop-byte.invariant.1 (omega arith) digit below (omega arith)))
 
 pub returns-then-count-eq0 : goal.returns-then-count-eq0
