@@ -37,7 +37,7 @@ pub(crate) fn after_plus(text: &[u8]) -> &[u8]
 /// The number up to `most` that the digits at the front write, and what follows them.
 #[inline(always)]
 pub(crate) fn take_number(text: &[u8], radix: u32, most: u32) -> Option<(u32, &[u8])>
-    requires positive { 2 ≤ radix }
+    requires binary { 2 ≤ radix }
     requires hexadecimal { radix ≤ 16 }
     ensures { TakesPart (IsNumberText radix (most + 1)) text.now result }
 {
