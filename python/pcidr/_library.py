@@ -1,11 +1,14 @@
 """The shared library: where it is found, and its calls."""
+from __future__ import annotations
+
 import ctypes
 import ctypes.util
 import os
 import struct
-from typing import Iterable
+from collections.abc import Callable, Iterable, Sequence
+from typing import TYPE_CHECKING, Any
 
-VERSION = 0x000100
+VERSIONS = ((0, 1), (0, 2))
 TEXT_ROOM = 44
 MESSAGE_ROOM = 100
 NO_ROOM = 11
@@ -15,13 +18,22 @@ NO_MEMORY = 12
 class Value(ctypes.Structure):
     """`pcidr_value` of the header: an address, a host or a network."""
 
+    high: int
+    low: int
+    tag: int
     _fields_ = [("high", ctypes.c_uint64), ("low", ctypes.c_uint64), ("tag", ctypes.c_uint8)]
 
+
+Call = Callable[..., int]
+if TYPE_CHECKING:
+    Values = ctypes.Array[Value]
+else:
+    Values = ctypes.Array
 
 SIZE, CODE, BYTES, TEXT = ctypes.c_size_t, ctypes.c_uint32, ctypes.c_void_p, ctypes.c_char_p
 VALUE, COUNT = ctypes.POINTER(Value), ctypes.POINTER(ctypes.c_size_t)
 # of each call that is used here the result and the parameters
-CALLS = {
+CALLS: dict[str, tuple[Any, list[Any]]] = {
     "version": (CODE, []),
     "read_address": (CODE, [TEXT, SIZE, VALUE]),
     "read_host": (CODE, [TEXT, SIZE, VALUE]),
@@ -73,14 +85,28 @@ class _Calls:
     def __init__(self) -> None:
         loaded = ctypes.CDLL(_find())
         for name, (result, parameters) in CALLS.items():
-            call = getattr(loaded, f"pcidr_{name}")
+            call = getattr(loaded, f"pcidr_{name}_by_value", None)
+            if call is None:
+                call = getattr(loaded, f"pcidr_{name}")
+            else:  # in the header `pcidr_NAME` is an inline function over this one
+                parameters = [Value, *parameters[1:]]
             call.restype, call.argtypes = result, parameters
             setattr(self, name, call)
 
+    if TYPE_CHECKING:
+
+        def __getattr__(self, name: str) -> Call:
+            ...
+
+
+def _check_version(version: int) -> None:
+    major, minor = version >> 16, version >> 8 & 255
+    if (major, minor) not in VERSIONS:
+        raise ImportError(f"libpcidr.so is of version {major}.{minor}, which this module does not know")
+
 
 calls = _Calls()
-if calls.version() >> 8 != VERSION >> 8:
-    raise ImportError(f"libpcidr.so is of version {calls.version():#08x}, and this module wants {VERSION:#08x}")
+_check_version(calls.version())
 
 
 def message(code: int) -> str:
@@ -98,8 +124,10 @@ def check(code: int) -> None:
         raise ValueError(message(code))
 
 
-def read(call, text: str) -> Value:
+def read(call: Call, text: str) -> Value:
     """The value of a string."""
+    if not isinstance(text, str):
+        raise TypeError(f"no string: {text!r}")
     given = text.encode("utf-8", "surrogatepass")
     value = Value()
     code = call(given, len(given), value)
@@ -108,27 +136,27 @@ def read(call, text: str) -> Value:
     return value
 
 
-def printed(call, value: Value) -> str:
+def printed(call: Call, value: Value) -> str:
     """The string of a value."""
     room = ctypes.create_string_buffer(TEXT_ROOM)
     count = call(value, room, TEXT_ROOM)
     return room.raw[:count].decode()
 
 
-def array(values) -> ctypes.Array:
+def array(values: Iterable[Value]) -> Values:
     """An array of values."""
-    values = list(values)
-    return (Value * len(values))(*values)
+    listed = list(values)
+    return (Value * len(listed))(*listed)
 
 
-def answers(kind: str, count: int) -> "tuple[ctypes.Array, Iterable]":
+def answers(kind: str, count: int) -> tuple[ctypes.Array[ctypes.c_char], Iterable[Any]]:
     """A room for numbers, one of each asked value, and what is in it once a call has written them: their kind is that of
     the module `struct`."""
     room = (ctypes.c_char * (count * struct.calcsize(kind)))()
     return room, memoryview(room).cast("B").cast(kind) if count else ()
 
 
-def read_all(texts) -> ctypes.Array:
+def read_all(texts: Sequence[str]) -> Values:
     """The networks of a list of strings, by one call."""
     out = (Value * len(texts))()
     if not texts:
@@ -142,7 +170,7 @@ def read_all(texts) -> ctypes.Array:
     return out
 
 
-def print_all(values: ctypes.Array, count: int) -> "list[str]":
+def print_all(values: Values, count: int) -> list[str]:
     """The strings of the first networks of an array, by one call."""
     if not count:
         return []
@@ -152,14 +180,14 @@ def print_all(values: ctypes.Array, count: int) -> "list[str]":
     return ctypes.string_at(room, end.value - 1).decode().split("\n")
 
 
-def cover(values: ctypes.Array) -> int:
+def cover(values: Values) -> int:
     """Replaces networks by the shortest list of the same addresses, and returns how many these are."""
     count = ctypes.c_size_t()
     check(calls.cover(values, len(values), count))
     return count.value
 
 
-def combined(call, these: ctypes.Array, those: ctypes.Array) -> ctypes.Array:
+def combined(call: Call, these: Values, those: Values) -> Values:
     """The set that a call makes of two sets."""
     room, count = len(these) + len(those), ctypes.c_size_t()
     while True:
