@@ -1,7 +1,7 @@
 #!/usr/bin/env bash
 # Runs the commands of the page in a folder of its own, compiles and runs the examples in C99, C11 and under the address
-# sanitizer, there with wrong arguments and refused allocations too, and compiles the header as C++; where there is
-# Python, it runs the module's tests and examples. Prints what is not as wanted.
+# sanitizer, there with wrong arguments and refused allocations too, compiles the header as C++, and runs what the Python
+# module has. Prints what is not as wanted.
 set -euo pipefail
 here=$(cd "$(dirname "$0")" && pwd)
 crate=$(dirname "$here")
@@ -11,16 +11,14 @@ trap 'rm -rf "$room"' EXIT
 status=0
 compiler=${CC:-cc}
 
-has_python=$(command -v python3 || true)
 export PYTHONDONTWRITEBYTECODE=1
 
 # The commands stand in the page as they are typed at the top of the repository.
 mkdir "$room/top"
 ln -s "$(dirname "$crate")" "$(realpath "$python")" "$room/top"
 sed -n '/^```sh$/,/^```$/{/^```/!p}' "$crate/README.md" | sed "s|/tmp/pcidr|$room/lib|g" >"$room/commands"
-[[ -n $has_python ]] || sed -i '/python3/d' "$room/commands"
 (cd "$room/top" && bash -eu "$room/commands" >"$room/printed") || status=1
-cat "$here/networks.txt" ${has_python:+"$here/python.txt"} | cmp - "$room/printed" || status=1
+cat "$here/networks.txt" "$here/python.txt" | cmp - "$room/printed" || status=1
 
 strict=(-Wall -Wextra -Wpedantic -Werror "-I$room/lib")
 
@@ -57,13 +55,6 @@ else
     echo "cidr_c: there is no C++ compiler: the header was not compiled as C++"
 fi
 
-if [[ -n $has_python ]]; then
-    export PCIDR_LIBRARY=$room/lib/libpcidr.so PYTHONPATH=$python
-    python3 -m unittest discover -q -s "$python/tests" || status=1
-    python3 "$python/examples/aggregate.py" "$here/list" >"$room/aggregate.txt" || status=1
-    same aggregate.txt
-else
-    echo "cidr_c: there is no Python: the tests of the module and its examples were skipped"
-fi
+"$python/check.sh" "$room/lib/libpcidr.so" || status=1
 ((status == 0)) && echo "cidr_c: the library for C and Python runs as wanted"
 exit "$status"
