@@ -50,7 +50,7 @@ def library() -> bytes:
     if named:
         return Path(named).read_bytes()
     with tempfile.TemporaryDirectory() as room:
-        subprocess.run([HERE.parent / "crates" / "cidr_c" / "build", room], check=True, stdout=sys.stderr)
+        subprocess.run([str(HERE.parent / "crates" / "cidr_c" / "build"), room], check=True, stdout=sys.stderr)
         return Path(room, "libpcidr.so").read_bytes()
 
 

@@ -1,5 +1,5 @@
-"""Tables that threads share, that a signal interrupts and that a fork copies: each case is brought about by a hook, at
-each place where it may be, and none is left to luck."""
+"""Tables that threads share, that a signal interrupts and that a fork copies. A hook brings each case about at each place
+where it may be; besides, threads and signals come when they do."""
 import copy
 import itertools
 import os
