@@ -147,6 +147,11 @@ class Interleaved(unittest.TestCase):
             table["10.1.2.128/25"] = "handler's"
             lookups(table)
 
+        def writes_first(table):
+            table["10.1.2.0/24"] = "handler's"
+
+        for table, result in at_each_opcode(self, lambda table: table.setdefault("10.1.2.0/24", "mine"), writes_first):
+            self.assertEqual((lookups(table), result in ("mine", "handler's")), ("handler's", True))
         for table, _ in at_each_opcode(self, change, handler):
             self.assertEqual(lookups(table), "new")
             self.assertEqual(table.lookup("10.1.2.200")[1], "handler's")
@@ -396,6 +401,27 @@ class Threads(unittest.TestCase):
         lookups(table)
         with pcidr._changing:
             self.assertEqual(in_thread(self, lambda: lookups(table)), "old")
+
+    def test_what_changes_or_lists_rows_waits_for_a_writer(self):
+        calls = {
+            "setdefault": lambda table: table.setdefault("10.1.2.0/24", "new"),
+            "update": lambda table: table.update({"10.1.0.0/16": "new"}),
+            "pop": lambda table: table.pop("10.1.0.0/16"),
+            "popitem": lambda table: table.popitem(),
+            "lookup_each": lambda table: table.lookup_each([ASKED]),
+        }
+        for name, call in calls.items():
+            table = rows()
+            before = dict(table._rows)
+            with pcidr._changing:
+                thread = threading.Thread(target=call, args=(table,), daemon=True)
+                thread.start()
+                thread.join(0.05)
+                self.assertTrue(thread.is_alive(), name)
+                self.assertEqual((dict(table._rows), table._snapshot), (before, None), name)
+            thread.join(PATIENCE)
+            self.assertFalse(thread.is_alive(), name)
+            self.assertEqual(dict(table._rows) == before, name == "lookup_each", name)
 
     def test_a_walk_goes_on_with_its_rows(self):
         table = rows()
