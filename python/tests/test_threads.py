@@ -446,6 +446,18 @@ class Threads(unittest.TestCase):
             drop(table)
             self.assertEqual(done, [None])
             self.assertEqual(lookups(table), "finalizer's")
+        drops = (
+            change,
+            lambda table: table.setdefault("10.1.2.0/25", "new"),
+            lambda table: table.pop("10.0.0.0/8"),
+            lambda table: table.popitem(),
+        )
+        for drop in drops:
+            done = []
+            # A slow reader has left the rows of an earlier version.
+            table._snapshot = pcidr._Snapshot(object(), ((Network("any"), Value()),), pcidr.array(()))
+            drop(table)
+            self.assertEqual(done, [None])
 
     def test_what_is_removed_is_not_kept(self):
         class Value:

@@ -14,10 +14,10 @@ compiler=${CC:-cc}
 export PYTHONDONTWRITEBYTECODE=1
 
 # The commands stand in the page as they are typed at the top of the repository.
-mkdir "$room/top"
+mkdir "$room/top" "$room/home"
 ln -s "$(dirname "$crate")" "$(realpath "$python")" "$room/top"
 sed -n '/^```sh$/,/^```$/{/^```/!p}' "$crate/README.md" | sed "s|/tmp/pcidr|$room/lib|g" >"$room/commands"
-(cd "$room/top" && bash -eu "$room/commands" >"$room/printed") || status=1
+(cd "$room/top" && HOME=$room/home bash -eu "$room/commands" >"$room/printed") || status=1
 cat "$here/networks.txt" "$here/python.txt" | cmp - "$room/printed" || status=1
 
 strict=(-Wall -Wextra -Wpedantic -Werror "-I$room/lib")
