@@ -280,24 +280,17 @@ class Interrupted(unittest.TestCase):
                     self.assertEqual(lookups(table), "old")
 
 
-class Interrupt(BaseException):
-    """What the handler of a signal raises, as that of Ctrl-C raises KeyboardInterrupt."""
-
-
 class Signals(unittest.TestCase):
     """Signals as the system sends them, at times that nobody chooses."""
 
     def interrupted(self, work, spent):
-        """Calls until a signal comes, after some microseconds."""
-        def raises(*_):
-            raise Interrupt
-
-        before = signal.signal(signal.SIGALRM, raises)
+        """Calls until a signal comes, after some microseconds, which the handler of Ctrl-C handles."""
+        before = signal.signal(signal.SIGALRM, signal.default_int_handler)
         try:
             signal.setitimer(signal.ITIMER_REAL, spent * 1e-6)
             while True:
                 work()
-        except Interrupt:
+        except KeyboardInterrupt:
             pass
         finally:
             signal.setitimer(signal.ITIMER_REAL, 0)
