@@ -75,7 +75,7 @@ done
 "$room/wrong.checked" || wrong "a call with a wrong argument"
 "$room/memory.checked" || wrong "a call without memory"
 "$compiler" -std=c11 -O2 "${strict[@]}" -o "$room/wrong" "$here/wrong.c" -L"$lib" -lpcidr "-Wl,-rpath,$lib"
-"$room/wrong" || wrong "a call with a wrong argument, in the shared library"
+(ulimit -s 192 && exec "$room/wrong") || wrong "a call with a wrong argument, in the shared library, with 192 KiB of stack"
 
 # ---- what `build` makes
 
