@@ -95,6 +95,14 @@ class Values(unittest.TestCase):
         self.assertNotEqual(Address("::"), Network("::"))
 
 
+class Library(unittest.TestCase):
+    def test_another_version_is_refused(self):
+        pcidr._library._check_version(0x000201)
+        for version in (0x000100, 0x000300, 0x010200):
+            with self.assertRaisesRegex(ImportError, "this module wants 0.2"):
+                pcidr._library._check_version(version)
+
+
 class Sets(unittest.TestCase):
     def test_one_and_many(self):
         for _ in range(500):
