@@ -167,10 +167,7 @@ def _text(given: object) -> str:
 
 
 def _compared(call: Call, one: Value, other: Value) -> int:
-    order = call(one, other)
-    if order > 2:
-        check(order)
-    return order - 1
+    return call(one, other) - 1
 
 
 def _has(outer: Value, inner: Value) -> bool:
@@ -538,16 +535,13 @@ class Table(MutableMapping[Network, V]):
         self._version, self._snapshot = object(), None
         return result
 
-    def _put(self, key: Key, value: V) -> None:
-        """Sets a row, as `_changed` changes it."""
-        if key[0] not in self._tags:
-            self._tags = tuple(sorted((*self._tags, key[0]), reverse=True))
-        self._changed(self._rows.__setitem__, key, value)
-
-    def _set(self, key: Key, value: V) -> None:
+    def _put(self, put: Callable[[Key, V], R], key: Key, value: V) -> R:
+        """Changes a row, which may be new, by a call of the `dict`."""
         with _changing:
             _kept = self._rows.get(key), self._snapshot
-            self._put(key, value)
+            if key[0] not in self._tags:
+                self._tags = tuple(sorted((*self._tags, key[0]), reverse=True))
+            return self._changed(put, key, value)
 
     def __getstate__(self) -> dict[str, Any]:
         state = {**vars(self), "_rows": [(str(network), value) for network, value in self.items()]}
@@ -593,22 +587,18 @@ class Table(MutableMapping[Network, V]):
         return _key_of(network) in self._rows
 
     def __setitem__(self, network: AnyNetwork, value: V) -> None:
-        self._set(_key_of(network), value)
+        self._put(self._rows.__setitem__, _key_of(network), value)
 
     def update(self, rows: Any = (), /, **named: V) -> None:
         """Sets rows, given as to `Table`, one after the other."""
         for key, value in (_rows_by_key(rows) | _rows_by_key(named)).items():
-            self._set(key, value)
+            self._put(self._rows.__setitem__, key, value)
 
     def setdefault(self, network: AnyNetwork, default: Any = None, /) -> V:
         """The value of exactly this network, which becomes the default where there is none."""
         key = _key_of(network)
-        with _changing:
-            value, _kept = self._rows.get(key, _ABSENT), self._snapshot
-            if value is _ABSENT:
-                value = default
-                self._put(key, value)
-        return value
+        value = self._rows.get(key, _ABSENT)
+        return self._put(self._rows.setdefault, key, default) if value is _ABSENT else value
 
     @overload
     def pop(self, network: AnyNetwork, /) -> V:

@@ -8,7 +8,7 @@ import struct
 from collections.abc import Callable, Iterable, Sequence
 from typing import TYPE_CHECKING, Any
 
-VERSIONS = ((0, 1), (0, 2))
+VERSION = (0, 2)
 TEXT_ROOM = 44
 MESSAGE_ROOM = 100
 NO_ROOM = 11
@@ -34,7 +34,6 @@ SIZE, CODE, BYTES, TEXT = ctypes.c_size_t, ctypes.c_uint32, ctypes.c_void_p, cty
 VALUE, COUNT = ctypes.POINTER(Value), ctypes.POINTER(ctypes.c_size_t)
 # of each call that is used here the result and the parameters
 CALLS: dict[str, tuple[Any, list[Any]]] = {
-    "version": (CODE, []),
     "read_address": (CODE, [TEXT, SIZE, VALUE]),
     "read_host": (CODE, [TEXT, SIZE, VALUE]),
     "read_network": (CODE, [TEXT, SIZE, VALUE]),
@@ -46,12 +45,12 @@ CALLS: dict[str, tuple[Any, list[Any]]] = {
     "print_network_with_length": (SIZE, [VALUE, TEXT, SIZE]),
     "print_lines": (CODE, [VALUE, SIZE, TEXT, SIZE, COUNT]),
     "message": (SIZE, [CODE, TEXT, SIZE]),
-    "first": (CODE, [VALUE, VALUE]),
-    "last": (CODE, [VALUE, VALUE]),
-    "mask": (CODE, [VALUE, VALUE]),
-    "address": (CODE, [VALUE, VALUE]),
-    "network": (CODE, [VALUE, VALUE]),
-    "at": (CODE, [VALUE, ctypes.c_uint64, ctypes.c_uint64, VALUE]),
+    "first_by_value": (CODE, [Value, VALUE]),
+    "last_by_value": (CODE, [Value, VALUE]),
+    "mask_by_value": (CODE, [Value, VALUE]),
+    "address_by_value": (CODE, [Value, VALUE]),
+    "network_by_value": (CODE, [Value, VALUE]),
+    "at_by_value": (CODE, [Value, ctypes.c_uint64, ctypes.c_uint64, VALUE]),
     "contains": (CODE, [VALUE, VALUE]),
     "compare": (CODE, [VALUE, VALUE]),
     "compare_hosts": (CODE, [VALUE, VALUE]),
@@ -79,19 +78,22 @@ def _find() -> str:
     raise ImportError("there is no libpcidr.so: build it by crates/cidr_c/build, and set PCIDR_LIBRARY to it")
 
 
+def _check_version(version: int) -> None:
+    major, minor = version >> 16, version >> 8 & 255
+    if (major, minor) != VERSION:
+        raise ImportError(f"libpcidr.so is of version {major}.{minor}, and this module wants {VERSION[0]}.{VERSION[1]}")
+
+
 class _Calls:
-    """The calls of the library, without the `pcidr_` before their names."""
+    """The calls of the library, named as those of the header but without the `pcidr_`."""
 
     def __init__(self) -> None:
         loaded = ctypes.CDLL(_find())
+        _check_version(loaded.pcidr_version())
         for name, (result, parameters) in CALLS.items():
-            call = getattr(loaded, f"pcidr_{name}_by_value", None)
-            if call is None:
-                call = getattr(loaded, f"pcidr_{name}")
-            else:  # in the header `pcidr_NAME` is an inline function over this one
-                parameters = [Value, *parameters[1:]]
+            call = getattr(loaded, f"pcidr_{name}")
             call.restype, call.argtypes = result, parameters
-            setattr(self, name, call)
+            setattr(self, name.removesuffix("_by_value"), call)
 
     if TYPE_CHECKING:
 
@@ -99,14 +101,7 @@ class _Calls:
             ...
 
 
-def _check_version(version: int) -> None:
-    major, minor = version >> 16, version >> 8 & 255
-    if (major, minor) not in VERSIONS:
-        raise ImportError(f"libpcidr.so is of version {major}.{minor}, which this module does not know")
-
-
 calls = _Calls()
-_check_version(calls.version())
 
 
 def message(code: int) -> str:

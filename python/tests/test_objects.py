@@ -95,6 +95,14 @@ class Values(unittest.TestCase):
         self.assertNotEqual(Address("::"), Network("::"))
 
 
+class Library(unittest.TestCase):
+    def test_another_version_is_refused(self):
+        pcidr._library._check_version(0x000201)
+        for version in (0x000100, 0x000300, 0x010200):
+            with self.assertRaisesRegex(ImportError, "this module wants 0.2"):
+                pcidr._library._check_version(version)
+
+
 class Sets(unittest.TestCase):
     def test_one_and_many(self):
         for _ in range(500):
@@ -214,7 +222,7 @@ class Tables(unittest.TestCase):
         self.assertEqual((list(keys), list(values)), ([whole, first, last], [3, 2, 1]))
         self.assertEqual(list(items), [(whole, 3), (first, 2), (last, 1)])
         self.assertEqual((len(keys), len(values), len(items)), (3, 3, 3))
-        self.assertEqual(("::/0" in keys, "::/1" in keys, 1 in values, 4 in values), (True, False, True, False))
+        self.assertEqual(("::/0" in keys, "::/1" in keys, 1.0 in values, 4 in values), (True, False, True, False))
         self.assertEqual((("::/0", 1) in items, ("::/0", 2) in items, ("::/1", 1) in items), (True, False, False))
         self.assertEqual(keys & {last, Network("::/1")}, {last})
         self.assertEqual(keys - {last}, {whole, first})

@@ -147,6 +147,11 @@ class Interleaved(unittest.TestCase):
             table["10.1.2.128/25"] = "handler's"
             lookups(table)
 
+        def writes_first(table):
+            table["10.1.2.0/24"] = "handler's"
+
+        for table, result in at_each_opcode(self, lambda table: table.setdefault("10.1.2.0/24", "mine"), writes_first):
+            self.assertEqual((lookups(table), result in ("mine", "handler's")), ("handler's", True))
         for table, _ in at_each_opcode(self, change, handler):
             self.assertEqual(lookups(table), "new")
             self.assertEqual(table.lookup("10.1.2.200")[1], "handler's")
@@ -275,24 +280,17 @@ class Interrupted(unittest.TestCase):
                     self.assertEqual(lookups(table), "old")
 
 
-class Interrupt(BaseException):
-    """What the handler of a signal raises, as that of Ctrl-C raises KeyboardInterrupt."""
-
-
 class Signals(unittest.TestCase):
     """Signals as the system sends them, at times that nobody chooses."""
 
     def interrupted(self, work, spent):
-        """Calls until a signal comes, after some microseconds."""
-        def raises(*_):
-            raise Interrupt
-
-        before = signal.signal(signal.SIGALRM, raises)
+        """Calls until a signal comes, after some microseconds, which the handler of Ctrl-C handles."""
+        before = signal.signal(signal.SIGALRM, signal.default_int_handler)
         try:
             signal.setitimer(signal.ITIMER_REAL, spent * 1e-6)
             while True:
                 work()
-        except Interrupt:
+        except KeyboardInterrupt:
             pass
         finally:
             signal.setitimer(signal.ITIMER_REAL, 0)
@@ -397,6 +395,27 @@ class Threads(unittest.TestCase):
         with pcidr._changing:
             self.assertEqual(in_thread(self, lambda: lookups(table)), "old")
 
+    def test_what_changes_or_lists_rows_waits_for_a_writer(self):
+        calls = {
+            "setdefault": lambda table: table.setdefault("10.1.2.0/24", "new"),
+            "update": lambda table: table.update({"10.1.0.0/16": "new"}),
+            "pop": lambda table: table.pop("10.1.0.0/16"),
+            "popitem": lambda table: table.popitem(),
+            "lookup_each": lambda table: table.lookup_each([ASKED]),
+        }
+        for name, call in calls.items():
+            table = rows()
+            before = dict(table._rows)
+            with pcidr._changing:
+                thread = threading.Thread(target=call, args=(table,), daemon=True)
+                thread.start()
+                thread.join(0.05)
+                self.assertTrue(thread.is_alive(), name)
+                self.assertEqual((dict(table._rows), table._snapshot), (before, None), name)
+            thread.join(PATIENCE)
+            self.assertFalse(thread.is_alive(), name)
+            self.assertEqual(dict(table._rows) == before, name == "lookup_each", name)
+
     def test_a_walk_goes_on_with_its_rows(self):
         table = rows()
         walk, names = iter(table.items()), iter(table)
@@ -420,6 +439,18 @@ class Threads(unittest.TestCase):
             drop(table)
             self.assertEqual(done, [None])
             self.assertEqual(lookups(table), "finalizer's")
+        drops = (
+            change,
+            lambda table: table.setdefault("10.1.2.0/25", "new"),
+            lambda table: table.pop("10.0.0.0/8"),
+            lambda table: table.popitem(),
+        )
+        for drop in drops:
+            done = []
+            # A slow reader has left the rows of an earlier version.
+            table._snapshot = pcidr._Snapshot(object(), ((Network("any"), Value()),), pcidr.array(()))
+            drop(table)
+            self.assertEqual(done, [None])
 
     def test_what_is_removed_is_not_kept(self):
         class Value:
