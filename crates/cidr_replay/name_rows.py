@@ -115,7 +115,8 @@ def name_rows_of_each():
             net = network(address_of(version, rng.getrandbits(width)), length)
             kinds = [f"v{version}", "ip"] if length % (2 * label_width) == 0 else [f"v{version}"]
             for kind in kinds:
-                yield f"name.zones {kind} {text(net)}", zones_answer(net)
+                if length < 8 or -length % label_width <= 5:  # others have the many zones of a length below 8
+                    yield f"name.zones {kind} {text(net)}", zones_answer(net)
                 yield from mask_rows(kind, net, rng)
                 if length % label_width == 0:
                     for name in filter(None, changed_names(reverse_name_of(net).strip('"'), rng)):
