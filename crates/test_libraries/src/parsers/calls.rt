@@ -27,41 +27,101 @@ fn counted<V: FromStr>(count: &Cell<u32>, text: &str) -> Result<V, V::Err> {
     text.parse::<V>()
 }
 
-/// How often a parser of addresses is called for this text, by each form with no host parser.
-fn calls(text: &str) -> [u32; 5] {
+fn calls_of_network(text: &str) -> u32 {
     let count = Cell::new(0u32);
     let parser = |part: &str| -> Result<Ipv4Addr, AddrParseError> { counted(&count, part) };
-    let _network: Result<Ipv4Cidr, NetworkParseError> = parse_cidr(text, &parser);
-    let strict = count.replace(0);
-    let _ignoring: Result<Ipv4Cidr, NetworkParseError> = parse_cidr_ignore_hostbits(text, &parser);
-    let ignoring = count.replace(0);
-    let _host: Result<Ipv4Inet, NetworkParseError> = parse_inet(text, &parser);
-    let host = count.replace(0);
-    let parser = |part: &str| -> Result<IpAddr, AddrParseError> { counted(&count, part) };
-    let _any = parse_any_cidr(text, &parser);
-    let any = count.replace(0);
-    let _any_ignoring = parse_any_cidr_ignore_hostbits(text, &parser);
-    [strict, ignoring, host, any, count.get()]
+    let _read: Result<Ipv4Cidr, NetworkParseError> = parse_cidr(text, &parser);
+    count.get()
 }
 
-/// How often a parser of addresses and a host parser are called for this text, by each form that has both.
-fn full_calls(text: &str) -> [(u32, u32); 5] {
+fn calls_of_network_ignoring(text: &str) -> u32 {
+    let count = Cell::new(0u32);
+    let parser = |part: &str| -> Result<Ipv4Addr, AddrParseError> { counted(&count, part) };
+    let _read: Result<Ipv4Cidr, NetworkParseError> = parse_cidr_ignore_hostbits(text, &parser);
+    count.get()
+}
+
+fn calls_of_host(text: &str) -> u32 {
+    let count = Cell::new(0u32);
+    let parser = |part: &str| -> Result<Ipv4Addr, AddrParseError> { counted(&count, part) };
+    let _read: Result<Ipv4Inet, NetworkParseError> = parse_inet(text, &parser);
+    count.get()
+}
+
+fn calls_of_any(text: &str) -> u32 {
+    let count = Cell::new(0u32);
+    let parser = |part: &str| -> Result<IpAddr, AddrParseError> { counted(&count, part) };
+    let _read = parse_any_cidr(text, &parser);
+    count.get()
+}
+
+fn calls_of_any_ignoring(text: &str) -> u32 {
+    let count = Cell::new(0u32);
+    let parser = |part: &str| -> Result<IpAddr, AddrParseError> { counted(&count, part) };
+    let _read = parse_any_cidr_ignore_hostbits(text, &parser);
+    count.get()
+}
+
+fn full_calls_of_network(text: &str) -> (u32, u32) {
     let (address, host) = (Cell::new(0u32), Cell::new(0u32));
     let parser = |part: &str| -> Result<Ipv4Addr, AddrParseError> { counted(&address, part) };
-    let network = |part: &str| -> Result<Ipv4Cidr, NetworkParseError> { counted(&host, part) };
-    let _network = parse_cidr_full(text, &parser, &network);
-    let strict = (address.replace(0), host.replace(0));
-    let _ignoring = parse_cidr_full_ignore_hostbits(text, &parser, &network);
-    let ignoring = (address.replace(0), host.replace(0));
-    let inet = |part: &str| -> Result<Ipv4Inet, NetworkParseError> { counted(&host, part) };
-    let _host = parse_inet_full(text, &parser, &inet);
-    let hosts = (address.replace(0), host.replace(0));
+    let of_host = |part: &str| -> Result<Ipv4Cidr, NetworkParseError> { counted(&host, part) };
+    let _read = parse_cidr_full(text, &parser, &of_host);
+    (address.get(), host.get())
+}
+
+fn full_calls_of_network_ignoring(text: &str) -> (u32, u32) {
+    let (address, host) = (Cell::new(0u32), Cell::new(0u32));
+    let parser = |part: &str| -> Result<Ipv4Addr, AddrParseError> { counted(&address, part) };
+    let of_host = |part: &str| -> Result<Ipv4Cidr, NetworkParseError> { counted(&host, part) };
+    let _read = parse_cidr_full_ignore_hostbits(text, &parser, &of_host);
+    (address.get(), host.get())
+}
+
+fn full_calls_of_host(text: &str) -> (u32, u32) {
+    let (address, host) = (Cell::new(0u32), Cell::new(0u32));
+    let parser = |part: &str| -> Result<Ipv4Addr, AddrParseError> { counted(&address, part) };
+    let of_host = |part: &str| -> Result<Ipv4Inet, NetworkParseError> { counted(&host, part) };
+    let _read = parse_inet_full(text, &parser, &of_host);
+    (address.get(), host.get())
+}
+
+fn full_calls_of_any(text: &str) -> (u32, u32) {
+    let (address, host) = (Cell::new(0u32), Cell::new(0u32));
     let parser = |part: &str| -> Result<IpAddr, AddrParseError> { counted(&address, part) };
-    let network = |part: &str| -> Result<IpCidr, NetworkParseError> { counted(&host, part) };
-    let _any = parse_any_cidr_full(text, &parser, &network);
-    let any = (address.replace(0), host.replace(0));
-    let _any_ignoring = parse_any_cidr_full_ignore_hostbits(text, &parser, &network);
-    [strict, ignoring, hosts, any, (address.get(), host.get())]
+    let of_host = |part: &str| -> Result<IpCidr, NetworkParseError> { counted(&host, part) };
+    let _read = parse_any_cidr_full(text, &parser, &of_host);
+    (address.get(), host.get())
+}
+
+fn full_calls_of_any_ignoring(text: &str) -> (u32, u32) {
+    let (address, host) = (Cell::new(0u32), Cell::new(0u32));
+    let parser = |part: &str| -> Result<IpAddr, AddrParseError> { counted(&address, part) };
+    let of_host = |part: &str| -> Result<IpCidr, NetworkParseError> { counted(&host, part) };
+    let _read = parse_any_cidr_full_ignore_hostbits(text, &parser, &of_host);
+    (address.get(), host.get())
+}
+
+/// How often each form with no host parser calls its parser of addresses.
+fn calls(text: &str) -> [u32; 5] {
+    [
+        calls_of_network(text),
+        calls_of_network_ignoring(text),
+        calls_of_host(text),
+        calls_of_any(text),
+        calls_of_any_ignoring(text),
+    ]
+}
+
+/// How often each form that has both calls its parser of addresses and its host parser.
+fn full_calls(text: &str) -> [(u32, u32); 5] {
+    [
+        full_calls_of_network(text),
+        full_calls_of_network_ignoring(text),
+        full_calls_of_host(text),
+        full_calls_of_any(text),
+        full_calls_of_any_ignoring(text),
+    ]
 }
 
 #[test]
