@@ -6,6 +6,9 @@
 //! turns, and the first as a fraction of the second, with a tab between each two; where there is no plain way, `-`
 //! stands for it. Without an argument nothing is timed: each row but those of large tables is done, and printed where
 //! the library and the plain way have different results.
+//!
+//! With `from C` as the second argument the calls are those that the library for C makes, on values from standard
+//! input, one a line. Each line has a number that hangs on all results in place of the plain way.
 #![tactic(auto)]
 
 mod bench;
@@ -13,6 +16,7 @@ mod bits;
 mod bytes;
 mod containing;
 mod covering;
+mod from_c;
 mod idle;
 mod loading;
 mod long;
@@ -53,6 +57,10 @@ fn main(rt: HostRuntime) -> io::Result<()> {
         },
         quiet: rounds == 0,
     };
+    if row == "from C" {
+        let values = io::read_to_string(rt.alloc(), rt.reader())?;
+        return from_c::time_all(&bench, values.as_str());
+    }
     if !bench.quiet {
         println!(rt; "row\tns\tplain ns\tratio")?;
     }
