@@ -205,11 +205,17 @@ impl Work for MatchEach<'_> {
 
 /// Times the calls on the hosts of a text, one a line.
 pub fn time_all(bench: &Bench<'_>, text: &str) -> io::Result<()> {
-    let alloc = bench.rt.alloc();
-    let hosts = hosts_of(alloc, text)?;
+    let hosts = hosts_of(bench.rt.alloc(), text)?;
     let (hosts, rest) = split(hosts.as_slice(), MANY);
     let (others, rest) = split(rest, MANY);
     let (many, asked) = split(rest, NETWORKS);
+    time_single(bench, hosts, others)?;
+    time_many(&bench.slower(1_000), many, asked)
+}
+
+/// Times the calls with one value or two.
+fn time_single(bench: &Bench<'_>, hosts: &[IpInet], others: &[IpInet]) -> io::Result<()> {
+    let alloc = bench.rt.alloc();
     let networks = networks_of(alloc, hosts)?;
     let around = networks_of(alloc, others)?;
     let (networks, around) = (networks.as_slice(), around.as_slice());
@@ -218,11 +224,15 @@ pub fn time_all(bench: &Bench<'_>, text: &str) -> io::Result<()> {
     bench.counted("first address", Beside(First, hosts, hosts))?;
     bench.counted("last address", Beside(Last, hosts, hosts))?;
     bench.counted("contains", Beside(Contains, around, networks))?;
-    bench.counted("compare", Beside(Compare, around, networks))?;
+    bench.counted("compare", Beside(Compare, around, networks))
+}
+
+/// Times the calls with many values.
+fn time_many(bench: &Bench<'_>, many: &[IpInet], asked: &[IpInet]) -> io::Result<()> {
+    let alloc = bench.rt.alloc();
     let networks = networks_of(alloc, many)?;
     let asked = networks_of(alloc, asked)?;
     let (networks, asked) = (networks.as_slice(), asked.as_slice());
-    let bench = bench.slower(1_000);
     bench.counted(
         "contains each",
         ContainsEach {

@@ -64,17 +64,7 @@ fn main(rt: HostRuntime) -> io::Result<()> {
     if !bench.quiet {
         println!(rt; "row\tns\tplain ns\tratio")?;
     }
-    reading::compare_all(&bench.slower(16))?;
-    loose::compare_all(&bench)?;
-    long::time_all(&bench)?;
-    printing::compare_all(&bench.slower(16))?;
-    bytes::compare_all(&bench.slower(16))?;
-    idle::compare_all(&bench)?;
-    containing::compare_all(&bench)?;
-    ordering::compare_all(&bench)?;
-    bits::compare_all(&bench)?;
-    stepping::compare_all(&bench)?;
-    walking::compare_all(&bench)?;
+    time_calls(&bench)?;
     if let Rows::OfLibrary(_) = bench.rows {
         return Ok(());
     }
@@ -82,4 +72,19 @@ fn main(rt: HostRuntime) -> io::Result<()> {
     loading::compare_all(&bench.slower(1_000))?;
     covering::compare_all(&bench.slower(100))?;
     sets::compare_all(&bench.slower(1_000))
+}
+
+/// Does the rows of no table and no set.
+fn time_calls(bench: &Bench<'_>) -> io::Result<()> {
+    reading::compare_all(&bench.slower(16))?;
+    loose::compare_all(bench)?;
+    long::time_all(bench)?;
+    printing::compare_all(&bench.slower(16))?;
+    bytes::compare_all(&bench.slower(16))?;
+    idle::compare_all(bench)?;
+    containing::compare_all(bench)?;
+    ordering::compare_all(bench)?;
+    bits::compare_all(bench)?;
+    stepping::compare_all(bench)?;
+    walking::compare_all(bench)
 }
