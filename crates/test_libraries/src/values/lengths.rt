@@ -173,8 +173,10 @@ fn a_pair_of_two_families_has_no_length(rt: HostRuntime) {
     for len in 0..=255u8 {
         for (first, second) in [(four, six), (six, four)] {
             let made = IpInetPair::new_from_addresses(first, second, len);
-            let is_refused = matches!(made, Err(InetTupleError::NotInSharedNetwork));
-            assert!(rt; is_refused, "at {len}");
+            assert!(rt;
+                matches!(made, Err(InetTupleError::NotInSharedNetwork)),
+                "at {len}"
+            );
         }
     }
 }
