@@ -12,11 +12,9 @@ AROUND = [
 NETWORKS = [
     ("v4", "0.0.0.0"),
     ("v4", "255.255.255.255"),
-    ("v4", "192.0.2.85"),
     ("v4", "10.171.205.239"),
     ("v6", "::"),
     ("v6", "ffff:ffff:ffff:ffff:ffff:ffff:ffff:ffff"),
-    ("v6", "2001:db8:0:1:8000::1"),
     ("v6", "123:4567:89ab:cdef:fedc:ba98:7654:3210"),
 ]
 
@@ -146,7 +144,7 @@ def tags():
 
 
 def prefixes(kind, address, length):
-    """The prefix bytes of a network, the bits after the prefix zero and set; each beginning that is too short."""
+    """The prefix bytes of a network, the bits after the prefix zero and set; beginnings that are too short."""
     net = network(address, length)
     used = 1 + (length + 7) // 8
     zeros = bytes([length]) + net[0].packed
@@ -155,14 +153,14 @@ def prefixes(kind, address, length):
     yield f"prefix.to {kind} {text}", f"x{zeros[:used].hex()}"
     for data in [zeros[:used], zeros + bytes(16), ones]:
         yield f"prefix.from {kind} x{data.hex()}", f"ok {text} {used}"
-    for count in range(used):
+    for count in sorted({0, min(1, used - 1), used - 1}):
         yield f"prefix.from {kind} x{ones[:count].hex()}", "err Truncated =prefix%20bytes%20end%20too%20early"
 
 
 def too_long(kind, address):
-    """Each length above the width, with octets and with none."""
-    for length, octets in product(range(address.max_prefixlen + 1, 256), [b"", address.packed]):
-        data = bytes([length]) + octets
+    """Each length above the width, by turns with octets and with none."""
+    for length in range(address.max_prefixlen + 1, 256):
+        data = bytes([length]) + address.packed * (length % 2)
         yield f"prefix.from {kind} x{data.hex()}", "err LengthTooLong =prefix%20length%20is%20too%20long"
 
 
@@ -185,4 +183,7 @@ def computed_rows():
     for kind, text in PREFIXES:
         yield from too_long(kind, ipaddress.ip_address(text))
     for (operation, kind), data in product(READ, tags()):
-        yield f"{operation} {kind} x{data.hex()}", compact(operation, kind, data)
+        answer = compact(operation, kind, data)
+        # of a tag that is none of the type's the octets do not matter: it stands before zeros alone
+        if data[-1:] != b"\xff" or answer.startswith("ok") or answer == HOST_PART:
+            yield f"{operation} {kind} x{data.hex()}", answer

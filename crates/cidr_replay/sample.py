@@ -1,14 +1,15 @@
 #!/usr/bin/env python3
 """Makes the program's stored run, the files stdin and stdout beside this script.
 
-usage: sample.py [FOLDER PROGRAM]
+usage: sample.py [FOLDER PROGRAM | write]
 
 FOLDER has the groups: files NAME.in with operations and NAME.out with the expected answers, line by
 line. PROGRAM is cidr_replay: what it answers with `unsupported` is left out, and nothing else of its
-output is used. README.md says how the lines are chosen.
+output is used. README.md says how the lines are chosen. With the word `write` in place of both, the
+lines of the groups stay as they are stored, and all others are written anew.
 
 Without arguments it writes nothing, and compares the stored run with all rows that are in no group:
-those in rows/, those of computed.py and those below. The exit status is 1 if any is missing or differs.
+those in rows/, those that are computed and those below. The exit status is 1 if any differs.
 """
 import itertools
 import subprocess
@@ -17,6 +18,10 @@ from collections import defaultdict
 from pathlib import Path
 
 from computed import computed_rows
+from name_rows import name_rows_of_each
+from network_rows import address_rows_of_each, network_rows_of_each
+from set_rows import set_rows
+from special_rows import special_rows_of_each
 
 HERE = Path(__file__).resolve().parent
 
@@ -213,6 +218,12 @@ OTHER_LINES = [
     (b"agree ip 10.0.0.0/8 any", b"malformed"),
     (b"agree.texts v4 =10.0.0.0/8 10.0.0.0/8", b"malformed"),
     (b"agree.bytes v4 10.0.0.0/8 10.0.0.0/8", b"malformed"),
+    (b"set.union ip - -", b"malformed"),
+    (b"set.contains v4 10.0.0.0/8 10.0.0.0/9 10.0.0.0/9", b"malformed"),
+    (b"set.permitted v4 10.0.0.0/8", b"malformed"),
+    (b"tree.parent ip 10.0.0.0/8", b"malformed"),
+    (b"special.is_global any 10.0.0.1", b"malformed"),
+    (b"inside.to_ipv4_6to4 v6 2002::", b"malformed"),
     (b"tool =show =10.0.0.0/8", b"unsupported"),
 ]
 
@@ -295,13 +306,26 @@ def together(*lists):
 
 
 def rows_of_no_group():
-    computed = [(operation.encode(), answer.encode()) for operation, answer in computed_rows()]
+    tables = computed_rows(), set_rows(), network_rows_of_each(), address_rows_of_each(), name_rows_of_each(), special_rows_of_each()
+    computed = [(operation.encode(), answer.encode()) for table in tables for operation, answer in table]
     return itertools.chain(rows_of_files(), computed, OTHER_LINES)
+
+
+def stored_run():
+    """The operations that are stored, each with its result."""
+    return dict(zip(*((HERE / name).read_bytes().split(b"\n")[:-1] for name in ["stdin", "stdout"])))
+
+
+def stored_lines_of_groups():
+    """The lines behind the last of those that are in no group."""
+    last, _ = OTHER_LINES[-1]
+    lines = list(stored_run().items())
+    return lines[[operation for operation, _ in lines].index(last) + 1 :]
 
 
 def compare():
     """Ends with the rows that the stored run does not have."""
-    stored = dict(zip(*((HERE / name).read_bytes().split(b"\n")[:-1] for name in ["stdin", "stdout"])))
+    stored = stored_run()
     rows = together(rows_of_no_group())
     missing = [operation.decode() for operation, expected in rows.items() if stored.get(operation) != expected]
     if missing:
@@ -309,19 +333,27 @@ def compare():
     print(f"{len(rows)} rows of no group, as stored")
 
 
+def write(lines_of_groups):
+    """Writes all rows of no group and then lines of the groups. `rt try` takes no more than a mebibyte of output."""
+    sample = together(rows_of_no_group(), lines_of_groups)
+    for name, lines in [("stdin", sample.keys()), ("stdout", sample.values())]:
+        (HERE / name).write_bytes(b"".join(line + b"\n" for line in lines))
+    print(f"{len(sample)} lines")
+
+
 def main():
     if len(sys.argv) == 1:
         return compare()
+    if sys.argv[1:] == ["write"]:
+        return write(stored_lines_of_groups())
     if len(sys.argv) != 3:
         sys.exit(__doc__)
     lines = read_lines(sys.argv[1], sys.argv[2])
     places, each = most_that_fit(lines, SIZE - len(OTHER_LINES))
     place_of = {operation: place for place, (operation, _) in enumerate(lines)}
     places = sorted({*places, *(place_of[operation] for operation in CHOSEN)})
-    sample = together((lines[place] for place in places), rows_of_no_group())
-    (HERE / "stdin").write_bytes(b"".join(operation + b"\n" for operation in sample))
-    (HERE / "stdout").write_bytes(b"".join(expected + b"\n" for expected in sample.values()))
-    print(f"{len(sample)} lines, {each} for an operation and type")
+    write(lines[place] for place in places)
+    print(f"{each} of the groups for an operation and type")
 
 
 if __name__ == "__main__":

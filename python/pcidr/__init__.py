@@ -10,12 +10,18 @@ What the library is given and returns is proved to be right; that this module pa
 """
 from __future__ import annotations
 
-import ctypes
+import ipaddress
+import os
+import threading
+from bisect import bisect_right
+from collections.abc import Callable, ItemsView, Iterable, Iterator, Mapping, MutableMapping, ValuesView
 from operator import attrgetter
-from typing import Any, Generic, Iterable, Iterator, List, Optional, Sequence, Tuple, TypeVar, Union
+from typing import Any, ClassVar, NamedTuple, TypeVar, Union, overload
 
 from pcidr._library import (
+    Call,
     Value,
+    Values,
     answers,
     array,
     calls,
@@ -27,6 +33,8 @@ from pcidr._library import (
     read,
     read_all,
 )
+
+__version__ = "0.2.0"
 
 __all__ = [
     "Address",
@@ -41,26 +49,36 @@ __all__ = [
 ]
 
 V = TypeVar("V")
-AnyValue = Union["Address", "Host", "Network"]
+D = TypeVar("D")
+R = TypeVar("R")
+S = TypeVar("S", bound="_Shown")
+OfIpaddress = Union[ipaddress.IPv4Address, ipaddress.IPv6Address, ipaddress.IPv4Network, ipaddress.IPv6Network]
+AnyNetwork = Union["Address", "Network", str, OfIpaddress]
+Rows = Union[Mapping[Any, V], Iterable[tuple[AnyNetwork, V]]]
+Key = tuple[int, int]
+
+_ADDRESSES_AND_NETWORKS = (ipaddress.IPv4Address, ipaddress.IPv6Address, ipaddress.IPv4Network, ipaddress.IPv6Network)
+_INTERFACES = (ipaddress.IPv4Interface, ipaddress.IPv6Interface)  # which are addresses of that module, too
 
 
 class _Shown:
     """A value of the library, which never changes."""
 
     __slots__ = ("_value",)
-    _read = None
-    _print = None
+    _value: Value
+    _read: ClassVar[Call]
+    _print: ClassVar[Call]
 
-    def __init__(self, text: str) -> None:
-        self._value = read(type(self)._read, text)
+    def __init__(self, given: str | _Shown | OfIpaddress) -> None:
+        self._value = read(type(self)._read, _text(given))
 
     @classmethod
-    def _of(cls, value: Value) -> Any:
+    def _of(cls: type[S], value: Value) -> S:
         made = cls.__new__(cls)
         made._value = value
         return made
 
-    def _key(self) -> Tuple[int, int, int]:
+    def _key(self) -> tuple[int, int, int]:
         return (self._value.tag, self._value.high, self._value.low)
 
     def __str__(self) -> str:
@@ -69,65 +87,91 @@ class _Shown:
     def __repr__(self) -> str:
         return f"{type(self).__name__}({str(self)!r})"
 
+    def __format__(self, spec: str) -> str:
+        return format(str(self), spec)
+
+    def __reduce__(self) -> tuple[Any, ...]:
+        return type(self), (str(self),)
+
     def __hash__(self) -> int:
         return hash(self._key())
 
     def __eq__(self, other: object) -> bool:
-        return type(other) is type(self) and self._key() == other._key()
+        if isinstance(other, _Shown) and type(other) is type(self):
+            return self._key() == other._key()
+        return NotImplemented
 
     def _order(self, other: Any) -> int:
         raise NotImplementedError
 
     def __lt__(self, other: Any) -> bool:
-        return self._order(other) < 0 if type(other) is type(self) else NotImplemented
+        if type(other) is not type(self):
+            return NotImplemented
+        return self._order(other) < 0
 
     def __le__(self, other: Any) -> bool:
-        return self._order(other) <= 0 if type(other) is type(self) else NotImplemented
+        if type(other) is not type(self):
+            return NotImplemented
+        return self._order(other) <= 0
 
     def __gt__(self, other: Any) -> bool:
-        return self._order(other) > 0 if type(other) is type(self) else NotImplemented
+        if type(other) is not type(self):
+            return NotImplemented
+        return self._order(other) > 0
 
     def __ge__(self, other: Any) -> bool:
-        return self._order(other) >= 0 if type(other) is type(self) else NotImplemented
+        if type(other) is not type(self):
+            return NotImplemented
+        return self._order(other) >= 0
 
-    def _part(self, call: Any) -> Value:
+    def _part(self, call: Call) -> Value:
         out = Value()
         check(call(self._value, out))
         return out
 
     @property
-    def family(self) -> Optional[int]:
+    def family(self) -> int | None:
         """4 or 6, or None for the network `any`."""
         tag = self._value.tag
         return None if tag == 255 else 4 if tag < 64 else 6
 
     @property
-    def length(self) -> Optional[int]:
+    def length(self) -> int | None:
         """The prefix length, or None for the network `any`."""
         tag = self._value.tag
         return None if tag == 255 else tag if tag < 64 else tag - 64
 
     @property
-    def first(self) -> "Address":
+    def first(self) -> Address:
         """The first address of the network."""
         return Address._of(self._part(calls.first))
 
     @property
-    def last(self) -> "Address":
+    def last(self) -> Address:
         """The last address of the network."""
         return Address._of(self._part(calls.last))
 
     @property
-    def mask(self) -> "Address":
+    def mask(self) -> Address:
         """The mask of the network."""
         return Address._of(self._part(calls.mask))
 
 
-def _compared(call: Any, one: Value, other: Value) -> int:
-    order = call(one, other)
-    if order > 2:
-        check(order)
-    return order - 1
+def _text(given: object) -> str:
+    """The string of what a value is made of: a string, a value, or one of the module `ipaddress`."""
+    if isinstance(given, str):
+        return given
+    if isinstance(given, (_Shown, *_ADDRESSES_AND_NETWORKS)):
+        return str(given)
+    raise TypeError(f"no string, value or object of ipaddress: {given!r}")
+
+
+def _compared(call: Call, one: Value, other: Value) -> int:
+    return call(one, other) - 1
+
+
+def _has(outer: Value, inner: Value) -> bool:
+    return calls.contains(outer, inner) == 1
 
 
 class Address(_Shown):
@@ -137,11 +181,18 @@ class Address(_Shown):
     _read = calls.read_address
     _print = calls.print_address
 
-    def _order(self, other: "Address") -> int:
+    def _order(self, other: Address) -> int:
         return _compared(calls.compare, self._value, other._value)
 
     def __int__(self) -> int:
         return self._value.high << 64 | self._value.low
+
+    def __bytes__(self) -> bytes:
+        return int(self).to_bytes(4 if self.family == 4 else 16, "big")
+
+    def to_ipaddress(self) -> ipaddress.IPv4Address | ipaddress.IPv6Address:
+        """The same address of the module `ipaddress`."""
+        return ipaddress.IPv4Address(int(self)) if self.family == 4 else ipaddress.IPv6Address(int(self))
 
 
 class Host(_Shown):
@@ -151,7 +202,7 @@ class Host(_Shown):
     _read = calls.read_host
     _print = calls.print_host
 
-    def _order(self, other: "Host") -> int:
+    def _order(self, other: Host) -> int:
         return _compared(calls.compare_hosts, self._value, other._value)
 
     @property
@@ -165,9 +216,13 @@ class Host(_Shown):
         return Address._of(self._part(calls.address))
 
     @property
-    def network(self) -> "Network":
+    def network(self) -> Network:
         """The network."""
         return Network._of(self._part(calls.network))
+
+    def to_ipaddress(self) -> ipaddress.IPv4Interface | ipaddress.IPv6Interface:
+        """The same host of the module `ipaddress`, which calls it an interface."""
+        return ipaddress.ip_interface(self.with_length)
 
 
 class Network(_Shown):
@@ -181,7 +236,7 @@ class Network(_Shown):
     _read = calls.read_network
     _print = calls.print_network
 
-    def _order(self, other: "Network") -> int:
+    def _order(self, other: Network) -> int:
         return _compared(calls.compare, self._value, other._value)
 
     @property
@@ -189,18 +244,24 @@ class Network(_Shown):
         """The string with its prefix length also where that is full: ``192.0.2.1/32``."""
         return printed(calls.print_network_with_length, self._value)
 
-    def __contains__(self, inner: Union[Address, "Network", str]) -> bool:
-        answer = calls.contains(self._value, _network_value(inner))
-        if answer > 1:
-            check(answer)
-        return answer == 1
+    def __contains__(self, inner: AnyNetwork) -> bool:
+        return _has(self._value, _network_value(inner))
+
+    def to_ipaddress(self) -> ipaddress.IPv4Network | ipaddress.IPv6Network:
+        """The same network of the module `ipaddress`, which has none that is like `any`."""
+        if self.length is None:
+            raise ValueError("any has addresses of two families")
+        return ipaddress.ip_network(self.with_length)
+
+    def __bool__(self) -> bool:
+        return True  # each network has an address; `len`, which `bool` would ask, stops at 2^63
 
     @property
     def count(self) -> int:
         """The number of addresses; `len` stops at 2^63."""
         if self.length is None:
             return 2**32 + 2**128
-        return 2 ** ((32 if self.family == 4 else 128) - self.length)
+        return 1 << ((32 if self.family == 4 else 128) - self.length)
 
     def __len__(self) -> int:
         return self.count
@@ -224,50 +285,67 @@ class Network(_Shown):
         return (self[i] for i in range(self.count - 1, -1, -1))
 
 
-def _network_value(given: Union[AnyValue, str]) -> Value:
+def _network_value(given: object) -> Value:
     if isinstance(given, str):
         return read(calls.read_network, given)
     if isinstance(given, (Address, Network)):
         return given._value
+    if isinstance(given, _ADDRESSES_AND_NETWORKS) and not isinstance(given, _INTERFACES):
+        return read(calls.read_network, str(given))
     raise TypeError(f"no network or address: {given!r}")
 
 
-def _values(given: Iterable[Union[AnyValue, str]]) -> ctypes.Array:
+def _listed(given: Iterable[V]) -> list[V]:
+    """A list of an iterable, but not of the characters of a string or the addresses of a network, which stand where a
+    list of them is meant."""
+    if isinstance(given, (str, Network, *_ADDRESSES_AND_NETWORKS)):
+        raise TypeError(f"a list of networks is wanted, not one: {given!r}")
+    return list(given)
+
+
+def _values(given: Iterable[AnyNetwork]) -> Values:
     """The networks of an iterable, by one call where all are strings."""
-    listed = list(given)
+    listed = _listed(given)
     try:
-        return read_all(listed)
+        return read_all(listed)  # type: ignore[arg-type]
     except TypeError:  # not all are strings
         if set(map(type, listed)) <= {Address, Network}:
             return array(map(attrgetter("_value"), listed))
         return array(map(_network_value, listed))
 
 
-def parse_networks(texts: Iterable[str]) -> List[Network]:
+def parse_networks(texts: Iterable[str]) -> list[Network]:
     """The networks of strings, by one call of the library."""
-    return [Network._of(_copied(value)) for value in read_all(list(texts))]
+    return [Network._of(_copied(value)) for value in read_all(_listed(texts))]
 
 
-def print_networks(networks: Sequence[Network]) -> List[str]:
+def print_networks(networks: Iterable[Network | Address]) -> list[str]:
     """The strings of networks, by one call of the library."""
-    values = array(network._value for network in networks)
-    return print_all(values, len(values))
+    listed = _listed(networks)
+    for network in listed:
+        if not isinstance(network, (Address, Network)):
+            raise TypeError(f"no network or address: {network!r}")
+    return print_all(array(map(attrgetter("_value"), listed)), len(listed))
 
 
-def merge(networks: Iterable[Union[Network, Address, str]]) -> List[str]:
-    """The shortest list of networks with the same addresses, ascending, as strings."""
+def merge(networks: Iterable[AnyNetwork]) -> list[str]:
+    """The shortest list of networks with the same addresses, ascending, as strings. All addresses are two networks."""
     values = _values(networks)
-    return print_all(values, cover(values))
+    return _set_strings(values, cover(values))
 
 
-def contains_each(
-    networks: Iterable[Union[Network, str]], asked: Iterable[Union[Address, Network, str]]
-) -> List[bool]:
+def _set_strings(values: Values, count: int) -> list[str]:
+    """The strings of a set: `any`, which others do not read, is written as the networks of all addresses of each family."""
+    texts = print_all(values, count)
+    return ["0.0.0.0/0", "::/0"] if texts == ["any"] else texts
+
+
+def contains_each(networks: Iterable[AnyNetwork], asked: Iterable[AnyNetwork]) -> list[bool]:
     """For each asked address or network, whether the networks together have it."""
     return _contained(_values(networks), _values(asked))
 
 
-def _contained(networks: ctypes.Array, asked: ctypes.Array) -> List[bool]:
+def _contained(networks: Values, asked: Values) -> list[bool]:
     room, out = answers("?", len(asked))
     check(calls.contains_each(networks, len(networks), asked, len(asked), room, len(asked)))
     return list(out)
@@ -285,47 +363,71 @@ class NetworkSet:
     """
 
     __slots__ = ("_values",)
+    _values: Values
 
-    def __init__(self, networks: Iterable[Union[Network, Address, str]] = ()) -> None:
+    def __init__(self, networks: Iterable[AnyNetwork] = ()) -> None:
         values = _values(networks)
         count = cover(values)
         self._values = (Value * count).from_buffer_copy(values)
 
     @classmethod
-    def _made(cls, call: Any, these: "NetworkSet", those: object) -> Any:
+    def _made(cls, call: Call, these: NetworkSet, those: object) -> NetworkSet:
         if not isinstance(those, NetworkSet):
             return NotImplemented
         made = cls.__new__(cls)
         made._values = combined(call, these._values, those._values)
         return made
 
-    def __or__(self, other: "NetworkSet") -> "NetworkSet":
+    def __or__(self, other: NetworkSet) -> NetworkSet:
         return self._made(calls.union, self, other)
 
-    def __and__(self, other: "NetworkSet") -> "NetworkSet":
+    def __and__(self, other: NetworkSet) -> NetworkSet:
         return self._made(calls.intersection, self, other)
 
-    def __sub__(self, other: "NetworkSet") -> "NetworkSet":
+    def __sub__(self, other: NetworkSet) -> NetworkSet:
         return self._made(calls.difference, self, other)
 
-    def __xor__(self, other: "NetworkSet") -> "NetworkSet":
+    def __xor__(self, other: NetworkSet) -> NetworkSet:
         return self._made(calls.symmetric_difference, self, other)
 
-    def __contains__(self, asked: Union[Address, Network, str]) -> bool:
-        return _contained(self._values, array([_network_value(asked)]))[0]
+    def __reduce__(self) -> tuple[Any, ...]:
+        return type(self), (self.to_strings(),)
 
-    def contains_each(self, asked: Iterable[Union[Address, Network, str]]) -> List[bool]:
+    def __contains__(self, asked: AnyNetwork) -> bool:
+        """Whether the set has all addresses of a network. Its own networks ascend and none overlaps another: only the
+        last of those that do not come after the asked one may have it."""
+        held, value = self._values, _network_value(asked)
+        behind = bisect_right(range(len(held)), 0, key=lambda place: _compared(calls.compare, held[place], value))
+        return behind > 0 and _has(held[behind - 1], value)
+
+    def isdisjoint(self, other: NetworkSet | Iterable[AnyNetwork]) -> bool:
+        """Whether no address is in both."""
+        return not self & (other if isinstance(other, NetworkSet) else NetworkSet(other))
+
+    def __invert__(self) -> NetworkSet:
+        """The set of all other addresses, of both families."""
+        return NetworkSet(["any"]) - self
+
+    def contains_each(self, asked: Iterable[AnyNetwork]) -> list[bool]:
         """For each asked address or network, whether the set has it."""
         return _contained(self._values, _values(asked))
 
-    def __le__(self, other: "NetworkSet") -> bool:
+    def __le__(self, other: NetworkSet) -> bool:
         return all(_contained(other._values, self._values)) if isinstance(other, NetworkSet) else NotImplemented
 
-    def __ge__(self, other: "NetworkSet") -> bool:
+    def __ge__(self, other: NetworkSet) -> bool:
         return other.__le__(self) if isinstance(other, NetworkSet) else NotImplemented
 
+    def __lt__(self, other: NetworkSet) -> bool:
+        return self != other and self <= other if isinstance(other, NetworkSet) else NotImplemented
+
+    def __gt__(self, other: NetworkSet) -> bool:
+        return other.__lt__(self) if isinstance(other, NetworkSet) else NotImplemented
+
     def __eq__(self, other: object) -> bool:
-        return isinstance(other, NetworkSet) and list(self) == list(other)
+        if not isinstance(other, NetworkSet):
+            return NotImplemented
+        return list(self) == list(other)
 
     def __hash__(self) -> int:
         return hash(tuple(self))
@@ -341,97 +443,274 @@ class NetworkSet:
         """The number of addresses."""
         return sum(network.count for network in self)
 
-    def to_strings(self) -> List[str]:
-        """The networks as strings, by one call of the library."""
-        return print_all(self._values, len(self))
+    def to_strings(self) -> list[str]:
+        """The networks as strings, by one call of the library; all addresses are ``0.0.0.0/0`` and ``::/0``."""
+        return _set_strings(self._values, len(self))
 
     def __repr__(self) -> str:
         return f"NetworkSet({self.to_strings()!r})"
 
 
-class Table(Generic[V]):
-    """A table of networks with a value each: ``Table({"10.0.0.0/8": 1})``.
+class _Snapshot(NamedTuple):
+    """The rows of a table as they were at a version, in order, and their networks: made once, and never changed."""
+
+    version: object
+    rows: tuple[tuple[Network, Any], ...]
+    networks: Values
+
+
+# Held by each change of a table, for a few assignments. It is one for all tables, so that a table has nothing in it
+# that can't be copied. No code of the caller runs under it but a signal handler, or a finalizer that the collector
+# calls: these may change tables too, and so its holder may take it again. A fork waits for it, so that no child is left
+# with half of a change.
+_changing = threading.RLock()
+os.register_at_fork(before=_changing.acquire, after_in_parent=_changing.release, after_in_child=_changing.release)
+
+_ABSENT: Any = object()
+
+
+class _Items(ItemsView[Network, V]):
+    """The rows of a table, whatever they are when they are asked for."""
+
+    __slots__ = ()
+    _mapping: Table[V]
+
+    def __iter__(self) -> Iterator[tuple[Network, V]]:
+        return iter(self._mapping._now().rows)
+
+
+class _ValuesOfRows(ValuesView[V]):
+    """The values of a table, whatever they are when they are asked for."""
+
+    __slots__ = ()
+    _mapping: Table[V]
+
+    def __iter__(self) -> Iterator[V]:
+        return (value for _, value in self._mapping._now().rows)
+
+    def __contains__(self, value: object) -> bool:
+        return any(held is value or held == value for held in self)
+
+
+class Table(MutableMapping[Network, V]):
+    """A table of networks with a value each: ``Table({"10.0.0.0/8": 1})``, a mapping that can be changed as a `dict`.
 
     `lookup` gives the longest network that an address, or a network, is in, with its value: one look in a `dict` for
-    each prefix length. `lookup_each` looks up many by one call of the library, which goes through all rows first.
+    each prefix length that the table has had. `lookup_each` looks up many by one call of the library. That call, and
+    each walk over the rows, go through them in order: the first one after a change lists and sorts all rows.
+
+    Any threads may look up in a table and change it at once, and an interrupt leaves it as it was before the change or
+    after it. Each call sees all of a change or nothing of it. Look-ups and walks take no lock, but for the copy of the
+    rows that is made for the list; a walk goes on with the rows that it began with. `update` and `clear` are as many
+    changes as rows.
     """
 
-    def __init__(self, rows: Any = ()) -> None:
-        listed = list(rows.items() if hasattr(rows, "items") else rows)
-        values = _values(network for network, _ in listed)
-        self._rows = {_row_key(value): row[1] for value, row in zip(values, listed)}
-        self._listed: Optional[List[Tuple[Network, V]]] = None
-        self._networks = array(())
+    def __init__(self, rows: Rows[V] = ()) -> None:
+        self._fill(rows)
 
-    def _ascending(self) -> List[Tuple[Network, V]]:
-        """The rows in order, and their networks in an array: made once, and again after a change."""
-        if self._listed is None:
-            keys = sorted(self._rows, key=_row_order)
-            self._listed = [(_row_network(key), self._rows[key]) for key in keys]
-            self._networks = array(network._value for network, _ in self._listed)
-        return self._listed
+    def _fill(self, rows: Rows[V]) -> None:
+        self._rows: dict[Key, V] = _rows_by_key(rows)
+        # The tags of all rows, descending, and perhaps of some that were deleted.
+        self._tags = tuple(sorted({tag for tag, _ in self._rows}, reverse=True))
+        # Another object before each change, so that an interrupt behind it is no harm, and after it.
+        self._version = object()
+        self._snapshot: _Snapshot | None = None
 
-    def __getitem__(self, network: Union[Network, str]) -> V:
-        return self._rows[_row_key(_network_value(network))]
+    def _now(self) -> _Snapshot:
+        """The rows as they are."""
+        made = self._snapshot
+        if made is None or made.version is not self._version:
+            with _changing:
+                version, rows = self._version, self._rows.copy()
+            listed = tuple((_row_network(key), rows[key]) for key in sorted(rows, key=_row_order))
+            made = _Snapshot(version, listed, array(network._value for network, _ in listed))
+            self._snapshot = made
+        return made
 
-    def __setitem__(self, network: Union[Network, str], value: V) -> None:
-        self._rows[_row_key(_network_value(network))] = value
-        self._listed = None
+    def _changed(self, change: Callable[..., R], *arguments: object) -> R:
+        """Changes the rows by one call of their `dict`, and returns its result. Its caller holds the lock, and keeps what
+        goes until the lock is free: values may have finalizers, and these may wait for another thread."""
+        self._version = object()
+        result = change(*arguments)
+        self._version, self._snapshot = object(), None
+        return result
 
-    def __delitem__(self, network: Union[Network, str]) -> None:
-        del self._rows[_row_key(_network_value(network))]
-        self._listed = None
+    def _put(self, put: Callable[[Key, V], R], key: Key, value: V) -> R:
+        """Changes a row, which may be new, by a call of the `dict`."""
+        with _changing:
+            _kept = self._rows.get(key), self._snapshot
+            if key[0] not in self._tags:
+                self._tags = tuple(sorted((*self._tags, key[0]), reverse=True))
+            return self._changed(put, key, value)
 
-    def __contains__(self, network: Union[Network, str]) -> bool:
-        return _row_key(_network_value(network)) in self._rows
+    def __getstate__(self) -> dict[str, Any]:
+        state = {**vars(self), "_rows": [(str(network), value) for network, value in self.items()]}
+        for derived in ("_tags", "_version", "_snapshot"):
+            del state[derived]
+        return state
+
+    def __setstate__(self, state: dict[str, Any]) -> None:
+        others = dict(state)
+        self._fill(others.pop("_rows"))
+        vars(self).update(others)
+
+    def __repr__(self) -> str:
+        return f"{type(self).__name__}({({str(network): value for network, value in self.items()})!r})"
+
+    def __eq__(self, other: object) -> bool:
+        if not isinstance(other, Table):
+            return super().__eq__(other)
+        return self._rows.copy() == other._rows.copy()
+
+    def __getitem__(self, network: AnyNetwork) -> V:
+        """The value of exactly this network; `lookup` has the longest match."""
+        key = _key_of(network)
+        value = self._rows.get(key, _ABSENT)
+        if value is _ABSENT:
+            raise _missing(key)
+        return value
+
+    @overload
+    def get(self, network: AnyNetwork, /) -> V | None:
+        ...
+
+    @overload
+    def get(self, network: AnyNetwork, /, default: V | D) -> V | D:
+        ...
+
+    def get(self, network: AnyNetwork, /, default: Any = None) -> Any:
+        """The value of exactly this network, or the default."""
+        return self._rows.get(_key_of(network), default)
+
+    def __contains__(self, network: object) -> bool:
+        """Whether there is a row of exactly this network."""
+        return _key_of(network) in self._rows
+
+    def __setitem__(self, network: AnyNetwork, value: V) -> None:
+        self._put(self._rows.__setitem__, _key_of(network), value)
+
+    def update(self, rows: Any = (), /, **named: V) -> None:
+        """Sets rows, given as to `Table`, one after the other."""
+        for key, value in (_rows_by_key(rows) | _rows_by_key(named)).items():
+            self._put(self._rows.__setitem__, key, value)
+
+    def setdefault(self, network: AnyNetwork, default: Any = None, /) -> V:
+        """The value of exactly this network, which becomes the default where there is none."""
+        key = _key_of(network)
+        value = self._rows.get(key, _ABSENT)
+        return self._put(self._rows.setdefault, key, default) if value is _ABSENT else value
+
+    @overload
+    def pop(self, network: AnyNetwork, /) -> V:
+        ...
+
+    @overload
+    def pop(self, network: AnyNetwork, /, default: V | D) -> V | D:
+        ...
+
+    def pop(self, network: AnyNetwork, /, default: Any = _ABSENT) -> Any:
+        """Deletes the row of exactly this network, and returns its value; where there is none, the default."""
+        key = _key_of(network)
+        with _changing:
+            _kept = self._rows.get(key), self._snapshot
+            value = self._changed(self._rows.pop, key, _ABSENT) if key in self._rows else _ABSENT
+        if value is not _ABSENT:
+            return value
+        if default is _ABSENT:
+            raise _missing(key)
+        return default
+
+    def __delitem__(self, network: AnyNetwork) -> None:
+        self.pop(network)
+
+    def popitem(self) -> tuple[Network, V]:
+        """Deletes the row that was added last, and returns it."""
+        with _changing:
+            _kept = self._snapshot
+            key, value = self._changed(self._rows.popitem)
+        return _row_network(key), value
 
     def __len__(self) -> int:
         return len(self._rows)
 
     def __iter__(self) -> Iterator[Network]:
-        return (network for network, _ in self.items())
+        return (network for network, _ in self._now().rows)
 
-    def items(self) -> Iterator[Tuple[Network, V]]:
+    def values(self) -> ValuesView[V]:
+        """The values, in the order of the networks."""
+        return _ValuesOfRows(self)
+
+    def items(self) -> ItemsView[Network, V]:
         """The rows, in the order of the networks."""
-        return iter(self._ascending())
+        return _Items(self)
 
-    def lookup(self, asked: Union[Address, Network, str]) -> Optional[Tuple[Network, V]]:
+    def lookup(self, asked: AnyNetwork) -> tuple[Network, V] | None:
         """The longest network that the address is in, with its value, or None."""
-        for key in _outer_keys(_network_value(asked)):
-            if key in self._rows:
-                return _row_network(key), self._rows[key]
-        return None
+        return next(iter(self._matches(asked, 1)), None)
 
-    def lookup_each(
-        self, asked: Iterable[Union[Address, Network, str]]
-    ) -> List[Optional[Tuple[Network, V]]]:
-        """The same for each of many, by one call of the library."""
-        values, rows, networks = _values(asked), self._ascending(), self._networks
+    def matches(self, asked: AnyNetwork) -> list[tuple[Network, V]]:
+        """All rows whose network the address is in, the longest first."""
+        return self._matches(asked, 1 << 8)
+
+    def _matches(self, asked: AnyNetwork, most: int) -> list[tuple[Network, V]]:
+        value, rows = _network_value(asked), self._rows
+        while True:
+            version, found = self._version, []
+            for key in _outer_keys(value, self._tags):
+                held = rows.get(key, _ABSENT)
+                if held is not _ABSENT:
+                    found.append((key, held))
+                    if len(found) == most:
+                        break
+            if self._version is version:  # else rows of two versions may be among these
+                return [(_row_network(key), held) for key, held in found]
+
+    def lookup_each(self, asked: Iterable[AnyNetwork]) -> list[tuple[Network, V] | None]:
+        """The same as `lookup` for each of many, by one call of the library."""
+        values = _values(asked)
+        _, rows, networks = self._now()
         room, out = answers("q", len(values))
         check(calls.longest_match_each(networks, len(networks), values, len(values), room, len(values)))
         # The index that stands for none is -1 with a sign: that of the last one here.
         return list(map([*rows, None].__getitem__, out))
 
 
-def _row_key(value: Value) -> Tuple[int, int]:
-    return (value.tag, value.high << 64 | value.low)
+def _rows_by_key(rows: Rows[V]) -> dict[Key, V]:
+    """Rows as a table has them; their networks by one call where all are strings."""
+    listed = _listed(rows.items() if hasattr(rows, "items") else rows)
+    values = _values(network for network, _ in listed)
+    return {_row_key(value): row[1] for value, row in zip(values, listed)}
 
 
-def _outer_keys(value: Value) -> Iterator[Tuple[int, int]]:
-    """The keys of all networks that this one is in, the longest first: itself, and `any` as the last."""
+def _key_of(network: object) -> Key:
+    return _row_key(_network_value(network))
+
+
+def _missing(key: Key) -> KeyError:
+    return KeyError(str(_row_network(key)))
+
+
+def _row_key(value: Value) -> Key:
+    return value.tag, value.high << 64 | value.low
+
+
+def _outer_keys(value: Value, tags: Iterable[int]) -> Iterator[Key]:
+    """The keys of the networks of some tags, which descend, that this one is in: itself, and `any` as the last."""
     tag, number = _row_key(value)
     if tag != 255:
         shortest, width = (0, 32) if tag < 64 else (64, 128)
-        for rest in range(width - (tag - shortest), width + 1):
-            yield shortest + width - rest, number >> rest << rest
+        for outer in tags:
+            if shortest <= outer <= tag:
+                rest = width - (outer - shortest)
+                yield outer, number >> rest << rest
     yield 255, 0
 
 
-def _row_order(key: Tuple[int, int]) -> Tuple[int, int, int]:
+def _row_order(key: Key) -> tuple[int, int, int]:
     """Where the row stands: `any`, then IPv4, then IPv6; the lower first address, and then the shorter prefix."""
     tag, number = key
     return (0 if tag == 255 else 1 if tag < 64 else 2, number, tag)
 
 
-def _row_network(key: Tuple[int, int]) -> Network:
+def _row_network(key: Key) -> Network:
     return Network._of(Value(key[1] >> 64, key[1] & (2**64 - 1), key[0]))

@@ -1,11 +1,14 @@
 """The shared library: where it is found, and its calls."""
+from __future__ import annotations
+
 import ctypes
 import ctypes.util
 import os
 import struct
-from typing import Iterable
+from collections.abc import Callable, Iterable, Sequence
+from typing import TYPE_CHECKING, Any
 
-VERSION = 0x000100
+VERSION = (0, 2)
 TEXT_ROOM = 44
 MESSAGE_ROOM = 100
 NO_ROOM = 11
@@ -15,14 +18,22 @@ NO_MEMORY = 12
 class Value(ctypes.Structure):
     """`pcidr_value` of the header: an address, a host or a network."""
 
+    high: int
+    low: int
+    tag: int
     _fields_ = [("high", ctypes.c_uint64), ("low", ctypes.c_uint64), ("tag", ctypes.c_uint8)]
 
+
+Call = Callable[..., int]
+if TYPE_CHECKING:
+    Values = ctypes.Array[Value]
+else:
+    Values = ctypes.Array
 
 SIZE, CODE, BYTES, TEXT = ctypes.c_size_t, ctypes.c_uint32, ctypes.c_void_p, ctypes.c_char_p
 VALUE, COUNT = ctypes.POINTER(Value), ctypes.POINTER(ctypes.c_size_t)
 # of each call that is used here the result and the parameters
-CALLS = {
-    "version": (CODE, []),
+CALLS: dict[str, tuple[Any, list[Any]]] = {
     "read_address": (CODE, [TEXT, SIZE, VALUE]),
     "read_host": (CODE, [TEXT, SIZE, VALUE]),
     "read_network": (CODE, [TEXT, SIZE, VALUE]),
@@ -34,12 +45,12 @@ CALLS = {
     "print_network_with_length": (SIZE, [VALUE, TEXT, SIZE]),
     "print_lines": (CODE, [VALUE, SIZE, TEXT, SIZE, COUNT]),
     "message": (SIZE, [CODE, TEXT, SIZE]),
-    "first": (CODE, [VALUE, VALUE]),
-    "last": (CODE, [VALUE, VALUE]),
-    "mask": (CODE, [VALUE, VALUE]),
-    "address": (CODE, [VALUE, VALUE]),
-    "network": (CODE, [VALUE, VALUE]),
-    "at": (CODE, [VALUE, ctypes.c_uint64, ctypes.c_uint64, VALUE]),
+    "first_by_value": (CODE, [Value, VALUE]),
+    "last_by_value": (CODE, [Value, VALUE]),
+    "mask_by_value": (CODE, [Value, VALUE]),
+    "address_by_value": (CODE, [Value, VALUE]),
+    "network_by_value": (CODE, [Value, VALUE]),
+    "at_by_value": (CODE, [Value, ctypes.c_uint64, ctypes.c_uint64, VALUE]),
     "contains": (CODE, [VALUE, VALUE]),
     "compare": (CODE, [VALUE, VALUE]),
     "compare_hosts": (CODE, [VALUE, VALUE]),
@@ -67,20 +78,30 @@ def _find() -> str:
     raise ImportError("there is no libpcidr.so: build it by crates/cidr_c/build, and set PCIDR_LIBRARY to it")
 
 
+def _check_version(version: int) -> None:
+    major, minor = version >> 16, version >> 8 & 255
+    if (major, minor) != VERSION:
+        raise ImportError(f"libpcidr.so is of version {major}.{minor}, and this module wants {VERSION[0]}.{VERSION[1]}")
+
+
 class _Calls:
-    """The calls of the library, without the `pcidr_` before their names."""
+    """The calls of the library, named as those of the header but without the `pcidr_`."""
 
     def __init__(self) -> None:
         loaded = ctypes.CDLL(_find())
+        _check_version(loaded.pcidr_version())
         for name, (result, parameters) in CALLS.items():
             call = getattr(loaded, f"pcidr_{name}")
             call.restype, call.argtypes = result, parameters
-            setattr(self, name, call)
+            setattr(self, name.removesuffix("_by_value"), call)
+
+    if TYPE_CHECKING:
+
+        def __getattr__(self, name: str) -> Call:
+            ...
 
 
 calls = _Calls()
-if calls.version() >> 8 != VERSION >> 8:
-    raise ImportError(f"libpcidr.so is of version {calls.version():#08x}, and this module wants {VERSION:#08x}")
 
 
 def message(code: int) -> str:
@@ -98,8 +119,10 @@ def check(code: int) -> None:
         raise ValueError(message(code))
 
 
-def read(call, text: str) -> Value:
+def read(call: Call, text: str) -> Value:
     """The value of a string."""
+    if not isinstance(text, str):
+        raise TypeError(f"no string: {text!r}")
     given = text.encode("utf-8", "surrogatepass")
     value = Value()
     code = call(given, len(given), value)
@@ -108,27 +131,27 @@ def read(call, text: str) -> Value:
     return value
 
 
-def printed(call, value: Value) -> str:
+def printed(call: Call, value: Value) -> str:
     """The string of a value."""
     room = ctypes.create_string_buffer(TEXT_ROOM)
     count = call(value, room, TEXT_ROOM)
     return room.raw[:count].decode()
 
 
-def array(values) -> ctypes.Array:
+def array(values: Iterable[Value]) -> Values:
     """An array of values."""
-    values = list(values)
-    return (Value * len(values))(*values)
+    listed = list(values)
+    return (Value * len(listed))(*listed)
 
 
-def answers(kind: str, count: int) -> "tuple[ctypes.Array, Iterable]":
+def answers(kind: str, count: int) -> tuple[ctypes.Array[ctypes.c_char], Iterable[Any]]:
     """A room for numbers, one of each asked value, and what is in it once a call has written them: their kind is that of
     the module `struct`."""
     room = (ctypes.c_char * (count * struct.calcsize(kind)))()
     return room, memoryview(room).cast("B").cast(kind) if count else ()
 
 
-def read_all(texts) -> ctypes.Array:
+def read_all(texts: Sequence[str]) -> Values:
     """The networks of a list of strings, by one call."""
     out = (Value * len(texts))()
     if not texts:
@@ -142,7 +165,7 @@ def read_all(texts) -> ctypes.Array:
     return out
 
 
-def print_all(values: ctypes.Array, count: int) -> "list[str]":
+def print_all(values: Values, count: int) -> list[str]:
     """The strings of the first networks of an array, by one call."""
     if not count:
         return []
@@ -152,14 +175,14 @@ def print_all(values: ctypes.Array, count: int) -> "list[str]":
     return ctypes.string_at(room, end.value - 1).decode().split("\n")
 
 
-def cover(values: ctypes.Array) -> int:
+def cover(values: Values) -> int:
     """Replaces networks by the shortest list of the same addresses, and returns how many these are."""
     count = ctypes.c_size_t()
     check(calls.cover(values, len(values), count))
     return count.value
 
 
-def combined(call, these: ctypes.Array, those: ctypes.Array) -> ctypes.Array:
+def combined(call: Call, these: Values, those: Values) -> Values:
     """The set that a call makes of two sets."""
     room, count = len(these) + len(those), ctypes.c_size_t()
     while True:

@@ -165,6 +165,16 @@ impl Bench<'_> {
         println!(self.rt; "{name}\t{}.{:03}\t-\t-", time / 1000, time % 1000)
     }
 
+    /// Does the work of the library, and prints its line with the number of all rounds, which another program has too.
+    pub fn counted<L: Work>(&self, name: &str, mut library: L) -> io::Result<()> {
+        let (mut least, mut sum) = (u128::MAX, 0);
+        for _ in 0..TURNS {
+            let (time, turn) = self.time(&mut library)?;
+            (least, sum) = (least.min(time), turn);
+        }
+        println!(self.rt; "{name}\t{}.{:03}\t{sum}", least / 1000, least % 1000)
+    }
+
     /// The picoseconds of a call, and the number of all rounds.
     fn time<W: Work>(&self, work: &mut W) -> io::Result<(u128, u32)> {
         let start = Instant::now(self.rt)?;

@@ -6,12 +6,12 @@ use crate::masked::{ipv4_mask, ipv6_mask};
 use crate::networks::{any_networks, ipv4_networks, ipv6_networks};
 use crate::numbers::{Number, folded, with_length};
 use crate::values::{COUNT, ipv4_network, ipv6_network};
-use cidr::BitString;
+use cidr::{AnyIpCidr, BitString, Ipv4Cidr, Ipv6Cidr};
 use std::array::from_fn;
 use std::io;
 
 /// The bit of one network at the length of another, where it has that bit.
-#[derive(Drop)]
+#[derive(Clone, Copy)]
 struct Get;
 
 impl<B: BitString> Call2<B, B> for Get {
@@ -26,7 +26,7 @@ impl<B: BitString> Call2<B, B> for Get {
 }
 
 /// Inverts that bit.
-#[derive(Drop)]
+#[derive(Clone, Copy)]
 struct Flip;
 
 impl<B: BitString + Copy + Number> Call2<B, B> for Flip {
@@ -56,7 +56,7 @@ impl<B: BitString + Copy + Number> Call2<B, B> for Set {
 }
 
 /// Leaves the bits before that one, and appends another.
-#[derive(Drop)]
+#[derive(Clone, Copy)]
 struct ClipAndAppend;
 
 impl<B: BitString + Copy + Number> Call2<B, B> for ClipAndAppend {
@@ -72,7 +72,7 @@ impl<B: BitString + Copy + Number> Call2<B, B> for ClipAndAppend {
 }
 
 /// How many bits both begin with.
-#[derive(Drop)]
+#[derive(Clone, Copy)]
 struct SharedLen;
 
 impl<B: BitString> Call2<B, B> for SharedLen {
@@ -82,7 +82,7 @@ impl<B: BitString> Call2<B, B> for SharedLen {
 }
 
 /// The bit by shifts.
-#[derive(Drop)]
+#[derive(Clone, Copy)]
 struct PlainGet;
 
 impl Call2<(u32, u8), (u32, u8)> for PlainGet {
@@ -110,7 +110,7 @@ impl Call2<(u128, u8), (u128, u8)> for PlainGet {
 }
 
 /// Inverts the bit by a shift.
-#[derive(Drop)]
+#[derive(Clone, Copy)]
 struct PlainFlip;
 
 impl Call2<(u32, u8), (u32, u8)> for PlainFlip {
@@ -141,7 +141,7 @@ impl Call2<(u128, u8), (u128, u8)> for PlainFlip {
 }
 
 /// Leaves the bits before it by a mask, and appends another.
-#[derive(Drop)]
+#[derive(Clone, Copy)]
 struct PlainClipAndAppend;
 
 impl Call2<(u32, u8), (u32, u8)> for PlainClipAndAppend {
@@ -171,7 +171,7 @@ impl Call2<(u128, u8), (u128, u8)> for PlainClipAndAppend {
 }
 
 /// How many bits both begin with, by the zeros that their difference begins with.
-#[derive(Drop)]
+#[derive(Clone, Copy)]
 struct PlainSharedLen;
 
 impl Call2<(u32, u8), (u32, u8)> for PlainSharedLen {
@@ -188,58 +188,79 @@ impl Call2<(u128, u8), (u128, u8)> for PlainSharedLen {
     }
 }
 
+/// Networks of each family, as the library has them and as numbers.
+#[derive(Clone, Copy)]
+struct Networks {
+    v4: [Ipv4Cidr; COUNT],
+    v6: [Ipv6Cidr; COUNT],
+    any: [AnyIpCidr; COUNT],
+    plain_v4: [(u32, u8); COUNT],
+    plain_v6: [(u128, u8); COUNT],
+}
+
+impl Networks {
+    /// Times a call with two networks of one family, beside another way where there is no third family.
+    fn compare<C, P>(
+        &self,
+        bench: &Bench<'_>,
+        names: [&str; 3],
+        call: C,
+        plain: P,
+    ) -> io::Result<()>
+    where
+        C: Copy
+            + Call2<Ipv4Cidr, Ipv4Cidr>
+            + Call2<Ipv6Cidr, Ipv6Cidr>
+            + Call2<AnyIpCidr, AnyIpCidr>,
+        P: Copy + Call2<(u32, u8), (u32, u8)> + Call2<(u128, u8), (u128, u8)>,
+    {
+        bench.compare(
+            names[0],
+            Pairs(call, &self.v4, &self.v4),
+            Pairs(plain, &self.plain_v4, &self.plain_v4),
+        )?;
+        bench.compare(
+            names[1],
+            Pairs(call, &self.v6, &self.v6),
+            Pairs(plain, &self.plain_v6, &self.plain_v6),
+        )?;
+        bench.alone(names[2], Pairs(call, &self.any, &self.any))
+    }
+}
+
+const GET: [&str; 3] = [
+    "get of a bit IPv4",
+    "get of a bit IPv6",
+    "get of a bit AnyIpCidr",
+];
+
+const FLIP: [&str; 3] = ["flip IPv4", "flip IPv6", "flip AnyIpCidr"];
+
+const CLIP_AND_APPEND: [&str; 3] = [
+    "clip and append IPv4",
+    "clip and append IPv6",
+    "clip and append AnyIpCidr",
+];
+
+const SHARED_LEN: [&str; 3] = [
+    "shared_prefix_len IPv4",
+    "shared_prefix_len IPv6",
+    "shared_prefix_len AnyIpCidr",
+];
+
 /// Times bits of networks of each family.
 pub fn compare_all(bench: &Bench<'_>) -> io::Result<()> {
-    let (v4, v6, any) = (ipv4_networks(), ipv6_networks(), any_networks());
-    let plain_v4: [(u32, u8); COUNT] = from_fn(ipv4_network);
-    let plain_v6: [(u128, u8); COUNT] = from_fn(ipv6_network);
-    bench.compare(
-        "get of a bit IPv4",
-        Pairs(Get, &v4, &v4),
-        Pairs(PlainGet, &plain_v4, &plain_v4),
-    )?;
-    bench.compare(
-        "get of a bit IPv6",
-        Pairs(Get, &v6, &v6),
-        Pairs(PlainGet, &plain_v6, &plain_v6),
-    )?;
-    bench.alone("get of a bit AnyIpCidr", Pairs(Get, &any, &any))?;
-    bench.compare(
-        "flip IPv4",
-        Pairs(Flip, &v4, &v4),
-        Pairs(PlainFlip, &plain_v4, &plain_v4),
-    )?;
-    bench.compare(
-        "flip IPv6",
-        Pairs(Flip, &v6, &v6),
-        Pairs(PlainFlip, &plain_v6, &plain_v6),
-    )?;
-    bench.alone("flip AnyIpCidr", Pairs(Flip, &any, &any))?;
-    bench.compare(
-        "clip and append IPv4",
-        Pairs(ClipAndAppend, &v4, &v4),
-        Pairs(PlainClipAndAppend, &plain_v4, &plain_v4),
-    )?;
-    bench.compare(
-        "clip and append IPv6",
-        Pairs(ClipAndAppend, &v6, &v6),
-        Pairs(PlainClipAndAppend, &plain_v6, &plain_v6),
-    )?;
-    bench.alone(
-        "clip and append AnyIpCidr",
-        Pairs(ClipAndAppend, &any, &any),
-    )?;
-    bench.compare(
-        "shared_prefix_len IPv4",
-        Pairs(SharedLen, &v4, &v4),
-        Pairs(PlainSharedLen, &plain_v4, &plain_v4),
-    )?;
-    bench.compare(
-        "shared_prefix_len IPv6",
-        Pairs(SharedLen, &v6, &v6),
-        Pairs(PlainSharedLen, &plain_v6, &plain_v6),
-    )?;
-    bench.alone("shared_prefix_len AnyIpCidr", Pairs(SharedLen, &any, &any))?;
-    bench.alone("set IPv4", Pairs(Set, &v4, &v4))?;
-    bench.alone("set IPv6", Pairs(Set, &v6, &v6))
+    let networks = Networks {
+        v4: ipv4_networks(),
+        v6: ipv6_networks(),
+        any: any_networks(),
+        plain_v4: from_fn(ipv4_network),
+        plain_v6: from_fn(ipv6_network),
+    };
+    networks.compare(bench, GET, Get, PlainGet)?;
+    networks.compare(bench, FLIP, Flip, PlainFlip)?;
+    networks.compare(bench, CLIP_AND_APPEND, ClipAndAppend, PlainClipAndAppend)?;
+    networks.compare(bench, SHARED_LEN, SharedLen, PlainSharedLen)?;
+    bench.alone("set IPv4", Pairs(Set, &networks.v4, &networks.v4))?;
+    bench.alone("set IPv6", Pairs(Set, &networks.v6, &networks.v6))
 }

@@ -3,10 +3,9 @@
 use crate::bench::{Bench, Call, Each};
 use crate::masked::{ipv4_mask, ipv6_mask};
 use crate::numbers::{Number, bytes_number, folded, with_length};
-use crate::samples::{Sample, made, samples};
+use crate::samples::{Sample, compare_samples, made};
 use arrayvec::ArrayVec;
 use cidr::{IpCidr, Ipv4Cidr, Ipv6Cidr, PrefixBytes};
-use std::alloc::{AllocError, Global};
 use std::io;
 use std::marker::PhantomData;
 
@@ -226,45 +225,46 @@ fn padded<W: Written + Drop>(index: usize) -> Bytes {
     padded
 }
 
-/// The bytes of random networks of type `W`.
-fn inputs<W: Written + Drop>(alloc: Global) -> Result<Vec<Bytes>, AllocError> {
-    made(alloc, |index| padded::<W>(index))
+/// Times reading the bytes of networks of type `W` beside another way to read them.
+fn compare_reading<W: Written + Drop, C: Call<Bytes>, P: Call<Bytes>>(
+    bench: &Bench<'_>,
+    name: &str,
+    call: C,
+    plain: P,
+) -> io::Result<()> {
+    let bytes = made(bench.rt.alloc(), |index| padded::<W>(index))?;
+    bench.compare(
+        name,
+        Each(call, bytes.as_slice()),
+        Each(plain, bytes.as_slice()),
+    )
 }
 
 /// Times compact bytes and prefix bytes.
 pub fn compare_all(bench: &Bench<'_>) -> io::Result<()> {
-    let alloc = bench.rt.alloc();
-    let either = inputs::<IpCidr>(alloc)?;
-    let v4 = inputs::<Ipv4Cidr>(alloc)?;
-    let v6 = inputs::<Ipv6Cidr>(alloc)?;
-    bench.compare(
+    let (v4, v6) = (
+        ReadPrefix::<Ipv4Cidr>(PhantomData),
+        ReadPrefix::<Ipv6Cidr>(PhantomData),
+    );
+    compare_samples::<IpCidr, Plain, _, _>(
+        bench,
         "write compact bytes",
-        Each(WriteCompact, samples::<IpCidr>(alloc)?.as_slice()),
-        Each(WriteCompact, samples::<Plain>(alloc)?.as_slice()),
+        WriteCompact,
+        WriteCompact,
     )?;
-    bench.compare(
-        "read compact bytes",
-        Each(ReadCompact, either.as_slice()),
-        Each(PlainReadCompact, either.as_slice()),
-    )?;
-    bench.compare(
+    compare_reading::<IpCidr, _, _>(bench, "read compact bytes", ReadCompact, PlainReadCompact)?;
+    compare_samples::<Ipv4Cidr, (u32, u8), _, _>(
+        bench,
         "write prefix bytes IPv4",
-        Each(WritePrefix, samples::<Ipv4Cidr>(alloc)?.as_slice()),
-        Each(PlainWritePrefix, samples::<(u32, u8)>(alloc)?.as_slice()),
+        WritePrefix,
+        PlainWritePrefix,
     )?;
-    bench.compare(
+    compare_samples::<Ipv6Cidr, (u128, u8), _, _>(
+        bench,
         "write prefix bytes IPv6",
-        Each(WritePrefix, samples::<Ipv6Cidr>(alloc)?.as_slice()),
-        Each(PlainWritePrefix, samples::<(u128, u8)>(alloc)?.as_slice()),
+        WritePrefix,
+        PlainWritePrefix,
     )?;
-    bench.compare(
-        "read prefix bytes IPv4",
-        Each(ReadPrefix::<Ipv4Cidr>(PhantomData), v4.as_slice()),
-        Each(PlainReadPrefix4, v4.as_slice()),
-    )?;
-    bench.compare(
-        "read prefix bytes IPv6",
-        Each(ReadPrefix::<Ipv6Cidr>(PhantomData), v6.as_slice()),
-        Each(PlainReadPrefix6, v6.as_slice()),
-    )
+    compare_reading::<Ipv4Cidr, _, _>(bench, "read prefix bytes IPv4", v4, PlainReadPrefix4)?;
+    compare_reading::<Ipv6Cidr, _, _>(bench, "read prefix bytes IPv6", v6, PlainReadPrefix6)
 }

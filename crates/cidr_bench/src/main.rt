@@ -6,6 +6,9 @@
 //! turns, and the first as a fraction of the second, with a tab between each two; where there is no plain way, `-`
 //! stands for it. Without an argument nothing is timed: each row but those of large tables is done, and printed where
 //! the library and the plain way have different results.
+//!
+//! With `from C` as the second argument the calls are those that the library for C makes, on values from standard
+//! input, one a line. Each line has a number that hangs on all results in place of the plain way.
 #![tactic(auto)]
 
 mod bench;
@@ -13,6 +16,7 @@ mod bits;
 mod bytes;
 mod containing;
 mod covering;
+mod from_c;
 mod idle;
 mod loading;
 mod long;
@@ -53,20 +57,14 @@ fn main(rt: HostRuntime) -> io::Result<()> {
         },
         quiet: rounds == 0,
     };
+    if row == "from C" {
+        let values = io::read_to_string(rt.alloc(), rt.reader())?;
+        return from_c::time_all(&bench, values.as_str());
+    }
     if !bench.quiet {
         println!(rt; "row\tns\tplain ns\tratio")?;
     }
-    reading::compare_all(&bench.slower(16))?;
-    loose::compare_all(&bench)?;
-    long::time_all(&bench)?;
-    printing::compare_all(&bench.slower(16))?;
-    bytes::compare_all(&bench.slower(16))?;
-    idle::compare_all(&bench)?;
-    containing::compare_all(&bench)?;
-    ordering::compare_all(&bench)?;
-    bits::compare_all(&bench)?;
-    stepping::compare_all(&bench)?;
-    walking::compare_all(&bench)?;
+    time_calls(&bench)?;
     if let Rows::OfLibrary(_) = bench.rows {
         return Ok(());
     }
@@ -74,4 +72,19 @@ fn main(rt: HostRuntime) -> io::Result<()> {
     loading::compare_all(&bench.slower(1_000))?;
     covering::compare_all(&bench.slower(100))?;
     sets::compare_all(&bench.slower(1_000))
+}
+
+/// Does the rows of no table and no set.
+fn time_calls(bench: &Bench<'_>) -> io::Result<()> {
+    reading::compare_all(&bench.slower(16))?;
+    loose::compare_all(bench)?;
+    long::time_all(bench)?;
+    printing::compare_all(&bench.slower(16))?;
+    bytes::compare_all(&bench.slower(16))?;
+    idle::compare_all(bench)?;
+    containing::compare_all(bench)?;
+    ordering::compare_all(bench)?;
+    bits::compare_all(bench)?;
+    stepping::compare_all(bench)?;
+    walking::compare_all(bench)
 }

@@ -1,8 +1,8 @@
 //! Printing addresses and networks.
 
-use crate::bench::{Bench, Call, Each};
+use crate::bench::{Bench, Call};
 use crate::numbers::Number;
-use crate::samples::{Sample, samples};
+use crate::samples::{Sample, compare_samples};
 use arrayvec::ArrayString;
 use cidr::{IpCidr, Ipv4Addr, Ipv4Cidr, Ipv6Addr, Ipv6Cidr};
 use std::fmt::{Display, Write};
@@ -131,39 +131,19 @@ impl Sample for net::Ipv6Addr {
 
 /// Times printing.
 pub fn compare_all(bench: &Bench<'_>) -> io::Result<()> {
-    let alloc = bench.rt.alloc();
-    bench.compare(
-        "print IPv4 address",
-        Each(Print, samples::<Ipv4Addr>(alloc)?.as_slice()),
-        Each(Format, samples::<net::Ipv4Addr>(alloc)?.as_slice()),
-    )?;
-    bench.compare(
-        "print IPv6 address",
-        Each(Print, samples::<Ipv6Addr>(alloc)?.as_slice()),
-        Each(Format, samples::<net::Ipv6Addr>(alloc)?.as_slice()),
-    )?;
-    bench.compare(
+    compare_samples::<Ipv4Addr, net::Ipv4Addr, _, _>(bench, "print IPv4 address", Print, Format)?;
+    compare_samples::<Ipv6Addr, net::Ipv6Addr, _, _>(bench, "print IPv6 address", Print, Format)?;
+    compare_samples::<Ipv4Cidr, Plain<net::Ipv4Addr>, _, _>(
+        bench,
         "print IPv4 network",
-        Each(Print, samples::<Ipv4Cidr>(alloc)?.as_slice()),
-        Each(
-            FormatNetwork,
-            samples::<Plain<net::Ipv4Addr>>(alloc)?.as_slice(),
-        ),
+        Print,
+        FormatNetwork,
     )?;
-    bench.compare(
+    compare_samples::<Ipv6Cidr, Plain<net::Ipv6Addr>, _, _>(
+        bench,
         "print IPv6 network",
-        Each(Print, samples::<Ipv6Cidr>(alloc)?.as_slice()),
-        Each(
-            FormatNetwork,
-            samples::<Plain<net::Ipv6Addr>>(alloc)?.as_slice(),
-        ),
+        Print,
+        FormatNetwork,
     )?;
-    bench.compare(
-        "print IpCidr",
-        Each(Print, samples::<IpCidr>(alloc)?.as_slice()),
-        Each(
-            FormatNetwork,
-            samples::<Plain<net::IpAddr>>(alloc)?.as_slice(),
-        ),
-    )
+    compare_samples::<IpCidr, Plain<net::IpAddr>, _, _>(bench, "print IpCidr", Print, FormatNetwork)
 }

@@ -1,8 +1,10 @@
 //! Random addresses, networks and hosts, for the rows that take one after the other.
 
+use crate::bench::{Bench, Call, Each};
 use crate::values::{MANY, random, random_ipv4, random_ipv4_len, random_ipv6, random_ipv6_len};
 use cidr::{IpAddr, IpCidr, Ipv4Addr, Ipv4Cidr, Ipv4Inet, Ipv6Addr, Ipv6Cidr, Ipv6Inet};
 use std::alloc::{AllocError, Global};
+use std::io;
 
 /// A value of which there are random ones.
 pub trait Sample {
@@ -24,6 +26,28 @@ pub fn made<T: Drop, F: Fn(usize) -> T>(alloc: Global, value: F) -> Result<Vec<T
         values.push(value(index))?;
     }
     Ok(values)
+}
+
+/// Times a call with random values of a type beside another call with those of another type.
+pub fn compare_samples<T, U, C, P>(
+    bench: &Bench<'_>,
+    name: &str,
+    call: C,
+    plain: P,
+) -> io::Result<()>
+where
+    T: Sample + Drop,
+    U: Sample + Drop,
+    C: Call<T>,
+    P: Call<U>,
+{
+    let values = samples::<T>(bench.rt.alloc())?;
+    let plain_values = samples::<U>(bench.rt.alloc())?;
+    bench.compare(
+        name,
+        Each(call, values.as_slice()),
+        Each(plain, plain_values.as_slice()),
+    )
 }
 
 impl Sample for Ipv4Inet {

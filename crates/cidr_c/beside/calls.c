@@ -1,6 +1,6 @@
 /* calls ROUNDS: times calls of the library. Prints of each a line with tabs between: its name, the nanoseconds that it
  * takes, the least of five turns, and a number that hangs on all results. `calls values` prints the values that the calls
- * get, one a line, for crates/cidr_c_bench. */
+ * get, one a line, for crates/cidr_bench. */
 #define _POSIX_C_SOURCE 199309L
 #include <pcidr.h>
 #include <stdio.h>

@@ -6,9 +6,14 @@
  *
  * - A pointer to a value, a count or an index points to one that may be read, and written where it is not const.
  * - A pointer and the number behind it name so many elements in a row. Where the number is 0, the pointer may be null.
- * - What a call writes overlaps nothing else that the same call gets.
+ * - Each pointer is aligned as its type asks: values, counts and indexes to 8 bytes. A value in a packed struct, or at
+ *   some place of a file in memory, is copied by `memcpy` first.
+ * - What a call writes overlaps nothing else that the same call gets, except in the calls on parts of a host: there `out`
+ *   may be the host itself, as in `pcidr_first(&v, &v)`.
  * - A call marked "allocates" takes memory by `malloc` and gives all of it back. `malloc`, `realloc` and `free` are of
- *   one allocator, which aligns blocks as the C standard asks. Such a call does not go into a signal handler.
+ *   one allocator, which aligns blocks as the C standard asks. Such a call goes neither into a signal handler nor, in a
+ *   process with threads, into a child between `fork` and `exec`: another thread may have held a lock of `malloc`, which
+ *   the child then waits for without end. The other calls may be made in both.
  *
  * A string is a pointer and a length in bytes, needs no 0 at its end, and may hold any bytes.
  */
@@ -23,7 +28,7 @@ extern "C" {
 #endif
 
 /* The version of this header, as `pcidr_version` returns that of the library: 65536 * major + 256 * minor + patch. */
-#define PCIDR_VERSION 0x000100u
+#define PCIDR_VERSION 0x000200u
 
 /* An address, a host or a network.
  *
@@ -35,7 +40,7 @@ extern "C" {
  * - An address is a host of full prefix length: 32 in IPv4 and 192 in IPv6. It is the network of itself alone.
  *
  * So each address is a network, and each network but `any` is a host. Each call says which of them it takes, and returns
- * `PCIDR_NO_VALUE` for any other value.
+ * `PCIDR_NO_VALUE` for any other value; one that answers yes or no returns 0, and one that compares has a place for it.
  */
 typedef struct pcidr_value {
     uint64_t high;
@@ -62,7 +67,7 @@ PCIDR_ASSERT(sizeof(size_t) == 8);
 enum {
     PCIDR_OK = 0,
     PCIDR_NOT_UTF8 = 1,        /* the string is not UTF-8 */
-    PCIDR_ADDRESS = 2,         /* what is before the last slash, or the whole string, is no address */
+    PCIDR_ADDRESS = 2,         /* of a network or a host: what is before the last slash, or all, is no address */
     PCIDR_LENGTH = 3,          /* what is after the last slash is no prefix length */
     PCIDR_LENGTH_TOO_LONG = 4, /* the prefix length is above 32 or 128 */
     PCIDR_HOST_PART = 5,       /* a bit after the prefix is set */
@@ -73,7 +78,8 @@ enum {
     PCIDR_NO_VALUE = 10,       /* a value is none that the call takes */
     PCIDR_NO_ROOM = 11,        /* there is too little room for the answer */
     PCIDR_NO_MEMORY = 12,      /* there is no memory */
-    PCIDR_WRAPPED = 13         /* the step leaves the network; its result is there all the same */
+    PCIDR_WRAPPED = 13,        /* the step leaves the network; its result is there all the same */
+    PCIDR_NOT_ADDRESS = 14     /* the string is no address */
 };
 
 /* Room that is enough for any string of a value, and for any message, with the 0 behind it. */
@@ -87,10 +93,10 @@ uint32_t pcidr_version(void);
 
 /* ---- strings into values: PCIDR_OK and the value in `out`, or the error, and then `out` is as it was */
 
-/* An address, as 192.0.2.1 or 2001:db8::1. Errors: NOT_UTF8, ADDRESS. */
+/* An address, as 192.0.2.1 or 2001:db8::1. Errors: NOT_UTF8, NOT_ADDRESS. */
 uint32_t pcidr_read_address(const char *text, size_t text_len, pcidr_value *out);
 
-/* The same, and also what `inet_addr` takes, as 127.1 or 0x7f000001. Errors: NOT_UTF8, ADDRESS. */
+/* The same, and also what `inet_addr` takes, as 127.1 or 0x7f000001. Errors: NOT_UTF8, NOT_ADDRESS. */
 uint32_t pcidr_read_loose_address(const char *text, size_t text_len, pcidr_value *out);
 
 /* An address with or without a prefix length, as 10.0.0.5/8. Errors: NOT_UTF8, ADDRESS, LENGTH, LENGTH_TOO_LONG. */
@@ -147,40 +153,80 @@ size_t pcidr_host_to_bytes(const pcidr_value *host, uint8_t *out, size_t out_len
 uint32_t pcidr_network_from_bytes(const uint8_t *bytes, size_t bytes_len, pcidr_value *out, size_t *used);
 uint32_t pcidr_host_from_bytes(const uint8_t *bytes, size_t bytes_len, pcidr_value *out, size_t *used);
 
-/* ---- parts of a host, or of a network but `any`: PCIDR_OK, or PCIDR_NO_VALUE, and then `out` is as it was */
+/* ---- parts of a host, or of a network but `any`: PCIDR_OK, or PCIDR_NO_VALUE, and then `out` is as it was
+ *
+ * The library takes the host by value, in calls whose names end in `by_value`. The functions below them pass it on, so
+ * that `out` may be the host itself. */
+
+uint32_t pcidr_first_by_value(pcidr_value host, pcidr_value *out);
+uint32_t pcidr_last_by_value(pcidr_value host, pcidr_value *out);
+uint32_t pcidr_mask_by_value(pcidr_value host, pcidr_value *out);
+uint32_t pcidr_address_by_value(pcidr_value host, pcidr_value *out);
+uint32_t pcidr_network_by_value(pcidr_value host, pcidr_value *out);
+uint32_t pcidr_step_up_by_value(pcidr_value host, uint64_t high, uint64_t low, pcidr_value *out);
+uint32_t pcidr_step_down_by_value(pcidr_value host, uint64_t high, uint64_t low, pcidr_value *out);
+uint32_t pcidr_at_by_value(pcidr_value host, uint64_t high, uint64_t low, pcidr_value *out);
 
 /* The first and the last address of its network, and the mask as an address. */
-uint32_t pcidr_first(const pcidr_value *host, pcidr_value *out);
-uint32_t pcidr_last(const pcidr_value *host, pcidr_value *out);
-uint32_t pcidr_mask(const pcidr_value *host, pcidr_value *out);
+static inline uint32_t pcidr_first(const pcidr_value *host, pcidr_value *out) {
+    return pcidr_first_by_value(*host, out);
+}
+static inline uint32_t pcidr_last(const pcidr_value *host, pcidr_value *out) {
+    return pcidr_last_by_value(*host, out);
+}
+static inline uint32_t pcidr_mask(const pcidr_value *host, pcidr_value *out) {
+    return pcidr_mask_by_value(*host, out);
+}
 
 /* Its address, and its network. */
-uint32_t pcidr_address(const pcidr_value *host, pcidr_value *out);
-uint32_t pcidr_network(const pcidr_value *host, pcidr_value *out);
+static inline uint32_t pcidr_address(const pcidr_value *host, pcidr_value *out) {
+    return pcidr_address_by_value(*host, out);
+}
+static inline uint32_t pcidr_network(const pcidr_value *host, pcidr_value *out) {
+    return pcidr_network_by_value(*host, out);
+}
 
 /* The host 2^64 * high + low addresses further, or back, in its network. Where that is beyond an end, it goes on from the
  * other one, and PCIDR_WRAPPED is returned. */
-uint32_t pcidr_step_up(const pcidr_value *host, uint64_t high, uint64_t low, pcidr_value *out);
-uint32_t pcidr_step_down(const pcidr_value *host, uint64_t high, uint64_t low, pcidr_value *out);
+static inline uint32_t pcidr_step_up(const pcidr_value *host, uint64_t high, uint64_t low, pcidr_value *out) {
+    return pcidr_step_up_by_value(*host, high, low, out);
+}
+static inline uint32_t pcidr_step_down(const pcidr_value *host, uint64_t high, uint64_t low, pcidr_value *out) {
+    return pcidr_step_down_by_value(*host, high, low, out);
+}
 
 /* The host at position 2^64 * high + low of its network, counted from 0 at the first address, so that a walk is a loop
  * over numbers up to PCIDR_WRAPPED. */
-uint32_t pcidr_at(const pcidr_value *host, uint64_t high, uint64_t low, pcidr_value *out);
+static inline uint32_t pcidr_at(const pcidr_value *host, uint64_t high, uint64_t low, pcidr_value *out) {
+    return pcidr_at_by_value(*host, high, low, out);
+}
 
 /* ---- networks beside one another */
 
-/* 1 where the second network, or address, is in the first, 0 where not; PCIDR_NO_VALUE. */
+/* 1 where the value is a network, as each address is, and 0 where not. */
+uint32_t pcidr_check(const pcidr_value *value);
+
+/* 1 where the second network, or address, is in the first, and 0 where not. Where one of the values is no network, as the
+ * host 10.0.0.5/8, the answer is 0 too, so that a permission is refused:
+ *
+ *     if (pcidr_contains(&allowed, &address)) serve();
+ *
+ * Where 0 is what permits, check both first:
+ *
+ *     if (pcidr_check(&banned) && pcidr_check(&address) && !pcidr_contains(&banned, &address)) serve();
+ */
 uint32_t pcidr_contains(const pcidr_value *outer, const pcidr_value *inner);
 
-/* 0, 1 or 2, where the first network comes before the second, is the same, or comes after it; PCIDR_NO_VALUE. `any` comes
- * first, then IPv4, then IPv6; in a family the lower first address, and then the shorter prefix. */
+/* 0, 1 or 2, where the first value comes before the second, is the same, or comes after it. Of networks `any` comes
+ * first, then IPv4, then IPv6; in a family the lower first address, and then the shorter prefix. What is no network comes
+ * after all networks, by `tag`, then `high`, then `low`. So it is a total order of all values, whatever they hold. */
 uint32_t pcidr_compare(const pcidr_value *one, const pcidr_value *other);
 
-/* The same of two hosts: IPv4 comes before IPv6; in a family the lower address comes first, and then the shorter prefix
- * length, so that 10.0.0.1/8 comes after 10.0.0.0/32. */
+/* The same of hosts: IPv4 comes before IPv6; in a family the lower address comes first, and then the shorter prefix
+ * length, so that 10.0.0.1/8 comes after 10.0.0.0/32. What is no host comes after all hosts. */
 uint32_t pcidr_compare_hosts(const pcidr_value *one, const pcidr_value *other);
 
-/* `pcidr_compare` for `qsort` and `bsearch` over networks: below, at or above 0. */
+/* `pcidr_compare` for `qsort` and `bsearch` over values, networks or not: below, at or above 0. */
 static inline int pcidr_order(const void *one, const void *other) {
     return (int)pcidr_compare((const pcidr_value *)one, (const pcidr_value *)other) - 1;
 }

@@ -4,4 +4,5 @@ pub mod Indexes
 pub mod LineSteps
 pub mod NetworkLists
 pub mod Networks
+pub mod Orders
 pub mod Readings

@@ -1,9 +1,12 @@
 -- What making a network from an address and a prefix length tells of a value.
-use Rattle.std.proofs.Common.{◌≡◌, ◌≢◌, ℕ, ◌-◌, ◌≤◌, ◌<◌, Bool, List, take, drop, Ok, Err, arith, inl, inr, ap}
+use Rattle.std.proofs.Common.{◌≡◌, ◌≢◌, ℕ, ◌-◌, ◌≤◌, ◌<◌, Bool, List, take, drop, Ok, Err, arith, inl, inr, ap, subst}
 use Rattle.std.proofs.lemmas.Bool.Decides.{nat_tests}
 use Rattle.cidr.specs.laws.BitLaws.{same_bits, bit_eq_Decides}
 use Rattle.cidr.specs.model.Bits.{bits}
-use Rattle.cidr.specs.model.Network.{width_of, zeros, network_from}
+use Rattle.cidr.specs.model.Network.{BeginsWith, width_of, zeros, network_from}
+use Rattle.cidr.specs.either.IpNetwork.{any_bits}
+use Rattle.cidr.specs.declared.cidr.any.AnyIpCidr.{AnyIpCidr}
+use Rattle.cidr_c.specs.Calls.{IsAnswer}
 use Rattle.cidr.specs.declared.family.Family.{Family}
 use Rattle.cidr.specs.declared.errors.NetworkParseError.{NetworkParseError}
 use Rattle.cidr.specs.declared.cidr.any.AnyIpCidr.TheVariants.{V4, V6}
@@ -53,3 +56,12 @@ no_ipv6 v a any h e none (inr (inl low)) = omega (arith, low.0.0)
 no_ipv6 v a any h e none (inr (inr high)) =
     let fits : v.tag - 64 ≤ 128 = omega (arith, high.0.1) in
     none (fits, rw e high.1)
+
+pub contained : (v w : CValue) (n m : AnyIpCidr) (code : ℕ) → IsNetwork v × (n ≡ network_in v) → IsNetwork w × (m ≡ network_in w)
+    → IsAnswer code (BeginsWith (any_bits m) (any_bits n))
+    → IsAnswer code (IsNetwork v × IsNetwork w × BeginsWith (any_bits (network_in w)) (any_bits (network_in v)))
+contained v w n m code one other is =
+    let told : IsAnswer code (BeginsWith (any_bits (network_in w)) (any_bits (network_in v))) =
+    subst (λ x. IsAnswer code (BeginsWith (any_bits x) (any_bits (network_in v)))) other.1
+    (subst (λ x. IsAnswer code (BeginsWith (any_bits m) (any_bits x))) one.1 is) in
+    (told.0, (λ is_one. (one.0, other.0, told.1.0 is_one), λ all. told.1.1 all.2))

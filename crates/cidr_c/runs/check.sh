@@ -1,7 +1,7 @@
 #!/usr/bin/env bash
-# Runs the commands of the page in a folder of its own, compiles and runs the examples in C99, C11 and under the address
-# sanitizer, there with wrong arguments and refused allocations too, and compiles the header as C++; where there is
-# Python, it runs the module's tests and examples. Prints what is not as wanted.
+# Runs the commands of the page in a folder of its own, compiles the header, the tests and the examples as C and C++ with
+# each compiler that is there, and runs them, under the address sanitizer too, with wrong arguments and refused allocations;
+# looks at what `build` makes; and runs what the Python module has. Prints what is not as wanted.
 set -euo pipefail
 here=$(cd "$(dirname "$0")" && pwd)
 crate=$(dirname "$here")
@@ -11,28 +11,53 @@ trap 'rm -rf "$room"' EXIT
 status=0
 compiler=${CC:-cc}
 
-has_python=$(command -v python3 || true)
 export PYTHONDONTWRITEBYTECODE=1
 
-# The commands stand in the page as they are typed at the top of the repository.
-mkdir "$room/top"
+# The commands stand in the page as they are typed at the top of the repository, and build into a folder at home.
+mkdir "$room/top" "$room/home"
 ln -s "$(dirname "$crate")" "$(realpath "$python")" "$room/top"
-sed -n '/^```sh$/,/^```$/{/^```/!p}' "$crate/README.md" | sed "s|/tmp/pcidr|$room/lib|g" >"$room/commands"
-[[ -n $has_python ]] || sed -i '/python3/d' "$room/commands"
-(cd "$room/top" && bash -eu "$room/commands" >"$room/printed") || status=1
-cat "$here/networks.txt" ${has_python:+"$here/python.txt"} | cmp - "$room/printed" || status=1
+sed -n '/^```sh$/,/^```$/{/^```/!p}' "$crate/README.md" >"$room/commands"
+(cd "$room/top" && HOME=$room/home bash -eu "$room/commands" >"$room/printed") || status=1
+cat "$here/networks.txt" "$here/python.txt" | cmp - "$room/printed" || status=1
+lib=$room/home/pcidr
+strict=(-Wall -Wextra -pedantic -Werror "-I$lib")
 
-strict=(-Wall -Wextra -Wpedantic -Werror "-I$room/lib")
+# wrong WHY: says what is not as wanted.
+wrong() {
+    echo "cidr_c: $1"
+    status=1
+}
 
 # same NAME: what NAME wrote is what stands beside this script.
 same() {
     cmp "$room/$1" "$here/$1" || status=1
 }
 
-"$compiler" -std=c99 "${strict[@]}" -o "$room/networks" "$crate/examples/networks.c" "$room/lib/libpcidr.a"
+# ---- the header, in each language and by each compiler
+
+echo '#include <pcidr.h>' >"$room/header.cc"
+for each in "$compiler" gcc clang; do
+    command -v "$each" >/dev/null || continue
+    for standard in c99 c11 c17; do
+        "$each" "-std=$standard" "${strict[@]}" -c -o "$room/tests.o" "$here/wrong.c" || wrong "$each does not compile it as $standard"
+    done
+done
+has_cxx=
+for each in c++ g++ clang++; do
+    command -v "$each" >/dev/null || continue
+    has_cxx=1
+    for standard in c++98 c++11 c++17; do
+        "$each" "-std=$standard" "${strict[@]}" -c -o "$room/header.o" "$room/header.cc" || wrong "$each does not compile it as $standard"
+    done
+done
+[[ -n $has_cxx ]] || echo "cidr_c: there is no C++ compiler: the header was not compiled as C++"
+
+# ---- the examples and the tests
+
+"$compiler" -std=c99 "${strict[@]}" -o "$room/networks" "$crate/examples/networks.c" "$lib/libpcidr.a"
 "$room/networks" >"$room/networks.txt"
 same networks.txt
-"$compiler" -std=c11 "${strict[@]}" -o "$room/filter" "$crate/examples/filter.c" -L"$room/lib" -lpcidr "-Wl,-rpath,$room/lib"
+"$compiler" -std=c11 "${strict[@]}" -o "$room/filter" "$crate/examples/filter.c" -L"$lib" -lpcidr "-Wl,-rpath,$lib"
 "$room/filter" "$here/list" <"$here/addresses" >"$room/filter.txt" 2>"$room/filter.err" || status=1
 same filter.txt
 same filter.err
@@ -40,30 +65,58 @@ for program in examples/networks examples/filter runs/wrong runs/memory; do
     made=$room/$(basename "$program").checked
     refusing=()
     [[ $program != runs/memory ]] || refusing=("-Wl,--wrap=malloc,--wrap=realloc")
-    "$compiler" -g -fsanitize=address -std=c11 "${strict[@]}" "${refusing[@]}" -o "$made" "$crate/$program.c" \
-        "$room/lib/libpcidr.a"
+    "$compiler" -g -fsanitize=address,undefined -fno-sanitize-recover=undefined -std=c11 "${strict[@]}" "${refusing[@]}" \
+        -o "$made" "$crate/$program.c" "$lib/libpcidr.a"
 done
 "$room/filter.checked" "$here/list" <"$here/addresses" 2>/dev/null | cmp - "$here/filter.txt" || status=1
 "$room/networks.checked" | cmp - "$here/networks.txt" || status=1
-"$room/wrong.checked" || status=1
-"$room/memory.checked" || status=1
+"$room/wrong.checked" || wrong "a call with a wrong argument"
+"$room/memory.checked" || wrong "a call without memory"
+"$compiler" -std=c11 -O2 "${strict[@]}" -o "$room/wrong" "$here/wrong.c" -L"$lib" -lpcidr "-Wl,-rpath,$lib"
+(ulimit -s 192 && exec "$room/wrong") || wrong "a call with a wrong argument, in the shared library, with 192 KiB of stack"
 
-echo '#include <pcidr.h>' >"$room/header.cc"
-if command -v c++ >/dev/null; then
-    for standard in c++98 c++17; do
-        c++ "-std=$standard" "${strict[@]}" -c -o "$room/header.o" "$room/header.cc" || status=1
-    done
+# ---- what `build` makes
+
+# Both libraries show the calls of the header, and nothing else.
+grep -o '^uint32_t pcidr_\w*\|^size_t pcidr_\w*' "$lib/pcidr.h" | sed 's/.* //' | sort >"$room/calls"
+nm -g --defined-only "$lib/libpcidr.a" | awk 'NF == 3 { print $3 }' | sort | diff "$room/calls" - || wrong "calls of libpcidr.a"
+nm -D --defined-only "$lib/libpcidr.so" | awk '{ print $3 }' | sort | diff "$room/calls" - || wrong "calls of libpcidr.so"
+# The shared library has a name with its version, which a program that is linked with it looks for.
+name=$(readelf -d "$lib/libpcidr.so" | sed -n 's/.*soname: \[\(.*\)\]/\1/p')
+version=$(sed -n 's/^Version: \(.*\)\..*/\1/p' "$lib/pcidr.pc")
+[[ $name == "libpcidr.so.$version" && -f $lib/$name && ! -L $lib/$name ]] || wrong "the name of the shared library: $name"
+[[ $(readlink "$lib/libpcidr.so") == "$name" ]] || wrong "libpcidr.so is no link to $name"
+! readelf -lW "$lib/libpcidr.so" | grep -q 'GNU_STACK.*E' || wrong "the shared library wants a stack that can be executed"
+
+# A link, or a file with a second name, that stands where a file is to be is replaced, and what it leads to stays. The folder's
+# path has what a shell would take for more than letters, and pkg-config gives it to the compiler all the same.
+odd="$room/it's a & \"b\""
+mkdir "$odd"
+files=(pcidr.h libpcidr.a libpcidr.so "$name")
+for file in "${files[@]}" pcidr.pc; do
+    echo untouched >"$room/led.$file"
+    ln -s "$room/led.$file" "$odd/$file"
+done
+"$crate/build" "$odd" || status=1
+for file in "${files[@]}"; do
+    cmp "$lib/$file" "$odd/$file" || status=1
+    [[ $file == libpcidr.so || ! -L $odd/$file ]] || wrong "build keeps a link"
+done
+for file in "${files[@]}" pcidr.pc; do
+    [[ $(cat "$room/led.$file") == untouched ]] || wrong "build writes through a link"
+done
+[[ $(find "$odd" -mindepth 1 | wc -l) == 5 ]] || wrong "build leaves more than its files"
+if command -v pkg-config >/dev/null; then
+    flags=$(PKG_CONFIG_PATH=$odd pkg-config --cflags --libs pcidr)
+    eval "$compiler -o '$room/by-flags' '$crate/examples/networks.c' $flags" || status=1
+    LD_LIBRARY_PATH=$odd "$room/by-flags" | cmp - "$here/networks.txt" || status=1
+    [[ $(PKG_CONFIG_PATH=$odd pkg-config --modversion pcidr) == "$version".* ]] || wrong "the version of pcidr.pc"
 else
-    echo "cidr_c: there is no C++ compiler: the header was not compiled as C++"
+    echo "cidr_c: there is no pkg-config: pcidr.pc was not tried"
 fi
 
-if [[ -n $has_python ]]; then
-    export PCIDR_LIBRARY=$room/lib/libpcidr.so PYTHONPATH=$python
-    python3 -m unittest discover -q -s "$python/tests" || status=1
-    python3 "$python/examples/aggregate.py" "$here/list" >"$room/aggregate.txt" || status=1
-    same aggregate.txt
-else
-    echo "cidr_c: there is no Python: the tests of the module and its examples were skipped"
-fi
+# ---- Python
+
+"$python/check.sh" "$lib/libpcidr.so" || status=1
 ((status == 0)) && echo "cidr_c: the library for C and Python runs as wanted"
 exit "$status"

@@ -30,6 +30,10 @@ static int is_left(void) { return is_same(out, mark) && count == 77; }
 
 static uint32_t (*const readers[])(const char *, size_t, pcidr_value *) = {
     pcidr_read_address, pcidr_read_loose_address, pcidr_read_host, pcidr_read_network, pcidr_read_short_network};
+
+/* What a reader returns for a string that has no address: the first two read addresses alone. */
+static uint32_t no_address(size_t reader) { return reader < 2 ? PCIDR_NOT_ADDRESS : PCIDR_ADDRESS; }
+
 static size_t (*const printers[])(const pcidr_value *, char *, size_t) = {
     pcidr_print_address, pcidr_print_host, pcidr_print_host_with_length, pcidr_print_network,
     pcidr_print_network_with_length};
@@ -49,7 +53,7 @@ static uint32_t (*const sets_in_place[])(pcidr_value *, size_t, size_t *, const 
 
 /* Null with length 0 is no string, no bytes, no room and no networks. */
 static void null_arguments(void) {
-    for (size_t i = 0; i < LENGTH(readers); i++) WANT(readers[i](NULL, 0, &out) == PCIDR_ADDRESS && is_left());
+    for (size_t i = 0; i < LENGTH(readers); i++) WANT(readers[i](NULL, 0, &out) == no_address(i) && is_left());
     for (size_t i = 0; i < LENGTH(byte_readers); i++)
         WANT(byte_readers[i](NULL, 0, &out, &count) == PCIDR_TRUNCATED && is_left());
     for (size_t i = 0; i < LENGTH(printers); i++) WANT(printers[i](&address, NULL, 0) >= 8);
@@ -106,9 +110,9 @@ static void strings(void) {
     for (size_t i = 0; i < LENGTH(readers); i++) {
         WANT(read_copy(readers[i], "\xff\xfe", 2) == PCIDR_NOT_UTF8 && is_left());
         WANT(read_copy(readers[i], "\xe2\x82", 2) == PCIDR_NOT_UTF8 && is_left()); /* begins a character */
-        WANT(read_copy(readers[i], "10.0.0.1\0/8", 11) == PCIDR_ADDRESS && is_left());
-        WANT(read_copy(readers[i], "10.0.0.", 7) == PCIDR_ADDRESS && is_left());
-        WANT(read_copy(readers[i], "1:2:3:4:5:6:7:", 14) == PCIDR_ADDRESS && is_left());
+        WANT(read_copy(readers[i], "10.0.0.1\0/8", 11) == no_address(i) && is_left());
+        WANT(read_copy(readers[i], "10.0.0.", 7) == no_address(i) && is_left());
+        WANT(read_copy(readers[i], "1:2:3:4:5:6:7:", 14) == no_address(i) && is_left());
         WANT(read_copy(readers[i], "10.1.2.3", 8) == PCIDR_OK && is_same(out, address));
         out = mark;
     }
@@ -132,6 +136,12 @@ static void strings(void) {
     WANT(pcidr_host_from_bytes((const uint8_t *)"\xff", 1, &out, &count) == PCIDR_ANY && is_left());
 }
 
+/* The two uses of a check that the header shows: one where 1 permits, and one where 0 does. */
+static int is_permitted(const pcidr_value *allowed, const pcidr_value *asked) { return pcidr_contains(allowed, asked); }
+static int is_not_banned(const pcidr_value *banned, const pcidr_value *asked) {
+    return pcidr_check(banned) && pcidr_check(asked) && !pcidr_contains(banned, asked);
+}
+
 /* A value that is neither a host nor a network. */
 static void no_value(pcidr_value bad) {
     for (size_t i = 0; i < LENGTH(printers); i++) {
@@ -144,9 +154,11 @@ static void no_value(pcidr_value bad) {
     }
     for (size_t i = 0; i < LENGTH(parts); i++) WANT(parts[i](&bad, &out) == PCIDR_NO_VALUE && is_left());
     for (size_t i = 0; i < LENGTH(steps); i++) WANT(steps[i](&bad, 0, 1, &out) == PCIDR_NO_VALUE && is_left());
-    WANT(pcidr_contains(&bad, &wide) == PCIDR_NO_VALUE && pcidr_contains(&wide, &bad) == PCIDR_NO_VALUE);
-    WANT(pcidr_compare(&bad, &wide) == PCIDR_NO_VALUE && pcidr_compare(&wide, &bad) == PCIDR_NO_VALUE);
-    WANT(pcidr_compare_hosts(&bad, &host) == PCIDR_NO_VALUE && pcidr_compare_hosts(&host, &bad) == PCIDR_NO_VALUE);
+    WANT(pcidr_contains(&bad, &wide) == 0 && pcidr_contains(&wide, &bad) == 0 && pcidr_contains(&bad, &bad) == 0);
+    WANT(pcidr_check(&bad) == 0 && !is_permitted(&any, &bad) && !is_permitted(&bad, &address));
+    WANT(!is_not_banned(&address, &bad) && !is_not_banned(&bad, &address));
+    WANT(pcidr_compare(&bad, &wide) == 2 && pcidr_compare(&wide, &bad) == 0 && pcidr_compare(&bad, &bad) == 1);
+    WANT(pcidr_compare_hosts(&bad, &host) == 2 && pcidr_compare_hosts(&host, &bad) == 0);
     WANT(pcidr_print_lines(&bad, 1, text, sizeof text, &count) == PCIDR_NO_VALUE && is_left());
 
     const pcidr_value both[] = {wide, bad};
@@ -177,8 +189,10 @@ static void other_values(void) {
     WANT(pcidr_print_network(&host, text, sizeof text) == 0 && pcidr_print_host(&any, text, sizeof text) == 0);
     WANT(pcidr_print_address(&wide, text, sizeof text) == 0 && pcidr_print_address(&any, text, sizeof text) == 0);
     WANT(pcidr_network_to_bytes(&host, bytes, sizeof bytes) == 0 && pcidr_host_to_bytes(&any, bytes, sizeof bytes) == 0);
-    WANT(pcidr_contains(&wide, &host) == PCIDR_NO_VALUE && pcidr_compare(&host, &wide) == PCIDR_NO_VALUE);
-    WANT(pcidr_compare_hosts(&any, &wide) == PCIDR_NO_VALUE);
+    WANT(pcidr_check(&host) == 0 && pcidr_contains(&wide, &host) == 0 && pcidr_contains(&any, &host) == 0);
+    WANT(!is_permitted(&wide, &host) && !is_not_banned(&address, &host));
+    WANT(pcidr_compare(&host, &wide) == 2 && pcidr_compare(&wide, &host) == 0 && pcidr_order(&wide, &host) == -1);
+    WANT(pcidr_compare_hosts(&any, &wide) == 2 && pcidr_compare_hosts(&wide, &any) == 0);
     WANT(pcidr_message(99, text, sizeof text) == 0 && pcidr_message(0, NULL, 0) == 0);
 }
 
@@ -239,10 +253,66 @@ static void small_rooms(void) {
     free(two);
 }
 
+/* Every call on parts of a host may write to the host itself. */
+static void same_place(void) {
+    for (size_t i = 0; i < LENGTH(parts); i++) {
+        pcidr_value apart, same = host;
+        WANT(parts[i](&host, &apart) == PCIDR_OK && parts[i](&same, &same) == PCIDR_OK && is_same(same, apart));
+    }
+    for (size_t i = 0; i < LENGTH(steps); i++) {
+        pcidr_value apart, same = host;
+        WANT(steps[i](&host, 0, 3, &apart) == PCIDR_OK && steps[i](&same, 0, 3, &same) == PCIDR_OK);
+        WANT(is_same(same, apart));
+    }
+}
+
+/* Values of any fields, among them the limits of each tag and half, each beside each other. */
+enum { TAGS = 10, HALVES = 4, FIELDS = TAGS * HALVES * HALVES };
+static pcidr_value fields[FIELDS];
+
+static void make_fields(void) {
+    const uint8_t tags[TAGS] = {0, 8, 32, 33, 63, 64, 96, 192, 193, 255};
+    const uint64_t halves[HALVES] = {0, 10 << 24, UINT32_MAX, UINT64_MAX};
+    size_t count = 0;
+    for (size_t tag = 0; tag < TAGS; tag++)
+        for (size_t high = 0; high < HALVES; high++)
+            for (size_t low = 0; low < HALVES; low++) {
+                fields[count].high = halves[high], fields[count].low = halves[low], fields[count].tag = tags[tag];
+                count++;
+            }
+}
+
+/* The order is total whatever the fields are: turned round it is the opposite, only the same fields tie, and what is sorted
+ * by `qsort` ascends from each value to each later one. What the calls take comes first. */
+static void order_of(uint32_t (*compare)(const pcidr_value *, const pcidr_value *), int (*is_taken)(const pcidr_value *),
+                     int (*order)(const void *, const void *)) {
+    qsort(fields, FIELDS, sizeof *fields, order);
+    for (size_t i = 0; i < FIELDS; i++)
+        for (size_t j = 0; j < FIELDS; j++) {
+            uint32_t wanted = i < j ? 0 : i == j ? 1 : 2;
+            WANT(compare(&fields[i], &fields[j]) == wanted);
+            WANT(i >= j || is_taken(&fields[i]) >= is_taken(&fields[j]));
+        }
+}
+
+static int is_network(const pcidr_value *value) { return pcidr_check(value) == 1; }
+static int is_host(const pcidr_value *value) { return pcidr_host_to_bytes(value, NULL, 0) > 0; }
+static int host_order(const void *one, const void *other) { return (int)pcidr_compare_hosts(one, other) - 1; }
+
+static void orders(void) {
+    make_fields();
+    order_of(pcidr_compare, is_network, pcidr_order);
+    order_of(pcidr_compare_hosts, is_host, host_order);
+}
+
 /* What is right. */
 static void right_arguments(void) {
     pcidr_value two[2];
     WANT(pcidr_version() == PCIDR_VERSION);
+    WANT(pcidr_check(&any) == 1 && pcidr_check(&wide) == 1 && pcidr_check(&address) == 1);
+    WANT(is_permitted(&wide, &address) && !is_not_banned(&wide, &address));
+    WANT(!is_permitted(&address, &wide) && is_not_banned(&address, &wide));
+    WANT(pcidr_message(PCIDR_NOT_ADDRESS, text, sizeof text) == 25 && strcmp(text, "invalid IP address syntax") == 0);
     WANT(pcidr_compare(&any, &wide) == 0 && pcidr_compare(&wide, &wide) == 1 && pcidr_order(&wide, &any) == 1);
     WANT(pcidr_step_up(&host, 0, 1, &out) == PCIDR_OK && out.low == host.low + 1);
     WANT(pcidr_step_down(&host, 1, 0, &out) == PCIDR_WRAPPED);
@@ -278,6 +348,8 @@ int main(void) {
     for (size_t i = 0; i < LENGTH(bad); i++) no_value(bad[i]);
     other_values();
     small_rooms();
+    same_place();
+    orders();
     right_arguments();
     return failures != 0;
 }

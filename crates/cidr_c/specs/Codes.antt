@@ -12,10 +12,11 @@ use Rattle.cidr.specs.declared.errors.NetworkParseError.TheVariants as parse_err
 abbrev pub not_utf8 : ℕ
 not_utf8 = 1
 
--- the errors of parsing
+-- a string is no address
 abbrev pub address_code : AddressError → ℕ
-address_code e = 2
+address_code e = 14
 
+-- the errors of parsing a network or a host
 abbrev pub parse_code : NetworkParseError → ℕ
 parse_code (parse_error.AddrParseError e) = 2
 parse_code (parse_error.NetworkLengthParseError e) = 3
@@ -68,4 +69,5 @@ message code =
     else (if code == 11 then codes "too little room for the answer"
     else (if code == 12 then codes "no memory"
     else (if code == 13 then codes "step leaves the network"
-    else []))))))))))))
+    else (if code == 14 then codes "invalid IP address syntax"
+    else [])))))))))))))

@@ -3,4 +3,5 @@ pub mod Calls
 pub mod Codes
 pub mod Lines
 pub mod Lookups
+pub mod Orders
 pub mod Values

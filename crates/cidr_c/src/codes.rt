@@ -9,7 +9,7 @@ use std::cmp::Ordering;
 pub const OK: u32 = 0;
 /// A string is not UTF-8.
 pub const NOT_UTF8: u32 = 1;
-/// A string has no address.
+/// A string of a network or a host has no address.
 pub const ADDRESS: u32 = 2;
 /// A string has no prefix length.
 pub const LENGTH: u32 = 3;
@@ -33,6 +33,8 @@ pub const NO_ROOM: u32 = 11;
 pub const NO_MEMORY: u32 = 12;
 /// A step leaves the network.
 pub const WRAPPED: u32 = 13;
+/// A string is no address.
+pub const NOT_ADDRESS: u32 = 14;
 
 /// The number of an error of parsing.
 pub fn parse_code(error: &NetworkParseError) -> u32
@@ -90,6 +92,7 @@ pub fn message(code: u32) -> &'static str
         11 => "too little room for the answer",
         12 => "no memory",
         13 => "step leaves the network",
+        14 => "invalid IP address syntax",
         _ => "",
     }
 }

@@ -4,6 +4,7 @@
 mod batches;
 mod bytes;
 mod codes;
+mod laws;
 mod lines;
 mod lookups;
 mod parts;

@@ -7,7 +7,8 @@ ghost use Rattle.cidr.specs.either.IpHost.{IpWrapsDown, IpWrapsUp, host_address,
 ghost use Rattle.cidr.specs.either.IpNetwork.{address_by, any_bits, any_of};
 ghost use Rattle.cidr.specs.declared.cidr.any.AnyIpCidr.TheVariants.{V4, V6};
 ghost use Rattle.cidr_c.specs.Calls.{IsAnswer, IsMade, IsStepped};
-ghost use Rattle.cidr_c.specs.Codes.{no_value, order_code};
+ghost use Rattle.cidr_c.specs.Orders.{IsCompared, field_order, host_value_order, network_order};
+ghost use Rattle.cidr_c.specs.Codes.{order_code};
 ghost use Rattle.cidr_c.specs.Values.{IsAddress, IsHost, IsNetwork, address_in, host_in, host_order, network_in};
 
 use crate::codes::{NO_VALUE, OK, WRAPPED, order_code};
@@ -17,14 +18,15 @@ use crate::values::{
 };
 use cidr::laws::hosts::order_is_by_family_address_and_length;
 use cidr::{AnyIpCidr, IpInet, Ipv4Cidr, Ipv6Cidr, NetworkBits};
+use std::cmp::Ordering;
 
 /// The first address of the network of a host.
 #[unsafe(no_mangle)]
-pub extern "C" fn pcidr_first(host: &CValue, out: &mut CValue) -> u32
-    ensures { IsMade (IsHost host.now) IsAddress address_in (address_by first_of (host_network (host_in host.now)))
+pub extern "C" fn pcidr_first_by_value(host: CValue, out: &mut CValue) -> u32
+    ensures { IsMade (IsHost host) IsAddress address_in (address_by first_of (host_network (host_in host)))
         out.old out.new result }
 {
-    let Some(host) = host_of(host) else {
+    let Some(host) = host_of(&host) else {
         return NO_VALUE;
     };
     put_address(&host.first_address(), out);
@@ -33,11 +35,11 @@ pub extern "C" fn pcidr_first(host: &CValue, out: &mut CValue) -> u32
 
 /// The last address of the network of a host.
 #[unsafe(no_mangle)]
-pub extern "C" fn pcidr_last(host: &CValue, out: &mut CValue) -> u32
-    ensures { IsMade (IsHost host.now) IsAddress address_in (address_by last_of (host_network (host_in host.now)))
+pub extern "C" fn pcidr_last_by_value(host: CValue, out: &mut CValue) -> u32
+    ensures { IsMade (IsHost host) IsAddress address_in (address_by last_of (host_network (host_in host)))
         out.old out.new result }
 {
-    let Some(host) = host_of(host) else {
+    let Some(host) = host_of(&host) else {
         return NO_VALUE;
     };
     put_address(&host.last_address(), out);
@@ -46,11 +48,11 @@ pub extern "C" fn pcidr_last(host: &CValue, out: &mut CValue) -> u32
 
 /// The mask of the network of a host, as an address.
 #[unsafe(no_mangle)]
-pub extern "C" fn pcidr_mask(host: &CValue, out: &mut CValue) -> u32
-    ensures { IsMade (IsHost host.now) IsAddress address_in (address_by mask_of (host_network (host_in host.now)))
+pub extern "C" fn pcidr_mask_by_value(host: CValue, out: &mut CValue) -> u32
+    ensures { IsMade (IsHost host) IsAddress address_in (address_by mask_of (host_network (host_in host)))
         out.old out.new result }
 {
-    let Some(host) = host_of(host) else {
+    let Some(host) = host_of(&host) else {
         return NO_VALUE;
     };
     put_address(&host.mask(), out);
@@ -59,10 +61,10 @@ pub extern "C" fn pcidr_mask(host: &CValue, out: &mut CValue) -> u32
 
 /// The address of a host.
 #[unsafe(no_mangle)]
-pub extern "C" fn pcidr_address(host: &CValue, out: &mut CValue) -> u32
-    ensures { IsMade (IsHost host.now) IsAddress address_in (host_address (host_in host.now)) out.old out.new result }
+pub extern "C" fn pcidr_address_by_value(host: CValue, out: &mut CValue) -> u32
+    ensures { IsMade (IsHost host) IsAddress address_in (host_address (host_in host)) out.old out.new result }
 {
-    let Some(host) = host_of(host) else {
+    let Some(host) = host_of(&host) else {
         return NO_VALUE;
     };
     put_address(&host.address(), out);
@@ -71,39 +73,49 @@ pub extern "C" fn pcidr_address(host: &CValue, out: &mut CValue) -> u32
 
 /// The network of a host.
 #[unsafe(no_mangle)]
-pub extern "C" fn pcidr_network(host: &CValue, out: &mut CValue) -> u32
-    ensures { IsMade (IsHost host.now) IsNetwork network_in (any_of (host_network (host_in host.now)))
+pub extern "C" fn pcidr_network_by_value(host: CValue, out: &mut CValue) -> u32
+    ensures { IsMade (IsHost host) IsNetwork network_in (any_of (host_network (host_in host)))
         out.old out.new result }
 {
-    let Some(host) = host_of(host) else {
+    let Some(host) = host_of(&host) else {
         return NO_VALUE;
     };
     put_network(&AnyIpCidr::from(host.network()), out);
     OK
 }
 
-/// 1 where every address of the second network is in the first, and 0 where not. An address is the network of itself.
+/// 1 where the value is a network, as each address is, and 0 where not.
+#[unsafe(no_mangle)]
+pub extern "C" fn pcidr_check(value: &CValue) -> u32
+    ensures { IsAnswer result (IsNetwork value.now) }
+{
+    match network_of(value) {
+        Some(_) => 1,
+        None => 0,
+    }
+}
+
+/// 1 where both values are networks and every address of the second is in the first, and 0 where not. An address is the
+/// network of itself.
+#[tactic(auto, using(crate::proofs::Networks::contained))]
 #[unsafe(no_mangle)]
 pub extern "C" fn pcidr_contains(outer: &CValue, inner: &CValue) -> u32
-    ensures networks { IsNetwork outer.now → IsNetwork inner.now →
-        IsAnswer result (BeginsWith (any_bits (network_in inner.now)) (any_bits (network_in outer.now))) }
-    ensures other { ¬ (IsNetwork outer.now × IsNetwork inner.now) → result ≡ no_value }
+    ensures { IsAnswer result (IsNetwork outer.now × IsNetwork inner.now
+        × BeginsWith (any_bits (network_in inner.now)) (any_bits (network_in outer.now))) }
 {
     if is_ipv4(outer) && is_ipv4(inner) {
-        return match (ipv4_network(outer), ipv4_network(inner)) {
-            (Some(outer), Some(inner)) => ipv4_answer(&outer, &inner),
-            _ => NO_VALUE,
-        };
+        if let (Some(outer), Some(inner)) = (ipv4_network(outer), ipv4_network(inner)) {
+            return ipv4_answer(&outer, &inner);
+        }
     }
     if is_ipv6(outer) && is_ipv6(inner) {
-        return match (ipv6_network(outer), ipv6_network(inner)) {
-            (Some(outer), Some(inner)) => ipv6_answer(&outer, &inner),
-            _ => NO_VALUE,
-        };
+        if let (Some(outer), Some(inner)) = (ipv6_network(outer), ipv6_network(inner)) {
+            return ipv6_answer(&outer, &inner);
+        }
     }
     match (network_of(outer), network_of(inner)) {
         (Some(outer), Some(inner)) => any_answer(&outer, &inner),
-        _ => NO_VALUE,
+        _ => 0,
     }
 }
 
@@ -138,29 +150,37 @@ fn compared<C: NetworkBits>(one: &C, other: &C) -> u32
     order_code(one.cmp(other))
 }
 
-/// 0, 1 or 2: the first network comes before the second, is the same, or comes after it. IPv4 comes before IPv6, and
-/// `any` before both; in a family the lower first address comes first, and then the shorter prefix.
+/// How two values compare by their fields: by tag, then by the number.
+fn compared_fields(one: &CValue, other: &CValue) -> u32
+    ensures { result ≡ order_code (field_order one.now other.now) }
+{
+    let by_number = one.high.cmp(&other.high).then(one.low.cmp(&other.low));
+    order_code(one.tag.cmp(&other.tag).then(by_number))
+}
+
+/// 0, 1 or 2: the first value comes before the second, is the same, or comes after it. Of networks IPv4 comes before IPv6,
+/// and `any` before both; in a family the lower first address comes first, and then the shorter prefix. What is no network
+/// comes after all networks, in the order of its fields.
+#[tactic(auto, using(crate::proofs::Orders::network_comparisons))]
 #[unsafe(no_mangle)]
 pub extern "C" fn pcidr_compare(one: &CValue, other: &CValue) -> u32
-    ensures networks { IsNetwork one.now → IsNetwork other.now →
-        result ≡ order_code (bit_cmp (any_bits (network_in one.now)) (any_bits (network_in other.now))) }
-    ensures other { ¬ (IsNetwork one.now × IsNetwork other.now) → result ≡ no_value }
+    ensures { IsCompared IsNetwork network_order one.now other.now result }
 {
     if is_ipv4(one) && is_ipv4(other) {
-        return match (ipv4_network(one), ipv4_network(other)) {
-            (Some(one), Some(other)) => compared(&one, &other),
-            _ => NO_VALUE,
-        };
+        if let (Some(one), Some(other)) = (ipv4_network(one), ipv4_network(other)) {
+            return compared(&one, &other);
+        }
     }
     if is_ipv6(one) && is_ipv6(other) {
-        return match (ipv6_network(one), ipv6_network(other)) {
-            (Some(one), Some(other)) => compared(&one, &other),
-            _ => NO_VALUE,
-        };
+        if let (Some(one), Some(other)) = (ipv6_network(one), ipv6_network(other)) {
+            return compared(&one, &other);
+        }
     }
     match (network_of(one), network_of(other)) {
         (Some(one), Some(other)) => compared(&one, &other),
-        _ => NO_VALUE,
+        (Some(_), None) => order_code(Ordering::Less),
+        (None, Some(_)) => order_code(Ordering::Greater),
+        (None, None) => compared_fields(one, other),
     }
 }
 
@@ -172,28 +192,30 @@ fn compared_hosts(one: &IpInet, other: &IpInet) -> u32
     order_code(one.cmp(other))
 }
 
-/// 0, 1 or 2: the first host comes before the second, is the same, or comes after it. IPv4 comes before IPv6; in a family
-/// the lower address comes first, and then the shorter prefix.
+/// 0, 1 or 2: the first value comes before the second, is the same, or comes after it. Of hosts IPv4 comes before IPv6; in a
+/// family the lower address comes first, and then the shorter prefix. What is no host comes after all hosts, in the order
+/// of its fields.
+#[tactic(auto, using(crate::proofs::Orders::comparisons))]
 #[unsafe(no_mangle)]
 pub extern "C" fn pcidr_compare_hosts(one: &CValue, other: &CValue) -> u32
-    ensures hosts { IsHost one.now → IsHost other.now →
-        result ≡ order_code (host_order (host_in one.now) (host_in other.now)) }
-    ensures other { ¬ (IsHost one.now × IsHost other.now) → result ≡ no_value }
+    ensures { IsCompared IsHost host_value_order one.now other.now result }
 {
     match (host_of(one), host_of(other)) {
         (Some(one), Some(other)) => compared_hosts(&one, &other),
-        _ => NO_VALUE,
+        (Some(_), None) => order_code(Ordering::Less),
+        (None, Some(_)) => order_code(Ordering::Greater),
+        (None, None) => compared_fields(one, other),
     }
 }
 
 /// The host so many addresses further in its network, of which the count is high * 2^64 + low. Where that is beyond the
 /// last address, it goes on from the first, and the number of `wrapped` is returned.
 #[unsafe(no_mangle)]
-pub extern "C" fn pcidr_step_up(host: &CValue, high: u64, low: u64, out: &mut CValue) -> u32
-    ensures { IsStepped (IsHost host.now) (IpWrapsUp (host_in host.now) (high * 2 ^ 64 + low)) IsHost host_in
-        (ip_stepped_up (host_in host.now) (high * 2 ^ 64 + low)) out.old out.new result }
+pub extern "C" fn pcidr_step_up_by_value(host: CValue, high: u64, low: u64, out: &mut CValue) -> u32
+    ensures { IsStepped (IsHost host) (IpWrapsUp (host_in host) (high * 2 ^ 64 + low)) IsHost host_in
+        (ip_stepped_up (host_in host) (high * 2 ^ 64 + low)) out.old out.new result }
 {
-    let Some(host) = host_of(host) else {
+    let Some(host) = host_of(&host) else {
         return NO_VALUE;
     };
     let (host, wraps) = host.overflowing_add(joined(high, low));
@@ -201,13 +223,18 @@ pub extern "C" fn pcidr_step_up(host: &CValue, high: u64, low: u64, out: &mut CV
     if wraps { WRAPPED } else { OK }
 }
 
-/// The host so many addresses back in its network, as `pcidr_step_up` goes further.
+/// The host so many addresses back in its network, as `pcidr_step_up_by_value` goes further.
 #[unsafe(no_mangle)]
-pub extern "C" fn pcidr_step_down(host: &CValue, high: u64, low: u64, out: &mut CValue) -> u32
-    ensures { IsStepped (IsHost host.now) (IpWrapsDown (host_in host.now) (high * 2 ^ 64 + low)) IsHost host_in
-        (ip_stepped_down (host_in host.now) (high * 2 ^ 64 + low)) out.old out.new result }
+pub extern "C" fn pcidr_step_down_by_value(
+    host: CValue,
+    high: u64,
+    low: u64,
+    out: &mut CValue,
+) -> u32
+    ensures { IsStepped (IsHost host) (IpWrapsDown (host_in host) (high * 2 ^ 64 + low)) IsHost host_in
+        (ip_stepped_down (host_in host) (high * 2 ^ 64 + low)) out.old out.new result }
 {
-    let Some(host) = host_of(host) else {
+    let Some(host) = host_of(&host) else {
         return NO_VALUE;
     };
     let (host, wraps) = host.overflowing_sub(joined(high, low));
@@ -217,13 +244,13 @@ pub extern "C" fn pcidr_step_down(host: &CValue, high: u64, low: u64, out: &mut 
 
 /// The host at a position of the network of a host, counted from 0 at the first address: a walk by position.
 #[unsafe(no_mangle)]
-pub extern "C" fn pcidr_at(host: &CValue, high: u64, low: u64, out: &mut CValue) -> u32
-    ensures { IsStepped (IsHost host.now)
-        (IpWrapsUp (host_at first_host (host_network (host_in host.now))) (high * 2 ^ 64 + low)) IsHost host_in
-        (ip_stepped_up (host_at first_host (host_network (host_in host.now))) (high * 2 ^ 64 + low))
+pub extern "C" fn pcidr_at_by_value(host: CValue, high: u64, low: u64, out: &mut CValue) -> u32
+    ensures { IsStepped (IsHost host)
+        (IpWrapsUp (host_at first_host (host_network (host_in host))) (high * 2 ^ 64 + low)) IsHost host_in
+        (ip_stepped_up (host_at first_host (host_network (host_in host))) (high * 2 ^ 64 + low))
         out.old out.new result }
 {
-    let Some(host) = host_of(host) else {
+    let Some(host) = host_of(&host) else {
         return NO_VALUE;
     };
     let (host, wraps) = host.first().overflowing_add(joined(high, low));

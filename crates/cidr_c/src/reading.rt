@@ -10,7 +10,7 @@ ghost use Rattle.cidr_c.specs.Calls.{IsRead};
 ghost use Rattle.cidr_c.specs.Codes.{address_code, parse_code};
 ghost use Rattle.cidr_c.specs.Values.{IsAddress, IsHost, IsNetwork, address_in, host_in, network_in};
 
-use crate::codes::{ADDRESS, NOT_UTF8, OK, parse_code};
+use crate::codes::{NOT_ADDRESS, NOT_UTF8, OK, parse_code};
 use crate::values::{CValue, put_address, put_host, put_network};
 use cidr::parsers::{parse_loose_ip, parse_short_any_ip_cidr};
 use cidr::{AnyIpCidr, IpAddr, IpInet};
@@ -29,7 +29,7 @@ pub extern "C" fn pcidr_read_address(text: &[u8], out: &mut CValue) -> u32
             put_address(&address, out);
             OK
         }
-        Err(_) => ADDRESS,
+        Err(_) => NOT_ADDRESS,
     }
 }
 
@@ -47,7 +47,7 @@ pub extern "C" fn pcidr_read_loose_address(text: &[u8], out: &mut CValue) -> u32
             put_address(&address, out);
             OK
         }
-        Err(_) => ADDRESS,
+        Err(_) => NOT_ADDRESS,
     }
 }
 

@@ -50,28 +50,43 @@ pub fn answer(name: &str, tokens: &mut Tokens<'_>, answer: &mut Answer) -> Outco
 
 fn answer_ipv4(name: &str, tokens: &mut Tokens<'_>, answer: &mut Answer) -> Outcome {
     match name {
-        "new" => new_ipv4(tokens, answer),
-        "octets" => octets_ipv4(tokens, answer),
-        "to_bits" => to_bits_ipv4(tokens, answer),
-        "from_bits" => from_bits_ipv4(tokens, answer),
+        "new" => {
+            let (a, b) = (tokens.number()?, tokens.number()?);
+            let (c, d) = (tokens.number()?, tokens.number()?);
+            answer.value(&Ipv4Addr::new(a, b, c, d))
+        }
+        "octets" => answer.bytes(&tokens.value::<Ipv4Addr>()?.octets()),
+        "to_bits" => answer.display(&tokens.value::<Ipv4Addr>()?.to_bits()),
+        "from_bits" => answer.value(&Ipv4Addr::from_bits(tokens.number()?)),
         _ => answer_each::<Ipv4Addr>(name, tokens, answer),
     }
 }
 
 fn answer_ipv6(name: &str, tokens: &mut Tokens<'_>, answer: &mut Answer) -> Outcome {
     match name {
-        "new" => new_ipv6(tokens, answer),
-        "octets" => octets_ipv6(tokens, answer),
-        "segments" => segments(tokens, answer),
-        "to_bits" => to_bits_ipv6(tokens, answer),
-        "from_bits" => from_bits_ipv6(tokens, answer),
+        "new" => {
+            let [a, b, c, d, e, f, g, h] = tokens.groups()?;
+            answer.value(&Ipv6Addr::new(a, b, c, d, e, f, g, h))
+        }
+        "octets" => answer.bytes(&tokens.value::<Ipv6Addr>()?.octets()),
+        "segments" => {
+            for group in &tokens.value::<Ipv6Addr>()?.segments() {
+                answer.display(group)?;
+            }
+            Ok(())
+        }
+        "to_bits" => answer.display(&tokens.value::<Ipv6Addr>()?.to_bits()),
+        "from_bits" => answer.value(&Ipv6Addr::from_bits(tokens.number()?)),
         _ => answer_each::<Ipv6Addr>(name, tokens, answer),
     }
 }
 
 fn answer_ip(name: &str, tokens: &mut Tokens<'_>, answer: &mut Answer) -> Outcome {
     match name {
-        "is" => is_ipv4_and_ipv6(tokens, answer),
+        "is" => {
+            let address = tokens.value::<IpAddr>()?;
+            answer.value(&(address.is_ipv4(), address.is_ipv6()))
+        }
         _ => answer_each::<IpAddr>(name, tokens, answer),
     }
 }
@@ -84,59 +99,4 @@ fn answer_each<A: Address>(name: &str, tokens: &mut Tokens<'_>, answer: &mut Ans
         "text" => tokens.value::<A>()?.texts(answer),
         _ => Err(LineError::Malformed),
     }
-}
-
-fn new_ipv4(tokens: &mut Tokens<'_>, answer: &mut Answer) -> Outcome {
-    let a = tokens.number()?;
-    let b = tokens.number()?;
-    let c = tokens.number()?;
-    let d = tokens.number()?;
-    answer.value(&Ipv4Addr::new(a, b, c, d))
-}
-
-fn octets_ipv4(tokens: &mut Tokens<'_>, answer: &mut Answer) -> Outcome {
-    let address = tokens.value::<Ipv4Addr>()?;
-    answer.bytes(&address.octets())
-}
-
-fn to_bits_ipv4(tokens: &mut Tokens<'_>, answer: &mut Answer) -> Outcome {
-    let address = tokens.value::<Ipv4Addr>()?;
-    answer.display(&address.to_bits())
-}
-
-fn from_bits_ipv4(tokens: &mut Tokens<'_>, answer: &mut Answer) -> Outcome {
-    answer.value(&Ipv4Addr::from_bits(tokens.number()?))
-}
-
-fn new_ipv6(tokens: &mut Tokens<'_>, answer: &mut Answer) -> Outcome {
-    let [a, b, c, d, e, f, g, h] = tokens.groups()?;
-    answer.value(&Ipv6Addr::new(a, b, c, d, e, f, g, h))
-}
-
-fn octets_ipv6(tokens: &mut Tokens<'_>, answer: &mut Answer) -> Outcome {
-    let address = tokens.value::<Ipv6Addr>()?;
-    answer.bytes(&address.octets())
-}
-
-fn segments(tokens: &mut Tokens<'_>, answer: &mut Answer) -> Outcome {
-    let address = tokens.value::<Ipv6Addr>()?;
-    for group in address.segments() {
-        answer.display(&group)?;
-    }
-    Ok(())
-}
-
-fn to_bits_ipv6(tokens: &mut Tokens<'_>, answer: &mut Answer) -> Outcome {
-    let address = tokens.value::<Ipv6Addr>()?;
-    answer.display(&address.to_bits())
-}
-
-fn from_bits_ipv6(tokens: &mut Tokens<'_>, answer: &mut Answer) -> Outcome {
-    answer.value(&Ipv6Addr::from_bits(tokens.number()?))
-}
-
-fn is_ipv4_and_ipv6(tokens: &mut Tokens<'_>, answer: &mut Answer) -> Outcome {
-    let address = tokens.value::<IpAddr>()?;
-    answer.display(&address.is_ipv4())?;
-    answer.display(&address.is_ipv6())
 }

@@ -1,11 +1,9 @@
 //! The answer to a line, token by token.
-ghost use Rattle.std.specs.Prelude.{◌<◌};
-
 use crate::line_error::Outcome;
 use crate::refusals::Refusal;
 use crate::values::Value;
 use std::alloc::{AllocError, Global};
-use std::fmt::Display;
+use std::fmt::{Debug, Display};
 
 /// An answer line that is being written; its memory serves the next line too.
 #[derive(Drop)]
@@ -57,6 +55,12 @@ impl Answer {
         Ok(write!(self.line, "{value}")?)
     }
 
+    /// Appends what `Debug` prints, with its spaces.
+    pub fn shown<D: Debug>(&mut self, value: &D) -> Outcome {
+        self.begin_token()?;
+        Ok(write!(self.line, "{value:?}")?)
+    }
+
     /// Appends to the last token.
     pub fn more<D: Display>(&mut self, value: &D) -> Outcome {
         Ok(write!(self.line, "{value}")?)
@@ -72,8 +76,7 @@ impl Answer {
         self.begin_token()?;
         self.line.push('x')?;
         for byte in bytes {
-            self.line.push(lower_digit(*byte / 16))?;
-            self.line.push(lower_digit(*byte % 16))?;
+            write!(self.line, "{byte:02x}")?;
         }
         Ok(())
     }
@@ -111,27 +114,5 @@ fn push_escaped(line: &mut String, byte: u8) -> Result<(), AllocError> {
     if byte != b'%' && byte.is_ascii_graphic() {
         return line.push(char::from(byte));
     }
-    line.push('%')?;
-    line.push(upper_digit(byte / 16))?;
-    line.push(upper_digit(byte % 16))
-}
-
-fn lower_digit(digit: u8) -> char
-    requires { digit < 16 }
-{
-    if digit < 10 {
-        char::from(b'0' + digit)
-    } else {
-        char::from(b'a' + digit - 10)
-    }
-}
-
-fn upper_digit(digit: u8) -> char
-    requires { digit < 16 }
-{
-    if digit < 10 {
-        char::from(b'0' + digit)
-    } else {
-        char::from(b'A' + digit - 10)
-    }
+    write!(line, "%{byte:02X}")
 }

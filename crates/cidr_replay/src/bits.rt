@@ -45,13 +45,24 @@ pub fn answer_hosts(name: &str, tokens: &mut Tokens<'_>, answer: &mut Answer) ->
 fn answer_each<B: Bits>(name: &str, tokens: &mut Tokens<'_>, answer: &mut Answer) -> Outcome {
     match name {
         "len" => answer.value(&tokens.value::<B>()?.len()),
-        "get" => get::<B>(tokens, answer),
+        "get" => {
+            let bits = tokens.value::<B>()?;
+            let i = index(&bits, tokens)?;
+            answer.value(&bits.get(i))
+        }
         "set" => set::<B>(tokens, answer),
         "flip" => flip::<B>(tokens, answer),
-        "clip" => clip::<B>(tokens, answer),
+        "clip" => {
+            let mut bits = tokens.value::<B>()?;
+            bits.clip(tokens.number()?);
+            answer.value(&bits)
+        }
         "append" => append::<B>(tokens, answer),
         "null" => answer.value(&B::null()),
-        "shared_prefix_len" => shared_prefix_len::<B>(tokens, answer),
+        "shared_prefix_len" => {
+            let bits = tokens.value::<B>()?;
+            answer.value(&bits.shared_prefix_len(&tokens.value()?))
+        }
         _ => Err(LineError::Malformed),
     }
 }
@@ -68,12 +79,6 @@ fn index<B: Bits>(bits: &B, tokens: &mut Tokens<'_>) -> Result<usize, LineError>
     }
 }
 
-fn get<B: Bits>(tokens: &mut Tokens<'_>, answer: &mut Answer) -> Outcome {
-    let bits = tokens.value::<B>()?;
-    let i = index(&bits, tokens)?;
-    answer.display(&bits.get(i))
-}
-
 fn set<B: Bits>(tokens: &mut Tokens<'_>, answer: &mut Answer) -> Outcome {
     let mut bits = tokens.value::<B>()?;
     let i = index(&bits, tokens)?;
@@ -88,12 +93,6 @@ fn flip<B: Bits>(tokens: &mut Tokens<'_>, answer: &mut Answer) -> Outcome {
     answer.value(&bits)
 }
 
-fn clip<B: Bits>(tokens: &mut Tokens<'_>, answer: &mut Answer) -> Outcome {
-    let mut bits = tokens.value::<B>()?;
-    bits.clip(tokens.number()?);
-    answer.value(&bits)
-}
-
 /// Appends a bit; to a full string is none of the format.
 fn append<B: Bits>(tokens: &mut Tokens<'_>, answer: &mut Answer) -> Outcome {
     let mut bits = tokens.value::<B>()?;
@@ -103,10 +102,4 @@ fn append<B: Bits>(tokens: &mut Tokens<'_>, answer: &mut Answer) -> Outcome {
     }
     bits.append(bit);
     answer.value(&bits)
-}
-
-fn shared_prefix_len<B: Bits>(tokens: &mut Tokens<'_>, answer: &mut Answer) -> Outcome {
-    let one = tokens.value::<B>()?;
-    let other = tokens.value::<B>()?;
-    answer.value(&one.shared_prefix_len(&other))
 }

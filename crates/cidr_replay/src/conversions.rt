@@ -5,31 +5,32 @@ use crate::line_error::{LineError, Outcome};
 use crate::tokens::Tokens;
 use crate::values::Value;
 use cidr::{
-    IpAddr, Ipv4Addr, Ipv4Cidr, Ipv4Inet, Ipv4InetPair, Ipv6Addr, Ipv6Cidr, Ipv6Inet, Ipv6InetPair,
+    AnyIpCidr, IpAddr, IpCidr, Ipv4Addr, Ipv4Cidr, Ipv4Inet, Ipv4InetPair, Ipv6Addr, Ipv6Cidr,
+    Ipv6Inet, Ipv6InetPair,
 };
 use std::str::FromStr;
 
 mod to_combined;
 
-use to_combined::{from_any_network, from_ip_network, from_option, from_pair, to_host, to_network};
+use to_combined::{from_pair, to_host, to_network};
 
 /// Answers a conversion: the two types stand in the line before the value.
 pub fn answer(tokens: &mut Tokens<'_>, answer: &mut Answer) -> Outcome {
     let from = tokens.word()?;
     let to = tokens.word()?;
     match from {
-        "u32" => from_u32(to, tokens, answer),
-        "u128" => from_u128(to, tokens, answer),
+        "u32" if to == "addr.v4" => answer.value(&Ipv4Addr::from(tokens.number::<u32>()?)),
+        "u128" if to == "addr.v6" => answer.value(&Ipv6Addr::from(tokens.number::<u128>()?)),
         "octets" => from_octets(to, tokens, answer),
-        "segments" => from_segments(to, tokens, answer),
+        "segments" if to == "addr.v6" => answer.value(&Ipv6Addr::from(tokens.groups()?)),
         "addr.v4" => from_ipv4(to, tokens, answer),
         "addr.v6" => from_ipv6(to, tokens, answer),
         "addr.ip" => from_ip(to, tokens, answer),
         "cidr.v4" => to_network::<Ipv4Cidr>(to, tokens, answer),
         "cidr.v6" => to_network::<Ipv6Cidr>(to, tokens, answer),
-        "cidr.ip" => from_ip_network(to, tokens, answer),
-        "cidr.any" => from_any_network(to, tokens, answer),
-        "option" => from_option(to, tokens, answer),
+        "cidr.ip" if to == "cidr.any" => converted::<IpCidr, AnyIpCidr>(tokens, answer),
+        "cidr.any" if to == "option" => converted::<AnyIpCidr, Option<IpCidr>>(tokens, answer),
+        "option" if to == "cidr.any" => answer.value(&AnyIpCidr::from(tokens.option::<IpCidr>()?)),
         "inet.v4" => to_host::<Ipv4Inet>(to, tokens, answer),
         "inet.v6" => to_host::<Ipv6Inet>(to, tokens, answer),
         "pair.v4" => from_pair::<Ipv4InetPair>(to, tokens, answer),
@@ -38,31 +39,10 @@ pub fn answer(tokens: &mut Tokens<'_>, answer: &mut Answer) -> Outcome {
     }
 }
 
-fn from_u32(to: &str, tokens: &mut Tokens<'_>, answer: &mut Answer) -> Outcome {
-    match to {
-        "addr.v4" => answer.value(&Ipv4Addr::from(tokens.number::<u32>()?)),
-        _ => Err(LineError::Malformed),
-    }
-}
-
-fn from_u128(to: &str, tokens: &mut Tokens<'_>, answer: &mut Answer) -> Outcome {
-    match to {
-        "addr.v6" => answer.value(&Ipv6Addr::from(tokens.number::<u128>()?)),
-        _ => Err(LineError::Malformed),
-    }
-}
-
 fn from_octets(to: &str, tokens: &mut Tokens<'_>, answer: &mut Answer) -> Outcome {
     match to {
         "addr.v4" => answer.value(&Ipv4Addr::from(tokens.octets::<4>()?)),
         "addr.v6" => answer.value(&Ipv6Addr::from(tokens.octets::<16>()?)),
-        _ => Err(LineError::Malformed),
-    }
-}
-
-fn from_segments(to: &str, tokens: &mut Tokens<'_>, answer: &mut Answer) -> Outcome {
-    match to {
-        "addr.v6" => answer.value(&Ipv6Addr::from(tokens.groups()?)),
         _ => Err(LineError::Malformed),
     }
 }

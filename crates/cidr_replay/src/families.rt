@@ -8,8 +8,15 @@ use cidr::Family;
 /// Answers the operation on families that has this name.
 pub fn answer(name: &str, tokens: &mut Tokens<'_>, answer: &mut Answer) -> Outcome {
     match name {
-        "cmp" => compare(tokens, answer),
-        "show" => show(tokens, answer),
+        "cmp" => {
+            let one = family(tokens)?;
+            answer.value(&one.cmp(&family(tokens)?))
+        }
+        "show" => {
+            let family = family(tokens)?;
+            answer.value(&family.len())?;
+            answer.value(&(family.unspecified_address(), family.loopback_address()))
+        }
         _ => Err(LineError::Malformed),
     }
 }
@@ -20,17 +27,4 @@ fn family(tokens: &mut Tokens<'_>) -> Result<Family, LineError> {
         "Ipv6" => Ok(Family::Ipv6),
         _ => Err(LineError::Malformed),
     }
-}
-
-fn compare(tokens: &mut Tokens<'_>, answer: &mut Answer) -> Outcome {
-    let one = family(tokens)?;
-    let other = family(tokens)?;
-    answer.value(&one.cmp(&other))
-}
-
-fn show(tokens: &mut Tokens<'_>, answer: &mut Answer) -> Outcome {
-    let family = family(tokens)?;
-    answer.display(&family.len())?;
-    answer.value(&family.unspecified_address())?;
-    answer.value(&family.loopback_address())
 }

@@ -33,10 +33,9 @@ pub fn answer(name: &str, tokens: &mut Tokens<'_>, answer: &mut Answer) -> Outco
 fn answer_ipv4(name: &str, tokens: &mut Tokens<'_>, answer: &mut Answer) -> Outcome {
     match name {
         "address_ref" => answer.value(tokens.value::<Ipv4Inet>()?.address_ref()),
-        "add_u32" => steps::add_u32(tokens, answer),
-        "sub_u32" => steps::sub_u32(tokens, answer),
-        "overflowing_add_u32" => steps::overflowing_add_u32(tokens, answer),
-        "overflowing_sub_u32" => steps::overflowing_sub_u32(tokens, answer),
+        "add_u32" | "sub_u32" | "overflowing_add_u32" | "overflowing_sub_u32" => {
+            steps::answer_narrow(name, tokens, answer)
+        }
         _ => answer_each::<Ipv4Addr>(name, tokens, answer),
     }
 }
@@ -50,7 +49,10 @@ fn answer_ipv6(name: &str, tokens: &mut Tokens<'_>, answer: &mut Answer) -> Outc
 
 fn answer_ip(name: &str, tokens: &mut Tokens<'_>, answer: &mut Answer) -> Outcome {
     match name {
-        "is" => is_ipv4_and_ipv6(tokens, answer),
+        "is" => {
+            let host = tokens.value::<IpInet>()?;
+            answer.value(&(host.is_ipv4(), host.is_ipv6()))
+        }
         _ => answer_each::<IpAddr>(name, tokens, answer),
     }
 }
@@ -78,8 +80,7 @@ where
         "show" => show::<A>(tokens, answer),
         "ends" => {
             let host = tokens.value::<A::Inet>()?;
-            answer.value(&host.first())?;
-            answer.value(&host.last())
+            answer.value(&(host.first(), host.last()))
         }
         "parse" => queries::parse::<A::Inet>(tokens, answer),
         "cmp" => queries::compare::<A::Inet>(tokens, answer),
@@ -109,10 +110,4 @@ where
     answer.value(&host.network_length())?;
     answer.value(&host.family())?;
     answer.value(&host.is_host_address())
-}
-
-fn is_ipv4_and_ipv6(tokens: &mut Tokens<'_>, answer: &mut Answer) -> Outcome {
-    let host = tokens.value::<IpInet>()?;
-    answer.value(&host.is_ipv4())?;
-    answer.value(&host.is_ipv6())
 }

@@ -1,4 +1,5 @@
-//! Replays operations on the crates `cidr` and `cidr_table`: it reads one a line and writes an answer line for each.
+//! Replays operations on the crates `cidr`, `cidr_table`, `cidr_sets` and `cidr_ext`: it reads one a line and writes an
+//! answer line for each.
 //!
 //! README.md beside `src` has the format.
 #![tactic(auto)]
@@ -9,6 +10,7 @@ mod bits;
 mod compact;
 mod conversions;
 mod covers;
+mod ext;
 mod families;
 mod faults;
 mod hosts;
@@ -21,6 +23,7 @@ mod prefixes;
 mod queries;
 mod refusals;
 mod replay;
+mod sets;
 mod tables;
 mod tokens;
 mod values;

@@ -67,7 +67,10 @@ fn answer_ipv6(name: &str, tokens: &mut Tokens<'_>, answer: &mut Answer) -> Outc
 
 fn answer_ip(name: &str, tokens: &mut Tokens<'_>, answer: &mut Answer) -> Outcome {
     match name {
-        "is" => is_ipv4_and_ipv6(tokens, answer),
+        "is" => {
+            let network = tokens.value::<IpCidr>()?;
+            answer.value(&(network.is_ipv4(), network.is_ipv6()))
+        }
         _ => answer_family::<IpAddr>(name, tokens, answer),
     }
 }
@@ -95,8 +98,7 @@ where
         "show" => show::<A>(tokens, answer),
         "ends" => {
             let network = tokens.value::<A::Cidr>()?;
-            answer.value(&network.first())?;
-            answer.value(&network.last())
+            answer.value(&(network.first(), network.last()))
         }
         _ => answer_each::<A::Cidr>(name, tokens, answer),
     }
@@ -128,10 +130,4 @@ where
     answer.value(&network.network_length())?;
     answer.value(&network.family())?;
     answer.value(&network.is_host_address())
-}
-
-fn is_ipv4_and_ipv6(tokens: &mut Tokens<'_>, answer: &mut Answer) -> Outcome {
-    let network = tokens.value::<IpCidr>()?;
-    answer.value(&network.is_ipv4())?;
-    answer.value(&network.is_ipv6())
 }

@@ -4,8 +4,8 @@ use crate::answer::Answer;
 use crate::line_error::{LineError, Outcome};
 use crate::tokens::Tokens;
 use crate::{
-    addresses, bits, compact, conversions, covers, families, faults, hosts, networks, pairs,
-    parsers, prefixes, tables, walks,
+    addresses, bits, compact, conversions, covers, ext, families, faults, hosts, networks, pairs,
+    parsers, prefixes, sets, tables, walks,
 };
 use std::alloc::{AllocError, Global};
 use std::str;
@@ -77,6 +77,10 @@ fn answer_operation(
         "load" if name.is_empty() => tables::answer_load(tokens, answer),
         "cover" if name.is_empty() => covers::answer(tokens, answer),
         "convert" if name.is_empty() => conversions::answer(tokens, answer),
+        "set" => sets::answer(name, tokens, answer),
+        "tree" | "network" | "address" | "inside" | "name" | "mask" | "special" => {
+            ext::answer(section, name, tokens, answer)
+        }
         _ => Err(other_operation(section)),
     }
 }

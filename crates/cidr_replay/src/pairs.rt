@@ -22,7 +22,10 @@ pub fn answer(name: &str, tokens: &mut Tokens<'_>, answer: &mut Answer) -> Outco
 
 fn answer_ip(name: &str, tokens: &mut Tokens<'_>, answer: &mut Answer) -> Outcome {
     match name {
-        "is" => is_ipv4_and_ipv6(tokens, answer),
+        "is" => {
+            let pair = pair::<IpInetPair>(tokens)?;
+            answer.value(&(pair.is_ipv4(), pair.is_ipv6()))
+        }
         _ => answer_each::<IpAddr>(name, tokens, answer),
     }
 }
@@ -35,11 +38,17 @@ where
     A::InetPair: InetPair<Address = A> + HasTexts + Value,
 {
     match name {
-        "new" => new::<A>(tokens, answer),
+        "new" => {
+            let first = tokens.value::<A::Inet>()?;
+            answer.value(&A::InetPair::new(first, tokens.value()?))
+        }
         "from_addresses" => from_addresses::<A::InetPair>(tokens, answer),
         "show" => show::<A>(tokens, answer),
         "text" => pair::<A::InetPair>(tokens)?.texts(answer),
-        "eq" => equal::<A::InetPair>(tokens, answer),
+        "eq" => {
+            let one = pair::<A::InetPair>(tokens)?;
+            answer.value(&(one == pair::<A::InetPair>(tokens)?))
+        }
         _ => Err(LineError::Malformed),
     }
 }
@@ -52,16 +61,6 @@ pub fn pair<P: InetPair>(tokens: &mut Tokens<'_>) -> Result<P, LineError> {
         Ok(pair) => Ok(pair),
         Err(_) => Err(LineError::Malformed),
     }
-}
-
-fn new<A: Address>(tokens: &mut Tokens<'_>, answer: &mut Answer) -> Outcome
-where
-    A::Inet: Inet<Address = A>,
-    A::InetPair: InetPair<Address = A> + Value,
-{
-    let first = tokens.value::<A::Inet>()?;
-    let second = tokens.value::<A::Inet>()?;
-    answer.value(&A::InetPair::new(first, second))
 }
 
 fn from_addresses<P: InetPair + Value>(tokens: &mut Tokens<'_>, answer: &mut Answer) -> Outcome {
@@ -83,16 +82,4 @@ where
     answer.value(&pair.network())?;
     answer.value(&pair.network_length())?;
     answer.value(&pair.family())
-}
-
-fn equal<P: InetPair>(tokens: &mut Tokens<'_>, answer: &mut Answer) -> Outcome {
-    let one = pair::<P>(tokens)?;
-    let other = pair::<P>(tokens)?;
-    answer.display(&(one == other))
-}
-
-fn is_ipv4_and_ipv6(tokens: &mut Tokens<'_>, answer: &mut Answer) -> Outcome {
-    let pair = pair::<IpInetPair>(tokens)?;
-    answer.display(&pair.is_ipv4())?;
-    answer.display(&pair.is_ipv6())
 }

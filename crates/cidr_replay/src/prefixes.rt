@@ -23,12 +23,7 @@ fn answer_each<N: PrefixBytes + Network>(
 ) -> Outcome {
     match name {
         "to" => answer.bytes(tokens.value::<N>()?.to_prefix_bytes().as_slice()),
-        "from" => from::<N>(tokens, answer),
+        "from" => answer.value(&N::from_prefix_bytes(tokens.bytes()?.as_slice())),
         _ => Err(LineError::Malformed),
     }
-}
-
-fn from<N: PrefixBytes + Network>(tokens: &mut Tokens<'_>, answer: &mut Answer) -> Outcome {
-    let bytes = tokens.bytes()?;
-    answer.value(&N::from_prefix_bytes(bytes.as_slice()))
 }

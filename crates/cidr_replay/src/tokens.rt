@@ -81,10 +81,7 @@ impl<'a> Tokens<'a> {
     where
         V::Err: Drop,
     {
-        match self.word()?.parse::<V>() {
-            Ok(value) => Ok(value),
-            Err(_) => Err(LineError::Malformed),
-        }
+        parsed(self.word()?)
     }
 
     /// A value, or `none`.
@@ -94,10 +91,7 @@ impl<'a> Tokens<'a> {
     {
         match self.word()? {
             "none" => Ok(None),
-            word => match word.parse::<V>() {
-                Ok(value) => Ok(Some(value)),
-                Err(_) => Err(LineError::Malformed),
-            },
+            word => Ok(Some(parsed(word)?)),
         }
     }
 
@@ -107,13 +101,10 @@ impl<'a> Tokens<'a> {
         N::Err: Drop,
     {
         let word = self.word()?;
-        if !begins_as_number(word.as_bytes()) {
+        if word != "0" && (word.starts_with('0') || word.starts_with('+')) {
             return Err(LineError::Malformed);
         }
-        match word.parse::<N>() {
-            Ok(number) => Ok(number),
-            Err(_) => Err(LineError::Malformed),
-        }
+        parsed(word)
     }
 
     /// A truth value.
@@ -159,11 +150,13 @@ impl<'a> Tokens<'a> {
     }
 }
 
-/// Whether the text is `0` or begins with another digit.
-fn begins_as_number(text: &[u8]) -> bool {
-    match text {
-        [b'0'] => true,
-        [b'1'..=b'9', ..] => true,
-        _ => false,
+/// The value that a word is parsed as.
+pub fn parsed<V: FromStr>(word: &str) -> Result<V, LineError>
+where
+    V::Err: Drop,
+{
+    match word.parse::<V>() {
+        Ok(value) => Ok(value),
+        Err(_) => Err(LineError::Malformed),
     }
 }

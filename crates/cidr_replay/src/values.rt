@@ -123,8 +123,8 @@ impl<V: Value> Value for Option<V> {
     }
 }
 
-/// A value that was read, and how many bytes it was read from.
-impl<V: Value> Value for (V, usize) {
+/// Two values stand one behind the other.
+impl<V: Value, W: Value> Value for (V, W) {
     fn push_to(&self, answer: &mut Answer) -> Outcome {
         self.0.push_to(answer)?;
         self.1.push_to(answer)

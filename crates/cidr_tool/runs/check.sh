@@ -9,7 +9,10 @@ usage=$'usage: cidr_tool show NET | in NET ADDR | cmp NET NET | walk NET ENDS | 
 shown=$'network 192.0.2.48/28\nfirst 192.0.2.48\nlast 192.0.2.63\nmask 255.255.255.240\nlength 28\nfamily Ipv4\n'
 host_part=$'host part of address was not zero\n'
 no_address=$'invalid IP address syntax\n'
-too_long=$'invalid length for network: Network length 129 is too long for Ipv6 (maximum: 128)\n'
+no_network="couldn't parse address in network: $no_address"
+no_length=$'couldn\'t parse length in network: invalid length text\n'
+too_long_ipv4=$'invalid length for network: Network length 33 is too long for Ipv4 (maximum: 32)\n'
+too_long_ipv6=$'invalid length for network: Network length 129 is too long for Ipv6 (maximum: 128)\n'
 
 room=$(mktemp -d)
 trap 'rm -rf "$room"' EXIT
@@ -34,28 +37,130 @@ run() {
     done
 }
 
-# Each exit status, and that all arguments count and only they.
-rows() {
+# shows ARGUMENT NETWORK FIRST LAST MASK LENGTH FAMILY: runs `show`, which writes these parts of a network.
+shows() {
+    local parts
+    printf -v parts 'network %s\nfirst %s\nlast %s\nmask %s\nlength %s\nfamily %s\n' "${@:2}"
+    run 0 "$parts" '' show "$1"
+}
+
+# A network's parts; its longest answer has the 211 bytes that there is room for; what is no network is an error.
+rows_of_show() {
     run 0 "$shown" '' show 192.0.2.48/28
+    shows 10.0.0.1 10.0.0.1 10.0.0.1 10.0.0.1 255.255.255.255 32 Ipv4
+    shows 0.0.0.0/0 0.0.0.0/0 0.0.0.0 255.255.255.255 0.0.0.0 0 Ipv4
+    shows 2001:DB8::/32 2001:db8::/32 2001:db8:: 2001:db8:ffff:ffff:ffff:ffff:ffff:ffff ffff:ffff:: 32 Ipv6
     run 0 $'network any\n' '' show any
-    run 0 $'yes\n' '' in 10.0.0.0/8 10.255.0.1
-    run 0 $'no\n' '' in 10.0.0.0/8 ::1
-    run 0 $'less\n' '' cmp 192.0.2.0/24 192.0.2.0/25
-    run 0 $'192.0.2.48\n192.0.2.49\nnone\n' '' walk 192.0.2.48/31 fff
-    run 0 '' '' walk 10.0.0.0/8 ''
-    run 0 $'18c0000200\n' '' bytes 192.0.2.0/24
-    run 0 $'10.0.1.2\n' '' loose 0xA000102
+    local long=abcd:abcd:abcd:abcd:abcd:abcd:abcd
+    shows "$long:abcc/127" "$long:abcc/127" "$long:abcc" "$long:abcd" ffff:ffff:ffff:ffff:ffff:ffff:ffff:fffe 127 Ipv6
+    run 1 '' "$host_part" show 192.0.3.0/23
+    run 1 '' "$host_part" show ::1/64
+    run 1 '' "$too_long_ipv4" show 192.0.2.1/33
+    run 1 '' "$too_long_ipv6" show ::/129
+    run 1 '' "$no_network" show x
+    run 1 '' "$no_network" show any/8
+    run 1 '' "$no_length" show 10.0.0.0/
     run 1 '' "$host_part" show 10.0.0.1/8
-    run 1 '' "$too_long" show ::/129
+    run 1 '' "$no_length" show 10.0.0.0/x
+}
+
+# The network's error comes before the address's, of which the message differs.
+rows_of_in() {
+    run 0 $'yes\n' '' in any ::1
+    run 0 $'yes\n' '' in 10.0.0.0/8 10.255.0.1
+    run 0 $'no\n' '' in 10.0.0.0/8 11.0.0.0
+    run 0 $'no\n' '' in ::ffff:0:0/96 192.0.2.1
+    run 1 '' "$no_address" in 10.0.0.0/8 x
+    run 1 '' "$no_address" in 10.0.0.0/8 any
+    run 1 '' "$no_address" in 10.0.0.0/8 10.0.0.0/8
+    run 1 '' "$host_part" in 10.0.0.1/8 x
+    run 1 '' "$no_network" in x 10.0.0.1
+    run 1 '' "$no_network" in x y
+    run 0 $'no\n' '' in 10.0.0.0/8 ::1
     run 1 '' "$no_address" in any x
-    run 1 '' "$no_address" loose 08
+}
+
+# Of two wrong networks the left one's error is told, whichever it is.
+rows_of_cmp() {
+    run 0 $'less\n' '' cmp any 0.0.0.0/0
+    run 0 $'less\n' '' cmp 192.0.2.0/24 192.0.2.0/25
+    run 0 $'greater\n' '' cmp ::/0 255.255.255.255
+    run 0 $'equal\n' '' cmp 10.0.0.0/+08 10.0.0.0/8
+    run 1 '' "$host_part" cmp 10.0.0.0/8 10.0.0.1/8
+    run 1 '' "$host_part" cmp 10.0.0.1/8 10.0.0.0/8
     run 1 '' "$host_part" cmp 10.0.0.1/8 x
-    run 1 '' "couldn't parse address in network: $no_address" cmp x 10.0.0.1/8
-    run 1 '' $'couldn\'t parse length in network: invalid length text\n' show 10.0.0.0/x
+    run 1 '' "$no_network" cmp x 10.0.0.1/8
+    run 1 '' "$no_network" cmp x y
+    run 1 '' "$too_long_ipv6" cmp ::/129 10.0.0.0/33
+    run 1 '' "$too_long_ipv4" cmp 10.0.0.0/33 ::/129
+}
+
+# Letters are read before the network.
+rows_of_walk() {
+    run 0 $'1.2.3.0\n1.2.3.3\n1.2.3.2\n1.2.3.1\nnone\n' '' walk 1.2.3.0/30 fbbff
+    run 0 $'::\n::1\nnone\n' '' walk ::/127 fff
+    run 0 '' '' walk 10.0.0.0/8 ''
+    run 1 '' "$no_network" walk any f
+    run 1 '' "$host_part" walk 10.0.0.1/8 f
+    run 1 '' "$host_part" walk 10.0.0.1/8 ''
+    run 2 '' "$usage" walk ::/0 x
+    run 2 '' "$usage" walk x fF
+    run 0 $'192.0.2.48\n192.0.2.49\nnone\n' '' walk 192.0.2.48/31 fff
+}
+
+# Compact bytes, two digits each.
+rows_of_bytes() {
+    run 0 $'18c0000200\n' '' bytes 192.0.2.0/24
+    run 0 $'080a000000\n' '' bytes 10.0.0.0/+08
+    run 0 $'0000000000\n' '' bytes 0.0.0.0/0
+    run 0 $'20ffffffff\n' '' bytes 255.255.255.255
+    run 0 $'ff\n' '' bytes any
+    run 0 $'4000000000000000000000000000000000\n' '' bytes ::/0
+    run 0 $'c000000000000000000000000000000001\n' '' bytes ::1
+    run 0 $'bc0123456789abcdeffedcba9876543210\n' '' bytes 0123:4567:89AB:CDEF:fedc:ba98:7654:3210/124
+    run 1 '' "$host_part" bytes 192.0.2.1/24
+    run 1 '' "$no_network" bytes 18c0000200
+    run 1 '' "$no_network" bytes ''
+    run 1 '' "$no_length" bytes 10.0.0.0/
+}
+
+# Loose strings of IPv4, and addresses of IPv6.
+rows_of_loose() {
+    run 0 $'192.0.2.1\n' '' loose 192.0.2.1
+    run 0 $'127.0.0.1\n' '' loose 127.1
+    run 0 $'10.0.1.2\n' '' loose 0xA000102
+    run 0 $'8.32.2.1\n' '' loose 010.0X20.513
+    run 0 $'255.255.255.255\n' '' loose 4294967295
+    run 0 $'::1\n' '' loose ::1
+    run 0 $'abcd:abcd:abcd:abcd:abcd:abcd:abcd:abcd\n' '' loose ABCD:ABCD:ABCD:ABCD:ABCD:ABCD:ABCD:ABCD
+    run 1 '' "$no_address" loose 08
+    run 1 '' "$no_address" loose 4294967296
+    run 1 '' "$no_address" loose any
+    run 1 '' "$no_address" loose 10.0.0.0/8
+    run 1 '' "$no_address" loose ''
+}
+
+# Other arguments, and one too many, even if it is empty or no text.
+rows_of_usage() {
     run 2 '' "$usage"
     run 2 '' "$usage" show
-    run 2 '' "$usage" cmp 10.0.0.0/8 ::/0 x
+    run 2 '' "$usage" in x
+    run 2 '' "$usage" cmp x
+    run 2 '' "$usage" walk 10.0.0.0/8
+    run 2 '' "$usage" loose
+    run 2 '' "$usage" bytes
+    run 2 '' "$usage" BYTES 10.0.0.0/8
+    run 2 '' "$usage" '' x
+    run 2 '' "$usage" SHOW 10.0.0.0/8
+    run 2 '' "$usage" show 10.0.0.0/8 x
     run 2 '' "$usage" show 10.0.0.0/8 ''
+    run 2 '' "$usage" in 10.0.0.0/8 10.0.0.1 10.0.0.2
+    run 2 '' "$usage" cmp 10.0.0.0/8 ::/0 x
+    run 2 '' "$usage" cmp x y z
+    run 2 '' "$usage" walk 10.0.0.0/8 f f
+    run 2 '' "$usage" bytes any any
+    run 2 '' "$usage" loose 127.1 127.1
+    run 2 '' "$usage" cmp 10.0.0.0/8 ::/0 x y
     run 2 '' "$usage" walk 10.0.0.0/8 x
     run 2 '' "$usage" show $'\xff'
     run 2 '' "$usage" show 10.0.0.0/8 $'\xff'
@@ -111,7 +216,9 @@ for build in cidr_tool cidr_tool.by-rattle; do
     program=$room/$build
     cp "out/$build" "$program"
     chmod 755 "$program"
-    rows
+    for command in show in cmp walk bytes loose usage; do
+        rows_of_$command
+    done
     rows_of_the_page
     if [[ -c /dev/full ]]; then
         rows_where_a_stream_fails

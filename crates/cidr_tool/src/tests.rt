@@ -1,5 +1,4 @@
 //! Runs of the program over arguments and writers in memory.
-mod commands;
 mod failures;
 mod fakes;
 mod reading;
@@ -8,10 +7,6 @@ mod writes;
 /// The line for arguments that are no command.
 const USAGE: &str =
     "usage: cidr_tool show NET | in NET ADDR | cmp NET NET | walk NET ENDS | bytes NET | loose TEXT\n";
-
-const NO_ADDRESS: &str = "couldn't parse address in network: invalid IP address syntax\n";
-
-const ADDRESS_SYNTAX: &str = "invalid IP address syntax\n";
 
 const HOST_PART: &str = "host part of address was not zero\n";
 

@@ -1,9 +1,35 @@
-//! A network and the hosts in it.
+//! A network and the hosts in it, and then each topic in a file of its own, with the example lines of the libraries'
+//! doc comments.
+//!
+//! Each line that prints ends with what it prints, and so does each value of an array that is printed; `stdout`, beside
+//! this folder, has these again. In a doc comment the value stands without the call that prints it.
 #![tactic(auto)]
 
-use cidr::errors::{NetworkLengthTooLongError, NetworkParseError};
-use cidr::{AddrParseError, Ipv4Addr, Ipv4Cidr, Ipv4Inet, Ipv6Addr, Ipv6Cidr, Ipv6Inet};
-use std::io;
+mod access_list;
+mod addresses;
+mod bits;
+mod bytes;
+mod either_family;
+mod errors;
+mod failure;
+mod hosts;
+mod masks;
+mod networks;
+mod pairs;
+mod parsers;
+mod pools;
+mod reverse;
+mod routes;
+mod sets;
+mod show;
+mod special;
+mod table;
+mod tree;
+mod walks;
+mod written_once;
+
+use cidr::{Ipv4Addr, Ipv4Cidr, Ipv4Inet};
+use failure::Failure;
 
 fn main(rt: HostRuntime) -> Result<(), Failure> {
     let network = "192.0.2.48/28".parse::<Ipv4Cidr>()?;
@@ -19,74 +45,34 @@ fn main(rt: HostRuntime) -> Result<(), Failure> {
     println!(rt; "{host}")?; // 192.0.2.50/28
     println!(rt; "{}", host.network())?; // 192.0.2.48/28
 
-    addresses(&rt)?;
-    networks(&rt)?;
-    hosts(&rt)
+    one_network(&rt)?;
+    many_networks(&rt)
 }
 
-fn addresses(rt: &impl Print) -> Result<(), Failure> {
-    println!(rt; "{}", "2001:DB8:0:0:0:0:0:1".parse::<Ipv6Addr>()?)?; // 2001:db8::1
-    println!(rt; "{:#x}", Ipv4Addr::new(192, 0, 2, 1).to_bits())?; // 0xc0000201
-    println!(rt; "{:?}", "192.0.2.01".parse::<Ipv4Addr>())?; // Err(invalid IPv4 address syntax)
-    Ok(())
+/// Addresses, networks and hosts.
+fn one_network(rt: &HostRuntime) -> Result<(), Failure> {
+    addresses::all(rt)?;
+    networks::all(rt)?;
+    hosts::all(rt)?;
+    either_family::all(rt)?;
+    pairs::all(rt)?;
+    walks::all(rt)?;
+    written_once::all(rt)?;
+    bits::all(rt)?;
+    bytes::all(rt)?;
+    parsers::all(rt)?;
+    errors::all(rt)?;
+    tree::all(rt)?;
+    special::all(rt)?;
+    masks::all(rt)?;
+    reverse::all(rt)
 }
 
-fn networks(rt: &impl Print) -> Result<(), Failure> {
-    let network = "2001:db8::/32".parse::<Ipv6Cidr>()?;
-    let inner = "2001:db8:1::/48".parse::<Ipv6Cidr>()?;
-    println!(rt; "{}", network.contains_cidr(&inner))?; // true
-    println!(rt; "{}", inner.contains_cidr(&network))?; // false
-    println!(rt; "{}", network.last_address())?; // 2001:db8:ffff:ffff:ffff:ffff:ffff:ffff
-    println!(rt; "{}", network < inner)?; // true
-
-    let single = Ipv4Cidr::new_host(Ipv4Addr::new(192, 0, 2, 1));
-    println!(rt; "{single}")?; // 192.0.2.1
-    println!(rt; "{}", single.with_length())?; // 192.0.2.1/32
-    Ok(())
-}
-
-fn hosts(rt: &impl Print) -> Result<(), Failure> {
-    let host = "192.0.2.62/28".parse::<Ipv4Inet>()?;
-    println!(rt; "{}", host.address())?; // 192.0.2.62
-    println!(rt; "{:?}", host.next())?; // Some(192.0.2.63/28)
-    println!(rt; "{:?}", host.overflowing_add(2))?; // (192.0.2.48/28, true)
-
-    let host = "2001:db8::ffff/112".parse::<Ipv6Inet>()?;
-    println!(rt; "{}", host.network())?; // 2001:db8::/112
-    println!(rt; "{:?}", host.next())?; // None
-    println!(rt; "{:?}", host.previous())?; // Some(2001:db8::fffe/112)
-    Ok(())
-}
-
-/// What this program fails by. An `Err` that `main` returns is printed on standard error, and the exit status is 1.
-#[derive(Debug, Drop)]
-enum Failure {
-    Address(AddrParseError),
-    Network(NetworkParseError),
-    Length(NetworkLengthTooLongError),
-    Output(io::Error),
-}
-
-impl From<AddrParseError> for Failure {
-    fn from(error: AddrParseError) -> Failure {
-        Failure::Address(error)
-    }
-}
-
-impl From<NetworkParseError> for Failure {
-    fn from(error: NetworkParseError) -> Failure {
-        Failure::Network(error)
-    }
-}
-
-impl From<NetworkLengthTooLongError> for Failure {
-    fn from(error: NetworkLengthTooLongError) -> Failure {
-        Failure::Length(error)
-    }
-}
-
-impl From<io::Error> for Failure {
-    fn from(error: io::Error) -> Failure {
-        Failure::Output(error)
-    }
+/// Tables and sets of networks.
+fn many_networks(rt: &HostRuntime) -> Result<(), Failure> {
+    table::all(rt)?;
+    routes::all(rt)?;
+    sets::all(rt)?;
+    pools::all(rt)?;
+    access_list::all(rt)
 }

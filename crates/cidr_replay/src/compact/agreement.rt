@@ -25,16 +25,13 @@ fn answer_each<N: Canonical + Network>(
     answer: &mut Answer,
 ) -> Outcome {
     match name {
-        "" => networks::<N>(tokens, answer),
+        "" => {
+            let one = tokens.value::<N>()?;
+            answer.value(&agree(&one, &tokens.value()?))
+        }
         "texts" => texts::<N>(tokens, answer),
         _ => Err(LineError::Malformed),
     }
-}
-
-fn networks<N: Canonical + Network>(tokens: &mut Tokens<'_>, answer: &mut Answer) -> Outcome {
-    let one = tokens.value::<N>()?;
-    let other = tokens.value::<N>()?;
-    answer.value(&agree(&one, &other))
 }
 
 /// Two texts, of which the first error is told.

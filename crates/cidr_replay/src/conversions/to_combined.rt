@@ -8,30 +8,6 @@ use crate::tokens::Tokens;
 use cidr::{AnyIpCidr, InetPair, IpCidr, IpInet, IpInetPair};
 use std::str::FromStr;
 
-/// From a network of either family.
-pub fn from_ip_network(to: &str, tokens: &mut Tokens<'_>, answer: &mut Answer) -> Outcome {
-    match to {
-        "cidr.any" => converted::<IpCidr, AnyIpCidr>(tokens, answer),
-        _ => Err(LineError::Malformed),
-    }
-}
-
-/// From a network of which one holds all addresses.
-pub fn from_any_network(to: &str, tokens: &mut Tokens<'_>, answer: &mut Answer) -> Outcome {
-    match to {
-        "option" => converted::<AnyIpCidr, Option<IpCidr>>(tokens, answer),
-        _ => Err(LineError::Malformed),
-    }
-}
-
-/// From a network of either family that can be missing.
-pub fn from_option(to: &str, tokens: &mut Tokens<'_>, answer: &mut Answer) -> Outcome {
-    match to {
-        "cidr.any" => answer.value(&AnyIpCidr::from(tokens.option::<IpCidr>()?)),
-        _ => Err(LineError::Malformed),
-    }
-}
-
 /// To the pairs of either family.
 pub fn from_pair<P: InetPair>(to: &str, tokens: &mut Tokens<'_>, answer: &mut Answer) -> Outcome
 where

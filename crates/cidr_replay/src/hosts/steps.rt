@@ -23,8 +23,7 @@ pub fn answer_single<H: Inet + Value>(
             } else {
                 host.decrement()
             };
-            answer.display(&wrapped)?;
-            answer.value(&host)
+            answer.value(&(wrapped, host))
         }
     }
 }
@@ -38,50 +37,33 @@ pub fn answer_many<H: Inet + Host>(
     let host = tokens.value::<H>()?;
     let step = tokens.number::<u128>()?;
     match name {
-        "overflowing_add" => overflowing(host.overflowing_add(step), answer),
-        "overflowing_sub" => overflowing(host.overflowing_sub(step), answer),
+        "overflowing_add" => answer.value(&host.overflowing_add(step)),
+        "overflowing_sub" => answer.value(&host.overflowing_sub(step)),
         "add" => within(host.add(step), answer),
         _ => within(host.sub(step), answer),
     }
 }
 
-/// A step up of 32 bits.
-pub fn overflowing_add_u32(tokens: &mut Tokens<'_>, answer: &mut Answer) -> Outcome {
-    let host = tokens.value::<Ipv4Inet>()?;
-    overflowing(host.overflowing_add_u32(tokens.number()?), answer)
-}
-
-/// A step down of 32 bits.
-pub fn overflowing_sub_u32(tokens: &mut Tokens<'_>, answer: &mut Answer) -> Outcome {
-    let host = tokens.value::<Ipv4Inet>()?;
-    overflowing(host.overflowing_sub_u32(tokens.number()?), answer)
-}
-
-/// `+` with a step of 32 bits; one that leaves the network is none of the format.
-pub fn add_u32(tokens: &mut Tokens<'_>, answer: &mut Answer) -> Outcome {
+/// The steps by a number of 32 bits; `+` and `-` out of the network are none of the format.
+pub fn answer_narrow(name: &str, tokens: &mut Tokens<'_>, answer: &mut Answer) -> Outcome {
     let host = tokens.value::<Ipv4Inet>()?;
     let step = tokens.number::<u32>()?;
-    if host.overflowing_add_u32(step).1 {
-        return Err(LineError::Malformed);
+    match name {
+        "overflowing_add_u32" => answer.value(&host.overflowing_add_u32(step)),
+        "overflowing_sub_u32" => answer.value(&host.overflowing_sub_u32(step)),
+        "add_u32" => {
+            if host.overflowing_add_u32(step).1 {
+                return Err(LineError::Malformed);
+            }
+            answer.value(&(host + step))
+        }
+        _ => {
+            if host.overflowing_sub_u32(step).1 {
+                return Err(LineError::Malformed);
+            }
+            answer.value(&(host - step))
+        }
     }
-    answer.value(&(host + step))
-}
-
-/// `-` with a step of 32 bits; one that leaves the network is none of the format.
-pub fn sub_u32(tokens: &mut Tokens<'_>, answer: &mut Answer) -> Outcome {
-    let host = tokens.value::<Ipv4Inet>()?;
-    let step = tokens.number::<u32>()?;
-    if host.overflowing_sub_u32(step).1 {
-        return Err(LineError::Malformed);
-    }
-    answer.value(&(host - step))
-}
-
-/// Answers the stepped host, and whether the step went round.
-fn overflowing<H: Value>(stepped: (H, bool), answer: &mut Answer) -> Outcome {
-    let (host, wrapped) = stepped;
-    answer.value(&host)?;
-    answer.display(&wrapped)
 }
 
 /// Answers the stepped host; a step that leaves the network is none of the format.

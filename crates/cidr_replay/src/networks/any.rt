@@ -10,8 +10,14 @@ use cidr::{AnyIpCidr, IpAddr};
 pub fn answer(name: &str, tokens: &mut Tokens<'_>, answer: &mut Answer) -> Outcome {
     match name {
         "show" => show(tokens, answer),
-        "ends" => ends(tokens, answer),
-        "is" => is_any_ipv4_and_ipv6(tokens, answer),
+        "ends" => {
+            let network = tokens.value::<AnyIpCidr>()?;
+            answer.value(&(network.first(), network.last()))
+        }
+        "is" => {
+            let network = tokens.value::<AnyIpCidr>()?;
+            answer.value(&(network.is_any(), (network.is_ipv4(), network.is_ipv6())))
+        }
         "new" => {
             let address = tokens.value::<IpAddr>()?;
             answer.value(&AnyIpCidr::new(address, tokens.number()?))
@@ -33,17 +39,4 @@ fn show(tokens: &mut Tokens<'_>, answer: &mut Answer) -> Outcome {
     answer.value(&network.network_length())?;
     answer.value(&network.family())?;
     answer.display(&network.is_host_address())
-}
-
-fn ends(tokens: &mut Tokens<'_>, answer: &mut Answer) -> Outcome {
-    let network = tokens.value::<AnyIpCidr>()?;
-    answer.value(&network.first())?;
-    answer.value(&network.last())
-}
-
-fn is_any_ipv4_and_ipv6(tokens: &mut Tokens<'_>, answer: &mut Answer) -> Outcome {
-    let network = tokens.value::<AnyIpCidr>()?;
-    answer.display(&network.is_any())?;
-    answer.display(&network.is_ipv4())?;
-    answer.display(&network.is_ipv6())
 }

@@ -1,10 +1,9 @@
 //! Bytes that are written by two hexadecimal digits.
-ghost use Rattle.std.specs.Prelude.{◌<◌, IfSome};
 
 use crate::line_error::LineError;
 use std::alloc::Global;
 
-/// The text with the bytes that `%` and two digits stand for.
+/// The text with the bytes that `%` and two upper-case digits stand for.
 pub fn unescaped(alloc: Global, escaped: &str) -> Result<String, LineError> {
     let mut bytes = Vec::new(alloc);
     for (i, part) in escaped.split('%').enumerate() {
@@ -23,53 +22,32 @@ pub fn unescaped(alloc: Global, escaped: &str) -> Result<String, LineError> {
 /// Appends what stands behind a `%`: the byte of two digits, and then itself.
 fn push_unescaped(bytes: &mut Vec<u8>, part: &[u8]) -> Result<(), LineError> {
     match part {
-        [high, low, plain @ ..] => {
-            bytes.push(byte_of(upper_digit(*high), upper_digit(*low))?)?;
-            bytes.extend_from_slice(plain)?;
-            Ok(())
+        [high, low, plain @ ..] if !high.is_ascii_lowercase() && !low.is_ascii_lowercase() => {
+            bytes.push(byte_of(*high, *low)?)?;
+            Ok(bytes.extend_from_slice(plain)?)
         }
         _ => Err(LineError::Malformed),
     }
 }
 
-/// The bytes of two digits each.
+/// The bytes of two lower-case digits each.
 pub fn bytes_of(alloc: Global, digits: &[u8]) -> Result<Vec<u8>, LineError> {
     let mut bytes = Vec::new(alloc);
     for pair in digits.chunks(2) {
         match pair {
-            [high, low] => bytes.push(byte_of(lower_digit(*high), lower_digit(*low))?)?,
+            [high, low] if !high.is_ascii_uppercase() && !low.is_ascii_uppercase() => {
+                bytes.push(byte_of(*high, *low)?)?
+            }
             _ => return Err(LineError::Malformed),
         }
     }
     Ok(bytes)
 }
 
-fn byte_of(high: Option<u8>, low: Option<u8>) -> Result<u8, LineError>
-    requires high { IfSome high (λ d. d < 16) }
-    requires low { IfSome low (λ d. d < 16) }
-{
-    match (high, low) {
-        (Some(high), Some(low)) => Ok(high * 16 + low),
+/// The byte of two digits of either case.
+fn byte_of(high: u8, low: u8) -> Result<u8, LineError> {
+    match (char::from(high).to_digit(16), char::from(low).to_digit(16)) {
+        (Some(high), Some(low)) => Ok((high * 16 + low) as u8),
         _ => Err(LineError::Malformed),
-    }
-}
-
-fn upper_digit(digit: u8) -> Option<u8>
-    ensures { IfSome result (λ d. d < 16) }
-{
-    match digit {
-        b'0'..=b'9' => Some(digit - b'0'),
-        b'A'..=b'F' => Some(digit - b'A' + 10),
-        _ => None,
-    }
-}
-
-fn lower_digit(digit: u8) -> Option<u8>
-    ensures { IfSome result (λ d. d < 16) }
-{
-    match digit {
-        b'0'..=b'9' => Some(digit - b'0'),
-        b'a'..=b'f' => Some(digit - b'a' + 10),
-        _ => None,
     }
 }

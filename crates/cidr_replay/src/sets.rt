@@ -1,0 +1,118 @@
+//! Operations on sets of addresses.
+
+use crate::answer::Answer;
+use crate::line_error::{LineError, Outcome};
+use crate::tokens::{Kind, Tokens};
+use cidr::errors::NetworkParseError;
+use cidr::{AnyIpCidr, Ipv4Cidr, Ipv6Cidr};
+use cidr_sets::access::{Action, deciding, permitted, shadowed};
+use cidr_sets::{NetworkSet, Subnets};
+use std::fmt::Debug;
+use std::str::FromStr;
+
+mod lists;
+mod places;
+
+use lists::{rules, set};
+
+/// Answers the operation on sets that has this name.
+pub fn answer(name: &str, tokens: &mut Tokens<'_>, answer: &mut Answer) -> Outcome {
+    let kind = tokens.kind()?;
+    match name {
+        "from_range" | "ranges" => match kind {
+            Kind::V4 => places::ranges::<Ipv4Cidr>(name, tokens, answer),
+            Kind::V6 => places::ranges::<Ipv6Cidr>(name, tokens, answer),
+            Kind::Any => places::ranges::<AnyIpCidr>(name, tokens, answer),
+            Kind::Ip => Err(LineError::Malformed),
+        },
+        "address_count" | "nth" | "position" | "addresses" => match kind {
+            Kind::V4 => places::indexes::<Ipv4Cidr>(name, tokens, answer),
+            Kind::V6 => places::indexes::<Ipv6Cidr>(name, tokens, answer),
+            Kind::Ip | Kind::Any => Err(LineError::Malformed),
+        },
+        _ => match kind {
+            Kind::V4 => answer_for::<Ipv4Cidr>(name, tokens, answer),
+            Kind::V6 => answer_for::<Ipv6Cidr>(name, tokens, answer),
+            Kind::Any => answer_for::<AnyIpCidr>(name, tokens, answer),
+            Kind::Ip => Err(LineError::Malformed),
+        },
+    }
+}
+
+/// The operations of every type, which begin with rules or with a set.
+fn answer_for<C>(name: &str, tokens: &mut Tokens<'_>, answer: &mut Answer) -> Outcome
+where
+    C: Subnets + Copy + Debug + FromStr<Err = NetworkParseError>,
+{
+    match name {
+        "run" | "permitted" | "shadowed" | "deciding" => by_rules::<C>(name, tokens, answer),
+        _ => one_set::<C>(name, tokens, answer),
+    }
+}
+
+/// The operations that begin with rules.
+fn by_rules<C>(name: &str, tokens: &mut Tokens<'_>, answer: &mut Answer) -> Outcome
+where
+    C: Subnets + Copy + Debug + FromStr<Err = NetworkParseError>,
+{
+    let alloc = tokens.alloc();
+    let rules = rules::<C>(tokens)?;
+    match name {
+        "permitted" => answer.shown(&permitted(alloc, rules.as_slice())?.as_slice()),
+        "shadowed" => answer.shown(&shadowed(alloc, rules.as_slice())?),
+        "deciding" => answer.shown(&deciding(alloc, rules.as_slice(), &tokens.value()?)?),
+        _ => {
+            let mut set = NetworkSet::new(alloc);
+            let mut lens = Vec::new(alloc);
+            for rule in rules.as_slice() {
+                match rule.action {
+                    Action::Permit => set.insert(rule.network)?,
+                    Action::Deny => set.remove(&rule.network)?,
+                }
+                lens.push(set.len())?;
+            }
+            answer.shown(&(lens, set.as_slice()))
+        }
+    }
+}
+
+/// The operations on one set.
+fn one_set<C>(name: &str, tokens: &mut Tokens<'_>, answer: &mut Answer) -> Outcome
+where
+    C: Subnets + Copy + Debug + FromStr<Err = NetworkParseError>,
+{
+    let set = set::<C>(tokens)?;
+    match name {
+        "from_networks" => answer.shown(&set.as_slice()),
+        "contains" => answer.shown(&set.contains(&tokens.value()?)),
+        "overlaps" => answer.shown(&set.overlaps(&tokens.value()?)),
+        "complement_in" => answer.shown(&set.complement_in(&tokens.value()?)?.as_slice()),
+        "first_free" => answer.shown(&set.first_free(tokens.number()?)),
+        "best_free" => answer.shown(&set.best_free(tokens.number()?)),
+        _ => two_sets(name, &set, tokens, answer),
+    }
+}
+
+/// The operations on two sets.
+fn two_sets<C>(
+    name: &str,
+    these: &NetworkSet<C>,
+    tokens: &mut Tokens<'_>,
+    answer: &mut Answer,
+) -> Outcome
+where
+    C: Subnets + Copy + Debug + FromStr<Err = NetworkParseError>,
+{
+    let those = &lists::set::<C>(tokens)?;
+    match name {
+        "union" => answer.shown(&these.union(those)?.as_slice()),
+        "intersection" => answer.shown(&these.intersection(those)?.as_slice()),
+        "difference" => answer.shown(&these.difference(those)?.as_slice()),
+        "symmetric_difference" => answer.shown(&these.symmetric_difference(those)?.as_slice()),
+        "is_subset" => answer.shown(&these.is_subset(those)),
+        "is_disjoint" => answer.shown(&these.is_disjoint(those)),
+        "contains_all" => answer.shown(&these.contains_all(those.as_slice())),
+        "eq" => answer.shown(&(these == those)),
+        _ => Err(LineError::Malformed),
+    }
+}

@@ -1,0 +1,34 @@
+"""What a wheel has installed, where the module that is tested comes from one."""
+import base64
+import hashlib
+import unittest
+from importlib import metadata
+from pathlib import Path
+
+import pcidr
+
+try:
+    INSTALLED = metadata.distribution("pcidr")
+except metadata.PackageNotFoundError:
+    INSTALLED = None
+
+
+@unittest.skipUnless(INSTALLED, "the module is not installed")
+class Installed(unittest.TestCase):
+    def test_the_module_is_the_installed_one(self):
+        self.assertEqual(Path(pcidr.__file__), Path(INSTALLED.locate_file("pcidr/__init__.py")).resolve())
+        self.assertEqual(INSTALLED.version, pcidr.__version__)
+        self.assertEqual(INSTALLED.metadata["Requires-Python"], ">=3.10")
+        self.assertIn("Root-Is-Purelib: false", INSTALLED.read_text("WHEEL"))
+
+    def test_all_files_are_there(self):
+        hashes = {str(file): file.hash for file in INSTALLED.files}
+        described = f"pcidr-{pcidr.__version__}.dist-info"
+        wanted = ["pcidr/__init__.py", "pcidr/_library.py", "pcidr/libpcidr.so", "pcidr/py.typed", f"{described}/LICENSE"]
+        for name in wanted:
+            digest = hashlib.sha256(Path(INSTALLED.locate_file(name)).read_bytes()).digest()
+            self.assertEqual(hashes[name].value, base64.urlsafe_b64encode(digest).rstrip(b"=").decode())
+
+
+if __name__ == "__main__":
+    unittest.main()

@@ -1,0 +1,251 @@
+"""The module's values, sets and tables as objects of Python: truth, copies, formats, other types, and wrong ones."""
+import copy
+import ipaddress
+import pickle
+import random
+import unittest
+from collections.abc import ItemsView, KeysView, MutableMapping, ValuesView
+from unittest import mock
+
+import pcidr
+from pcidr import Address, Host, Network, NetworkSet, Table, merge
+
+RANDOM = random.Random(5)
+
+
+def near_text():
+    """A network of either family among few, so that they nest and touch, and at times the widest ones."""
+    if RANDOM.random() < 0.05:
+        return RANDOM.choice(("any", "0.0.0.0/0", "::/0"))
+    width, base = RANDOM.choice(((32, 0x0A000000), (128, 0x20010DB8 << 96)))
+    length = RANDOM.randint(width - 12, width)
+    number = (base | RANDOM.getrandbits(12)) >> width - length << width - length
+    kind = ipaddress.IPv4Network if width == 32 else ipaddress.IPv6Network
+    return str(kind((number, length)))
+
+
+class Values(unittest.TestCase):
+    def test_truth(self):
+        for text in ("any", "::/0", "2001:db8::/32", "0.0.0.0"):
+            self.assertTrue(Network(text))
+        self.assertTrue(Address("0.0.0.0"))
+
+    def test_copies(self):
+        values = [Address("::1"), Host("10.0.0.5/8"), Host("10.0.0.5"), Network("any"), Network("2001:db8::/32")]
+        for value in values:
+            for protocol in range(pickle.HIGHEST_PROTOCOL + 1):
+                self.assertEqual(pickle.loads(pickle.dumps(value, protocol)), value)
+            for copied in (copy.copy(value), copy.deepcopy(value), type(value)(value)):
+                self.assertEqual((type(copied), copied), (type(value), value))
+
+    def test_formats_and_bytes(self):
+        self.assertEqual(f"{Address('10.0.0.1'):>12}|{Network('10.0.0.0/8'):<11}|", "    10.0.0.1|10.0.0.0/8 |")
+        self.assertEqual(f"{Host('::1/64')}", "::1/64")
+        for text in ("10.0.0.1", "::1", "2001:db8::"):
+            self.assertEqual(bytes(Address(text)), ipaddress.ip_address(text).packed)
+
+    def test_those_of_ipaddress(self):
+        for text in ("0.0.0.0", "10.0.0.1", "::1", "::", "::ffff:10.0.0.1"):
+            theirs = ipaddress.ip_address(text)
+            self.assertEqual(Address(theirs).to_ipaddress(), theirs)
+            self.assertEqual(Network(theirs), Network(text))
+        for text in ("10.0.0.5/8", "::5/64", "10.0.0.5/32", "::/0", "::1/128"):
+            theirs = ipaddress.ip_interface(text)
+            self.assertEqual(Host(theirs).to_ipaddress(), theirs)
+            self.assertEqual(Network(theirs.network).to_ipaddress(), theirs.network)
+            self.assertIn(theirs.ip, Network(theirs.network))
+            self.assertIn(theirs.network, NetworkSet([theirs.network]))
+            self.assertEqual(Table([(theirs.network, 1)]).lookup(theirs.ip), (Network(theirs.network), 1))
+        self.assertEqual(merge([ipaddress.ip_network("10.0.0.0/9"), "10.128.0.0/9"]), ["10.0.0.0/8"])
+        with self.assertRaises(ValueError):
+            Network("any").to_ipaddress()
+        with self.assertRaises(ValueError):
+            Network(ipaddress.ip_interface("10.0.0.5/8"))
+
+    def test_wrong_types(self):
+        for wrong in (5, None, b"::1", ["::1"], object()):
+            for kind in (Address, Host, Network):
+                with self.assertRaises(TypeError):
+                    kind(wrong)
+            with self.assertRaises(TypeError):
+                wrong in Network("any")
+        with self.assertRaises(TypeError):
+            Host("10.0.0.0/8") in Network("10.0.0.0/8")
+        with self.assertRaises(TypeError):
+            ipaddress.ip_interface("10.0.0.0/8") in Network("10.0.0.0/8")
+
+    def test_one_where_a_list_is_wanted(self):
+        sets = NetworkSet().contains_each, NetworkSet().isdisjoint
+        for call in (merge, NetworkSet, pcidr.parse_networks, pcidr.print_networks, Table, Table().lookup_each, *sets):
+            for wrong in ("10.0.0.0/8", Network("10.0.0.0/8"), ipaddress.ip_network("10.0.0.0/8")):
+                with self.assertRaisesRegex(TypeError, "a list of networks is wanted"):
+                    call(wrong)
+            for wrong in ([5], [None], 5, None, Address("::"), Host("::/64"), b"::"):
+                with self.assertRaises(TypeError):
+                    call(wrong)
+        for wrong in ("::", Host("::/64"), ipaddress.ip_network("::/64")):
+            with self.assertRaises(TypeError):
+                pcidr.print_networks([Network("::"), wrong])
+        self.assertEqual(pcidr.print_networks(iter([Network("any"), Address("::")])), ["any", "::"])
+
+    def test_another_type_decides_whether_it_is_equal(self):
+        for value in (Address("::"), Network("::"), NetworkSet(), Table()):
+            self.assertEqual(value, mock.ANY)
+            self.assertNotEqual(value, "::")
+        self.assertNotEqual(Address("::"), Network("::"))
+
+
+class Library(unittest.TestCase):
+    def test_another_version_is_refused(self):
+        pcidr._library._check_version(0x000201)
+        for version in (0x000100, 0x000300, 0x010200):
+            with self.assertRaisesRegex(ImportError, "this module wants 0.2"):
+                pcidr._library._check_version(version)
+
+
+class Sets(unittest.TestCase):
+    def test_one_and_many(self):
+        for _ in range(500):
+            held = NetworkSet(near_text() for _ in range(RANDOM.randrange(12)))
+            asked = [near_text() for _ in range(10)] + ["any", "0.0.0.0/0", "::/0"]
+            self.assertEqual([text in held for text in asked], held.contains_each(asked))
+
+    def test_all_addresses_are_two_networks(self):
+        both = ["0.0.0.0/0", "::/0"]
+        self.assertEqual((merge(both), merge(["any"]), merge(["::/0"])), (both, both, ["::/0"]))
+        whole = ~NetworkSet()
+        self.assertEqual((whole.to_strings(), repr(whole)), (both, f"NetworkSet({both!r})"))
+        self.assertEqual((list(whole), NetworkSet(both)), ([Network("any")], whole))
+
+    def test_order_and_complement(self):
+        for _ in range(200):
+            one, other = (NetworkSet(near_text() for _ in range(RANDOM.randrange(6))) for _ in range(2))
+            self.assertEqual(one < other, one <= other and one != other)
+            self.assertEqual(one > other, other < one)
+            self.assertEqual(one.isdisjoint(other), not one & other)
+            self.assertEqual(one.isdisjoint(list(other)), one.isdisjoint(other))
+            self.assertTrue(one.isdisjoint(~one))
+            self.assertEqual((one | ~one, ~~one), (NetworkSet(["any"]), one))
+
+    def test_copies(self):
+        for held in (NetworkSet(), NetworkSet(["any"]), NetworkSet(["10.0.0.0/8", "2001:db8::/33"])):
+            for protocol in range(pickle.HIGHEST_PROTOCOL + 1):
+                self.assertEqual(pickle.loads(pickle.dumps(held, protocol)), held)
+            self.assertEqual(copy.deepcopy(held), held)
+        with self.assertRaises(TypeError):
+            NetworkSet() < 5
+
+
+class Named(Table):
+    """A table with something of its own."""
+
+    name = None
+
+
+class Tables(unittest.TestCase):
+    def test_one_and_many(self):
+        for _ in range(500):
+            table = Table((near_text(), i) for i in range(RANDOM.randrange(12)))
+            for _ in range(RANDOM.randrange(3)):
+                table[near_text()] = "later"
+            for network in [*table][:1]:
+                del table[network]
+            asked = [near_text() for _ in range(10)] + ["any", "0.0.0.0/0", "::/0"]
+            self.assertEqual([table.lookup(text) for text in asked], table.lookup_each(asked))
+            for text in asked:
+                wanted = [row for row in table.items() if text in row[0]]
+                wanted.sort(key=lambda row: -1 if row[0].length is None else row[0].length, reverse=True)
+                self.assertEqual(table.matches(text), wanted)
+
+    def test_the_calls_of_a_dict(self):
+        table = Table({"10.0.0.0/8": 1, "::/0": None})
+        self.assertEqual(dict(table), {Network("10.0.0.0/8"): 1, Network("::/0"): None})
+        self.assertEqual(list(table.keys()), [Network("10.0.0.0/8"), Network("::/0")])
+        self.assertEqual(list(table.values()), [1, None])
+        self.assertEqual((table.get("::/0", 5), table.get("10.1.0.0/16"), table.get("any", 5)), (None, None, 5))
+        self.assertEqual(repr(table), "Table({'10.0.0.0/8': 1, '::/0': None})")
+        self.assertEqual(eval(repr(table)), table)
+        for call in (table.__getitem__, table.__delitem__):
+            with self.assertRaisesRegex(KeyError, "^'10.1.0.0/16'$"):
+                call("10.1.0.0/16")
+        with self.assertRaises(TypeError):
+            hash(table)
+
+    def test_changes_are_those_of_a_dict(self):
+        """The same random calls of a table and a dict return the same, raise the same and leave the same rows."""
+        names = ["any", "0.0.0.0/0", "10.0.0.0/8", "10.1.0.0/16", "::/0", "2001:db8::/32"]
+        calls = {
+            "pop": lambda rows, key: rows.pop(key),
+            "pop with a default": lambda rows, key: rows.pop(key, "none"),
+            "popitem": lambda rows, _: rows.popitem(),
+            "setdefault": lambda rows, key: rows.setdefault(key, "default"),
+            "setdefault without one": lambda rows, key: rows.setdefault(key),
+            "update": lambda rows, key: rows.update({key: "updated", names[0]: "first"}),
+            "update with pairs": lambda rows, key: rows.update([(key, 1), (key, 2)]),
+            "del": lambda rows, key: rows.__delitem__(key),
+            "get": lambda rows, key: rows.get(key, default="none") if isinstance(rows, Table) else rows.get(key, "none"),
+            "in": lambda rows, key: key in rows,
+        }
+
+        def answer(call, rows, key):
+            try:
+                return call(rows, key)
+            except KeyError:
+                return KeyError
+
+        ours, theirs = Table(), {}
+        for _ in range(3000):
+            name, call = RANDOM.choice([*calls.items()])
+            key = RANDOM.choice(names)
+            shown = answer(call, ours, key)
+            if name == "popitem" and shown is not KeyError:
+                shown = str(shown[0]), shown[1]
+            self.assertEqual(shown, answer(call, theirs, key), name)
+            self.assertEqual({str(network): value for network, value in ours.items()}, theirs, name)
+            self.assertEqual(ours.lookup_each(names), [ours.lookup(key) for key in names], name)
+        ours.update(theirs, any=5)
+        self.assertEqual(ours["any"], 5)
+        with self.assertRaises(ValueError):
+            ours.update([("10.0.0.0/8", "first"), ("junk", 2)])
+        self.assertNotEqual(ours.get("10.0.0.0/8"), "first")
+        ours.clear()
+        self.assertEqual((len(ours), list(ours.items()), ours.lookup("::")), (0, [], None))
+
+    def test_views(self):
+        table = Table({"::/0": 1, "10.0.0.0/8": 2})
+        keys, values, items = table.keys(), table.values(), table.items()
+        self.assertIsInstance(table, MutableMapping)
+        for view, kind in ((keys, KeysView), (values, ValuesView), (items, ItemsView)):
+            self.assertIsInstance(view, kind)
+        table["any"] = 3
+        first, last, whole = Network("10.0.0.0/8"), Network("::/0"), Network("any")
+        self.assertEqual((list(keys), list(values)), ([whole, first, last], [3, 2, 1]))
+        self.assertEqual(list(items), [(whole, 3), (first, 2), (last, 1)])
+        self.assertEqual((len(keys), len(values), len(items)), (3, 3, 3))
+        self.assertEqual(("::/0" in keys, "::/1" in keys, 1.0 in values, 4 in values), (True, False, True, False))
+        self.assertEqual((("::/0", 1) in items, ("::/0", 2) in items, ("::/1", 1) in items), (True, False, False))
+        self.assertEqual(keys & {last, Network("::/1")}, {last})
+        self.assertEqual(keys - {last}, {whole, first})
+        self.assertEqual(items, {whole: 3, first: 2, last: 1}.items())
+        self.assertEqual(table, {whole: 3, first: 2, last: 1})
+        self.assertNotEqual(table, {whole: 3, first: 2})
+
+    def test_copies(self):
+        for rows in ({}, {"10.0.0.0/8": [1], "any": "x"}):
+            table = Named(rows)
+            table.name = "mine"
+            for protocol in range(pickle.HIGHEST_PROTOCOL + 1):
+                copied = pickle.loads(pickle.dumps(table, protocol))
+                self.assertEqual((copied, type(copied), copied.name), (table, Named, "mine"))
+            self.assertEqual(copy.copy(table), table)
+        self.assertIs(copy.copy(table)["10.0.0.0/8"], table["10.0.0.0/8"])
+        self.assertIsNot(copy.deepcopy(table)["10.0.0.0/8"], table["10.0.0.0/8"])
+        table["::/0"] = table
+        for copied in (copy.deepcopy(table), pickle.loads(pickle.dumps(table))):
+            self.assertIs(copied["::/0"], copied)
+        typed = Table[int]({"::/0": 1})
+        self.assertEqual(pickle.loads(pickle.dumps(typed)), typed)
+
+
+if __name__ == "__main__":
+    unittest.main()
