@@ -158,9 +158,9 @@ fn compared_fields(one: &CValue, other: &CValue) -> u32
     order_code(one.tag.cmp(&other.tag).then(by_number))
 }
 
-/// 0, 1 or 2: the first value comes before the second, is the same, or comes after it. Of networks IPv4 comes before IPv6,
-/// and `any` before both; in a family the lower first address comes first, and then the shorter prefix. What is no network
-/// comes after all networks, in the order of its fields.
+/// 0, 1 or 2: the first value comes before the second, is the same, or comes after it. Of networks IPv4 comes before
+/// IPv6, and `any` before both; in a family the lower first address comes first, and then the shorter prefix. What is
+/// no network comes after all networks, in the order of its fields.
 #[tactic(auto, using(crate::proofs::Orders::network_comparisons))]
 #[unsafe(no_mangle)]
 pub extern "C" fn pcidr_compare(one: &CValue, other: &CValue) -> u32
@@ -192,9 +192,9 @@ fn compared_hosts(one: &IpInet, other: &IpInet) -> u32
     order_code(one.cmp(other))
 }
 
-/// 0, 1 or 2: the first value comes before the second, is the same, or comes after it. Of hosts IPv4 comes before IPv6; in a
-/// family the lower address comes first, and then the shorter prefix. What is no host comes after all hosts, in the order
-/// of its fields.
+/// 0, 1 or 2: the first value comes before the second, is the same, or comes after it. Of hosts IPv4 comes before IPv6;
+/// in a family the lower address comes first, and then the shorter prefix. What is no host comes after all hosts, in
+/// the order of its fields.
 #[tactic(auto, using(crate::proofs::Orders::comparisons))]
 #[unsafe(no_mangle)]
 pub extern "C" fn pcidr_compare_hosts(one: &CValue, other: &CValue) -> u32
