@@ -1,5 +1,5 @@
 //! Lines that are collected and written in blocks, so that a line is written by one call.
-ghost use Rattle.std.specs.Prelude.{◌≡◌, ◌++◌, List, ℕ, [], OnOk};
+ghost use Rattle.std.specs.Prelude.{◌≡◌, ◌↔◌, ◌++◌, List, ℕ, [], IsTrue, OnOk};
 ghost use Rattle.std.specs.List.{flat_map};
 ghost use Rattle.cidr_io.specs.Collecting.{Collects, HasSaid};
 ghost use Rattle.cidr_io.specs.Writing.{Answered, Says, State, Writes};
@@ -36,6 +36,13 @@ impl Block {
         Block {
             collected: ArrayVec::new(),
         }
+    }
+
+    /// Whether nothing is collected.
+    pub fn is_empty(&self) -> bool
+        ensures { IsTrue result ↔ (self.now ≡ []) }
+    {
+        self.collected.is_empty()
     }
 
     /// Whether there is room for all of these parts.

@@ -5,7 +5,6 @@ pub mod Progress
 pub mod Blocks
 pub mod EachFile
 pub mod Combining
-pub mod Collected
 pub mod Walked
 pub mod Changed
 pub mod Spans

@@ -1,8 +1,0 @@
-use Rattle.std.proofs.Common.{take, Ok}
-use Rattle.std.specs.List.{flat_map}
-use Rattle.netset.specs.Collecting.{Collects}
-use Rattle.netset.proofs.collecting.Block.push_parts.Given as goal
-
-abbrev pub invariant-loop-part : goal.invariant-loop-part
-invariant-loop-part g l =
-    Collects (g.S.Sink.state l.fn.out) (g.S.Sink.state l.out) l.fn.self l.self (flat_map (λ part. part.now) (take l.part-index l.parts)) (Ok tt)
