@@ -14,6 +14,7 @@ pub mod Arguments
 pub mod LinesRead
 pub mod EntriesRead
 pub mod FirstLines
+pub mod SortedRows
 pub mod Found
 pub mod Noted
 pub mod Checked
