@@ -1,3 +1,4 @@
 pub mod Writing
+pub mod Collecting
 pub mod Tracked
 pub mod Arguments

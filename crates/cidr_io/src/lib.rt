@@ -1,7 +1,8 @@
-//! What a program reads its arguments from and writes its answers to, proved: arguments as strings, and sinks that may
-//! take a part of what they are offered and may fail.
+//! What a program reads its arguments from and writes its answers to, proved: arguments as strings, sinks that may take
+//! a part of what they are offered and may fail, and lines that are written to them in blocks.
 #![tactic(auto)]
 
 pub mod arguments;
+pub mod block;
 pub mod sink;
 pub mod writing;

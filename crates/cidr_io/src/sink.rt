@@ -1,7 +1,8 @@
 //! What a program writes to: a sink that may take a part of what it is offered, and may fail.
-ghost use Rattle.std.specs.Prelude.{◌≡◌, false};
+ghost use Rattle.std.specs.Prelude.{◌≡◌, Bool, true, false};
 ghost use Rattle.cidr_io.specs.Writing.{State, Takes, Flushes};
 
+use std::io;
 use std::io::Write;
 use std::marker::Model;
 
@@ -28,13 +29,24 @@ pub trait Sink {
         ensures { result ≡ (state self.now).failed };
 }
 
-/// A writer that remembers whether it has failed.
+/// A sink that knows whether anybody still reads it.
+pub trait Output: Sink {
+    /// Whether a call has failed since nobody reads it any more.
+    ghost closed: { Self → Bool };
+
+    /// Whether a call of `write` or `flush` has failed since nobody reads what was written any more.
+    fn is_closed(&self) -> bool
+        ensures { result ≡ closed self.now };
+}
+
+/// A writer that remembers whether it has failed, and whether that was since nobody reads it any more.
 ///
 /// An error of the writer, also an interrupted call, is a failure, and so is a write that takes none of some bytes.
 #[derive(Drop)]
 pub struct Tracked<W: Write> {
     out: W,
     failed: bool,
+    closed: bool,
 }
 
 impl<W: Write> Model for Tracked<W> {
@@ -42,23 +54,40 @@ impl<W: Write> Model for Tracked<W> {
 
     ghost Value = { Watched W };
 
-    ghost view = { λ t. record { writer = t.out; has_failed = t.failed } };
+    ghost view = { λ t. record { writer = t.out; has_failed = t.failed; is_closed = t.closed } };
 }
 
 impl<W: Write> Tracked<W> {
     /// Over this writer, not failed yet.
     pub fn new(out: W) -> Self
-        ensures { result ≡ record { writer = out; has_failed = false } }
+        ensures { result ≡ record { writer = out; has_failed = false; is_closed = false } }
     {
-        Tracked { out, failed: false }
+        Tracked {
+            out,
+            failed: false,
+            closed: false,
+        }
     }
 
     /// Gives the writer back.
     pub fn into_inner(self) -> W
         ensures { result ≡ self.writer }
     {
-        let Tracked { out, failed: _ } = self;
+        let Tracked {
+            out,
+            failed: _,
+            closed: _,
+        } = self;
         out
+    }
+
+    /// Remembers an error.
+    fn fail(&mut self, error: &io::Error)
+        ensures writer { self.new.writer ≡ self.old.writer }
+        ensures failed { self.new.has_failed ≡ true }
+    {
+        self.failed = true;
+        self.closed |= error.kind() == io::ErrorKind::BrokenPipe;
     }
 }
 
@@ -70,23 +99,37 @@ impl<W: Write> Sink for Tracked<W> {
             return Some(0);
         }
         match self.out.write(bytes) {
-            Ok(0) | Err(_) => {
+            Ok(0) => {
                 self.failed = true;
                 None
             }
             Ok(n) => Some(n),
+            Err(e) => {
+                self.fail(&e);
+                None
+            }
         }
     }
 
     fn flush(&mut self) -> bool {
-        if self.out.flush().is_err() {
-            self.failed = true;
-            return false;
+        match self.out.flush() {
+            Ok(()) => true,
+            Err(e) => {
+                self.fail(&e);
+                false
+            }
         }
-        true
     }
 
     fn failed(&self) -> bool {
         self.failed
+    }
+}
+
+impl<W: Write> Output for Tracked<W> {
+    ghost closed = { λ t. t.is_closed };
+
+    fn is_closed(&self) -> bool {
+        self.closed
     }
 }

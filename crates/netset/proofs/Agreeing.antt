@@ -69,7 +69,8 @@ module _ (told more : List ℕ → Option Text) (agree : (name : List ℕ) (text
   refused_more (Free pool len used) (Err e) (inl h) = inl h
   refused_more (Free pool len used) (Err e) (inr h) = inr (unread_more (pool ∷ used) e h)
   refused_more (Check files) (Err e) h = unchecked_more (read_files files) e h
-  refused_more (Match options list file) (Err e) h = unread_more (list ∷ []) e h
+  refused_more (Match options list file) (Err e) (inl h) = inl (unread_more (list ∷ []) e h)
+  refused_more (Match options list file) (Err e) (inr h) = inr h
   refused_more (Look table file) (Err e) (inl h) = inl (table_more table e h)
   refused_more (Look table file) (Err e) (inr h) = inr h
   refused_more (Single request) (Err e) h = h

@@ -1,8 +1,9 @@
 -- The arguments as commands.
-use Rattle.std.proofs.Common.{◌≡◌, refl, sym, ◌∙◌, ap, ℕ, ◌+◌, ◌<◌, suc, Bool, true, false, ◌||◌, List, [], ◌∷◌, length, take, get_or, map, Bor, nat_eq, arith}
-use Rattle.std.specs.List.{list_any}
-use Rattle.std.proofs.lemmas.List.{get_or-map}
+use Rattle.std.proofs.Common.{◌≡◌, refl, sym, ◌∙◌, ap, ℕ, ◌+◌, ◌<◌, ◌≤◌, suc, cond, Bool, true, false, ◌||◌, List, [], ◌∷◌, length, take, get_or, map, Bor, nat_eq, arith}
+use Rattle.std.specs.List.{count_by, list_any}
+use Rattle.std.proofs.lemmas.List.{get_or-map, take_all}
 use Rattle.std.proofs.lemmas.List.Folds.{list_any_at, list_any_more}
+use Rattle.std.proofs.lemmas.List.Sums.{sum_by-cons}
 use Rattle.std.proofs.lemmas.Bool.Decides.{Decides-eqb}
 use Rattle.std.specs.Cmp.Lexicographic.{pointwise_decides}
 use Rattle.netset.specs.Commands.{is_option}
@@ -32,6 +33,18 @@ option_passed words i d b within is here before =
     list_any_more is_option (bytes_of words) i [] (within_bytes words i within)
     ∙ (ap (λ (k : Bool). k || is_option (get_or (bytes_of words) i [])) before
     ∙ (ap is_option (get_or-map (λ (w : Bor (List ℕ)). w.now) words i d [] within) ∙ (sym is ∙ here)))
+
+-- how many words pass a test, by their bytes
+count_mapped : (p : List ℕ → Bool) (words : List (Bor (List ℕ))) → count_by (λ (w : Bor (List ℕ)). p w.now) words ≡ count_by p (bytes_of words)
+count_mapped p [] = refl
+count_mapped p (w ∷ words) =
+    sum_by-cons (λ (v : Bor (List ℕ)). cond (p v.now) 1 0) w words
+    ∙ (ap (λ (n : ℕ). cond (p w.now) 1 0 + n) (count_mapped p words) ∙ sym (sum_by-cons (λ (text : List ℕ). cond (p text) 1 0) w.now (bytes_of words)))
+
+pub count_of_bytes : (p : List ℕ → Bool) (words : List (Bor (List ℕ))) (i n : ℕ) → length words ≤ i
+    → n ≡ count_by (λ (w : Bor (List ℕ)). p w.now) (take i words) → n ≡ count_by p (bytes_of words)
+count_of_bytes p words i n past is =
+    is ∙ (ap (count_by (λ (w : Bor (List ℕ)). p w.now)) (take_all i words past) ∙ count_mapped p words)
 
 -- equal by the test of strings
 pub same_text : (a b : List ℕ) → true ≡ pointwise nat_eq a b → a ≡ b

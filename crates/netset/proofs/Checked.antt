@@ -3,7 +3,7 @@ use Rattle.std.proofs.Common.{◌≡◌, refl, inr, subst, ℕ, List, ◌++◌, 
 use Rattle.std.specs.List.{flat_map}
 use Rattle.cidr_io.specs.Writing.{State, Answered}
 use Rattle.cidr_io.specs.declared.sink.OutputFailed.{OutputFailed}
-use Rattle.netset.specs.Collecting.{Collects}
+use Rattle.cidr_io.specs.Collecting.{Collects}
 use Rattle.netset.specs.Commands.{Check, read_files}
 use Rattle.netset.specs.Findings.{AreNotes, IsClean, note_line}
 use Rattle.netset.specs.Lists.{Text}

@@ -22,6 +22,13 @@ push_at (x ∷ xs) y z (suc k) h = elim (push_at xs y z k h) [
   | inr (at, is) ↦ inr (ap (λ n. suc n) at, is)
 ]
 
+-- the row of a key
+pub row_there : {C : Type 0} (rows : List (C × ℕ)) (key : C) → Contains (keys_of rows) key → (row : C × ℕ) × Contains rows row × (row.0 ≡ key)
+row_there {C} rows key c =
+    let within : c.0 < length rows = omega (arith, c.1, length-map rows (λ (r : C × ℕ). r.0)) in
+    let row : C × ℕ = get_or rows c.0 (key, 0) in
+    (row, Contains-get_or rows c.0 (key, 0) within, sym (get_or-map (λ (r : C × ℕ). r.0) rows c.0 (key, 0) key within) ∙ c.2)
+
 module _ {C : Type 0} (keys : List C) where
   -- the rows of the keys from the last one down to this index
   pub record AreBack (i : ℕ) (rows : List (C × ℕ)) : Type 0 where
@@ -114,8 +121,6 @@ module _ {C : Type 0} (keys : List C) where
     pub no_row : (P : C → Type 0) → ((row : C × ℕ) → Contains rows row → ¬ (P row.0)) → (j : ℕ) (key : C) → slice_get keys j ≡ Some key → ¬ (P key)
     no_row P none j key there holds =
         let gone : ¬ (Contains (keys_of rows) key) = λ c.
-        let within : c.0 < length rows = omega (arith, c.1, length-map rows (λ (r : C × ℕ). r.0)) in
-        let row : C × ℕ = get_or rows c.0 (key, 0) in
-        let same : row.0 ≡ key = sym (get_or-map (λ (r : C × ℕ). r.0) rows c.0 (key, 0) key within) ∙ c.2 in
-        none row (Contains-get_or rows c.0 (key, 0) within) (subst P (sym same) holds) in
+        let (row, here, same) = row_there rows key c in
+        none row here (subst P (sym same) holds) in
         under_none key gone j there

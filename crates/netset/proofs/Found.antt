@@ -3,13 +3,14 @@ use Rattle.std.proofs.Common.{◌≡◌, ◌≢◌, refl, sym, ◌∙◌, ap, ap
 use Rattle.std.specs.Option.{option_map}
 use Rattle.std.specs.List.{Contains}
 use Rattle.std.proofs.lemmas.Bool.{cases_lt}
-use Rattle.std.proofs.lemmas.List.{length-map, length_push, same_from_push, take-append-le}
+use Rattle.std.proofs.lemmas.List.{length-map, length_push, same_from_push, take-append-le, take_all}
 use Rattle.std.proofs.lemmas.Option.{slice_get-map, slice_get_within, same_Some}
 use Rattle.cidr.specs.either.IpHost.{host_parts}
 use Rattle.cidr.specs.either.IpNetwork.{any_bits, any_of, network_bits, network_family, network_prefix}
 use Rattle.cidr.specs.model.Host.{host_part}
 use Rattle.cidr.specs.model.Network.{BeginsWith}
 use Rattle.cidr.specs.declared.cidr.any.AnyIpCidr.{AnyIpCidr}
+use Rattle.cidr.specs.declared.cidr.any.AnyIpCidr.TheVariants as any_network
 use Rattle.cidr.specs.declared.cidr.combined.IpCidr.{IpCidr}
 use Rattle.cidr.specs.declared.cidr.combined.IpCidr.TheVariants.{V4, V6}
 use Rattle.cidr_ext.specs.Tree.{IsHalfOf}
@@ -20,7 +21,7 @@ use Rattle.netset.specs.declared.entries.Entry.{Entry}
 use Rattle.netset.specs.declared.entries.Place.{Place}
 use Rattle.netset.specs.declared.findings.Finding.{Finding}
 use Rattle.netset.specs.declared.findings.Finding.TheVariants.{HostBits, NotCanonical, Repeats, Inside, Mergeable}
-use Rattle.netset.proofs.FirstLines.{no_row, under_none, under_some}
+use Rattle.netset.proofs.FirstLines.{no_row, row_there, under_none, under_some}
 
 -- ---- networks by their bits
 any_is : (n : IpCidr) → any_bits (any_of n) ≡ network_bits n
@@ -270,6 +271,40 @@ module _ (entries : List Entry) where
                   λ same. subst (IsFinding entries i entry) (sym same) (j, most, first),
                 ),
           )
+
+-- ---- what is under the key of a network, by the longest key that begins it
+any_same : (a b : AnyIpCidr) → any_bits a ≡ any_bits b → a ≡ b
+any_same any_network.Any any_network.Any e = refl
+any_same any_network.Any (any_network.V4 q) e = cc
+any_same any_network.Any (any_network.V6 q) e = cc
+any_same (any_network.V4 p) any_network.Any e = cc
+any_same (any_network.V4 p) (any_network.V4 q) e = ap any_network.V4 (ap (drop 1) e)
+any_same (any_network.V4 p) (any_network.V6 q) e = cc
+any_same (any_network.V6 p) any_network.Any e = cc
+any_same (any_network.V6 p) (any_network.V4 q) e = cc
+any_same (any_network.V6 p) (any_network.V6 q) e = ap any_network.V6 (ap (drop 1) e)
+
+begins_same : (a p : List Bool) → a ≡ p → BeginsWith a p
+begins_same a p e = ap (take (length p)) e ∙ take_all (length p) p (omega arith)
+
+whole_begins : (a p : List Bool) → BeginsWith a p → length a ≤ length p → a ≡ p
+whole_begins a p h fits = sym (take_all (length p) a fits) ∙ h
+
+module _ (rows : List (AnyIpCidr × ℕ)) (network : IpCidr) (key : AnyIpCidr) (of : key ≡ any_of network) where
+  pub key_missed : IsLookedUp any_bits (any_bits key) rows None → IsUnder rows (any_of network) None
+  key_missed none c =
+      let (row, here, same) = row_there rows (any_of network) c in
+      none row here (begins_same (any_bits key) (any_bits row.0) (ap any_bits (of ∙ sym same)))
+
+  pub key_found : (found : AnyIpCidr × ℕ) → found.0 ≡ key → IsLookedUp any_bits (any_bits key) rows (Some found) → IsUnder rows (any_of network) (Some found.1)
+  key_found found is h = subst (λ (k : AnyIpCidr). Contains rows (k, found.1)) (is ∙ of) h.here
+
+  pub key_unmatched : (found : AnyIpCidr × ℕ) → found.0 ≢ key → IsLookedUp any_bits (any_bits key) rows (Some found) → IsUnder rows (any_of network) None
+  key_unmatched found not h c =
+      let (row, here, same) = row_there rows (any_of network) c in
+      let whole : any_bits key ≡ any_bits row.0 = ap any_bits (of ∙ sym same) in
+      let most : length (any_bits row.0) ≤ length (any_bits found.0) = h.longest row here (begins_same (any_bits key) (any_bits row.0) whole) in
+      not (sym (any_same key found.0 (whole_begins (any_bits key) (any_bits found.0) h.begins (omega (arith, most, ap length whole)))))
 
 -- ---- the longest key around a network is that of the network one bit shorter
 begins_parent : (n p q : List Bool) (b : Bool) → n ≡ p ++ b ∷ [] → BeginsWith p q → BeginsWith n q × (length q < length n)

@@ -5,7 +5,6 @@ pub mod Progress
 pub mod Blocks
 pub mod EachFile
 pub mod Combining
-pub mod Collected
 pub mod Walked
 pub mod Changed
 pub mod Spans
@@ -15,6 +14,7 @@ pub mod Arguments
 pub mod LinesRead
 pub mod EntriesRead
 pub mod FirstLines
+pub mod SortedRows
 pub mod Found
 pub mod Noted
 pub mod Checked

@@ -1,10 +1,12 @@
 -- Addresses that are looked up, one line after the other.
-use Rattle.std.proofs.Common.{◌≡◌, ◌⊎◌, refl, sym, ◌∙◌, ap, subst, inl, inr, ℕ, ◌+◌, Bool, true, false, ◌||◌, List, [], ◌∷◌, ◌++◌, codes, map, is_some, option_map, option_copied, Bor, append_assoc, Option, Some, None, Result, Ok, Err}
+use Rattle.std.proofs.Common.{◌≡◌, ◌⊎◌, refl, sym, ◌∙◌, ap, subst, inl, inr, ℕ, ◌+◌, Bool, true, false, ◌||◌, List, [], ◌∷◌, ◌++◌, ◌==◌, length, arith, codes, map, is_some, option_map, option_copied, Bor, append_assoc, Option, Some, None, Result, Ok, Err}
 use Rattle.std.specs.Io.Buffered.{reader_buffer, reader_capacity, reader_inner, reader_remaining}
 use Rattle.std.specs.Option.{IfSome}
 use Rattle.std.specs.List.{AllZip, flat_map, list_any}
 use Rattle.std.specs.declared.io.buffered.BufReader.{BufReader}
+use Rattle.std.proofs.lemmas.Bool.{true≢false}
 use Rattle.std.proofs.lemmas.List.{append-nil, flat_map_more}
+use borrow.Author.Tests.{eqb-true}
 use Rattle.std.proofs.lemmas.List.Folds.{list_any-append}
 use Rattle.cidr.specs.either.IpAddress.{IsIpText, address_family, plain_bits}
 use Rattle.cidr.specs.texts.Printed.{plain_text}
@@ -15,10 +17,10 @@ use Rattle.cidr_io.specs.Writing.{State, Part, Writes, Answered}
 use Rattle.cidr_io.specs.declared.sink.OutputFailed.{OutputFailed}
 use Rattle.cidr_io.proofs.Chains.{part_none, part_more, answered, then_writes}
 use Rattle.cidr_table.specs.Prefixes.{IsLookedUp}
-use Rattle.netset.specs.Collecting.{Collects}
+use Rattle.cidr_io.specs.Collecting.{Collects}
 use Rattle.netset.specs.Commands.{Look}
 use Rattle.netset.specs.Lists.{Text, lines_of}
-use Rattle.netset.specs.Look.{IsBadLine, IsNoAddressField, IsSplit, LineLooks, LookUp, TellsFound, found_line, gap, is_found, look_line, shown}
+use Rattle.netset.specs.Look.{IsBadLine, IsSplit, LineLooks, LookUp, TellsFound, found_line, gap, is_found, look_line, shown}
 use Rattle.netset.specs.LookUps.{AreFirst, EndsReading, IsErrorAt, LooksAll, LooksLine, LooksLines, LooksUp, PushesFound, ReadsTable, kept, resolved, unread, value_at, verdict_of}
 use Rattle.netset.specs.Program.{AnswersRequest}
 use Rattle.netset.specs.Reading.{IsNextLine, IsStopped}
@@ -30,7 +32,7 @@ use Rattle.netset.specs.declared.look.LookError.{LookError}
 use Rattle.netset.specs.declared.look.LookError.TheVariants.{Reading, Output}
 use Rattle.netset.specs.declared.rows.Span.{Span}
 use Rattle.netset.specs.declared.table.Table.{Table}
-use Rattle.netset.proofs.Collected.{collected_more, none_collected}
+use Rattle.cidr_io.proofs.Collected.{collected_more, none_collected}
 use Rattle.netset.proofs.Matched.{fresh_reader}
 use Rattle.netset.proofs.ReadBy.{bytes_read}
 use Rattle.netset.proofs.Resolved.{looked_up_mapped}
@@ -84,31 +86,14 @@ looks_up_in table values rows address family asked found text s t block rest r o
     (subst (λ (k : List ℕ). PushesFound k (option_map (λ (row : List Bool × Span). (plain_text family row.0, value_at values row.1)) found) s t block rest r) shows pushed)
 
 -- ---- the line of an address
-regroup : (a b c d : List ℕ) → (a ++ (b ++ (c ++ []))) ++ d ≡ a ++ (b ++ (c ++ d))
-regroup a b c d = simp (append_assoc, append-nil)
+pub row_short : (a n v : List ℕ) (test : Bool) → test ≡ (length v == 0) → test ≡ true → found_line a (Some (n, v)) ≡ a ++ (codes " " ++ (n ++ codes "\n"))
+row_short a n [] test is holds = refl
+row_short a n (b ∷ v) test is holds = absurd (omega (arith, eqb-true (length (b ∷ v)) 0 (sym is ∙ holds)))
 
--- the first part of a line was lost
-pub front_lost : (s t : State) (block rest a c value : List ℕ) (r : Result Bool OutputFailed) (y : OutputFailed) → r ≡ Err y
-    → Part s t (block ++ (a ++ (codes " " ++ (c ++ [])))) → PushesFound a (Some (c, value)) s t block rest r
-front_lost s t block rest a c value r y is part =
-    let front : List ℕ = a ++ (codes " " ++ (c ++ [])) in
-    let behind : List ℕ = gap value ++ (value ++ codes "\n") in
-    subst (PushesFound a (Some (c, value)) s t block rest) (sym is)
-    (subst (λ (k : List ℕ). Part s t (block ++ k)) (regroup a (codes " ") c behind)
-    (subst (Part s t) (append_assoc block front behind) (part_more s t (block ++ front) behind part)))
-
-pub line_pushed : (s t u : State) (block middle rest a c : List ℕ) (r : Result (Unit {0}) OutputFailed) (value : List ℕ)
-    → Collects s t block middle (a ++ (codes " " ++ (c ++ []))) (Ok tt) → Collects t u middle rest (gap value ++ (value ++ codes "\n")) r
-    → Collects s u block rest (found_line a (Some (c, value))) r
-line_pushed s t u block middle rest a c r value first second =
-    subst (λ (k : List ℕ). Collects s u block rest k r) (regroup a (codes " ") c (gap value ++ (value ++ codes "\n")))
-    (collected_more s t u block middle rest (a ++ (codes " " ++ (c ++ []))) (gap value ++ (value ++ codes "\n")) r first second)
-
-pub value_lost : (s t u : State) (block middle rest a c value : List ℕ) (r : Result Bool OutputFailed) (y f : OutputFailed) → r ≡ Err y
-    → Collects s t block middle (a ++ (codes " " ++ (c ++ []))) (Ok tt) → Part t u (middle ++ (gap value ++ (value ++ codes "\n")))
-    → PushesFound a (Some (c, value)) s u block rest r
-value_lost s t u block middle rest a c value r y f is first part =
-    subst (PushesFound a (Some (c, value)) s u block rest) (sym is) (line_pushed s t u block middle rest a c (Err f) value first part)
+pub row_long : (a n v : List ℕ) (test : Bool) → test ≡ (length v == 0) → test ≡ false
+    → found_line a (Some (n, v)) ≡ a ++ (codes " " ++ (n ++ (codes " " ++ (v ++ codes "\n"))))
+row_long a n [] test is fails = absurd (true≢false (sym is ∙ fails))
+row_long a n (b ∷ v) test is fails = refl
 
 -- the row by the reference to it
 pub row_pushed : {C : Type 0} (text_of : C → List ℕ) (values : List ℕ) (found : Option (Bor (C × Span))) (row : Bor (C × Span)) (a : List ℕ) (s t : State)
@@ -140,6 +125,17 @@ none_read table (Some text) = none_passed (LineLooks table) text
 
 pub looking_started : (table : Family → List (List Bool × List ℕ)) (told : Option (List ℕ)) (s : State) (block : List ℕ) → Looking table told told s s block block false 1
 looking_started table told s block = record { looks = []; collected = none_collected s block; hit = refl; passed = none_read table told }
+
+-- what was collected is written before more is read
+pub caught_up : (table : Family → List (List Bool × List ℕ)) (told left : Option (List ℕ)) (s t u : State) (b c d : List ℕ) (found : Bool) (number : ℕ)
+    → Looking table told left s t b c found number → Collects t u c d [] (Ok tt) → Looking table told left s u b d found number
+caught_up table told left s t u b c d found number l more = record {
+  looks = l.looks;
+  collected = subst (λ (k : List ℕ). Collects s u b d k (Ok tt)) (append-nil (flat_map look_line l.looks))
+      (collected_more s t u b c d (flat_map look_line l.looks) [] (Ok tt) l.collected more);
+  hit = l.hit;
+  passed = l.passed;
+}
 
 -- whether one was found, behind a line
 abbrev pub IsEither : Bool → Bool → Bool → Type 0
@@ -209,6 +205,17 @@ stopped_read table (Some text) looks (Line number e) stopped p = absurd stopped
 stopped_read table (Some text) looks Input stopped p = p
 stopped_read table (Some text) looks NoMemory stopped p = p
 
+-- what was collected is not all written before more is read
+pub looking_unwritten : (table : Family → List (List Bool × List ℕ)) (told left : Option (List ℕ)) (s t u : State) (b c d : List ℕ) (found : Bool) (number : ℕ)
+    (r : Result Bool LookError) → r ≡ Err Output → Looking table told left s t b c found number → Part t u (c ++ []) → LooksLines table told s u b d r
+looking_unwritten table told left s t u b c d found number r is l part =
+    subst (LooksLines table told s u b d) (sym is) (
+      l.looks,
+      subst (λ (k : List ℕ). Part s u (b ++ k)) (append-nil (flat_map look_line l.looks))
+          (collected_more s t u b c d (flat_map look_line l.looks) [] (Err (record {})) l.collected part),
+      first_read table told left l.looks number l.passed,
+    )
+
 pub looking_stopped : (table : Family → List (List Bool × List ℕ)) (told left : Option (List ℕ)) (s t : State) (b c : List ℕ) (found : Bool) (number : ℕ)
     (r : Result Bool LookError) (e : ReadError) → r ≡ Err (Reading e) → IsStopped e → Looking table told left s t b c found number → LooksLines table told s t b c r
 looking_stopped table told left s t b c found number r e is stopped l =
@@ -217,10 +224,10 @@ looking_stopped table told left s t b c found number r e is stopped l =
 
 error_read : (table : Family → List (List Bool × List ℕ)) (told left next : Option (List ℕ)) (looks : List (Option LookUp)) (number : ℕ) (line : List ℕ) (more : Bool) (e : ReadError)
     → IfSome told (λ text. Passed (LineLooks table) text left looks number) → IfSome left (λ text. IsNextLine text line more next)
-    → IsErrorAt IsNoAddressField line number e → IfSome told (λ text. EndsReading table text looks e)
+    → IsErrorAt IsBadLine line number e → IfSome told (λ text. EndsReading table text looks e)
 error_read table None left next looks number line more e p n bad = tt
 error_read table (Some text) left next looks number line more (Line m e) p n bad =
-    error_passed (LineLooks table) IsNoAddressField text left next looks number line more m e p n bad.0 bad.1
+    error_passed (LineLooks table) IsBadLine text left next looks number line more m e p n bad.0 bad.1
 error_read table (Some text) left next looks number line more Input p n bad = first_passed (LineLooks table) text left looks number p
 error_read table (Some text) left next looks number line more NoMemory p n bad = first_passed (LineLooks table) text left looks number p
 
@@ -344,10 +351,10 @@ module _ (told : List ℕ → Option Text) (rows : List ℕ) (file : Bor (List �
   of_file NoMemory = tt
 
   ends_as : (text : List ℕ) (looks : List (Option LookUp)) (e : ReadError) → EndsReading (kept table) text looks e
-      → IsCut (AllZip (LineLooks (kept table))) (IsBadLine IsNoAddressField) (lines_of text) looks (unread file e)
-  ends_as text looks (Line number e) h = cut_before (LineLooks (kept table)) IsNoAddressField text looks number e file h
-  ends_as text looks Input h = cut_behind (LineLooks (kept table)) IsNoAddressField text looks (error.Input file) (λ _ _. tt) h
-  ends_as text looks NoMemory h = cut_behind (LineLooks (kept table)) IsNoAddressField text looks error.NoMemory (λ _ _. tt) h
+      → IsCut (AllZip (LineLooks (kept table))) IsBadLine (lines_of text) looks (unread file e)
+  ends_as text looks (Line number e) h = cut_before (LineLooks (kept table)) IsBadLine text looks number e file h
+  ends_as text looks Input h = cut_behind (LineLooks (kept table)) IsBadLine text looks (error.Input file) (λ _ _. tt) h
+  ends_as text looks NoMemory h = cut_behind (LineLooks (kept table)) IsBadLine text looks error.NoMemory (λ _ _. tt) h
 
   gone : (e : ReadError) (text : List ℕ) → Answered s t text (Ok tt) → IsWritten s t text (unread file e)
   gone (Line number e) text h = h
@@ -375,5 +382,5 @@ module _ (told : List ℕ → Option Text) (rows : List ℕ) (file : Bor (List �
     written,
     λ first second is at.
         let first_lines = bytes_read (λ text. AreFirst (LineLooks (kept table)) text looks) left second.bytes (opens second at) ends in
-        (kept table, reads first is, looks, cut_behind (LineLooks (kept table)) IsNoAddressField second.bytes looks error.Output (λ _ _. tt) first_lines, refl),
+        (kept table, reads first is, looks, cut_behind (LineLooks (kept table)) IsBadLine second.bytes looks error.Output (λ _ _. tt) first_lines, refl),
   )

@@ -16,19 +16,18 @@ use Rattle.cidr.specs.declared.family.Family.{Family}
 use Rattle.cidr_table.specs.Cover.{Covers, IsFull}
 use Rattle.cidr_io.specs.Writing.{State, Whole, Part, Writes}
 use Rattle.cidr_io.specs.declared.sink.OutputFailed.{OutputFailed}
-use Rattle.cidr_io.proofs.Chains.{answered, part_none, then_flushed, then_writes, whole_part, whole_whole}
+use Rattle.cidr_io.proofs.Chains.{answered, part_none, then_writes}
 use Rattle.netset.specs.Answering.{HasAddresses, ReadsFile}
-use Rattle.netset.specs.Collecting.{Collects}
+use Rattle.cidr_io.specs.Collecting.{Collects, Holds}
 use Rattle.netset.specs.Combining.{Turned}
 use Rattle.netset.specs.Commands.{Match, Says}
-use Rattle.netset.specs.Gathering.{Finishes, IsCounted, IsDone, IsLost, IsUnreadable, Streams, TakesPart, lines_of_part, rest_written}
+use Rattle.netset.specs.Gathering.{Finishes, IsCounted, IsDone, IsLost, IsUnreadable, Stops, Streams, TakesPart, ended_by, lines_of_part, rest_written}
 use Rattle.netset.specs.Lists.{Text, is_line_feed, lines_of}
 use Rattle.netset.specs.Matching.{AreWithin, ArePicked, ArePickedBy, FieldSays, HasOneIn, IsCutAt, IsEnough, IsErrorBy, IsMatch, LiesIn, Picks, PicksAnywhere, PicksByField, all_written, has, last_line, line_written, lines_among, lines_in, written_of}
-use Rattle.netset.specs.Printing.{Holds}
 use Rattle.netset.specs.Program.{AnswersRequest}
 use Rattle.netset.specs.Reading.{IsNextLine}
 use Rattle.netset.specs.Sets.{Held}
-use Rattle.netset.specs.Streaming.{IsStop, ReadTo}
+use Rattle.netset.specs.Streaming.{IsOfFile, IsStop, IsWritten, ReadTo}
 use Rattle.netset.specs.declared.answers.Verdict.{Verdict}
 use Rattle.netset.specs.declared.answers.Verdict.TheVariants.{Yes, No}
 use Rattle.netset.specs.declared.errors.CommandError.{CommandError}
@@ -38,8 +37,8 @@ use Rattle.netset.specs.declared.matching.Gathered.{Gathered}
 use Rattle.netset.specs.declared.matching.Written.{Written}
 use Rattle.netset.specs.declared.matching.Written.TheVariants as written
 use Rattle.netset.specs.declared.sets.Sets.{Sets}
-use Rattle.netset.proofs.Blocks.{nothing_held}
-use Rattle.netset.proofs.Collected.{held_lost, held_then, none_collected}
+use Rattle.netset.proofs.Blocks.{last_block, nothing_held}
+use Rattle.cidr_io.proofs.Collected.{held_lost, held_then, none_collected}
 use Rattle.netset.proofs.Combining.{turned_same}
 
 -- ---- lines
@@ -178,14 +177,21 @@ all_split written.Count picked =
     sym (ap (λ (k : List ℕ). k ++ rest_written written.Count (length picked)) (flat_none (line_written written.Count) (λ l. refl) picked))
 all_split written.Nothing picked = sym (ap (λ (k : List ℕ). k ++ []) (flat_none (line_written written.Nothing) (λ l. refl) picked))
 
--- what is behind a block, the block, and a flush
-pub all_gone : (s t u v : State) (block next more : List ℕ) (r : Result (Unit {0}) OutputFailed) → Collects s t block next more (Ok tt) → Whole t u next → Writes u v [] r
-    → Writes s v (block ++ more) r
-all_gone s t u v block next more r (before, whole, split) wrote flushed =
-    subst (λ (k : List ℕ). Writes s v k r) (sym split) (then_flushed s u v (before ++ next) r (whole_whole s t u before next whole wrote) flushed)
+-- a block with more behind it is written
+pub rest_gone : (s t u : State) (block next more : List ℕ) (r : Result (Unit {0}) OutputFailed) → Collects s t block next more (Ok tt) → Writes t u next r
+    → Writes s u (block ++ more) r
+rest_gone s t u block next more r (before, whole, split) wrote =
+    subst (λ (k : List ℕ). Writes s u k r) (sym split) (then_writes s t u before next r whole wrote)
 
-pub block_lost : (s t u : State) (block next more : List ℕ) → Collects s t block next more (Ok tt) → Part t u next → Part s u (block ++ more)
-block_lost s t u block next more (before, whole, split) part = subst (Part s u) (sym split) (whole_part s t u before next whole part)
+-- what is not yet written is written, or not all of it
+pub stops_by : (e : CommandError) (s t : State) (block : List ℕ) (w : Result (Unit {0}) OutputFailed) → e ≢ error.Output → Writes s t block w
+    → Stops e s t block (Err (ended_by e w))
+stops_by error.Usage s t block w other wrote = (w, wrote, refl)
+stops_by (error.Argument text e) s t block w other wrote = (w, wrote, refl)
+stops_by (error.Line name n e) s t block w other wrote = (w, wrote, refl)
+stops_by (error.Input name) s t block w other wrote = (w, wrote, refl)
+stops_by error.NoMemory s t block w other wrote = (w, wrote, refl)
+stops_by error.Output s t block w other wrote = absurd (other refl)
 
 -- ---- one part
 module _ (P : List ℕ → Result Bool LineError → Type 0) (what : Written) (file : List ℕ) (number : ℕ) where
@@ -362,35 +368,71 @@ module _ (P : List ℕ → Result Bool LineError → Type 0) (what : Written) wh
   cut_here (Some text) left number picked e stops p =
       (picked, (p.read, lines_in p.rest, record { lines = p.lines; are = p.are }, stops p.read (lines_in p.rest)), refl)
 
-  pub unread : (file : List ℕ) (known left : Option (List ℕ)) (s t : State) (number count : ℕ) (block : List ℕ) (e : CommandError) → IsUnreadable file e
-      → Streamed known left s t number count block → Streams P what file known s t (Err e)
-  unread file known left s t number count block error.Usage h st = absurd h
-  unread file known left s t number count block (error.Argument text e) h st = absurd h
-  unread file known left s t number count block (error.Line name n e) h st = absurd h
-  unread file known left s t number count block (error.Input name) h st =
-      let (before, whole, split) = st.held in
-      inr (
-        error.Input name,
-        refl,
-        h,
-        flat_map (line_written what) st.picked,
-        (before, block, split, whole),
-        cut_here known left number st.picked (error.Input name) (λ _ _. tt) st.passed,
-      )
-  unread file known left s t number count block error.NoMemory h st =
-      let (before, whole, split) = st.held in
-      inr (
-        error.NoMemory,
-        refl,
-        tt,
-        flat_map (line_written what) st.picked,
-        (before, block, split, whole),
-        cut_here known left number st.picked error.NoMemory (λ _ _. tt) st.passed,
-      )
-  unread file known left s t number count block error.Output h st = absurd h
+  -- what is not yet written is written
+  stopped : (file : List ℕ) (known : Option (List ℕ)) (s t u : State) (block : List ℕ) (picked : List (List ℕ)) (e : CommandError)
+      (w : Result (Unit {0}) OutputFailed) (r : Result Verdict CommandError) → s.failed ≡ false → IsOfFile file e
+      → ((text : List ℕ) → Whole s u text × (u.failed ≡ false) → IsWritten s u text e) → Holds s t block (flat_map (line_written what) picked) → Writes t u block w
+      → r ≡ Err (ended_by e w) → IfSome known (λ text. IsCutAt P what text (flat_map (line_written what) picked) e)
+      → IfSome known (λ text. IsCutAt P what text (flat_map (line_written what) picked) error.Output) → Streams P what file known s u r
+  stopped file known s t u block picked e (Ok a) r fine of goes held wrote is cut lost = inr (
+    e,
+    is,
+    of,
+    flat_map (line_written what) picked,
+    goes (flat_map (line_written what) picked) (answered s u (flat_map (line_written what) picked) (Ok a) fine
+        (last_block s t u block (flat_map (line_written what) picked) (Ok a) held wrote)),
+    cut,
+  )
+  stopped file known s t u block picked e (Err f) r fine of goes held wrote is cut lost = inr (
+    error.Output,
+    is,
+    tt,
+    flat_map (line_written what) picked,
+    answered s u (flat_map (line_written what) picked) (Err f) fine
+        (last_block s t u block (flat_map (line_written what) picked) (Err f) held wrote),
+    lost,
+  )
 
-  pub nothing_read : (file : List ℕ) (known : Option (List ℕ)) (s : State) (e : CommandError) → IsUnreadable file e → Streams P what file known s s (Err e)
-  nothing_read file known s e h = unread file known known s s 1 0 [] e h (started known s 0 [] refl refl)
+  pub unread : (file : List ℕ) (known left : Option (List ℕ)) (s t u : State) (number count : ℕ) (block : List ℕ) (e : CommandError) (r : Result Verdict CommandError)
+      → s.failed ≡ false → IsUnreadable file e → Streamed known left s t number count block → Stops e t u block r → Streams P what file known s u r
+  unread file known left s t u number count block error.Usage r fine h st stops = absurd h
+  unread file known left s t u number count block (error.Argument text e) r fine h st stops = absurd h
+  unread file known left s t u number count block (error.Line name n e) r fine h st stops = absurd h
+  unread file known left s t u number count block (error.Input name) r fine h st (w, wrote, is) =
+      stopped file known s t u block st.picked (error.Input name) w r fine h (λ text all. all) st.held wrote is
+      (cut_here known left number st.picked (error.Input name) (λ _ _. tt) st.passed)
+      (cut_here known left number st.picked error.Output (λ _ _. tt) st.passed)
+  unread file known left s t u number count block error.NoMemory r fine h st (w, wrote, is) =
+      stopped file known s t u block st.picked error.NoMemory w r fine tt (λ text all. all) st.held wrote is
+      (cut_here known left number st.picked error.NoMemory (λ _ _. tt) st.passed)
+      (cut_here known left number st.picked error.Output (λ _ _. tt) st.passed)
+  unread file known left s t u number count block error.Output r fine h st stops = absurd h
+
+  -- what was collected is written before more is read, or not all of it
+  pub caught_up : (known left : Option (List ℕ)) (s t u : State) (number count after : ℕ) (block next : List ℕ) → after ≡ count → Collects t u block next [] (Ok tt)
+      → Streamed known left s t number count block → Streamed known left s u number after next
+  caught_up known left s t u number count after block next same more st = record {
+    picked = st.picked;
+    held = subst (Holds s u next) (append-nil (flat_map (line_written what) st.picked))
+        (held_then s t u block next (flat_map (line_written what) st.picked) [] st.held more);
+    counted = same ∙ st.counted;
+    few = omega (arith, same, st.few);
+    passed = st.passed;
+  }
+
+  pub unwritten : (file : List ℕ) (known left : Option (List ℕ)) (s t u : State) (number count : ℕ) (block : List ℕ) → s.failed ≡ false → Part t u (block ++ [])
+      → Streamed known left s t number count block → Streams P what file known s u (Err error.Output)
+  unwritten file known left s t u number count block fine part st = inr (
+    error.Output,
+    refl,
+    tt,
+    flat_map (line_written what) st.picked,
+    (
+      subst (Part s u) (append-nil (flat_map (line_written what) st.picked)) (held_lost s t u block (flat_map (line_written what) st.picked) [] st.held part),
+      λ before. absurd (true≢false (sym before ∙ fine)),
+    ),
+    cut_here known left number st.picked error.Output (λ _ _. tt) st.passed,
+  )
 
   pub failed_before : (file : List ℕ) (known : Option (List ℕ)) (s : State) → s.failed ≡ true → Streams P what file known s s (Err error.Output)
   failed_before file known s failed =
@@ -435,43 +477,34 @@ module _ (P : List ℕ → Result Bool LineError → Type 0) (what : Written) wh
         refl,
       )
 
-  pub lost : (file : List ℕ) (known left next : Option (List ℕ)) (s t u : State) (number count : ℕ) (block part : List ℕ) (more : Bool) (e : CommandError)
-      → s.failed ≡ false → Streamed known left s t number count block → IfSome left (λ text. IsNextLine text part more next)
-      → (lines_of_part part more ≡ part ∷ []) × IsLost P what file number part t u block e → Streams P what file known s u (Err e)
-  lost file known left next s t u number count block part more error.Usage fine st n h = absurd h.1
-  lost file known left next s t u number count block part more (error.Argument text e) fine st n h = absurd h.1
-  lost file known left next s t u number count block part more (error.Input name) fine st n h = absurd h.1
-  lost file known left next s t u number count block part more error.NoMemory fine st n h = absurd h.1
-  lost file known left next s t u number count block part more (error.Line name m e) fine st n (one, (same, place, bad, still)) =
-      let (before, whole, split) = st.held in
-      inr (
-        error.Line name m e,
-        refl,
-        same,
-        flat_map (line_written what) st.picked,
-        (before, block, split, subst (λ (z : State). Whole s z before) (sym still) whole),
-        cut_at_line known left next number part more st.picked (error.Line name m e) one n st.passed
-            (λ read after at. (place ∙ at, part, after, refl, bad)),
-      )
-  lost file known left next s t u number count block part more error.Output fine st n (one, (picks, failed)) =
+  pub lost : (file : List ℕ) (known left next : Option (List ℕ)) (s t u v : State) (number count : ℕ) (block rest part : List ℕ) (more : Bool) (e : CommandError)
+      (r : Result Verdict CommandError) → s.failed ≡ false → Streamed known left s t number count block → IfSome left (λ text. IsNextLine text part more next)
+      → (lines_of_part part more ≡ part ∷ []) × IsLost P what file number part t u block rest e → Stops e u v rest r → Streams P what file known s v r
+  lost file known left next s t u v number count block rest part more error.Usage r fine st n h stops = absurd h.1
+  lost file known left next s t u v number count block rest part more (error.Argument text e) r fine st n h stops = absurd h.1
+  lost file known left next s t u v number count block rest part more (error.Input name) r fine st n h stops = absurd h.1
+  lost file known left next s t u v number count block rest part more error.NoMemory r fine st n h stops = absurd h.1
+  lost file known left next s t u v number count block rest part more (error.Line name m e) r fine st n (one, (same, place, bad, still, kept)) (w, wrote, is) =
+      let held : Holds s u rest (flat_map (line_written what) st.picked) =
+      subst (λ (z : State). Holds s z rest (flat_map (line_written what) st.picked)) (sym still)
+      (subst (λ (k : List ℕ). Holds s t k (flat_map (line_written what) st.picked)) (sym kept) st.held) in
+      stopped file known s u v rest st.picked (error.Line name m e) w r fine same (λ text all. all) held wrote is
+      (cut_at_line known left next number part more st.picked (error.Line name m e) one n st.passed (λ read after at. (place ∙ at, part, after, refl, bad)))
+      (cut_at_line known left next number part more st.picked error.Output one n st.passed (λ _ _ _. tt))
+  lost file known left next s t u v number count block rest part more error.Output r fine st n (one, (picks, failed)) (still, is) =
       let text : List ℕ = flat_map (line_written what) st.picked in
       inr (
         error.Output,
-        refl,
+        is,
         tt,
         flat_map (line_written what) (st.picked ++ part ∷ []),
         (
-          subst (Part s u) (flat_map_more (line_written what) [] st.picked part) (held_lost s t u block text (line_written what part) st.held failed),
+          subst (λ (z : State). Part s z (flat_map (line_written what) (st.picked ++ part ∷ []))) (sym still)
+              (subst (Part s u) (flat_map_more (line_written what) [] st.picked part) (held_lost s t u block text (line_written what part) st.held failed)),
           λ before. absurd (true≢false (sym before ∙ fine)),
         ),
         cut_behind known left next number part more st.picked error.Output one picks (λ _ _. tt) n st.passed,
       )
-
-pub by_error : (P : List ℕ → Result Bool LineError → Type 0) (what : Written) (file : List ℕ) (known : Option (List ℕ)) (s t : State) (r : Result Verdict CommandError) (y e : CommandError)
-    → r ≡ Err y → y ≡ e → Streams P what file known s t (Err e) → Streams P what file known s t r
-by_error P what file known s t r y e is same h =
-    let failing : CommandError → Result Verdict CommandError = λ k. Err k in
-    subst (Streams P what file known s t) (sym (is ∙ ap failing same)) h
 
 -- ---- by the bytes of the files
 -- a reader in blocks has what the reader has that it reads from

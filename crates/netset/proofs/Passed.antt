@@ -3,7 +3,6 @@ use Rattle.std.proofs.Common.{◌≡◌, refl, sym, ◌∙◌, ℕ, ◌+◌, Bor
 use Rattle.std.specs.Option.{IfSome}
 use Rattle.std.specs.List.{AllZip}
 use Rattle.netset.specs.Lists.{lines_of}
-use Rattle.netset.specs.Look.{IsBadLine}
 use Rattle.netset.specs.LookUps.{AreBeforeError, AreFirst}
 use Rattle.netset.specs.Reading.{IsNextLine}
 use Rattle.netset.specs.Streaming.{IsCut, IsStop}
@@ -41,7 +40,7 @@ module _ {S : Type 0} (Says : List ℕ → S → Type 0) where
 
   -- a line in error
   pub error_passed : (IsBad : List ℕ → LineError → Type 0) (text : List ℕ) (left next : Option (List ℕ)) (said : List S) (number : ℕ) (line : List ℕ) (more : Bool)
-      (n : ℕ) (e : LineError) → Passed text left said number → IfSome left (λ text. IsNextLine text line more next) → n ≡ number → IsBadLine IsBad line e
+      (n : ℕ) (e : LineError) → Passed text left said number → IfSome left (λ text. IsNextLine text line more next) → n ≡ number → IsBad line e
       → AreBeforeError Says IsBad text said n e
   error_passed IsBad text left next said number line more n e p next_is at bad =
       let here = stops_at (AllZip Says) (Some text) left next said number line more p next_is in
@@ -73,7 +72,7 @@ module _ {S : Type 0} (Says : List ℕ → S → Type 0) where
 
   -- the same up to the lines that are left, and why they are
   pub cut_before : (IsBad : List ℕ → LineError → Type 0) (text : List ℕ) (said : List S) (number : ℕ) (e : LineError) (file : Bor (List ℕ))
-      → AreBeforeError Says IsBad text said number e → IsCut (AllZip Says) (IsBadLine IsBad) (lines_of text) said (error.Line file number e)
+      → AreBeforeError Says IsBad text said number e → IsCut (AllZip Says) IsBad (lines_of text) said (error.Line file number e)
   cut_before IsBad text said number e file h = (
     h.before,
     h.line ∷ h.after,
@@ -82,8 +81,8 @@ module _ {S : Type 0} (Says : List ℕ → S → Type 0) where
   )
 
   pub cut_behind : (IsBad : List ℕ → LineError → Type 0) (text : List ℕ) (said : List S) (e : CommandError)
-      → ((read left : List (List ℕ)) → IsStop (IsBadLine IsBad) read left e) → AreFirst Says text said
-      → IsCut (AllZip Says) (IsBadLine IsBad) (lines_of text) said e
+      → ((read left : List (List ℕ)) → IsStop IsBad read left e) → AreFirst Says text said
+      → IsCut (AllZip Says) IsBad (lines_of text) said e
   cut_behind IsBad text said e stops h = (h.before, h.after, record { lines = h.lines; are = h.fine }, stops h.before h.after)
 
   -- all lines are the first ones

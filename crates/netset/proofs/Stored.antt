@@ -9,7 +9,7 @@ use Rattle.cidr.specs.declared.family.Family.TheVariants.{Ipv4, Ipv6}
 use Rattle.cidr_table.specs.FiniteMap.{StoredRows}
 use Rattle.cidr_table.specs.LastRows.{AreLastRows}
 use Rattle.netset.specs.Lists.{Text, text_by}
-use Rattle.netset.specs.Look.{IsNoNetworkField, IsUnreadTable, RowSays, row_in, rows_in, said_in}
+use Rattle.netset.specs.Look.{IsBadRow, IsUnreadTable, RowSays, row_in, rows_in, said_in}
 use Rattle.netset.specs.LookUps.{Adds, AreWithin, IsErrorAt, ReadsRows, ReadsTable, Stores, kept, resolved, stored, unread, value_at}
 use Rattle.netset.specs.Reading.{IsNextLine, IsStopped}
 use Rattle.netset.specs.declared.errors.ReadError.{ReadError}
@@ -129,17 +129,17 @@ module _ (bits : HostBits) where
   failing e = Err e
 
   rows_in_error : (told left next : Option (List ℕ)) (old : Rows) (number : ℕ) (line : List ℕ) (more : Bool) (e : ReadError)
-      → IfSome told (λ text. Reads text left old number) → IfSome left (λ text. IsNextLine text line more next) → IsErrorAt (IsNoNetworkField bits) line number e
+      → IfSome told (λ text. Reads text left old number) → IfSome left (λ text. IsNextLine text line more next) → IsErrorAt (IsBadRow bits) line number e
       → IfSome told (λ text. ReadsRows (text_by bits text) (Err e))
   rows_in_error None left next old number line more e h n bad = tt
   rows_in_error (Some text) left next old number line more Input h n bad = tt
   rows_in_error (Some text) left next old number line more NoMemory h n bad = tt
   rows_in_error (Some text) left next old number line more (Line m e) (said, p, s) n bad =
-      (said, error_passed (RowSays bits) (IsNoNetworkField bits) text left next said number line more m e p n bad.0 bad.1)
+      (said, error_passed (RowSays bits) (IsBadRow bits) text left next said number line more m e p n bad.0 bad.1)
 
   pub rows_failed : (told left next : Option (List ℕ)) (old : Rows) (number : ℕ) (line : List ℕ) (more : Bool) (r : Result Rows ReadError) (y e : ReadError)
       → r ≡ Err y → y ≡ e → IfSome told (λ text. Reads text left old number) → IfSome left (λ text. IsNextLine text line more next)
-      → IsErrorAt (IsNoNetworkField bits) line number e → IfSome told (λ text. ReadsRows (text_by bits text) r)
+      → IsErrorAt (IsBadRow bits) line number e → IfSome told (λ text. ReadsRows (text_by bits text) r)
   rows_failed told left next old number line more r y e is same h n bad =
       subst (λ (k : Result Rows ReadError). IfSome told (λ text. ReadsRows (text_by bits text) k)) (sym (is ∙ ap failing same))
       (rows_in_error told left next old number line more e h n bad)
@@ -182,7 +182,7 @@ table_unread told left bits file (Line number e) opens by reads = (
   refl,
   λ text is.
       let (said, first) = told_rows bits left text (Err (Line number e)) (opens text is) (by text is) reads in
-      (said, cut_before (RowSays text.host_bits) (IsNoNetworkField text.host_bits) text.bytes said number e file first),
+      (said, cut_before (RowSays text.host_bits) (IsBadRow text.host_bits) text.bytes said number e file first),
 )
 table_unread told left bits file Input opens by reads = refl
 table_unread told left bits file NoMemory opens by reads = tt

@@ -4,9 +4,11 @@ use Rattle.std.specs.Option.{IfSome}
 use Rattle.std.specs.List.{flat_map}
 use Rattle.std.proofs.lemmas.Bool.{true≢false}
 use Rattle.std.proofs.lemmas.List.{append-nil, flat_map_more}
+use Rattle.cidr_io.specs.Collecting.{HasSaid}
 use Rattle.cidr_io.specs.Writing.{State, Part, Says as Tells}
+use Rattle.cidr_io.proofs.Collected.{nothing_said}
 use Rattle.cidr_io.proofs.Chains.{part_more, part_none, whole_none, whole_part, whole_whole}
-use Rattle.netset.specs.Keeping.{AreErrors, AreTellings, FindsError, IsAny, IsFaulty, IsSound, fault_line}
+use Rattle.netset.specs.Keeping.{AreErrors, AreTellings, FindsError, IsAny, IsFaulty, IsSound, TellsErrors, fault_line}
 use Rattle.netset.specs.Lists.{Text, lines_of}
 use Rattle.netset.specs.Reading.{IsNextLine}
 use Rattle.netset.proofs.LinesRead.{LinesRead, last_read, line_read, none_read}
@@ -57,16 +59,24 @@ faulty_behind kind bits first n (other ∷ lines) line errors e at (inr (d, rest
 )
 
 -- what was told of the first lines of a list, from a state to another
-abbrev pub HasTelled : Kind → HostBits → List ℕ → State → List (List ℕ) → State × Bool → Type 0
-HasTelled kind bits file old lines (new, found) = (errors : List (ℕ × LineError)) × AreErrors kind bits 1 lines errors
-    × Tells old new (flat_map (fault_line file) errors) × IsAny found (flat_map (fault_line file) errors)
+abbrev pub HasTelled : Kind → HostBits → List ℕ → State → List (List ℕ) → State × List ℕ × Bool → Type 0
+HasTelled kind bits file old lines (new, block, found) = (errors : List (ℕ × LineError)) × AreErrors kind bits 1 lines errors
+    × HasSaid old new block (flat_map (fault_line file) errors) × IsAny found (flat_map (fault_line file) errors)
 
-pub none_telled : (kind : Kind) (bits : HostBits) (file : List ℕ) (s : State) → HasTelled kind bits file s [] (s, false)
-none_telled kind bits file s = ([], refl, tells_nothing s, refl)
+-- one line more is said, where this was said before
+abbrev pub SaysMore : State → List ℕ → State → List ℕ → List ℕ → Type 0
+SaysMore old block new rest line = (start : State) (text : List ℕ) → HasSaid start old block text → HasSaid start new rest (text ++ line)
 
-pub sound_telled : (kind : Kind) (bits : HostBits) (file : List ℕ) (s t : State) (found : Bool) (line : List ℕ) → FindsError kind bits line None
-    → (before : List (List ℕ)) → HasTelled kind bits file s before (t, found) → HasTelled kind bits file s (before ++ line ∷ []) (t, found)
-sound_telled kind bits file s t found line sound before (errors, are, told, any) =
+-- all that was said is written
+abbrev pub EndsSaying : State → List ℕ → State → Type 0
+EndsSaying old block new = (start : State) (text : List ℕ) → HasSaid start old block text → Tells start new text
+
+pub none_telled : (kind : Kind) (bits : HostBits) (file : List ℕ) (s : State) (block : List ℕ) → block ≡ [] → HasTelled kind bits file s [] (s, block, false)
+none_telled kind bits file s block none = ([], refl, nothing_said s block none, refl)
+
+pub sound_telled : (kind : Kind) (bits : HostBits) (file : List ℕ) (s t : State) (block : List ℕ) (found : Bool) (line : List ℕ) → FindsError kind bits line None
+    → (before : List (List ℕ)) → HasTelled kind bits file s before (t, block, found) → HasTelled kind bits file s (before ++ line ∷ []) (t, block, found)
+sound_telled kind bits file s t block found line sound before (errors, are, told, any) =
     (errors, sound_behind kind bits 1 before line errors are sound, told, any)
 
 some_text : (xs file ys : List ℕ) (b : ℕ) → xs ++ (file ++ b ∷ ys) ≢ []
@@ -74,16 +84,16 @@ some_text [] [] ys b is = cc
 some_text [] (c ∷ file) ys b is = cc
 some_text (x ∷ xs) file ys b is = cc
 
-pub fault_telled : (kind : Kind) (bits : HostBits) (file : List ℕ) (s t u : State) (found : Bool) (number : ℕ) (line : List ℕ) (e : LineError)
-    → FindsError kind bits line (Some e) → Tells t u (fault_line file (number, e)) → (before : List (List ℕ)) → number ≡ length before + 1
-    → HasTelled kind bits file s before (t, found) → HasTelled kind bits file s (before ++ line ∷ []) (u, true)
-fault_telled kind bits file s t u found number line e bad tells before at (errors, are, told, any) =
+pub fault_telled : (kind : Kind) (bits : HostBits) (file : List ℕ) (s t u : State) (block rest : List ℕ) (found : Bool) (number : ℕ) (line : List ℕ) (e : LineError)
+    → FindsError kind bits line (Some e) → SaysMore t block u rest (fault_line file (number, e)) → (before : List (List ℕ)) → number ≡ length before + 1
+    → HasTelled kind bits file s before (t, block, found) → HasTelled kind bits file s (before ++ line ∷ []) (u, rest, true)
+fault_telled kind bits file s t u block rest found number line e bad says before at (errors, are, told, any) =
     let fault : ℕ × LineError = (number, e) in
     let text : flat_map (fault_line file) errors ++ fault_line file fault ≡ flat_map (fault_line file) (errors ++ fault ∷ []) =
     flat_map_more (fault_line file) [] errors fault in (
       errors ++ fault ∷ [],
       faulty_behind kind bits 1 number before line errors e (omega (arith, at)) are bad,
-      subst (λ (k : List ℕ). Tells s u k) text (tells_more s t u (flat_map (fault_line file) errors) (fault_line file fault) told tells),
+      subst (λ (k : List ℕ). HasSaid s u rest k) text (says s (flat_map (fault_line file) errors) told),
       λ none. some_text (flat_map (fault_line file) errors) file _ 58 (text ∙ none),
     )
 
@@ -102,16 +112,16 @@ left_less all left (Some r) number len is less within =
     omega (arith, here, less)
 
 module _ (kind : Kind) (bits : HostBits) (file text : List ℕ) (s : State) where
-  abbrev pub IsTelling : Option (Bor (List ℕ)) → ℕ → State × Bool → Type 0
+  abbrev pub IsTelling : Option (Bor (List ℕ)) → ℕ → State × List ℕ × Bool → Type 0
   IsTelling None number now = HasTelled kind bits file s (lines_of text) now
   IsTelling (Some left) number now = LinesRead (HasTelled kind bits file s) text (Some left.now) now (number + 1)
 
-  pub telling_started : (all : Bor (List ℕ)) → all.now ≡ text → IsTelling (Some all) 0 (s, false)
-  telling_started all is =
-      subst (λ (k : List ℕ). LinesRead (HasTelled kind bits file s) text (Some k) (s, false) 1) (sym is)
-      (none_read (HasTelled kind bits file s) (Some text) (s, false) (none_telled kind bits file s))
+  pub telling_started : (all : Bor (List ℕ)) (block : List ℕ) → all.now ≡ text → block ≡ [] → IsTelling (Some all) 0 (s, block, false)
+  telling_started all block is none =
+      subst (λ (k : List ℕ). LinesRead (HasTelled kind bits file s) text (Some k) (s, block, false) 1) (sym is)
+      (none_read (HasTelled kind bits file s) (Some text) (s, block, false) (none_telled kind bits file s block none))
 
-  line_told : (left : Bor (List ℕ)) (rest : Option (Bor (List ℕ))) (number : ℕ) (now new : State × Bool) (line : List ℕ) → IsTelling (Some left) number now
+  line_told : (left : Bor (List ℕ)) (rest : Option (Bor (List ℕ))) (number : ℕ) (now new : State × List ℕ × Bool) (line : List ℕ) → IsTelling (Some left) number now
       → IsNextLine left.now line (is_some rest) (option_map (λ (r : Bor (List ℕ)). r.now) rest)
       → ((before : List (List ℕ)) → number + 1 ≡ length before + 1 → HasTelled kind bits file s before now → HasTelled kind bits file s (before ++ line ∷ []) new)
       → IsTelling rest (number + 1) new
@@ -119,28 +129,31 @@ module _ (kind : Kind) (bits : HostBits) (file text : List ℕ) (s : State) wher
   line_told left (Some r) number now new line h n step =
       line_read (HasTelled kind bits file s) (Some text) (Some left.now) (Some r.now) now new (number + 1) line true refl h n step
 
-  pub sound_line : (all : Option (Bor (List ℕ))) (left : Bor (List ℕ)) (rest : Option (Bor (List ℕ))) (number : ℕ) (t : State) (found : Bool) (line : List ℕ)
-      (o : Option LineError) → all ≡ Some left → IsTelling all number (t, found)
+  pub sound_line : (all : Option (Bor (List ℕ))) (left : Bor (List ℕ)) (rest : Option (Bor (List ℕ))) (number : ℕ) (t : State) (block : List ℕ) (found : Bool)
+      (line : List ℕ) (o : Option LineError) → all ≡ Some left → IsTelling all number (t, block, found)
       → IsNextLine left.now line (is_some rest) (option_map (λ (r : Bor (List ℕ)). r.now) rest) → o ≡ None → FindsError kind bits line o
-      → IsTelling rest (number + 1) (t, found)
-  sound_line all left rest number t found line o is h n none sound =
+      → IsTelling rest (number + 1) (t, block, found)
+  sound_line all left rest number t block found line o is h n none sound =
       let here : FindsError kind bits line None = subst (FindsError kind bits line) none sound in
-      let at : IsTelling (Some left) number (t, found) = subst (λ k. IsTelling k number (t, found)) is h in
-      line_told left rest number (t, found) (t, found) line at n (λ before place done. sound_telled kind bits file s t found line here before done)
+      let at : IsTelling (Some left) number (t, block, found) = subst (λ k. IsTelling k number (t, block, found)) is h in
+      line_told left rest number (t, block, found) (t, block, found) line at n
+      (λ before place done. sound_telled kind bits file s t block found line here before done)
 
-  pub faulty_line : (all : Option (Bor (List ℕ))) (left : Bor (List ℕ)) (rest : Option (Bor (List ℕ))) (number : ℕ) (t u : State) (found : Bool) (line : List ℕ)
-      (o : Option LineError) (e : LineError) → all ≡ Some left → IsTelling all number (t, found)
+  pub faulty_line : (all : Option (Bor (List ℕ))) (left : Bor (List ℕ)) (rest : Option (Bor (List ℕ))) (number : ℕ) (t u : State) (block next : List ℕ)
+      (found : Bool) (line : List ℕ) (o : Option LineError) (e : LineError) → all ≡ Some left → IsTelling all number (t, block, found)
       → IsNextLine left.now line (is_some rest) (option_map (λ (r : Bor (List ℕ)). r.now) rest) → o ≡ Some e → FindsError kind bits line o
-      → Tells t u (fault_line file (number + 1, e)) → IsTelling rest (number + 1) (u, true)
-  faulty_line all left rest number t u found line o e is h n some bad tells =
+      → SaysMore t block u next (fault_line file (number + 1, e)) → IsTelling rest (number + 1) (u, next, true)
+  faulty_line all left rest number t u block next found line o e is h n some bad says =
       let here : FindsError kind bits line (Some e) = subst (FindsError kind bits line) some bad in
-      let at : IsTelling (Some left) number (t, found) = subst (λ k. IsTelling k number (t, found)) is h in
-      line_told left rest number (t, found) (u, true) line at n
-      (λ before place done. fault_telled kind bits file s t u found (number + 1) line e here tells before place done)
+      let at : IsTelling (Some left) number (t, block, found) = subst (λ k. IsTelling k number (t, block, found)) is h in
+      line_told left rest number (t, block, found) (u, next, true) line at n
+      (λ before place done. fault_telled kind bits file s t u block next found (number + 1) line e here says before place done)
 
-  pub all_told : (all : Option (Bor (List ℕ))) (number : ℕ) (t : State) (found : Bool) → all ≡ None → IsTelling all number (t, found)
-      → HasTelled kind bits file s (lines_of text) (t, found)
-  all_told all number t found is h = subst (λ k. IsTelling k number (t, found)) is h
+  pub all_told : (all : Option (Bor (List ℕ))) (number : ℕ) (t u : State) (block : List ℕ) (found : Bool) → all ≡ None → IsTelling all number (t, block, found)
+      → EndsSaying t block u → TellsErrors kind bits file text s u found
+  all_told all number t u block found is h ends =
+      let (errors, are, said, any) = subst (λ k. IsTelling k number (t, block, found)) is h in
+      (errors, are, ends s (flat_map (fault_line file) errors) said, any)
 
 -- ---- one list after another
 pub tellings_behind : (kind : Kind) (names : List (List ℕ)) (texts : List Text) (name : List ℕ) (text : Text) (lines : List ℕ) (errors : List (ℕ × LineError))

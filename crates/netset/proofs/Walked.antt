@@ -11,11 +11,11 @@ use Rattle.cidr.specs.declared.cidr.combined.IpCidr.TheVariants.{V4, V6}
 use Rattle.cidr_io.specs.Writing.{State, Part, Writes}
 use Rattle.cidr_io.specs.declared.sink.OutputFailed.{OutputFailed}
 use Rattle.cidr_io.proofs.Chains.{part_more}
-use Rattle.netset.specs.Collecting.{Collects}
-use Rattle.netset.specs.Printing.{Holds, line}
+use Rattle.cidr_io.specs.Collecting.{Collects, Holds}
+use Rattle.netset.specs.Printing.{line}
 use Rattle.netset.specs.Single.{subnet_line}
 use Rattle.netset.proofs.Blocks.{nothing_held, last_block}
-use Rattle.netset.proofs.Collected.{held_then, held_lost}
+use Rattle.cidr_io.proofs.Collected.{held_then, held_lost}
 
 -- a network as a line
 pub subnet_text : (n : IpCidr) → line (ip_network_text plain_text n) ≡ subnet_line (network_family n, network_prefix n)

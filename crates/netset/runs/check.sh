@@ -78,9 +78,9 @@ rows() {
     run 0 '' '' '' ranges
     run 2 '' $'-:1: not UTF-8\n' '\xff' ranges
     run 2 '' "$usage" '' ranges - -k
-    run 0 $'Ipv4 0\nIpv6 0\n' '' '' count
-    run 0 $'Ipv4 257\nIpv6 1\n' '' '10.0.0.1\n10.0.1.0/24\n10.0.1.7\n::1' count
-    run 0 $'Ipv4 4294967296\nIpv6 340282366920938463463374607431768211456\n' '' '0.0.0.0/0\n::/0' count
+    run 0 $'IPv4 0\nIPv6 0\n' '' '' count
+    run 0 $'IPv4 257\nIPv6 1\n' '' '10.0.0.1\n10.0.1.0/24\n10.0.1.7\n::1' count
+    run 0 $'IPv4 4294967296\nIPv6 340282366920938463463374607431768211456\n' '' '0.0.0.0/0\n::/0' count
     run 2 '' $'-:1: not UTF-8\n' '\xff' count
     run 2 '' "$usage" '' minus
     run 2 '' "$usage" '' minus ten
@@ -101,7 +101,7 @@ rows_of_ranges() {
     run 0 $'10.0.0.1\n10.0.0.2/31\n10.0.0.4/31\n10.0.0.6\n' '' ' 10.0.0.1-10.0.0.6 # six\r\n' merge
     run 0 $'10.0.0.0/8\n::/127\n' '' '::-::1\n10.0.0.0-10.127.255.255\n10.128.0.0/9' merge
     run 0 $'0.0.0.0/0\n::/0\n' '' '0.0.0.0-255.255.255.255\n::-ffff:ffff:ffff:ffff:ffff:ffff:ffff:ffff' merge
-    run 0 $'Ipv4 4294967294\nIpv6 340282366920938463463374607431768211454\n' '' \
+    run 0 $'IPv4 4294967294\nIPv6 340282366920938463463374607431768211454\n' '' \
         '0.0.0.1-255.255.255.254\n::1-ffff:ffff:ffff:ffff:ffff:ffff:ffff:fffe' count
     run 0 $'10.0.0.1-10.0.0.6\n10.0.0.8\n::1-::2\n' '' '::1-::2\n10.0.0.8-10.0.0.8\n10.0.0.1-10.0.0.6' ranges
     run 0 $'10.0.0.0\n10.0.0.7\n' '' '10.0.0.1-10.0.0.6' minus eight_addresses -
@@ -119,10 +119,27 @@ rows_of_ranges() {
     run 2 '' $'-:1: not UTF-8\n' '::2-::\xff' merge
 }
 
+# The standard input named twice, or once where it is read also without a name.
+rows_of_input_twice() {
+    local twice=$'-: standard input can be read only once\n'
+    run 2 '' "$twice" '10.0.0.0/8' minus - -
+    run 2 '' "$twice" '10.0.0.0/8' merge - ten -
+    run 2 '' "$twice" 'x' and --host-bits ten - -
+    run 2 '' "$twice" 'x' not -k --in ::/0 - -
+    run 2 '' "$twice" '' diff - -
+    run 2 '' "$twice" '' diff -k - -
+    run 2 '' "$twice" '' free - 8 -
+    run 2 '' "$twice" '' free ten x - -
+    run 2 '' "$twice" '' check - -
+    run 2 '' "$twice" '10.0.0.0/8' match - -
+    run 2 '' "$twice" '10.0.0.0/8' match -
+    run 2 '' "$twice" '10.0.0.0/8 x' look -
+    run 2 '' "$usage" '10.0.0.0/8' diff - - -
+}
+
 # What changes from a list to another.
 rows_of_changes() {
     run 0 '' '' '10.128.0.0/9\n10.0.0.0/9' diff ten -
-    run 0 '' '' '' diff - -
     run 1 $'+10.0.0.0/8\n' '' '' diff - ten
     run 1 $'-10.0.0.0/8\n' '' '' diff ten -
     run 1 $'+9.0.0.0/8\n-10.0.0.0/9\n+11.0.0.0/8\n+::/1\n-8000::/1\n' '' '10.128.0.0/9\n11.0.0.0/8\n9.0.0.0/8\n::/1' \
@@ -182,7 +199,6 @@ rows_of_matches() {
     run 0 $'10.0.0.1 a\n10.0.0.0/9\n' '' '10.0.0.1 a\n11.0.0.1\n10.0.0.0/9\n10.0.0.0/7\n::1\n' match ten
     run 0 $'10.0.0.1\r\n \t10.2.3.4\tx # y\n::1\n' '' '10.0.0.1\r\n \t10.2.3.4\tx # y\n11.0.0.1\n::1' match both -
     run 0 $'10.0.0.0/8\n' '' '' match ten ten
-    run 1 '' '' '10.0.0.0/8' match - -
     run 1 '' '' '' match ten
     run 1 '' '' '\n \n#10.0.0.1\n ;\xff\n::1\n' match ten
     run 0 $'\n \n#10.0.0.1\n ;x\r\n::1\n' '' '\n10.0.0.1\n \n#10.0.0.1\n ;x\r\n::1' match -v ten
@@ -197,6 +213,10 @@ rows_of_matches() {
     run 2 '' "-:2$bad" '11.0.0.1\nx\n10.0.0.1' match -q ten
     run 2 '' "-:3$bad" '11.0.0.1\n\n010.0.0.1\n10.0.0.1' match ten
     run 2 '' "-:1$bad" '10.0.0.1#x' match ten
+    run 2 $'10.0.0.1 a\n10.0.0.2\n' "-:3$bad" '10.0.0.1 a\n10.0.0.2\nx\n10.0.0.3' match ten
+    run 2 $'\n' "-:2$bad" '\nx' match -v ten
+    run 2 '' "-:2$bad" '10.0.0.1\nx' match -c ten
+    run 0 '' '' '10.0.0.1\nx' match -q ten
     run 2 '' $'-:1: host part of address was not zero\n' '10.0.0.1/8 x' match -v ten
     run 2 '' $'-:1: not UTF-8\n' '\xff' match ten
     run 2 '' $'bad:1: couldn\'t parse length in network: invalid length text\n' '' match bad missing
@@ -213,7 +233,7 @@ rows_of_matches() {
 
 # The longest networks of addresses.
 rows_of_look_ups() {
-    run 0 $'10.2.0.1 10.0.0.0/8 ten\n10.1.2.3 10.1.0.0/16 x  y\n192.0.2.7 192.0.2.7\n192.0.2.8 -\n2001:db8::1 2001:db8::/32 \xff\n::1 ::/0 all\n' \
+    run 0 $'10.2.0.1 10.0.0.0/8 ten\n10.1.2.3 10.1.0.0/16 x  y \t; z\n192.0.2.7 192.0.2.7\n192.0.2.8 -\n2001:db8::1 2001:db8::/32 \xff#\n::1 ::/0 all\n' \
         '' '10.2.0.1\n10.1.2.3 and more\r\n\n # 10.1.2.3\n192.0.2.7#\n192.0.2.8 ;\n2001:DB8:0::1\n\t::1' look owners
     run 1 $'192.0.2.8 -\n' '' '192.0.2.8\n' look owners -
     run 0 $'192.0.2.8 -\n::1 ::/0 all\n' '' '192.0.2.8\n::1' look owners
@@ -221,7 +241,11 @@ rows_of_look_ups() {
     run 1 '' '' '' look owners
     run 1 '' '' '\n;' look owners
     run 1 $'10.0.0.1 -\n' '' '10.0.0.1' look nothing
-    run 1 '' '' '10.0.0.0/8 x' look -
+    run 0 $'10.0.0.1 10.0.0.0/8 room #5\n' '' '; all\n \t# more\n10.0.0.0/8\t room #5 \r\n' look - address
+    run 0 $'10.0.0.1 10.0.0.1 http://x/#a;b\n' '' '10.0.0.1 http://x/#a;b\n10.0.0.0/8 ;' look - address
+    run 0 $'10.0.0.1 10.0.0.0/8 ;\n' '' '10.0.0.0/8 ;\n;10.0.0.1 x' look - address
+    run 2 '' $'-:1: couldn\'t parse length in network: invalid length text\n' '10.0.0.0/8#x' look - address
+    run 2 '' $'-:1: couldn\'t parse length in network: invalid length text\n' '10.0.0.0/8#x' look -k - address
     run 0 $'10.0.0.1 10.0.0.0/8 x\n' '' '10.0.0.0/8 x' look - address
     run 2 $'10.2.0.1 10.0.0.0/8 ten\n192.0.2.8 -\n' $'-:4: invalid IP address syntax\n' \
         '10.2.0.1\n192.0.2.8\n\n10.0.0.0/8\n10.0.0.1' look owners
@@ -266,9 +290,9 @@ rows_of_logs() {
 
 # The commands on one host or network.
 rows_of_one_network() {
-    run 0 $'network 192.0.2.0/24\nfirst 192.0.2.0\nlast 192.0.2.255\nmask 255.255.255.0\nlength 24\nfamily Ipv4\n' \
+    run 0 $'network 192.0.2.0/24\nfirst 192.0.2.0\nlast 192.0.2.255\nmask 255.255.255.0\nlength 24\nfamily IPv4\n' \
         '' '' show 192.0.2.7/24
-    run 0 $'network ::1\nfirst ::1\nlast ::1\nmask ffff:ffff:ffff:ffff:ffff:ffff:ffff:ffff\nlength 128\nfamily Ipv6\n' \
+    run 0 $'network ::1\nfirst ::1\nlast ::1\nmask ffff:ffff:ffff:ffff:ffff:ffff:ffff:ffff\nlength 128\nfamily IPv6\n' \
         '' '' show ::1
     run 2 '' $'192.0.2.7/33: invalid length for network: Network length 33 is too long for Ipv4 (maximum: 32)\n' '' show 192.0.2.7/33
     run 0 $'192.0.2.0/26\n192.0.2.64/26\n192.0.2.128/26\n192.0.2.192/26\n' '' '' split 192.0.2.0/24 26
@@ -300,7 +324,7 @@ rows_of_host_bits() {
     run 1 $'-10.128.0.0/9\n' '' '10.1.2.3/9\n' diff --host-bits ten -
     run 0 $'10.128.0.0/26\n' '' '10.1.2.3/9\n' free --host-bits ten 26 -
     run 0 $'10.1.0.0-10.1.255.255\n' '' '10.1.2.3/16\n' ranges --host-bits
-    run 0 $'Ipv4 256\nIpv6 0\n' '' '10.1.2.3/24\n10.1.2.4/24' count --host-bits
+    run 0 $'IPv4 256\nIPv6 0\n' '' '10.1.2.3/24\n10.1.2.4/24' count --host-bits
     run 0 $'11.0.0.1\n' '' '10.0.0.1\n11.0.0.1' match --host-bits -v hosts
     run 2 '' "-:1: $host" '10.0.0.1/8' match --host-bits hosts
     run 0 $'10.0.0.1 10.0.0.0/8\n' '' '10.0.0.1' look --host-bits hosts
@@ -334,7 +358,6 @@ rows_of_all_errors() {
     run 2 '' "hosts:1: $host" '' not -k --in 10.0.0.1/8 hosts
     run 2 '' "10.0.0.1/8: $host" '' not -k --in 10.0.0.1/8 ten
     run 1 $'-10.0.0.0/8\n' '' '' diff -k ten -
-    run 0 '' '' '10.0.0.0/8\n' diff -k - -
     run 2 '' "hosts:1: ${host}hosts:1: $host" '' diff -k hosts hosts
     run 2 '' "hosts:1: $host" '' free -k ten 8 hosts
     run 2 '' "-:1: $none-:2: $none" 'x\n10.0.0.1-10.0.0.2\n10.0.0.1/8' check -k
@@ -343,7 +366,7 @@ rows_of_all_errors() {
     run 0 $'10.0.0.1\n' '' '10.0.0.1\n11.0.0.1' match -k ten
     run 2 '' "hosts:1: $host" '' look -k hosts
     run 0 $'10.0.0.1 10.0.0.0/8\n' '' '10.0.0.1' look -k --host-bits hosts
-    run 0 $'10.1.2.3 10.1.0.0/16 x  y\n' '' '10.1.2.3' look -k owners
+    run 0 $'10.1.2.3 10.1.0.0/16 x  y \t; z\n' '' '10.1.2.3' look -k owners
     run 2 '' "$usage" '' show -k ::1
     run 2 '' "$usage" '' -k merge
     run 2 '' "$usage" '' merge ten -k
@@ -384,6 +407,7 @@ rows_where_a_stream_fails() {
     run 1 '' '' '' look owners
     run 3 '' $'output failed\n' '' not --in ::/0 ten
     run 3 '' $'output failed\n' '10.0.0.1' match ten
+    run 3 '' $'output failed\n' '10.0.0.1\nx' match ten
     run 3 '' $'output failed\n' '10.0.0.1' match -c ten
     run 3 '' $'output failed\n' '(10.0.0.1)' match --any ten
     run 0 '' '' '10.0.0.1' match -q ten
@@ -440,23 +464,6 @@ rows_without_memory() {
     refuse '10.0.0.1\n11.0.0.1\n2001:db8::1' look owners
 }
 
-# Standard error shows how far reading is, where it is a terminal and the run takes longer than a second.
-slow_input() {
-    local slow='(printf "10.0.0.0/9\n"; sleep 1.2; printf "10.128.0.0/9\n") | "$program" merge' shown
-    if command -v script >/dev/null; then
-        shown=$(program=$program script -qec "$slow" /dev/null </dev/null)
-        if ! [[ $shown =~ ^([0-9]+\ bytes\ read$'\r')+$'\e[K10.0.0.0/8\r'$ ]]; then
-            differs=1
-            echo "$build on a terminal: not as wanted: ${shown@Q}" >&2
-        fi
-    fi
-    shown=$(program=$program sh -c "$slow" 2>&1)
-    if [[ $shown != 10.0.0.0/8 ]]; then
-        differs=1
-        echo "$build without a terminal: not as wanted: ${shown@Q}" >&2
-    fi
-}
-
 printf '10.0.0.0/8\n' >"$room/ten"
 printf '10.0.0.0/8\n::/0\n' >"$room/both"
 printf '8000::/1\n' >"$room/eight"
@@ -481,6 +488,7 @@ for build in netset netset.by-rattle; do
     chmod 755 "$program"
     rows
     rows_of_ranges
+    rows_of_input_twice
     rows_of_changes
     rows_of_pools
     rows_of_findings
@@ -491,7 +499,7 @@ for build in netset netset.by-rattle; do
     rows_of_host_bits
     rows_of_all_errors
     long_list
-    slow_input
+    runs/streams.py "$program" || differs=1
     if command -v "${CC:-cc}" >/dev/null; then
         rows_without_memory
     fi

@@ -1,5 +1,5 @@
 -- The commands, their arguments and what each answers.
-use Rattle.std.specs.Prelude.{◌≡◌, ℕ, ◌≤◌, ◌==◌, nat_lt, Bool, true, false, if◌then◌else◌, ◌&&◌, ◌||◌, ◌⊎◌, List, [], ◌∷◌, ◌++◌, length, drop, take_while, codes, Option, Some}
+use Rattle.std.specs.Prelude.{◌≡◌, ℕ, ◌<◌, ◌≤◌, ◌==◌, nat_lt, Bool, true, false, if◌then◌else◌, ◌&&◌, ◌||◌, ◌⊎◌, List, [], ◌∷◌, ◌++◌, length, drop, count_by, take_while, codes, Option, Some}
 use Rattle.std.specs.List.{AllZip, list_all, list_any, prefix_len, slice_index}
 use Rattle.cidr.specs.either.IpText.{IsIpNetworkText}
 use Rattle.cidr.specs.declared.cidr.combined.IpCidr.{IpCidr}
@@ -42,9 +42,13 @@ pub data Request : Type 0 where
 abbrev pub is_option : List ℕ → Bool
 is_option word = nat_lt 1 (length word) && (slice_index word 0 == 45)
 
--- the files that are read: those named, or the standard input, whose name is -
+-- the name of the standard input
+abbrev pub input_name : List ℕ
+input_name = codes "-"
+
+-- the files that are read: those named, or the standard input
 abbrev pub read_files : List (List ℕ) → List (List ℕ)
-read_files [] = codes "-" ∷ []
+read_files [] = input_name ∷ []
 read_files (file ∷ files) = file ∷ files
 
 -- the arguments are this request; no file has the name of an option
@@ -61,7 +65,7 @@ IsRequest words (Check files) = (words ≡ codes "check" ∷ files) × (list_any
 IsRequest words (Match options list file) = (files : List (List ℕ)) × (words ≡ codes "match" ∷ (options ++ list ∷ files))
     × (list_all is_match_option options ≡ true) × (is_option list ≡ false) × (list_any is_option files ≡ false)
     × (read_files files ≡ file ∷ [])
-IsRequest words (Look table file) = ((words ≡ codes "look" ∷ table ∷ file ∷ []) ⊎ ((words ≡ codes "look" ∷ table ∷ []) × (file ≡ codes "-")))
+IsRequest words (Look table file) = ((words ≡ codes "look" ∷ table ∷ file ∷ []) ⊎ ((words ≡ codes "look" ∷ table ∷ []) × (file ≡ input_name)))
     × (is_option table ≡ false) × (is_option file ≡ false)
 IsRequest words (Single request) = IsSingle words request
 IsRequest words Help = words ≡ codes "--help" ∷ []
@@ -70,6 +74,30 @@ IsRequest words Version = words ≡ codes "--version" ∷ []
 -- the arguments are no request
 abbrev pub IsUsage : List (List ℕ) → Type 0
 IsUsage words = (request : Request) → ¬ (IsRequest words request)
+
+-- ---- the files of a request
+-- the lists that it reads
+abbrev pub lists_of : Request → List (List ℕ)
+lists_of (Lists operation files) = read_files files
+lists_of (NotIn net files) = read_files files
+lists_of (Diff old new) = old ∷ new ∷ []
+lists_of (Free pool len used) = pool ∷ used
+lists_of (Check files) = read_files files
+lists_of (Match options list file) = list ∷ []
+lists_of (Look table file) = table ∷ []
+lists_of (Single request) = []
+lists_of Help = []
+lists_of Version = []
+
+-- what it reads beside them
+abbrev pub others_of : Request → List (List ℕ)
+others_of (Match options list file) = file ∷ []
+others_of (Look table file) = file ∷ []
+others_of request = []
+
+-- the standard input is named twice among them, or once where it is read also without a name
+abbrev pub ReadsInputTwice : Request → Type 0
+ReadsInputTwice request = 1 < count_by (is_word input_name) (lists_of request ++ others_of request)
 
 -- ---- options of reading, which stand behind the command
 abbrev pub is_reading_option : List ℕ → Bool

@@ -33,3 +33,4 @@ abbrev pub IsBadLength : List ℕ → List ℕ → ArgumentError → Type 0
 IsBadLength len text (bad.Network e) = ⊥
 IsBadLength len text bad.Length = (text ≡ len) × ((n : ℕ) → IsNumber len n → 128 < n)
 IsBadLength len text bad.Index = ⊥
+IsBadLength len text bad.ReadTwice = ⊥

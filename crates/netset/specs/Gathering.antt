@@ -4,11 +4,11 @@ use Rattle.std.specs.List.{flat_map}
 use Rattle.cidr.specs.declared.cidr.combined.IpCidr.{IpCidr}
 use Rattle.cidr_io.specs.Writing.{State, Part, Writes, Answered}
 use Rattle.cidr_io.specs.declared.sink.OutputFailed.{OutputFailed}
-use Rattle.netset.specs.Collecting.{Collects}
+use Rattle.cidr_io.specs.Collecting.{Collects}
 use Rattle.netset.specs.Matching.{ArePicked, FieldSays, IsBadField, IsCutAt, IsMatch, last_line, line_written}
 use Rattle.netset.specs.Printing.{line}
 use Rattle.netset.specs.Program.{by_output}
-use Rattle.netset.specs.Streaming.{IsBegun, IsCutShort}
+use Rattle.netset.specs.Streaming.{IsCutShort}
 use Rattle.netset.specs.declared.answers.Verdict.{Verdict}
 use Rattle.netset.specs.declared.answers.Verdict.TheVariants.{Yes, No}
 use Rattle.netset.specs.declared.errors.CommandError.{CommandError}
@@ -38,14 +38,14 @@ IsUnreadable file error.NoMemory = Unit {0}
 IsUnreadable file error.Output = ⊥
 
 -- a line is in error, and nothing is written; or the output failed at a line that is picked
-abbrev pub IsLost : (List ℕ → Result Bool LineError → Type 0) → Written → List ℕ → ℕ → List ℕ → State → State → List ℕ → CommandError → Type 0
-IsLost PicksLine what file number part old new block error.Usage = ⊥
-IsLost PicksLine what file number part old new block (error.Argument text e) = ⊥
-IsLost PicksLine what file number part old new block (error.Line name n e) =
-    (name.now ≡ file) × (n ≡ number) × PicksLine part (Err e) × (new ≡ old)
-IsLost PicksLine what file number part old new block (error.Input name) = ⊥
-IsLost PicksLine what file number part old new block error.NoMemory = ⊥
-IsLost PicksLine what file number part old new block error.Output =
+abbrev pub IsLost : (List ℕ → Result Bool LineError → Type 0) → Written → List ℕ → ℕ → List ℕ → State → State → List ℕ → List ℕ → CommandError → Type 0
+IsLost PicksLine what file number part old new block rest error.Usage = ⊥
+IsLost PicksLine what file number part old new block rest (error.Argument text e) = ⊥
+IsLost PicksLine what file number part old new block rest (error.Line name n e) =
+    (name.now ≡ file) × (n ≡ number) × PicksLine part (Err e) × (new ≡ old) × (rest ≡ block)
+IsLost PicksLine what file number part old new block rest (error.Input name) = ⊥
+IsLost PicksLine what file number part old new block rest error.NoMemory = ⊥
+IsLost PicksLine what file number part old new block rest error.Output =
     PicksLine part (Ok true) × Part old new (block ++ line_written what part)
 
 -- the line of a part is gathered, if it is one and is picked
@@ -55,7 +55,7 @@ TakesPart PicksLine what file number part more old new before after (Ok _) = (pi
     × ArePicked PicksLine (lines_of_part part more) picked × (after.count ≡ before.count + length picked) × (length picked ≤ 1)
     × Collects old new before.block after.block (flat_map (line_written what) picked) (Ok tt)
 TakesPart PicksLine what file number part more old new before after (Err e) =
-    (lines_of_part part more ≡ part ∷ []) × IsLost PicksLine what file number part old new before.block e
+    (lines_of_part part more ≡ part ∷ []) × IsLost PicksLine what file number part old new before.block after.block e
 
 -- what is written behind the lines
 abbrev pub rest_written : Written → ℕ → List ℕ
@@ -73,6 +73,16 @@ abbrev pub Finishes : Written → State → State → Gathered → Result Verdic
 Finishes what old new gathered r = (verdict : Verdict) × (w : Result (Unit {0}) OutputFailed) × IsCounted gathered.count verdict
     × Writes old new (gathered.block ++ rest_written what gathered.count) w × (r ≡ by_output verdict w)
 
+-- the error for which no more lines are read, or that the output has failed at what is not yet written
+abbrev pub ended_by : CommandError → Result (Unit {0}) OutputFailed → CommandError
+ended_by e (Ok _) = e
+ended_by e (Err _) = error.Output
+
+-- what is not yet written is written, and the run ends with an error
+abbrev pub Stops : CommandError → State → State → List ℕ → Result Verdict CommandError → Type 0
+Stops error.Output old new block r = (new ≡ old) × (r ≡ Err error.Output)
+Stops e old new block r = (w : Result (Unit {0}) OutputFailed) × Writes old new block w × (r ≡ Err (ended_by e w))
+
 -- no part is behind this one, or -q needs no more
 abbrev pub IsDone : Written → Bool → ℕ → Type 0
 IsDone what more count = (more ≡ false) ⊎ ((what ≡ written.Nothing) × (0 < count))
@@ -82,4 +92,4 @@ abbrev pub Streams : (List ℕ → Result Bool LineError → Type 0) → Written
 Streams PicksLine what file known old new r =
     ((answer : List ℕ) × (verdict : Verdict) × (w : Result (Unit {0}) OutputFailed)
     × IfSome known (λ text. IsMatch PicksLine what text answer verdict) × Answered old new answer w × (r ≡ by_output verdict w))
-    ⊎ IsCutShort IsBegun (λ answer e. IfSome known (λ text. IsCutAt PicksLine what text answer e)) file old new r
+    ⊎ IsCutShort (λ answer e. IfSome known (λ text. IsCutAt PicksLine what text answer e)) file old new r

@@ -5,10 +5,10 @@ use Rattle.std.specs.List.{flat_map}
 use Rattle.cidr.specs.texts.Messages.{address_message, parse_message}
 use Rattle.cidr.specs.declared.cidr.combined.IpCidr.{IpCidr}
 use Rattle.cidr_io.specs.Writing.{State, Says as Tells}
-use Rattle.netset.specs.Commands.{Request, Lists, NotIn, Diff, Free, Check, Match, Look, Single, Help, Version, AreTold, read_files}
+use Rattle.netset.specs.Commands.{Request, Check, Look, AreTold}
 use Rattle.netset.specs.Entries.{HasNoHost, LineHas}
 use Rattle.netset.specs.Lists.{Text, IsContent, IsField, IsInError, lines_of, text_by}
-use Rattle.netset.specs.Look.{IsBadLine, IsNoNetworkField, RowSays}
+use Rattle.netset.specs.Look.{IsBadRow, RowSays}
 use Rattle.netset.specs.declared.entries.Entry.{Entry}
 use Rattle.netset.specs.declared.errors.LineError.{LineError}
 use Rattle.netset.specs.declared.errors.LineError.TheVariants.{NotUtf8, NoNetwork, NoAddress, TwoFamilies, Reversed}
@@ -18,20 +18,7 @@ use Rattle.netset.specs.declared.keeping.Kind.TheVariants as kind
 use Rattle.netset.specs.declared.lines.Content.{Content}
 use Rattle.netset.specs.declared.lines.HostBits.{HostBits}
 
--- the lists that a request reads
-abbrev pub lists_of : Request → List (List ℕ)
-lists_of (Lists operation files) = read_files files
-lists_of (NotIn net files) = read_files files
-lists_of (Diff old new) = old ∷ new ∷ []
-lists_of (Free pool len used) = pool ∷ used
-lists_of (Check files) = read_files files
-lists_of (Match options list file) = list ∷ []
-lists_of (Look table file) = table ∷ []
-lists_of (Single request) = []
-lists_of Help = []
-lists_of Version = []
-
--- what their lines are
+-- what the lines of the lists of a request are
 abbrev pub kind_of : Request → Kind
 kind_of (Check files) = kind.Hosts
 kind_of (Look table file) = kind.Rows
@@ -47,7 +34,7 @@ IsSound kind.Rows bits line = (said : Option (IpCidr × List ℕ)) × RowSays bi
 abbrev pub IsFaulty : Kind → HostBits → List ℕ → LineError → Type 0
 IsFaulty kind.Networks bits line e = IsInError bits line e
 IsFaulty kind.Hosts bits line e = HasNoHost line e
-IsFaulty kind.Rows bits line e = IsBadLine (IsNoNetworkField bits) line e
+IsFaulty kind.Rows bits line e = IsBadRow bits line e
 
 -- the errors of lines of which the first has this number: each with the number of its line, in their order
 abbrev pub AreErrors : Kind → HostBits → ℕ → List (List ℕ) → List (ℕ × LineError) → Type 0

@@ -1,9 +1,8 @@
 -- What has to be believed: what lists say, what commands answer, and a run of the program. `Reading`, `Command`,
--- `Collecting`, `Gathering`, `Loading`, `Answering` and `LookUps` are what private functions promise.
+-- `Gathering`, `Loading`, `Answering` and `LookUps` are what private functions promise.
 pub mod Lists
 pub mod Reading
 pub mod Printing
-pub mod Collecting
 pub mod Single
 pub mod Sets
 pub mod Changes

@@ -57,8 +57,12 @@ lines_of text = slice_split is_line_feed text
 abbrev pub IsField : List ℕ → List ℕ → Type 0
 IsField line field = IsTrimAscii (before_first is_comment_sign line) field
 
+-- the field is empty, or begins a comment
+abbrev pub SaysNothing : List ℕ → Type 0
+SaysNothing field = before_first is_comment_sign field ≡ []
+
 -- what stands before the first ASCII white space, behind white space at the front: `match` takes it of a line as it
--- stands, so that a comment sign may be in it, and `look` of a line without its comment
+-- stands, and `look` of a row of a table, so that a comment sign may be in it, and `look` of an address without its comment
 abbrev pub IsFirstField : List ℕ → List ℕ → Type 0
 IsFirstField bytes field = (rest : List ℕ) × IsTrimAsciiStart bytes rest × (field ≡ before_first is_ascii_whitespace rest)
 

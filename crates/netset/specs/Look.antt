@@ -14,7 +14,7 @@ use Rattle.cidr.specs.declared.family.Family.{Family}
 use Rattle.cidr.specs.declared.family.Family.TheVariants.{Ipv4, Ipv6}
 use Rattle.cidr_table.specs.LastRows.{AreLastRows}
 use Rattle.cidr_table.specs.Prefixes.{IsLookedUp}
-use Rattle.netset.specs.Lists.{Text, IsField, IsFirstField, IsNetworkBy, IsNoAddress, IsNoNetworkBy, lines_of}
+use Rattle.netset.specs.Lists.{Text, IsField, IsFirstField, SaysNothing, IsNetworkBy, IsNoAddress, IsNoNetworkBy, lines_of}
 use Rattle.netset.specs.Streaming.{IsCut}
 use Rattle.netset.specs.declared.answers.Verdict.{Verdict}
 use Rattle.netset.specs.declared.answers.Verdict.TheVariants.{Yes, No}
@@ -25,10 +25,21 @@ use Rattle.netset.specs.declared.errors.LineError.TheVariants.{NotUtf8, NoNetwor
 use Rattle.netset.specs.declared.lines.HostBits.{HostBits}
 
 -- ---- lines
--- the first field of a line that isn't blank, up to white space, and the rest without white space at both ends
+-- the first field of a string, up to white space, and the rest without white space at both ends
+abbrev pub AreParts : List ℕ → List ℕ → List ℕ → Type 0
+AreParts field first rest = IsFirstField field first × IsTrimAscii (drop (length first) field) rest
+
+-- those of a line without its comment, if there is anything
 abbrev pub IsSplit : List ℕ → List ℕ → List ℕ → Type 0
-IsSplit line first rest = (field : List ℕ) × IsField line field × (field ≢ [])
-    × IsFirstField field first × IsTrimAscii (drop (length first) field) rest
+IsSplit line first rest = (field : List ℕ) × IsField line field × (field ≢ []) × AreParts field first rest
+
+-- those of a row of a table: only a whole line is a comment there, so that a value may have any bytes
+abbrev pub IsRowSplit : List ℕ → List ℕ → List ℕ → Type 0
+IsRowSplit line first value = (field : List ℕ) × IsTrimAscii line field × ¬ (SaysNothing field) × AreParts field first value
+
+-- the line is blank or a comment
+abbrev pub IsNoRow : List ℕ → Type 0
+IsNoRow line = (field : List ℕ) × IsTrimAscii line field × SaysNothing field
 
 -- the first field is no network, and this is the error
 abbrev pub IsNoNetworkField : HostBits → List ℕ → LineError → Type 0
@@ -42,15 +53,19 @@ IsNoAddressField first NotUtf8 = ¬ (IsUtf8 first)
 IsNoAddressField first (NoAddress e) = (e ≡ ip_error) × IsNoAddress first
 IsNoAddressField first e = ⊥
 
--- the line is in error by its first field
-abbrev pub IsBadLine : (List ℕ → LineError → Type 0) → List ℕ → LineError → Type 0
-IsBadLine IsBad line e = (first : List ℕ) × (rest : List ℕ) × IsSplit line first rest × IsBad first e
+-- the row of a table is in error by its first field
+abbrev pub IsBadRow : HostBits → List ℕ → LineError → Type 0
+IsBadRow bits line e = (first : List ℕ) × (value : List ℕ) × IsRowSplit line first value × IsNoNetworkField bits first e
+
+-- the line that is looked up is in error by its first field
+abbrev pub IsBadLine : List ℕ → LineError → Type 0
+IsBadLine line e = (first : List ℕ) × (rest : List ℕ) × IsSplit line first rest × IsNoAddressField first e
 
 -- ---- a table
 -- the line of a table says nothing, or a network and its value
 abbrev pub RowSays : HostBits → List ℕ → Option (IpCidr × List ℕ) → Type 0
-RowSays bits line None = IsField line []
-RowSays bits line (Some (network, value)) = (first : List ℕ) × IsSplit line first value × IsNetworkBy bits first network
+RowSays bits line None = IsNoRow line
+RowSays bits line (Some (network, value)) = (first : List ℕ) × IsRowSplit line first value × IsNetworkBy bits first network
 
 -- a network of either family with what belongs to it, if it is of this family
 abbrev pub row_in : {V : Type 0} → Family → IpCidr × V → List (List Bool × V)
@@ -77,7 +92,7 @@ IsTable text table = (said : List (Option (IpCidr × List ℕ))) × AllZip (RowS
 abbrev pub IsUnreadTable : Option Text → List ℕ → CommandError → Type 0
 IsUnreadTable told name (error.Line file number e) = (file.now ≡ name) × ((text : Text) → told ≡ Some text
     → (said : List (Option (IpCidr × List ℕ)))
-    × IsCut (AllZip (RowSays text.host_bits)) (IsBadLine (IsNoNetworkField text.host_bits)) (lines_of text.bytes) said (error.Line file number e))
+    × IsCut (AllZip (RowSays text.host_bits)) (IsBadRow text.host_bits) (lines_of text.bytes) said (error.Line file number e))
 IsUnreadTable told name (error.Input file) = file.now ≡ name
 IsUnreadTable told name error.NoMemory = Unit {0}
 IsUnreadTable told name e = ⊥
@@ -132,4 +147,4 @@ IsLook rows text answer verdict = (table : Family → List (List Bool × List �
 -- the same of the lines that were read, where the text was not read to its end, for this reason
 abbrev pub IsLookCut : Text → List ℕ → List ℕ → CommandError → Type 0
 IsLookCut rows text answer e = (table : Family → List (List Bool × List ℕ)) × IsTable rows table × (looks : List (Option LookUp))
-    × IsCut (AllZip (LineLooks table)) (IsBadLine IsNoAddressField) (lines_of text) looks e × (answer ≡ flat_map look_line looks)
+    × IsCut (AllZip (LineLooks table)) IsBadLine (lines_of text) looks e × (answer ≡ flat_map look_line looks)

@@ -10,9 +10,9 @@ use Rattle.cidr.specs.declared.family.Family.TheVariants.{Ipv4, Ipv6}
 use Rattle.cidr_io.specs.Writing.{State, Part, Answered}
 use Rattle.cidr_io.specs.declared.sink.OutputFailed.{OutputFailed}
 use Rattle.cidr_table.specs.Prefixes.{IsLookedUp}
-use Rattle.netset.specs.Collecting.{Collects}
+use Rattle.cidr_io.specs.Collecting.{Collects}
 use Rattle.netset.specs.Lists.{Text, lines_of}
-use Rattle.netset.specs.Look.{IsBadLine, IsNoAddressField, IsNoNetworkField, IsTable, IsUnreadTable, LineLooks, LookUp, RowSays, found_line, is_found, look_line, row_in, rows_in}
+use Rattle.netset.specs.Look.{IsBadLine, IsBadRow, IsTable, IsUnreadTable, LineLooks, LookUp, RowSays, found_line, is_found, look_line, row_in, rows_in}
 use Rattle.netset.specs.declared.answers.Verdict.{Verdict}
 use Rattle.netset.specs.declared.answers.Verdict.TheVariants.{Yes, No}
 use Rattle.netset.specs.declared.errors.CommandError.{CommandError}
@@ -76,25 +76,25 @@ pub record AreBeforeError {S : Type 0} (Says : List ℕ → S → Type 0) (IsBad
   pub lines : lines_of text ≡ before ++ line ∷ after
   pub place : number ≡ length before + 1
   pub fine : AllZip Says before said
-  pub fault : IsBadLine IsBad line e
+  pub fault : IsBad line e
 
 -- the error is that of this line, or the line is not known to have one
 abbrev pub IsErrorAt : (List ℕ → LineError → Type 0) → List ℕ → ℕ → ReadError → Type 0
-IsErrorAt IsBad line number (Line n e) = (n ≡ number) × IsBadLine IsBad line e
+IsErrorAt IsBad line number (Line n e) = (n ≡ number) × IsBad line e
 IsErrorAt IsBad line number Input = Unit {0}
 IsErrorAt IsBad line number NoMemory = Unit {0}
 
 -- the row that a line says, if it says one, comes behind those before
 abbrev pub AddsRow : HostBits → List ℕ → ℕ → Rows → Rows → Result (Unit {0}) ReadError → Type 0
 AddsRow bits line number old new (Ok _) = (said : Option (IpCidr × List ℕ)) × RowSays bits line said × Adds old new said
-AddsRow bits line number old new (Err e) = IsErrorAt (IsNoNetworkField bits) line number e
+AddsRow bits line number old new (Err e) = IsErrorAt (IsBadRow bits) line number e
 
 -- the rows that a text says, or its first line in error, or nothing of the text where reading has stopped
 abbrev pub ReadsRows : Text → Result Rows ReadError → Type 0
 ReadsRows text (Ok rows) = (said : List (Option (IpCidr × List ℕ)))
     × AllZip (RowSays text.host_bits) (lines_of text.bytes) said × Stores rows said
 ReadsRows text (Err (Line number e)) = (said : List (Option (IpCidr × List ℕ)))
-    × AreBeforeError (RowSays text.host_bits) (IsNoNetworkField text.host_bits) text.bytes said number e
+    × AreBeforeError (RowSays text.host_bits) (IsBadRow text.host_bits) text.bytes said number e
 ReadsRows text (Err Input) = Unit {0}
 ReadsRows text (Err NoMemory) = Unit {0}
 
@@ -138,13 +138,13 @@ abbrev pub LooksLine : (Family → List (List Bool × List ℕ)) → List ℕ �
 LooksLine table line number old new block rest (Ok found) = (look : Option LookUp) × LineLooks table line look
     × Collects old new block rest (look_line look) (Ok tt) × (found ≡ is_found look)
 LooksLine table line number old new block rest (Err (Reading e)) =
-    IsErrorAt IsNoAddressField line number e × Collects old new block rest [] (Ok tt)
+    IsErrorAt IsBadLine line number e × Collects old new block rest [] (Ok tt)
 LooksLine table line number old new block rest (Err Output) =
     (look : Option LookUp) × LineLooks table line look × Part old new (block ++ look_line look)
 
 -- why no more lines are read
 abbrev pub EndsReading : (Family → List (List Bool × List ℕ)) → List ℕ → List (Option LookUp) → ReadError → Type 0
-EndsReading table text looks (Line number e) = AreBeforeError (LineLooks table) IsNoAddressField text looks number e
+EndsReading table text looks (Line number e) = AreBeforeError (LineLooks table) IsBadLine text looks number e
 EndsReading table text looks Input = AreFirst (LineLooks table) text looks
 EndsReading table text looks NoMemory = AreFirst (LineLooks table) text looks
 

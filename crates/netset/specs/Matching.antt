@@ -1,7 +1,7 @@
 -- The lines of a file whose first field lies in a list, or that have an address of it.
 use Rattle.std.specs.Prelude.{◌≡◌, ◌≢◌, ◌⊎◌, ℕ, Bool, true, false, ◌||◌, if◌then◌else◌, List, [], ◌∷◌, length, codes, decimal, Option, Some, None, Result, Ok, Err, Contains}
 use Rattle.std.specs.Bool.{Decides}
-use Rattle.std.specs.List.{AllZip, before_first, flat_map, items_where_true, list_any}
+use Rattle.std.specs.List.{AllZip, flat_map, items_where_true, list_any}
 use Rattle.std.specs.Str.{bytes_eq}
 use Rattle.cidr.specs.either.IpNetwork.{network_family, network_prefix}
 use Rattle.cidr.specs.either.IpText.{IsIpNetworkText}
@@ -10,7 +10,7 @@ use Rattle.cidr.specs.texts.AddressText.{IsAddressText}
 use Rattle.cidr.specs.declared.cidr.combined.IpCidr.{IpCidr}
 use Rattle.cidr.specs.declared.family.Family.{Family}
 use Rattle.netset.specs.Combining.{Turned}
-use Rattle.netset.specs.Lists.{IsFirstField, is_comment_sign, lines_of}
+use Rattle.netset.specs.Lists.{IsFirstField, SaysNothing, lines_of}
 use Rattle.netset.specs.Look.{IsNoNetworkField}
 use Rattle.netset.specs.Printing.{line}
 use Rattle.netset.specs.Streaming.{IsCut, ReadTo}
@@ -57,10 +57,6 @@ lines_among (part ∷ next ∷ parts) = part ∷ lines_among (next ∷ parts)
 -- the lines of a text, each without its line feed, which the last may lack
 abbrev pub lines_in : List ℕ → List (List ℕ)
 lines_in text = lines_among (lines_of text)
-
--- the field is empty, or begins a comment
-abbrev pub SaysNothing : List ℕ → Type 0
-SaysNothing field = before_first is_comment_sign field ≡ []
 
 -- the first field says nothing, or this network
 abbrev pub FieldSays : List ℕ → Option IpCidr → Type 0

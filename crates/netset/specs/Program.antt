@@ -1,5 +1,5 @@
 -- What a run of the program does with its arguments, the files, standard output and standard error.
-use Rattle.std.specs.Prelude.{◌≡◌, ◌≢◌, ℕ, true, false, List, [], ◌∷◌, ◌++◌, ◌⊎◌, codes, Option, Some, option_map, Result, Ok, Err, Contains}
+use Rattle.std.specs.Prelude.{◌≡◌, ◌≢◌, ℕ, Bool, true, false, List, [], ◌∷◌, ◌++◌, ◌⊎◌, codes, Option, Some, option_map, Result, Ok, Err, Contains}
 use Rattle.std.specs.List.{AllZip}
 use Rattle.cidr.specs.texts.Messages.{parse_message}
 use Rattle.cidr.specs.either.IpText.{IsIpNetworkText}
@@ -8,12 +8,12 @@ use Rattle.cidr_io.specs.Arguments.{AreArguments, AreUnreadable}
 use Rattle.cidr_io.specs.Writing.{State, Answered, Says as Tells}
 use Rattle.cidr_io.specs.declared.sink.OutputFailed.{OutputFailed}
 use Rattle.netset.specs.Lists.{Text, text_by, ListSays, IsFirstError}
-use Rattle.netset.specs.Commands.{Request, Lists, NotIn, Diff, Free, Check, Match, Look, Single, Help, Version, IsRequest, IsUsage, MayRead, reading_of, reading_options, without_options, read_files, AreTold, IsAnswer, Says}
+use Rattle.netset.specs.Commands.{Request, Lists, NotIn, Diff, Free, Check, Match, Look, Single, Help, Version, IsRequest, IsUsage, MayRead, ReadsInputTwice, input_name, lists_of, reading_of, reading_options, without_options, read_files, AreTold, IsAnswer, Says}
 use Rattle.netset.specs.Free.{IsBadLength}
-use Rattle.netset.specs.Keeping.{AreTellings, fault_line, kind_of, lists_of}
+use Rattle.netset.specs.Keeping.{AreTellings, fault_line, kind_of}
 use Rattle.netset.specs.Look.{IsLookCut, IsUnreadTable}
 use Rattle.netset.specs.Matching.{has, written_of, IsCutAt, Picks}
-use Rattle.netset.specs.Streaming.{IsBegun, IsCutShort, IsWritten}
+use Rattle.netset.specs.Streaming.{IsCutShort}
 use Rattle.netset.specs.Single.{IsBadSingle, IsNoNetwork}
 use Rattle.netset.specs.Unchecked.{IsUnchecked}
 use Rattle.netset.specs.declared.errors.ArgumentError.{ArgumentError}
@@ -61,7 +61,7 @@ IsRefused told (NotIn net files) (Err e) = IsBadArgument (λ text bad. (text ≡
 IsRefused told (Diff old new) (Err e) = IsUnread told (old ∷ new ∷ []) e
 IsRefused told (Free pool len used) (Err e) = IsBadArgument (IsBadLength len) e ⊎ IsUnread told (pool ∷ used) e
 IsRefused told (Check files) (Err e) = IsUnchecked told (read_files files) e
-IsRefused told (Match options list file) (Err e) = IsUnread told (list ∷ []) e
+IsRefused told (Match options list file) (Err e) = IsUnread told (list ∷ []) e ⊎ IsInputError file e
 IsRefused told (Look table file) (Err e) = IsUnreadTable (told table) table e ⊎ IsInputError file e
 IsRefused told (Single request) (Err e) = IsBadArgument (IsBadSingle request) e
 IsRefused told Help (Err e) = ⊥
@@ -94,9 +94,9 @@ IsLookUntil told table file answer e =
 -- what becomes of a request and of the sink
 abbrev pub AnswersRequest : (List ℕ → Option Text) → Request → State → State → Result Verdict CommandError → Type 0
 AnswersRequest told (Match options list file) old new r =
-    AnswersWhole told (Match options list file) old new r ⊎ IsCutShort IsBegun (IsMatchUntil told options list file) file old new r
+    AnswersWhole told (Match options list file) old new r ⊎ IsCutShort (IsMatchUntil told options list file) file old new r
 AnswersRequest told (Look table file) old new r =
-    AnswersWhole told (Look table file) old new r ⊎ IsCutShort IsWritten (IsLookUntil told table file) file old new r
+    AnswersWhole told (Look table file) old new r ⊎ IsCutShort (IsLookUntil told table file) file old new r
 AnswersRequest told request old new r = AnswersWhole told request old new r
 
 -- the lists of the files, read this way
@@ -112,6 +112,7 @@ abbrev pub argument_message : ArgumentError → List ℕ
 argument_message (bad.Network e) = parse_message e
 argument_message bad.Length = codes "no prefix length inside the network"
 argument_message bad.Index = codes "no index below 2^128"
+argument_message bad.ReadTwice = codes "standard input can be read only once"
 
 -- the line that is written to standard error
 abbrev pub error_line : CommandError → List ℕ
@@ -122,10 +123,20 @@ error_line (error.Input name) = name.now ++ codes ": cannot be read\n"
 error_line error.NoMemory = codes "no memory\n"
 error_line error.Output = codes "output failed\n"
 
--- nothing for an answer, and else one line
-abbrev pub Reports : Result Verdict CommandError → State → State → Type 0
-Reports (Ok verdict) old new = new ≡ old
-Reports (Err e) old new = Tells old new (error_line e)
+-- the output has failed since nobody reads it any more, which is no news to anybody
+abbrev pub is_closed_pipe : Bool → CommandError → Bool
+is_closed_pipe closed error.Output = closed
+is_closed_pipe closed e = false
+
+-- the line of an error, but for a pipe that was closed
+abbrev pub ReportsUnless : Bool → CommandError → State → State → Type 0
+ReportsUnless true e old new = new ≡ old
+ReportsUnless false e old new = Tells old new (error_line e)
+
+-- nothing for an answer, and else one line; `closed` tells whether the output has failed since nobody reads it any more
+abbrev pub Reports : Bool → Result Verdict CommandError → State → State → Type 0
+Reports closed (Ok verdict) old new = new ≡ old
+Reports closed (Err e) old new = ReportsUnless (is_closed_pipe closed e) e old new
 
 -- the exit status: 0 done or yes, 1 none, no or findings, 2 usage, reading or a line in error, 3 output or memory
 abbrev pub status_of : Result Verdict CommandError → ℕ
@@ -146,42 +157,52 @@ IsLoadError names e = ⊥
 
 -- a request whose lists are read whole first: each line in error is told, and then nothing is written; where there is
 -- none, the request is answered
-abbrev pub KeepsGoing : (List ℕ → Option Text) → Request → State → State → State → State → ℕ → Type 0
-KeepsGoing told request out new_out err new_err status = (lines : List ℕ) × (mid : State) × Tells err mid lines
+abbrev pub KeepsGoing : (List ℕ → Option Text) → Request → Bool → State → State → State → State → ℕ → Type 0
+KeepsGoing told request closed out new_out err new_err status = (lines : List ℕ) × (mid : State) × Tells err mid lines
     × ((((texts : List Text) → AreTold told (lists_of request) texts → AreTellings (kind_of request) (lists_of request) texts lines)
     × (((lines ≢ []) × (new_out ≡ out) × (new_err ≡ mid) × (status ≡ 2))
-    ⊎ ((lines ≡ []) × (r : Result Verdict CommandError) × AnswersRequest told request out new_out r × Reports r mid new_err × (status ≡ status_of r))))
+    ⊎ ((lines ≡ []) × (r : Result Verdict CommandError) × AnswersRequest told request out new_out r × Reports closed r mid new_err × (status ≡ status_of r))))
     ⊎ ((before after : List (List ℕ)) × (lists_of request ≡ before ++ after)
     × ((texts : List Text) → AreTold told before texts → AreTellings (kind_of request) before texts lines)
-    × (e : CommandError) × IsLoadError after e × (new_out ≡ out) × Reports (Err e) mid new_err × (status ≡ status_of (Err e))))
+    × (e : CommandError) × IsLoadError after e × (new_out ≡ out) × Reports closed (Err e) mid new_err × (status ≡ status_of (Err e))))
 
 -- what becomes of a request, its lists read this way
-abbrev pub RunsRequest : Reading → (List ℕ → Option Text) → Request → State → State → State → State → ℕ → Type 0
-RunsRequest reading told request out new_out err new_err status =
-    ((reading.keeps_going ≡ true) × KeepsGoing told request out new_out err new_err status)
+abbrev pub RunsRequest : Reading → (List ℕ → Option Text) → Request → Bool → State → State → State → State → ℕ → Type 0
+RunsRequest reading told request closed out new_out err new_err status =
+    ((reading.keeps_going ≡ true) × KeepsGoing told request closed out new_out err new_err status)
     ⊎ ((reading.keeps_going ≡ false) × (r : Result Verdict CommandError) × AnswersRequest told request out new_out r
-    × Reports r err new_err × (status ≡ status_of r))
+    × Reports closed r err new_err × (status ≡ status_of r))
 
 -- the run ends with this error, and nothing is written to standard output
-abbrev pub EndsWith : CommandError → State → State → State → State → ℕ → Type 0
-EndsWith e out new_out err new_err status = (new_out ≡ out) × Reports (Err e) err new_err × (status ≡ status_of (Err e))
+abbrev pub EndsWith : CommandError → Bool → State → State → State → State → ℕ → Type 0
+EndsWith e closed out new_out err new_err status = (new_out ≡ out) × Reports closed (Err e) err new_err × (status ≡ status_of (Err e))
+
+-- the error is that the standard input is read already
+abbrev pub IsReadTwice : CommandError → Type 0
+IsReadTwice e = IsBadArgument (λ text why. (text ≡ input_name) × (why ≡ bad.ReadTwice)) e
+
+-- what becomes of a request by itself: one that reads the standard input more than once is not answered
+abbrev pub RunsOnce : Reading → (List ℕ → Option (List ℕ)) → Request → Bool → State → State → State → State → ℕ → Type 0
+RunsOnce reading told request closed out new_out err new_err status =
+    (ReadsInputTwice request × (e : CommandError) × IsReadTwice e × EndsWith e closed out new_out err new_err status)
+    ⊎ (¬ (ReadsInputTwice request) × RunsRequest reading (told_by reading.host_bits told) request closed out new_out err new_err status)
 
 -- what becomes of arguments without options of reading; others than those of a request are usage
-abbrev pub RunsWords : Reading → (List ℕ → Option (List ℕ)) → List (List ℕ) → State → State → State → State → ℕ → Type 0
-RunsWords reading told words out new_out err new_err status =
-    (IsUsageBy reading words × EndsWith error.Usage out new_out err new_err status)
-    ⊎ ((request : Request) × IsRequest words request × MayRead reading request
-    × RunsRequest reading (told_by reading.host_bits told) request out new_out err new_err status)
+abbrev pub RunsWords : Reading → (List ℕ → Option (List ℕ)) → List (List ℕ) → Bool → State → State → State → State → ℕ → Type 0
+RunsWords reading told words closed out new_out err new_err status =
+    (IsUsageBy reading words × EndsWith error.Usage closed out new_out err new_err status)
+    ⊎ ((request : Request) × IsRequest words request × MayRead reading request × RunsOnce reading told request closed out new_out err new_err status)
 
 -- the same of arguments with options of reading, or there was no memory for them
-abbrev pub RunsArguments : (List ℕ → Option (List ℕ)) → List (List ℕ) → State → State → State → State → ℕ → Type 0
-RunsArguments told words out new_out err new_err status =
-    RunsWords (reading_of (reading_options words)) told (without_options words) out new_out err new_err status
-    ⊎ EndsWith error.NoMemory out new_out err new_err status
+abbrev pub RunsArguments : (List ℕ → Option (List ℕ)) → List (List ℕ) → Bool → State → State → State → State → ℕ → Type 0
+RunsArguments told words closed out new_out err new_err status =
+    RunsWords (reading_of (reading_options words)) told (without_options words) closed out new_out err new_err status
+    ⊎ EndsWith error.NoMemory closed out new_out err new_err status
 
--- A run, from the arguments and the files to the exit status.
-abbrev pub Runs : Option (List (List ℕ)) → (List ℕ → Option (List ℕ)) → State → State → State → State → ℕ → Type 0
-Runs words told out new_out err new_err status =
-    ((given : List (List ℕ)) × AreArguments words given × RunsArguments told given out new_out err new_err status)
-    ⊎ ((AreUnreadable words × EndsWith error.Usage out new_out err new_err status)
-    ⊎ EndsWith error.NoMemory out new_out err new_err status)
+-- A run, from the arguments and the files to the exit status. `closed` tells whether the output has failed since nobody
+-- reads it any more.
+abbrev pub Runs : Option (List (List ℕ)) → (List ℕ → Option (List ℕ)) → Bool → State → State → State → State → ℕ → Type 0
+Runs words told closed out new_out err new_err status =
+    ((given : List (List ℕ)) × AreArguments words given × RunsArguments told given closed out new_out err new_err status)
+    ⊎ ((AreUnreadable words × EndsWith error.Usage closed out new_out err new_err status)
+    ⊎ EndsWith error.NoMemory closed out new_out err new_err status)

@@ -36,7 +36,7 @@ Held sets family a = Covers (held sets family) a
 
 -- how many addresses of each family, a line each
 abbrev pub printed_counts : (Family → ℕ) → List ℕ
-printed_counts count = codes "Ipv4 " ++ (decimal (count Ipv4) ++ (codes "\nIpv6 " ++ (decimal (count Ipv6) ++ codes "\n")))
+printed_counts count = codes "IPv4 " ++ (decimal (count Ipv4) ++ (codes "\nIPv6 " ++ (decimal (count Ipv6) ++ codes "\n")))
 
 -- the sets have so many addresses of each family
 abbrev pub HaveCounts : (Family → List (List Bool)) → (Family → ℕ) → Type 0

@@ -40,8 +40,8 @@ IsNumber text n = IsNumeral 10 (without_leading_plus text) × (n ≡ digits_valu
 
 -- the name of a family
 abbrev pub family_name : Family → List ℕ
-family_name Ipv4 = codes "Ipv4"
-family_name Ipv6 = codes "Ipv6"
+family_name Ipv4 = codes "IPv4"
+family_name Ipv6 = codes "IPv6"
 
 -- what there is to say of a network: itself, its first and last address, its mask, its prefix length and its family
 abbrev pub network_lines : IpCidr → List ℕ
@@ -95,17 +95,21 @@ abbrev pub IsNoNetwork : List ℕ → ArgumentError → Type 0
 IsNoNetwork text (bad.Network e) = IsIpRefused text e × ((n : IpCidr) → ¬ (IsIpNetworkText text n))
 IsNoNetwork text bad.Length = ⊥
 IsNoNetwork text bad.Index = ⊥
+IsNoNetwork text bad.ReadTwice = ⊥
 
 -- the first argument that is wrong, and its error: no network, and else no length of networks inside, or no index below 2^128
 abbrev pub IsBadSingle : SingleRequest → List ℕ → ArgumentError → Type 0
 IsBadSingle (Show host) text (bad.Network e) = (text ≡ host) × IsIpHostRefused host e × ((h : IpInet) → ¬ (IsIpHostText host h))
 IsBadSingle (Show host) text bad.Length = ⊥
 IsBadSingle (Show host) text bad.Index = ⊥
+IsBadSingle (Show host) text bad.ReadTwice = ⊥
 IsBadSingle (Split net len) text (bad.Network e) = (text ≡ net) × IsNoNetwork net (bad.Network e)
 IsBadSingle (Split net len) text bad.Length =
     (text ≡ len) × (network : IpCidr) × IsIpNetworkText net network × ((n : ℕ) → IsNumber len n → HasNone network n)
 IsBadSingle (Split net len) text bad.Index = ⊥
+IsBadSingle (Split net len) text bad.ReadTwice = ⊥
 IsBadSingle (Nth net place) text (bad.Network e) = (text ≡ net) × IsNoNetwork net (bad.Network e)
 IsBadSingle (Nth net place) text bad.Length = ⊥
 IsBadSingle (Nth net place) text bad.Index =
     (text ≡ place) × (network : IpCidr) × IsIpNetworkText net network × ((i : ℕ) → IsNumber place i → 2 ^ 128 ≤ i)
+IsBadSingle (Nth net place) text bad.ReadTwice = ⊥

@@ -30,18 +30,12 @@ IsStop IsBad read left e = Unit {0}
 abbrev pub IsCut : {S : Type 0} → (List (List ℕ) → S → Type 0) → (List ℕ → LineError → Type 0) → List (List ℕ) → S → CommandError → Type 0
 IsCut Say IsBad all said e = (read left : List (List ℕ)) × ReadTo Say all read left said × IsStop IsBad read left e
 
--- a beginning of a text was written; where the output has failed it was the sink, which got nothing if it had before
-abbrev pub IsBegun : State → State → List ℕ → CommandError → Type 0
-IsBegun old new text error.Output = Part old new text × (old.failed ≡ true → new ≡ old)
-IsBegun old new text e = (front rest : List ℕ) × (text ≡ front ++ rest) × Whole old new front
-
--- the same, and all of it where the output has not failed
+-- a text was written; or the output has failed, and a beginning of it was written, none if it had failed before
 abbrev pub IsWritten : State → State → List ℕ → CommandError → Type 0
-IsWritten old new text error.Output = IsBegun old new text error.Output
+IsWritten old new text error.Output = Part old new text × (old.failed ≡ true → new ≡ old)
 IsWritten old new text e = Whole old new text × (new.failed ≡ false)
 
--- a file was not read to its end, and of what belongs to the lines that were read this was written
-abbrev pub IsCutShort : (State → State → List ℕ → CommandError → Type 0) → (List ℕ → CommandError → Type 0) → List ℕ → State → State
-    → Result Verdict CommandError → Type 0
-IsCutShort Goes Belongs file old new r = (e : CommandError) × (r ≡ Err e) × IsOfFile file e
-    × (answer : List ℕ) × Goes old new answer e × Belongs answer e
+-- a file was not read to its end, and what belongs to the lines that were read was written
+abbrev pub IsCutShort : (List ℕ → CommandError → Type 0) → List ℕ → State → State → Result Verdict CommandError → Type 0
+IsCutShort Belongs file old new r = (e : CommandError) × (r ≡ Err e) × IsOfFile file e
+    × (answer : List ℕ) × IsWritten old new answer e × Belongs answer e

@@ -6,12 +6,11 @@ ghost use Rattle.cidr.specs.declared.family.Family.{Family};
 ghost use Rattle.cidr_io.specs.Writing.{Answered, Writes};
 ghost use Rattle.netset.specs.Answering.{changed};
 ghost use Rattle.netset.specs.Changes.{AreSame, adds_first, change_line, merged, printed_changes, sign_text};
-ghost use Rattle.netset.specs.Collecting.{Collects};
+ghost use Rattle.cidr_io.specs.Collecting.{Collects};
 ghost use Rattle.netset.specs.Commands.{Diff};
 ghost use Rattle.netset.specs.Program.{AnswersRequest};
 
 use crate::answers::{Verdict, by_output};
-use crate::collecting::Block;
 use crate::errors::CommandError;
 use crate::files::Sources;
 use crate::operations::Step;
@@ -19,6 +18,7 @@ use crate::printing::Printed;
 use crate::sets::Sets;
 use crate::several::read_both;
 use cidr::NetworkBits;
+use cidr_io::block::Block;
 use cidr_io::sink::{OutputFailed, Sink};
 use cidr_io::writing::flush;
 use std::alloc::Global;
@@ -99,7 +99,7 @@ fn push_change<C: Printed, S: Sink>(
     ensures { Collects (S.state out.old) (S.state out.new) block.old block.new (change_line C.text change) result }
 {
     let text = change.1.printed();
-    block.push_parts(
+    block.push_line(
         out,
         &[
             sign_text(change.0).as_bytes(),

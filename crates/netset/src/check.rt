@@ -2,17 +2,17 @@
 ghost use Rattle.std.specs.Prelude.{◌≡◌, map};
 ghost use Rattle.std.specs.List.{flat_map};
 ghost use Rattle.cidr_io.specs.Writing.{Answered, Writes};
-ghost use Rattle.netset.specs.Collecting.{Collects};
+ghost use Rattle.cidr_io.specs.Collecting.{Collects};
 ghost use Rattle.netset.specs.Commands.{Check};
 ghost use Rattle.netset.specs.Findings.{IsClean, note_line};
 ghost use Rattle.netset.specs.Program.{AnswersRequest};
 
 use crate::answers::{Verdict, by_output};
-use crate::collecting::Block;
 use crate::entries::read_entries;
 use crate::errors::CommandError;
 use crate::files::Sources;
 use crate::findings::{Finding, Note, findings_of};
+use cidr_io::block::Block;
 use cidr_io::sink::{OutputFailed, Sink};
 use cidr_io::writing::flush;
 use itoa::Buffer;
@@ -27,9 +27,9 @@ fn push_note<S: Sink>(block: &mut Block, out: &mut S, note: &Note<'_>) -> Result
     let number = buffer.format(note.place.number).as_bytes();
     match &note.finding {
         Finding::HostBits => {
-            block.push_parts(out, &[file, b":", number, b": ", b"host bits set", b"\n"])
+            block.push_line(out, &[file, b":", number, b": ", b"host bits set", b"\n"])
         }
-        Finding::NotCanonical(host) => block.push_parts(
+        Finding::NotCanonical(host) => block.push_line(
             out,
             &[
                 file,
@@ -41,7 +41,7 @@ fn push_note<S: Sink>(block: &mut Block, out: &mut S, note: &Note<'_>) -> Result
                 b"\n",
             ],
         ),
-        Finding::Repeats(place) => block.push_parts(
+        Finding::Repeats(place) => block.push_line(
             out,
             &[
                 file,
@@ -55,7 +55,7 @@ fn push_note<S: Sink>(block: &mut Block, out: &mut S, note: &Note<'_>) -> Result
                 b"\n",
             ],
         ),
-        Finding::Inside(outer, place) => block.push_parts(
+        Finding::Inside(outer, place) => block.push_line(
             out,
             &[
                 file,
@@ -71,7 +71,7 @@ fn push_note<S: Sink>(block: &mut Block, out: &mut S, note: &Note<'_>) -> Result
                 b"\n",
             ],
         ),
-        Finding::Mergeable(place) => block.push_parts(
+        Finding::Mergeable(place) => block.push_line(
             out,
             &[
                 file,

@@ -1,8 +1,9 @@
 //! The fields of a line.
 ghost use Rattle.std.specs.Prelude.{◌≤◌, [], length, MatchOption, MatchResult};
+ghost use Rattle.std.specs.Bool.{Decides};
 ghost use Rattle.cidr.specs.either.IpAddress.{IsIpText};
-ghost use Rattle.netset.specs.Lists.{IsField, IsFirstField, IsNetworkBy};
-ghost use Rattle.netset.specs.Look.{IsNoAddressField, IsNoNetworkField, IsSplit};
+ghost use Rattle.netset.specs.Lists.{IsField, IsFirstField, IsNetworkBy, SaysNothing};
+ghost use Rattle.netset.specs.Look.{AreParts, IsNoAddressField, IsNoNetworkField, IsNoRow, IsRowSplit, IsSplit};
 
 use crate::errors::LineError;
 use crate::lines::{HostBits, network_of, without_comment};
@@ -22,6 +23,15 @@ pub fn first_field(bytes: &[u8]) -> &[u8]
     rest
 }
 
+/// The first field of a string, and what stands behind it.
+fn parts_of(field: &[u8]) -> (&[u8], &[u8])
+    ensures { AreParts field.now result.0.now result.1.now }
+{
+    let first = first_field(field);
+    let (_, rest) = field.split_at(first.len());
+    (first, rest.trim_ascii())
+}
+
 /// The first field of a line without its comment, and what stands behind it; `None` for a blank line.
 pub fn split_line(line: &[u8]) -> Option<(&[u8], &[u8])>
     ensures { MatchOption result (IsField line.now []) (λ parts. IsSplit line.now parts.0.now parts.1.now) }
@@ -30,9 +40,27 @@ pub fn split_line(line: &[u8]) -> Option<(&[u8], &[u8])>
     if field.is_empty() {
         return None;
     }
-    let first = first_field(field);
-    let (_, rest) = field.split_at(first.len());
-    Some((first, rest.trim_ascii()))
+    let parts = parts_of(field);
+    Some(parts)
+}
+
+/// Whether a field is empty or begins a comment.
+pub fn says_nothing(field: &[u8]) -> bool
+    ensures { Decides result (SaysNothing field.now) }
+{
+    without_comment(field).is_empty()
+}
+
+/// The first field of a row of a table, and its value; `None` for a line that is blank or a comment.
+pub fn split_row(line: &[u8]) -> Option<(&[u8], &[u8])>
+    ensures { MatchOption result (IsNoRow line.now) (λ parts. IsRowSplit line.now parts.0.now parts.1.now) }
+{
+    let field = line.trim_ascii();
+    if says_nothing(field) {
+        return None;
+    }
+    let parts = parts_of(field);
+    Some(parts)
 }
 
 /// The network that a field is.

@@ -1,11 +1,11 @@
 //! The arguments of the program as commands.
-ghost use Rattle.std.specs.Prelude.{◌≡◌, ◌≢◌, false, ℕ, List, codes, map, [], ◌∷◌, MatchOption};
+ghost use Rattle.std.specs.Prelude.{◌≡◌, ◌≢◌, ◌<◌, false, ℕ, List, codes, count_by, map, [], ◌∷◌, MatchOption};
 ghost use Rattle.std.specs.Bool.{Decides};
 ghost use Rattle.std.specs.List.{list_any, prefix_len};
-ghost use Rattle.netset.specs.Commands.{Check, Diff, Free, Look, Match, MayRead, NotIn, is_option, read_files, reading_of, reading_options, reads_lists, reads_networks, without_options, IsRequest, IsUsage};
+ghost use Rattle.netset.specs.Commands.{Check, Diff, Free, Look, Match, MayRead, NotIn, input_name, is_option, read_files, reading_of, reading_options, reads_lists, reads_networks, without_options, IsRequest, IsUsage};
 ghost use Rattle.netset.specs.Command.{AreMisfits, IsNoLoneWord, has_reading_option, request_of};
 ghost use Rattle.netset.specs.Combining.{name_of};
-ghost use Rattle.netset.specs.Matching.{is_match_option};
+ghost use Rattle.netset.specs.Matching.{is_match_option, is_word};
 
 use crate::lines::HostBits;
 use crate::operations::{Operation, operation_of, takes};
@@ -42,6 +42,33 @@ pub struct Reading {
     pub host_bits: HostBits,
     /// Whether reading goes on behind a line in error, to tell others too.
     pub keeps_going: bool,
+}
+
+/// Whether a file is the standard input.
+fn is_input(file: &str) -> bool
+    ensures { result ≡ is_word input_name file.now }
+{
+    file == "-"
+}
+
+/// How many of these files are the standard input.
+fn input_count(files: &[&str]) -> usize
+    ensures { result ≡ count_by (is_word input_name) (map (λ w. w.now) files.now) }
+{
+    let mut count = 0;
+    for file in files {
+        if is_input(file) {
+            count += 1;
+        }
+    }
+    count
+}
+
+/// Whether the standard input is more than one of these files.
+pub fn name_input_twice(files: &[&str]) -> bool
+    ensures { Decides result (1 < count_by (is_word input_name) (map (λ w. w.now) files.now)) }
+{
+    input_count(files) > 1
 }
 
 impl Command<'_> {

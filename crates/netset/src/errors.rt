@@ -39,6 +39,8 @@ pub enum ArgumentError {
     Length,
     /// It is no index below 2^128.
     Index,
+    /// It is the standard input, which is read already.
+    ReadTwice,
 }
 
 /// Why a command gave no answer.

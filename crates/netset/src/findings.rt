@@ -1,13 +1,15 @@
 //! What is found in the lines of lists.
 ghost use Rattle.std.specs.Prelude.{◌≡◌, ◌<◌, ◌+◌, ◌*◌, ◌++◌, IfOk, ℕ, OnOk, Some, length, map, slice_get};
+ghost use Rattle.std.specs.Bool.{Decides};
 ghost use Rattle.cidr.specs.either.IpNetwork.{any_of};
 ghost use Rattle.cidr_table.specs.FiniteMap.{IsUnder};
+ghost use Rattle.cidr_table.specs.LastRows.{AreLastRows};
 ghost use Rattle.netset.specs.Findings.{AreFirsts, AreNotes, AreNotesBelow, IsInnermostRow, IsOnlyNote, entry_key, kind_rank};
 
 use crate::entries::{Entry, Place};
-use cidr::{AnyIpCidr, IpCidr, IpInet};
+use cidr::{AnyIpCidr, IpCidr, IpInet, NetworkBits};
 use cidr_ext::{IpCidrExt, NetworkExt};
-use cidr_table::LpmTable;
+use cidr_table::{LpmTable, ReadyTable};
 use std::alloc::{AllocError, Global};
 
 /// What is found in a line.
@@ -34,8 +36,8 @@ pub struct Note<'a> {
     pub finding: Finding<'a>,
 }
 
-/// For each network of lines the index of the first line that has it.
-type Firsts = LpmTable<AnyIpCidr, usize>;
+/// For each network of lines the index of the first line that has it, made ready for look-ups.
+type Firsts = ReadyTable<AnyIpCidr, usize>;
 
 /// The line at an index.
 fn entry_at<'e, 'a>(entries: &'e [Entry<'a>], index: usize) -> &'e Entry<'a>
@@ -52,6 +54,17 @@ fn key_of(network: IpCidr) -> AnyIpCidr
     AnyIpCidr::from(network)
 }
 
+/// The table of these rows, of which the last one of each key counts.
+///
+/// They are sorted first by a sort that takes memory, where there is some: that of `from_rows` takes none, but moves rows
+/// that are in no order more often.
+fn table_of<C: NetworkBits + Copy>(mut rows: Vec<(C, usize)>) -> LpmTable<C, usize>
+    ensures { AreLastRows rows.items result.rows }
+{
+    let _ = rows.sort_by_key(|row| row.0);
+    LpmTable::from_rows(rows)
+}
+
 /// The first index of each network. The rows go from the last line to the first, since the last row of a key counts.
 fn firsts_of(alloc: Global, entries: &[Entry<'_>]) -> Result<Firsts, AllocError>
     ensures { IfOk result (λ table. AreFirsts (map entry_key entries.now) table.rows) }
@@ -61,14 +74,30 @@ fn firsts_of(alloc: Global, entries: &[Entry<'_>]) -> Result<Firsts, AllocError>
         let network = entry_at(entries, index).host.network();
         rows.push((key_of(network), index))?;
     }
-    Ok(LpmTable::from_rows(rows))
+    match table_of(rows).into_lookups(alloc) {
+        Ok(firsts) => Ok(firsts),
+        Err(_) => Err(AllocError),
+    }
+}
+
+/// Whether two keys are the same.
+fn is_same<C: NetworkBits>(one: &C, other: &C) -> bool
+    ensures { Decides result (one.now ≡ other.now) }
+{
+    one.cmp(other).is_eq()
 }
 
 /// The first index of a network.
 fn first_with(firsts: &Firsts, network: IpCidr) -> Option<usize>
     ensures { IsUnder firsts.now.rows (any_of network) result }
 {
-    firsts.get(&key_of(network)).copied()
+    let key = key_of(network);
+    let row = firsts.lookup(&key)?;
+    if is_same(&row.0, &key) {
+        Some(row.1)
+    } else {
+        None
+    }
 }
 
 /// The first index of the longest network that a network is inside and is not all of.

@@ -1,20 +1,22 @@
 //! Telling every line in error of the lists of a command.
-ghost use Rattle.std.specs.Prelude.{◌≡◌, ◌<◌, ◌∷◌, [], Some, length, map, is_some, option_map, IfSome, MatchResult, IfOk};
+ghost use Rattle.std.specs.Prelude.{◌≡◌, ◌<◌, ◌∷◌, ◌++◌, [], Some, length, map, is_some, option_map, IfSome, MatchResult, IfOk};
 ghost use Rattle.netset.specs.Command.{request_of};
-ghost use Rattle.netset.specs.Keeping.{FindsError, TellsErrors, kind_of, lists_of, kept_or};
+ghost use Rattle.netset.specs.Commands.{lists_of, others_of};
+ghost use Rattle.netset.specs.Keeping.{FindsError, TellsErrors, kind_of, kept_or};
 ghost use Rattle.netset.specs.Lists.{Text};
 ghost use Rattle.netset.specs.Loading.{IsLoaded, IsUnloaded};
 ghost use Rattle.netset.specs.Program.{IsLoadError};
 ghost use Rattle.netset.specs.Reading.{IsNextLine};
 ghost use Rattle.netset.specs.declared.keeping.Kind.TheVariants.{Rows as AsRows};
 
-use crate::columns::{network_in, split_line};
+use crate::columns::{network_in, split_row};
 use crate::commands::Command;
 use crate::entries::{Place, entry_of};
 use crate::errors::{CommandError, LineError, ReadError};
 use crate::files::{Opened, Sources};
 use crate::lines::{HostBits, content_of};
-use crate::report::say;
+use crate::report::say_fault;
+use cidr_io::block::Block;
 use cidr_io::sink::Sink;
 use std::alloc::{AllocError, Global};
 use std::io::Read;
@@ -34,7 +36,7 @@ pub enum Kind {
 fn row_error(host_bits: HostBits, line: &[u8]) -> Option<LineError>
     ensures { FindsError AsRows host_bits line.now result }
 {
-    let Some((first, _)) = split_line(line) else {
+    let Some((first, _)) = split_row(line) else {
         return None;
     };
     match network_in(host_bits, first) {
@@ -84,6 +86,7 @@ fn tell_errors<E: Sink>(
 ) -> bool
     ensures { TellsErrors kind host_bits file.now text.now (E.state err.old) (E.state err.new) result }
 {
+    let mut block = Block::new();
     let mut found = false;
     let mut number = 0;
     let mut left = Some(text);
@@ -91,11 +94,12 @@ fn tell_errors<E: Sink>(
         let (line, rest) = first_line(text);
         number += 1;
         if let Some(e) = error_of(kind, host_bits, line) {
-            say(&CommandError::Line(file, number, e), err);
+            say_fault(&mut block, err, file, number, &e);
             found = true;
         }
         left = rest;
     }
+    block.end(err);
     found
 }
 
@@ -122,6 +126,19 @@ impl<'a> Command<'a> {
             }
             Command::Match(_, list, _) | Command::Look(list, _) => names.push(*list)?,
             Command::Single(_) | Command::Help | Command::Version => {}
+        }
+        Ok(names)
+    }
+
+    /// The files that are read: the lists, and another one behind them.
+    pub fn files(&self, alloc: Global) -> Result<Vec<&'a str>, AllocError>
+        ensures { IfOk result (λ names. map (λ name. name.now) names.items
+            ≡ lists_of (request_of self.now) ++ others_of (request_of self.now)) }
+    {
+        let mut names = self.lists(alloc)?;
+        match self {
+            Command::Match(_, _, file) | Command::Look(_, file) => names.push(*file)?,
+            _ => {}
         }
         Ok(names)
     }

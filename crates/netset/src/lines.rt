@@ -1,9 +1,10 @@
 //! The lines of a list.
-ghost use Rattle.std.specs.Prelude.{◌≡◌, ℕ, List, IfOk, IfErr, IfSome, MatchResult};
+ghost use Rattle.std.specs.Prelude.{◌≡◌, [], ℕ, List, IfOk, IfErr, IfSome, MatchResult};
 ghost use Rattle.std.specs.List.{before_first};
 ghost use Rattle.cidr.specs.either.IpAddress.{IsIpText};
 ghost use Rattle.cidr.specs.texts.Messages.{ip_error};
 ghost use Rattle.cidr.specs.declared.addr.ip.IpAddr.TheVariants.{V4, V6};
+ghost use Rattle.cidr_io.specs.Collecting.{Collects};
 ghost use Rattle.netset.specs.Lists.{AreEnds, IsNetworkBy, IsNoAddress, IsNoNetworkBy, is_comment_sign};
 ghost use Rattle.netset.specs.Reading.{IsNextLine, DropsLineFeed, IsStopped, ReadsField, ReadsLine};
 ghost use Rattle.netset.specs.declared.lines.HostBits.{HostBits as Bits};
@@ -12,7 +13,9 @@ ghost use Rattle.netset.specs.declared.errors.LineError.TheVariants.{NoAddress};
 use crate::errors::{LineError, ReadError};
 use cidr::errors::NetworkParseError;
 use cidr::{IpAddr, IpCidr, IpInet, Ipv4Addr, Ipv6Addr};
-use std::io::BufRead;
+use cidr_io::block::Block;
+use cidr_io::sink::{OutputFailed, Sink};
+use std::io::{BufRead, BufReader, Read};
 
 /// What is done with a set bit after the prefix of a network.
 #[derive(Clone, Copy, Debug, Drop, PartialEq)]
@@ -46,6 +49,32 @@ pub fn next_line<R: BufRead>(reader: &mut R, line: &mut Vec<u8>) -> Result<bool,
     line.clear();
     reader.read_until(b'\n', line)?;
     Ok(drop_line_feed(line))
+}
+
+/// A reader that reads ahead.
+pub trait ReadAhead {
+    /// Whether a whole line is read already, so that nothing is read for the next one.
+    fn has_line(&self) -> bool;
+}
+
+impl<R: Read> ReadAhead for BufReader<R> {
+    fn has_line(&self) -> bool {
+        self.buffer().contains(&b'\n')
+    }
+}
+
+/// Writes the lines of a block before more is read, so that they don't wait for it.
+pub fn catch_up<R: ReadAhead, S: Sink>(
+    reader: &R,
+    block: &mut Block,
+    out: &mut S,
+) -> Result<(), OutputFailed>
+    ensures { Collects (S.state out.old) (S.state out.new) block.old block.new [] result }
+{
+    if block.is_empty() || reader.has_line() {
+        return Ok(());
+    }
+    block.flush(out)
 }
 
 /// Drops a line feed at the end of the line, and tells whether there was one.

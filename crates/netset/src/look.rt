@@ -6,14 +6,13 @@ ghost use Rattle.netset.specs.Program.{AnswersRequest};
 ghost use Rattle.cidr_io.specs.Writing.{Writes};
 
 use crate::answers::Verdict;
-use crate::collecting::Block;
 use crate::columns::{address_in, split_line};
 use crate::errors::{CommandError, ReadError};
 use crate::files::Sources;
-use crate::lines::next_line;
+use crate::lines::{ReadAhead, catch_up, next_line};
 use crate::table::{Table, read_table, unread};
+use cidr_io::block::Block;
 use cidr_io::sink::{OutputFailed, Sink};
-use cidr_io::writing::flush;
 use std::alloc::Global;
 use std::io::{BufRead, BufReader};
 
@@ -71,9 +70,9 @@ fn look_line<S: Sink>(
     }
 }
 
-/// Looks up the address of each line, to the end or to the first line in error, and appends their lines to a block;
-/// tells whether a network has one of them.
-fn look_lines<R: BufRead, S: Sink>(
+/// Looks up the address of each line, to the end or to the first line in error, and appends their lines to a block, which
+/// is written before more is read; tells whether a network has one of them.
+fn look_lines<R: BufRead + ReadAhead, S: Sink>(
     alloc: Global,
     table: &Table,
     reader: &mut R,
@@ -86,6 +85,7 @@ fn look_lines<R: BufRead, S: Sink>(
     let mut line = Vec::new(alloc);
     let mut found = false;
     for number in 1..u64::MAX {
+        catch_up(reader, block, out)?;
         let has_more = next_line(reader, &mut line)?;
         let hit = look_line(table, number, line.as_slice(), block, out)?;
         if hit {
@@ -98,17 +98,9 @@ fn look_lines<R: BufRead, S: Sink>(
     Err(LookError::Reading(ReadError::Input))
 }
 
-/// Writes what is left in a block, and flushes.
-fn write_rest<S: Sink>(block: &mut Block, out: &mut S) -> Result<(), OutputFailed>
-    ensures { Writes (S.state out.old) (S.state out.new) block.old result }
-{
-    block.write(out)?;
-    flush(out)
-}
-
 /// Looks up the address of each line and writes their lines in blocks, also those before a line in error; tells whether
 /// a network has one of them. An output that has failed before gets nothing.
-fn look_all<R: BufRead, S: Sink>(
+fn look_all<R: BufRead + ReadAhead, S: Sink>(
     alloc: Global,
     table: &Table,
     reader: &mut R,
@@ -122,11 +114,11 @@ fn look_all<R: BufRead, S: Sink>(
     let mut block = Block::new();
     match look_lines(alloc, table, reader, &mut block, out) {
         Ok(found) => {
-            write_rest(&mut block, out)?;
+            block.flush(out)?;
             Ok(found)
         }
         Err(LookError::Reading(e)) => {
-            write_rest(&mut block, out)?;
+            block.flush(out)?;
             Err(LookError::Reading(e))
         }
         Err(LookError::Output) => Err(LookError::Output),

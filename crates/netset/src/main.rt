@@ -4,7 +4,6 @@
 mod answers;
 mod changes;
 mod check;
-mod collecting;
 mod columns;
 mod combine;
 mod commands;
@@ -39,11 +38,20 @@ use files::System;
 use program::program;
 use std::io::IsTerminal;
 use std::process::ExitCode;
-use terminal::Progress;
+use terminal::{Erasing, Progress};
 
 fn main(rt: HostRuntime) -> ExitCode {
-    let (mut out, mut err) = (Tracked::new(rt.stdout()), Tracked::new(rt.stderr()));
-    let progress = Progress::new(&rt, rt.stderr().is_terminal());
+    // answers on the same terminal would stand beside what is shown
+    let shows = rt.stderr().is_terminal() && !rt.stdout().is_terminal();
+    let progress = Progress::new(&rt, shows);
+    let mut out = Tracked::new(Erasing {
+        out: rt.stdout(),
+        progress: &progress,
+    });
+    let mut err = Tracked::new(Erasing {
+        out: rt.stderr(),
+        progress: &progress,
+    });
     let sources = System {
         runtime: &rt,
         progress: &progress,

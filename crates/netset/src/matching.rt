@@ -2,28 +2,27 @@
 ghost use Rattle.std.specs.Prelude.{◌≡◌, ◌<◌, ◌++◌, [], ◌∷◌, true, false, not, if◌then◌else◌, map, IfOk, IfErr, IfSome};
 ghost use Rattle.std.specs.Bool.{Decides};
 ghost use Rattle.cidr_io.specs.Writing.{Writes};
-ghost use Rattle.netset.specs.Collecting.{Collects};
+ghost use Rattle.cidr_io.specs.Collecting.{Collects};
 ghost use Rattle.netset.specs.Commands.{Match};
-ghost use Rattle.netset.specs.Gathering.{Finishes, IsCounted, IsDone, IsUnreadable, Streams, TakesPart, lines_of_part, rest_written};
+ghost use Rattle.netset.specs.Gathering.{Finishes, IsCounted, IsDone, IsUnreadable, Stops, Streams, TakesPart, lines_of_part, rest_written};
 ghost use Rattle.netset.specs.Matching.{IsWithin, LiesIn, Picks, PicksByField, has, line_written, written_of};
 ghost use Rattle.netset.specs.Program.{AnswersRequest};
 ghost use Rattle.netset.specs.Reading.{IsNextLine};
 ghost use Rattle.netset.specs.Sets.{Held};
 
 use crate::answers::{Verdict, by_output};
-use crate::collecting::Block;
 use crate::errors::{CommandError, LineError, ReadError};
 use crate::fields::said;
 use crate::files::Sources;
-use crate::lines::next_line;
+use crate::lines::{ReadAhead, catch_up, next_line};
 use crate::sets::Sets;
 use crate::several::read_file;
 use cidr::IpCidr;
+use cidr_io::block::Block;
 use cidr_io::sink::{OutputFailed, Sink};
-use cidr_io::writing::flush;
 use itoa::Buffer;
 use std::alloc::Global;
-use std::io::{BufRead, BufReader, Read};
+use std::io::{BufRead, BufReader};
 
 /// What is written of the lines that are picked.
 #[derive(Clone, Copy, Debug, Drop, PartialEq)]
@@ -161,7 +160,7 @@ impl Gathered {
             (line_written written line.now) result }
     {
         match written {
-            Written::Lines => self.block.push_parts(out, &[line, b"\n"]),
+            Written::Lines => self.block.push_line(out, &[line, b"\n"]),
             Written::Count | Written::Nothing => Ok(()),
         }
     }
@@ -204,6 +203,36 @@ impl Gathered {
         !has_more || (written == Written::Nothing && self.count > 0)
     }
 
+    /// Writes what is collected of the lines before more is read.
+    fn catch_up<R: ReadAhead, S: Sink>(
+        &mut self,
+        reader: &R,
+        out: &mut S,
+    ) -> Result<(), OutputFailed>
+        ensures count { self.new.count ≡ self.old.count }
+        ensures collects { Collects (S.state out.old) (S.state out.new) self.old.block self.new.block [] result }
+    {
+        catch_up(reader, &mut self.block, out)
+    }
+
+    /// Writes what is not yet written where no more lines are read for an error, and returns it, or that the output has
+    /// failed.
+    fn stop<'a, S: Sink>(
+        &mut self,
+        error: CommandError<'a>,
+        out: &mut S,
+    ) -> Result<Verdict, CommandError<'a>>
+        ensures { Stops error.entry (S.state out.old) (S.state out.new) self.old.block result }
+    {
+        match error {
+            CommandError::Output => Err(CommandError::Output),
+            error => match self.block.flush(out) {
+                Ok(()) => Err(error),
+                Err(_) => Err(CommandError::Output),
+            },
+        }
+    }
+
     /// Adds what is written behind the lines.
     fn push_count<S: Sink>(&mut self, written: Written, out: &mut S) -> Result<(), OutputFailed>
         ensures { Collects (S.state out.old) (S.state out.new) self.old.block self.new.block
@@ -213,7 +242,7 @@ impl Gathered {
             Written::Count => {
                 let mut digits = Buffer::new();
                 let count = digits.format(self.count);
-                self.block.push_parts(out, &[count.as_bytes(), b"\n"])
+                self.block.push_line(out, &[count.as_bytes(), b"\n"])
             }
             Written::Lines | Written::Nothing => Ok(()),
         }
@@ -224,8 +253,7 @@ impl Gathered {
         ensures { Writes (S.state out.old) (S.state out.new) (self.old.block ++ rest_written written self.old.count) result }
     {
         self.push_count(written, out)?;
-        self.block.write(out)?;
-        flush(out)
+        self.block.flush(out)
     }
 
     /// Writes what is not yet written, and tells whether there was a line.
@@ -258,8 +286,9 @@ fn next_part<'a, R: BufRead>(
     }
 }
 
-/// Reads a file line by line, and writes the lines that are picked. An output that has failed before gets nothing.
-fn stream<'a, R: BufRead, S: Sink>(
+/// Reads a file line by line, and writes the lines that are picked, also those before a line in error. An output that
+/// has failed before gets nothing.
+fn stream<'a, R: BufRead + ReadAhead, S: Sink>(
     alloc: Global,
     matcher: &Matcher<'_>,
     file: &'a str,
@@ -275,30 +304,22 @@ fn stream<'a, R: BufRead, S: Sink>(
     let mut part = Vec::new(alloc);
     let mut gathered = Gathered::new();
     for number in 1..u64::MAX {
-        let has_more = next_part(file, reader, &mut part)?;
-        gathered.take(matcher, file, number, part.as_slice(), has_more, out)?;
+        let Ok(()) = gathered.catch_up(reader, out) else {
+            return Err(CommandError::Output);
+        };
+        let has_more = match next_part(file, reader, &mut part) {
+            Ok(has_more) => has_more,
+            Err(e) => return gathered.stop(e, out),
+        };
+        match gathered.take(matcher, file, number, part.as_slice(), has_more, out) {
+            Ok(()) => {}
+            Err(e) => return gathered.stop(e, out),
+        }
         if gathered.is_done(matcher.written, has_more) {
             return gathered.finish(matcher.written, out);
         }
     }
-    Err(CommandError::Input(file))
-}
-
-/// The same of a file that is read in blocks.
-fn stream_blocks<'a, R: Read + Drop, S: Sink>(
-    alloc: Global,
-    matcher: &Matcher<'_>,
-    file: &'a str,
-    reader: R,
-    out: &mut S,
-) -> Result<Verdict, CommandError<'a>>
-    ensures { Streams (Picks matcher.now.anywhere (Held matcher.now.sets.now) matcher.now.inverted)
-        matcher.now.written file.now (R.remaining reader) (S.state out.old) (S.state out.new) result }
-{
-    let Ok(mut reader) = BufReader::new(alloc, reader) else {
-        return Err(CommandError::NoMemory);
-    };
-    stream(alloc, matcher, file, &mut reader, out)
+    gathered.stop(CommandError::Input(file), out)
 }
 
 /// The command `match`.
@@ -326,5 +347,8 @@ pub fn matching<'a, F: Sources, O: Sink>(
     let Some(reader) = sources.open(file) else {
         return Err(CommandError::Input(file));
     };
-    stream_blocks(alloc, &matcher, file, reader, out)
+    let Ok(mut reader) = BufReader::new(alloc, reader) else {
+        return Err(CommandError::NoMemory);
+    };
+    stream(alloc, &matcher, file, &mut reader, out)
 }

@@ -5,14 +5,14 @@ ghost use Rattle.netset.specs.Combining.{form_of};
 ghost use Rattle.netset.specs.Command.{request_of};
 ghost use Rattle.netset.specs.Commands.{IsRequest, Lists, MayRead};
 ghost use Rattle.netset.specs.Sets.{Prints, held};
-ghost use Rattle.netset.specs.Program.{AnswersRequest, IsUsageBy, KeepsGoing, Runs, RunsArguments};
+ghost use Rattle.netset.specs.Program.{AnswersRequest, IsReadTwice, IsUsageBy, KeepsGoing, Runs, RunsArguments};
 
 use crate::answers::{Verdict, by_output};
 use crate::changes::diff;
 use crate::check::check;
 use crate::combine::made;
-use crate::commands::{Command, Reading, command_of, take_options};
-use crate::errors::CommandError;
+use crate::commands::{Command, Reading, command_of, name_input_twice, take_options};
+use crate::errors::{ArgumentError, CommandError};
 use crate::files::{Files, ReadBy, Sources};
 use crate::free::free;
 use crate::inside::not_in;
@@ -25,7 +25,7 @@ use crate::sets::Sets;
 use crate::several::read_several;
 use crate::single::answer_single;
 use cidr_io::arguments::{Arguments, ReadError as Unreadable, borrowed, texts_of};
-use cidr_io::sink::{OutputFailed, Sink};
+use cidr_io::sink::{Output, OutputFailed, Sink};
 use cidr_io::writing::write_text;
 use std::alloc::Global;
 
@@ -98,18 +98,18 @@ fn answer<'a, F: Sources, O: Sink>(
 
 /// Tells the lines in error of the lists of a command, and answers it if there are none, reports and returns the exit
 /// status. The lists are read whole first.
-fn keep_going<'a, F: Sources, O: Sink, E: Sink>(
+fn keep_going<'a, F: Sources, O: Output, E: Sink>(
     alloc: Global,
     sources: &F,
     command: Command<'a>,
     out: &mut O,
     err: &mut E,
 ) -> u8
-    ensures { KeepsGoing (F.told sources.now) (request_of command.entry) (O.state out.old) (O.state out.new)
+    ensures { KeepsGoing (F.told sources.now) (request_of command.entry) (O.closed out.new) (O.Sink.state out.old) (O.Sink.state out.new)
         (E.state err.old) (E.state err.new) result }
 {
     let Ok(names) = command.lists(alloc) else {
-        return report(&Err(CommandError::NoMemory), err);
+        return report(&Err(CommandError::NoMemory), false, err);
     };
     match load(alloc, sources, command.kind(), names.as_slice(), err) {
         Ok((_, true)) => 2,
@@ -118,30 +118,44 @@ fn keep_going<'a, F: Sources, O: Sink, E: Sink>(
                 lists: lists.as_slice(),
                 sources,
             };
-            report(&answer(alloc, &loaded, command, out), err)
+            let answered = answer(alloc, &loaded, command, out);
+            report(&answered, out.is_closed(), err)
         }
-        Err(e) => report(&Err(e), err),
+        Err(e) => report(&Err(e), out.is_closed(), err),
     }
 }
 
+/// The error of a command that reads the standard input more than once.
+fn read_twice<'a>() -> CommandError<'a>
+    ensures { IsReadTwice result }
+{
+    CommandError::Argument("-", ArgumentError::ReadTwice)
+}
+
 /// Answers the arguments as strings, reports and returns the exit status.
-fn answer_texts<F: Files, O: Sink, E: Sink>(
+fn answer_texts<F: Files, O: Output, E: Sink>(
     alloc: Global,
     files: &F,
     texts: &[String],
     out: &mut O,
     err: &mut E,
 ) -> u8
-    ensures { RunsArguments (F.told files.now) (map string_bytes texts.now) (O.state out.old) (O.state out.new)
+    ensures { RunsArguments (F.told files.now) (map string_bytes texts.now) (O.closed out.new) (O.Sink.state out.old) (O.Sink.state out.new)
         (E.state err.old) (E.state err.new) result }
 {
     let Ok(mut words) = borrowed(alloc, texts) else {
-        return report(&Err(CommandError::NoMemory), err);
+        return report(&Err(CommandError::NoMemory), false, err);
     };
     let reading = take_options(&mut words);
     let Some(command) = command_by(reading, words.as_slice()) else {
-        return report(&Err(CommandError::Usage), err);
+        return report(&Err(CommandError::Usage), false, err);
     };
+    let Ok(names) = command.files(alloc) else {
+        return report(&Err(CommandError::NoMemory), false, err);
+    };
+    if name_input_twice(names.as_slice()) {
+        return report(&Err(read_twice()), false, err);
+    }
     let sources = ReadBy {
         files,
         host_bits: reading.host_bits,
@@ -149,25 +163,26 @@ fn answer_texts<F: Files, O: Sink, E: Sink>(
     if reading.keeps_going {
         return keep_going(alloc, &sources, command, out, err);
     }
-    report(&answer(alloc, &sources, command, out), err)
+    let answered = answer(alloc, &sources, command, out);
+    report(&answered, out.is_closed(), err)
 }
 
 /// Answers the arguments on `out`, writes the line that belongs to the answer, if there is one, to `err`, and returns
 /// the exit status: 0 for an answer, 1 for none, no or findings, 2 for usage, a file that can't be read and a line in error, 3 where the output
-/// failed or there is no memory.
-pub fn program<A: Arguments, F: Files, O: Sink, E: Sink>(
+/// failed or there is no memory. Where nobody reads the output any more, there is no such line.
+pub fn program<A: Arguments, F: Files, O: Output, E: Sink>(
     alloc: Global,
     arguments: &A,
     files: &F,
     out: &mut O,
     err: &mut E,
 ) -> u8
-    ensures { Runs (A.told arguments.now) (F.told files.now) (O.state out.old) (O.state out.new)
+    ensures { Runs (A.told arguments.now) (F.told files.now) (O.closed out.new) (O.Sink.state out.old) (O.Sink.state out.new)
         (E.state err.old) (E.state err.new) result }
 {
     match texts_of(alloc, arguments) {
         Ok(texts) => answer_texts(alloc, files, texts.as_slice(), out, err),
-        Err(Unreadable::NotText) => report(&Err(CommandError::Usage), err),
-        Err(Unreadable::NoMemory) => report(&Err(CommandError::NoMemory), err),
+        Err(Unreadable::NotText) => report(&Err(CommandError::Usage), false, err),
+        Err(Unreadable::NoMemory) => report(&Err(CommandError::NoMemory), false, err),
     }
 }

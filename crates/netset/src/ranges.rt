@@ -3,14 +3,14 @@ ghost use Rattle.std.specs.Prelude.{◌≡◌, ℕ, Bool, List};
 ghost use Rattle.std.specs.List.{flat_map};
 ghost use Rattle.cidr.specs.model.Bits.{bit_eq};
 ghost use Rattle.cidr_io.specs.Writing.{Writes};
-ghost use Rattle.netset.specs.Collecting.{Collects};
+ghost use Rattle.cidr_io.specs.Collecting.{Collects};
 ghost use Rattle.netset.specs.Sets.{Prints, held, range_line};
 ghost use Rattle.netset.specs.declared.operations.Form.TheVariants.{Ranges as AsRanges};
 
-use crate::collecting::Block;
 use crate::sets::Sets;
 use arrayvec::ArrayString;
 use cidr::{Ipv4Addr, Ipv4Cidr, Ipv6Addr, Ipv6Cidr};
+use cidr_io::block::Block;
 use cidr_io::sink::{OutputFailed, Sink};
 use cidr_io::writing::flush;
 use cidr_sets::{AddressRange, Addressed, Ranges};
@@ -70,10 +70,10 @@ fn push_range<C: PrintedAddress, S: Sink>(
 {
     let first = C::shown(&range.first);
     if C::are_same(&range.first, &range.last) {
-        return block.push_parts(out, &[first.as_str().as_bytes(), b"\n"]);
+        return block.push_line(out, &[first.as_str().as_bytes(), b"\n"]);
     }
     let last = C::shown(&range.last);
-    block.push_parts(
+    block.push_line(
         out,
         &[
             first.as_str().as_bytes(),

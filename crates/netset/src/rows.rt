@@ -3,7 +3,7 @@ ghost use Rattle.std.specs.Prelude.{◌≡◌, [], IfSome, OnOk};
 ghost use Rattle.netset.specs.Lists.{text_by};
 ghost use Rattle.netset.specs.LookUps.{AddsRow, Pushes, ReadsRows, value_at};
 
-use crate::columns::{network_in, split_line};
+use crate::columns::{network_in, split_row};
 use crate::errors::ReadError;
 use crate::lines::{HostBits, next_line};
 use cidr::{IpCidr, Ipv4Cidr, Ipv6Cidr};
@@ -71,7 +71,7 @@ impl Rows {
     fn add_line(&mut self, host_bits: HostBits, number: u64, line: &[u8]) -> Result<(), ReadError>
         ensures { AddsRow host_bits line.now number self.old self.new result }
     {
-        let Some((first, value)) = split_line(line) else {
+        let Some((first, value)) = split_row(line) else {
             return Ok(());
         };
         match network_in(host_bits, first) {

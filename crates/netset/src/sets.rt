@@ -62,7 +62,7 @@ impl Sets {
     {
         let v4 = digits_of(self.v4.address_count());
         let v6 = digits_of(self.v6.address_count());
-        write_line(out, &["Ipv4 ", v4.as_str(), "\nIpv6 ", v6.as_str(), "\n"])
+        write_line(out, &["IPv4 ", v4.as_str(), "\nIPv6 ", v6.as_str(), "\n"])
     }
 }
 

@@ -14,11 +14,11 @@ ghost use Rattle.netset.specs.Program.{AnswersRequest, IsBadArgument};
 ghost use Rattle.netset.specs.Single.{SingleRequest, Show, Split, Nth, IsSingle, IsNumber, HasNone, IsNoNetwork, network_lines, family_name as name_of, subnet_line};
 
 use crate::answers::{Verdict, by_output};
-use crate::collecting::Block;
 use crate::errors::{ArgumentError, CommandError};
 use crate::report::write_line;
 use cidr::{Family, IpCidr, IpInet};
 use cidr_ext::{CidrExt, Subnets};
+use cidr_io::block::Block;
 use cidr_io::sink::{OutputFailed, Sink};
 use cidr_io::writing::{flush, write_text};
 use itoa::Buffer;
@@ -52,8 +52,8 @@ fn family_name(family: Family) -> &'static str
     ensures { result.now ≡ name_of family }
 {
     match family {
-        Family::Ipv4 => "Ipv4",
-        Family::Ipv6 => "Ipv6",
+        Family::Ipv4 => "IPv4",
+        Family::Ipv6 => "IPv6",
     }
 }
 
@@ -132,7 +132,7 @@ fn write_subnets<S: Sink>(mut subnets: Subnets<IpCidr>, out: &mut S) -> Result<(
 {
     let mut block = Block::new();
     while let Some(subnet) = subnets.next() {
-        block.push_parts(out, &[subnet.to_text().as_str().as_bytes(), b"\n"])?;
+        block.push_line(out, &[subnet.to_text().as_str().as_bytes(), b"\n"])?;
     }
     block.write(out)
 }

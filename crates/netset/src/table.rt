@@ -1,17 +1,18 @@
 //! Tables, and the longest network of a table that an address is in.
-ghost use Rattle.std.specs.Prelude.{◌≡◌, ◌++◌, codes, map, IfOk, option_copied, option_map};
+ghost use Rattle.std.specs.Prelude.{◌≡◌, Some, map, IfOk, option_copied, option_map};
 ghost use Rattle.cidr.specs.declared.family.Family.{Family};
 ghost use Rattle.cidr_table.specs.LastRows.{AreLastRows};
-ghost use Rattle.netset.specs.Collecting.{Collects};
-ghost use Rattle.netset.specs.Look.{gap};
+ghost use Rattle.cidr_io.specs.Collecting.{Collects};
+ghost use Rattle.netset.specs.Look.{found_line};
 ghost use Rattle.netset.specs.LookUps.{LooksUp, PushesFound, ReadsTable, kept, resolved, stored, unread, value_at};
 
-use crate::collecting::Block;
 use crate::errors::{CommandError, ReadError};
 use crate::files::Sources;
 use crate::printing::Printed;
 use crate::rows::{Rows, Span, read_rows, value_of};
+use arrayvec::ArrayString;
 use cidr::{IpAddr, Ipv4Cidr, Ipv6Cidr};
+use cidr_io::block::Block;
 use cidr_io::sink::{OutputFailed, Sink};
 use cidr_table::{LpmTable, ReadyTable};
 use std::alloc::{AllocError, Global};
@@ -53,49 +54,54 @@ impl Table {
         match address {
             IpAddr::V4(address) => {
                 let found = self.v4.lookup(&Ipv4Cidr::new_host(*address));
-                push_found(block, out, text.as_str(), self.values.as_slice(), found)
+                push_found(block, out, text, self.values.as_slice(), found)
             }
             IpAddr::V6(address) => {
                 let found = self.v6.lookup(&Ipv6Cidr::new_host(*address));
-                push_found(block, out, text.as_str(), self.values.as_slice(), found)
+                push_found(block, out, text, self.values.as_slice(), found)
             }
         }
     }
 }
 
-/// Appends a value to a block, with a space in front if it is not empty, and the end of its line.
-fn push_value<S: Sink>(block: &mut Block, out: &mut S, value: &[u8]) -> Result<(), OutputFailed>
+/// Appends the line of an address with its network and the value of that to a block, with a space in front of the value
+/// if it is not empty.
+fn push_row<S: Sink>(
+    block: &mut Block,
+    out: &mut S,
+    address: ArrayString<39>,
+    network: ArrayString<43>,
+    value: &[u8],
+) -> Result<(), OutputFailed>
     ensures { Collects (S.state out.old) (S.state out.new) block.old block.new
-        (gap value.now ++ (value.now ++ codes "\n")) result }
+        (found_line address.bytes (Some (network.bytes, value.now))) result }
 {
+    let address = address.as_str().as_bytes();
+    let network = network.as_str().as_bytes();
     if value.is_empty() {
-        return block.push(out, b"\n");
+        return block.push_line(out, &[address, b" ", network, b"\n"]);
     }
-    block.push_parts(out, &[" ".as_bytes(), value, b"\n"])
+    block.push_line(out, &[address, b" ", network, b" ", value, b"\n"])
 }
 
 /// Appends the line of an address to a block, with its network and the value of that; tells whether it has one.
 fn push_found<C: Printed, S: Sink>(
     block: &mut Block,
     out: &mut S,
-    address: &str,
+    address: ArrayString<39>,
     values: &[u8],
     found: Option<&(C, Span)>,
 ) -> Result<bool, OutputFailed>
-    ensures { PushesFound address.now
+    ensures { PushesFound address.bytes
         (option_map (λ row. (C.text row.0, value_at values.now row.1)) (option_copied found.entry))
         (S.state out.old) (S.state out.new) block.old block.new result }
 {
     let Some(row) = found else {
-        block.push_parts(out, &[address.as_bytes(), b" -\n"])?;
+        block.push_line(out, &[address.as_str().as_bytes(), b" -\n"])?;
         return Ok(false);
     };
-    let network = row.0.printed();
-    block.push_parts(
-        out,
-        &[address.as_bytes(), b" ", network.as_str().as_bytes()],
-    )?;
-    push_value(block, out, value_of(values, row.1))?;
+    let value = value_of(values, row.1);
+    push_row(block, out, address, row.0.printed(), value)?;
     Ok(true)
 }
 

@@ -1,7 +1,7 @@
 //! How far reading is, as shown on a terminal while a run takes longer than a second.
 
 use std::cell::Cell;
-use std::io::{Eprint, Read, Result};
+use std::io::{Eprint, Read, Result, Write};
 use std::rt::Clock;
 use std::time::Duration;
 
@@ -23,9 +23,9 @@ pub struct Progress<'a, R: Clock + Eprint> {
 }
 
 impl<'a, R: Clock + Eprint> Progress<'a, R> {
-    /// Nothing is read yet. Nothing is ever shown unless standard error is a terminal.
-    pub fn new(runtime: &'a R, is_terminal: bool) -> Progress<'a, R> {
-        let due = if is_terminal {
+    /// Nothing is read yet. Nothing is ever shown unless it is to be.
+    pub fn new(runtime: &'a R, shows: bool) -> Progress<'a, R> {
+        let due = if shows {
             later(runtime, Duration::from_millis(FIRST))
         } else {
             None
@@ -69,6 +69,24 @@ fn later<R: Clock>(clock: &R, wait: Duration) -> Option<Duration> {
     match clock.monotonic() {
         Ok(now) => now.checked_add(wait),
         Err(_) => None,
+    }
+}
+
+/// A stream that is written to only once what is shown is erased.
+#[derive(Drop)]
+pub struct Erasing<'a, W: Write + Drop, R: Clock + Eprint> {
+    pub out: W,
+    pub progress: &'a Progress<'a, R>,
+}
+
+impl<W: Write + Drop, R: Clock + Eprint> Write for Erasing<'_, W, R> {
+    fn write(&mut self, buf: &[u8]) -> Result<usize> {
+        self.progress.hide();
+        self.out.write(buf)
+    }
+
+    fn flush(&mut self) -> Result<()> {
+        self.out.flush()
     }
 }
 

@@ -14,7 +14,8 @@ loop-index-preserved c =
     rw c.in_ok-push.ensures.items
     (one_more_back (map entry_key c.args.entries.now) c.loop-index.index c.loop-index.rows.items c.key_of.result c.loop-index-test.true there c.loop-index.invariant)
 
-pub returns : goal.returns
-returns c =
-    firsts_of_back (map entry_key c.args.entries.now) c.loop-index.index c.loop-index.rows.items c.from_rows.result.rows
-    (omega (arith, c.loop-index-test.false)) c.loop-index.invariant c.from_rows.ensures.rows
+pub returns-in-Ok : goal.returns-in-Ok
+returns-in-Ok c =
+    let rows : c.in-Ok.firsts ≡ c.table_of.result = c.in-Ok.ensures.ok in
+    firsts_of_back (map entry_key c.args.entries.now) c.loop-index.index c.loop-index.rows.items c.in-Ok.firsts.rows
+    (omega (arith, c.loop-index-test.false)) c.loop-index.invariant (rw rows c.table_of.ensures)

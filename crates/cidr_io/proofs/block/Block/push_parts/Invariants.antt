@@ -1,7 +1,7 @@
 use Rattle.std.proofs.Common.{take, Ok}
 use Rattle.std.specs.List.{flat_map}
-use Rattle.netset.specs.Collecting.{Collects}
-use Rattle.netset.proofs.collecting.Block.push_parts.Given as goal
+use Rattle.cidr_io.specs.Collecting.{Collects}
+use Rattle.cidr_io.proofs.block.Block.push_parts.Given as goal
 
 abbrev pub invariant-loop-part : goal.invariant-loop-part
 invariant-loop-part g l =

@@ -1,8 +1,8 @@
 use Rattle.std.proofs.Common.{◌≡◌, ap, ◌∙◌, subst, ℕ}
 use Rattle.arrayvec.specs.ArrayVec.{ArrayVec as Items}
 use Rattle.cidr_io.specs.Writing.{Whole}
-use Rattle.netset.proofs.Collected.{written_behind}
-use Rattle.netset.proofs.collecting.Block.push.Goals as goal
+use Rattle.cidr_io.proofs.Collected.{written_behind}
+use Rattle.cidr_io.proofs.block.Block.push.Goals as goal
 
 pub returns : goal.returns
 returns g c =

@@ -1,13 +1,12 @@
 -- Bytes that are collected in blocks.
-use Rattle.std.proofs.Common.{◌≡◌, sym, ◌∙◌, ap, subst, ℕ, ◌+◌, ◌<◌, ◌≤◌, List, [], ◌∷◌, ◌++◌, length, take, drop, get_or, Result, Ok, Err, append_assoc}
+use Rattle.std.proofs.Common.{◌≡◌, refl, inl, inr, Bool, true, false, sym, ◌∙◌, ap, subst, ℕ, ◌+◌, ◌<◌, ◌≤◌, List, [], ◌∷◌, ◌++◌, length, take, drop, get_or, Result, Ok, Err, append_assoc}
 use Rattle.std.specs.List.{flat_map}
 use Rattle.std.proofs.lemmas.List.{take_more, take_all, take-append-drop, append-nil}
 use Rattle.std.proofs.lemmas.List.Concat.{flat_map-append}
-use Rattle.cidr_io.specs.Writing.{State, Whole, Part, Writes}
+use Rattle.cidr_io.specs.Writing.{State, Whole, Part, Writes, Says}
 use Rattle.cidr_io.specs.declared.sink.OutputFailed.{OutputFailed}
-use Rattle.cidr_io.proofs.Chains.{whole_none, whole_whole, whole_part, part_more}
-use Rattle.netset.specs.Collecting.{Collects}
-use Rattle.netset.specs.Printing.{Holds}
+use Rattle.cidr_io.proofs.Chains.{answered, part_none, then_writes, whole_none, whole_whole, whole_part, part_more}
+use Rattle.cidr_io.specs.Collecting.{Collects, Holds, HasSaid}
 
 -- both were written
 pub written_behind : (s t u : State) (block emptied bytes : List ℕ) (r : Result (Unit {0}) OutputFailed) → Whole s t block → emptied ≡ [] → Writes t u bytes r
@@ -78,3 +77,45 @@ held_then s t u block rest text bytes (done, whole, is) (written, next, split) =
 pub held_lost : (s t u : State) (block text bytes : List ℕ) → Holds s t block text → Part t u (block ++ bytes) → Part s u (text ++ bytes)
 held_lost s t u block text bytes (done, whole, is) part =
     subst (Part s u) (sym (append_assoc done block bytes) ∙ ap (λ k. k ++ bytes) (sym is)) (whole_part s t u done (block ++ bytes) whole part)
+
+-- ---- lines that are written as far as a sink takes them
+both_ways : (s : State) → s.failed ≡ true → s.failed ≡ false → ⊥
+both_ways s h k = let e : true ≡ false = sym h ∙ k in cc
+
+still_fine : (start s : State) (written : List ℕ) → start.failed ≡ false → Whole start s written → s.failed ≡ true → ⊥
+still_fine start s written fine whole failed = both_ways s failed (whole.fine ∙ fine)
+
+fine_before : (start s : State) → start.failed ≡ false → start.failed ≡ true → s ≡ start
+fine_before start s fine failed = absurd (both_ways start failed fine)
+
+nothing_by : (start : State) (block : List ℕ) → block ≡ [] → (b : Bool) → start.failed ≡ b → HasSaid start start block []
+nothing_by start block none false fine = inl (fine, ([], whole_none start, sym none))
+nothing_by start block none true failed = inr (part_none start [] failed, λ h. refl)
+
+-- nothing yet
+pub nothing_said : (start : State) (block : List ℕ) → block ≡ [] → HasSaid start start block []
+nothing_said start block none = nothing_by start block none start.failed refl
+
+-- one line more, to a sink that has not failed
+pub said_more : (start s t : State) (block rest text bytes : List ℕ) (r : Result (Unit {0}) OutputFailed) → s.failed ≡ false → HasSaid start s block text
+    → Collects s t block rest bytes r → HasSaid start t rest (text ++ bytes)
+said_more start s t block rest text bytes (Ok _) fine (inl (begun, held)) more = inl (begun, held_then start s t block rest text bytes held more)
+said_more start s t block rest text bytes (Err e) fine (inl (begun, held)) part =
+    inr (held_lost start s t block text bytes held part, fine_before start t begun)
+said_more start s t block rest text bytes r fine (inr (part, same)) more = absurd (both_ways s part.failed fine)
+
+-- none to one that has failed
+pub said_past : (start s : State) (block rest text bytes : List ℕ) → s.failed ≡ true → HasSaid start s block text → HasSaid start s rest (text ++ bytes)
+said_past start s block rest text bytes failed (inl (begun, (written, whole, is))) = absurd (still_fine start s written begun whole failed)
+said_past start s block rest text bytes failed (inr (part, same)) = inr (part_more start s text bytes part, same)
+
+-- the last block
+pub said_all : (start s t : State) (block text : List ℕ) (r : Result (Unit {0}) OutputFailed) → s.failed ≡ false → HasSaid start s block text → Writes s t block r
+    → Says start t text
+said_all start s t block text r fine (inl (begun, (written, whole, is))) wrote =
+    (r, answered start t text r begun (subst (λ (k : List ℕ). Writes start t k r) (sym is) (then_writes start s t written block r whole wrote)))
+said_all start s t block text r fine (inr (part, same)) wrote = absurd (both_ways s part.failed fine)
+
+pub said_part : (start s : State) (block text : List ℕ) → s.failed ≡ true → HasSaid start s block text → Says start s text
+said_part start s block text failed (inl (begun, (written, whole, is))) = absurd (still_fine start s written begun whole failed)
+said_part start s block text failed (inr (part, same)) = (Err (record {}), (part, same))

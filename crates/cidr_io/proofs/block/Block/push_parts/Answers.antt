@@ -1,7 +1,7 @@
 use Rattle.std.proofs.Common.{Bor, List, ℕ}
 use Rattle.std.proofs.lemmas.Result.{err_from_is_err_and}
-use Rattle.netset.proofs.Collected.{none_collected, part_collected, part_lost, all_collected}
-use Rattle.netset.proofs.collecting.Block.push_parts.Goals as goal
+use Rattle.cidr_io.proofs.Collected.{none_collected, part_collected, part_lost, all_collected}
+use Rattle.cidr_io.proofs.block.Block.push_parts.Goals as goal
 
 pub loop-part-init : goal.loop-part-init
 loop-part-init g c = none_collected (g.S.Sink.state c.args.out.now) c.args.self.now

@@ -1,0 +1,139 @@
+//! Lines that are collected and written in blocks, so that a line is written by one call.
+ghost use Rattle.std.specs.Prelude.{◌≡◌, ◌↔◌, ◌++◌, List, ℕ, [], IsTrue, OnOk};
+ghost use Rattle.std.specs.List.{flat_map};
+ghost use Rattle.cidr_io.specs.Collecting.{Collects, HasSaid};
+ghost use Rattle.cidr_io.specs.Writing.{Answered, Says, State, Writes};
+
+use crate::sink::{OutputFailed, Sink};
+use crate::writing::{flush, write_all};
+use arrayvec::ArrayVec;
+use std::marker::Model;
+
+/// The most bytes that are collected.
+const BLOCK: usize = 8192;
+
+/// Lines that are collected to be written by one call.
+///
+/// A block ends where a line ends, but for a line that is longer than a block.
+#[derive(Drop)]
+pub struct Block {
+    collected: ArrayVec<u8, BLOCK>,
+}
+
+impl Model for Block {
+    ghost use Rattle.std.specs.Prelude.{List, ℕ};
+
+    ghost Value = { List ℕ };
+
+    ghost view = { λ b. b.collected.items };
+}
+
+impl Block {
+    /// The block that has no bytes.
+    pub fn new() -> Block
+        ensures { result ≡ [] }
+    {
+        Block {
+            collected: ArrayVec::new(),
+        }
+    }
+
+    /// Whether nothing is collected.
+    pub fn is_empty(&self) -> bool
+        ensures { IsTrue result ↔ (self.now ≡ []) }
+    {
+        self.collected.is_empty()
+    }
+
+    /// Whether there is room for all of these parts.
+    fn has_room(&self, parts: &[&[u8]]) -> bool {
+        let mut len = self.collected.len();
+        for part in parts {
+            len = len.saturating_add(part.len());
+        }
+        len <= BLOCK
+    }
+
+    /// Writes what is collected, unless there is room behind it for all of these parts.
+    fn make_room<S: Sink>(&mut self, out: &mut S, parts: &[&[u8]]) -> Result<(), OutputFailed>
+        ensures { Collects (S.state out.old) (S.state out.new) self.old self.new [] result }
+    {
+        if self.has_room(parts) {
+            return Ok(());
+        }
+        self.write(out)
+    }
+
+    /// Appends bytes. Where there is no room for them, what is collected is written first, and they too where they are
+    /// more than a block.
+    pub fn push<S: Sink>(&mut self, out: &mut S, bytes: &[u8]) -> Result<(), OutputFailed>
+        ensures { Collects (S.state out.old) (S.state out.new) self.old self.new bytes.now result }
+    {
+        let Err(_) = self.collected.try_extend_from_slice(bytes) else {
+            return Ok(());
+        };
+        self.write(out)?;
+        let Err(_) = self.collected.try_extend_from_slice(bytes) else {
+            return Ok(());
+        };
+        write_all(out, bytes)
+    }
+
+    /// Appends the bytes of several parts, each as `push` does.
+    fn push_parts<S: Sink>(&mut self, out: &mut S, parts: &[&[u8]]) -> Result<(), OutputFailed>
+        ensures { Collects (S.state out.old) (S.state out.new) self.old self.new (flat_map (λ part. part.now) parts.now) result }
+    {
+        for part in parts {
+            self.push(out, part)?;
+        }
+        Ok(())
+    }
+
+    /// Appends a line of several parts, the last of which ends it. Where there is no room for all of it, what is
+    /// collected is written first.
+    pub fn push_line<S: Sink>(&mut self, out: &mut S, parts: &[&[u8]]) -> Result<(), OutputFailed>
+        ensures { Collects (S.state out.old) (S.state out.new) self.old self.new (flat_map (λ part. part.now) parts.now) result }
+    {
+        self.make_room(out, parts)?;
+        self.push_parts(out, parts)
+    }
+
+    /// Writes what is collected.
+    pub fn write<S: Sink>(&mut self, out: &mut S) -> Result<(), OutputFailed>
+        ensures writes { Writes (S.state out.old) (S.state out.new) self.old result }
+        ensures empty { OnOk result (self.new ≡ []) }
+    {
+        write_all(out, self.collected.as_slice())?;
+        self.collected.clear();
+        Ok(())
+    }
+
+    /// Writes what is collected, and flushes.
+    pub fn flush<S: Sink>(&mut self, out: &mut S) -> Result<(), OutputFailed>
+        ensures writes { Writes (S.state out.old) (S.state out.new) self.old result }
+        ensures empty { OnOk result (self.new ≡ []) }
+    {
+        self.write(out)?;
+        flush(out)
+    }
+
+    /// Appends a line as `push_line` does, as far as the sink takes lines: one that has failed gets nothing.
+    pub fn say<S: Sink>(&mut self, out: &mut S, parts: &[&[u8]])
+        ensures { (start : State) (text : List ℕ) → HasSaid start (S.state out.old) self.old text
+            → HasSaid start (S.state out.new) self.new (text ++ flat_map (λ part. part.now) parts.now) }
+    {
+        if !out.failed() {
+            let _ = self.push_line(out, parts);
+        }
+    }
+
+    /// Writes what is left of the lines, and flushes, unless the sink has failed.
+    pub fn end<S: Sink>(&mut self, out: &mut S)
+        ensures { (start : State) (text : List ℕ) → HasSaid start (S.state out.old) self.old text
+            → Says start (S.state out.new) text }
+    {
+        if !out.failed() {
+            let _ = self.flush(out);
+        }
+    }
+}
