@@ -3,13 +3,13 @@ ghost use Rattle.std.specs.Prelude.{◌≡◌, ◌<◌, ◌+◌, ◌*◌, ◌++�
 ghost use Rattle.std.specs.Bool.{Decides};
 ghost use Rattle.cidr.specs.either.IpNetwork.{any_of};
 ghost use Rattle.cidr_table.specs.FiniteMap.{IsUnder};
-ghost use Rattle.cidr_table.specs.LastRows.{AreLastRows};
 ghost use Rattle.netset.specs.Findings.{AreFirsts, AreNotes, AreNotesBelow, IsInnermostRow, IsOnlyNote, entry_key, kind_rank};
 
 use crate::entries::{Entry, Place};
+use crate::table::table_of;
 use cidr::{AnyIpCidr, IpCidr, IpInet, NetworkBits};
 use cidr_ext::{IpCidrExt, NetworkExt};
-use cidr_table::{LpmTable, ReadyTable};
+use cidr_table::ReadyTable;
 use std::alloc::{AllocError, Global};
 
 /// What is found in a line.
@@ -52,17 +52,6 @@ fn key_of(network: IpCidr) -> AnyIpCidr
     ensures { result ≡ any_of network }
 {
     AnyIpCidr::from(network)
-}
-
-/// The table of these rows, of which the last one of each key counts.
-///
-/// They are sorted first by a sort that takes memory, where there is some: that of `from_rows` takes none, but moves rows
-/// that are in no order more often.
-fn table_of<C: NetworkBits + Copy>(mut rows: Vec<(C, usize)>) -> LpmTable<C, usize>
-    ensures { AreLastRows rows.items result.rows }
-{
-    let _ = rows.sort_by_key(|row| row.0);
-    LpmTable::from_rows(rows)
 }
 
 /// The first index of each network. The rows go from the last line to the first, since the last row of a key counts.
