@@ -1,0 +1,394 @@
+//! The networks of one family.
+//!
+//! Their walk, `iter`, stands beside, in `v4` and `v6`; their compact bytes in `compact::one_family`, their prefix
+//! bytes in `prefix_bytes`, and the bits that they are a string of in `bits::network`.
+
+use crate::addr::v4::Ipv4Addr;
+use crate::addr::v6::Ipv6Addr;
+use crate::errors::{NetworkLengthTooLongError, NetworkParseError};
+use crate::family::Family;
+use crate::inet::host::Host;
+use crate::inet_pair::host_pair::HostPair;
+use crate::internal_traits::address_bits::{AddressBits, AddressText};
+use crate::text::print::{forced, plain};
+use crate::text::read::{cut_at_last_slash, read_length};
+use crate::text::with_length::WithLength;
+use cidr_support::arrayvec::ArrayString;
+use core::cmp::Ordering;
+use core::fmt;
+use core::hash::{Hash, Hasher};
+use core::str::FromStr;
+
+/// A network of one family: all addresses that begin with the same bits, the prefix. `Ipv4Cidr` and `Ipv6Cidr` are its
+/// two types.
+///
+/// 192.0.2.48/28 has the addresses from 192.0.2.48 to 192.0.2.63. The prefix length is at most 32 in IPv4 and 128 in
+/// IPv6, and no bit of the first address after the prefix is set. It is parsed from an address, a slash and the prefix
+/// length (RFC 4632, 3.1; RFC 4291, 2.3); an address with no slash is the network of full prefix length.
+///
+/// Networks are ordered by first address and then by prefix length, shortest first.
+///
+/// ```
+/// # use cidr::{canon::*, errors::*, parsers::*, *};
+/// assert_eq!(format!("{}", "192.0.2.48/28".parse::<Ipv4Cidr>()?), "192.0.2.48/28");
+/// assert_eq!(format!("{:?}", "192.0.2.50/28".parse::<Ipv4Cidr>()), "Err(host part of address was not zero)");
+/// let network = "10.0.0.0/8".parse::<Ipv4Cidr>()?;
+/// assert!(network < "10.0.0.0/9".parse()?);
+/// # Ok::<(), Box<dyn std::error::Error>>(())
+/// ```
+pub struct Network<A: AddressBits> {
+    address: A,
+    len: u8,
+}
+
+/// An IPv4 network, as 192.0.2.48/28: the prefix length is at most 32.
+pub type Ipv4Cidr = Network<Ipv4Addr>;
+
+/// An IPv6 network, as 2001:db8::/32: the prefix length is at most 128.
+pub type Ipv6Cidr = Network<Ipv6Addr>;
+
+impl<A: AddressBits> Clone for Network<A> {
+    #[inline]
+    fn clone(&self) -> Network<A> {
+        *self
+    }
+}
+
+impl<A: AddressBits> Copy for Network<A> {}
+
+impl<A: AddressBits> Network<A> {
+    /// The network of the first `len` bits of an address.
+    ///
+    /// Returns `NetworkLengthTooLongError` for a prefix length above the width, 32 or 128, and then `InvalidHostPart`
+    /// for an address with a set bit after the first `len`.
+    ///
+    /// ```
+    /// # use cidr::{canon::*, errors::*, parsers::*, *};
+    /// assert_eq!(format!("{}", Ipv4Cidr::new(Ipv4Addr::new(192, 0, 2, 48), 28)?), "192.0.2.48/28");
+    /// assert_eq!(format!("{:?}", Ipv4Cidr::new(Ipv4Addr::new(192, 0, 2, 48), 27)), "Err(host part of address was not zero)");
+    /// # Ok::<(), Box<dyn std::error::Error>>(())
+    /// ```
+    pub fn new(addr: A, len: u8) -> Result<Network<A>, NetworkParseError> {
+        if len > A::FAMILY.len() {
+            let too_long = NetworkLengthTooLongError::new(len as usize, A::FAMILY);
+            return Err(NetworkParseError::from(too_long));
+        }
+        if !addr.is_first_in(len) {
+            return Err(NetworkParseError::InvalidHostPart);
+        }
+        // the call tells the proof how many bits the address has
+        addr.has_width();
+        Ok(Network { address: addr, len })
+    }
+
+    /// The network that has only this address, of full prefix length: /32 in IPv4 and /128 in IPv6. It is printed
+    /// without the prefix length.
+    ///
+    /// ```
+    /// # use cidr::{canon::*, errors::*, parsers::*, *};
+    /// assert_eq!(format!("{}", Ipv4Cidr::new_host(Ipv4Addr::new(192, 0, 2, 1))), "192.0.2.1");
+    /// assert_eq!(format!("{}", Ipv6Cidr::new_host(Ipv6Addr::from_bits(1))), "::1");
+    /// # Ok::<(), Box<dyn std::error::Error>>(())
+    /// ```
+    #[inline]
+    pub fn new_host(addr: A) -> Network<A> {
+        // the call tells the proof how many bits the address has
+        addr.has_width();
+        Network {
+            address: addr,
+            len: A::FAMILY.len(),
+        }
+    }
+
+    /// The network of this first address and prefix length, which are known to belong together.
+    #[inline]
+    pub(crate) fn new_unchecked(addr: A, len: u8) -> Network<A> {
+        Network { address: addr, len }
+    }
+
+    /// The network of this length that holds the address.
+    #[inline]
+    pub(crate) fn holding(addr: A, len: u8) -> Network<A> {
+        // the call tells the proof how many bits the address has
+        addr.has_width();
+        Network {
+            address: addr.first_in(len),
+            len,
+        }
+    }
+
+    /// The first address, in which no bit after the prefix is set: in IPv4 the network address, up to /30.
+    ///
+    /// ```
+    /// # use cidr::{canon::*, errors::*, parsers::*, *};
+    /// assert_eq!(format!("{}", "192.0.2.48/28".parse::<Ipv4Cidr>()?.first_address()), "192.0.2.48");
+    /// # Ok::<(), Box<dyn std::error::Error>>(())
+    /// ```
+    #[inline]
+    pub fn first_address(&self) -> A {
+        self.address
+    }
+
+    /// The first address, by reference.
+    ///
+    /// ```
+    /// # use cidr::{canon::*, errors::*, parsers::*, *};
+    /// assert_eq!(format!("{}", "10.0.0.0/8".parse::<Ipv4Cidr>()?.first_address_ref()), "10.0.0.0");
+    /// # Ok::<(), Box<dyn std::error::Error>>(())
+    /// ```
+    #[inline]
+    pub fn first_address_ref(&self) -> &A {
+        &self.address
+    }
+
+    /// The last address, in which all bits after the prefix are set: in IPv4 the broadcast address, up to /30.
+    ///
+    /// ```
+    /// # use cidr::{canon::*, errors::*, parsers::*, *};
+    /// assert_eq!(format!("{}", "192.0.2.48/28".parse::<Ipv4Cidr>()?.last_address()), "192.0.2.63");
+    /// assert_eq!(format!("{}", "2001:db8::/120".parse::<Ipv6Cidr>()?.last_address()), "2001:db8::ff");
+    /// # Ok::<(), Box<dyn std::error::Error>>(())
+    /// ```
+    #[inline]
+    pub fn last_address(&self) -> A {
+        self.address.last_in(self.len)
+    }
+
+    /// The host at the first address, with the prefix length of the network.
+    ///
+    /// ```
+    /// # use cidr::{canon::*, errors::*, parsers::*, *};
+    /// assert_eq!(format!("{}", "192.0.2.48/28".parse::<Ipv4Cidr>()?.first()), "192.0.2.48/28");
+    /// # Ok::<(), Box<dyn std::error::Error>>(())
+    /// ```
+    #[inline]
+    pub fn first(&self) -> Host<A> {
+        Host::new_unchecked(self.first_address(), self.network_length())
+    }
+
+    /// The host at the last address, with the prefix length of the network.
+    ///
+    /// ```
+    /// # use cidr::{canon::*, errors::*, parsers::*, *};
+    /// assert_eq!(format!("{}", "192.0.2.48/28".parse::<Ipv4Cidr>()?.last()), "192.0.2.63/28");
+    /// # Ok::<(), Box<dyn std::error::Error>>(())
+    /// ```
+    #[inline]
+    pub fn last(&self) -> Host<A> {
+        Host::new_unchecked(self.last_address(), self.network_length())
+    }
+
+    /// The pair of the first and the last address. Its walk has exactly the addresses of the network.
+    #[inline]
+    pub(crate) fn ends(&self) -> HostPair<A> {
+        HostPair::new_unchecked(
+            self.first_address(),
+            self.last_address(),
+            self.network_length(),
+        )
+    }
+
+    /// The prefix length in bits, at most 32 in IPv4 and 128 in IPv6.
+    ///
+    /// ```
+    /// # use cidr::{canon::*, errors::*, parsers::*, *};
+    /// assert_eq!("10.0.0.0/8".parse::<Ipv4Cidr>()?.network_length(), 8);
+    /// # Ok::<(), Box<dyn std::error::Error>>(())
+    /// ```
+    #[inline]
+    pub fn network_length(&self) -> u8 {
+        self.len
+    }
+
+    /// The family of its addresses, which its type tells.
+    ///
+    /// ```
+    /// # use cidr::{canon::*, errors::*, parsers::*, *};
+    /// assert_eq!(format!("{:?}", "192.0.2.48/28".parse::<Ipv4Cidr>()?.family()), "Ipv4");
+    /// # Ok::<(), Box<dyn std::error::Error>>(())
+    /// ```
+    #[inline]
+    pub fn family(&self) -> Family {
+        A::FAMILY
+    }
+
+    /// Whether the network has only one address, that is, whether the prefix length is full: 32 in IPv4 and 128 in
+    /// IPv6.
+    ///
+    /// ```
+    /// # use cidr::{canon::*, errors::*, parsers::*, *};
+    /// assert!("10.0.0.1".parse::<Ipv4Cidr>()?.is_host_address());
+    /// assert!(!("::/127".parse::<Ipv6Cidr>()?.is_host_address()));
+    /// # Ok::<(), Box<dyn std::error::Error>>(())
+    /// ```
+    #[inline]
+    pub fn is_host_address(&self) -> bool {
+        self.len == A::FAMILY.len()
+    }
+
+    /// The network mask: as many set bits as the prefix length says, then zeros.
+    ///
+    /// ```
+    /// # use cidr::{canon::*, errors::*, parsers::*, *};
+    /// assert_eq!(format!("{}", "192.0.2.48/28".parse::<Ipv4Cidr>()?.mask()), "255.255.255.240");
+    /// assert_eq!(format!("{}", "2001:db8::/32".parse::<Ipv6Cidr>()?.mask()), "ffff:ffff::");
+    /// # Ok::<(), Box<dyn std::error::Error>>(())
+    /// ```
+    #[inline]
+    pub fn mask(&self) -> A {
+        A::mask_of(self.len)
+    }
+
+    /// Whether the address is in the network, that is, begins with its prefix. The first and the last address are in
+    /// it.
+    ///
+    /// An IPv6 network that holds IPv4-mapped addresses, as ::ffff:0:0/96, has no IPv4 address: the argument has to be
+    /// of the network's own family, and nothing is mapped.
+    ///
+    /// ```
+    /// # use cidr::{canon::*, errors::*, parsers::*, *};
+    /// let network = "192.0.2.48/28".parse::<Ipv4Cidr>()?;
+    /// assert!(network.contains(&Ipv4Addr::new(192, 0, 2, 63)));
+    /// assert!(!network.contains(&Ipv4Addr::new(192, 0, 2, 64)));
+    /// # Ok::<(), Box<dyn std::error::Error>>(())
+    /// ```
+    #[inline]
+    pub fn contains(&self, addr: &A) -> bool {
+        self.address.shares(*addr, self.len)
+    }
+
+    /// Whether every address of the other network is in this one. Each network contains itself.
+    ///
+    /// Two networks of which neither contains the other have no address in common, and in their order those inside a
+    /// network follow it one after the other.
+    ///
+    /// ```
+    /// # use cidr::{canon::*, errors::*, parsers::*, *};
+    /// let network = "10.0.0.0/8".parse::<Ipv4Cidr>()?;
+    /// assert!(network.contains_cidr(&"10.1.0.0/16".parse()?));
+    /// assert!(!network.contains_cidr(&"8.0.0.0/6".parse()?));
+    /// # Ok::<(), Box<dyn std::error::Error>>(())
+    /// ```
+    #[inline]
+    pub fn contains_cidr(&self, other: &Network<A>) -> bool {
+        // both are made, so that no branch hangs on the lengths
+        let begins = self.contains(&other.address);
+        self.len <= other.len && begins
+    }
+
+    /// The network, to be printed with its prefix length also where that is full.
+    ///
+    /// ```
+    /// # use cidr::{canon::*, errors::*, parsers::*, *};
+    /// assert_eq!(format!("{}", "192.0.2.1".parse::<Ipv4Cidr>()?.with_length()), "192.0.2.1/32");
+    /// # Ok::<(), Box<dyn std::error::Error>>(())
+    /// ```
+    #[inline]
+    pub fn with_length(&self) -> WithLength<Network<A>> {
+        WithLength::new(*self)
+    }
+}
+
+impl<A: AddressText> Network<A> {
+    /// The printed string, without a full prefix length, in an `ArrayString`, so that nothing is allocated. It has at
+    /// most 18 bytes in IPv4 and 43 in IPv6. Parsing it gives the same network.
+    ///
+    /// ```
+    /// # use cidr::{canon::*, errors::*, parsers::*, *};
+    /// assert_eq!(format!("{}", "192.0.2.1/32".parse::<Ipv4Cidr>()?.to_text()), "192.0.2.1");
+    /// assert_eq!(format!("{}", "2001:DB8:0::/32".parse::<Ipv6Cidr>()?.to_text()), "2001:db8::/32");
+    /// # Ok::<(), Box<dyn std::error::Error>>(())
+    /// ```
+    #[inline]
+    pub fn to_text(&self) -> ArrayString<43> {
+        plain(self.first_address(), self.network_length())
+    }
+}
+
+impl<A: AddressText> WithLength<Network<A>> {
+    /// The printed string, with the prefix length also where that is full: at most 18 bytes in IPv4 and 43 in IPv6.
+    ///
+    /// ```
+    /// # use cidr::{canon::*, errors::*, parsers::*, *};
+    /// assert_eq!(format!("{}", "::1".parse::<Ipv6Cidr>()?.with_length().to_text()), "::1/128");
+    /// # Ok::<(), Box<dyn std::error::Error>>(())
+    /// ```
+    #[inline]
+    pub fn to_text(&self) -> ArrayString<43> {
+        let network = self.get();
+        forced(network.first_address(), network.network_length())
+    }
+}
+
+impl<A: AddressBits> PartialEq for Network<A> {
+    #[inline]
+    fn eq(&self, other: &Network<A>) -> bool {
+        self.address == other.address && self.len == other.len
+    }
+}
+
+impl<A: AddressBits> Eq for Network<A> {}
+
+impl<A: AddressBits> PartialOrd for Network<A> {
+    #[inline]
+    fn partial_cmp(&self, other: &Network<A>) -> Option<Ordering> {
+        Some(self.cmp(other))
+    }
+}
+
+impl<A: AddressBits> Ord for Network<A> {
+    #[inline]
+    fn cmp(&self, other: &Network<A>) -> Ordering {
+        self.address.order(self.len, other.address, other.len)
+    }
+}
+
+impl<A: AddressBits> Hash for Network<A> {
+    #[inline]
+    fn hash<H: Hasher>(&self, state: &mut H) {
+        self.address.hash(state);
+        self.len.hash(state);
+    }
+}
+
+impl<A: AddressBits> From<A> for Network<A> {
+    #[inline]
+    fn from(address: A) -> Network<A> {
+        Network::new_host(address)
+    }
+}
+
+impl<A: AddressText> FromStr for Network<A> {
+    type Err = NetworkParseError;
+
+    #[inline]
+    fn from_str(s: &str) -> Result<Network<A>, NetworkParseError> {
+        let Some((front, back)) = cut_at_last_slash(s) else {
+            return Ok(Network::new_host(A::read(s)?));
+        };
+        let address = A::read(front)?;
+        let len = read_length(back)?;
+        Network::new(address, len)
+    }
+}
+
+impl<A: AddressText> fmt::Display for Network<A> {
+    #[inline]
+    fn fmt(&self, f: &mut fmt::Formatter<'_>) -> fmt::Result {
+        f.write_str(self.to_text().as_str())
+    }
+}
+
+impl<A: AddressText> fmt::Display for WithLength<Network<A>> {
+    #[inline]
+    fn fmt(&self, f: &mut fmt::Formatter<'_>) -> fmt::Result {
+        f.write_str(self.to_text().as_str())
+    }
+}
+
+impl<A: AddressText> fmt::Debug for Network<A> {
+    #[inline]
+    fn fmt(&self, f: &mut fmt::Formatter<'_>) -> fmt::Result {
+        fmt::Display::fmt(&self.with_length(), f)
+    }
+}

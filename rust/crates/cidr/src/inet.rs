@@ -1,0 +1,5 @@
+//! Hosts: addresses in their networks.
+
+pub(crate) mod combined;
+pub(crate) mod host;
+mod v4;

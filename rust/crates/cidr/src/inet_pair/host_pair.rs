@@ -1,0 +1,278 @@
+//! The pairs of addresses of one family.
+//!
+//! Their walk, `iter`, stands beside, in `v4` and `v6`.
+
+use crate::addr::v4::Ipv4Addr;
+use crate::addr::v6::Ipv6Addr;
+use crate::cidr::network::Network;
+use crate::errors::{InetTupleError, NetworkLengthTooLongError};
+use crate::family::Family;
+use crate::inet::host::Host;
+use crate::internal_traits::address_bits::{AddressBits, AddressText};
+use crate::text::print::{forced, parenthesized, plain};
+use crate::text::with_length::WithLength;
+use cidr_support::arrayvec::ArrayString;
+use core::fmt;
+use core::hash::{Hash, Hasher};
+
+/// Two addresses of one network, and the prefix length of that network. `Ipv4InetPair` and `Ipv6InetPair` are its two
+/// types.
+///
+/// It is a range of addresses, from the first to the second inclusive. The first may be above the second; the range has
+/// no address then. The prefix length is at most 32 in IPv4 and 128 in IPv6. It is printed and not parsed, and has no
+/// order.
+///
+/// ```
+/// # use cidr::{canon::*, errors::*, parsers::*, *};
+/// let host = "192.0.2.49/28".parse::<Ipv4Inet>()?;
+/// assert_eq!(format!("{}", Ipv4InetPair::new(host, host.last())?), "(192.0.2.49/28, 192.0.2.63/28)");
+/// # Ok::<(), Box<dyn std::error::Error>>(())
+/// ```
+pub struct HostPair<A: AddressBits> {
+    first: A,
+    second: A,
+    len: u8,
+}
+
+/// Two IPv4 addresses of one network, as (192.0.2.49/28, 192.0.2.51/28).
+pub type Ipv4InetPair = HostPair<Ipv4Addr>;
+
+/// Two IPv6 addresses of one network, as (2001:db8::1/32, 2001:db8::5/32).
+pub type Ipv6InetPair = HostPair<Ipv6Addr>;
+
+impl<A: AddressBits> Clone for HostPair<A> {
+    #[inline]
+    fn clone(&self) -> HostPair<A> {
+        *self
+    }
+}
+
+impl<A: AddressBits> Copy for HostPair<A> {}
+
+impl<A: AddressBits> HostPair<A> {
+    /// The pair of two hosts. Returns `NotInSharedNetwork` for hosts of different prefix lengths or of different
+    /// networks.
+    ///
+    /// ```
+    /// # use cidr::{canon::*, errors::*, parsers::*, *};
+    /// let (first, second) = ("10.0.0.1/8".parse()?, "10.0.0.3/8".parse()?);
+    /// assert_eq!(format!("{}", Ipv4InetPair::new(first, second)?), "(10.0.0.1/8, 10.0.0.3/8)");
+    /// # Ok::<(), Box<dyn std::error::Error>>(())
+    /// ```
+    #[inline]
+    pub fn new(first: Host<A>, second: Host<A>) -> Result<HostPair<A>, InetTupleError> {
+        if first.network_length() != second.network_length() {
+            return Err(InetTupleError::NotInSharedNetwork);
+        }
+        HostPair::sharing(first.address(), second.address(), first.network_length())
+    }
+
+    /// The pair of two addresses in a network of this prefix length.
+    ///
+    /// Returns `NetworkLengthTooLongError` for a prefix length above the width, 32 or 128, and then
+    /// `NotInSharedNetwork` for addresses whose first `len` bits differ.
+    ///
+    /// ```
+    /// # use cidr::{canon::*, errors::*, parsers::*, *};
+    /// let (first, last) = ("192.0.2.1".parse()?, "192.0.2.129".parse()?);
+    /// assert_eq!(format!("{}", Ipv4InetPair::new_from_addresses(first, last, 24)?), "(192.0.2.1/24, 192.0.2.129/24)");
+    /// assert_eq!(format!("{:?}", Ipv4InetPair::new_from_addresses(first, last, 25)), "Err(addresses not in shared network)");
+    /// # Ok::<(), Box<dyn std::error::Error>>(())
+    /// ```
+    #[inline]
+    pub fn new_from_addresses(first: A, second: A, len: u8) -> Result<HostPair<A>, InetTupleError> {
+        if len > A::FAMILY.len() {
+            return Err(InetTupleError::NetworkLengthTooLongError(NetworkLengthTooLongError::new(
+                len as usize,
+                A::FAMILY,
+            )));
+        }
+        HostPair::sharing(first, second, len)
+    }
+
+    /// The pair, if both addresses begin with the same `len` bits.
+    #[inline]
+    fn sharing(first: A, second: A, len: u8) -> Result<HostPair<A>, InetTupleError> {
+        if !first.shares(second, len) {
+            return Err(InetTupleError::NotInSharedNetwork);
+        }
+        // the calls tell the proof how many bits the addresses have
+        first.has_width();
+        second.has_width();
+        Ok(HostPair { first, second, len })
+    }
+
+    /// The pair of two addresses that are known to be in one network of this prefix length.
+    #[inline]
+    pub(crate) fn new_unchecked(first: A, second: A, len: u8) -> HostPair<A> {
+        HostPair { first, second, len }
+    }
+
+    /// The two addresses.
+    #[inline]
+    pub(crate) fn addresses(&self) -> (A, A) {
+        (self.first, self.second)
+    }
+
+    /// The first address, as a host with the prefix length of the pair.
+    ///
+    /// ```
+    /// # use cidr::{canon::*, errors::*, parsers::*, *};
+    /// let host = "192.0.2.49/28".parse::<Ipv4Inet>()?;
+    /// assert_eq!(format!("{}", Ipv4InetPair::new(host, host.last())?.first()), "192.0.2.49/28");
+    /// # Ok::<(), Box<dyn std::error::Error>>(())
+    /// ```
+    #[inline]
+    pub fn first(&self) -> Host<A> {
+        Host::new_unchecked(self.first, self.len)
+    }
+
+    /// The second address, as a host with the prefix length of the pair.
+    ///
+    /// ```
+    /// # use cidr::{canon::*, errors::*, parsers::*, *};
+    /// let host = "192.0.2.49/28".parse::<Ipv4Inet>()?;
+    /// assert_eq!(format!("{}", Ipv4InetPair::new(host, host.last())?.second()), "192.0.2.63/28");
+    /// # Ok::<(), Box<dyn std::error::Error>>(())
+    /// ```
+    #[inline]
+    pub fn second(&self) -> Host<A> {
+        Host::new_unchecked(self.second, self.len)
+    }
+
+    /// The network that both addresses are in, of the prefix length of the pair. It may have more addresses than the
+    /// pair.
+    ///
+    /// ```
+    /// # use cidr::{canon::*, errors::*, parsers::*, *};
+    /// let host = "192.0.2.49/28".parse::<Ipv4Inet>()?;
+    /// assert_eq!(format!("{}", Ipv4InetPair::new(host, host)?.network()), "192.0.2.48/28");
+    /// # Ok::<(), Box<dyn std::error::Error>>(())
+    /// ```
+    #[inline]
+    pub fn network(&self) -> Network<A> {
+        self.first().network()
+    }
+
+    /// The prefix length in bits, at most 32 in IPv4 and 128 in IPv6.
+    ///
+    /// ```
+    /// # use cidr::{canon::*, errors::*, parsers::*, *};
+    /// let host = "192.0.2.49/28".parse::<Ipv4Inet>()?;
+    /// assert_eq!(Ipv4InetPair::new(host, host)?.network_length(), 28);
+    /// # Ok::<(), Box<dyn std::error::Error>>(())
+    /// ```
+    #[inline]
+    pub fn network_length(&self) -> u8 {
+        self.len
+    }
+
+    /// The family of both addresses, which its type tells.
+    ///
+    /// ```
+    /// # use cidr::{canon::*, errors::*, parsers::*, *};
+    /// let host = "192.0.2.49/28".parse::<Ipv4Inet>()?;
+    /// assert_eq!(format!("{:?}", Ipv4InetPair::new(host, host)?.family()), "Ipv4");
+    /// # Ok::<(), Box<dyn std::error::Error>>(())
+    /// ```
+    #[inline]
+    pub fn family(&self) -> Family {
+        A::FAMILY
+    }
+
+    /// The pair, to be printed with its prefix lengths also where they are full.
+    ///
+    /// ```
+    /// # use cidr::{canon::*, errors::*, parsers::*, *};
+    /// let host = "192.0.2.1".parse::<Ipv4Inet>()?;
+    /// assert_eq!(format!("{}", Ipv4InetPair::new(host, host)?.with_length()), "(192.0.2.1/32, 192.0.2.1/32)");
+    /// # Ok::<(), Box<dyn std::error::Error>>(())
+    /// ```
+    #[inline]
+    pub fn with_length(&self) -> WithLength<HostPair<A>> {
+        WithLength::new(*self)
+    }
+}
+
+impl<A: AddressText> HostPair<A> {
+    /// The printed string, both hosts in parentheses and without a full prefix length, in an `ArrayString`, so that
+    /// nothing is allocated. It has at most 40 bytes in IPv4 and 90 in IPv6.
+    ///
+    /// ```
+    /// # use cidr::{canon::*, errors::*, parsers::*, *};
+    /// let host = "192.0.2.1".parse::<Ipv4Inet>()?;
+    /// assert_eq!(format!("{}", Ipv4InetPair::new(host, host)?.to_text()), "(192.0.2.1, 192.0.2.1)");
+    /// # Ok::<(), Box<dyn std::error::Error>>(())
+    /// ```
+    #[inline]
+    pub fn to_text(&self) -> ArrayString<90> {
+        let first = plain(self.first, self.len);
+        let second = plain(self.second, self.len);
+        parenthesized(first.as_str(), second.as_str())
+    }
+}
+
+impl<A: AddressText> WithLength<HostPair<A>> {
+    /// The printed string, with the prefix lengths also where they are full: at most 40 bytes in IPv4 and 90 in IPv6.
+    ///
+    /// ```
+    /// # use cidr::{canon::*, errors::*, parsers::*, *};
+    /// let host = "::1".parse::<Ipv6Inet>()?;
+    /// let pair = Ipv6InetPair::new(host, host)?;
+    /// assert_eq!(format!("{}", pair.with_length().to_text()), "(::1/128, ::1/128)");
+    /// # Ok::<(), Box<dyn std::error::Error>>(())
+    /// ```
+    #[inline]
+    pub fn to_text(&self) -> ArrayString<90> {
+        let pair = self.get();
+        let first = forced(pair.first, pair.len);
+        let second = forced(pair.second, pair.len);
+        parenthesized(first.as_str(), second.as_str())
+    }
+}
+
+impl<A: AddressBits> PartialEq for HostPair<A> {
+    #[inline]
+    fn eq(&self, other: &HostPair<A>) -> bool {
+        self.first == other.first && self.second == other.second && self.len == other.len
+    }
+}
+
+impl<A: AddressBits> Eq for HostPair<A> {}
+
+impl<A: AddressBits> Hash for HostPair<A> {
+    #[inline]
+    fn hash<H: Hasher>(&self, state: &mut H) {
+        self.first.hash(state);
+        self.second.hash(state);
+        self.len.hash(state);
+    }
+}
+
+impl<A: AddressText> fmt::Display for HostPair<A> {
+    #[inline]
+    fn fmt(&self, f: &mut fmt::Formatter<'_>) -> fmt::Result {
+        f.write_str(self.to_text().as_str())
+    }
+}
+
+impl<A: AddressText> fmt::Display for WithLength<HostPair<A>> {
+    #[inline]
+    fn fmt(&self, f: &mut fmt::Formatter<'_>) -> fmt::Result {
+        f.write_str(self.to_text().as_str())
+    }
+}
+
+impl<A: AddressText> fmt::Debug for HostPair<A> {
+    fn fmt(&self, f: &mut fmt::Formatter<'_>) -> fmt::Result {
+        let name = match A::FAMILY {
+            Family::Ipv4 => "Ipv4InetPair",
+            Family::Ipv6 => "Ipv6InetPair",
+        };
+        f.debug_struct(name)
+            .field("first", &self.first)
+            .field("second", &self.second)
+            .field("len", &self.len)
+            .finish()
+    }
+}

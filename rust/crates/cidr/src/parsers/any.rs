@@ -1,0 +1,109 @@
+//! The parsers for `AnyIpCidr`: the string `any` comes first, and every other is parsed as a network of either family.
+
+use crate::addr::error::AddrParseError;
+use crate::addr::ip::IpAddr;
+use crate::cidr::any::{AnyIpCidr, any_of, is_any};
+use crate::cidr::combined::IpCidr;
+use crate::errors::NetworkParseError;
+use crate::parsers::ignore_hostbits::{
+    parse_cidr_full_ignore_hostbits, parse_cidr_ignore_hostbits,
+};
+use crate::parsers::networks::{parse_cidr, parse_cidr_full};
+
+/// `Any` for the string `any`, for which no parser is called. For every other string the result of `parse_cidr_full`.
+///
+/// ```
+/// # use cidr::{canon::*, errors::*, parsers::*, *};
+/// # use std::str::FromStr;
+/// let short = |s: &str| parse_short_ip_cidr(s);
+/// let network = parse_any_cidr_full("10.7", IpAddr::from_str, short)?;
+/// assert_eq!(format!("{}", network), "10.7.0.0/16");
+/// # Ok::<(), Box<dyn std::error::Error>>(())
+/// ```
+#[inline]
+pub fn parse_any_cidr_full<AP, HP>(
+    s: &str,
+    address_parser: AP,
+    host_parser: HP,
+) -> Result<AnyIpCidr, NetworkParseError>
+where
+    AP: FnOnce(&str) -> Result<IpAddr, AddrParseError>,
+    HP: FnOnce(&str) -> Result<IpCidr, NetworkParseError>,
+{
+    if is_any(s) {
+        return Ok(AnyIpCidr::Any);
+    }
+    any_of(parse_cidr_full(s, address_parser, host_parser))
+}
+
+/// `Any` for the string `any`, for which `address_parser` is not called. For every other string the result of
+/// `parse_cidr`.
+///
+/// ```
+/// # use cidr::{canon::*, errors::*, parsers::*, *};
+/// # use std::str::FromStr;
+/// assert_eq!(format!("{}", parse_any_cidr("any", IpAddr::from_str)?), "any");
+/// assert_eq!(format!("{}", parse_any_cidr("::1", IpAddr::from_str)?), "::1");
+/// # Ok::<(), Box<dyn std::error::Error>>(())
+/// ```
+#[inline]
+pub fn parse_any_cidr<AP>(s: &str, address_parser: AP) -> Result<AnyIpCidr, NetworkParseError>
+where
+    AP: Fn(&str) -> Result<IpAddr, AddrParseError>,
+{
+    if is_any(s) {
+        return Ok(AnyIpCidr::Any);
+    }
+    any_of(parse_cidr(s, address_parser))
+}
+
+/// `Any` for the string `any`, for which no parser is called. For every other string the result of
+/// `parse_cidr_full_ignore_hostbits`.
+///
+/// ```
+/// # use cidr::{canon::*, errors::*, parsers::*, *};
+/// # use std::str::FromStr;
+/// let short = |s: &str| parse_short_ip_cidr(s);
+/// let network = parse_any_cidr_full_ignore_hostbits("10.0.0.7/8", IpAddr::from_str, short)?;
+/// assert_eq!(format!("{}", network), "10.0.0.0/8");
+/// # Ok::<(), Box<dyn std::error::Error>>(())
+/// ```
+#[inline]
+pub fn parse_any_cidr_full_ignore_hostbits<AP, HP>(
+    s: &str,
+    address_parser: AP,
+    host_parser: HP,
+) -> Result<AnyIpCidr, NetworkParseError>
+where
+    AP: FnOnce(&str) -> Result<IpAddr, AddrParseError>,
+    HP: FnOnce(&str) -> Result<IpCidr, NetworkParseError>,
+{
+    if is_any(s) {
+        return Ok(AnyIpCidr::Any);
+    }
+    any_of(parse_cidr_full_ignore_hostbits(s, address_parser, host_parser))
+}
+
+/// `Any` for the string `any`, for which `address_parser` is not called. For every other string the result of
+/// `parse_cidr_ignore_hostbits`.
+///
+/// ```
+/// # use cidr::{canon::*, errors::*, parsers::*, *};
+/// # use std::str::FromStr;
+/// let network = parse_any_cidr_ignore_hostbits("127.0.0.1/8", IpAddr::from_str)?;
+/// assert_eq!(format!("{}", network), "127.0.0.0/8");
+/// # Ok::<(), Box<dyn std::error::Error>>(())
+/// ```
+#[inline]
+pub fn parse_any_cidr_ignore_hostbits<AP>(
+    s: &str,
+    address_parser: AP,
+) -> Result<AnyIpCidr, NetworkParseError>
+where
+    AP: Fn(&str) -> Result<IpAddr, AddrParseError>,
+{
+    if is_any(s) {
+        return Ok(AnyIpCidr::Any);
+    }
+    any_of(parse_cidr_ignore_hostbits(s, address_parser))
+}

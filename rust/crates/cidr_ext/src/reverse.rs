@@ -1,0 +1,221 @@
+//! The names of addresses and networks in reverse DNS.
+
+use crate::address::AddressExt;
+use crate::families::WholeFamily;
+use crate::numbered::CidrExt;
+use crate::reverse_read::read_name;
+use crate::reverse_zones::{ReverseZones, zone_length};
+use cidr_support::arrayvec::ArrayString;
+use cidr::{Address, Cidr, Family};
+
+/// Names of networks in reverse DNS, for `Ipv4Cidr`, `Ipv6Cidr` and `IpCidr`.
+pub trait CidrReverseName: Sized + Cidr {
+    /// The domain name of the network in reverse DNS, or `None` where the prefix length doesn't end at a label: it has
+    /// to be a multiple of 8 in IPv4 (RFC 1035, 3.5) and of 4 in IPv6 (RFC 3596, 2.5); `reverse_zones` has names for
+    /// the others. Those of RFC 2317, for IPv4 networks smaller than /24, are left out.
+    ///
+    /// The name is in lower case and has no final dot. It has at most 72 bytes, and nothing is allocated.
+    ///
+    /// ```
+    /// # use cidr::*;
+    /// # use cidr_ext::*;
+    /// assert_eq!(format!("{:?}", "192.0.2.0/24".parse::<Ipv4Cidr>()?.reverse_name()), "Some(\"2.0.192.in-addr.arpa\")");
+    /// assert_eq!(format!("{:?}", "2001:db8::/32".parse::<Ipv6Cidr>()?.reverse_name()), "Some(\"8.b.d.0.1.0.0.2.ip6.arpa\")");
+    /// assert_eq!(format!("{:?}", "192.0.2.0/25".parse::<Ipv4Cidr>()?.reverse_name()), "None");
+    /// # Ok::<(), Box<dyn std::error::Error>>(())
+    /// ```
+    fn reverse_name(&self) -> Option<ArrayString<72>>;
+
+    /// The names in reverse DNS of the zones that the network is delegated in, ascending: those of the networks inside
+    /// it whose prefix length is the next one that ends at a label. They are at most 128 in IPv4 and 8 in IPv6, and of a
+    /// network that has a name itself only this one.
+    ///
+    /// ```
+    /// # use cidr::*;
+    /// # use cidr_ext::*;
+    /// let mut zones = "192.0.2.0/23".parse::<Ipv4Cidr>()?.reverse_zones();
+    /// assert_eq!(format!("{:?}", zones.next()), "Some(\"2.0.192.in-addr.arpa\")");
+    /// assert_eq!(format!("{:?}", zones.next()), "Some(\"3.0.192.in-addr.arpa\")");
+    /// assert_eq!(format!("{:?}", zones.next()), "None");
+    /// # Ok::<(), Box<dyn std::error::Error>>(())
+    /// ```
+    fn reverse_zones(&self) -> ReverseZones<Self>;
+
+    /// The network that has this name in reverse DNS, or `None` where no network of the type has it. It is the inverse
+    /// of `reverse_name`.
+    ///
+    /// Letters may be in upper or lower case (RFC 4343, 3), and a dot may stand at the end (RFC 1034, 3.1). A label has
+    /// no leading zeros, since it is a name and not a number.
+    ///
+    /// ```
+    /// # use cidr::*;
+    /// # use cidr_ext::*;
+    /// assert_eq!(format!("{:?}", Ipv4Cidr::from_reverse_name("2.0.192.in-addr.arpa")), "Some(192.0.2.0/24)");
+    /// assert_eq!(format!("{:?}", Ipv6Cidr::from_reverse_name("8.B.D.0.1.0.0.2.IP6.ARPA.")), "Some(2001:db8::/32)");
+    /// assert_eq!(format!("{:?}", Ipv4Cidr::from_reverse_name("02.0.192.in-addr.arpa")), "None");
+    /// # Ok::<(), Box<dyn std::error::Error>>(())
+    /// ```
+    fn from_reverse_name(name: &str) -> Option<Self>;
+}
+
+/// Names of addresses in reverse DNS, for `Ipv4Addr`, `Ipv6Addr` and `IpAddr`.
+pub trait AddressReverseName: Sized + Address {
+    /// The domain name of the address in reverse DNS, where its PTR record is: in in-addr.arpa (RFC 1035, 3.5) or in
+    /// ip6.arpa (RFC 3596, 2.5).
+    ///
+    /// The name is in lower case and has no final dot. It has at most 72 bytes, and nothing is allocated.
+    ///
+    /// ```
+    /// # use cidr::*;
+    /// # use cidr_ext::*;
+    /// assert_eq!(format!("{}", Ipv4Addr::new(192, 0, 2, 1).reverse_name()), "1.2.0.192.in-addr.arpa");
+    /// # Ok::<(), Box<dyn std::error::Error>>(())
+    /// ```
+    fn reverse_name(&self) -> ArrayString<72>;
+
+    /// The address that has this name in reverse DNS, or `None` where no address of the type has it, as the name of a
+    /// larger network. It is the inverse of `reverse_name`, and reads names as that of networks does.
+    ///
+    /// ```
+    /// # use cidr::*;
+    /// # use cidr_ext::*;
+    /// assert_eq!(format!("{:?}", Ipv4Addr::from_reverse_name("1.2.0.192.in-addr.arpa")), "Some(192.0.2.1)");
+    /// assert_eq!(format!("{:?}", Ipv4Addr::from_reverse_name("2.0.192.in-addr.arpa")), "None");
+    /// # Ok::<(), Box<dyn std::error::Error>>(())
+    /// ```
+    fn from_reverse_name(name: &str) -> Option<Self>;
+}
+
+impl<A: Address> AddressReverseName for A
+where
+    <A as Address>::Cidr: Cidr<Address = A> + CidrReverseName + WholeFamily + CidrExt,
+{
+    #[inline]
+    fn reverse_name(&self) -> ArrayString<72> {
+        <A as Address>::Cidr::new_host(*self)
+            .reverse_name()
+            .unwrap()
+    }
+
+    #[inline]
+    fn from_reverse_name(name: &str) -> Option<A> {
+        let (family, number, len) = read_name(name)?;
+        if len != family.len() {
+            return None;
+        }
+        <A as Address>::Cidr::all_of(family)?.nth(number)
+    }
+}
+
+impl<C: WholeFamily + CidrExt> CidrReverseName for C
+where
+    C::Address: AddressExt,
+{
+    fn reverse_name(&self) -> Option<ArrayString<72>> {
+        let (family, len) = (self.family(), self.network_length());
+        let width = label_bits(family);
+        if len % width != 0 {
+            return None;
+        }
+        let value = shifted_out(self.first_address().to_number(), family.len() - len);
+        let mut name = ArrayString::new();
+        push_labels(&mut name, family, value, len / width);
+        push_domain(&mut name, family);
+        Some(name)
+    }
+
+    #[inline]
+    fn reverse_zones(&self) -> ReverseZones<C> {
+        let len = zone_length(self.family(), self.network_length());
+        ReverseZones::_new(self.subnets(len).unwrap())
+    }
+
+    #[inline]
+    fn from_reverse_name(name: &str) -> Option<C> {
+        let (family, number, len) = read_name(name)?;
+        C::all_of(family)?.subnet(len, number)
+    }
+}
+
+/// The number of bits that a label stands for.
+#[inline]
+pub(crate) fn label_bits(family: Family) -> u8 {
+    match family {
+        Family::Ipv4 => 8,
+        Family::Ipv6 => 4,
+    }
+}
+
+/// The number without so many of its last bits.
+#[inline]
+fn shifted_out(value: u128, count: u8) -> u128 {
+    if count < 128 { value >> count } else { 0 }
+}
+
+/// The number without the bits of its last label, and that label.
+#[inline]
+fn split_label(family: Family, value: u128) -> (u128, u8) {
+    match family {
+        Family::Ipv4 => (value / 256, (value % 256) as u8),
+        Family::Ipv6 => (value / 16, (value % 16) as u8),
+    }
+}
+
+/// Appends the last `count` labels of the number, the last one first, with a dot behind each.
+#[inline]
+fn push_labels(name: &mut ArrayString<72>, family: Family, value: u128, count: u8) {
+    if count > 0 {
+        let (rest, label) = split_label(family, value);
+        push_label(name, family, label);
+        push_labels(name, family, rest, count - 1);
+    }
+}
+
+/// Appends the label and a dot.
+#[inline]
+fn push_label(name: &mut ArrayString<72>, family: Family, label: u8) {
+    match family {
+        Family::Ipv4 => push_decimal(name, label),
+        Family::Ipv6 => name.push(hex_digit(label)),
+    }
+    name.push('.');
+}
+
+/// Appends the number in decimal.
+fn push_decimal(text: &mut ArrayString<72>, n: u8) {
+    if n >= 100 {
+        text.push(char::from(b'0' + n / 100));
+        text.push(char::from(b'0' + n / 10 % 10));
+        text.push(char::from(b'0' + n % 10));
+    } else if n >= 10 {
+        text.push(char::from(b'0' + n / 10));
+        text.push(char::from(b'0' + n % 10));
+    } else {
+        text.push(char::from(b'0' + n));
+    }
+}
+
+/// The hexadecimal digit, in lower case.
+#[inline]
+fn hex_digit(digit: u8) -> char {
+    if digit < 10 {
+        char::from(b'0' + digit)
+    } else {
+        char::from(b'a' + (digit - 10))
+    }
+}
+
+/// Appends the domain of the names.
+#[inline]
+fn push_domain(name: &mut ArrayString<72>, family: Family) {
+    name.push_str(domain(family));
+}
+
+/// The domain of the names.
+#[inline]
+pub(crate) fn domain(family: Family) -> &'static str {
+    match family {
+        Family::Ipv4 => "in-addr.arpa",
+        Family::Ipv6 => "ip6.arpa",
+    }
+}

@@ -1,0 +1,213 @@
+//! The arithmetic of networks on numbers of 128 bits, in two halves.
+
+use crate::arithmetic::half;
+use core::cmp::Ordering;
+
+/// A number of 128 bits in two halves.
+#[derive(Clone, Copy)]
+pub(crate) struct Halves {
+    upper: u64,
+    lower: u64,
+}
+
+impl Halves {
+    /// The number with these halves.
+    #[inline]
+    pub(crate) const fn new(upper: u64, lower: u64) -> Halves {
+        Halves { upper, lower }
+    }
+
+    /// The upper half.
+    #[inline]
+    pub(crate) const fn upper(self) -> u64 {
+        self.upper
+    }
+
+    /// The lower half.
+    #[inline]
+    pub(crate) const fn lower(self) -> u64 {
+        self.lower
+    }
+
+    /// The halves of a number.
+    #[inline]
+    pub(crate) const fn split(value: u128) -> Halves {
+        Halves {
+            upper: (value >> 64) as u64,
+            lower: (value & 0xffff_ffff_ffff_ffff) as u64,
+        }
+    }
+
+    /// The number as one.
+    #[inline]
+    pub(crate) const fn join(self) -> u128 {
+        ((self.upper as u128) << 64) + (self.lower as u128)
+    }
+
+    /// The sum, without what carries out of the upper half.
+    #[inline]
+    pub(crate) const fn wrapping_add(self, other: Halves) -> Halves {
+        let (lower, carry) = carrying_add(self.lower, other.lower, false);
+        let (upper, _) = carrying_add(self.upper, other.upper, carry);
+        Halves { upper, lower }
+    }
+
+    /// The difference, without what the upper half borrows.
+    #[inline]
+    pub(crate) const fn wrapping_sub(self, other: Halves) -> Halves {
+        let (lower, borrow) = borrowing_sub(self.lower, other.lower, false);
+        let (upper, _) = borrowing_sub(self.upper, other.upper, borrow);
+        Halves { upper, lower }
+    }
+
+    /// Whether it is below the other, by one comparison of both halves.
+    #[inline]
+    pub(crate) const fn is_below(self, other: Halves) -> bool {
+        self.join() < other.join()
+    }
+
+    /// Whether it is below the other, or the same with a length that is below the other's. The comparison of the lower
+    /// halves and the lengths borrows from that of the upper halves, so that none needs a branch.
+    #[inline]
+    const fn comes_before(self, len: u8, other: Halves, other_len: u8) -> bool {
+        let rest = Halves::new(self.lower, (len as u64));
+        let other_rest = Halves::new(other.lower, (other_len as u64));
+        let borrow = ((rest.is_below(other_rest)) as u64);
+        Halves::new(self.upper, 0).is_below(Halves::new(other.upper, borrow))
+    }
+
+    /// The order of two numbers, and where they are the same, that of their lengths.
+    pub(crate) fn order(self, len: u8, other: Halves, other_len: u8) -> Ordering {
+        let rest = if other.comes_before(other_len, self, len) {
+            Ordering::Greater
+        } else {
+            Ordering::Equal
+        };
+        if self.comes_before(len, other, other_len) {
+            Ordering::Less
+        } else {
+            rest
+        }
+    }
+
+    /// The first `len` bits, and from there on those of the other.
+    #[inline]
+    pub(crate) const fn with_host_part(self, other: Halves, len: u8) -> Halves {
+        let lower_len = len.saturating_sub(64);
+        Halves {
+            upper: half::with_host_part(self.upper, other.upper, len),
+            lower: half::with_host_part(self.lower, other.lower, lower_len),
+        }
+    }
+
+    /// The number of the bits from `len` on.
+    #[inline]
+    pub(crate) const fn host_part(self, len: u8) -> Halves {
+        Halves {
+            upper: half::host_part(self.upper, len),
+            lower: half::host_part(self.lower, len.saturating_sub(64)),
+        }
+    }
+
+    /// How much greater the number of the bits from `len` on can be.
+    #[inline]
+    pub(crate) const fn host_room(self, len: u8) -> Halves {
+        Halves {
+            upper: half::host_room(self.upper, len),
+            lower: half::host_room(self.lower, len.saturating_sub(64)),
+        }
+    }
+
+    /// The first number of the network: the bits from `len` on are zero.
+    #[inline]
+    pub(crate) const fn first_number(self, len: u8) -> Halves {
+        self.with_host_part(Halves::new(0, 0), len)
+    }
+
+    /// The last number of the network: the bits from `len` on are one.
+    #[inline]
+    pub(crate) const fn last_number(self, len: u8) -> Halves {
+        self.with_host_part(Halves::new(u64::MAX, u64::MAX), len)
+    }
+
+    /// The mask of the network: as many ones as `len` says, then zeros.
+    #[inline]
+    pub(crate) const fn network_mask(len: u8) -> Halves {
+        Halves::new(u64::MAX, u64::MAX).first_number(len)
+    }
+
+    /// Whether all bits are zero.
+    #[inline]
+    pub(crate) const fn is_zero(self) -> bool {
+        self.upper == 0 && self.lower == 0
+    }
+
+    /// The number `step` further in its network, and whether that wrapped.
+    #[inline]
+    pub(crate) const fn step_up(self, len: u8, step: u128) -> (Halves, bool) {
+        let step = Halves::split(step);
+        let wraps = self.host_room(len).is_below(step);
+        (self.with_host_part(self.wrapping_add(step), len), wraps)
+    }
+
+    /// The number `step` before in its network, and whether that wrapped.
+    #[inline]
+    pub(crate) const fn step_down(self, len: u8, step: u128) -> (Halves, bool) {
+        let step = Halves::split(step);
+        let wraps = self.host_part(len).is_below(step);
+        (self.with_host_part(self.wrapping_sub(step), len), wraps)
+    }
+
+    /// How many of the first bits of both are the same.
+    #[inline]
+    pub(crate) const fn shared_len(self, other: Halves) -> u8 {
+        if self.upper == other.upper {
+            64 + half::shared_len(self.lower, other.lower)
+        } else {
+            half::shared_len(self.upper, other.upper)
+        }
+    }
+
+    /// Whether both have the same first `len` bits.
+    #[inline]
+    pub(crate) const fn same_first_bits(self, other: Halves, len: u8) -> bool {
+        self.shared_len(other) >= len
+    }
+
+    /// Bit `i`, the most significant first.
+    #[inline]
+    pub(crate) const fn bit(self, i: u8) -> bool {
+        let half = if i < 64 { self.upper } else { self.lower };
+        half::bit(half, i % 64)
+    }
+
+    /// The number whose bit `i` is `b`, the most significant first.
+    #[inline]
+    pub(crate) const fn with_bit(self, i: u8, b: bool) -> Halves {
+        if i < 64 {
+            Halves::new(half::with_bit(self.upper, i, b), self.lower)
+        } else {
+            Halves::new(self.upper, half::with_bit(self.lower, i - 64, b))
+        }
+    }
+
+    /// The number with bit `i` inverted, the most significant first.
+    #[inline]
+    pub(crate) const fn with_flipped_bit(self, i: u8) -> Halves {
+        Halves::split(self.join() ^ ((1 << 127) >> i))
+    }
+}
+
+#[inline]
+const fn carrying_add(a: u64, b: u64, carry: bool) -> (u64, bool) {
+    let (sum, one) = a.overflowing_add(b);
+    let (sum, two) = sum.overflowing_add(carry as u64);
+    (sum, one | two)
+}
+
+#[inline]
+const fn borrowing_sub(a: u64, b: u64, borrow: bool) -> (u64, bool) {
+    let (rest, one) = a.overflowing_sub(b);
+    let (rest, two) = rest.overflowing_sub(borrow as u64);
+    (rest, one | two)
+}

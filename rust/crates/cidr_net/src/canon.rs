@@ -1,0 +1,60 @@
+//! Whether two networks agree: by value, order, address set, printed string and compact bytes alike.
+
+use crate::cidr::network::NetworkCalls as _;
+use crate::inet::host::HostCalls as _;
+use crate::inet_pair::host_pair::HostPairCalls as _;
+use crate::cidr::any::AnyIpCidr;
+use crate::cidr::combined::IpCidr;
+use crate::cidr::network::Network;
+use crate::compact::octets::AddressOctets;
+use crate::internal_traits::address_bits::AddressText;
+
+/// A network type of which each of these tells the value: the order, the addresses of a network, its printed string and
+/// its compact bytes. `Ipv4Cidr`, `Ipv6Cidr`, `IpCidr` and `AnyIpCidr` implement it.
+pub trait Canonical: Sized + Ord {
+    /// Does nothing. Every value of the type is a network, and each of the four tells which one it is.
+    fn known(&self);
+}
+
+/// Whether two networks of one type agree. It is `==`, with a contract that says more.
+///
+/// True says that their values, address sets, printed strings and compact bytes are the same and that `cmp` returns
+/// `Equal`; false says that none of the five holds.
+///
+/// ```text
+/// let network = "10.0.0.0/8".parse::<Ipv4Cidr>()?;
+/// agree(&network, &"10.0.0.0/08".parse()?) // true
+/// agree(&network, &"10.0.0.0/9".parse()?) // false
+/// ```
+#[inline]
+pub fn agree<N: Canonical>(a: &N, b: &N) -> bool {
+    a.known();
+    b.known();
+    a.cmp(b).is_eq()
+}
+
+impl<A: AddressOctets + AddressText> Canonical for Network<A> {
+    #[inline]
+    fn known(&self) {
+        // the call tells the proof that the prefix length is within the width
+        let _len = self.network_length();
+    }
+}
+
+impl Canonical for IpCidr {
+    #[inline]
+    fn known(&self) {
+        let _len = self.network_length();
+    }
+}
+
+impl Canonical for AnyIpCidr {
+    #[inline]
+    fn known(&self) {
+        let _len = match self {
+            AnyIpCidr::Any => 0,
+            AnyIpCidr::V4(network) => network.network_length(),
+            AnyIpCidr::V6(network) => network.network_length(),
+        };
+    }
+}

@@ -1,0 +1,34 @@
+//! The walk over an IPv6 network.
+
+use crate::cidr::network::NetworkCalls as _;
+use crate::inet::host::HostCalls as _;
+use crate::inet_pair::host_pair::HostPairCalls as _;
+use crate::addr::v6::Ipv6Addr;
+use crate::cidr::network::Ipv6Cidr;
+use crate::inet::host::Ipv6Inet;
+use crate::inet_iterator::InetIterator;
+
+impl Ipv6Cidr {
+    /// The hosts at all addresses of the network, ascending, with its prefix length. None is left out.
+    ///
+    /// ```text
+    /// let mut hosts = "2001:db8::/126".parse::<Ipv6Cidr>()?.iter();
+    /// hosts.next() // Some(2001:db8::/126)
+    /// hosts.next_back() // Some(2001:db8::3/126)
+    /// ```
+    #[inline]
+    pub fn iter(&self) -> InetIterator<Ipv6Addr> {
+        InetIterator::_new(self.ends())
+    }
+}
+
+impl IntoIterator for Ipv6Cidr {
+    type Item = Ipv6Inet;
+
+    type IntoIter = InetIterator<Ipv6Addr>;
+
+    #[inline]
+    fn into_iter(self) -> InetIterator<Ipv6Addr> {
+        self.iter()
+    }
+}

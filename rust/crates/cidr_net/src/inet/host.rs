@@ -1,0 +1,847 @@
+//! The hosts of one family.
+//!
+//! The steps of IPv4 hosts that are a `u32` stand beside, in `v4`; the compact bytes in `compact::one_family`, and the
+//! bits of a host's network as a string in `bits::host`.
+
+use crate::cidr::network::NetworkCalls as _;
+use crate::inet::host::HostCalls as _;
+use crate::inet_pair::host_pair::HostPairCalls as _;
+use crate::addr::v4::Ipv4Addr;
+use crate::addr::v6::Ipv6Addr;
+use crate::cidr::network::Network;
+use crate::errors::{NetworkLengthTooLongError, NetworkParseError};
+use crate::family::Family;
+use crate::internal_traits::address_bits::{AddressBits, AddressText};
+use crate::text::print::{forced, plain};
+use crate::text::read::{cut_at_last_slash, read_length};
+use crate::text::with_length::WithLength;
+use cidr_support::arrayvec::ArrayString;
+use core::cmp::Ordering;
+use core::fmt;
+use core::hash::{Hash, Hasher};
+use core::ops::{Add, Sub};
+use core::str::FromStr;
+
+/// A host of one family: an address in its network, as 192.0.2.50/28 or 2001:db8::5/32. `Ipv4Inet` and `Ipv6Inet` are
+/// its two types; PostgreSQL's type `inet` is alike.
+///
+/// It keeps all bits of the address, and its prefix length, at most 32 in IPv4 and 128 in IPv6, says which network it
+/// is in. Steps stay in the network: they change the bits after the prefix only. Hosts are ordered by address and then
+/// by prefix length. A string with no slash is parsed as a host of full prefix length.
+///
+/// ```text
+/// "192.0.2.50/28".parse::<Ipv4Inet>()? // 192.0.2.50/28
+/// "192.0.2.50/33".parse::<Ipv4Inet>().is_err() // true
+/// ```
+pub struct Host<A: AddressBits> {
+    address: A,
+    len: u8,
+}
+
+/// An IPv4 host, as 192.0.2.50/28: the prefix length is at most 32.
+pub type Ipv4Inet = Host<Ipv4Addr>;
+
+/// An IPv6 host, as 2001:db8::5/32: the prefix length is at most 128.
+pub type Ipv6Inet = Host<Ipv6Addr>;
+
+impl<A: AddressBits> Clone for Host<A> {
+    #[inline]
+    fn clone(&self) -> Host<A> {
+        *self
+    }
+}
+
+impl<A: AddressBits> Copy for Host<A> {}
+
+impl Host<Ipv4Addr> {
+    /// The host of an address in the network of its first `len` bits.
+    ///
+    /// Returns an error only for a prefix length above the width, 32 or 128.
+    ///
+    /// ```text
+    /// Ipv4Inet::new(Ipv4Addr::new(192, 0, 2, 50), 28)? // 192.0.2.50/28
+    /// Ipv6Inet::new(Ipv6Addr::from_bits(1), 129).is_err() // true
+    /// ```
+    #[inline]
+    pub const fn new(addr: Ipv4Addr, len: u8) -> Result<Host<Ipv4Addr>, NetworkLengthTooLongError> {
+        if len > Family::Ipv4.len() {
+            return Err(NetworkLengthTooLongError::new(len as usize, Family::Ipv4));
+        }
+        Ok(Host::<Ipv4Addr>::new_unchecked(addr, len))
+    }
+
+    /// The host of an address and a prefix length that is known to be within the width.
+    #[inline]
+    pub(crate) const fn new_unchecked(addr: Ipv4Addr, len: u8) -> Host<Ipv4Addr> {
+        Host { address: addr, len }
+    }
+
+    /// The host of full prefix length, whose network has only this address: /32 in IPv4 and /128 in IPv6. It is printed
+    /// without the prefix length.
+    ///
+    /// ```text
+    /// Ipv4Inet::new_host(Ipv4Addr::new(192, 0, 2, 1)) // 192.0.2.1
+    /// Ipv6Inet::new_host(Ipv6Addr::from_bits(1)) // ::1
+    /// ```
+    #[inline]
+    pub const fn new_host(addr: Ipv4Addr) -> Host<Ipv4Addr> {
+        Host::<Ipv4Addr>::new_unchecked(addr, Family::Ipv4.len())
+    }
+
+    /// Steps to the next address of the network. From the last one it wraps to the first, and returns true.
+    ///
+    /// ```text
+    /// let mut host = "192.0.2.63/28".parse::<Ipv4Inet>()?;
+    /// host.increment() // true
+    /// host // 192.0.2.48/28
+    /// ```
+    #[inline]
+    pub const fn increment(&mut self) -> bool {
+        let (next, wraps) = self.overflowing_add(1);
+        *self = next;
+        wraps
+    }
+
+    /// Steps to the previous address of the network. From the first one it wraps to the last, and returns true.
+    ///
+    /// ```text
+    /// let mut host = "2001:db8::/112".parse::<Ipv6Inet>()?;
+    /// host.decrement() // true
+    /// host // 2001:db8::ffff/112
+    /// ```
+    #[inline]
+    pub const fn decrement(&mut self) -> bool {
+        let (previous, wraps) = self.overflowing_sub(1);
+        *self = previous;
+        wraps
+    }
+
+    /// The host at the next address of the network, or `None` at the last one. It takes and returns a value, and is not
+    /// `Iterator::next`.
+    ///
+    /// ```text
+    /// "192.0.2.62/28".parse::<Ipv4Inet>()?.next() // Some(192.0.2.63/28)
+    /// "192.0.2.63/28".parse::<Ipv4Inet>()?.next() // None
+    /// ```
+    #[inline]
+    pub const fn next(self) -> Option<Host<Ipv4Addr>> {
+        let (stepped, wraps) = self.overflowing_add(1);
+        if wraps { None } else { Some(stepped) }
+    }
+
+    /// The host at the previous address of the network, or `None` at the first one.
+    ///
+    /// ```text
+    /// "192.0.2.49/28".parse::<Ipv4Inet>()?.previous() // Some(192.0.2.48/28)
+    /// "192.0.2.48/28".parse::<Ipv4Inet>()?.previous() // None
+    /// ```
+    #[inline]
+    pub const fn previous(self) -> Option<Host<Ipv4Addr>> {
+        let (stepped, wraps) = self.overflowing_sub(1);
+        if wraps { None } else { Some(stepped) }
+    }
+
+    /// The host `step` addresses further in the network, and whether it wrapped from the last address to the first.
+    ///
+    /// Any step is exact, also one above the number of addresses, and takes constant time. Where it does not wrap, `+`
+    /// returns the same host.
+    ///
+    /// ```text
+    /// let host = "192.0.2.50/28".parse::<Ipv4Inet>()?;
+    /// host.overflowing_add(5) // (192.0.2.55/28, false)
+    /// host.overflowing_add(14) // (192.0.2.48/28, true)
+    /// ```
+    #[inline]
+    pub const fn overflowing_add(self, step: u128) -> (Host<Ipv4Addr>, bool) {
+        let (stepped, wraps) = crate::const_bits::v4::step_up(self.address, self.len, step);
+        (Host::<Ipv4Addr>::new_unchecked(stepped, self.len), wraps)
+    }
+
+    /// The host `step` addresses back in the network, and whether it wrapped from the first address to the last.
+    ///
+    /// Any step is exact, also one above the number of addresses, and takes constant time. Where it does not wrap, `-`
+    /// returns the same host.
+    ///
+    /// ```text
+    /// let host = "10.0.0.7/29".parse::<Ipv4Inet>()?;
+    /// host.overflowing_sub(7) // (10.0.0.0/29, false)
+    /// host.overflowing_sub(8) // (10.0.0.7/29, true)
+    /// ```
+    #[inline]
+    pub const fn overflowing_sub(self, step: u128) -> (Host<Ipv4Addr>, bool) {
+        let (stepped, wraps) = crate::const_bits::v4::step_down(self.address, self.len, step);
+        (Host::<Ipv4Addr>::new_unchecked(stepped, self.len), wraps)
+    }
+
+    /// The network that the host is in: the bits after the prefix are unset.
+    ///
+    /// ```text
+    /// "192.0.2.50/28".parse::<Ipv4Inet>()?.network() // 192.0.2.48/28
+    /// ```
+    #[inline]
+    pub const fn network(&self) -> Network<Ipv4Addr> {
+        Network::<Ipv4Addr>::holding(self.address, self.len)
+    }
+
+    /// The address, without the prefix length.
+    ///
+    /// ```text
+    /// "192.0.2.50/28".parse::<Ipv4Inet>()?.address() // 192.0.2.50
+    /// ```
+    #[inline]
+    pub const fn address(&self) -> Ipv4Addr {
+        self.address
+    }
+
+    /// The address, by reference.
+    ///
+    /// ```text
+    /// "192.0.2.50/28".parse::<Ipv4Inet>()?.address_ref() // 192.0.2.50
+    /// ```
+    #[inline]
+    pub const fn address_ref(&self) -> &Ipv4Addr {
+        &self.address
+    }
+
+    /// The first address of the network, in which no bit after the prefix is set: in IPv4 the network address, up to
+    /// /30.
+    ///
+    /// ```text
+    /// "192.0.2.50/28".parse::<Ipv4Inet>()?.first_address() // 192.0.2.48
+    /// ```
+    #[inline]
+    pub const fn first_address(&self) -> Ipv4Addr {
+        crate::const_bits::v4::first_in(self.address, self.len)
+    }
+
+    /// The last address of the network, in which all bits after the prefix are set: in IPv4 the broadcast address, up
+    /// to /30.
+    ///
+    /// ```text
+    /// "192.0.2.50/28".parse::<Ipv4Inet>()?.last_address() // 192.0.2.63
+    /// ```
+    #[inline]
+    pub const fn last_address(&self) -> Ipv4Addr {
+        crate::const_bits::v4::last_in(self.address, self.len)
+    }
+
+    /// The host at the first address of the network, with the same prefix length.
+    ///
+    /// ```text
+    /// "10.4.3.2/8".parse::<Ipv4Inet>()?.first() // 10.0.0.0/8
+    /// ```
+    #[inline]
+    pub const fn first(&self) -> Host<Ipv4Addr> {
+        Host::<Ipv4Addr>::new_unchecked(self.first_address(), self.len)
+    }
+
+    /// The host at the last address of the network, with the same prefix length.
+    ///
+    /// ```text
+    /// "10.4.3.2/8".parse::<Ipv4Inet>()?.last() // 10.255.255.255/8
+    /// ```
+    #[inline]
+    pub const fn last(&self) -> Host<Ipv4Addr> {
+        Host::<Ipv4Addr>::new_unchecked(self.last_address(), self.len)
+    }
+
+    /// The prefix length in bits, at most 32 in IPv4 and 128 in IPv6.
+    ///
+    /// ```text
+    /// "::5/32".parse::<Ipv6Inet>()?.network_length() // 32
+    /// ```
+    #[inline]
+    pub const fn network_length(&self) -> u8 {
+        self.len
+    }
+
+    /// The family of the address, which its type tells.
+    ///
+    /// ```text
+    /// "2001:db8::5/32".parse::<Ipv6Inet>()?.family() // Ipv6
+    /// ```
+    #[inline]
+    pub const fn family(&self) -> Family {
+        Family::Ipv4
+    }
+
+    /// Whether the network of the host has only one address, that is, whether the prefix length is full: 32 in IPv4 and
+    /// 128 in IPv6.
+    ///
+    /// ```text
+    /// "192.0.2.50".parse::<Ipv4Inet>()?.is_host_address() // true
+    /// "10.4.3.2/8".parse::<Ipv4Inet>()?.is_host_address() // false
+    /// ```
+    #[inline]
+    pub const fn is_host_address(&self) -> bool {
+        self.len == Family::Ipv4.len()
+    }
+
+    /// The network mask: as many set bits as the prefix length says, then zeros.
+    ///
+    /// ```text
+    /// "192.0.2.50/28".parse::<Ipv4Inet>()?.mask() // 255.255.255.240
+    /// ```
+    #[inline]
+    pub const fn mask(&self) -> Ipv4Addr {
+        crate::const_bits::v4::mask_of(self.len)
+    }
+
+    /// Whether the address is in the network of the host, that is, begins with its prefix. Nothing is mapped: an IPv6
+    /// host contains no IPv4 address.
+    ///
+    /// ```text
+    /// let host = "192.0.2.50/28".parse::<Ipv4Inet>()?;
+    /// host.contains(&Ipv4Addr::new(192, 0, 2, 63)) // true
+    /// host.contains(&Ipv4Addr::new(192, 0, 2, 64)) // false
+    /// ```
+    #[inline]
+    pub const fn contains(&self, addr: &Ipv4Addr) -> bool {
+        crate::const_bits::v4::shares(self.address, *addr, self.len)
+    }
+
+    /// The host, to be printed with its prefix length also where that is full.
+    ///
+    /// ```text
+    /// "10.0.0.1".parse::<Ipv4Inet>()?.with_length() // 10.0.0.1/32
+    /// ```
+    #[inline]
+    pub const fn with_length(&self) -> WithLength<Host<Ipv4Addr>> {
+        WithLength::new(*self)
+    }
+}
+
+impl Host<Ipv6Addr> {
+    /// The host of an address in the network of its first `len` bits.
+    ///
+    /// Returns an error only for a prefix length above the width, 32 or 128.
+    ///
+    /// ```text
+    /// Ipv4Inet::new(Ipv4Addr::new(192, 0, 2, 50), 28)? // 192.0.2.50/28
+    /// Ipv6Inet::new(Ipv6Addr::from_bits(1), 129).is_err() // true
+    /// ```
+    #[inline]
+    pub const fn new(addr: Ipv6Addr, len: u8) -> Result<Host<Ipv6Addr>, NetworkLengthTooLongError> {
+        if len > Family::Ipv6.len() {
+            return Err(NetworkLengthTooLongError::new(len as usize, Family::Ipv6));
+        }
+        Ok(Host::<Ipv6Addr>::new_unchecked(addr, len))
+    }
+
+    /// The host of an address and a prefix length that is known to be within the width.
+    #[inline]
+    pub(crate) const fn new_unchecked(addr: Ipv6Addr, len: u8) -> Host<Ipv6Addr> {
+        Host { address: addr, len }
+    }
+
+    /// The host of full prefix length, whose network has only this address: /32 in IPv4 and /128 in IPv6. It is printed
+    /// without the prefix length.
+    ///
+    /// ```text
+    /// Ipv4Inet::new_host(Ipv4Addr::new(192, 0, 2, 1)) // 192.0.2.1
+    /// Ipv6Inet::new_host(Ipv6Addr::from_bits(1)) // ::1
+    /// ```
+    #[inline]
+    pub const fn new_host(addr: Ipv6Addr) -> Host<Ipv6Addr> {
+        Host::<Ipv6Addr>::new_unchecked(addr, Family::Ipv6.len())
+    }
+
+    /// Steps to the next address of the network. From the last one it wraps to the first, and returns true.
+    ///
+    /// ```text
+    /// let mut host = "192.0.2.63/28".parse::<Ipv4Inet>()?;
+    /// host.increment() // true
+    /// host // 192.0.2.48/28
+    /// ```
+    #[inline]
+    pub const fn increment(&mut self) -> bool {
+        let (next, wraps) = self.overflowing_add(1);
+        *self = next;
+        wraps
+    }
+
+    /// Steps to the previous address of the network. From the first one it wraps to the last, and returns true.
+    ///
+    /// ```text
+    /// let mut host = "2001:db8::/112".parse::<Ipv6Inet>()?;
+    /// host.decrement() // true
+    /// host // 2001:db8::ffff/112
+    /// ```
+    #[inline]
+    pub const fn decrement(&mut self) -> bool {
+        let (previous, wraps) = self.overflowing_sub(1);
+        *self = previous;
+        wraps
+    }
+
+    /// The host at the next address of the network, or `None` at the last one. It takes and returns a value, and is not
+    /// `Iterator::next`.
+    ///
+    /// ```text
+    /// "192.0.2.62/28".parse::<Ipv4Inet>()?.next() // Some(192.0.2.63/28)
+    /// "192.0.2.63/28".parse::<Ipv4Inet>()?.next() // None
+    /// ```
+    #[inline]
+    pub const fn next(self) -> Option<Host<Ipv6Addr>> {
+        let (stepped, wraps) = self.overflowing_add(1);
+        if wraps { None } else { Some(stepped) }
+    }
+
+    /// The host at the previous address of the network, or `None` at the first one.
+    ///
+    /// ```text
+    /// "192.0.2.49/28".parse::<Ipv4Inet>()?.previous() // Some(192.0.2.48/28)
+    /// "192.0.2.48/28".parse::<Ipv4Inet>()?.previous() // None
+    /// ```
+    #[inline]
+    pub const fn previous(self) -> Option<Host<Ipv6Addr>> {
+        let (stepped, wraps) = self.overflowing_sub(1);
+        if wraps { None } else { Some(stepped) }
+    }
+
+    /// The host `step` addresses further in the network, and whether it wrapped from the last address to the first.
+    ///
+    /// Any step is exact, also one above the number of addresses, and takes constant time. Where it does not wrap, `+`
+    /// returns the same host.
+    ///
+    /// ```text
+    /// let host = "192.0.2.50/28".parse::<Ipv4Inet>()?;
+    /// host.overflowing_add(5) // (192.0.2.55/28, false)
+    /// host.overflowing_add(14) // (192.0.2.48/28, true)
+    /// ```
+    #[inline]
+    pub const fn overflowing_add(self, step: u128) -> (Host<Ipv6Addr>, bool) {
+        let (stepped, wraps) = crate::const_bits::v6::step_up(self.address, self.len, step);
+        (Host::<Ipv6Addr>::new_unchecked(stepped, self.len), wraps)
+    }
+
+    /// The host `step` addresses back in the network, and whether it wrapped from the first address to the last.
+    ///
+    /// Any step is exact, also one above the number of addresses, and takes constant time. Where it does not wrap, `-`
+    /// returns the same host.
+    ///
+    /// ```text
+    /// let host = "10.0.0.7/29".parse::<Ipv4Inet>()?;
+    /// host.overflowing_sub(7) // (10.0.0.0/29, false)
+    /// host.overflowing_sub(8) // (10.0.0.7/29, true)
+    /// ```
+    #[inline]
+    pub const fn overflowing_sub(self, step: u128) -> (Host<Ipv6Addr>, bool) {
+        let (stepped, wraps) = crate::const_bits::v6::step_down(self.address, self.len, step);
+        (Host::<Ipv6Addr>::new_unchecked(stepped, self.len), wraps)
+    }
+
+    /// The network that the host is in: the bits after the prefix are unset.
+    ///
+    /// ```text
+    /// "192.0.2.50/28".parse::<Ipv4Inet>()?.network() // 192.0.2.48/28
+    /// ```
+    #[inline]
+    pub const fn network(&self) -> Network<Ipv6Addr> {
+        Network::<Ipv6Addr>::holding(self.address, self.len)
+    }
+
+    /// The address, without the prefix length.
+    ///
+    /// ```text
+    /// "192.0.2.50/28".parse::<Ipv4Inet>()?.address() // 192.0.2.50
+    /// ```
+    #[inline]
+    pub const fn address(&self) -> Ipv6Addr {
+        self.address
+    }
+
+    /// The address, by reference.
+    ///
+    /// ```text
+    /// "192.0.2.50/28".parse::<Ipv4Inet>()?.address_ref() // 192.0.2.50
+    /// ```
+    #[inline]
+    pub const fn address_ref(&self) -> &Ipv6Addr {
+        &self.address
+    }
+
+    /// The first address of the network, in which no bit after the prefix is set: in IPv4 the network address, up to
+    /// /30.
+    ///
+    /// ```text
+    /// "192.0.2.50/28".parse::<Ipv4Inet>()?.first_address() // 192.0.2.48
+    /// ```
+    #[inline]
+    pub const fn first_address(&self) -> Ipv6Addr {
+        crate::const_bits::v6::first_in(self.address, self.len)
+    }
+
+    /// The last address of the network, in which all bits after the prefix are set: in IPv4 the broadcast address, up
+    /// to /30.
+    ///
+    /// ```text
+    /// "192.0.2.50/28".parse::<Ipv4Inet>()?.last_address() // 192.0.2.63
+    /// ```
+    #[inline]
+    pub const fn last_address(&self) -> Ipv6Addr {
+        crate::const_bits::v6::last_in(self.address, self.len)
+    }
+
+    /// The host at the first address of the network, with the same prefix length.
+    ///
+    /// ```text
+    /// "10.4.3.2/8".parse::<Ipv4Inet>()?.first() // 10.0.0.0/8
+    /// ```
+    #[inline]
+    pub const fn first(&self) -> Host<Ipv6Addr> {
+        Host::<Ipv6Addr>::new_unchecked(self.first_address(), self.len)
+    }
+
+    /// The host at the last address of the network, with the same prefix length.
+    ///
+    /// ```text
+    /// "10.4.3.2/8".parse::<Ipv4Inet>()?.last() // 10.255.255.255/8
+    /// ```
+    #[inline]
+    pub const fn last(&self) -> Host<Ipv6Addr> {
+        Host::<Ipv6Addr>::new_unchecked(self.last_address(), self.len)
+    }
+
+    /// The prefix length in bits, at most 32 in IPv4 and 128 in IPv6.
+    ///
+    /// ```text
+    /// "::5/32".parse::<Ipv6Inet>()?.network_length() // 32
+    /// ```
+    #[inline]
+    pub const fn network_length(&self) -> u8 {
+        self.len
+    }
+
+    /// The family of the address, which its type tells.
+    ///
+    /// ```text
+    /// "2001:db8::5/32".parse::<Ipv6Inet>()?.family() // Ipv6
+    /// ```
+    #[inline]
+    pub const fn family(&self) -> Family {
+        Family::Ipv6
+    }
+
+    /// Whether the network of the host has only one address, that is, whether the prefix length is full: 32 in IPv4 and
+    /// 128 in IPv6.
+    ///
+    /// ```text
+    /// "192.0.2.50".parse::<Ipv4Inet>()?.is_host_address() // true
+    /// "10.4.3.2/8".parse::<Ipv4Inet>()?.is_host_address() // false
+    /// ```
+    #[inline]
+    pub const fn is_host_address(&self) -> bool {
+        self.len == Family::Ipv6.len()
+    }
+
+    /// The network mask: as many set bits as the prefix length says, then zeros.
+    ///
+    /// ```text
+    /// "192.0.2.50/28".parse::<Ipv4Inet>()?.mask() // 255.255.255.240
+    /// ```
+    #[inline]
+    pub const fn mask(&self) -> Ipv6Addr {
+        crate::const_bits::v6::mask_of(self.len)
+    }
+
+    /// Whether the address is in the network of the host, that is, begins with its prefix. Nothing is mapped: an IPv6
+    /// host contains no IPv4 address.
+    ///
+    /// ```text
+    /// let host = "192.0.2.50/28".parse::<Ipv4Inet>()?;
+    /// host.contains(&Ipv4Addr::new(192, 0, 2, 63)) // true
+    /// host.contains(&Ipv4Addr::new(192, 0, 2, 64)) // false
+    /// ```
+    #[inline]
+    pub const fn contains(&self, addr: &Ipv6Addr) -> bool {
+        crate::const_bits::v6::shares(self.address, *addr, self.len)
+    }
+
+    /// The host, to be printed with its prefix length also where that is full.
+    ///
+    /// ```text
+    /// "10.0.0.1".parse::<Ipv4Inet>()?.with_length() // 10.0.0.1/32
+    /// ```
+    #[inline]
+    pub const fn with_length(&self) -> WithLength<Host<Ipv6Addr>> {
+        WithLength::new(*self)
+    }
+}
+
+/// The calls of `Host`, written once over both families.
+pub trait HostCalls<A: AddressBits>: Sized {
+    fn new(addr: A, len: u8) -> Result<Host<A>, NetworkLengthTooLongError>;
+    fn new_unchecked(addr: A, len: u8) -> Host<A>;
+    fn new_host(addr: A) -> Host<A>;
+    fn increment(&mut self) -> bool;
+    fn decrement(&mut self) -> bool;
+    fn next(self) -> Option<Host<A>>;
+    fn previous(self) -> Option<Host<A>>;
+    fn overflowing_add(self, step: u128) -> (Host<A>, bool);
+    fn overflowing_sub(self, step: u128) -> (Host<A>, bool);
+    fn network(&self) -> Network<A>;
+    fn address(&self) -> A;
+    fn address_ref(&self) -> &A;
+    fn first_address(&self) -> A;
+    fn last_address(&self) -> A;
+    fn first(&self) -> Host<A>;
+    fn last(&self) -> Host<A>;
+    fn network_length(&self) -> u8;
+    fn family(&self) -> Family;
+    fn is_host_address(&self) -> bool;
+    fn mask(&self) -> A;
+    fn contains(&self, addr: &A) -> bool;
+    fn with_length(&self) -> WithLength<Host<A>>;
+}
+
+impl<A: AddressBits> HostCalls<A> for Host<A> {
+    #[inline]
+    fn new(addr: A, len: u8) -> Result<Host<A>, NetworkLengthTooLongError> {
+        if len > A::FAMILY.len() {
+            return Err(NetworkLengthTooLongError::new(len as usize, A::FAMILY));
+        }
+        Ok(Host::<A>::new_unchecked(addr, len))
+    }
+
+    #[inline]
+    fn new_unchecked(addr: A, len: u8) -> Host<A> {
+        // the call tells the proof how many bits the address has
+        addr.has_width();
+        Host { address: addr, len }
+    }
+
+    #[inline]
+    fn new_host(addr: A) -> Host<A> {
+        Host::<A>::new_unchecked(addr, A::FAMILY.len())
+    }
+
+    #[inline]
+    fn increment(&mut self) -> bool {
+        let (next, wraps) = self.overflowing_add(1);
+        *self = next;
+        wraps
+    }
+
+    #[inline]
+    fn decrement(&mut self) -> bool {
+        let (previous, wraps) = self.overflowing_sub(1);
+        *self = previous;
+        wraps
+    }
+
+    #[inline]
+    fn next(self) -> Option<Host<A>> {
+        let (stepped, wraps) = self.overflowing_add(1);
+        if wraps { None } else { Some(stepped) }
+    }
+
+    #[inline]
+    fn previous(self) -> Option<Host<A>> {
+        let (stepped, wraps) = self.overflowing_sub(1);
+        if wraps { None } else { Some(stepped) }
+    }
+
+    #[inline]
+    fn overflowing_add(self, step: u128) -> (Host<A>, bool) {
+        let (stepped, wraps) = self.address.step_up(self.len, step);
+        (Host::<A>::new_unchecked(stepped, self.len), wraps)
+    }
+
+    #[inline]
+    fn overflowing_sub(self, step: u128) -> (Host<A>, bool) {
+        let (stepped, wraps) = self.address.step_down(self.len, step);
+        (Host::<A>::new_unchecked(stepped, self.len), wraps)
+    }
+
+    #[inline]
+    fn network(&self) -> Network<A> {
+        Network::<A>::holding(self.address, self.len)
+    }
+
+    #[inline]
+    fn address(&self) -> A {
+        self.address
+    }
+
+    #[inline]
+    fn address_ref(&self) -> &A {
+        &self.address
+    }
+
+    #[inline]
+    fn first_address(&self) -> A {
+        self.address.first_in(self.len)
+    }
+
+    #[inline]
+    fn last_address(&self) -> A {
+        self.address.last_in(self.len)
+    }
+
+    #[inline]
+    fn first(&self) -> Host<A> {
+        Host::<A>::new_unchecked(self.first_address(), self.len)
+    }
+
+    #[inline]
+    fn last(&self) -> Host<A> {
+        Host::<A>::new_unchecked(self.last_address(), self.len)
+    }
+
+    #[inline]
+    fn network_length(&self) -> u8 {
+        self.len
+    }
+
+    #[inline]
+    fn family(&self) -> Family {
+        A::FAMILY
+    }
+
+    #[inline]
+    fn is_host_address(&self) -> bool {
+        self.len == A::FAMILY.len()
+    }
+
+    #[inline]
+    fn mask(&self) -> A {
+        A::mask_of(self.len)
+    }
+
+    #[inline]
+    fn contains(&self, addr: &A) -> bool {
+        self.address.shares(*addr, self.len)
+    }
+
+    #[inline]
+    fn with_length(&self) -> WithLength<Host<A>> {
+        WithLength::new(*self)
+    }
+}
+
+impl<A: AddressText> Host<A> {
+    /// The printed string, with all bits of the address and without a full prefix length, in an `ArrayString`, so that
+    /// nothing is allocated. It has at most 18 bytes in IPv4 and 43 in IPv6. Parsing it gives the same host.
+    ///
+    /// ```text
+    /// "2001:DB8::5/32".parse::<Ipv6Inet>()?.to_text() // 2001:db8::5/32
+    /// ```
+    #[inline]
+    pub fn to_text(&self) -> ArrayString<43> {
+        plain(self.address, self.len)
+    }
+}
+
+impl<A: AddressText> WithLength<Host<A>> {
+    /// The printed string, with the prefix length also where that is full: at most 18 bytes in IPv4 and 43 in IPv6.
+    ///
+    /// ```text
+    /// "::1".parse::<Ipv6Inet>()?.with_length().to_text() // ::1/128
+    /// ```
+    #[inline]
+    pub fn to_text(&self) -> ArrayString<43> {
+        let host = self.get();
+        forced(host.address(), host.network_length())
+    }
+}
+
+impl<A: AddressBits> PartialEq for Host<A> {
+    #[inline]
+    fn eq(&self, other: &Host<A>) -> bool {
+        self.address == other.address && self.len == other.len
+    }
+}
+
+impl<A: AddressBits> Eq for Host<A> {}
+
+impl<A: AddressBits> PartialOrd for Host<A> {
+    #[inline]
+    fn partial_cmp(&self, other: &Host<A>) -> Option<Ordering> {
+        Some(self.cmp(other))
+    }
+}
+
+impl<A: AddressBits> Ord for Host<A> {
+    #[inline]
+    fn cmp(&self, other: &Host<A>) -> Ordering {
+        self.address.order(self.len, other.address, other.len)
+    }
+}
+
+impl<A: AddressBits> Hash for Host<A> {
+    #[inline]
+    fn hash<H: Hasher>(&self, state: &mut H) {
+        self.address.hash(state);
+        self.len.hash(state);
+    }
+}
+
+impl<A: AddressBits> From<A> for Host<A> {
+    #[inline]
+    fn from(address: A) -> Host<A> {
+        Host::<A>::new_host(address)
+    }
+}
+
+impl<A: AddressText> FromStr for Host<A> {
+    type Err = NetworkParseError;
+
+    #[inline]
+    fn from_str(s: &str) -> Result<Host<A>, NetworkParseError> {
+        let Some((front, back)) = cut_at_last_slash(s) else {
+            return Ok(Host::<A>::new_host(A::read(s)?));
+        };
+        let address = A::read(front)?;
+        let len = read_length(back)?;
+        Ok(Host::<A>::new(address, len)?)
+    }
+}
+
+impl<A: AddressText> fmt::Display for Host<A> {
+    #[inline]
+    fn fmt(&self, f: &mut fmt::Formatter<'_>) -> fmt::Result {
+        if f.alternate() {
+            return f.write_str(self.with_length().to_text().as_str());
+        }
+        f.write_str(self.to_text().as_str())
+    }
+}
+
+impl<A: AddressText> fmt::Display for WithLength<Host<A>> {
+    #[inline]
+    fn fmt(&self, f: &mut fmt::Formatter<'_>) -> fmt::Result {
+        f.write_str(self.to_text().as_str())
+    }
+}
+
+impl<A: AddressText> fmt::Debug for Host<A> {
+    #[inline]
+    fn fmt(&self, f: &mut fmt::Formatter<'_>) -> fmt::Result {
+        fmt::Display::fmt(&self.with_length(), f)
+    }
+}
+
+/// The host `step` addresses further in the network, as `overflowing_add` returns it. The caller has to ensure that the
+/// step does not wrap; `overflowing_add` and `next` tell whether it does.
+impl<A: AddressBits> Add<u128> for Host<A> {
+    type Output = Host<A>;
+
+    #[inline]
+    fn add(self, step: u128) -> Host<A> {
+        assert!(!self.overflowing_add(step).1);
+        self.overflowing_add(step).0
+    }
+}
+
+/// The host `step` addresses back in the network, as `overflowing_sub` returns it. The caller has to ensure that the
+/// step does not wrap; `overflowing_sub` and `previous` tell whether it does.
+impl<A: AddressBits> Sub<u128> for Host<A> {
+    type Output = Host<A>;
+
+    #[inline]
+    fn sub(self, step: u128) -> Host<A> {
+        assert!(!self.overflowing_sub(step).1);
+        self.overflowing_sub(step).0
+    }
+}

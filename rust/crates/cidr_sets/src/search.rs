@@ -1,0 +1,45 @@
+//! Searches in networks that ascend.
+
+use crate::probe::{Networks, contains};
+use cidr::{BitString, NetworkBits};
+use cidr_table::Probe;
+
+/// How many networks come before this one or are the same. Binary search: it makes at most as many comparisons as the
+/// number of networks has binary digits.
+pub fn place<C: NetworkBits, P: Probe<C>>(networks: &mut P, network: &C) -> usize {
+    let mut low = 0;
+    let mut left = networks.len();
+    while left > 0 {
+        let half = left / 2;
+        let order = networks.compare(low + half, network);
+        if order.is_le() {
+            low += left - half;
+        }
+        left = half;
+    }
+    low
+}
+
+/// How many networks come before this one or are the same, by `place`.
+#[inline]
+pub fn upto<C: NetworkBits>(networks: &[C], network: &C) -> usize {
+    place(&mut Networks::new(networks), network)
+}
+
+/// Whether one of the networks contains this one, by `contains`.
+#[inline]
+pub fn covers<C: NetworkBits>(networks: &[C], network: &C) -> bool {
+    contains(&mut Networks::new(networks), network)
+}
+
+/// Whether the bits of a network begin with those of the outer one.
+#[inline]
+pub fn is_inside<C: BitString>(network: &C, outer: &C) -> bool {
+    network.shared_prefix_len(outer) == outer.len()
+}
+
+/// Has no more than 129 bits, which a proof gets from the call.
+#[inline]
+pub fn known<C: BitString>(network: &C) {
+    network.len();
+}

@@ -1,0 +1,335 @@
+//! Union, intersection and difference.
+
+use cidr_support::vec::Vec;
+use crate::rests::{half, skip};
+use crate::search::{covers, is_inside, known, upto};
+use crate::set::{NetworkSet, joined, reduced};
+use crate::slices::{next_of, next_shared};
+use cidr::NetworkBits;
+use cidr_support::alloc::{AllocError, Global};
+
+impl<C: NetworkBits + Copy> NetworkSet<C> {
+    /// The addresses that one of two sets has, or both. Both stay as they were.
+    ///
+    /// It goes through both once, and allocates room for as many networks as both have together. Where an allocation
+    /// fails, it returns the error.
+    ///
+    /// ```
+    /// # use cidr::*;
+    /// # use cidr_table::Probe;
+    /// # use cidr_sets::{access::*, alloc::*, *};
+    /// let half: NetworkSet<Ipv4Cidr> = ["10.128.0.0/9".parse()?].into_iter().collect();
+    /// let other: NetworkSet<Ipv4Cidr> = ["192.0.2.0/24".parse()?].into_iter().collect();
+    /// assert_eq!(format!("{:?}", half.union(&other)?.as_slice()), "[10.128.0.0/9, 192.0.2.0/24]");
+    /// # Ok::<(), Box<dyn std::error::Error>>(())
+    /// ```
+    #[inline]
+    pub fn union(&self, other: &NetworkSet<C>) -> Result<NetworkSet<C>, AllocError> {
+        let (these, those) = (self.as_slice(), other.as_slice());
+        let mut networks = with_room(self.networks.allocator().clone(), these, those)?;
+        push_merged(&mut networks, these, those);
+        Ok(joined(networks))
+    }
+
+    /// The addresses that both of two sets have. Both stay as they were.
+    ///
+    /// It goes through both once, and allocates room for as many networks as both have together. Where an allocation
+    /// fails, it returns the error.
+    ///
+    /// ```
+    /// # use cidr::*;
+    /// # use cidr_table::Probe;
+    /// # use cidr_sets::{access::*, alloc::*, *};
+    /// let set: NetworkSet<Ipv4Cidr> = ["10.0.0.0/8".parse()?].into_iter().collect();
+    /// let half: NetworkSet<Ipv4Cidr> = ["10.128.0.0/9".parse()?].into_iter().collect();
+    /// assert_eq!(format!("{:?}", set.intersection(&half)?.as_slice()), "[10.128.0.0/9]");
+    /// # Ok::<(), Box<dyn std::error::Error>>(())
+    /// ```
+    #[inline]
+    pub fn intersection(&self, other: &NetworkSet<C>) -> Result<NetworkSet<C>, AllocError> {
+        let (these, those) = (self.as_slice(), other.as_slice());
+        let mut networks = with_room(self.networks.allocator().clone(), these, those)?;
+        push_shared(&mut networks, these, those);
+        Ok(NetworkSet { networks })
+    }
+
+    /// The addresses of this set that the other has not. Both stay as they were.
+    ///
+    /// It goes through both once. Where an allocation fails, it returns the error.
+    ///
+    /// ```
+    /// # use cidr::*;
+    /// # use cidr_table::Probe;
+    /// # use cidr_sets::{access::*, alloc::*, *};
+    /// let set: NetworkSet<Ipv4Cidr> = ["10.0.0.0/8".parse()?].into_iter().collect();
+    /// let half: NetworkSet<Ipv4Cidr> = ["10.128.0.0/9".parse()?].into_iter().collect();
+    /// assert_eq!(format!("{:?}", set.difference(&half)?.as_slice()), "[10.0.0.0/9]");
+    /// # Ok::<(), Box<dyn std::error::Error>>(())
+    /// ```
+    #[inline]
+    pub fn difference(&self, other: &NetworkSet<C>) -> Result<NetworkSet<C>, AllocError> {
+        let mut rest = Vec::new(self.networks.allocator().clone());
+        push_rests(&mut rest, self.as_slice(), other.as_slice())?;
+        Ok(NetworkSet { networks: rest })
+    }
+
+    /// Whether the set has all addresses of some networks. Binary search for each: O(k log n) for k networks.
+    ///
+    /// ```
+    /// # use cidr::*;
+    /// # use cidr_table::Probe;
+    /// # use cidr_sets::{access::*, alloc::*, *};
+    /// let set: NetworkSet<Ipv4Cidr> = ["10.0.0.0/8".parse()?].into_iter().collect();
+    /// assert!(set.contains_all(&["10.0.0.0/24".parse()?, "10.1.0.0/24".parse()?]));
+    /// # Ok::<(), Box<dyn std::error::Error>>(())
+    /// ```
+    #[inline]
+    pub fn contains_all(&self, networks: &[C]) -> bool {
+        are_covered(networks, self.as_slice())
+    }
+
+    /// Whether the set has an address of a network. Binary search: O(log n).
+    ///
+    /// ```
+    /// # use cidr::*;
+    /// # use cidr_table::Probe;
+    /// # use cidr_sets::{access::*, alloc::*, *};
+    /// let half: NetworkSet<Ipv4Cidr> = ["10.128.0.0/9".parse()?].into_iter().collect();
+    /// assert!(half.overlaps(&"10.0.0.0/8".parse()?));
+    /// assert!(!half.overlaps(&"10.0.0.0/9".parse()?));
+    /// # Ok::<(), Box<dyn std::error::Error>>(())
+    /// ```
+    #[inline]
+    pub fn overlaps(&self, network: &C) -> bool {
+        meets(self.as_slice(), network)
+    }
+
+    /// Whether the other set has all addresses of this one.
+    ///
+    /// ```
+    /// # use cidr::*;
+    /// # use cidr_table::Probe;
+    /// # use cidr_sets::{access::*, alloc::*, *};
+    /// let set: NetworkSet<Ipv4Cidr> = ["10.0.0.0/8".parse()?].into_iter().collect();
+    /// let half: NetworkSet<Ipv4Cidr> = ["10.128.0.0/9".parse()?].into_iter().collect();
+    /// assert!(half.is_subset(&set));
+    /// # Ok::<(), Box<dyn std::error::Error>>(())
+    /// ```
+    #[inline]
+    pub fn is_subset(&self, other: &NetworkSet<C>) -> bool {
+        are_covered(self.as_slice(), other.as_slice())
+    }
+
+    /// The addresses that exactly one of two sets has. Both stay as they were.
+    ///
+    /// Where an allocation fails, it returns the error.
+    ///
+    /// ```
+    /// # use cidr::*;
+    /// # use cidr_table::Probe;
+    /// # use cidr_sets::{access::*, alloc::*, *};
+    /// let set: NetworkSet<Ipv4Cidr> = ["10.0.0.0/8".parse()?].into_iter().collect();
+    /// let half: NetworkSet<Ipv4Cidr> = ["10.128.0.0/9".parse()?].into_iter().collect();
+    /// assert_eq!(format!("{:?}", set.symmetric_difference(&half)?.as_slice()), "[10.0.0.0/9]");
+    /// # Ok::<(), Box<dyn std::error::Error>>(())
+    /// ```
+    #[inline]
+    pub fn symmetric_difference(&self, other: &NetworkSet<C>) -> Result<NetworkSet<C>, AllocError> {
+        let these = self.difference(other)?;
+        let those = other.difference(self)?;
+        these.union(&those)
+    }
+
+    /// The addresses of a network that the set has not.
+    ///
+    /// Where an allocation fails, it returns the error.
+    ///
+    /// ```
+    /// # use cidr::*;
+    /// # use cidr_table::Probe;
+    /// # use cidr_sets::{access::*, alloc::*, *};
+    /// let half: NetworkSet<Ipv4Cidr> = ["10.128.0.0/9".parse()?].into_iter().collect();
+    /// assert_eq!(format!("{:?}", half.complement_in(&"10.0.0.0/8".parse()?)?.as_slice()), "[10.0.0.0/9]");
+    /// # Ok::<(), Box<dyn std::error::Error>>(())
+    /// ```
+    #[inline]
+    pub fn complement_in(&self, network: &C) -> Result<NetworkSet<C>, AllocError> {
+        known(network);
+        let mut rest = Vec::new(self.networks.allocator().clone());
+        push_rest(&mut rest, network, self.as_slice())?;
+        Ok(NetworkSet { networks: rest })
+    }
+
+    /// Adds the addresses of a network. Where an allocation fails, the set stays as it was.
+    ///
+    /// ```text
+    /// let mut pool = NetworkSet::new(Global);
+    /// pool.insert("10.0.0.0/8".parse::<Ipv4Cidr>()?)?;
+    /// assert_eq!(format!("{:?}", pool.as_slice()), "[10.0.0.0/8]");
+    /// ```
+    #[inline]
+    pub fn insert(&mut self, network: C) -> Result<(), AllocError> {
+        let mut both = Vec::from_slice(self.networks.allocator().clone(), self.as_slice())?;
+        both.push(network)?;
+        *self = reduced(both);
+        Ok(())
+    }
+
+    /// Removes the addresses of a network. Where an allocation fails, the set stays as it was.
+    ///
+    /// ```
+    /// # use cidr::*;
+    /// # use cidr_table::Probe;
+    /// # use cidr_sets::{access::*, alloc::*, *};
+    /// let mut pool: NetworkSet<Ipv4Cidr> = ["10.0.0.0/8".parse()?].into_iter().collect();
+    /// pool.remove(&"10.64.0.0/10".parse()?)?;
+    /// assert_eq!(format!("{:?}", pool.as_slice()), "[10.0.0.0/10, 10.128.0.0/9]");
+    /// # Ok::<(), Box<dyn std::error::Error>>(())
+    /// ```
+    #[inline]
+    pub fn remove(&mut self, network: &C) -> Result<(), AllocError> {
+        let mut single = NetworkSet::new(self.networks.allocator().clone());
+        single.insert(*network)?;
+        let rest = self.difference(&single)?;
+        *self = rest;
+        Ok(())
+    }
+
+    /// Whether no address is in both sets.
+    ///
+    /// ```
+    /// # use cidr::*;
+    /// # use cidr_table::Probe;
+    /// # use cidr_sets::{access::*, alloc::*, *};
+    /// let set: NetworkSet<Ipv4Cidr> = ["10.0.0.0/8".parse()?].into_iter().collect();
+    /// let half: NetworkSet<Ipv4Cidr> = ["10.128.0.0/9".parse()?].into_iter().collect();
+    /// assert!(!set.is_disjoint(&half));
+    /// # Ok::<(), Box<dyn std::error::Error>>(())
+    /// ```
+    #[inline]
+    pub fn is_disjoint(&self, other: &NetworkSet<C>) -> bool {
+        are_apart(self.as_slice(), other.as_slice())
+    }
+}
+
+/// An empty list with room for the networks of two.
+#[inline]
+fn with_room<C>(alloc: Global, these: &[C], those: &[C]) -> Result<Vec<C>, AllocError> {
+    let room = these.len().checked_add(those.len()).ok_or(AllocError)?;
+    Vec::with_capacity(alloc, room)
+}
+
+/// Pushes the networks of both lists, ascending, and each once, where there is room for all.
+#[inline]
+fn push_merged<C: NetworkBits + Copy>(out: &mut Vec<C>, these: &[C], those: &[C]) {
+    let mut left = these;
+    let mut right = those;
+    while let Some((network, behind, rest)) = next_of(left, right) {
+        out.push_reserved(*network);
+        left = behind;
+        right = rest;
+    }
+}
+
+/// Pushes the networks of the addresses that both of two sets have, ascending, where there is room for all.
+fn push_shared<C: NetworkBits + Copy>(out: &mut Vec<C>, these: &[C], those: &[C]) {
+    let mut left = these;
+    let mut right = those;
+    while let Some((shared, behind, rest)) = next_shared(left, right) {
+        if let Some(network) = shared {
+            out.push_reserved(network);
+        }
+        left = behind;
+        right = rest;
+    }
+}
+
+/// Pushes the networks of the addresses that a set has and another has not, ascending.
+#[inline]
+fn push_rests<C: NetworkBits + Copy>(
+    out: &mut Vec<C>,
+    networks: &[C],
+    others: &[C],
+) -> Result<(), AllocError> {
+    let mut todo = networks;
+    let mut left = others;
+    while let Some((network, behind)) = todo.split_first() {
+        left = push_rest(out, network, left)?;
+        todo = behind;
+    }
+    Ok(())
+}
+
+/// Pushes the networks of the addresses of a network that the others have not, ascending, and returns those of the
+/// others that can have addresses behind the network.
+///
+/// A network that one of the others contains has none, and one that contains none of the others is pushed itself. Any
+/// other is halved.
+fn push_rest<'a, C: NetworkBits + Copy>(
+    out: &mut Vec<C>,
+    network: &C,
+    others: &'a [C],
+) -> Result<&'a [C], AllocError> {
+    let left = skip(network, others);
+    let Some((first, behind)) = left.split_first() else {
+        out.push(*network)?;
+        return Ok(left);
+    };
+    if is_inside(network, first) {
+        return Ok(if first.len() == network.len() {
+            behind
+        } else {
+            left
+        });
+    }
+    if !is_inside(first, network) {
+        out.push(*network)?;
+        return Ok(left);
+    }
+    let lower = half(network, first, false);
+    let rest = push_rest(out, &lower, left)?;
+    let upper = half(network, first, true);
+    let last = push_rest(out, &upper, rest)?;
+    Ok(last)
+}
+
+/// The first of the networks that lie in one that none of them contains.
+#[inline]
+fn first_inside<C: NetworkBits + Copy>(networks: &[C], outer: &C) -> Option<C> {
+    let place = upto(networks, outer);
+    if place < networks.len() && is_inside(&networks[place], outer) {
+        Some(networks[place])
+    } else {
+        None
+    }
+}
+
+/// Whether each of the networks lies in one of the others.
+#[inline]
+fn are_covered<C: NetworkBits>(networks: &[C], others: &[C]) -> bool {
+    for network in networks {
+        known(network);
+        if !covers(others, network) {
+            return false;
+        }
+    }
+    true
+}
+
+/// Whether none of the networks has an address in common with one of the others.
+#[inline]
+fn are_apart<C: NetworkBits + Copy>(networks: &[C], others: &[C]) -> bool {
+    for network in networks {
+        if meets(others, network) {
+            return false;
+        }
+    }
+    true
+}
+
+/// Whether one of the networks has an address in common with this one.
+#[inline]
+fn meets<C: NetworkBits + Copy>(networks: &[C], network: &C) -> bool {
+    known(network);
+    covers(networks, network) || first_inside(networks, network).is_some()
+}

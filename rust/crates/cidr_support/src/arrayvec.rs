@@ -1,0 +1,194 @@
+//! Strings and lists of a fixed room, without an allocation.
+
+use core::fmt;
+use core::ops::Deref;
+
+/// A string of at most `CAP` bytes.
+#[derive(Clone, Copy)]
+pub struct ArrayString<const CAP: usize> {
+    bytes: [u8; CAP],
+    len: usize,
+}
+
+impl<const CAP: usize> ArrayString<CAP> {
+    /// The empty string.
+    #[inline]
+    pub fn new() -> Self {
+        ArrayString {
+            bytes: [0; CAP],
+            len: 0,
+        }
+    }
+
+    /// Appends a string. Panics where there is no room.
+    #[inline]
+    pub fn push_str(&mut self, text: &str) {
+        let end = self.len + text.len();
+        self.bytes[self.len..end].copy_from_slice(text.as_bytes());
+        self.len = end;
+    }
+
+    /// Appends a character. Panics where there is no room.
+    #[inline]
+    pub fn push(&mut self, c: char) {
+        self.push_str(c.encode_utf8(&mut [0; 4]));
+    }
+
+    /// Leaves the first `len` bytes. A shorter string stays as it is. Panics within a character.
+    #[inline]
+    pub fn truncate(&mut self, len: usize) {
+        if len < self.len {
+            assert!(self.as_str().is_char_boundary(len));
+            self.len = len;
+        }
+    }
+
+    /// The string.
+    #[inline]
+    pub fn as_str(&self) -> &str {
+        match core::str::from_utf8(&self.bytes[..self.len]) {
+            Ok(text) => text,
+            Err(_) => unreachable!(),
+        }
+    }
+
+    /// The bytes of the string.
+    #[inline]
+    pub fn as_bytes(&self) -> &[u8] {
+        &self.bytes[..self.len]
+    }
+
+    /// The number of bytes.
+    #[inline]
+    pub fn len(&self) -> usize {
+        self.len
+    }
+
+    /// Whether there are no bytes.
+    #[inline]
+    pub fn is_empty(&self) -> bool {
+        self.len == 0
+    }
+}
+
+impl<const CAP: usize> Default for ArrayString<CAP> {
+    fn default() -> Self {
+        ArrayString::new()
+    }
+}
+
+impl<const CAP: usize> Deref for ArrayString<CAP> {
+    type Target = str;
+
+    #[inline]
+    fn deref(&self) -> &str {
+        self.as_str()
+    }
+}
+
+impl<const CAP: usize> PartialEq for ArrayString<CAP> {
+    fn eq(&self, other: &Self) -> bool {
+        self.as_bytes() == other.as_bytes()
+    }
+}
+
+impl<const CAP: usize> Eq for ArrayString<CAP> {}
+
+impl<const CAP: usize> fmt::Display for ArrayString<CAP> {
+    fn fmt(&self, f: &mut fmt::Formatter<'_>) -> fmt::Result {
+        self.as_str().fmt(f)
+    }
+}
+
+impl<const CAP: usize> fmt::Debug for ArrayString<CAP> {
+    fn fmt(&self, f: &mut fmt::Formatter<'_>) -> fmt::Result {
+        self.as_str().fmt(f)
+    }
+}
+
+/// What `write!` calls: an error where there is no room.
+impl<const CAP: usize> fmt::Write for ArrayString<CAP> {
+    fn write_str(&mut self, text: &str) -> fmt::Result {
+        if text.len() > CAP - self.len {
+            return Err(fmt::Error);
+        }
+        self.push_str(text);
+        Ok(())
+    }
+}
+
+/// A list of at most `CAP` items.
+#[derive(Clone, Copy)]
+pub struct ArrayVec<T, const CAP: usize> {
+    items: [T; CAP],
+    len: usize,
+}
+
+impl<T: Copy + Default, const CAP: usize> ArrayVec<T, CAP> {
+    /// The empty list.
+    #[inline]
+    pub fn new() -> Self {
+        ArrayVec {
+            items: [T::default(); CAP],
+            len: 0,
+        }
+    }
+}
+
+impl<T, const CAP: usize> ArrayVec<T, CAP> {
+    /// Appends an item. Panics where there is no room.
+    #[inline]
+    pub fn push(&mut self, item: T) {
+        self.items[self.len] = item;
+        self.len += 1;
+    }
+
+    /// Leaves the first `len` items. A shorter list stays as it is.
+    #[inline]
+    pub fn truncate(&mut self, len: usize) {
+        self.len = self.len.min(len);
+    }
+
+    /// The items.
+    #[inline]
+    pub fn as_slice(&self) -> &[T] {
+        &self.items[..self.len]
+    }
+}
+
+impl<T: Copy + Default, const CAP: usize> Default for ArrayVec<T, CAP> {
+    fn default() -> Self {
+        ArrayVec::new()
+    }
+}
+
+/// A full list.
+impl<T, const CAP: usize> From<[T; CAP]> for ArrayVec<T, CAP> {
+    #[inline]
+    fn from(items: [T; CAP]) -> Self {
+        ArrayVec { items, len: CAP }
+    }
+}
+
+impl<T, const CAP: usize> Deref for ArrayVec<T, CAP> {
+    type Target = [T];
+
+    #[inline]
+    fn deref(&self) -> &[T] {
+        self.as_slice()
+    }
+}
+
+impl<T: PartialEq, const CAP: usize> PartialEq for ArrayVec<T, CAP> {
+    fn eq(&self, other: &Self) -> bool {
+        self.as_slice() == other.as_slice()
+    }
+}
+
+impl<T: Eq, const CAP: usize> Eq for ArrayVec<T, CAP> {}
+
+impl<T: fmt::Debug, const CAP: usize> fmt::Debug for ArrayVec<T, CAP> {
+    fn fmt(&self, f: &mut fmt::Formatter<'_>) -> fmt::Result {
+        self.as_slice().fmt(f)
+    }
+}

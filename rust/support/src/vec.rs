@@ -1,0 +1,237 @@
+//! A list whose calls return an error where memory runs out. It is the `Vec` of `alloc` inside.
+
+use crate::alloc::{AllocError, AllocFailed, Global};
+use core::fmt;
+use core::iter::FusedIterator;
+use core::marker::PhantomData;
+use core::ops::{Deref, DerefMut};
+use rust_alloc::vec;
+
+/// A list of items.
+#[derive(PartialEq, Eq, PartialOrd, Ord, Hash)]
+pub struct Vec<T>(vec::Vec<T>);
+
+impl<T> Vec<T> {
+    /// The empty list. It allocates nothing.
+    pub fn new(_: Global) -> Vec<T> {
+        Vec(vec::Vec::new())
+    }
+
+    /// The empty list with room for `capacity` items.
+    pub fn with_capacity(alloc: Global, capacity: usize) -> Result<Vec<T>, AllocError> {
+        let mut list = Vec::new(alloc);
+        list.0.try_reserve_exact(capacity).map_err(|_| AllocError)?;
+        Ok(list)
+    }
+
+    /// A copy of some items.
+    pub fn from_slice(alloc: Global, items: &[T]) -> Result<Vec<T>, AllocError>
+    where
+        T: Copy,
+    {
+        let mut list = Vec::with_capacity(alloc, items.len())?;
+        list.0.extend_from_slice(items);
+        Ok(list)
+    }
+
+    /// Items by value.
+    pub fn from_array<const N: usize>(alloc: Global, items: [T; N]) -> Result<Vec<T>, AllocError> {
+        let mut list = Vec::with_capacity(alloc, N)?;
+        list.0.extend(items);
+        Ok(list)
+    }
+
+    /// `len` copies of an item.
+    pub fn from_elem(alloc: Global, item: T, len: usize) -> Result<Vec<T>, AllocError>
+    where
+        T: Clone,
+    {
+        let mut list = Vec::with_capacity(alloc, len)?;
+        list.0.resize(len, item);
+        Ok(list)
+    }
+
+    /// Where its memory comes from.
+    pub fn allocator(&self) -> &Global {
+        &Global
+    }
+
+    /// How many items there is room for.
+    pub fn capacity(&self) -> usize {
+        self.0.capacity()
+    }
+
+    /// Makes room for `additional` more items.
+    pub fn reserve(&mut self, additional: usize) -> Result<(), AllocError> {
+        self.0.try_reserve(additional).map_err(|_| AllocError)
+    }
+
+    /// Appends an item, or gives it back where there is no memory.
+    #[inline]
+    pub fn push(&mut self, item: T) -> Result<(), AllocFailed<T>> {
+        if self.0.len() == self.0.capacity() && self.0.try_reserve(1).is_err() {
+            return Err(AllocFailed { value: item });
+        }
+        self.0.push(item);
+        Ok(())
+    }
+
+    /// Appends an item, for which there is room.
+    #[inline]
+    pub fn push_reserved(&mut self, item: T) {
+        self.0.push(item);
+    }
+
+    /// Appends a copy of some items.
+    pub fn extend_from_slice(&mut self, items: &[T]) -> Result<(), AllocError>
+    where
+        T: Copy,
+    {
+        self.reserve(items.len())?;
+        self.0.extend_from_slice(items);
+        Ok(())
+    }
+
+    /// Inserts an item before that at `index`, or gives it back where there is no memory.
+    pub fn insert(&mut self, index: usize, item: T) -> Result<(), AllocFailed<T>> {
+        if self.0.len() == self.0.capacity() && self.0.try_reserve(1).is_err() {
+            return Err(AllocFailed { value: item });
+        }
+        self.0.insert(index, item);
+        Ok(())
+    }
+
+    /// Removes the item at `index`.
+    pub fn remove(&mut self, index: usize) -> T {
+        self.0.remove(index)
+    }
+
+    /// Leaves the first `len` items. A shorter list stays as it is.
+    pub fn truncate(&mut self, len: usize) {
+        self.0.truncate(len);
+    }
+
+    /// Removes the last item.
+    pub fn pop(&mut self) -> Option<T> {
+        self.0.pop()
+    }
+
+    /// Sorts the items, and leaves equal ones in their order.
+    pub fn sort(&mut self) -> Result<(), AllocError>
+    where
+        T: Ord,
+    {
+        self.0.sort();
+        Ok(())
+    }
+
+    /// Removes all items.
+    pub fn clear(&mut self) {
+        self.0.clear();
+    }
+
+    /// Leaves the items for which `keep` returns true.
+    pub fn retain(&mut self, keep: impl FnMut(&T) -> bool) {
+        self.0.retain(keep);
+    }
+
+    /// Leaves one of equal items that follow each other.
+    pub fn dedup(&mut self)
+    where
+        T: PartialEq,
+    {
+        self.0.dedup();
+    }
+
+    /// Leaves the first of items that follow each other and are the same by `same`.
+    pub fn dedup_by(&mut self, same: impl FnMut(&mut T, &mut T) -> bool) {
+        self.0.dedup_by(same);
+    }
+
+    /// The items.
+    pub fn as_slice(&self) -> &[T] {
+        &self.0
+    }
+
+    /// The items, for writing.
+    pub fn as_mut_slice(&mut self) -> &mut [T] {
+        &mut self.0
+    }
+}
+
+impl<T> Deref for Vec<T> {
+    type Target = [T];
+
+    #[inline]
+    fn deref(&self) -> &[T] {
+        &self.0
+    }
+}
+
+impl<T> DerefMut for Vec<T> {
+    #[inline]
+    fn deref_mut(&mut self) -> &mut [T] {
+        &mut self.0
+    }
+}
+
+impl<T: fmt::Debug> fmt::Debug for Vec<T> {
+    fn fmt(&self, f: &mut fmt::Formatter<'_>) -> fmt::Result {
+        self.0.fmt(f)
+    }
+}
+
+impl<T> From<vec::Vec<T>> for Vec<T> {
+    fn from(items: vec::Vec<T>) -> Vec<T> {
+        Vec(items)
+    }
+}
+
+impl<T> From<Vec<T>> for vec::Vec<T> {
+    fn from(list: Vec<T>) -> vec::Vec<T> {
+        list.0
+    }
+}
+
+impl<'a, T> IntoIterator for &'a Vec<T> {
+    type Item = &'a T;
+    type IntoIter = core::slice::Iter<'a, T>;
+
+    fn into_iter(self) -> core::slice::Iter<'a, T> {
+        self.0.iter()
+    }
+}
+
+impl<T> IntoIterator for Vec<T> {
+    type Item = T;
+    type IntoIter = IntoIter<T, Global>;
+
+    fn into_iter(self) -> IntoIter<T, Global> {
+        IntoIter(self.0.into_iter(), PhantomData)
+    }
+}
+
+/// The items of a list by value, from both ends.
+pub struct IntoIter<T, A>(vec::IntoIter<T>, PhantomData<A>);
+
+impl<T, A> Iterator for IntoIter<T, A> {
+    type Item = T;
+
+    fn next(&mut self) -> Option<T> {
+        self.0.next()
+    }
+
+    fn size_hint(&self) -> (usize, Option<usize>) {
+        self.0.size_hint()
+    }
+}
+
+impl<T, A> DoubleEndedIterator for IntoIter<T, A> {
+    fn next_back(&mut self) -> Option<T> {
+        self.0.next_back()
+    }
+}
+
+impl<T, A> ExactSizeIterator for IntoIter<T, A> {}
+
+impl<T, A> FusedIterator for IntoIter<T, A> {}
