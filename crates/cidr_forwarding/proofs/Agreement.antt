@@ -1,16 +1,15 @@
 -- Two forwardings agree exactly where they give each address the same value.
-use Rattle.std.proofs.Common.{◌≡◌, ◌↔◌, ◌&&◌, ◌⊎◌, ℕ, zero, suc, ◌+◌, ◌-◌, ◌<◌, ◌≤◌, Bool, true, false, List, [], ◌∷◌, length, take, drop, Option, Some, None, refl, sym, ap, ap₂, ◌∙◌, subst, arith, inl, inr, true≢false}
+use Rattle.std.proofs.Common.{◌≡◌, ◌↔◌, ◌&&◌, ℕ, zero, suc, ◌+◌, ◌-◌, ◌≤◌, Bool, true, false, List, [], ◌∷◌, length, take, drop, Option, Some, None, refl, sym, ap, ap₂, ◌∙◌, subst, arith, inl, inr, true≢false}
 use Rattle.std.specs.Bool.{Decides}
 use Rattle.std.specs.List.{AllByRecursion}
 use Rattle.std.specs.List.Sorted.{IsStrictlySortedBy}
 use Rattle.std.specs.Option.{option_eq}
 use Rattle.std.proofs.lemmas.Bool.{cases_lt}
-use Rattle.cidr.specs.model.Bits.{bit_cmp}
 use Rattle.cidr.specs.model.Network.{HasWidth}
 use Rattle.cidr_table.specs.CoverAddresses.{IsIpAddress}
 use Rattle.cidr_table.specs.Prefixes.{IsValueLookedUp}
 use Rattle.cidr_forwarding.specs.Forwarding.{in_bits, AreNetworksOf, AreIpRows, ForwardSame}
-use Rattle.cidr_forwarding.specs.Trees.{own, below, Region, Even, Halves, region, AreWithin, all_are, agree}
+use Rattle.cidr_forwarding.specs.Trees.{own, below, Region, Even, Halves, region, all_are, agree}
 use Rattle.cidr_forwarding.specs.Plans.{tails, planned, IsNode, AreDeep, NextIs}
 use Rattle.cidr_forwarding.proofs.RowParts.{forward}
 use Rattle.cidr_forwarding.proofs.Regions.{at, Fits}

@@ -1,6 +1,5 @@
 -- The rows that are put are of networks that are no longer than those of the rows before, and of the same families.
-use Rattle.std.proofs.Common.{◌≡◌, ℕ, zero, suc, ◌≤◌, Bool, true, false, cond, List, [], ◌∷◌, ◌++◌, length, Option, Some, None, refl, sym, ap, subst, arith, inl, inr}
-use Rattle.std.specs.List.{Contains}
+use Rattle.std.proofs.Common.{ℕ, zero, suc, ◌≤◌, Bool, true, false, cond, List, [], ◌∷◌, ◌++◌, length, Option, Some, None, sym, subst, arith, inl, inr}
 use Rattle.cidr_table.specs.CoverAddresses.{IsIpNetwork}
 use Rattle.cidr_table.proofs.MapLaws.{contains_cases, contains_nothing}
 use Rattle.cidr_forwarding.specs.Forwarding.{in_bits, AreNetworksOf, AreIpRows}

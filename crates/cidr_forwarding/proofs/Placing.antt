@@ -1,10 +1,10 @@
 -- What the second pass reads and writes at a network.
-use Rattle.std.proofs.Common.{◌≡◌, ℕ, zero, suc, ◌+◌, ◌-◌, ◌<◌, ◌≤◌, ◌==◌, Bool, true, false, cond, List, [], ◌∷◌, ◌++◌, length, get_or, take, drop, Option, None, refl, sym, ap, ap₂, ◌∙◌, subst, arith, append_assoc, append-nil, length-append, true≢false}
+use Rattle.std.proofs.Common.{◌≡◌, ℕ, zero, suc, ◌+◌, ◌-◌, ◌<◌, ◌≤◌, Bool, true, false, cond, List, [], ◌∷◌, ◌++◌, length, get_or, take, drop, Option, None, refl, sym, ap, ap₂, ◌∙◌, subst, arith, append_assoc, append-nil, length-append}
 use Rattle.std.proofs.Math.Seq.{take-append_seam}
 use Rattle.std.proofs.lemmas.List.{take-append-drop, get_or_at}
 use Rattle.std.specs.List.{AllByRecursion}
 use Rattle.cidr_forwarding.specs.Trees.{under, Region, Even, Halves}
-use Rattle.cidr_forwarding.specs.Choices.{has, candidates, head_or, pick, fill, EndsIn, is_free}
+use Rattle.cidr_forwarding.specs.Choices.{has, head_or, pick, fill, EndsIn, is_free}
 use Rattle.std.specs.Option.{option_eq}
 use Rattle.cidr_forwarding.specs.Forwarding.{in_bits}
 use Rattle.cidr_forwarding.specs.Plans.{AreDeep, NextIs, AreOf, behind, choices, choice_lists, choice_counts, put_rows}

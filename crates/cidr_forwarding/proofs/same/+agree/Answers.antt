@@ -1,4 +1,4 @@
-use Rattle.std.proofs.Common.{◌≡◌, ◌∙◌, ◌&&◌, ◌+◌, ◌-◌, ◌<◌, length, take, drop, refl, sym, ap, ap₂, arith}
+use Rattle.std.proofs.Common.{◌∙◌, ◌&&◌, ◌+◌, ◌-◌, ◌<◌, length, take, drop, refl, sym, ap, ap₂, arith}
 use Rattle.std.specs.Option.{option_eq}
 use Rattle.cidr_forwarding.specs.Trees.{agree}
 use Rattle.cidr_forwarding.specs.Plans.{planned}
