@@ -27,6 +27,7 @@ pub trait SmallestTable<C: NetworkBits + Copy, V: Copy + Ord + Drop> {
     /// ```
     /// let smallest = routes.smallest(rt.alloc())?;
     /// smallest // {0.0.0.0/0: 1, 10.0.0.0/8: 2, 192.0.2.0/24: 3}
+    /// routes.lookup(&"10.1.2.3".parse()?) // Some((10.1.0.0/16, 2))
     /// smallest.lookup(&"10.1.2.3".parse()?) // Some((10.0.0.0/8, 2))
     /// ```
     fn smallest(&self, alloc: Global) -> Result<LpmTable<C, V>, AllocError>
