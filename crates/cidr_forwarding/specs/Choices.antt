@@ -1,0 +1,85 @@
+-- The values that one network can have at the least cost, and the rows that are put.
+use Rattle.std.specs.Prelude.{◌≡◌, ℕ, Bool, true, false, cond, List, Option, Some, None, [], ◌∷◌, ◌++◌, length}
+use Rattle.std.specs.List.{filter}
+use Rattle.cidr_forwarding.specs.Trees.{Region, Even, Halves, under}
+
+-- whether a row may have this value: any, or with no holes any but none
+abbrev pub is_free : {V : Type 0} → Bool → Option V → Bool
+is_free true x = true
+is_free false None = false
+is_free false (Some v) = true
+
+module _ {X : Type 0} where
+  -- the first list, or where it is empty the other
+  abbrev pub or_else : List X → List X → List X
+  or_else [] other = other
+  or_else (x ∷ xs) other = x ∷ xs
+
+  abbrev pub not_of : (X → Bool) → X → Bool
+  not_of free x = cond (free x) false true
+
+  -- the values of either half, or only those that no row may have, if there are such
+  abbrev pub united : (X → Bool) → List X → List X → List X
+  united free xs ys = or_else (filter (not_of free) (xs ++ ys)) (xs ++ ys)
+
+  abbrev pub one_if_empty : List X → ℕ
+  one_if_empty [] = 1
+  one_if_empty (x ∷ xs) = 0
+
+module _ {X : Type 0} (same : X → X → Bool) where
+  abbrev pub has : List X → X → Bool
+  has [] x = false
+  has (y ∷ ys) x = cond (same y x) true (has ys x)
+
+  -- 1 where the value is no candidate: it takes a row
+  abbrev pub extra : List X → X → ℕ
+  extra xs x = cond (has xs x) 0 1
+
+  abbrev pub shared : List X → List X → List X
+  shared xs ys = filter (has ys) xs
+
+  -- the candidates of a network: those of both halves, or if there are none those of either
+  abbrev pub joined : (X → Bool) → List X → List X → List X
+  joined free xs ys = or_else (shared xs ys) (united free xs ys)
+
+module _ {X : Type 0} (same : X → X → Bool) (free : X → Bool) where
+  -- the values that cost no row if one of them is inherited
+  abbrev pub candidates : Region X → List X
+  candidates (Even x) = x ∷ []
+  candidates (Halves l r) = joined same free (candidates l) (candidates r)
+
+module _ {X : Type 0} where
+  abbrev pub head_or : X → List X → X
+  head_or d [] = d
+  head_or d (x ∷ xs) = x
+
+module _ {X : Type 0} (same : X → X → Bool) (free : X → Bool) (none : X) where
+  abbrev pub pick : Region X → X
+  pick t = head_or none (candidates same free t)
+
+  -- the rows below a network where a candidate is inherited
+  abbrev pub fill : Region X → X → List (List Bool × X)
+  fill (Even v) c = []
+  fill (Halves l r) c =
+      under false (cond (has same (candidates same free l) c) (fill l c) (([], pick l) ∷ fill l (pick l)))
+      ++ under true (cond (has same (candidates same free r) c) (fill r c) (([], pick r) ∷ fill r (pick r)))
+
+  -- the rows of a network, with one for itself if no candidate is inherited
+  abbrev pub put : Region X → X → List (List Bool × X)
+  put t c = cond (has same (candidates same free t) c) (fill t c) (([], pick t) ∷ fill t (pick t))
+
+-- ---- a list that holds what a pass over a tree leaves: the upper half first, and the network last
+module _ {X : Type 0} (same : X → X → Bool) (free : X → Bool) where
+  -- the candidates of each network that is reached
+  abbrev pub lists : Region X → List X
+  lists (Even x) = x ∷ []
+  lists (Halves l r) = lists r ++ (lists l ++ joined same free (candidates same free l) (candidates same free r))
+
+  -- how many they are
+  abbrev pub counts_of : Region X → List ℕ
+  counts_of (Even x) = 1 ∷ []
+  counts_of (Halves l r) = counts_of r ++ (counts_of l ++ length (joined same free (candidates same free l) (candidates same free r)) ∷ [])
+
+-- the whole ends in this list
+abbrev pub EndsIn : {X : Type 0} → List X → List X → Type 0
+EndsIn {X} whole end = (front : List X) × (whole ≡ front ++ end)

@@ -1,0 +1,56 @@
+-- Rows of a type of networks, without the first bits, which they have in common.
+use Rattle.std.specs.Prelude.{◌≡◌, ℕ, ◌+◌, ◌-◌, Bool, List, [], ◌∷◌, ◌++◌, length, take, drop, Option, Some, None}
+use Rattle.std.specs.List.Sorted.{IsStrictlySortedBy}
+use Rattle.std.specs.Map.{keys_of}
+use Rattle.std.specs.Option.{option_eq}
+use Rattle.cidr.specs.model.Bits.{bit_cmp}
+use Rattle.cidr_forwarding.specs.Trees.{Region, region, AreWithin}
+use Rattle.cidr_forwarding.specs.Choices.{candidates, lists, counts_of, put, is_free}
+
+module _ {C V : Type 0} (bits : C → List Bool) where
+  -- the bits of a row's network from depth on
+  abbrev pub tails : ℕ → List (C × V) → List (List Bool × Option V)
+  tails depth [] = []
+  tails depth (r ∷ rows) = (drop depth (bits r.0), Some r.1) ∷ tails depth rows
+
+  -- the forwarding of a network of so many bits
+  unfoldable pub planned : ℕ → Option V → List (C × V) → Region (Option V)
+  planned depth inherited rows = region (129 - depth) inherited (tails depth rows)
+
+  -- rows of one network of so many bits
+  pub record IsNode (depth : ℕ) (rows : List (C × V)) : Type 0 where
+    pub ascending : IsStrictlySortedBy bit_cmp (keys_of (tails depth rows))
+    pub within : AreWithin (129 - depth) (tails depth rows)
+
+  -- the row's next bit is this one
+  abbrev pub NextIs : ℕ → Bool → C × V → Type 0
+  NextIs depth b row = drop depth (bits row.0) ≡ b ∷ drop (depth + 1) (bits row.0)
+
+  -- each row has more bits
+  abbrev pub AreDeep : ℕ → List (C × V) → Type 0
+  AreDeep depth [] = Unit {0}
+  AreDeep depth (r ∷ rows) = (drop depth (bits r.0) ≡ [] → ⊥) × AreDeep depth rows
+
+  -- each row is of this network
+  abbrev pub AreOf : List Bool → List (C × V) → Type 0
+  AreOf network [] = Unit {0}
+  AreOf network (r ∷ rows) = (take (length network) (bits r.0) ≡ network) × AreOf network rows
+
+-- the rows behind these bits
+abbrev pub behind : {Y : Type 0} → List Bool → List (List Bool × Y) → List (List Bool × Y)
+behind network [] = []
+behind network (r ∷ rows) = (network ++ r.0, r.1) ∷ behind network rows
+
+-- the candidates, for values
+module _ {V : Type 0} (eq : V → V → Bool) where
+  unfoldable pub choices : Bool → Region (Option V) → List (Option V)
+  choices holes t = candidates (option_eq eq) (is_free holes) t
+
+  unfoldable pub choice_lists : Bool → Region (Option V) → List (Option V)
+  choice_lists holes t = lists (option_eq eq) (is_free holes) t
+
+  unfoldable pub choice_counts : Bool → Region (Option V) → List ℕ
+  choice_counts holes t = counts_of (option_eq eq) (is_free holes) t
+
+  unfoldable pub put_rows : Bool → Region (Option V) → Option V → List (List Bool × Option V)
+  put_rows holes t c = put (option_eq eq) (is_free holes) None t c

@@ -1,0 +1,61 @@
+-- Rows by the next bit of their networks, and a forwarding as a tree of halves.
+use Rattle.std.specs.Prelude.{ℕ, zero, suc, ◌≤◌, ◌&&◌, Bool, true, false, List, [], ◌∷◌, length}
+
+-- a network that has one value, or two halves
+pub data Region (X : Type 0) : Type 0 where
+  Even : X → Region X
+  Halves : Region X → Region X → Region X
+
+module _ {X : Type 0} where
+  abbrev pub own_step : List Bool → X → X → X
+  own_step [] x rest = x
+  own_step (b ∷ p) x rest = rest
+
+  -- the value of the first row of no bits, or else the one that is inherited
+  abbrev pub own : X → List (List Bool × X) → X
+  own c [] = c
+  own c (r ∷ rows) = own_step r.0 r.1 (own c rows)
+
+  abbrev pub below_step : Bool → List Bool → X → List (List Bool × X) → List (List Bool × X)
+  below_step b [] x rest = rest
+  below_step false (false ∷ p) x rest = (p, x) ∷ rest
+  below_step false (true ∷ p) x rest = rest
+  below_step true (false ∷ p) x rest = rest
+  below_step true (true ∷ p) x rest = (p, x) ∷ rest
+
+  -- the rows in one half, without that bit
+  abbrev pub below : Bool → List (List Bool × X) → List (List Bool × X)
+  below b [] = []
+  below b (r ∷ rows) = below_step b r.0 r.1 (below b rows)
+
+  -- the rows, in that half of a network
+  abbrev pub under : Bool → List (List Bool × X) → List (List Bool × X)
+  under b [] = []
+  under b (r ∷ rows) = (b ∷ r.0, r.1) ∷ under b rows
+
+  abbrev pub deeper : List (List Bool × X) → List (List Bool × X) → X → Region X → Region X → Region X
+  deeper [] [] o l r = Even o
+  deeper [] (x ∷ highs) o l r = Halves l r
+  deeper (x ∷ lows) highs o l r = Halves l r
+
+  -- where a value is inherited: one value if no row has a bit, or else two halves
+  abbrev pub region : ℕ → X → List (List Bool × X) → Region X
+  region zero c rows = Even (own c rows)
+  region (suc w) c rows =
+      deeper (below false rows) (below true rows) (own c rows) (region w (own c rows) (below false rows)) (region w (own c rows) (below true rows))
+
+  abbrev pub AreWithin : ℕ → List (List Bool × X) → Type 0
+  AreWithin w [] = Unit {0}
+  AreWithin w (r ∷ rows) = (length r.0 ≤ w) × AreWithin w rows
+
+-- ---- whether two forwardings are the same
+module _ {X : Type 0} (same : X → X → Bool) where
+  -- whether this one value is the only one
+  abbrev pub all_are : X → Region X → Bool
+  all_are x (Even y) = same x y
+  all_are x (Halves l r) = all_are x l && all_are x r
+
+  abbrev pub agree : Region X → Region X → Bool
+  agree (Even x) t = all_are x t
+  agree (Halves l r) (Even y) = agree l (Even y) && agree r (Even y)
+  agree (Halves l r) (Halves k s) = agree l k && agree r s
