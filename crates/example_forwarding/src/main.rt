@@ -1,0 +1,76 @@
+//! Forwarding: a routing table of six rows, the smallest table with the same forwarding, and the same look-ups in both.
+#![tactic(auto)]
+
+use cidr::Ipv4Cidr;
+use cidr::errors::NetworkParseError;
+use cidr_forwarding::{SmallestTable, forwards_same};
+use cidr_table::LpmTable;
+use std::alloc::AllocError;
+use std::io;
+
+type Routes = LpmTable<Ipv4Cidr, u32>;
+
+fn main(rt: HostRuntime) -> Result<(), Failure> {
+    without_holes(&rt)?;
+    with_holes(&rt)
+}
+
+/// Six routes by three next hops become three.
+fn without_holes(rt: &HostRuntime) -> Result<(), Failure> {
+    let mut routes = Routes::new(rt.alloc());
+    routes.set("0.0.0.0/0".parse()?, 1)?;
+    routes.set("10.0.0.0/9".parse()?, 2)?;
+    routes.set("10.1.0.0/16".parse()?, 2)?;
+    routes.set("10.128.0.0/9".parse()?, 2)?;
+    routes.set("192.0.2.0/25".parse()?, 3)?;
+    routes.set("192.0.2.128/25".parse()?, 3)?;
+    let smallest = routes.smallest(rt.alloc())?;
+    println!(rt; "{smallest:?}")?; // {0.0.0.0/0: 1, 10.0.0.0/8: 2, 192.0.2.0/24: 3}
+    println!(rt; "{:?}", routes.lookup(&"10.1.2.3".parse()?))?; // Some((10.1.0.0/16, 2))
+    println!(rt; "{:?}", smallest.lookup(&"10.1.2.3".parse()?))?; // Some((10.0.0.0/8, 2))
+    println!(rt; "{:?}", routes.lookup(&"192.0.2.200".parse()?))?; // Some((192.0.2.128/25, 3))
+    println!(rt; "{:?}", smallest.lookup(&"192.0.2.200".parse()?))?; // Some((192.0.2.0/24, 3))
+    println!(rt; "{}", forwards_same(&routes, &smallest))?; // true
+    routes.set("10.1.0.0/16".parse()?, 3)?;
+    println!(rt; "{}", forwards_same(&routes, &smallest))?; // false
+    Ok(())
+}
+
+/// Three routes become one and a hole.
+fn with_holes(rt: &HostRuntime) -> Result<(), Failure> {
+    let mut routes = Routes::new(rt.alloc());
+    routes.set("10.0.0.0/9".parse()?, 1)?;
+    routes.set("10.128.0.0/10".parse()?, 1)?;
+    routes.set("10.192.0.0/11".parse()?, 1)?;
+    println!(rt; "{}", routes.smallest(rt.alloc())?.len())?; // 3
+    let smallest = routes.smallest_with_holes(rt.alloc())?;
+    println!(rt; "{smallest:?}")?; // {10.0.0.0/8: Some(1), 10.224.0.0/11: None}
+    println!(rt; "{:?}", smallest.lookup(&"10.230.0.1".parse()?))?; // Some((10.224.0.0/11, None))
+    Ok(())
+}
+
+/// What this program fails by.
+#[derive(Debug, Drop)]
+enum Failure {
+    Network(NetworkParseError),
+    NoMemory,
+    Output(io::Error),
+}
+
+impl From<NetworkParseError> for Failure {
+    fn from(error: NetworkParseError) -> Failure {
+        Failure::Network(error)
+    }
+}
+
+impl From<AllocError> for Failure {
+    fn from(_error: AllocError) -> Failure {
+        Failure::NoMemory
+    }
+}
+
+impl From<io::Error> for Failure {
+    fn from(error: io::Error) -> Failure {
+        Failure::Output(error)
+    }
+}
