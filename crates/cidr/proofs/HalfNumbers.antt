@@ -41,6 +41,22 @@ parts_within w k n m h =
 
 pub ruleset host_laws = (shr_split, part_below)
 
+-- and so do the first k bits and ones behind them
+pub last_fits : (w k n : ℕ) → n < 2 ^ w → n + (2 ^ (w - k) - 1 - n % 2 ^ (w - k)) < 2 ^ w
+last_fits w k n h =
+    let below = part_below n (w - k) in
+    elim (cases_lt w k) [
+      | inl longer ↦
+          let none : w - k ≡ 0 = omega arith in
+          rw none (omega arith)
+      | inr within ↦ omega (arith, last_within w k n (omega arith) h, shr_split n (w - k))
+    ]
+
+pub last_fits_half : (k n : ℕ) → n < 2 ^ 64 → n + (2 ^ (64 - k) - 1 - n % 2 ^ (64 - k)) < 2 ^ 64
+last_fits_half k n h = last_fits 64 k n h
+
+pub ruleset last_laws = (shr_split, part_below, last_fits_half)
+
 pub ruleset split_laws = (upper-joined, lower-joined, shr_split)
 
 -- the host part of a sum, where the first number has its host part alone
@@ -123,6 +139,14 @@ parts-halves k u l v m fits low lower =
     let i = 64 - k in
     let spread : (u / 2 ^ i * 2 ^ i + v % 2 ^ i) * 2 ^ 64 ≡ u / 2 ^ i * 2 ^ i * 2 ^ 64 + v % 2 ^ i * 2 ^ 64 = omega arith in
     omega (arith, spread, rounded-halves 64 k u l fits low, mod-halves 64 k v m fits lower)
+
+pub last-halves : (k u l : ℕ) → k ≤ 128 → l < 2 ^ 64
+    → joined (u / 2 ^ (64 - k) * 2 ^ (64 - k) + (2 ^ (64 - k) - 1)) (l / 2 ^ (64 - (k - 64)) * 2 ^ (64 - (k - 64)) + (2 ^ (64 - (k - 64)) - 1))
+    ≡ joined u l / 2 ^ (128 - k) * 2 ^ (128 - k) + (2 ^ (128 - k) - 1)
+last-halves k u l fits low =
+    let i = 64 - k in
+    let spread : (u / 2 ^ i * 2 ^ i + (2 ^ i - 1)) * 2 ^ 64 ≡ u / 2 ^ i * 2 ^ i * 2 ^ 64 + (2 ^ i - 1) * 2 ^ 64 = omega arith in
+    omega (arith, spread, rounded-halves 64 k u l fits low, ones-halves k fits)
 
 -- ---- the first bits of two numbers by halves
 multiple-div : (a b k : ℕ) → a / 2 ^ k * 2 ^ k ≡ b / 2 ^ k * 2 ^ k → a / 2 ^ k ≡ b / 2 ^ k
@@ -261,3 +285,5 @@ pub ones-mod : (k : ℕ) → k ≤ 128 → joined 18446744073709551615 184467440
 ones-mod k h = ones-low 128 k h
 
 pub ruleset halves_step_laws = (stepped-up, stepped-down, zero-mod, ones-mod, ones-first, part_below, pow_pos)
+
+pub ruleset halves_last_laws = (last-halves)

@@ -26,6 +26,14 @@ pub(crate) fn host_room(half: u64, len: u8) -> u64
     host_mask(len) - host_part(half, len)
 }
 
+/// The greatest half with the same first `len` bits: from there on they are one.
+#[tactic(auto, using(crate::proofs::HalfNumbers::last_laws))]
+pub(crate) fn last_number(half: u64, len: u8) -> u64
+    ensures { result ≡ half / 2 ^ (64 - len) * 2 ^ (64 - len) + (2 ^ (64 - len) - 1) }
+{
+    half + host_room(half, len)
+}
+
 /// The first `len` bits of the half, and from there on those of the other.
 #[tactic(auto, using(crate::proofs::HalfNumbers::host_laws))]
 pub(crate) fn with_host_part(half: u64, other: u64, len: u8) -> u64

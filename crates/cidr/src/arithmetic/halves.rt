@@ -174,12 +174,15 @@ impl Halves {
     }
 
     /// The last number of the network: the bits from `len` on are one.
-    #[tactic(auto, using(crate::proofs::HalfNumbers::halves_step_laws))]
+    #[tactic(auto, using(crate::proofs::HalfNumbers::halves_last_laws))]
     pub(crate) fn last_number(self, len: u8) -> Halves
         requires { len ≤ 128 }
         ensures { result ≡ self / 2 ^ (128 - len) * 2 ^ (128 - len) + (2 ^ (128 - len) - 1) }
     {
-        self.with_host_part(Halves::new(u64::MAX, u64::MAX), len)
+        Halves {
+            upper: half::last_number(self.upper, len),
+            lower: half::last_number(self.lower, len.saturating_sub(64)),
+        }
     }
 
     /// The mask of the network: as many ones as `len` says, then zeros.

@@ -128,7 +128,10 @@ impl Halves {
     /// The last number of the network: the bits from `len` on are one.
     #[inline]
     pub(crate) fn last_number(self, len: u8) -> Halves {
-        self.with_host_part(Halves::new(u64::MAX, u64::MAX), len)
+        Halves {
+            upper: half::last_number(self.upper, len),
+            lower: half::last_number(self.lower, len.saturating_sub(64)),
+        }
     }
 
     /// The mask of the network: as many ones as `len` says, then zeros.

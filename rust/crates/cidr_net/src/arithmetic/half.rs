@@ -18,6 +18,12 @@ pub(crate) const fn host_room(half: u64, len: u8) -> u64 {
     host_mask(len) - host_part(half, len)
 }
 
+/// The greatest half with the same first `len` bits: from there on they are one.
+#[inline]
+pub(crate) const fn last_number(half: u64, len: u8) -> u64 {
+    half + host_room(half, len)
+}
+
 /// The first `len` bits of the half, and from there on those of the other.
 #[inline]
 pub(crate) const fn with_host_part(half: u64, other: u64, len: u8) -> u64 {
