@@ -1,6 +1,6 @@
 #!/usr/bin/env bash
 # Runs the program and the tests of this crate with their first allocation refused, with their second one, and so on, by
-# `rt try`, which proves nothing. Prints nothing where all runs are as wanted.
+# `.ci/try`, which proves nothing. Prints nothing where all runs are as wanted.
 set -euo pipefail
 cd "$(dirname "$0")"
 
@@ -18,7 +18,7 @@ one_prefix='[8, 10]: Ok(1)'
 prints() {
     printf '%s\n' "${@:2}" >"$room/wanted"
     status=0
-    rt try --fail-alloc "$1" </dev/null >"$room/output" 2>"$room/error" || status=$?
+    ../../.ci/try test_refused_growths --fail-alloc "$1" </dev/null >"$room/output" 2>"$room/error" || status=$?
     if ((status != 0)) || ! cmp -s "$room/wanted" "$room/output"; then
         cat "$room/output" "$room/error" >&2
         echo "with allocation $1 refused the program is not as wanted" >&2
@@ -33,7 +33,7 @@ prints 3 "$no_bytes" "$first_too_long" "$second_too_long" "$one_prefix"
 # The tests: a table of 40 rows or of 80 prefixes allocates fewer than seven times, and so do the look-ups that are made
 # ready. All of them are to pass.
 for ((n = 1; n <= 7; n++)); do
-    if ! output=$(rt try --test --fail-alloc "$n" </dev/null 2>&1); then
+    if ! output=$(../../.ci/try test_refused_growths --test --fail-alloc "$n" </dev/null 2>&1); then
         printf '%s\n' "$output" "with allocation $n refused a test fails" >&2
         exit 1
     fi
