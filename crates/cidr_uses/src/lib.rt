@@ -1,5 +1,5 @@
-//! Parts of small programs, written by the public calls of `cidr`, `cidr_table`, `cidr_sets` and `cidr_ext` only and
-//! proved from their public contracts only.
+//! Parts of small programs, written by the public calls of `cidr`, `cidr_table`, `cidr_forwarding`, `cidr_sets` and
+//! `cidr_ext` only and proved from their public contracts only.
 #![tactic(auto)]
 
 pub mod access_list;
@@ -13,6 +13,7 @@ pub mod compact;
 pub mod config_line;
 pub mod consequences;
 pub mod five_equalities;
+pub mod forwarding;
 pub mod host_lengths;
 pub mod look_ups;
 pub mod nesting;
