@@ -447,7 +447,7 @@ refuse() {
 # Memory that is refused, to commands that read lists.
 rows_without_memory() {
     local command
-    "${CC:-cc}" -shared -fPIC -o "$room/refuse.so" runs/refuse.c -ldl
+    "${CC:-cc}" -shared -fPIC -o "$room/refuse.so" ../../.ci/refuse.c -ldl
     for command in merge nets not ranges count; do
         refuse '10.0.0.0/9\n10.128.0.0/9\n::1-::8\n' "$command" - both
     done

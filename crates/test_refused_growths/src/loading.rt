@@ -1,41 +1,46 @@
-//! Where an allocation fails, that is told, and the same call then succeeds.
+//! Lists of prefix bytes, loaded as tables.
 use cidr::Ipv4Cidr;
 use cidr_table::{LoadError, LpmTable};
-use std::test::Fail;
+use std::alloc::{AllocError, Global};
 
 /// IPv4 networks, each with its place in the bytes.
 type Places = LpmTable<Ipv4Cidr, usize>;
 
-/// The row of this place: the network of a text, and its place in the bytes.
-fn has(places: &Places, row: usize, text: &str, place: usize) -> Result<bool, Fail> {
-    Ok(places.row(row).copied() == Some((text.parse::<Ipv4Cidr>()?, place)))
-}
-
-#[test]
-fn a_refused_growth_is_told_and_loading_again_succeeds(rt: HostRuntime) -> Result<(), Fail> {
-    let bytes = [8, 10, 16, 10, 1, 0];
-    let loaded = match Places::load(rt.alloc(), &bytes) {
-        Err(LoadError::NoMemory) => Places::load(rt.alloc(), &bytes),
+/// What a list is loaded as, where it is loaded once more if memory was refused.
+fn loaded(alloc: Global, bytes: &[u8]) -> Result<Places, LoadError> {
+    match Places::load(alloc, bytes) {
+        Err(LoadError::NoMemory) => Places::load(alloc, bytes),
         loaded => loaded,
-    };
-    let places = loaded?;
-    assert_eq!(rt; places.len(), 3);
-    assert!(rt; has(&places, 0, "0.0.0.0/0", 2)?);
-    assert!(rt; has(&places, 1, "10.0.0.0/8", 0)?);
-    assert!(rt; has(&places, 2, "10.1.0.0/16", 1)?);
-    Ok(())
+    }
 }
 
-#[test]
-fn each_growth_may_be_refused(rt: HostRuntime) -> Result<(), Fail> {
+/// Whether lists are loaded as they are to be, and one with a prefix that is too long is refused for that; at once where
+/// it is the first one, before any memory is asked for.
+pub fn load(alloc: Global) -> Result<bool, AllocError> {
+    let (Ok(none), Ok(two)) = (loaded(alloc, &[]), loaded(alloc, &[8, 10, 16, 10, 1, 0])) else {
+        return Err(AllocError);
+    };
+    let third = two.row(2).copied() == Some((crate::block(0x0a01_0000, 16), 1));
+    let wrong = match loaded(alloc, &[8, 10, 33]) {
+        Err(LoadError::Prefix(at, _)) => at == 1,
+        Err(LoadError::NoMemory) => return Err(AllocError),
+        Ok(_) => false,
+    };
+    let at_once = match Places::load(alloc, &[33]) {
+        Err(LoadError::Prefix(at, _)) => at == 0,
+        _ => false,
+    };
+    Ok(none.is_empty() && two.len() == 3 && third && wrong && at_once)
+}
+
+/// Whether a list of 80 prefixes is loaded, for which the table grows more than once.
+pub fn load_many(alloc: Global) -> Result<bool, AllocError> {
     let mut bytes = [8_u8; 160];
     for i in 0..80_u8 {
         bytes[2 * i as usize + 1] = i;
     }
-    let loaded = match Places::load(rt.alloc(), &bytes) {
-        Err(LoadError::NoMemory) => Places::load(rt.alloc(), &bytes),
-        loaded => loaded,
-    };
-    assert_eq!(rt; loaded?.len(), 80);
-    Ok(())
+    match loaded(alloc, &bytes) {
+        Ok(places) => Ok(places.len() == 80),
+        Err(_) => Err(AllocError),
+    }
 }

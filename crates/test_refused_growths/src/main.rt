@@ -1,21 +1,51 @@
-//! Prints what four lists of prefix bytes are loaded as: the number of rows, or the error. Its tests are of tables, and
-//! pass whichever allocation is refused. `run.sh`, beside this folder, refuses each allocation of both in turn.
+//! Prints, a line each, what calls return that may be refused memory. One that is refused leaves all as it was and is
+//! made once more, so that the lines are the same whichever allocation is refused. `.ci/no_memory` refuses each of them in
+//! turn.
 #![tactic(auto)]
 
-#[cfg(test)]
-mod inserting;
-#[cfg(test)]
 mod loading;
+mod rules;
+mod sets;
+mod tables;
 
-use cidr::Ipv4Cidr;
-use cidr_table::LpmTable;
+use cidr::{Ipv4Addr, Ipv4Cidr};
+use std::alloc::AllocError;
 use std::io;
 
+/// The IPv4 network at a number, whose bits behind the prefix are zeros.
+fn block(first: u32, len: u8) -> Ipv4Cidr {
+    let address = Ipv4Addr::from_bits(first);
+    match Ipv4Cidr::new(address, len) {
+        Ok(network) => network,
+        Err(_) => Ipv4Cidr::new_host(address),
+    }
+}
+
+/// What is printed of calls of which each is to succeed in the end, and to return what is wanted.
+fn outcome(held: Result<bool, AllocError>) -> &'static str {
+    match held {
+        Ok(true) => "as wanted",
+        Ok(false) => "NOT AS WANTED",
+        Err(AllocError) => "REFUSED TWICE",
+    }
+}
+
 fn main(rt: HostRuntime) -> io::Result<()> {
-    let lists: [&[u8]; 4] = [&[], &[33], &[8, 10, 33], &[8, 10]];
-    for bytes in lists {
-        let loaded = LpmTable::<Ipv4Cidr, usize>::load(rt.alloc(), bytes);
-        println!(rt; "{bytes:?}: {:?}", loaded.map(|table| table.len()))?;
+    let rows = [
+        ("insert", tables::insert(rt.alloc())),
+        ("capacity and reserve", tables::reserve(rt.alloc())),
+        ("lookups", tables::lookups(rt.alloc())),
+        ("into_lookups", tables::into_lookups(rt.alloc())),
+        ("clone", tables::clone(rt.alloc())),
+        ("load", loading::load(rt.alloc())),
+        ("load of many prefixes", loading::load_many(rt.alloc())),
+        ("sets of two sets", sets::algebra(rt.alloc())),
+        ("insert and remove of a set", sets::changes(rt.alloc())),
+        ("from_range", sets::range(rt.alloc())),
+        ("access lists", rules::access_lists(rt.alloc())),
+    ];
+    for (call, held) in rows {
+        println!(rt; "{call}: {}", outcome(held))?;
     }
     Ok(())
 }
