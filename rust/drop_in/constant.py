@@ -6,6 +6,7 @@ No call of a trait is `const` in Rust, and the proved text is written once over 
 - the calls of the trait `AddressBits` stand once for each family as functions, in `const_bits`;
 - the block of a generic type, as `impl<A: AddressBits> Network<A>`, stands once for each family, with these functions, and once
   as a trait, for what is written over both;
+- a walk is made once for each family and for either, by how many addresses its pair has;
 - in the blocks of either family a `match` stands for `?`.
 
 Each body is that of the proved text but for these replacements.
@@ -23,7 +24,7 @@ EITHER = {
 }
 # Functions over numbers that the calls of `AddressBits` are written by, and those of these that the blocks use.
 NUMBERS = "first_number host_mask host_part last_number same_first_bits step_down step_up".split()
-BITS = "first_in last_in is_first_in shares step_up step_down mask_of".split()
+BITS = "first_in last_in is_first_in shares step_up step_down mask_of count_to".split()
 
 FROM = re.compile(r"\b(u16|u32|u64|u128|usize)::from\(((?:[^()]|\((?:[^()]|\([^()]*\))*\))*)\)")
 FUNCTION = r"^( *(?:pub(?:\([a-z]+\))? )?)fn (\w+)"
@@ -61,7 +62,7 @@ def arithmetic(texts):
     texts["arithmetic/halves.rs"] = re.sub(r"self\.(\w+)\.(carrying_add|borrowing_sub)\(", r"\2(self.\1, ", halves) + CARRIES
     texts["family.rs"] = with_const(texts["family.rs"])
     texts["errors.rs"] = texts["errors.rs"].replace("pub(crate) fn new(len: usize", "pub(crate) const fn new(len: usize")
-    texts["inet_iterator.rs"] = texts["inet_iterator.rs"].replace("pub fn addresses(self)", "pub const fn addresses(self)")
+    texts["num.rs"] = with_const(texts["num.rs"], but=("size_hint", "fmt"))
     texts["text/with_length.rs"] = texts["text/with_length.rs"].replace("pub(crate) fn new", "pub(crate) const fn new")
 
 
@@ -72,14 +73,14 @@ def bits_of_family(text, family):
     for name, head, body in re.findall(r"^    fn (\w+)(\([^\n]*) \{\n(.*?)^    \}\n", block, re.S | re.M):
         if name in BITS:
             head = re.sub(r"\bself\b", f"this: Ipv{family}Addr", head)
-            body = re.sub(r"\b(this|other)\.halves\(\)", r"halves(\1)", re.sub(r"\bself\b", "this", body))
+            body = re.sub(r"\b(this|other|last)\.halves\(\)", r"halves(\1)", re.sub(r"\bself\b", "this", body))
             body = body.replace("Ipv6Addr::from_halves(", "from_halves(")
             body = re.sub(rf"(?<![.\w])({'|'.join(NUMBERS)})\(", r"arithmetic::\1(", body)
-            made.append(f"    pub(crate) const fn {name}{head} {{\n{body}    }}\n")
+            made.append(f"    pub(crate) const fn {name}{head} {{\n{with_casts(body)}    }}\n")
     uses = "use crate::addr::v4::Ipv4Addr;" if family == "4" else "use crate::addr::v6::{Ipv6Addr, from_halves, halves};"
     return (
         f"pub(crate) mod v{family} {{\n    {uses}\n    use crate::arithmetic::halves::Halves;\n"
-        "    use crate::arithmetic;\n\n"
+        "    use crate::arithmetic;\n    use crate::num::NumberOfAddresses;\n\n"
         + "\n".join(made) + "}\n"
     )
 
@@ -135,7 +136,33 @@ def either_family(texts):
                        "match \\2 {\n                Ok(made) => Ok(\\1(made)),\n                Err(e) => Err(e),\n            }", block)
         block = re.sub(r"Some\((\w+::\w+)\((\w+\.\w+\(\))\?\)\)",
                        "match \\2 {\n                Some(made) => Some(\\1(made)),\n                None => None,\n            }", block)
-        texts[place] = texts[place].replace(whole, with_const(block, but=("to_text", "iter")))
+        texts[place] = texts[place].replace(whole, with_const(block, but=("to_text",)))
+
+
+def walks(texts):
+    """The calls that make a walk, and of these how many addresses a pair has."""
+    text = texts["traits/sealed_types.rs"]
+    counts = re.findall(r"^    fn _covered_addresses\(&self\) -> NumberOfAddresses \{\n.*?^    \}\n", text, re.S | re.M)
+    of_host_pair, of_either = (re.sub(r"\bfn _covered", "pub(crate) fn covered", count) for count in counts)
+    blocks = [f"impl HostPair<Ipv{family}Addr> {{\n{of_family(of_host_pair, family)}}}\n" for family in FAMILIES]
+    blocks.append(f"impl IpInetPair {{\n{with_const(of_either.replace('._covered', '.covered'))}}}\n")
+    texts["traits/sealed_types.rs"] = text + "\n" + "\n".join(blocks)
+
+    text = texts["inet_iterator.rs"].replace("pub fn addresses(self)", "pub const fn addresses(self)")
+    made = re.search(r"^    /// The walk of a pair\.\n    pub\(crate\) fn _new\(.*?^    \}\n\n", text, re.S | re.M)[0]
+    const = re.sub(r"(\w+)\._covered_addresses\(\) == ([\w:]+\(0\))", r"matches!(\1.covered_addresses(), \2)", with_const(made).rstrip() + "\n")
+    blocks = [const.replace("A::InetPair", f"crate::inet_pair::{place}::{of}InetPair").replace("<A>", f"<{of}Addr>")
+              for of, place in (("Ipv4", "host_pair"), ("Ipv6", "host_pair"), ("Ip", "combined"))]
+    types = ("v4::Ipv4Addr", "v6::Ipv6Addr", "ip::IpAddr")
+    uses = "".join(f"use crate::addr::{path};\n" for path in types)
+    blocks = "".join(f"impl InetIterator<{path.rpartition('::')[2]}> {{\n{block}}}\n\n" for path, block in zip(types, blocks))
+    text = re.sub(r"^(?=use )", uses, text.replace(made, ""), count=1, flags=re.M)
+    texts["inet_iterator.rs"] = text.replace("impl<A: Address> Copy for InetIterator<A>", blocks + "impl<A: Address> Copy for InetIterator<A>", 1)
+
+    for place in ("cidr/v4.rs", "cidr/v6.rs", "cidr/combined.rs", "inet_pair/v4.rs", "inet_pair/v6.rs", "inet_pair/combined.rs"):
+        address = {"v4": "Ipv4Addr", "v6": "Ipv6Addr", "combined": "IpAddr"}[Path(place).stem]
+        text = re.sub(r"\bpub fn iter\(", "pub const fn iter(", texts[place])
+        texts[place] = text.replace("InetIterator::_new(", f"InetIterator::<{address}>::_new(")
 
 
 def steps(texts):
@@ -166,5 +193,6 @@ def with_const_fns(texts):
     generic_types(texts)
     with_calls(texts)
     either_family(texts)
+    walks(texts)
     steps(texts)
     return {Path(place): text for place, text in texts.items()}

@@ -4,6 +4,7 @@ pub(crate) mod v4 {
     use crate::addr::v4::Ipv4Addr;
     use crate::arithmetic::halves::Halves;
     use crate::arithmetic;
+    use crate::num::NumberOfAddresses;
 
     #[inline]
     pub(crate) const fn first_in(this: Ipv4Addr, len: u8) -> Ipv4Addr {
@@ -41,12 +42,21 @@ pub(crate) mod v4 {
         let (stepped, wraps) = arithmetic::step_down(this.to_bits(), len, step);
         (Ipv4Addr::from_bits(stepped), wraps)
     }
+
+    #[inline]
+    pub(crate) const fn count_to(this: Ipv4Addr, last: Ipv4Addr) -> NumberOfAddresses {
+        NumberOfAddresses::between(
+            Halves::new(0, ((this.to_bits()) as u64)),
+            Halves::new(0, ((last.to_bits()) as u64)),
+        )
+    }
 }
 
 pub(crate) mod v6 {
     use crate::addr::v6::{Ipv6Addr, from_halves, halves};
     use crate::arithmetic::halves::Halves;
     use crate::arithmetic;
+    use crate::num::NumberOfAddresses;
 
     #[inline]
     pub(crate) const fn first_in(this: Ipv6Addr, len: u8) -> Ipv6Addr {
@@ -83,5 +93,10 @@ pub(crate) mod v6 {
     pub(crate) const fn step_down(this: Ipv6Addr, len: u8, step: u128) -> (Ipv6Addr, bool) {
         let (stepped, wraps) = halves(this).step_down(len, step);
         (from_halves(stepped), wraps)
+    }
+
+    #[inline]
+    pub(crate) const fn count_to(this: Ipv6Addr, last: Ipv6Addr) -> NumberOfAddresses {
+        NumberOfAddresses::between(halves(this), halves(last))
     }
 }

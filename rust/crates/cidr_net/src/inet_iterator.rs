@@ -1,5 +1,8 @@
 //! The walk over the addresses of a network or a pair, as hosts and as addresses.
 
+use crate::addr::v4::Ipv4Addr;
+use crate::addr::v6::Ipv6Addr;
+use crate::addr::ip::IpAddr;
 use crate::cidr::network::NetworkCalls as _;
 use crate::inet::host::HostCalls as _;
 use crate::inet_pair::host_pair::HostPairCalls as _;
@@ -29,14 +32,6 @@ pub struct InetIterator<A: Address> {
 }
 
 impl<A: Address> InetIterator<A> {
-    /// The walk of a pair.
-    #[inline]
-    pub(crate) fn _new(pair: A::InetPair) -> InetIterator<A> {
-        let is_empty = pair._covered_addresses() == NumberOfAddresses::Count(0);
-        let state = if is_empty { None } else { Some(pair) };
-        InetIterator { state }
-    }
-
     /// Both bounds on how many are left.
     #[inline]
     fn bounds(&self) -> (usize, Option<usize>) {
@@ -107,6 +102,36 @@ where
                 self.state = None;
             }
         }
+    }
+}
+
+impl InetIterator<Ipv4Addr> {
+    /// The walk of a pair.
+    #[inline]
+    pub(crate) const fn _new(pair: crate::inet_pair::host_pair::Ipv4InetPair) -> InetIterator<Ipv4Addr> {
+        let is_empty = matches!(pair.covered_addresses(), NumberOfAddresses::Count(0));
+        let state = if is_empty { None } else { Some(pair) };
+        InetIterator { state }
+    }
+}
+
+impl InetIterator<Ipv6Addr> {
+    /// The walk of a pair.
+    #[inline]
+    pub(crate) const fn _new(pair: crate::inet_pair::host_pair::Ipv6InetPair) -> InetIterator<Ipv6Addr> {
+        let is_empty = matches!(pair.covered_addresses(), NumberOfAddresses::Count(0));
+        let state = if is_empty { None } else { Some(pair) };
+        InetIterator { state }
+    }
+}
+
+impl InetIterator<IpAddr> {
+    /// The walk of a pair.
+    #[inline]
+    pub(crate) const fn _new(pair: crate::inet_pair::combined::IpInetPair) -> InetIterator<IpAddr> {
+        let is_empty = matches!(pair.covered_addresses(), NumberOfAddresses::Count(0));
+        let state = if is_empty { None } else { Some(pair) };
+        InetIterator { state }
     }
 }
 

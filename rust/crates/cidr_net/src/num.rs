@@ -15,7 +15,7 @@ pub enum NumberOfAddresses {
 impl NumberOfAddresses {
     /// How many there are from the first to the last, inclusive: none where the first is above the last.
     #[inline]
-    pub(crate) fn between(first: Halves, last: Halves) -> NumberOfAddresses {
+    pub(crate) const fn between(first: Halves, last: Halves) -> NumberOfAddresses {
         if last.is_below(first) {
             return NumberOfAddresses::Count(0);
         }

@@ -129,10 +129,10 @@ impl IpCidr {
     /// "10.0.0.0/30".parse::<IpCidr>()?.iter().next_back() // Some(V4(10.0.0.3/30))
     /// ```
     #[inline]
-    pub fn iter(&self) -> InetIterator<IpAddr> {
+    pub const fn iter(&self) -> InetIterator<IpAddr> {
         match self {
-            IpCidr::V4(network) => InetIterator::_new(IpInetPair::V4(network.ends())),
-            IpCidr::V6(network) => InetIterator::_new(IpInetPair::V6(network.ends())),
+            IpCidr::V4(network) => InetIterator::<IpAddr>::_new(IpInetPair::V4(network.ends())),
+            IpCidr::V6(network) => InetIterator::<IpAddr>::_new(IpInetPair::V6(network.ends())),
         }
     }
 

@@ -18,8 +18,8 @@ impl Ipv4Cidr {
     /// hosts.next_back() // Some(192.0.2.51/30)
     /// ```
     #[inline]
-    pub fn iter(&self) -> InetIterator<Ipv4Addr> {
-        InetIterator::_new(self.ends())
+    pub const fn iter(&self) -> InetIterator<Ipv4Addr> {
+        InetIterator::<Ipv4Addr>::_new(self.ends())
     }
 }
 

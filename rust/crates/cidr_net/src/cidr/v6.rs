@@ -17,8 +17,8 @@ impl Ipv6Cidr {
     /// hosts.next_back() // Some(2001:db8::3/126)
     /// ```
     #[inline]
-    pub fn iter(&self) -> InetIterator<Ipv6Addr> {
-        InetIterator::_new(self.ends())
+    pub const fn iter(&self) -> InetIterator<Ipv6Addr> {
+        InetIterator::<Ipv6Addr>::_new(self.ends())
     }
 }
 

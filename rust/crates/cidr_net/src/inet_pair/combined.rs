@@ -186,8 +186,8 @@ impl IpInetPair {
     /// IpInetPair::new(host, host.last())?.iter().count() // Some(15)
     /// ```
     #[inline]
-    pub fn iter(self) -> InetIterator<IpAddr> {
-        InetIterator::_new(self)
+    pub const fn iter(self) -> InetIterator<IpAddr> {
+        InetIterator::<IpAddr>::_new(self)
     }
 
     /// The printed string, both hosts in parentheses and without a full prefix length, in an `ArrayString`, so that

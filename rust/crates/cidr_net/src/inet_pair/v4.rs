@@ -19,8 +19,8 @@ impl Ipv4InetPair {
     /// pair.iter().count() // Some(15)
     /// ```
     #[inline]
-    pub fn iter(self) -> InetIterator<Ipv4Addr> {
-        InetIterator::_new(self)
+    pub const fn iter(self) -> InetIterator<Ipv4Addr> {
+        InetIterator::<Ipv4Addr>::_new(self)
     }
 }
 

@@ -18,8 +18,8 @@ impl Ipv6InetPair {
     /// pair.iter().count() // Some(6)
     /// ```
     #[inline]
-    pub fn iter(self) -> InetIterator<Ipv6Addr> {
-        InetIterator::_new(self)
+    pub const fn iter(self) -> InetIterator<Ipv6Addr> {
+        InetIterator::<Ipv6Addr>::_new(self)
     }
 }
 

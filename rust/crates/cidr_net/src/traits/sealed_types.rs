@@ -96,3 +96,29 @@ impl PrivInetPair for IpInetPair {
         }
     }
 }
+
+impl HostPair<Ipv4Addr> {
+    #[inline]
+    pub(crate) const fn covered_addresses(&self) -> NumberOfAddresses {
+        let (first, second) = self.addresses();
+        crate::const_bits::v4::count_to(first, second)
+    }
+}
+
+impl HostPair<Ipv6Addr> {
+    #[inline]
+    pub(crate) const fn covered_addresses(&self) -> NumberOfAddresses {
+        let (first, second) = self.addresses();
+        crate::const_bits::v6::count_to(first, second)
+    }
+}
+
+impl IpInetPair {
+    #[inline]
+    pub(crate) const fn covered_addresses(&self) -> NumberOfAddresses {
+        match self {
+            IpInetPair::V4(pair) => pair.covered_addresses(),
+            IpInetPair::V6(pair) => pair.covered_addresses(),
+        }
+    }
+}
