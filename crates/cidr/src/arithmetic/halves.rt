@@ -102,32 +102,18 @@ impl Halves {
         self.join() < other.join()
     }
 
-    /// Whether it is below the other, or the same with a length that is below the other's. The comparison of the lower
-    /// halves and the lengths borrows from that of the upper halves, so that none needs a branch.
-    fn comes_before(self, len: u8, other: Halves, other_len: u8) -> bool
-        ensures { IsTrue result ↔ (self * 256 + len < other * 256 + other_len) }
-    {
-        let rest = Halves::new(self.lower, u64::from(len));
-        let other_rest = Halves::new(other.lower, u64::from(other_len));
-        let borrow = u64::from(rest.is_below(other_rest));
-        Halves::new(self.upper, 0).is_below(Halves::new(other.upper, borrow))
-    }
-
-    /// The order of two numbers, and where they are the same, that of their lengths.
+    /// The order of two numbers, and where they are the same, that of their lengths. Both comparisons are made before one
+    /// of them is taken, so that a sort needs no branch.
     #[tactic(auto, using(crate::proofs::OrderLaws::key_laws))]
     pub(crate) fn order(self, len: u8, other: Halves, other_len: u8) -> Ordering
         ensures { result ≡ ordering_then (nat_cmp self other) (nat_cmp len other_len) }
     {
-        let rest = if other.comes_before(other_len, self, len) {
-            Ordering::Greater
-        } else {
-            Ordering::Equal
-        };
-        if self.comes_before(len, other, other_len) {
-            Ordering::Less
-        } else {
-            rest
-        }
+        let rest = Halves::new(self.lower, u64::from(len)).join();
+        let other_rest = Halves::new(other.lower, u64::from(other_len)).join();
+        let of_rest = rest.cmp(&other_rest);
+        let of_upper = self.upper.cmp(&other.upper);
+        let is_tie = self.upper == other.upper;
+        if is_tie { of_rest } else { of_upper }
     }
 
     /// The first `len` bits, and from there on those of the other.

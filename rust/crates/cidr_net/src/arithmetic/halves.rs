@@ -66,28 +66,16 @@ impl Halves {
         self.join() < other.join()
     }
 
-    /// Whether it is below the other, or the same with a length that is below the other's. The comparison of the lower
-    /// halves and the lengths borrows from that of the upper halves, so that none needs a branch.
+    /// The order of two numbers, and where they are the same, that of their lengths. Both comparisons are made before one
+    /// of them is taken, so that a sort needs no branch.
     #[inline]
-    const fn comes_before(self, len: u8, other: Halves, other_len: u8) -> bool {
-        let rest = Halves::new(self.lower, (len as u64));
-        let other_rest = Halves::new(other.lower, (other_len as u64));
-        let borrow = ((rest.is_below(other_rest)) as u64);
-        Halves::new(self.upper, 0).is_below(Halves::new(other.upper, borrow))
-    }
-
-    /// The order of two numbers, and where they are the same, that of their lengths.
     pub(crate) fn order(self, len: u8, other: Halves, other_len: u8) -> Ordering {
-        let rest = if other.comes_before(other_len, self, len) {
-            Ordering::Greater
-        } else {
-            Ordering::Equal
-        };
-        if self.comes_before(len, other, other_len) {
-            Ordering::Less
-        } else {
-            rest
-        }
+        let rest = Halves::new(self.lower, (len as u64)).join();
+        let other_rest = Halves::new(other.lower, (other_len as u64)).join();
+        let of_rest = rest.cmp(&other_rest);
+        let of_upper = self.upper.cmp(&other.upper);
+        let is_tie = self.upper == other.upper;
+        if is_tie { of_rest } else { of_upper }
     }
 
     /// The first `len` bits, and from there on those of the other.
