@@ -68,9 +68,12 @@ def without_proofs(text):
             out.append(text[start:i])
             continue
         out.append(gone(text[start:i]))
-    return "".join(out)
+    return LAW.sub(lambda law: gone(law.group()), "".join(out))
 
 
+# Laws that stand outside of `laws`, beside what they are of, with their comments.
+LAWS_BESIDE = ("equal_sets_permit_the_same", "shadowed_rules_are_decided_earlier")
+LAW = re.compile(rf"^(?:///[^\n]*\n)*(?:#\[tactic[^\n]*\n)?pub fn (?:{'|'.join(LAWS_BESIDE)})\(\)[\s\x01]*\{{\}}", re.M)
 USE = re.compile(r"^(?:pub(?:\(\w+\))? )?use ([^;]*);", re.M)
 
 
@@ -78,8 +81,9 @@ def without_laws(code):
     """A law is a function that does nothing: calls of those that are imported from `laws` are left out."""
     code = re.sub(r"^(?:pub )?mod laws;", GONE, code, flags=re.M)
     for path in USE.findall(code):
-        if path.startswith(("crate::laws::", "cidr::laws::")):
-            for name in re.findall(r"\w+", path.partition("laws::")[2].rpartition("::")[2]):
+        of_laws = path.startswith(("crate::laws::", "cidr::laws::"))
+        for name in re.findall(r"\w+", path.rpartition("::")[2]):
+            if of_laws or name in LAWS_BESIDE:
                 code = re.sub(rf"^ *{name}\(\);", GONE, code, flags=re.M)
     return code
 

@@ -130,10 +130,3 @@ pub fn shadowed_by<C: NetworkBits + Copy>(
     Ok(out)
 }
 
-/// Each address of a rule's network is decided by some rule, and where no address reaches the rule, only by earlier
-/// ones. This function does nothing: after a call, a caller's proof has the law.
-pub fn shadowed_rules_are_decided_earlier() {}
-
-/// Two access lists permit the same addresses exactly if their sets, as [`permitted`] returns them, are equal. This
-/// function does nothing: after a call, a caller's proof has the law.
-pub fn equal_sets_permit_the_same() {}
