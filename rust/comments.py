@@ -3,8 +3,11 @@
 In the sources a line `EXPR // VALUE` tells what `{}` or `{:?}` prints of an expression, and a program of the repository
 runs it. Here it becomes an assertion. An example that goes on with values of one before it is given them, if they are
 those of GIVEN, and else is shown and not run.
+
+A call without an example in the sources has that of the file `examples`, and a call of a trait that of a type, by the trait.
 """
 import re
+from pathlib import Path
 
 LINE = re.compile(r"\s*//[/!] ?")
 SHOWN = re.compile(r"(\s*)(\S.*?)\s+// (.*)$")
@@ -12,6 +15,7 @@ SHOWN = re.compile(r"(\s*)(\S.*?)\s+// (.*)$")
 # What stands before each example of a crate, hidden: its names, and what it is given.
 HEADS = {
     "cidr": ["use cidr::{canon::*, errors::*, parsers::*, *};"],
+    "cidr_net": ["use cidr::{errors::*, more::{canon::*, *}, parsers::*, *};", "use std::net::*;"],
     "cidr_ext": ["use cidr::*;", "use cidr_ext::*;"],
     "cidr_table": ["use cidr::{errors::*, *};", "use cidr_table::{alloc::*, *};"],
     "cidr_sets": ["use cidr::*;", "use cidr_table::Probe;", "use cidr_sets::{access::*, alloc::*, *};"],
@@ -30,14 +34,40 @@ GIVEN = {
         "blocks": 'let blocks: NetworkSet<Ipv4Cidr> = ["192.0.2.0/28".parse()?, "192.0.2.128/25".parse()?].into_iter().collect();',
         "free": 'let free = ["10.0.0.0/24".parse()?, "10.0.1.64/26".parse()?, "10.0.2.0/23".parse()?];\n'
                 "let free: NetworkSet<Ipv4Cidr> = free.into_iter().collect();",
+        "rules": 'let rules = [("10.0.0.0/9", Action::Deny), ("10.0.0.0/8", Action::Permit), ("10.64.0.0/10", Action::Permit)];\n'
+                 "let rules = rules.map(|(network, action)| Rule { action, network: network.parse::<Ipv4Cidr>().unwrap() });",
         "networks": 'let set: NetworkSet<Ipv4Cidr> = ["10.0.0.0/8".parse()?].into_iter().collect();\nlet mut networks = set.probe();',
     },
 }
-# The first lines of examples that go on with other values.
-OTHERS = (
-    "let mut rows = routes.into_iter();", "routes.for_each_mut(", "let ready = routes.into_lookups(", "routes.retain(",
-    "set.ranges()", "let network = ", "let before = routes.insert(",
-)
+# Examples that go on with other values, by how their first line begins: what they are given. Without a line they are shown.
+ROUTES_OF_ONE = 'let mut routes: Routes = [("10.0.0.0/8".parse()?, 1)].into_iter().collect();'
+READY_OF_ONE = f"{ROUTES_OF_ONE}\nlet ready = routes.into_lookups(Global).map_err(|_| AllocError)?;"
+OTHERS = {
+    "let mut rows = routes.into_iter();":
+        'let routes: Routes = [("0.0.0.0/0".parse()?, 1), ("10.0.0.0/8".parse()?, 2)].into_iter().collect();',
+    "routes.for_each_mut(": 'let mut routes: Routes = [("10.0.0.0/8".parse()?, 9)].into_iter().collect();',
+    "routes.retain(": ROUTES_OF_ONE,
+    "let ready = routes.into_lookups(": ROUTES_OF_ONE,
+    'ready.lookup(&"10.1.2.5"': READY_OF_ONE,
+    "ready.table()": READY_OF_ONE,
+    "let mut routes = ready.into_table()": READY_OF_ONE,
+    'ready.lookup(&"10.1.2.4"':
+        'let routes: Routes = [("10.0.0.0/8".parse()?, 1), ("10.1.0.0/16".parse()?, 3)].into_iter().collect();\n'
+        "let ready = routes.lookups(Global)?;",
+    "set.ranges()":
+        'let set = ["10.0.0.1".parse()?, "10.0.0.2/31".parse()?, "10.0.0.4/31".parse()?, "10.0.0.6".parse()?];\n'
+        "let set: NetworkSet<Ipv4Cidr> = set.into_iter().collect();",
+    "let network = ": "",
+    "let before = routes.insert(": "",
+}
+# For each trait whose calls are those of types, where each has an example: the file of a type, and its name.
+CALLS_OF = {
+    "cidr": {
+        "Cidr": ("cidr/combined.rs", "IpCidr"),
+        "Inet": ("inet/combined.rs", "IpInet"),
+        "InetPair": ("inet_pair/combined.rs", "IpInetPair"),
+    }
+}
 # What is said of proofs, and what of it holds in Rust.
 SAID = [
     ("has to prove", "has to ensure"),
@@ -48,6 +78,63 @@ SAID = [
     ("proof of the caller shows to stay", "caller knows to stay"),
 ]
 KEYWORDS = set("as break const continue else false fn for if in let loop match mut return self true type use while".split())
+
+
+# A call with its comment: the comment, what stands between, the name, and how it takes its value.
+COMMENTED = re.compile(r"^((?: *///[^\n]*\n)+)((?: *#\[[^\n]*\n)*)(?= *(?:pub )?fn (\w+)(?:<[^\n]*?>)?\(\s*(&mut self|&self)?)", re.M)
+
+
+def listed_examples():
+    """The lines of `examples`, by the file and the call."""
+    made, key = {}, None
+    for line in (Path(__file__).resolve().parent / "examples").read_text().split("\n"):
+        if line.startswith("    "):
+            made[key].append(line[4:])
+        elif line and not line.startswith("#"):
+            key = tuple(line.split())
+            made[key] = []
+    return made
+
+
+def by_trait(line, trait, type_name, call, takes):
+    """The line with the type's call as that of the trait."""
+    line = line.replace(f"{type_name}::{call}(", f"<{type_name} as {trait}>::{call}(")
+    value, found, arguments = line.partition(f".{call}(")
+    taken = {"&self": "&", "&mut self": "&mut "}.get(takes, "")
+    return f"{trait}::{call}({taken}{value}{'' if arguments.startswith(')') else ', '}{arguments}" if found else line
+
+
+def with_examples(texts, crate):
+    """The files of a library with an example of each call that has none in the sources."""
+    listed, calls_of = listed_examples(), CALLS_OF.get(crate, {})
+    examples = {
+        (type_name, call): [LINE.sub("", line, count=1) for line in found.split("\n")[:-1]]
+        for place, type_name in calls_of.values()
+        for comment, _, call, _ in COMMENTED.findall(texts[Path(place)])
+        for found in re.findall(r"```\n(.*?)^ *///? ```", comment, re.S | re.M)[:1]
+    }
+    made = {}
+    for place, text in texts.items():
+        out = []
+        for block in re.split(r"^(?=(?:pub )?(?:trait|impl)\b)", text, flags=re.M):
+            trait = block.partition("pub trait ")[2].partition(":")[0] if block.startswith("pub trait ") else ""
+
+            def with_one(found):
+                comment, between, call, takes = found.groups()
+                lines = listed.pop((f"{crate}/{place.with_suffix('')}", call), None)
+                if "```" not in comment and trait in calls_of:
+                    type_name = calls_of[trait][1]
+                    lines = [by_trait(line, trait, type_name, call, takes) for line in examples[type_name, call]]
+                if not lines:
+                    return found[0]
+                lead = re.match(r" *///", comment)[0]
+                return comment + "".join(f"{lead} {line}".rstrip() + "\n" for line in ["", "```", *lines, "```"]) + between
+
+            out.append(COMMENTED.sub(with_one, block))
+        made[place] = "".join(out)
+    if left := [key for key in listed if key[0].startswith(f"{crate}/")]:
+        raise ValueError(f"rust/examples: no call {left}")
+    return made
 
 
 def assertion(expression, value):
@@ -79,6 +166,7 @@ def as_rust(lines):
     made = []
     for line in lines:
         line = re.sub(r"println!\(&?rt; (.*)\)\?", r"println!(\1)", line).replace("rt.alloc()", "Global")
+        line = re.sub(r"\bvec!\[in Global; (.*)\]", r"Vec::from_array(Global, [\1])", line)
         shown = SHOWN.match(line)
         if shown and not shown[2].endswith((";", "{", ",")) and not shown[2].startswith((".", "}", ")")):
             line = shown[1] + assertion(shown[2], shown[3])
@@ -88,7 +176,7 @@ def as_rust(lines):
 
 def stands_alone(lines):
     """Whether the lines are a test. Not so the error of `insert`, which is a row, and what only programs of Rattle have."""
-    return not free_names(lines) and not re.search(r"\bFailure\b|vec!\[in|insert\(.*\)\?;", "\n".join(lines))
+    return not free_names(lines) and not re.search(r"\bFailure\b|\broutes\.insert\(.*\)\?;", "\n".join(lines))
 
 
 def as_said(text):
@@ -119,9 +207,10 @@ def with_tests(text, crate):
             if word:
                 parts[5 * number + 2] = f"```{word}\n"
                 continue
-            given = GIVEN.get(crate, {})
-            names = [] if code[0].startswith(OTHERS) else [name for name in given if name in free_names(as_rust(code))]
-            lines = "\n".join(given[name] for name in names).split("\n") * bool(names) + as_rust(code)
+            lines = as_rust(code)
+            given = [OTHERS[begun] for begun in OTHERS if code[0].startswith(begun)] or [
+                value for name, value in GIVEN.get(crate, {}).items() if name in free_names(lines)]
+            lines = [line for value in given if value for line in value.split("\n")] + lines
             runs = stands_alone(lines)
             if runs:
                 uses = ["use std::str::FromStr;"] if "from_str" in "".join(code) else []

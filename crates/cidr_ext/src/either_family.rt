@@ -9,10 +9,13 @@ use cidr::{Cidr, IpCidr};
 /// The calls of `NetworkExt` on `IpCidr`, in which each family has a tree of its own: 0.0.0.0/0 and ::/0 have no
 /// parent, and no network contains both.
 ///
-/// The result is of the family of the network. No call allocates, and each takes constant time. Each has an
-/// example at `NetworkExt`.
+/// The result is of the family of the network. No call allocates, and each takes constant time.
 pub trait IpCidrExt: Cidr {
     /// The network that is twice as large and contains this one, or `None` for 0.0.0.0/0 and ::/0.
+    ///
+    /// ```
+    /// "10.128.0.0/9".parse::<IpCidr>()?.parent() // Some(V4(10.0.0.0/8))
+    /// ```
     fn parent(&self) -> Option<Self>
         ensures { MatchOption result (Self.prefix self.now ≡ [])
             (λ parent. (Self.family_of parent ≡ Self.family_of self.now) ×
@@ -20,12 +23,20 @@ pub trait IpCidrExt: Cidr {
 
     /// The network of prefix length `len` that contains this one, or `None` where `len` is above the length of this
     /// one.
+    ///
+    /// ```
+    /// "2001:db8::/48".parse::<IpCidr>()?.supernet(32) // Some(V6(2001:db8::/32))
+    /// ```
     fn supernet(&self, len: u8) -> Option<Self>
         ensures { MatchOption result (length (Self.prefix self.now) < len)
             (λ wider. (Self.family_of wider ≡ Self.family_of self.now) ×
             IsSupernet len (Self.prefix self.now) (Self.prefix wider)) };
 
     /// Both halves of the network, the lower one first, or `None` for a network of full prefix length, 32 or 128.
+    ///
+    /// ```
+    /// "10.0.0.0/8".parse::<IpCidr>()?.halves() // Some((V4(10.0.0.0/9), V4(10.128.0.0/9)))
+    /// ```
     fn halves(&self) -> Option<(Self, Self)>
         ensures { MatchOption result (length (Self.prefix self.now) ≡ width_of (Self.family_of self.now))
             (λ halves. ((Self.family_of halves.0 ≡ Self.family_of self.now) ×
@@ -34,23 +45,44 @@ pub trait IpCidrExt: Cidr {
             (Self.prefix halves.1 ≡ Self.prefix self.now ++ true ∷ []))) };
 
     /// The other half of the parent, or `None` for 0.0.0.0/0 and ::/0.
+    ///
+    /// ```
+    /// "10.0.0.0/9".parse::<IpCidr>()?.sibling() // Some(V4(10.128.0.0/9))
+    /// ```
     fn sibling(&self) -> Option<Self>
         ensures { MatchOption result (Self.prefix self.now ≡ [])
             (λ other. (Self.family_of other ≡ Self.family_of self.now) ×
             AreSiblings (Self.prefix self.now) (Self.prefix other)) };
 
     /// Whether the two networks are the halves of one, in either order. No network is its own sibling.
+    ///
+    /// ```
+    /// let network = "10.0.0.0/9".parse::<IpCidr>()?;
+    /// network.is_sibling_of(&"10.128.0.0/9".parse()?) // true
+    /// ```
     fn is_sibling_of(&self, other: &Self) -> bool
         ensures { IsTrue result ↔ ((Self.family_of self.now ≡ Self.family_of other.now) ×
             AreSiblings (Self.prefix self.now) (Self.prefix other.now)) };
 
     /// Whether the two networks have an address in common, which is where one of them contains the other.
+    ///
+    /// ```
+    /// let network = "192.0.2.0/24".parse::<IpCidr>()?;
+    /// network.overlaps(&"192.0.0.0/16".parse()?) // true
+    /// network.overlaps(&"::/0".parse()?) // false
+    /// ```
     fn overlaps(&self, other: &Self) -> bool
         ensures { IsTrue result ↔ ((Self.family_of self.now ≡ Self.family_of other.now) ×
             (BeginsWith (Self.prefix self.now) (Self.prefix other.now) ⊎
             BeginsWith (Self.prefix other.now) (Self.prefix self.now))) };
 
     /// The longest network that contains both, or `None` for two families.
+    ///
+    /// ```
+    /// let network = "192.0.2.0/24".parse::<IpCidr>()?;
+    /// network.spanning(&"192.0.3.0/25".parse()?) // Some(V4(192.0.2.0/23))
+    /// network.spanning(&"2001:db8::/32".parse()?) // None
+    /// ```
     fn spanning(&self, other: &Self) -> Option<Self>
         ensures { MatchOption result (Self.family_of self.now ≢ Self.family_of other.now)
             (λ span. (Self.family_of span ≡ Self.family_of self.now) ×

@@ -1,6 +1,6 @@
 //! What the crates `cidr`, `cidr_ext`, `cidr_table` and `cidr_sets` take from outside `core`: strings and lists of a
 //! fixed room ([`arrayvec`]), and, with the feature `alloc`, a list whose calls return an error where memory runs out
-//! ([`vec`]).
+//! ([`mod@vec`]).
 //!
 //! The four crates are proved in Rattle over a library of the same names. This crate takes its place in Rust: it has
 //! only what they call, it is written by hand, and it is tested and not proved. No call of it is unsafe.

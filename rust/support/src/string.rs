@@ -13,11 +13,23 @@ pub struct String(string::String);
 
 impl String {
     /// The empty string.
+    ///
+    /// ```
+    /// # use cidr_support::{alloc::*, string::String, vec::Vec};
+    /// assert_eq!(String::new(Global).as_str(), "");
+    /// # Ok::<(), AllocError>(())
+    /// ```
     pub fn new(_: Global) -> String {
         String(string::String::new())
     }
 
     /// A copy of a string.
+    ///
+    /// ```
+    /// # use cidr_support::{alloc::*, string::String, vec::Vec};
+    /// assert_eq!(String::from_str(Global, "::1")?.as_str(), "::1");
+    /// # Ok::<(), AllocError>(())
+    /// ```
     pub fn from_str(alloc: Global, text: &str) -> Result<String, AllocError> {
         let mut copy = String::new(alloc);
         copy.push_str(text)?;
@@ -25,11 +37,27 @@ impl String {
     }
 
     /// The string of these bytes, if they are UTF-8.
+    ///
+    /// ```
+    /// # use cidr_support::{alloc::*, string::String, vec::Vec};
+    /// let bytes = Vec::from_slice(Global, b"::1")?;
+    /// assert_eq!(String::from_utf8(bytes).unwrap().as_str(), "::1");
+    /// assert!(String::from_utf8(Vec::from_array(Global, [255])?).is_err());
+    /// # Ok::<(), AllocError>(())
+    /// ```
     pub fn from_utf8(bytes: Vec<u8>) -> Result<String, string::FromUtf8Error> {
         string::String::from_utf8(bytes.into()).map(String)
     }
 
     /// Appends a string.
+    ///
+    /// ```
+    /// # use cidr_support::{alloc::*, string::String, vec::Vec};
+    /// let mut text = String::from_str(Global, "192.")?;
+    /// text.push_str("0")?;
+    /// assert_eq!(text.as_str(), "192.0");
+    /// # Ok::<(), AllocError>(())
+    /// ```
     pub fn push_str(&mut self, text: &str) -> Result<(), AllocError> {
         self.0.try_reserve(text.len()).map_err(|_| AllocError)?;
         self.0.push_str(text);
@@ -37,26 +65,64 @@ impl String {
     }
 
     /// Appends a character.
+    ///
+    /// ```
+    /// # use cidr_support::{alloc::*, string::String, vec::Vec};
+    /// let mut text = String::new(Global);
+    /// text.push('/')?;
+    /// assert_eq!(text.as_str(), "/");
+    /// # Ok::<(), AllocError>(())
+    /// ```
     pub fn push(&mut self, c: char) -> Result<(), AllocError> {
         self.push_str(c.encode_utf8(&mut [0; 4]))
     }
 
     /// What `write!` calls.
+    ///
+    /// ```
+    /// # use cidr_support::{alloc::*, string::String, vec::Vec};
+    /// let mut text = String::new(Global);
+    /// write!(text, "/{}", 8)?;
+    /// assert_eq!(text.as_str(), "/8");
+    /// # Ok::<(), AllocError>(())
+    /// ```
     pub fn write_fmt(&mut self, args: fmt::Arguments<'_>) -> Result<(), AllocError> {
         fmt::write(self, args).map_err(|_| AllocError)
     }
 
     /// The string.
+    ///
+    /// ```
+    /// # use cidr_support::{alloc::*, string::String, vec::Vec};
+    /// assert_eq!(String::from_str(Global, "::1")?.as_str(), "::1");
+    /// # Ok::<(), AllocError>(())
+    /// ```
     pub fn as_str(&self) -> &str {
         &self.0
     }
 
     /// Leaves nothing.
+    ///
+    /// ```
+    /// # use cidr_support::{alloc::*, string::String, vec::Vec};
+    /// let mut text = String::from_str(Global, "::1")?;
+    /// text.clear();
+    /// assert_eq!(text.as_str(), "");
+    /// # Ok::<(), AllocError>(())
+    /// ```
     pub fn clear(&mut self) {
         self.0.clear();
     }
 
     /// Leaves the first `len` bytes.
+    ///
+    /// ```
+    /// # use cidr_support::{alloc::*, string::String, vec::Vec};
+    /// let mut text = String::from_str(Global, "10/8")?;
+    /// text.truncate(2);
+    /// assert_eq!(text.as_str(), "10");
+    /// # Ok::<(), AllocError>(())
+    /// ```
     pub fn truncate(&mut self, len: usize) {
         self.0.truncate(len);
     }

@@ -10,6 +10,12 @@ use crate::internal_traits::address_bits::AddressText;
 /// its compact bytes. `Ipv4Cidr`, `Ipv6Cidr`, `IpCidr` and `AnyIpCidr` implement it.
 pub trait Canonical: Sized + Ord {
     /// Does nothing. Every value of the type is a network, and each of the four tells which one it is.
+    ///
+    /// ```
+    /// # use cidr::{canon::*, errors::*, parsers::*, *};
+    /// "10.0.0.0/8".parse::<Ipv4Cidr>()?.known();
+    /// # Ok::<(), Box<dyn std::error::Error>>(())
+    /// ```
     fn known(&self);
 }
 

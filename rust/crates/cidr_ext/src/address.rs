@@ -16,6 +16,13 @@ pub trait AddressExt: Sized + Address {
     fn to_number(self) -> u128;
 
     /// The family of the address.
+    ///
+    /// ```
+    /// # use cidr::*;
+    /// # use cidr_ext::*;
+    /// assert_eq!(format!("{:?}", Ipv4Addr::new(192, 0, 2, 1).family()), "Ipv4");
+    /// # Ok::<(), Box<dyn std::error::Error>>(())
+    /// ```
     fn family(self) -> Family;
 
     /// The prefix length of a network mask, or `None` where the address is none: where a set bit follows an unset one.

@@ -72,6 +72,14 @@ pub enum MaskParseError {
 
 impl MaskParseError {
     /// The message.
+    ///
+    /// ```
+    /// # use cidr::*;
+    /// # use cidr_ext::*;
+    /// let error = Ipv4Cidr::from_mask_text("192.0.2.0/255.0.255.0").unwrap_err();
+    /// assert_eq!(format!("{}", error.as_str()), "mask is not contiguous");
+    /// # Ok::<(), Box<dyn std::error::Error>>(())
+    /// ```
     #[inline]
     pub fn as_str(&self) -> &'static str {
         match self {

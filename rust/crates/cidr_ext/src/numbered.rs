@@ -24,6 +24,15 @@ pub trait CidrExt: Sized + Cidr {
 
     /// The networks of prefix length `len` inside this one, ascending, or `None` where `len` is below the length of
     /// this network or above the width, 32 or 128. The network of that length itself is its only one.
+    ///
+    /// ```
+    /// # use cidr::*;
+    /// # use cidr_ext::*;
+    /// let networks = "192.0.2.0/24".parse::<Ipv4Cidr>()?.subnets(26).unwrap();
+    /// assert_eq!(format!("{:?}", networks.size_hint()), "(4, Some(4))");
+    /// assert_eq!(format!("{:?}", networks.last()), "Some(192.0.2.192/26)");
+    /// # Ok::<(), Box<dyn std::error::Error>>(())
+    /// ```
     fn subnets(&self, len: u8) -> Option<Subnets<Self>>;
 
     /// How many addresses the network has, or `None` for ::/0, whose 2^128 are more than a `u128` has room for.

@@ -98,6 +98,15 @@ where
 {
     /// Skips `n` networks and takes the next one, in constant time, or returns `None` and leaves none where there are
     /// no more than `n`.
+    ///
+    /// ```
+    /// # use cidr::*;
+    /// # use cidr_ext::*;
+    /// let mut networks = "192.0.2.0/24".parse::<Ipv4Cidr>()?.subnets(26).unwrap();
+    /// assert_eq!(format!("{:?}", networks.nth(2)), "Some(192.0.2.128/26)");
+    /// assert_eq!(format!("{:?}", networks.nth(1)), "None");
+    /// # Ok::<(), Box<dyn std::error::Error>>(())
+    /// ```
     #[inline]
     pub fn nth(&mut self, n: u128) -> Option<C> {
         self.skip_front(n);

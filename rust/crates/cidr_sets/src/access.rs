@@ -31,8 +31,14 @@ pub struct Rule<C: NetworkBits + Copy> {
 /// It goes from the last rule to the first and adds the network of each to the set or removes it, which takes time
 /// that grows with the square of the number of rules. Where an allocation fails, it returns the error.
 ///
-/// ```text
+/// ```
+/// # use cidr::*;
+/// # use cidr_table::Probe;
+/// # use cidr_sets::{access::*, alloc::*, *};
+/// let rules = [("10.0.0.0/9", Action::Deny), ("10.0.0.0/8", Action::Permit), ("10.64.0.0/10", Action::Permit)];
+/// let rules = rules.map(|(network, action)| Rule { action, network: network.parse::<Ipv4Cidr>().unwrap() });
 /// assert_eq!(format!("{:?}", permitted(Global, &rules)?.as_slice()), "[10.128.0.0/9]");
+/// # Ok::<(), Box<dyn std::error::Error>>(())
 /// ```
 pub fn permitted<C: NetworkBits + Copy>(
     alloc: Global,
@@ -54,8 +60,14 @@ pub fn permitted<C: NetworkBits + Copy>(
 ///
 /// Where an allocation fails, it returns the error.
 ///
-/// ```text
+/// ```
+/// # use cidr::*;
+/// # use cidr_table::Probe;
+/// # use cidr_sets::{access::*, alloc::*, *};
+/// let rules = [("10.0.0.0/9", Action::Deny), ("10.0.0.0/8", Action::Permit), ("10.64.0.0/10", Action::Permit)];
+/// let rules = rules.map(|(network, action)| Rule { action, network: network.parse::<Ipv4Cidr>().unwrap() });
 /// assert_eq!(format!("{:?}", shadowed(Global, &rules)?), "[2]");
+/// # Ok::<(), Box<dyn std::error::Error>>(())
 /// ```
 pub fn shadowed<C: NetworkBits + Copy>(
     alloc: Global,
@@ -78,9 +90,15 @@ pub fn shadowed<C: NetworkBits + Copy>(
 /// Of the network of a rule that [`shadowed`] returns, they are the earlier rules that together contain all of its
 /// addresses. Where an allocation fails, it returns the error.
 ///
-/// ```text
+/// ```
+/// # use cidr::*;
+/// # use cidr_table::Probe;
+/// # use cidr_sets::{access::*, alloc::*, *};
+/// let rules = [("10.0.0.0/9", Action::Deny), ("10.0.0.0/8", Action::Permit), ("10.64.0.0/10", Action::Permit)];
+/// let rules = rules.map(|(network, action)| Rule { action, network: network.parse::<Ipv4Cidr>().unwrap() });
 /// assert_eq!(format!("{:?}", deciding(Global, &rules, &rules[2].network)?), "[0]");
 /// assert_eq!(format!("{:?}", deciding(Global, &rules, &rules[1].network)?), "[0, 1]");
+/// # Ok::<(), Box<dyn std::error::Error>>(())
 /// ```
 pub fn deciding<C: NetworkBits + Copy>(
     alloc: Global,
@@ -113,8 +131,14 @@ pub struct Shadow {
 /// It calls [`shadowed`], and [`deciding`] for the network of each rule that it returns, which takes time that grows
 /// with the square of the number of rules for each of them. Where an allocation fails, it returns the error.
 ///
-/// ```text
+/// ```
+/// # use cidr::*;
+/// # use cidr_table::Probe;
+/// # use cidr_sets::{access::*, alloc::*, *};
+/// let rules = [("10.0.0.0/9", Action::Deny), ("10.0.0.0/8", Action::Permit), ("10.64.0.0/10", Action::Permit)];
+/// let rules = rules.map(|(network, action)| Rule { action, network: network.parse::<Ipv4Cidr>().unwrap() });
 /// assert_eq!(format!("{:?}", shadowed_by(Global, &rules)?), "[Shadow { rule: 2, by: [0] }]");
+/// # Ok::<(), Box<dyn std::error::Error>>(())
 /// ```
 #[inline]
 pub fn shadowed_by<C: NetworkBits + Copy>(

@@ -14,12 +14,36 @@ pub trait Addressed: Sized + NetworkBits {
     type Address: Copy;
 
     /// The network that has only this address.
+    ///
+    /// ```
+    /// # use cidr::*;
+    /// # use cidr_table::Probe;
+    /// # use cidr_sets::{access::*, alloc::*, *};
+    /// assert_eq!(format!("{}", Ipv4Cidr::single(Ipv4Addr::new(192, 0, 2, 1))), "192.0.2.1");
+    /// # Ok::<(), Box<dyn std::error::Error>>(())
+    /// ```
     fn single(address: Self::Address) -> Self;
 
     /// The lowest address of the network; of `Any` that is 0.0.0.0.
+    ///
+    /// ```
+    /// # use cidr::*;
+    /// # use cidr_table::Probe;
+    /// # use cidr_sets::{access::*, alloc::*, *};
+    /// assert_eq!(format!("{}", "192.0.2.0/24".parse::<Ipv4Cidr>()?.lowest()), "192.0.2.0");
+    /// # Ok::<(), Box<dyn std::error::Error>>(())
+    /// ```
     fn lowest(&self) -> Self::Address;
 
     /// The highest address of the network; of `Any` that is ffff:ffff:ffff:ffff:ffff:ffff:ffff:ffff.
+    ///
+    /// ```
+    /// # use cidr::*;
+    /// # use cidr_table::Probe;
+    /// # use cidr_sets::{access::*, alloc::*, *};
+    /// assert_eq!(format!("{}", "192.0.2.0/24".parse::<Ipv4Cidr>()?.highest()), "192.0.2.255");
+    /// # Ok::<(), Box<dyn std::error::Error>>(())
+    /// ```
     fn highest(&self) -> Self::Address;
 }
 
@@ -131,8 +155,14 @@ impl<C: Addressed + Copy> NetworkSet<C> {
     /// It allocates nothing, and looks at each network once. Of `AnyIpCidr`, a range can go from 255.255.255.255 on to
     /// ::, which comes next.
     ///
-    /// ```text
+    /// ```
+    /// # use cidr::*;
+    /// # use cidr_table::Probe;
+    /// # use cidr_sets::{access::*, alloc::*, *};
+    /// let set = ["10.0.0.1".parse()?, "10.0.0.2/31".parse()?, "10.0.0.4/31".parse()?, "10.0.0.6".parse()?];
+    /// let set: NetworkSet<Ipv4Cidr> = set.into_iter().collect();
     /// assert_eq!(format!("{:?}", set.ranges().next()), "Some(AddressRange { first: 10.0.0.1, last: 10.0.0.6 })");
+    /// # Ok::<(), Box<dyn std::error::Error>>(())
     /// ```
     #[inline]
     pub fn ranges(&self) -> Ranges<'_, C> {

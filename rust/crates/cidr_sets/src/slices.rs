@@ -14,6 +14,18 @@ use core::cmp::Ordering;
 ///
 /// The caller has to ensure that `out` has room for as many networks as both sets have together. The contract leaves
 /// open what is in `out` after the networks. It goes through both sets once.
+///
+/// ```
+/// # use cidr::*;
+/// # use cidr_table::Probe;
+/// # use cidr_sets::{access::*, alloc::*, *};
+/// let these = ["10.0.0.0/9".parse::<Ipv4Cidr>()?];
+/// let those = ["10.128.0.0/9".parse()?, "192.0.2.0/24".parse()?];
+/// let mut out = [Ipv4Cidr::null(); 3];
+/// let count = slices::union(&these, &those, &mut out);
+/// assert_eq!(format!("{:?}", &out[..count]), "[10.0.0.0/8, 192.0.2.0/24]");
+/// # Ok::<(), Box<dyn std::error::Error>>(())
+/// ```
 #[inline]
 pub fn union<C: NetworkBits + Copy>(these: &[C], those: &[C], out: &mut [C]) -> usize {
     assert!(crate::checks::are_reduced(these) && crate::checks::are_reduced(those) && these.len() + those.len() <= out.len());
@@ -27,6 +39,18 @@ pub fn union<C: NetworkBits + Copy>(these: &[C], those: &[C], out: &mut [C]) -> 
 /// The caller has to ensure that `out` has room for one network less than both sets have together. The contract leaves
 /// open what is in `out` after the networks. It goes through both sets once, with as many steps at most as they have
 /// networks.
+///
+/// ```
+/// # use cidr::*;
+/// # use cidr_table::Probe;
+/// # use cidr_sets::{access::*, alloc::*, *};
+/// let these = ["10.0.0.0/8".parse::<Ipv4Cidr>()?];
+/// let those = ["10.1.0.0/16".parse()?, "192.0.2.0/24".parse()?];
+/// let mut out = [Ipv4Cidr::null(); 2];
+/// let count = slices::intersection(&these, &those, &mut out);
+/// assert_eq!(format!("{:?}", &out[..count]), "[10.1.0.0/16]");
+/// # Ok::<(), Box<dyn std::error::Error>>(())
+/// ```
 pub fn intersection<C: NetworkBits + Copy>(these: &[C], those: &[C], out: &mut [C]) -> usize {
     assert!(crate::checks::are_reduced(these) && crate::checks::are_reduced(those) && these.len() + those.len() <= out.len() + 1);
     let mut left = these;

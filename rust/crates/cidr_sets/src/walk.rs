@@ -9,12 +9,36 @@ pub trait AddressSpace: Sized + NetworkBits {
     type Address: Copy;
 
     /// The numbers of the first and the last address of a network.
+    ///
+    /// ```
+    /// # use cidr::*;
+    /// # use cidr_table::Probe;
+    /// # use cidr_sets::{access::*, alloc::*, *};
+    /// assert_eq!(format!("{:?}", "192.0.2.0/24".parse::<Ipv4Cidr>()?.ends()), "(3221225984, 3221226239)");
+    /// # Ok::<(), Box<dyn std::error::Error>>(())
+    /// ```
     fn ends(&self) -> (u128, u128);
 
     /// The number of an address, whose most significant bits are those of the first octet.
+    ///
+    /// ```
+    /// # use cidr::*;
+    /// # use cidr_table::Probe;
+    /// # use cidr_sets::{access::*, alloc::*, *};
+    /// assert_eq!(Ipv4Cidr::to_number(Ipv4Addr::new(192, 0, 2, 1)), 3221225985);
+    /// # Ok::<(), Box<dyn std::error::Error>>(())
+    /// ```
     fn to_number(address: Self::Address) -> u128;
 
     /// The address with this number. The caller has to ensure that it is below 2^32 or 2^128.
+    ///
+    /// ```
+    /// # use cidr::*;
+    /// # use cidr_table::Probe;
+    /// # use cidr_sets::{access::*, alloc::*, *};
+    /// assert_eq!(format!("{}", Ipv4Cidr::from_number(3221225985)), "192.0.2.1");
+    /// # Ok::<(), Box<dyn std::error::Error>>(())
+    /// ```
     fn from_number(value: u128) -> Self::Address;
 }
 

@@ -12,6 +12,11 @@ pub struct ArrayString<const CAP: usize> {
 
 impl<const CAP: usize> ArrayString<CAP> {
     /// The empty string.
+    ///
+    /// ```
+    /// # use cidr_support::arrayvec::*;
+    /// assert_eq!(ArrayString::<8>::new().as_str(), "");
+    /// ```
     #[inline]
     pub fn new() -> Self {
         ArrayString {
@@ -21,6 +26,14 @@ impl<const CAP: usize> ArrayString<CAP> {
     }
 
     /// Appends a string. Panics where there is no room.
+    ///
+    /// ```
+    /// # use cidr_support::arrayvec::*;
+    /// let mut text = ArrayString::<8>::new();
+    /// text.push_str("192.");
+    /// text.push_str("0");
+    /// assert_eq!(text.as_str(), "192.0");
+    /// ```
     #[inline]
     pub fn push_str(&mut self, text: &str) {
         let end = self.len + text.len();
@@ -29,12 +42,27 @@ impl<const CAP: usize> ArrayString<CAP> {
     }
 
     /// Appends a character. Panics where there is no room.
+    ///
+    /// ```
+    /// # use cidr_support::arrayvec::*;
+    /// let mut text = ArrayString::<8>::new();
+    /// text.push('/');
+    /// assert_eq!(text.as_str(), "/");
+    /// ```
     #[inline]
     pub fn push(&mut self, c: char) {
         self.push_str(c.encode_utf8(&mut [0; 4]));
     }
 
     /// Leaves the first `len` bytes. A shorter string stays as it is. Panics within a character.
+    ///
+    /// ```
+    /// # use cidr_support::arrayvec::*;
+    /// let mut text = ArrayString::<8>::new();
+    /// text.push_str("10/8");
+    /// text.truncate(2);
+    /// assert_eq!(text.as_str(), "10");
+    /// ```
     #[inline]
     pub fn truncate(&mut self, len: usize) {
         if len < self.len {
@@ -44,6 +72,13 @@ impl<const CAP: usize> ArrayString<CAP> {
     }
 
     /// The string.
+    ///
+    /// ```
+    /// # use cidr_support::arrayvec::*;
+    /// let mut text = ArrayString::<8>::new();
+    /// text.push_str("::1");
+    /// assert_eq!(text.as_str(), "::1");
+    /// ```
     #[inline]
     pub fn as_str(&self) -> &str {
         match core::str::from_utf8(&self.bytes[..self.len]) {
@@ -53,18 +88,37 @@ impl<const CAP: usize> ArrayString<CAP> {
     }
 
     /// The bytes of the string.
+    ///
+    /// ```
+    /// # use cidr_support::arrayvec::*;
+    /// let mut text = ArrayString::<8>::new();
+    /// text.push_str("::1");
+    /// assert_eq!(text.as_bytes(), b"::1");
+    /// ```
     #[inline]
     pub fn as_bytes(&self) -> &[u8] {
         &self.bytes[..self.len]
     }
 
     /// The number of bytes.
+    ///
+    /// ```
+    /// # use cidr_support::arrayvec::*;
+    /// let mut text = ArrayString::<8>::new();
+    /// text.push_str("::1");
+    /// assert_eq!(text.len(), 3);
+    /// ```
     #[inline]
     pub fn len(&self) -> usize {
         self.len
     }
 
     /// Whether there are no bytes.
+    ///
+    /// ```
+    /// # use cidr_support::arrayvec::*;
+    /// assert!(ArrayString::<8>::new().is_empty());
+    /// ```
     #[inline]
     pub fn is_empty(&self) -> bool {
         self.len == 0
@@ -126,6 +180,11 @@ pub struct ArrayVec<T, const CAP: usize> {
 
 impl<T: Copy + Default, const CAP: usize> ArrayVec<T, CAP> {
     /// The empty list.
+    ///
+    /// ```
+    /// # use cidr_support::arrayvec::*;
+    /// assert_eq!(ArrayVec::<u8, 3>::new().as_slice(), []);
+    /// ```
     #[inline]
     pub fn new() -> Self {
         ArrayVec {
@@ -137,6 +196,13 @@ impl<T: Copy + Default, const CAP: usize> ArrayVec<T, CAP> {
 
 impl<T, const CAP: usize> ArrayVec<T, CAP> {
     /// Appends an item. Panics where there is no room.
+    ///
+    /// ```
+    /// # use cidr_support::arrayvec::*;
+    /// let mut list = ArrayVec::<u8, 3>::new();
+    /// list.push(8);
+    /// assert_eq!(list.as_slice(), [8]);
+    /// ```
     #[inline]
     pub fn push(&mut self, item: T) {
         self.items[self.len] = item;
@@ -144,12 +210,24 @@ impl<T, const CAP: usize> ArrayVec<T, CAP> {
     }
 
     /// Leaves the first `len` items. A shorter list stays as it is.
+    ///
+    /// ```
+    /// # use cidr_support::arrayvec::*;
+    /// let mut list = ArrayVec::from([8, 10, 0]);
+    /// list.truncate(2);
+    /// assert_eq!(list.as_slice(), [8, 10]);
+    /// ```
     #[inline]
     pub fn truncate(&mut self, len: usize) {
         self.len = self.len.min(len);
     }
 
     /// The items.
+    ///
+    /// ```
+    /// # use cidr_support::arrayvec::*;
+    /// assert_eq!(ArrayVec::from([8, 10, 0]).as_slice(), [8, 10, 0]);
+    /// ```
     #[inline]
     pub fn as_slice(&self) -> &[T] {
         &self.items[..self.len]

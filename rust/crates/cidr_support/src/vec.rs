@@ -13,11 +13,24 @@ pub struct Vec<T>(vec::Vec<T>);
 
 impl<T> Vec<T> {
     /// The empty list. It allocates nothing.
+    ///
+    /// ```
+    /// # use cidr_support::{alloc::*, vec::Vec};
+    /// assert!(Vec::<u8>::new(Global).is_empty());
+    /// # Ok::<(), AllocError>(())
+    /// ```
     pub fn new(_: Global) -> Vec<T> {
         Vec(vec::Vec::new())
     }
 
     /// The empty list with room for `capacity` items.
+    ///
+    /// ```
+    /// # use cidr_support::{alloc::*, vec::Vec};
+    /// assert!(Vec::<u8>::with_capacity(Global, 3)?.capacity() >= 3);
+    /// assert!(Vec::<u8>::with_capacity(Global, usize::MAX).is_err());
+    /// # Ok::<(), AllocError>(())
+    /// ```
     pub fn with_capacity(alloc: Global, capacity: usize) -> Result<Vec<T>, AllocError> {
         let mut list = Vec::new(alloc);
         list.0.try_reserve_exact(capacity).map_err(|_| AllocError)?;
@@ -25,6 +38,12 @@ impl<T> Vec<T> {
     }
 
     /// A copy of some items.
+    ///
+    /// ```
+    /// # use cidr_support::{alloc::*, vec::Vec};
+    /// assert_eq!(Vec::from_slice(Global, &[3, 1, 2])?.as_slice(), [3, 1, 2]);
+    /// # Ok::<(), AllocError>(())
+    /// ```
     pub fn from_slice(alloc: Global, items: &[T]) -> Result<Vec<T>, AllocError>
     where
         T: Copy,
@@ -35,6 +54,12 @@ impl<T> Vec<T> {
     }
 
     /// Items by value.
+    ///
+    /// ```
+    /// # use cidr_support::{alloc::*, vec::Vec};
+    /// assert_eq!(Vec::from_array(Global, [3, 1, 2])?.as_slice(), [3, 1, 2]);
+    /// # Ok::<(), AllocError>(())
+    /// ```
     pub fn from_array<const N: usize>(alloc: Global, items: [T; N]) -> Result<Vec<T>, AllocError> {
         let mut list = Vec::with_capacity(alloc, N)?;
         list.0.extend(items);
@@ -42,6 +67,12 @@ impl<T> Vec<T> {
     }
 
     /// `len` copies of an item.
+    ///
+    /// ```
+    /// # use cidr_support::{alloc::*, vec::Vec};
+    /// assert_eq!(Vec::from_elem(Global, 7, 3)?.as_slice(), [7, 7, 7]);
+    /// # Ok::<(), AllocError>(())
+    /// ```
     pub fn from_elem(alloc: Global, item: T, len: usize) -> Result<Vec<T>, AllocError>
     where
         T: Clone,
@@ -52,21 +83,50 @@ impl<T> Vec<T> {
     }
 
     /// Where its memory comes from.
+    ///
+    /// ```
+    /// # use cidr_support::{alloc::*, vec::Vec};
+    /// let list = Vec::from_array(Global, [3, 1, 2])?;
+    /// let other = Vec::<u8>::new(*list.allocator());
+    /// # Ok::<(), AllocError>(())
+    /// ```
     pub fn allocator(&self) -> &Global {
         &Global
     }
 
     /// How many items there is room for.
+    ///
+    /// ```
+    /// # use cidr_support::{alloc::*, vec::Vec};
+    /// assert!(Vec::from_array(Global, [3, 1, 2])?.capacity() >= 3);
+    /// # Ok::<(), AllocError>(())
+    /// ```
     pub fn capacity(&self) -> usize {
         self.0.capacity()
     }
 
     /// Makes room for `additional` more items.
+    ///
+    /// ```
+    /// # use cidr_support::{alloc::*, vec::Vec};
+    /// let mut list = Vec::from_array(Global, [3, 1, 2])?;
+    /// list.reserve(5)?;
+    /// assert!(list.capacity() >= 8 && list.reserve(usize::MAX).is_err());
+    /// # Ok::<(), AllocError>(())
+    /// ```
     pub fn reserve(&mut self, additional: usize) -> Result<(), AllocError> {
         self.0.try_reserve(additional).map_err(|_| AllocError)
     }
 
     /// Appends an item, or gives it back where there is no memory.
+    ///
+    /// ```
+    /// # use cidr_support::{alloc::*, vec::Vec};
+    /// let mut list = Vec::from_array(Global, [3, 1, 2])?;
+    /// list.push(0)?;
+    /// assert_eq!(list.as_slice(), [3, 1, 2, 0]);
+    /// # Ok::<(), AllocError>(())
+    /// ```
     #[inline]
     pub fn push(&mut self, item: T) -> Result<(), AllocFailed<T>> {
         if self.0.len() == self.0.capacity() && self.0.try_reserve(1).is_err() {
@@ -77,12 +137,28 @@ impl<T> Vec<T> {
     }
 
     /// Appends an item, for which there is room.
+    ///
+    /// ```
+    /// # use cidr_support::{alloc::*, vec::Vec};
+    /// let mut list = Vec::with_capacity(Global, 1)?;
+    /// list.push_reserved(7);
+    /// assert_eq!(list.as_slice(), [7]);
+    /// # Ok::<(), AllocError>(())
+    /// ```
     #[inline]
     pub fn push_reserved(&mut self, item: T) {
         self.0.push(item);
     }
 
     /// Appends a copy of some items.
+    ///
+    /// ```
+    /// # use cidr_support::{alloc::*, vec::Vec};
+    /// let mut list = Vec::from_array(Global, [3, 1, 2])?;
+    /// list.extend_from_slice(&[5, 4])?;
+    /// assert_eq!(list.as_slice(), [3, 1, 2, 5, 4]);
+    /// # Ok::<(), AllocError>(())
+    /// ```
     pub fn extend_from_slice(&mut self, items: &[T]) -> Result<(), AllocError>
     where
         T: Copy,
@@ -93,6 +169,14 @@ impl<T> Vec<T> {
     }
 
     /// Inserts an item before that at `index`, or gives it back where there is no memory.
+    ///
+    /// ```
+    /// # use cidr_support::{alloc::*, vec::Vec};
+    /// let mut list = Vec::from_array(Global, [3, 1, 2])?;
+    /// list.insert(1, 9)?;
+    /// assert_eq!(list.as_slice(), [3, 9, 1, 2]);
+    /// # Ok::<(), AllocError>(())
+    /// ```
     pub fn insert(&mut self, index: usize, item: T) -> Result<(), AllocFailed<T>> {
         if self.0.len() == self.0.capacity() && self.0.try_reserve(1).is_err() {
             return Err(AllocFailed { value: item });
@@ -102,21 +186,52 @@ impl<T> Vec<T> {
     }
 
     /// Removes the item at `index`.
+    ///
+    /// ```
+    /// # use cidr_support::{alloc::*, vec::Vec};
+    /// let mut list = Vec::from_array(Global, [3, 1, 2])?;
+    /// assert_eq!(list.remove(1), 1);
+    /// assert_eq!(list.as_slice(), [3, 2]);
+    /// # Ok::<(), AllocError>(())
+    /// ```
     pub fn remove(&mut self, index: usize) -> T {
         self.0.remove(index)
     }
 
     /// Leaves the first `len` items. A shorter list stays as it is.
+    ///
+    /// ```
+    /// # use cidr_support::{alloc::*, vec::Vec};
+    /// let mut list = Vec::from_array(Global, [3, 1, 2])?;
+    /// list.truncate(2);
+    /// assert_eq!(list.as_slice(), [3, 1]);
+    /// # Ok::<(), AllocError>(())
+    /// ```
     pub fn truncate(&mut self, len: usize) {
         self.0.truncate(len);
     }
 
     /// Removes the last item.
+    ///
+    /// ```
+    /// # use cidr_support::{alloc::*, vec::Vec};
+    /// let mut list = Vec::from_array(Global, [3, 1, 2])?;
+    /// assert_eq!(list.pop(), Some(2));
+    /// # Ok::<(), AllocError>(())
+    /// ```
     pub fn pop(&mut self) -> Option<T> {
         self.0.pop()
     }
 
     /// Sorts the items, and leaves equal ones in their order.
+    ///
+    /// ```
+    /// # use cidr_support::{alloc::*, vec::Vec};
+    /// let mut list = Vec::from_array(Global, [3, 1, 2])?;
+    /// list.sort()?;
+    /// assert_eq!(list.as_slice(), [1, 2, 3]);
+    /// # Ok::<(), AllocError>(())
+    /// ```
     pub fn sort(&mut self) -> Result<(), AllocError>
     where
         T: Ord,
@@ -126,16 +241,40 @@ impl<T> Vec<T> {
     }
 
     /// Removes all items.
+    ///
+    /// ```
+    /// # use cidr_support::{alloc::*, vec::Vec};
+    /// let mut list = Vec::from_array(Global, [3, 1, 2])?;
+    /// list.clear();
+    /// assert!(list.is_empty());
+    /// # Ok::<(), AllocError>(())
+    /// ```
     pub fn clear(&mut self) {
         self.0.clear();
     }
 
     /// Leaves the items for which `keep` returns true.
+    ///
+    /// ```
+    /// # use cidr_support::{alloc::*, vec::Vec};
+    /// let mut list = Vec::from_array(Global, [3, 1, 2])?;
+    /// list.retain(|item| *item != 1);
+    /// assert_eq!(list.as_slice(), [3, 2]);
+    /// # Ok::<(), AllocError>(())
+    /// ```
     pub fn retain(&mut self, keep: impl FnMut(&T) -> bool) {
         self.0.retain(keep);
     }
 
     /// Leaves one of equal items that follow each other.
+    ///
+    /// ```
+    /// # use cidr_support::{alloc::*, vec::Vec};
+    /// let mut list = Vec::from_array(Global, [1, 1, 2, 1])?;
+    /// list.dedup();
+    /// assert_eq!(list.as_slice(), [1, 2, 1]);
+    /// # Ok::<(), AllocError>(())
+    /// ```
     pub fn dedup(&mut self)
     where
         T: PartialEq,
@@ -144,16 +283,38 @@ impl<T> Vec<T> {
     }
 
     /// Leaves the first of items that follow each other and are the same by `same`.
+    ///
+    /// ```
+    /// # use cidr_support::{alloc::*, vec::Vec};
+    /// let mut list = Vec::from_array(Global, [10, 11, 20])?;
+    /// list.dedup_by(|item, before| *item / 10 == *before / 10);
+    /// assert_eq!(list.as_slice(), [10, 20]);
+    /// # Ok::<(), AllocError>(())
+    /// ```
     pub fn dedup_by(&mut self, same: impl FnMut(&mut T, &mut T) -> bool) {
         self.0.dedup_by(same);
     }
 
     /// The items.
+    ///
+    /// ```
+    /// # use cidr_support::{alloc::*, vec::Vec};
+    /// assert_eq!(Vec::from_array(Global, [3, 1, 2])?.as_slice(), [3, 1, 2]);
+    /// # Ok::<(), AllocError>(())
+    /// ```
     pub fn as_slice(&self) -> &[T] {
         &self.0
     }
 
     /// The items, for writing.
+    ///
+    /// ```
+    /// # use cidr_support::{alloc::*, vec::Vec};
+    /// let mut list = Vec::from_array(Global, [3, 1, 2])?;
+    /// list.as_mut_slice()[0] = 4;
+    /// assert_eq!(list.as_slice(), [4, 1, 2]);
+    /// # Ok::<(), AllocError>(())
+    /// ```
     pub fn as_mut_slice(&mut self) -> &mut [T] {
         &mut self.0
     }

@@ -162,10 +162,14 @@ impl<C: NetworkBits + Copy> NetworkSet<C> {
 
     /// Adds the addresses of a network. Where an allocation fails, the set stays as it was.
     ///
-    /// ```text
+    /// ```
+    /// # use cidr::*;
+    /// # use cidr_table::Probe;
+    /// # use cidr_sets::{access::*, alloc::*, *};
     /// let mut pool = NetworkSet::new(Global);
     /// pool.insert("10.0.0.0/8".parse::<Ipv4Cidr>()?)?;
     /// assert_eq!(format!("{:?}", pool.as_slice()), "[10.0.0.0/8]");
+    /// # Ok::<(), Box<dyn std::error::Error>>(())
     /// ```
     #[inline]
     pub fn insert(&mut self, network: C) -> Result<(), AllocError> {

@@ -7,6 +7,15 @@ use cidr_support::alloc::{AllocError, Global};
 
 impl<C: NetworkBits + Copy, V: Clone> LpmTable<C, V> {
     /// The same keys with a clone of each value. Fails where an allocation or the clone of a value does.
+    ///
+    /// ```
+    /// # use cidr::{errors::*, *};
+    /// # use cidr_table::{alloc::*, *};
+    /// # type Routes = LpmTable<Ipv4Cidr, u32>;
+    /// let routes: Routes = [("10.0.0.0/8".parse()?, 1)].into_iter().collect();
+    /// assert_eq!(format!("{:?}", routes.try_clone()?.get(&"10.0.0.0/8".parse()?)), "Some(1)");
+    /// # Ok::<(), Box<dyn std::error::Error>>(())
+    /// ```
     #[inline]
     pub fn try_clone(&self) -> Result<LpmTable<C, V>, AllocError> {
         let rows = clone_rows(self.rows.allocator().clone(), self.ascending())?;

@@ -40,6 +40,16 @@ impl<C: NetworkBits + Copy, V> LpmTable<C, V> {
 ///
 /// The caller has to ensure that the networks ascend with no repeats, as after `sort_unstable` and `dedup`. The contract
 /// leaves open what is in the slice after the list. It takes one pass over the networks and allocates nothing.
+///
+/// ```
+/// # use cidr::{errors::*, *};
+/// # use cidr_table::{alloc::*, *};
+/// # type Routes = LpmTable<Ipv4Cidr, u32>;
+/// let mut networks = ["10.0.0.0/9".parse::<Ipv4Cidr>()?, "10.128.0.0/9".parse()?, "192.0.2.0/24".parse()?];
+/// let count = least_cover_in_place(&mut networks);
+/// assert_eq!(format!("{:?}", &networks[..count]), "[10.0.0.0/8, 192.0.2.0/24]");
+/// # Ok::<(), Box<dyn std::error::Error>>(())
+/// ```
 pub fn least_cover_in_place<C: NetworkBits + Copy>(networks: &mut [C]) -> usize {
     assert!(networks.windows(2).all(|pair| pair[0] < pair[1]));
     let mut n = 0;

@@ -14,12 +14,16 @@ impl<C: NetworkBits + Copy, V> LpmTable<C, V> {
     /// that its capacity is that of the `Vec`. O(n log n) comparisons of keys, and O(n log² n) moves of rows; n - 1
     /// comparisons for keys in ascending order.
     ///
-    /// ```text
+    /// ```
+    /// # use cidr::{errors::*, *};
+    /// # use cidr_table::{alloc::*, *};
+    /// # type Routes = LpmTable<Ipv4Cidr, u32>;
     /// let (one, other) = ("10.1.0.0/16".parse()?, "10.0.0.0/8".parse()?);
-    /// let rows = vec![in Global; (one, 1), (other, 2), (one, 3)].map_err(|_| AllocError)?;
+    /// let rows = Vec::from_array(Global, [(one, 1), (other, 2), (one, 3)]).map_err(|_| AllocError)?;
     /// let routes = Routes::from_rows(rows);
     /// assert_eq!(routes.len(), 2);
     /// assert_eq!(format!("{:?}", routes.iter().last()), "Some((10.1.0.0/16, 3))");
+    /// # Ok::<(), Box<dyn std::error::Error>>(())
     /// ```
     #[inline]
     pub fn from_rows(mut rows: Vec<(C, V)>) -> Self {

@@ -150,10 +150,15 @@ impl<C: NetworkBits + Copy, V> IntoIterator for LpmTable<C, V> {
 
     /// The rows by value, in the order of their keys, from both ends. It allocates nothing.
     ///
-    /// ```text
+    /// ```
+    /// # use cidr::{errors::*, *};
+    /// # use cidr_table::{alloc::*, *};
+    /// # type Routes = LpmTable<Ipv4Cidr, u32>;
+    /// let routes: Routes = [("0.0.0.0/0".parse()?, 1), ("10.0.0.0/8".parse()?, 2)].into_iter().collect();
     /// let mut rows = routes.into_iter();
     /// assert_eq!(format!("{:?}", rows.next_back()), "Some((10.0.0.0/8, 2))");
     /// assert_eq!(rows.len(), 1);
+    /// # Ok::<(), Box<dyn std::error::Error>>(())
     /// ```
     #[inline]
     fn into_iter(self) -> IntoIter<C, V> {

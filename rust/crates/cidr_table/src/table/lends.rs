@@ -76,9 +76,14 @@ impl<C: NetworkBits + Copy, V> LpmTable<C, V> {
     /// Calls `write` once with each key and its value, in the order of the keys: it may write the value. It allocates
     /// nothing.
     ///
-    /// ```text
+    /// ```
+    /// # use cidr::{errors::*, *};
+    /// # use cidr_table::{alloc::*, *};
+    /// # type Routes = LpmTable<Ipv4Cidr, u32>;
+    /// let mut routes: Routes = [("10.0.0.0/8".parse()?, 9)].into_iter().collect();
     /// routes.for_each_mut(|_, hits| *hits = (*hits).min(7));
     /// assert_eq!(format!("{:?}", routes.get(&"10.0.0.0/8".parse()?)), "Some(7)");
+    /// # Ok::<(), Box<dyn std::error::Error>>(())
     /// ```
     #[inline]
     pub fn for_each_mut<F: FnMut(&C, &mut V)>(&mut self, write: F) {

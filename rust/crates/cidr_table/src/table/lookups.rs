@@ -72,9 +72,14 @@ impl<C: NetworkBits + Copy, V> LpmTable<C, V> {
     /// The table, made ready for many look-ups: the same as `lookups`, for a struct that holds the result. Where an
     /// allocation fails, the error is the table as it was.
     ///
-    /// ```text
+    /// ```
+    /// # use cidr::{errors::*, *};
+    /// # use cidr_table::{alloc::*, *};
+    /// # type Routes = LpmTable<Ipv4Cidr, u32>;
+    /// let mut routes: Routes = [("10.0.0.0/8".parse()?, 1)].into_iter().collect();
     /// let ready = routes.into_lookups(Global).map_err(|_| AllocError)?;
     /// assert_eq!(format!("{:?}", ready.lookup(&"10.1.2.5".parse()?)), "Some((10.0.0.0/8, 1))");
+    /// # Ok::<(), Box<dyn std::error::Error>>(())
     /// ```
     pub fn into_lookups(self, alloc: Global) -> Result<ReadyTable<C, V>, LpmTable<C, V>> {
         let Ok(above) = links_of(alloc, self.ascending()) else {
@@ -95,8 +100,14 @@ impl<C: NetworkBits + Copy, V> ReadyTable<C, V> {
     /// The row of the longest key that contains the look-up key, or `None` where none does, by one search and a few
     /// links.
     ///
-    /// ```text
+    /// ```
+    /// # use cidr::{errors::*, *};
+    /// # use cidr_table::{alloc::*, *};
+    /// # type Routes = LpmTable<Ipv4Cidr, u32>;
+    /// let mut routes: Routes = [("10.0.0.0/8".parse()?, 1)].into_iter().collect();
+    /// let ready = routes.into_lookups(Global).map_err(|_| AllocError)?;
     /// assert_eq!(format!("{:?}", ready.lookup(&"10.1.2.5".parse()?)), "Some((10.0.0.0/8, 1))");
+    /// # Ok::<(), Box<dyn std::error::Error>>(())
     /// ```
     #[inline]
     pub fn lookup(&self, asked: &C) -> Option<&(C, V)> {
@@ -105,8 +116,14 @@ impl<C: NetworkBits + Copy, V> ReadyTable<C, V> {
 
     /// The table, for all calls that only read.
     ///
-    /// ```text
+    /// ```
+    /// # use cidr::{errors::*, *};
+    /// # use cidr_table::{alloc::*, *};
+    /// # type Routes = LpmTable<Ipv4Cidr, u32>;
+    /// let mut routes: Routes = [("10.0.0.0/8".parse()?, 1)].into_iter().collect();
+    /// let ready = routes.into_lookups(Global).map_err(|_| AllocError)?;
     /// assert_eq!(ready.table().len(), 1);
+    /// # Ok::<(), Box<dyn std::error::Error>>(())
     /// ```
     #[inline]
     pub fn table(&self) -> &LpmTable<C, V> {
@@ -115,9 +132,15 @@ impl<C: NetworkBits + Copy, V> ReadyTable<C, V> {
 
     /// The table, for changing its rows. The memory beside the rows is freed.
     ///
-    /// ```text
+    /// ```
+    /// # use cidr::{errors::*, *};
+    /// # use cidr_table::{alloc::*, *};
+    /// # type Routes = LpmTable<Ipv4Cidr, u32>;
+    /// let mut routes: Routes = [("10.0.0.0/8".parse()?, 1)].into_iter().collect();
+    /// let ready = routes.into_lookups(Global).map_err(|_| AllocError)?;
     /// let mut routes = ready.into_table();
     /// assert_eq!(format!("{:?}", routes.set("10.0.0.0/8".parse()?, 2)?), "Some(1)");
+    /// # Ok::<(), Box<dyn std::error::Error>>(())
     /// ```
     #[inline]
     pub fn into_table(self) -> LpmTable<C, V> {
@@ -129,8 +152,14 @@ impl<'a, C: NetworkBits + Copy, V> Lookups<'a, C, V> {
     /// The row of the longest key that contains the look-up key, or `None` where none does, by one search and a few
     /// links.
     ///
-    /// ```text
+    /// ```
+    /// # use cidr::{errors::*, *};
+    /// # use cidr_table::{alloc::*, *};
+    /// # type Routes = LpmTable<Ipv4Cidr, u32>;
+    /// let routes: Routes = [("10.0.0.0/8".parse()?, 1), ("10.1.0.0/16".parse()?, 3)].into_iter().collect();
+    /// let ready = routes.lookups(Global)?;
     /// assert_eq!(format!("{:?}", ready.lookup(&"10.1.2.4".parse()?)), "Some((10.1.0.0/16, 3))");
+    /// # Ok::<(), Box<dyn std::error::Error>>(())
     /// ```
     #[inline]
     pub fn lookup(&self, asked: &C) -> Option<&'a (C, V)> {

@@ -95,9 +95,14 @@ impl<C: NetworkBits + Copy, V> LpmTable<C, V> {
 
     /// Removes the rows for which `keep` returns `false`. It is called once with each row, in the order of the keys.
     ///
-    /// ```text
+    /// ```
+    /// # use cidr::{errors::*, *};
+    /// # use cidr_table::{alloc::*, *};
+    /// # type Routes = LpmTable<Ipv4Cidr, u32>;
+    /// let mut routes: Routes = [("10.0.0.0/8".parse()?, 1)].into_iter().collect();
     /// routes.retain(|row| row.1 != 1);
     /// assert_eq!(routes.len(), 0);
+    /// # Ok::<(), Box<dyn std::error::Error>>(())
     /// ```
     #[inline]
     pub fn retain<F: FnMut(&(C, V)) -> bool>(&mut self, keep: F) {
