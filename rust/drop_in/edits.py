@@ -23,8 +23,9 @@ EDITS = [
     ("std's error", "parsers/short.rs", "AddrParseError::ipv4()", "crate::addr::error::ipv4()"),
 
     # Errors are those of `core::net` and `core::num`, with their messages, kinds and sources.
-    ("std's error", "errors.rs", "re:#\\[derive[^\n]*\npub struct ParseIntError \\{\\}.*?impl Error for ParseIntError \\{\\}",
-     "pub use core::num::ParseIntError;"),
+    ("std's error", "lib.rs parsers/loose.rs", "// Err(invalid IPv4 address syntax)", "// Err(AddrParseError(Ipv4))"),
+    ("std's error", "errors.rs", "re:(?:///[^\n]*\n)+#\\[derive[^\n]*\npub struct ParseIntError \\{\\}.*?impl Error for ParseIntError \\{\\}",
+     "#[doc(no_inline)]\npub use core::num::ParseIntError;"),
     ("std's message", "errors.rs", "re:const INVALID_LENGTH_TEXT[^\n]*\n\n", ""),
     ("std's message", "errors.rs", "re:impl NetworkParseError \\{.*?\n\\}\n\n", ""),
     ("std's message", "errors.rs", "re:(impl fmt::Display for NetworkParseError \\{\n[^\n]*\n)[^\n]*\n", r'''\1        match self {
@@ -88,6 +89,9 @@ fn length_error(text: &[u8]) -> ParseIntError {
      r're:\.field\("first", &self\.first\)\n *\.field\("second", &self\.second\)\n *\.field\("len", &self\.len\)',
      '.field("first", &self.first())\n            .field("second", &self.second())'),
     ("`count` of `Iterator`", "inet_iterator.rs", "pub fn count(self)", "pub fn checked_count(self)"),
+    ("`count` of `Iterator`", "inet_iterator.rs", "use `count`", "use `checked_count`"),
+    ("`count` of `Iterator`", "inet_iterator.rs inet_pair/v4.rs inet_pair/v6.rs inet_pair/combined.rs lib.rs traits.rs",
+     r"re:\.count\(\)(?= // )", ".checked_count()"),
     ("`count` of `Iterator`", "inet_iterator.rs", "self.inner.count()", "self.inner.checked_count()"),
     ("`count` of `Iterator`", "inet_iterator.rs", "re:(    fn size_hint\\(&self\\)[^\n]*\n[^\n]*\n    \\}\n)", r'''\1
     /// Panics if there are 2^64 or more.

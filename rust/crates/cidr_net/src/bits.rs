@@ -13,24 +13,33 @@ mod network;
 pub trait BitString: Sized {
     /// The number of bits: the prefix length, and in `AnyIpCidr` one more, so that there are 129 at most.
     ///
-    /// ```text
-    /// "192.168.0.0/16".parse::<Ipv4Cidr>()?.len() // 16
-    /// "192.168.0.0/16".parse::<AnyIpCidr>()?.len() // 17
+    /// ```
+    /// # use cidr::{errors::*, more::{canon::*, *}, parsers::*, *};
+    /// # use std::net::*;
+    /// assert_eq!("192.168.0.0/16".parse::<Ipv4Cidr>()?.len(), 16);
+    /// assert_eq!("192.168.0.0/16".parse::<AnyIpCidr>()?.len(), 17);
+    /// # Ok::<(), Box<dyn std::error::Error>>(())
     /// ```
     fn len(&self) -> usize;
 
     /// The number that the first 64 bits are, the most significant first, where bits that are missing count as unset.
     /// Of two values the one with the lower number comes first in the order of their bits.
     ///
-    /// ```text
-    /// "192.168.0.0/16".parse::<Ipv4Cidr>()?.first_bits() >> 48 // 49320
+    /// ```
+    /// # use cidr::{errors::*, more::{canon::*, *}, parsers::*, *};
+    /// # use std::net::*;
+    /// assert_eq!("192.168.0.0/16".parse::<Ipv4Cidr>()?.first_bits() >> 48, 49320);
+    /// # Ok::<(), Box<dyn std::error::Error>>(())
     /// ```
     fn first_bits(&self) -> u64;
 
     /// How many more bits can be appended, whichever they are: as many as the prefix length is below 32 or 128.
     ///
-    /// ```text
-    /// "192.168.0.0/16".parse::<Ipv4Cidr>()?.room() // 16
+    /// ```
+    /// # use cidr::{errors::*, more::{canon::*, *}, parsers::*, *};
+    /// # use std::net::*;
+    /// assert_eq!("192.168.0.0/16".parse::<Ipv4Cidr>()?.room(), 16);
+    /// # Ok::<(), Box<dyn std::error::Error>>(())
     /// ```
     ///
     /// `Any` has room for 33, the family bit and the 32 bits of IPv4; after the family bit of IPv6 there is room for
@@ -39,9 +48,12 @@ pub trait BitString: Sized {
 
     /// Bit `i`, counted from 0. The caller has to ensure that `i` is below the length.
     ///
-    /// ```text
+    /// ```
+    /// # use cidr::{errors::*, more::{canon::*, *}, parsers::*, *};
+    /// # use std::net::*;
     /// let network = Ipv4Cidr::new(Ipv4Addr::new(192, 168, 0, 0), 16)?;
-    /// network.get(2) // false
+    /// assert!(!network.get(2));
+    /// # Ok::<(), Box<dyn std::error::Error>>(())
     /// ```
     fn get(&self, i: usize) -> bool;
 
@@ -49,57 +61,75 @@ pub trait BitString: Sized {
     ///
     /// The other bits stay, but for the family bit of `AnyIpCidr`: setting that leaves no more than the family.
     ///
-    /// ```text
+    /// ```
+    /// # use cidr::{errors::*, more::{canon::*, *}, parsers::*, *};
+    /// # use std::net::*;
     /// let mut network = Ipv4Cidr::new(Ipv4Addr::new(192, 168, 0, 0), 16)?;
     /// network.set(2, true);
-    /// network // 224.168.0.0/16
+    /// assert_eq!(format!("{}", network), "224.168.0.0/16");
+    /// # Ok::<(), Box<dyn std::error::Error>>(())
     /// ```
     fn set(&mut self, i: usize, b: bool);
 
     /// Inverts bit `i`. The caller has to ensure that `i` is below the length. What becomes of the others is as for
     /// `set`.
     ///
-    /// ```text
+    /// ```
+    /// # use cidr::{errors::*, more::{canon::*, *}, parsers::*, *};
+    /// # use std::net::*;
     /// let mut network = Ipv4Cidr::new(Ipv4Addr::new(192, 168, 0, 0), 16)?;
     /// network.flip(15);
-    /// network // 192.169.0.0/16
+    /// assert_eq!(format!("{}", network), "192.169.0.0/16");
+    /// # Ok::<(), Box<dyn std::error::Error>>(())
     /// ```
     fn flip(&mut self, i: usize);
 
     /// Leaves the first `k` bits. A shorter string stays as it is.
     ///
-    /// ```text
+    /// ```
+    /// # use cidr::{errors::*, more::{canon::*, *}, parsers::*, *};
+    /// # use std::net::*;
     /// let mut network = "192.168.0.0/16".parse::<Ipv4Cidr>()?;
     /// network.clip(2);
-    /// network // 192.0.0.0/2
+    /// assert_eq!(format!("{}", network), "192.0.0.0/2");
+    /// # Ok::<(), Box<dyn std::error::Error>>(())
     /// ```
     fn clip(&mut self, k: usize);
 
     /// Appends a bit: a network becomes its lower half (`false`) or its upper half (`true`). The caller has to ensure
     /// that there is room: that the prefix length is not full, 32 or 128. It uses up one bit of the room.
     ///
-    /// ```text
+    /// ```
+    /// # use cidr::{errors::*, more::{canon::*, *}, parsers::*, *};
+    /// # use std::net::*;
     /// let mut network = "10.1.0.0/16".parse::<Ipv4Cidr>()?;
     /// network.clip(8);
     /// if network.len() < 9 {
     ///     network.append(true);
     /// }
-    /// network // 10.128.0.0/9
+    /// assert_eq!(format!("{}", network), "10.128.0.0/9");
+    /// # Ok::<(), Box<dyn std::error::Error>>(())
     /// ```
     fn append(&mut self, b: bool);
 
     /// The value of no bits: 0.0.0.0/0, ::/0 or `Any`.
     ///
-    /// ```text
-    /// Ipv6Cidr::null() // ::/0
+    /// ```
+    /// # use cidr::{errors::*, more::{canon::*, *}, parsers::*, *};
+    /// # use std::net::*;
+    /// assert_eq!(format!("{}", Ipv6Cidr::null()), "::/0");
+    /// # Ok::<(), Box<dyn std::error::Error>>(())
     /// ```
     fn null() -> Self;
 
     /// The length of the longest string that both begin with.
     ///
-    /// ```text
+    /// ```
+    /// # use cidr::{errors::*, more::{canon::*, *}, parsers::*, *};
+    /// # use std::net::*;
     /// let network = "192.0.2.0/24".parse::<Ipv4Cidr>()?;
-    /// network.shared_prefix_len(&"192.0.3.0/25".parse()?) // 23
+    /// assert_eq!(network.shared_prefix_len(&"192.0.3.0/25".parse()?), 23);
+    /// # Ok::<(), Box<dyn std::error::Error>>(())
     /// ```
     fn shared_prefix_len(&self, other: &Self) -> usize;
 }

@@ -13,6 +13,13 @@ use crate::internal_traits::address_bits::AddressText;
 /// its compact bytes. `Ipv4Cidr`, `Ipv6Cidr`, `IpCidr` and `AnyIpCidr` implement it.
 pub trait Canonical: Sized + Ord {
     /// Does nothing. Every value of the type is a network, and each of the four tells which one it is.
+    ///
+    /// ```
+    /// # use cidr::{errors::*, more::{canon::*, *}, parsers::*, *};
+    /// # use std::net::*;
+    /// "10.0.0.0/8".parse::<Ipv4Cidr>()?.known();
+    /// # Ok::<(), Box<dyn std::error::Error>>(())
+    /// ```
     fn known(&self);
 }
 
@@ -21,10 +28,13 @@ pub trait Canonical: Sized + Ord {
 /// True says that their values, address sets, printed strings and compact bytes are the same and that `cmp` returns
 /// `Equal`; false says that none of the five holds.
 ///
-/// ```text
+/// ```
+/// # use cidr::{errors::*, more::{canon::*, *}, parsers::*, *};
+/// # use std::net::*;
 /// let network = "10.0.0.0/8".parse::<Ipv4Cidr>()?;
-/// agree(&network, &"10.0.0.0/08".parse()?) // true
-/// agree(&network, &"10.0.0.0/9".parse()?) // false
+/// assert!(agree(&network, &"10.0.0.0/08".parse()?));
+/// assert!(!agree(&network, &"10.0.0.0/9".parse()?));
+/// # Ok::<(), Box<dyn std::error::Error>>(())
 /// ```
 #[inline]
 pub fn agree<N: Canonical>(a: &N, b: &N) -> bool {

@@ -10,22 +10,19 @@ use cidr_support::arrayvec::ArrayString;
 use core::error::Error;
 use core::fmt;
 
-/// What follows the last slash is no prefix length: an optional `+` and decimal digits of a value up to 255.
-///
-/// Its message is `invalid length text`, also under `{:?}`.
-///
-/// ```text
-/// "::/64x".parse::<Ipv6Cidr>() // Err(couldn't parse length in network: invalid length text)
-/// ```
+#[doc(no_inline)]
 pub use core::num::ParseIntError;
 
 /// The prefix length is above the width of the family, 32 or 128.
 ///
 /// Its message names both, also under `{:?}`: `Network length 33 is too long for Ipv4 (maximum: 32)`.
 ///
-/// ```text
+/// ```
+/// # use cidr::{errors::*, more::{canon::*, *}, parsers::*, *};
+/// # use std::net::*;
 /// let made = Ipv4Inet::new(Ipv4Addr::new(10, 4, 3, 2), 33);
-/// made // Err(Network length 33 is too long for Ipv4 (maximum: 32))
+/// assert_eq!(format!("{:?}", made), "Err(Network length 33 is too long for Ipv4 (maximum: 32))");
+/// # Ok::<(), Box<dyn std::error::Error>>(())
 /// ```
 #[derive(Clone, PartialEq, Eq, Hash)]
 pub struct NetworkLengthTooLongError {
@@ -85,9 +82,12 @@ impl Error for NetworkLengthTooLongError {
 /// Parsing returns the first of these errors: the address, the string of the prefix length, a prefix length above the
 /// width, a set bit after the prefix. Parsing a host never returns the last.
 ///
-/// ```text
-/// "10.0.0.1/8".parse::<Ipv4Cidr>() // Err(host part of address was not zero)
-/// "10.0.0.1".parse::<Ipv4Cidr>() // Ok(10.0.0.1/32)
+/// ```
+/// # use cidr::{errors::*, more::{canon::*, *}, parsers::*, *};
+/// # use std::net::*;
+/// assert_eq!(format!("{:?}", "10.0.0.1/8".parse::<Ipv4Cidr>()), "Err(host part of address was not zero)");
+/// assert_eq!(format!("{:?}", "10.0.0.1".parse::<Ipv4Cidr>()), "Ok(10.0.0.1/32)");
+/// # Ok::<(), Box<dyn std::error::Error>>(())
 /// ```
 #[derive(Clone, PartialEq)]
 pub enum NetworkParseError {
@@ -158,9 +158,12 @@ impl From<NetworkLengthTooLongError> for NetworkParseError {
 
 /// Why two hosts, or two addresses and a prefix length, are no pair.
 ///
-/// ```text
+/// ```
+/// # use cidr::{errors::*, more::{canon::*, *}, parsers::*, *};
+/// # use std::net::*;
 /// let (one, other) = ("10.0.0.1/8".parse()?, "11.0.0.1/8".parse()?);
-/// Ipv4InetPair::new(one, other) // Err(addresses not in shared network)
+/// assert_eq!(format!("{:?}", Ipv4InetPair::new(one, other)), "Err(addresses not in shared network)");
+/// # Ok::<(), Box<dyn std::error::Error>>(())
 /// ```
 #[derive(Clone, PartialEq)]
 pub enum InetTupleError {
@@ -234,9 +237,12 @@ pub enum CompactError {
 impl CompactError {
     /// The message, as it is printed, in an `ArrayString`, so that nothing is allocated. It has at most 33 bytes.
     ///
-    /// ```text
+    /// ```
+    /// # use cidr::{errors::*, more::{canon::*, *}, parsers::*, *};
+    /// # use std::net::*;
     /// let parsed = Ipv4Cidr::from_compact(&[64]);
-    /// parsed.map_err(|e| e.to_text()) // Err("compact bytes end too early")
+    /// assert_eq!(format!("{:?}", parsed.map_err(|e| e.to_text())), "Err(\"compact bytes end too early\")");
+    /// # Ok::<(), Box<dyn std::error::Error>>(())
     /// ```
     pub fn to_text(&self) -> ArrayString<33> {
         let mut text = ArrayString::new();
@@ -283,9 +289,12 @@ pub enum PrefixBytesError {
 impl PrefixBytesError {
     /// The message, as it is printed, in an `ArrayString`, so that nothing is allocated. It has at most 26 bytes.
     ///
-    /// ```text
+    /// ```
+    /// # use cidr::{errors::*, more::{canon::*, *}, parsers::*, *};
+    /// # use std::net::*;
     /// let parsed = Ipv4Cidr::from_prefix_bytes(&[33]);
-    /// parsed.map_err(|e| e.to_text()) // Err("prefix length is too long")
+    /// assert_eq!(format!("{:?}", parsed.map_err(|e| e.to_text())), "Err(\"prefix length is too long\")");
+    /// # Ok::<(), Box<dyn std::error::Error>>(())
     /// ```
     #[inline]
     pub fn to_text(&self) -> ArrayString<26> {

@@ -17,9 +17,12 @@ pub enum Family {
 impl Family {
     /// The number of bits of an address of the family, which is its greatest prefix length: 32 or 128.
     ///
-    /// ```text
-    /// Family::Ipv4.len() // 32
-    /// Family::Ipv6.len() // 128
+    /// ```
+    /// # use cidr::{errors::*, more::{canon::*, *}, parsers::*, *};
+    /// # use std::net::*;
+    /// assert_eq!(Family::Ipv4.len(), 32);
+    /// assert_eq!(Family::Ipv6.len(), 128);
+    /// # Ok::<(), Box<dyn std::error::Error>>(())
     /// ```
     #[inline]
     pub const fn len(&self) -> u8 {
@@ -31,9 +34,12 @@ impl Family {
 
     /// The unspecified address, all of whose bits are zero: 0.0.0.0 (RFC 1122, 3.2.1.3) or :: (RFC 4291, 2.5.2).
     ///
-    /// ```text
-    /// Family::Ipv4.unspecified_address() // 0.0.0.0
-    /// Family::Ipv6.unspecified_address() // ::
+    /// ```
+    /// # use cidr::{errors::*, more::{canon::*, *}, parsers::*, *};
+    /// # use std::net::*;
+    /// assert_eq!(format!("{}", Family::Ipv4.unspecified_address()), "0.0.0.0");
+    /// assert_eq!(format!("{}", Family::Ipv6.unspecified_address()), "::");
+    /// # Ok::<(), Box<dyn std::error::Error>>(())
     /// ```
     #[inline]
     pub const fn unspecified_address(&self) -> IpAddr {
@@ -46,9 +52,12 @@ impl Family {
     /// The loopback address: 127.0.0.1 or ::1 (RFC 4291, 2.5.3). All of 127.0.0.0/8 is for loopback (RFC 1122,
     /// 3.2.1.3); this is the address that `localhost` usually stands for.
     ///
-    /// ```text
-    /// Family::Ipv4.loopback_address() // 127.0.0.1
-    /// Family::Ipv6.loopback_address() // ::1
+    /// ```
+    /// # use cidr::{errors::*, more::{canon::*, *}, parsers::*, *};
+    /// # use std::net::*;
+    /// assert_eq!(format!("{}", Family::Ipv4.loopback_address()), "127.0.0.1");
+    /// assert_eq!(format!("{}", Family::Ipv6.loopback_address()), "::1");
+    /// # Ok::<(), Box<dyn std::error::Error>>(())
     /// ```
     #[inline]
     pub const fn loopback_address(&self) -> IpAddr {

@@ -19,13 +19,16 @@ pub(crate) mod driving;
 ///
 /// `next` takes the lowest of them and `next_back` the highest, in constant time. Once either has returned `None`, both
 /// return `None` from then on. It does not allocate, and `nth`, `last` and the like take one step each: for the number
-/// of addresses use `count`.
+/// of addresses use `checked_count`.
 ///
-/// ```text
+/// ```
+/// # use cidr::{errors::*, more::{canon::*, *}, parsers::*, *};
+/// # use std::net::*;
 /// let mut hosts = "192.0.2.48/31".parse::<Ipv4Cidr>()?.iter();
-/// hosts.next_back() // Some(192.0.2.49/31)
-/// hosts.next() // Some(192.0.2.48/31)
-/// hosts.next() // None
+/// assert_eq!(format!("{:?}", hosts.next_back()), "Some(192.0.2.49/31)");
+/// assert_eq!(format!("{:?}", hosts.next()), "Some(192.0.2.48/31)");
+/// assert_eq!(format!("{:?}", hosts.next()), "None");
+/// # Ok::<(), Box<dyn std::error::Error>>(())
 /// ```
 pub struct InetIterator<A: Address> {
     state: Option<A::InetPair>,
@@ -44,9 +47,12 @@ impl<A: Address> InetIterator<A> {
 
     /// How many are left, or `None` where that is 2^64 or more. It takes no step, unlike `Iterator::count`.
     ///
-    /// ```text
-    /// "10.0.0.0/8".parse::<Ipv4Cidr>()?.iter().count() // Some(16777216)
-    /// "2001:db8::/64".parse::<Ipv6Cidr>()?.iter().count() // None
+    /// ```
+    /// # use cidr::{errors::*, more::{canon::*, *}, parsers::*, *};
+    /// # use std::net::*;
+    /// assert_eq!(format!("{:?}", "10.0.0.0/8".parse::<Ipv4Cidr>()?.iter().checked_count()), "Some(16777216)");
+    /// assert_eq!(format!("{:?}", "2001:db8::/64".parse::<Ipv6Cidr>()?.iter().checked_count()), "None");
+    /// # Ok::<(), Box<dyn std::error::Error>>(())
     /// ```
     #[inline]
     pub fn checked_count(self) -> Option<usize> {
@@ -61,9 +67,12 @@ where
 {
     /// What is left of the hosts, as addresses without the prefix length.
     ///
-    /// ```text
+    /// ```
+    /// # use cidr::{errors::*, more::{canon::*, *}, parsers::*, *};
+    /// # use std::net::*;
     /// let network = "192.0.2.48/30".parse::<Ipv4Cidr>()?;
-    /// network.iter().addresses().next() // Some(192.0.2.48)
+    /// assert_eq!(format!("{:?}", network.iter().addresses().next()), "Some(192.0.2.48)");
+    /// # Ok::<(), Box<dyn std::error::Error>>(())
     /// ```
     #[inline]
     pub const fn addresses(self) -> InetAddressIterator<A> {
@@ -211,9 +220,12 @@ where
 /// `next` takes the lowest of them and `next_back` the highest. Once either has returned `None`, both return `None`
 /// from then on.
 ///
-/// ```text
+/// ```
+/// # use cidr::{errors::*, more::{canon::*, *}, parsers::*, *};
+/// # use std::net::*;
 /// let network = "192.0.2.48/30".parse::<Ipv4Cidr>()?;
-/// network.iter().addresses().next_back() // Some(192.0.2.51)
+/// assert_eq!(format!("{:?}", network.iter().addresses().next_back()), "Some(192.0.2.51)");
+/// # Ok::<(), Box<dyn std::error::Error>>(())
 /// ```
 pub struct InetAddressIterator<A: Address> {
     inner: InetIterator<A>,
@@ -222,9 +234,12 @@ pub struct InetAddressIterator<A: Address> {
 impl<A: Address> InetAddressIterator<A> {
     /// How many are left, or `None` where that is 2^64 or more. It takes no step, unlike `Iterator::count`.
     ///
-    /// ```text
+    /// ```
+    /// # use cidr::{errors::*, more::{canon::*, *}, parsers::*, *};
+    /// # use std::net::*;
     /// let network = "192.0.2.48/28".parse::<Ipv4Cidr>()?;
-    /// network.iter().addresses().count() // Some(16)
+    /// assert_eq!(format!("{:?}", network.iter().addresses().checked_count()), "Some(16)");
+    /// # Ok::<(), Box<dyn std::error::Error>>(())
     /// ```
     #[inline]
     pub fn checked_count(self) -> Option<usize> {

@@ -20,40 +20,52 @@
 //!
 //! # Addresses and networks
 //!
-//! ```text
-//! "2001:DB8:0:0:0:0:0:1".parse::<Ipv6Addr>()? // 2001:db8::1
-//! Ipv4Addr::new(192, 0, 2, 1).to_bits() // 0xc0000201
-//! "192.0.2.01".parse::<Ipv4Addr>() // Err(invalid IPv4 address syntax)
+//! ```
+//! # use cidr::{errors::*, more::{canon::*, *}, parsers::*, *};
+//! # use std::net::*;
+//! assert_eq!(format!("{}", "2001:DB8:0:0:0:0:0:1".parse::<Ipv6Addr>()?), "2001:db8::1");
+//! assert_eq!(Ipv4Addr::new(192, 0, 2, 1).to_bits(), 0xc0000201);
+//! assert_eq!(format!("{:?}", "192.0.2.01".parse::<Ipv4Addr>()), "Err(AddrParseError(Ipv4))");
+//! # Ok::<(), Box<dyn std::error::Error>>(())
 //! ```
 //!
-//! ```text
+//! ```
+//! # use cidr::{errors::*, more::{canon::*, *}, parsers::*, *};
+//! # use std::net::*;
 //! let network = "192.0.2.48/28".parse::<Ipv4Cidr>()?;
-//! network.first_address() // 192.0.2.48
-//! network.last_address() // 192.0.2.63
-//! network.mask() // 255.255.255.240
+//! assert_eq!(format!("{}", network.first_address()), "192.0.2.48");
+//! assert_eq!(format!("{}", network.last_address()), "192.0.2.63");
+//! assert_eq!(format!("{}", network.mask()), "255.255.255.240");
 //!
 //! let address = Ipv4Addr::new(192, 0, 2, 50);
-//! network.contains(&address) // true
-//! Ipv4Cidr::new(address, 28) // Err(host part of address was not zero)
+//! assert!(network.contains(&address));
+//! assert_eq!(format!("{:?}", Ipv4Cidr::new(address, 28)), "Err(host part of address was not zero)");
+//! # Ok::<(), Box<dyn std::error::Error>>(())
 //! ```
 //!
-//! ```text
+//! ```
+//! # use cidr::{errors::*, more::{canon::*, *}, parsers::*, *};
+//! # use std::net::*;
 //! let network = "2001:db8::/32".parse::<Ipv6Cidr>()?;
 //! let inner = "2001:db8:1::/48".parse::<Ipv6Cidr>()?;
-//! network.contains_cidr(&inner) // true
+//! assert!(network.contains_cidr(&inner));
+//! # Ok::<(), Box<dyn std::error::Error>>(())
 //! ```
 //!
 //! # Hosts
 //!
-//! ```text
+//! ```
+//! # use cidr::{errors::*, more::{canon::*, *}, parsers::*, *};
+//! # use std::net::*;
 //! let host = "192.0.2.62/28".parse::<Ipv4Inet>()?;
-//! host.address() // 192.0.2.62
-//! host.next() // Some(192.0.2.63/28)
-//! host.overflowing_add(2) // (192.0.2.48/28, true)
+//! assert_eq!(format!("{}", host.address()), "192.0.2.62");
+//! assert_eq!(format!("{:?}", host.next()), "Some(192.0.2.63/28)");
+//! assert_eq!(format!("{:?}", host.overflowing_add(2)), "(192.0.2.48/28, true)");
 //!
 //! let host = "2001:db8::ffff/112".parse::<Ipv6Inet>()?;
-//! host.network() // 2001:db8::/112
-//! host.next() // None
+//! assert_eq!(format!("{}", host.network()), "2001:db8::/112");
+//! assert_eq!(format!("{:?}", host.next()), "None");
+//! # Ok::<(), Box<dyn std::error::Error>>(())
 //! ```
 //!
 //! A step stays in the host's network: `true` tells that it wrapped past the end. `+` and `-` are for steps that the
@@ -61,47 +73,59 @@
 //!
 //! # Pairs and walks
 //!
-//! ```text
+//! ```
+//! # use cidr::{errors::*, more::{canon::*, *}, parsers::*, *};
+//! # use std::net::*;
 //! let first = "192.0.2.49/28".parse::<Ipv4Inet>()?;
 //! let second = "192.0.2.51/28".parse::<Ipv4Inet>()?;
 //! let pair = Ipv4InetPair::new(first, second)?;
-//! pair // (192.0.2.49/28, 192.0.2.51/28)
+//! assert_eq!(format!("{}", pair), "(192.0.2.49/28, 192.0.2.51/28)");
 //!
 //! let mut walk = pair.iter().addresses();
-//! walk.next() // Some(192.0.2.49)
-//! walk.next_back() // Some(192.0.2.51)
-//! walk.next() // Some(192.0.2.50)
-//! walk.next() // None
+//! assert_eq!(format!("{:?}", walk.next()), "Some(192.0.2.49)");
+//! assert_eq!(format!("{:?}", walk.next_back()), "Some(192.0.2.51)");
+//! assert_eq!(format!("{:?}", walk.next()), "Some(192.0.2.50)");
+//! assert_eq!(format!("{:?}", walk.next()), "None");
+//! # Ok::<(), Box<dyn std::error::Error>>(())
 //! ```
 //!
-//! ```text
+//! ```
+//! # use cidr::{errors::*, more::{canon::*, *}, parsers::*, *};
+//! # use std::net::*;
 //! let first = Ipv6Addr::new(0x2001, 0xdb8, 0, 0, 0, 0, 0, 1);
 //! let last = Ipv6Addr::new(0x2001, 0xdb8, 0, 0, 0, 0, 0, 0xff);
 //! let pair = Ipv6InetPair::new_from_addresses(first, last, 64)?;
-//! pair.network() // 2001:db8::/64
-//! pair.iter().count() // Some(255)
+//! assert_eq!(format!("{}", pair.network()), "2001:db8::/64");
+//! assert_eq!(format!("{:?}", pair.iter().checked_count()), "Some(255)");
+//! # Ok::<(), Box<dyn std::error::Error>>(())
 //! ```
 //!
 //! # Either family
 //!
 //! No network contains an address of the other family, so ::ffff:0.0.0.0/96 contains no IPv4 address.
 //!
-//! ```text
+//! ```
+//! # use cidr::{errors::*, more::{canon::*, *}, parsers::*, *};
+//! # use std::net::*;
 //! let network = "::ffff:0.0.0.0/96".parse::<IpCidr>()?;
 //! let address = "192.0.2.1".parse::<IpAddr>()?;
-//! network // ::ffff:0.0.0.0/96
-//! network.is_ipv6() // true
-//! network.contains(&address) // false
-//! "any".parse::<AnyIpCidr>()?.contains(&address) // true
+//! assert_eq!(format!("{}", network), "::ffff:0.0.0.0/96");
+//! assert!(network.is_ipv6());
+//! assert!(!network.contains(&address));
+//! assert!("any".parse::<AnyIpCidr>()?.contains(&address));
+//! # Ok::<(), Box<dyn std::error::Error>>(())
 //! ```
 //!
-//! ```text
+//! ```
+//! # use cidr::{errors::*, more::{canon::*, *}, parsers::*, *};
+//! # use std::net::*;
 //! let first = "2001:db8::1/64".parse::<IpInet>()?;
-//! first.network() // 2001:db8::/64
-//! first.family() // Ipv6
+//! assert_eq!(format!("{}", first.network()), "2001:db8::/64");
+//! assert_eq!(format!("{:?}", first.family()), "Ipv6");
 //! let pair = IpInetPair::new(first, "2001:db8::ff/64".parse()?)?;
-//! pair.iter().count() // Some(255)
-//! IpInetPair::new(first, "192.0.2.1/24".parse()?) // Err(addresses not in shared network)
+//! assert_eq!(format!("{:?}", pair.iter().checked_count()), "Some(255)");
+//! assert_eq!(format!("{:?}", IpInetPair::new(first, "192.0.2.1/24".parse()?)), "Err(addresses not in shared network)");
+//! # Ok::<(), Box<dyn std::error::Error>>(())
 //! ```
 //!
 //! # Parsers
@@ -109,16 +133,19 @@
 //! The types parse strictly. `parsers` has IPv4 as POSIX `inet_addr` parses it, networks by their first octets alone,
 //! and parsers around a function of your own for the address, here one that takes `home` for 127.0.0.1:
 //!
-//! ```text
-//! inet_addr("127.1") // Some(127.0.0.1)
-//! parse_loose_ip("0x7f000001") // Ok(127.0.0.1)
-//! parse_short_ipv4_address_as_cidr("192.168") // Ok(192.168.0.0/16)
+//! ```
+//! # use cidr::{errors::*, more::{canon::*, *}, parsers::*, *};
+//! # use std::net::*;
+//! assert_eq!(format!("{:?}", inet_addr("127.1")), "Some(127.0.0.1)");
+//! assert_eq!(format!("{:?}", parse_loose_ip("0x7f000001")), "Ok(127.0.0.1)");
+//! assert_eq!(format!("{:?}", parse_short_ipv4_address_as_cidr("192.168")), "Ok(192.168.0.0/16)");
+//! # Ok::<(), Box<dyn std::error::Error>>(())
 //! ```
 //!
 //! ```text
-//! parse_cidr::<Ipv4Cidr, _>("home", address) // Ok(127.0.0.1/32)
-//! parse_cidr::<Ipv4Cidr, _>("home/8", address) // Err(host part of address was not zero)
-//! parse_cidr_ignore_hostbits::<Ipv4Cidr, _>("home/8", address) // Ok(127.0.0.0/8)
+//! assert_eq!(format!("{:?}", parse_cidr::<Ipv4Cidr, _>("home", address)), "Ok(127.0.0.1/32)");
+//! assert_eq!(format!("{:?}", parse_cidr::<Ipv4Cidr, _>("home/8", address)), "Err(host part of address was not zero)");
+//! assert_eq!(format!("{:?}", parse_cidr_ignore_hostbits::<Ipv4Cidr, _>("home/8", address)), "Ok(127.0.0.0/8)");
 //! ```
 //!
 //! # Strings of bits
@@ -127,14 +154,17 @@
 //! `NetworkBits` adds that networks are ordered by these bits, which is what a table of networks goes by. Of
 //! `AnyIpCidr` the first bit is the family.
 //!
-//! ```text
+//! ```
+//! # use cidr::{errors::*, more::{canon::*, *}, parsers::*, *};
+//! # use std::net::*;
 //! let other = "192.168.0.0/24".parse::<Ipv4Cidr>()?;
 //! let mut network = "192.160.0.0/11".parse::<Ipv4Cidr>()?;
-//! network.shared_prefix_len(&other) // 11
+//! assert_eq!(network.shared_prefix_len(&other), 11);
 //! network.clip(2);
-//! network // 192.0.0.0/2
+//! assert_eq!(format!("{}", network), "192.0.0.0/2");
 //! network.append(true);
-//! network // 224.0.0.0/3
+//! assert_eq!(format!("{}", network), "224.0.0.0/3");
+//! # Ok::<(), Box<dyn std::error::Error>>(())
 //! ```
 //!
 //! # Bytes
@@ -143,23 +173,29 @@
 //! IPv6; 255 is `any`. No value's bytes begin with those of another value of its type, and bytes after them are left
 //! alone.
 //!
-//! ```text
+//! ```
+//! # use cidr::{errors::*, more::{canon::*, *}, parsers::*, *};
+//! # use std::net::*;
 //! let network = "192.0.2.0/24".parse::<Ipv4Cidr>()?;
-//! network.to_compact() // [24, 192, 0, 2, 0]
-//! Ipv4Cidr::from_compact(&[8, 10, 0, 0, 0, 99]) // Ok((10.0.0.0/8, 5))
-//! AnyIpCidr::from_compact(&[0xff]) // Ok((Any, 1))
-//! Ipv4Cidr::from_compact(&[24, 192, 0]) // Err(compact bytes end too early)
+//! assert_eq!(format!("{:?}", network.to_compact()), "[24, 192, 0, 2, 0]");
+//! assert_eq!(format!("{:?}", Ipv4Cidr::from_compact(&[8, 10, 0, 0, 0, 99])), "Ok((10.0.0.0/8, 5))");
+//! assert_eq!(format!("{:?}", AnyIpCidr::from_compact(&[0xff])), "Ok((Any, 1))");
+//! assert_eq!(format!("{:?}", Ipv4Cidr::from_compact(&[24, 192, 0])), "Err(compact bytes end too early)");
+//! # Ok::<(), Box<dyn std::error::Error>>(())
 //! ```
 //!
 //! `PrefixBytes` writes networks of one family as BGP-4 does (RFC 4271, 4.3): the prefix length and then no more octets
 //! than hold the prefix. Bits after the prefix are ignored.
 //!
-//! ```text
+//! ```
+//! # use cidr::{errors::*, more::{canon::*, *}, parsers::*, *};
+//! # use std::net::*;
 //! let network = "192.0.2.128/25".parse::<Ipv4Cidr>()?;
-//! network.to_prefix_bytes() // [25, 192, 0, 2, 128]
-//! Ipv4Cidr::from_prefix_bytes(&[9, 10, 255, 8]) // Ok((10.128.0.0/9, 3))
-//! Ipv4Cidr::from_prefix_bytes(&[33]) // Err(prefix length is too long)
-//! Ipv6Cidr::from_prefix_bytes(&[128, 0]) // Err(prefix bytes end too early)
+//! assert_eq!(format!("{:?}", network.to_prefix_bytes()), "[25, 192, 0, 2, 128]");
+//! assert_eq!(format!("{:?}", Ipv4Cidr::from_prefix_bytes(&[9, 10, 255, 8])), "Ok((10.128.0.0/9, 3))");
+//! assert_eq!(format!("{:?}", Ipv4Cidr::from_prefix_bytes(&[33])), "Err(prefix length is too long)");
+//! assert_eq!(format!("{:?}", Ipv6Cidr::from_prefix_bytes(&[128, 0])), "Err(prefix bytes end too early)");
+//! # Ok::<(), Box<dyn std::error::Error>>(())
 //! ```
 //!
 //! # The order of errors

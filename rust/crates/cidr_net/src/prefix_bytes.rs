@@ -22,9 +22,12 @@ pub trait PrefixBytes: Sized + NetworkBits {
     ///
     /// `from_prefix_bytes` parses them, with anything after them, as this network and exactly their number.
     ///
-    /// ```text
-    /// "10.0.0.0/8".parse::<Ipv4Cidr>()?.to_prefix_bytes() // [8, 10]
-    /// "2001::/16".parse::<Ipv6Cidr>()?.to_prefix_bytes() // [16, 32, 1]
+    /// ```
+    /// # use cidr::{errors::*, more::{canon::*, *}, parsers::*, *};
+    /// # use std::net::*;
+    /// assert_eq!(format!("{:?}", "10.0.0.0/8".parse::<Ipv4Cidr>()?.to_prefix_bytes()), "[8, 10]");
+    /// assert_eq!(format!("{:?}", "2001::/16".parse::<Ipv6Cidr>()?.to_prefix_bytes()), "[16, 32, 1]");
+    /// # Ok::<(), Box<dyn std::error::Error>>(())
     /// ```
     fn to_prefix_bytes(&self) -> ArrayVec<u8, 17>;
 
@@ -34,10 +37,13 @@ pub trait PrefixBytes: Sized + NetworkBits {
     /// Where no network's bytes come first, it returns the first error of: no byte (`Truncated`), `LengthTooLong`, too
     /// few octets (`Truncated`).
     ///
-    /// ```text
-    /// Ipv4Cidr::from_prefix_bytes(&[9, 10, 255, 8]) // Ok((10.128.0.0/9, 3))
-    /// Ipv4Cidr::from_prefix_bytes(&[33]) // Err(prefix length is too long)
-    /// Ipv6Cidr::from_prefix_bytes(&[128, 0]) // Err(prefix bytes end too early)
+    /// ```
+    /// # use cidr::{errors::*, more::{canon::*, *}, parsers::*, *};
+    /// # use std::net::*;
+    /// assert_eq!(format!("{:?}", Ipv4Cidr::from_prefix_bytes(&[9, 10, 255, 8])), "Ok((10.128.0.0/9, 3))");
+    /// assert_eq!(format!("{:?}", Ipv4Cidr::from_prefix_bytes(&[33])), "Err(prefix length is too long)");
+    /// assert_eq!(format!("{:?}", Ipv6Cidr::from_prefix_bytes(&[128, 0])), "Err(prefix bytes end too early)");
+    /// # Ok::<(), Box<dyn std::error::Error>>(())
     /// ```
     fn from_prefix_bytes(bytes: &[u8]) -> Result<(Self, usize), PrefixBytesError>;
 }

@@ -24,9 +24,12 @@ use core::str::FromStr;
 /// networks, then the IPv6 networks. `Any` has no family, no prefix length and no first address: the calls that return
 /// one of these return `None`.
 ///
-/// ```text
-/// "any".parse::<AnyIpCidr>()? // any
-/// "any".parse::<AnyIpCidr>()? < "0.0.0.0/0".parse()? // true
+/// ```
+/// # use cidr::{errors::*, more::{canon::*, *}, parsers::*, *};
+/// # use std::net::*;
+/// assert_eq!(format!("{}", "any".parse::<AnyIpCidr>()?), "any");
+/// assert!("any".parse::<AnyIpCidr>()? < "0.0.0.0/0".parse()?);
+/// # Ok::<(), Box<dyn std::error::Error>>(())
 /// ```
 #[derive(Clone, Copy, Debug, PartialEq, Eq, PartialOrd, Ord, Hash)]
 pub enum AnyIpCidr {
@@ -42,8 +45,11 @@ impl AnyIpCidr {
     /// Returns `NetworkLengthTooLongError` for a prefix length above the width, 32 or 128, and then `InvalidHostPart`
     /// for an address with a set bit after the first `len`.
     ///
-    /// ```text
-    /// AnyIpCidr::new("10.0.0.0".parse()?, 8)? // 10.0.0.0/8
+    /// ```
+    /// # use cidr::{errors::*, more::{canon::*, *}, parsers::*, *};
+    /// # use std::net::*;
+    /// assert_eq!(format!("{}", AnyIpCidr::new("10.0.0.0".parse()?, 8)?), "10.0.0.0/8");
+    /// # Ok::<(), Box<dyn std::error::Error>>(())
     /// ```
     #[inline]
     pub const fn new(addr: IpAddr, len: u8) -> Result<AnyIpCidr, NetworkParseError> {
@@ -56,8 +62,11 @@ impl AnyIpCidr {
 
     /// The network that has only this address, of full prefix length: /32 in IPv4 and /128 in IPv6.
     ///
-    /// ```text
-    /// AnyIpCidr::new_host("192.0.2.1".parse()?) // 192.0.2.1
+    /// ```
+    /// # use cidr::{errors::*, more::{canon::*, *}, parsers::*, *};
+    /// # use std::net::*;
+    /// assert_eq!(format!("{}", AnyIpCidr::new_host("192.0.2.1".parse()?)), "192.0.2.1");
+    /// # Ok::<(), Box<dyn std::error::Error>>(())
     /// ```
     #[inline]
     pub const fn new_host(addr: IpAddr) -> AnyIpCidr {
@@ -79,9 +88,12 @@ impl AnyIpCidr {
 
     /// The first address, in which no bit after the prefix is set, or `None` for `Any`.
     ///
-    /// ```text
-    /// "10.0.0.0/8".parse::<AnyIpCidr>()?.first_address() // Some(10.0.0.0)
-    /// AnyIpCidr::Any.first_address() // None
+    /// ```
+    /// # use cidr::{errors::*, more::{canon::*, *}, parsers::*, *};
+    /// # use std::net::*;
+    /// assert_eq!(format!("{:?}", "10.0.0.0/8".parse::<AnyIpCidr>()?.first_address()), "Some(10.0.0.0)");
+    /// assert_eq!(format!("{:?}", AnyIpCidr::Any.first_address()), "None");
+    /// # Ok::<(), Box<dyn std::error::Error>>(())
     /// ```
     #[inline]
     pub const fn first_address(&self) -> Option<IpAddr> {
@@ -93,8 +105,11 @@ impl AnyIpCidr {
 
     /// The last address, in which all bits after the prefix are set, or `None` for `Any`.
     ///
-    /// ```text
-    /// "10.0.0.0/8".parse::<AnyIpCidr>()?.last_address() // Some(10.255.255.255)
+    /// ```
+    /// # use cidr::{errors::*, more::{canon::*, *}, parsers::*, *};
+    /// # use std::net::*;
+    /// assert_eq!(format!("{:?}", "10.0.0.0/8".parse::<AnyIpCidr>()?.last_address()), "Some(10.255.255.255)");
+    /// # Ok::<(), Box<dyn std::error::Error>>(())
     /// ```
     #[inline]
     pub const fn last_address(&self) -> Option<IpAddr> {
@@ -106,8 +121,11 @@ impl AnyIpCidr {
 
     /// The host at the first address, with the prefix length of the network, or `None` for `Any`.
     ///
-    /// ```text
-    /// "10.0.0.0/8".parse::<AnyIpCidr>()?.first() // Some(V4(10.0.0.0/8))
+    /// ```
+    /// # use cidr::{errors::*, more::{canon::*, *}, parsers::*, *};
+    /// # use std::net::*;
+    /// assert_eq!(format!("{:?}", "10.0.0.0/8".parse::<AnyIpCidr>()?.first()), "Some(V4(10.0.0.0/8))");
+    /// # Ok::<(), Box<dyn std::error::Error>>(())
     /// ```
     #[inline]
     pub const fn first(&self) -> Option<IpInet> {
@@ -119,8 +137,11 @@ impl AnyIpCidr {
 
     /// The host at the last address, with the prefix length of the network, or `None` for `Any`.
     ///
-    /// ```text
-    /// "10.0.0.0/8".parse::<AnyIpCidr>()?.last() // Some(V4(10.255.255.255/8))
+    /// ```
+    /// # use cidr::{errors::*, more::{canon::*, *}, parsers::*, *};
+    /// # use std::net::*;
+    /// assert_eq!(format!("{:?}", "10.0.0.0/8".parse::<AnyIpCidr>()?.last()), "Some(V4(10.255.255.255/8))");
+    /// # Ok::<(), Box<dyn std::error::Error>>(())
     /// ```
     #[inline]
     pub const fn last(&self) -> Option<IpInet> {
@@ -132,8 +153,11 @@ impl AnyIpCidr {
 
     /// The prefix length in bits, at most 32 in IPv4 and 128 in IPv6, or `None` for `Any`.
     ///
-    /// ```text
-    /// "10.0.0.0/8".parse::<AnyIpCidr>()?.network_length() // Some(8)
+    /// ```
+    /// # use cidr::{errors::*, more::{canon::*, *}, parsers::*, *};
+    /// # use std::net::*;
+    /// assert_eq!(format!("{:?}", "10.0.0.0/8".parse::<AnyIpCidr>()?.network_length()), "Some(8)");
+    /// # Ok::<(), Box<dyn std::error::Error>>(())
     /// ```
     #[inline]
     pub const fn network_length(&self) -> Option<u8> {
@@ -145,8 +169,11 @@ impl AnyIpCidr {
 
     /// The family of its addresses, or `None` for `Any`, which has addresses of both.
     ///
-    /// ```text
-    /// "10.0.0.0/8".parse::<AnyIpCidr>()?.family() // Some(Ipv4)
+    /// ```
+    /// # use cidr::{errors::*, more::{canon::*, *}, parsers::*, *};
+    /// # use std::net::*;
+    /// assert_eq!(format!("{:?}", "10.0.0.0/8".parse::<AnyIpCidr>()?.family()), "Some(Ipv4)");
+    /// # Ok::<(), Box<dyn std::error::Error>>(())
     /// ```
     #[inline]
     pub const fn family(&self) -> Option<Family> {
@@ -158,9 +185,12 @@ impl AnyIpCidr {
 
     /// Whether the network has only one address, that is, whether the prefix length is full. `Any` has more.
     ///
-    /// ```text
-    /// "2001:db8::1".parse::<AnyIpCidr>()?.is_host_address() // true
-    /// AnyIpCidr::Any.is_host_address() // false
+    /// ```
+    /// # use cidr::{errors::*, more::{canon::*, *}, parsers::*, *};
+    /// # use std::net::*;
+    /// assert!("2001:db8::1".parse::<AnyIpCidr>()?.is_host_address());
+    /// assert!(!AnyIpCidr::Any.is_host_address());
+    /// # Ok::<(), Box<dyn std::error::Error>>(())
     /// ```
     #[inline]
     pub const fn is_host_address(&self) -> bool {
@@ -172,8 +202,11 @@ impl AnyIpCidr {
 
     /// The network mask, as many set bits as the prefix length says and then zeros, or `None` for `Any`.
     ///
-    /// ```text
-    /// "10.0.0.0/8".parse::<AnyIpCidr>()?.mask() // Some(255.0.0.0)
+    /// ```
+    /// # use cidr::{errors::*, more::{canon::*, *}, parsers::*, *};
+    /// # use std::net::*;
+    /// assert_eq!(format!("{:?}", "10.0.0.0/8".parse::<AnyIpCidr>()?.mask()), "Some(255.0.0.0)");
+    /// # Ok::<(), Box<dyn std::error::Error>>(())
     /// ```
     #[inline]
     pub const fn mask(&self) -> Option<IpAddr> {
@@ -187,10 +220,13 @@ impl AnyIpCidr {
     ///
     /// No other network contains an address of the other family: an IPv4-mapped IPv6 address is in no IPv4 network.
     ///
-    /// ```text
-    /// AnyIpCidr::Any.contains(&"2001:db8::1".parse()?) // true
+    /// ```
+    /// # use cidr::{errors::*, more::{canon::*, *}, parsers::*, *};
+    /// # use std::net::*;
+    /// assert!(AnyIpCidr::Any.contains(&"2001:db8::1".parse()?));
     /// let network = "0.0.0.0/0".parse::<AnyIpCidr>()?;
-    /// network.contains(&"::ffff:192.0.2.1".parse()?) // false
+    /// assert!(!network.contains(&"::ffff:192.0.2.1".parse()?));
+    /// # Ok::<(), Box<dyn std::error::Error>>(())
     /// ```
     #[inline]
     pub const fn contains(&self, addr: &IpAddr) -> bool {
@@ -205,8 +241,11 @@ impl AnyIpCidr {
     /// Whether every address of the other network is in this one. `Any` contains every network and itself, and no other
     /// network contains `Any`.
     ///
-    /// ```text
-    /// AnyIpCidr::Any.contains_cidr(&"::/0".parse()?) // true
+    /// ```
+    /// # use cidr::{errors::*, more::{canon::*, *}, parsers::*, *};
+    /// # use std::net::*;
+    /// assert!(AnyIpCidr::Any.contains_cidr(&"::/0".parse()?));
+    /// # Ok::<(), Box<dyn std::error::Error>>(())
     /// ```
     #[inline]
     pub const fn contains_cidr(&self, other: &AnyIpCidr) -> bool {
@@ -219,9 +258,12 @@ impl AnyIpCidr {
 
     /// Whether this is `Any`. The networks 0.0.0.0/0 and ::/0 are not.
     ///
-    /// ```text
-    /// "any".parse::<AnyIpCidr>()?.is_any() // true
-    /// "0.0.0.0/0".parse::<AnyIpCidr>()?.is_any() // false
+    /// ```
+    /// # use cidr::{errors::*, more::{canon::*, *}, parsers::*, *};
+    /// # use std::net::*;
+    /// assert!("any".parse::<AnyIpCidr>()?.is_any());
+    /// assert!(!("0.0.0.0/0".parse::<AnyIpCidr>()?.is_any()));
+    /// # Ok::<(), Box<dyn std::error::Error>>(())
     /// ```
     #[inline]
     pub const fn is_any(&self) -> bool {
@@ -230,8 +272,11 @@ impl AnyIpCidr {
 
     /// Whether this is an IPv4 network, which `Any` is not.
     ///
-    /// ```text
-    /// "0.0.0.0/0".parse::<AnyIpCidr>()?.is_ipv4() // true
+    /// ```
+    /// # use cidr::{errors::*, more::{canon::*, *}, parsers::*, *};
+    /// # use std::net::*;
+    /// assert!("0.0.0.0/0".parse::<AnyIpCidr>()?.is_ipv4());
+    /// # Ok::<(), Box<dyn std::error::Error>>(())
     /// ```
     #[inline]
     pub const fn is_ipv4(&self) -> bool {
@@ -240,8 +285,11 @@ impl AnyIpCidr {
 
     /// Whether this is an IPv6 network, which `Any` is not.
     ///
-    /// ```text
-    /// "::/0".parse::<AnyIpCidr>()?.is_ipv6() // true
+    /// ```
+    /// # use cidr::{errors::*, more::{canon::*, *}, parsers::*, *};
+    /// # use std::net::*;
+    /// assert!("::/0".parse::<AnyIpCidr>()?.is_ipv6());
+    /// # Ok::<(), Box<dyn std::error::Error>>(())
     /// ```
     #[inline]
     pub const fn is_ipv6(&self) -> bool {
@@ -251,8 +299,11 @@ impl AnyIpCidr {
     /// The printed string, in an `ArrayString`, so that nothing is allocated: `any`, or the network without a full
     /// prefix length. It has at most 43 bytes.
     ///
-    /// ```text
-    /// AnyIpCidr::Any.to_text() // any
+    /// ```
+    /// # use cidr::{errors::*, more::{canon::*, *}, parsers::*, *};
+    /// # use std::net::*;
+    /// assert_eq!(format!("{}", AnyIpCidr::Any.to_text()), "any");
+    /// # Ok::<(), Box<dyn std::error::Error>>(())
     /// ```
     #[inline]
     pub fn to_text(&self) -> ArrayString<43> {
@@ -264,8 +315,11 @@ impl AnyIpCidr {
 
     /// The network, to be printed with its prefix length also where that is full. `Any` stays `any`.
     ///
-    /// ```text
-    /// "192.0.2.1".parse::<AnyIpCidr>()?.with_length() // 192.0.2.1/32
+    /// ```
+    /// # use cidr::{errors::*, more::{canon::*, *}, parsers::*, *};
+    /// # use std::net::*;
+    /// assert_eq!(format!("{}", "192.0.2.1".parse::<AnyIpCidr>()?.with_length()), "192.0.2.1/32");
+    /// # Ok::<(), Box<dyn std::error::Error>>(())
     /// ```
     #[inline]
     pub const fn with_length(&self) -> WithLength<AnyIpCidr> {
@@ -301,8 +355,11 @@ pub(crate) fn any_of(
 impl WithLength<AnyIpCidr> {
     /// The printed string, `any` or the network with its prefix length: at most 43 bytes.
     ///
-    /// ```text
-    /// "::1".parse::<AnyIpCidr>()?.with_length().to_text() // ::1/128
+    /// ```
+    /// # use cidr::{errors::*, more::{canon::*, *}, parsers::*, *};
+    /// # use std::net::*;
+    /// assert_eq!(format!("{}", "::1".parse::<AnyIpCidr>()?.with_length().to_text()), "::1/128");
+    /// # Ok::<(), Box<dyn std::error::Error>>(())
     /// ```
     #[inline]
     pub fn to_text(&self) -> ArrayString<43> {

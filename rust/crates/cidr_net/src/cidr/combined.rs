@@ -25,8 +25,11 @@ use core::str::FromStr;
 /// Parsing tries IPv4 first; the error is that of the family that has the address. All IPv4 networks come before all
 /// IPv6 networks, and those of one family are ordered by first address and then by prefix length.
 ///
-/// ```text
-/// "2001:db8::/32".parse::<IpCidr>()? // 2001:db8::/32
+/// ```
+/// # use cidr::{errors::*, more::{canon::*, *}, parsers::*, *};
+/// # use std::net::*;
+/// assert_eq!(format!("{}", "2001:db8::/32".parse::<IpCidr>()?), "2001:db8::/32");
+/// # Ok::<(), Box<dyn std::error::Error>>(())
 /// ```
 #[derive(Clone, Copy, Debug, PartialEq, Eq, PartialOrd, Ord, Hash)]
 pub enum IpCidr {
@@ -40,9 +43,12 @@ impl IpCidr {
     /// Returns `NetworkLengthTooLongError` for a prefix length above the width, 32 or 128, and then `InvalidHostPart`
     /// for an address with a set bit after the first `len`.
     ///
-    /// ```text
-    /// IpCidr::new("2001:db8::".parse()?, 32)? // 2001:db8::/32
-    /// IpCidr::new("192.0.2.48".parse()?, 27) // Err(host part of address was not zero)
+    /// ```
+    /// # use cidr::{errors::*, more::{canon::*, *}, parsers::*, *};
+    /// # use std::net::*;
+    /// assert_eq!(format!("{}", IpCidr::new("2001:db8::".parse()?, 32)?), "2001:db8::/32");
+    /// assert_eq!(format!("{:?}", IpCidr::new("192.0.2.48".parse()?, 27)), "Err(host part of address was not zero)");
+    /// # Ok::<(), Box<dyn std::error::Error>>(())
     /// ```
     pub const fn new(addr: IpAddr, len: u8) -> Result<IpCidr, NetworkParseError> {
         match addr {
@@ -59,8 +65,11 @@ impl IpCidr {
 
     /// The network that has only this address, of full prefix length: /32 in IPv4 and /128 in IPv6.
     ///
-    /// ```text
-    /// IpCidr::new_host("192.0.2.1".parse()?) // 192.0.2.1
+    /// ```
+    /// # use cidr::{errors::*, more::{canon::*, *}, parsers::*, *};
+    /// # use std::net::*;
+    /// assert_eq!(format!("{}", IpCidr::new_host("192.0.2.1".parse()?)), "192.0.2.1");
+    /// # Ok::<(), Box<dyn std::error::Error>>(())
     /// ```
     #[inline]
     pub const fn new_host(addr: IpAddr) -> IpCidr {
@@ -72,8 +81,11 @@ impl IpCidr {
 
     /// The first address, in which no bit after the prefix is set: in IPv4 the network address, up to /30.
     ///
-    /// ```text
-    /// "192.0.2.48/28".parse::<IpCidr>()?.first_address() // 192.0.2.48
+    /// ```
+    /// # use cidr::{errors::*, more::{canon::*, *}, parsers::*, *};
+    /// # use std::net::*;
+    /// assert_eq!(format!("{}", "192.0.2.48/28".parse::<IpCidr>()?.first_address()), "192.0.2.48");
+    /// # Ok::<(), Box<dyn std::error::Error>>(())
     /// ```
     #[inline]
     pub const fn first_address(&self) -> IpAddr {
@@ -85,8 +97,11 @@ impl IpCidr {
 
     /// The last address, in which all bits after the prefix are set: in IPv4 the broadcast address, up to /30.
     ///
-    /// ```text
-    /// "192.0.2.48/28".parse::<IpCidr>()?.last_address() // 192.0.2.63
+    /// ```
+    /// # use cidr::{errors::*, more::{canon::*, *}, parsers::*, *};
+    /// # use std::net::*;
+    /// assert_eq!(format!("{}", "192.0.2.48/28".parse::<IpCidr>()?.last_address()), "192.0.2.63");
+    /// # Ok::<(), Box<dyn std::error::Error>>(())
     /// ```
     #[inline]
     pub const fn last_address(&self) -> IpAddr {
@@ -98,8 +113,11 @@ impl IpCidr {
 
     /// The host at the first address, with the prefix length of the network.
     ///
-    /// ```text
-    /// "192.0.2.48/28".parse::<IpCidr>()?.first() // 192.0.2.48/28
+    /// ```
+    /// # use cidr::{errors::*, more::{canon::*, *}, parsers::*, *};
+    /// # use std::net::*;
+    /// assert_eq!(format!("{}", "192.0.2.48/28".parse::<IpCidr>()?.first()), "192.0.2.48/28");
+    /// # Ok::<(), Box<dyn std::error::Error>>(())
     /// ```
     #[inline]
     pub const fn first(&self) -> IpInet {
@@ -111,8 +129,11 @@ impl IpCidr {
 
     /// The host at the last address, with the prefix length of the network.
     ///
-    /// ```text
-    /// "192.0.2.48/28".parse::<IpCidr>()?.last() // 192.0.2.63/28
+    /// ```
+    /// # use cidr::{errors::*, more::{canon::*, *}, parsers::*, *};
+    /// # use std::net::*;
+    /// assert_eq!(format!("{}", "192.0.2.48/28".parse::<IpCidr>()?.last()), "192.0.2.63/28");
+    /// # Ok::<(), Box<dyn std::error::Error>>(())
     /// ```
     #[inline]
     pub const fn last(&self) -> IpInet {
@@ -125,8 +146,11 @@ impl IpCidr {
     /// The hosts at all addresses of the network, ascending, with its prefix length. None is left out: the network
     /// address and the broadcast address are among them.
     ///
-    /// ```text
-    /// "10.0.0.0/30".parse::<IpCidr>()?.iter().next_back() // Some(V4(10.0.0.3/30))
+    /// ```
+    /// # use cidr::{errors::*, more::{canon::*, *}, parsers::*, *};
+    /// # use std::net::*;
+    /// assert_eq!(format!("{:?}", "10.0.0.0/30".parse::<IpCidr>()?.iter().next_back()), "Some(V4(10.0.0.3/30))");
+    /// # Ok::<(), Box<dyn std::error::Error>>(())
     /// ```
     #[inline]
     pub const fn iter(&self) -> InetIterator<IpAddr> {
@@ -138,8 +162,11 @@ impl IpCidr {
 
     /// The prefix length in bits, at most 32 in IPv4 and 128 in IPv6.
     ///
-    /// ```text
-    /// "2001:db8::/32".parse::<IpCidr>()?.network_length() // 32
+    /// ```
+    /// # use cidr::{errors::*, more::{canon::*, *}, parsers::*, *};
+    /// # use std::net::*;
+    /// assert_eq!("2001:db8::/32".parse::<IpCidr>()?.network_length(), 32);
+    /// # Ok::<(), Box<dyn std::error::Error>>(())
     /// ```
     #[inline]
     pub const fn network_length(&self) -> u8 {
@@ -151,8 +178,11 @@ impl IpCidr {
 
     /// The family of its addresses.
     ///
-    /// ```text
-    /// "2001:db8::/32".parse::<IpCidr>()?.family() // Ipv6
+    /// ```
+    /// # use cidr::{errors::*, more::{canon::*, *}, parsers::*, *};
+    /// # use std::net::*;
+    /// assert_eq!(format!("{:?}", "2001:db8::/32".parse::<IpCidr>()?.family()), "Ipv6");
+    /// # Ok::<(), Box<dyn std::error::Error>>(())
     /// ```
     #[inline]
     pub const fn family(&self) -> Family {
@@ -165,9 +195,12 @@ impl IpCidr {
     /// Whether the network has only one address, that is, whether the prefix length is full: 32 in IPv4 and 128 in
     /// IPv6.
     ///
-    /// ```text
-    /// "2001:db8::/32".parse::<IpCidr>()?.is_host_address() // false
-    /// "::1/128".parse::<IpCidr>()?.is_host_address() // true
+    /// ```
+    /// # use cidr::{errors::*, more::{canon::*, *}, parsers::*, *};
+    /// # use std::net::*;
+    /// assert!(!("2001:db8::/32".parse::<IpCidr>()?.is_host_address()));
+    /// assert!("::1/128".parse::<IpCidr>()?.is_host_address());
+    /// # Ok::<(), Box<dyn std::error::Error>>(())
     /// ```
     #[inline]
     pub const fn is_host_address(&self) -> bool {
@@ -179,8 +212,11 @@ impl IpCidr {
 
     /// The network mask: as many set bits as the prefix length says, then zeros.
     ///
-    /// ```text
-    /// "2001:db8::/32".parse::<IpCidr>()?.mask() // ffff:ffff::
+    /// ```
+    /// # use cidr::{errors::*, more::{canon::*, *}, parsers::*, *};
+    /// # use std::net::*;
+    /// assert_eq!(format!("{}", "2001:db8::/32".parse::<IpCidr>()?.mask()), "ffff:ffff::");
+    /// # Ok::<(), Box<dyn std::error::Error>>(())
     /// ```
     #[inline]
     pub const fn mask(&self) -> IpAddr {
@@ -195,10 +231,13 @@ impl IpCidr {
     /// No network contains an address of the other family: an IPv4 address is in no IPv6 network, and an IPv4-mapped
     /// IPv6 address is in no IPv4 network, as in Go's `netip.Prefix.Contains`.
     ///
-    /// ```text
+    /// ```
+    /// # use cidr::{errors::*, more::{canon::*, *}, parsers::*, *};
+    /// # use std::net::*;
     /// let network = "::ffff:0:0/96".parse::<IpCidr>()?;
-    /// network.contains(&"::ffff:192.0.2.1".parse()?) // true
-    /// network.contains(&"192.0.2.1".parse()?) // false
+    /// assert!(network.contains(&"::ffff:192.0.2.1".parse()?));
+    /// assert!(!network.contains(&"192.0.2.1".parse()?));
+    /// # Ok::<(), Box<dyn std::error::Error>>(())
     /// ```
     #[inline]
     pub const fn contains(&self, addr: &IpAddr) -> bool {
@@ -212,9 +251,12 @@ impl IpCidr {
     /// Whether every address of the other network is in this one, which is never so for two families: ::/0 does not
     /// contain 192.0.2.0/24. Each network contains itself.
     ///
-    /// ```text
+    /// ```
+    /// # use cidr::{errors::*, more::{canon::*, *}, parsers::*, *};
+    /// # use std::net::*;
     /// let network = "2001:db8::/32".parse::<IpCidr>()?;
-    /// network.contains_cidr(&"2001:db8:1::/48".parse()?) // true
+    /// assert!(network.contains_cidr(&"2001:db8:1::/48".parse()?));
+    /// # Ok::<(), Box<dyn std::error::Error>>(())
     /// ```
     #[inline]
     pub const fn contains_cidr(&self, other: &IpCidr) -> bool {
@@ -229,8 +271,11 @@ impl IpCidr {
 
     /// Whether this is an IPv4 network.
     ///
-    /// ```text
-    /// "192.0.2.48/28".parse::<IpCidr>()?.is_ipv4() // true
+    /// ```
+    /// # use cidr::{errors::*, more::{canon::*, *}, parsers::*, *};
+    /// # use std::net::*;
+    /// assert!("192.0.2.48/28".parse::<IpCidr>()?.is_ipv4());
+    /// # Ok::<(), Box<dyn std::error::Error>>(())
     /// ```
     #[inline]
     pub const fn is_ipv4(&self) -> bool {
@@ -239,8 +284,11 @@ impl IpCidr {
 
     /// Whether this is an IPv6 network, also where it holds only IPv4-mapped addresses.
     ///
-    /// ```text
-    /// "::ffff:0:0/96".parse::<IpCidr>()?.is_ipv6() // true
+    /// ```
+    /// # use cidr::{errors::*, more::{canon::*, *}, parsers::*, *};
+    /// # use std::net::*;
+    /// assert!("::ffff:0:0/96".parse::<IpCidr>()?.is_ipv6());
+    /// # Ok::<(), Box<dyn std::error::Error>>(())
     /// ```
     #[inline]
     pub const fn is_ipv6(&self) -> bool {
@@ -250,8 +298,11 @@ impl IpCidr {
     /// The printed string, without a full prefix length, in an `ArrayString`, so that nothing is allocated. It has at
     /// most 18 bytes in IPv4 and 43 in IPv6.
     ///
-    /// ```text
-    /// "192.0.2.1/32".parse::<IpCidr>()?.to_text() // 192.0.2.1
+    /// ```
+    /// # use cidr::{errors::*, more::{canon::*, *}, parsers::*, *};
+    /// # use std::net::*;
+    /// assert_eq!(format!("{}", "192.0.2.1/32".parse::<IpCidr>()?.to_text()), "192.0.2.1");
+    /// # Ok::<(), Box<dyn std::error::Error>>(())
     /// ```
     #[inline]
     pub fn to_text(&self) -> ArrayString<43> {
@@ -263,8 +314,11 @@ impl IpCidr {
 
     /// The network, to be printed with its prefix length also where that is full.
     ///
-    /// ```text
-    /// "192.0.2.1".parse::<IpCidr>()?.with_length() // 192.0.2.1/32
+    /// ```
+    /// # use cidr::{errors::*, more::{canon::*, *}, parsers::*, *};
+    /// # use std::net::*;
+    /// assert_eq!(format!("{}", "192.0.2.1".parse::<IpCidr>()?.with_length()), "192.0.2.1/32");
+    /// # Ok::<(), Box<dyn std::error::Error>>(())
     /// ```
     #[inline]
     pub const fn with_length(&self) -> WithLength<IpCidr> {
@@ -275,8 +329,11 @@ impl IpCidr {
 impl WithLength<IpCidr> {
     /// The printed string, with the prefix length also where that is full: at most 18 bytes in IPv4 and 43 in IPv6.
     ///
-    /// ```text
-    /// "::1".parse::<IpCidr>()?.with_length().to_text() // ::1/128
+    /// ```
+    /// # use cidr::{errors::*, more::{canon::*, *}, parsers::*, *};
+    /// # use std::net::*;
+    /// assert_eq!(format!("{}", "::1".parse::<IpCidr>()?.with_length().to_text()), "::1/128");
+    /// # Ok::<(), Box<dyn std::error::Error>>(())
     /// ```
     #[inline]
     pub fn to_text(&self) -> ArrayString<43> {

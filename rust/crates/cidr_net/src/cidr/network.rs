@@ -31,11 +31,14 @@ use core::str::FromStr;
 ///
 /// Networks are ordered by first address and then by prefix length, shortest first.
 ///
-/// ```text
-/// "192.0.2.48/28".parse::<Ipv4Cidr>()? // 192.0.2.48/28
-/// "192.0.2.50/28".parse::<Ipv4Cidr>() // Err(host part of address was not zero)
+/// ```
+/// # use cidr::{errors::*, more::{canon::*, *}, parsers::*, *};
+/// # use std::net::*;
+/// assert_eq!(format!("{}", "192.0.2.48/28".parse::<Ipv4Cidr>()?), "192.0.2.48/28");
+/// assert_eq!(format!("{:?}", "192.0.2.50/28".parse::<Ipv4Cidr>()), "Err(host part of address was not zero)");
 /// let network = "10.0.0.0/8".parse::<Ipv4Cidr>()?;
-/// network < "10.0.0.0/9".parse()? // true
+/// assert!(network < "10.0.0.0/9".parse()?);
+/// # Ok::<(), Box<dyn std::error::Error>>(())
 /// ```
 pub struct Network<A: AddressBits> {
     address: A,
@@ -63,9 +66,12 @@ impl Network<Ipv4Addr> {
     /// Returns `NetworkLengthTooLongError` for a prefix length above the width, 32 or 128, and then `InvalidHostPart`
     /// for an address with a set bit after the first `len`.
     ///
-    /// ```text
-    /// Ipv4Cidr::new(Ipv4Addr::new(192, 0, 2, 48), 28)? // 192.0.2.48/28
-    /// Ipv4Cidr::new(Ipv4Addr::new(192, 0, 2, 48), 27) // Err(host part of address was not zero)
+    /// ```
+    /// # use cidr::{errors::*, more::{canon::*, *}, parsers::*, *};
+    /// # use std::net::*;
+    /// assert_eq!(format!("{}", Ipv4Cidr::new(Ipv4Addr::new(192, 0, 2, 48), 28)?), "192.0.2.48/28");
+    /// assert_eq!(format!("{:?}", Ipv4Cidr::new(Ipv4Addr::new(192, 0, 2, 48), 27)), "Err(host part of address was not zero)");
+    /// # Ok::<(), Box<dyn std::error::Error>>(())
     /// ```
     pub const fn new(addr: Ipv4Addr, len: u8) -> Result<Network<Ipv4Addr>, NetworkParseError> {
         if len > Family::Ipv4.len() {
@@ -81,9 +87,12 @@ impl Network<Ipv4Addr> {
     /// The network that has only this address, of full prefix length: /32 in IPv4 and /128 in IPv6. It is printed
     /// without the prefix length.
     ///
-    /// ```text
-    /// Ipv4Cidr::new_host(Ipv4Addr::new(192, 0, 2, 1)) // 192.0.2.1
-    /// Ipv6Cidr::new_host(Ipv6Addr::from_bits(1)) // ::1
+    /// ```
+    /// # use cidr::{errors::*, more::{canon::*, *}, parsers::*, *};
+    /// # use std::net::*;
+    /// assert_eq!(format!("{}", Ipv4Cidr::new_host(Ipv4Addr::new(192, 0, 2, 1))), "192.0.2.1");
+    /// assert_eq!(format!("{}", Ipv6Cidr::new_host(Ipv6Addr::from_bits(1))), "::1");
+    /// # Ok::<(), Box<dyn std::error::Error>>(())
     /// ```
     #[inline]
     pub const fn new_host(addr: Ipv4Addr) -> Network<Ipv4Addr> {
@@ -110,8 +119,11 @@ impl Network<Ipv4Addr> {
 
     /// The first address, in which no bit after the prefix is set: in IPv4 the network address, up to /30.
     ///
-    /// ```text
-    /// "192.0.2.48/28".parse::<Ipv4Cidr>()?.first_address() // 192.0.2.48
+    /// ```
+    /// # use cidr::{errors::*, more::{canon::*, *}, parsers::*, *};
+    /// # use std::net::*;
+    /// assert_eq!(format!("{}", "192.0.2.48/28".parse::<Ipv4Cidr>()?.first_address()), "192.0.2.48");
+    /// # Ok::<(), Box<dyn std::error::Error>>(())
     /// ```
     #[inline]
     pub const fn first_address(&self) -> Ipv4Addr {
@@ -120,8 +132,11 @@ impl Network<Ipv4Addr> {
 
     /// The first address, by reference.
     ///
-    /// ```text
-    /// "10.0.0.0/8".parse::<Ipv4Cidr>()?.first_address_ref() // 10.0.0.0
+    /// ```
+    /// # use cidr::{errors::*, more::{canon::*, *}, parsers::*, *};
+    /// # use std::net::*;
+    /// assert_eq!(format!("{}", "10.0.0.0/8".parse::<Ipv4Cidr>()?.first_address_ref()), "10.0.0.0");
+    /// # Ok::<(), Box<dyn std::error::Error>>(())
     /// ```
     #[inline]
     pub const fn first_address_ref(&self) -> &Ipv4Addr {
@@ -130,9 +145,12 @@ impl Network<Ipv4Addr> {
 
     /// The last address, in which all bits after the prefix are set: in IPv4 the broadcast address, up to /30.
     ///
-    /// ```text
-    /// "192.0.2.48/28".parse::<Ipv4Cidr>()?.last_address() // 192.0.2.63
-    /// "2001:db8::/120".parse::<Ipv6Cidr>()?.last_address() // 2001:db8::ff
+    /// ```
+    /// # use cidr::{errors::*, more::{canon::*, *}, parsers::*, *};
+    /// # use std::net::*;
+    /// assert_eq!(format!("{}", "192.0.2.48/28".parse::<Ipv4Cidr>()?.last_address()), "192.0.2.63");
+    /// assert_eq!(format!("{}", "2001:db8::/120".parse::<Ipv6Cidr>()?.last_address()), "2001:db8::ff");
+    /// # Ok::<(), Box<dyn std::error::Error>>(())
     /// ```
     #[inline]
     pub const fn last_address(&self) -> Ipv4Addr {
@@ -141,8 +159,11 @@ impl Network<Ipv4Addr> {
 
     /// The host at the first address, with the prefix length of the network.
     ///
-    /// ```text
-    /// "192.0.2.48/28".parse::<Ipv4Cidr>()?.first() // 192.0.2.48/28
+    /// ```
+    /// # use cidr::{errors::*, more::{canon::*, *}, parsers::*, *};
+    /// # use std::net::*;
+    /// assert_eq!(format!("{}", "192.0.2.48/28".parse::<Ipv4Cidr>()?.first()), "192.0.2.48/28");
+    /// # Ok::<(), Box<dyn std::error::Error>>(())
     /// ```
     #[inline]
     pub const fn first(&self) -> Host<Ipv4Addr> {
@@ -151,8 +172,11 @@ impl Network<Ipv4Addr> {
 
     /// The host at the last address, with the prefix length of the network.
     ///
-    /// ```text
-    /// "192.0.2.48/28".parse::<Ipv4Cidr>()?.last() // 192.0.2.63/28
+    /// ```
+    /// # use cidr::{errors::*, more::{canon::*, *}, parsers::*, *};
+    /// # use std::net::*;
+    /// assert_eq!(format!("{}", "192.0.2.48/28".parse::<Ipv4Cidr>()?.last()), "192.0.2.63/28");
+    /// # Ok::<(), Box<dyn std::error::Error>>(())
     /// ```
     #[inline]
     pub const fn last(&self) -> Host<Ipv4Addr> {
@@ -171,8 +195,11 @@ impl Network<Ipv4Addr> {
 
     /// The prefix length in bits, at most 32 in IPv4 and 128 in IPv6.
     ///
-    /// ```text
-    /// "10.0.0.0/8".parse::<Ipv4Cidr>()?.network_length() // 8
+    /// ```
+    /// # use cidr::{errors::*, more::{canon::*, *}, parsers::*, *};
+    /// # use std::net::*;
+    /// assert_eq!("10.0.0.0/8".parse::<Ipv4Cidr>()?.network_length(), 8);
+    /// # Ok::<(), Box<dyn std::error::Error>>(())
     /// ```
     #[inline]
     pub const fn network_length(&self) -> u8 {
@@ -181,8 +208,11 @@ impl Network<Ipv4Addr> {
 
     /// The family of its addresses, which its type tells.
     ///
-    /// ```text
-    /// "192.0.2.48/28".parse::<Ipv4Cidr>()?.family() // Ipv4
+    /// ```
+    /// # use cidr::{errors::*, more::{canon::*, *}, parsers::*, *};
+    /// # use std::net::*;
+    /// assert_eq!(format!("{:?}", "192.0.2.48/28".parse::<Ipv4Cidr>()?.family()), "Ipv4");
+    /// # Ok::<(), Box<dyn std::error::Error>>(())
     /// ```
     #[inline]
     pub const fn family(&self) -> Family {
@@ -192,9 +222,12 @@ impl Network<Ipv4Addr> {
     /// Whether the network has only one address, that is, whether the prefix length is full: 32 in IPv4 and 128 in
     /// IPv6.
     ///
-    /// ```text
-    /// "10.0.0.1".parse::<Ipv4Cidr>()?.is_host_address() // true
-    /// "::/127".parse::<Ipv6Cidr>()?.is_host_address() // false
+    /// ```
+    /// # use cidr::{errors::*, more::{canon::*, *}, parsers::*, *};
+    /// # use std::net::*;
+    /// assert!("10.0.0.1".parse::<Ipv4Cidr>()?.is_host_address());
+    /// assert!(!("::/127".parse::<Ipv6Cidr>()?.is_host_address()));
+    /// # Ok::<(), Box<dyn std::error::Error>>(())
     /// ```
     #[inline]
     pub const fn is_host_address(&self) -> bool {
@@ -203,9 +236,12 @@ impl Network<Ipv4Addr> {
 
     /// The network mask: as many set bits as the prefix length says, then zeros.
     ///
-    /// ```text
-    /// "192.0.2.48/28".parse::<Ipv4Cidr>()?.mask() // 255.255.255.240
-    /// "2001:db8::/32".parse::<Ipv6Cidr>()?.mask() // ffff:ffff::
+    /// ```
+    /// # use cidr::{errors::*, more::{canon::*, *}, parsers::*, *};
+    /// # use std::net::*;
+    /// assert_eq!(format!("{}", "192.0.2.48/28".parse::<Ipv4Cidr>()?.mask()), "255.255.255.240");
+    /// assert_eq!(format!("{}", "2001:db8::/32".parse::<Ipv6Cidr>()?.mask()), "ffff:ffff::");
+    /// # Ok::<(), Box<dyn std::error::Error>>(())
     /// ```
     #[inline]
     pub const fn mask(&self) -> Ipv4Addr {
@@ -218,10 +254,13 @@ impl Network<Ipv4Addr> {
     /// An IPv6 network that holds IPv4-mapped addresses, as ::ffff:0:0/96, has no IPv4 address: the argument has to be
     /// of the network's own family, and nothing is mapped.
     ///
-    /// ```text
+    /// ```
+    /// # use cidr::{errors::*, more::{canon::*, *}, parsers::*, *};
+    /// # use std::net::*;
     /// let network = "192.0.2.48/28".parse::<Ipv4Cidr>()?;
-    /// network.contains(&Ipv4Addr::new(192, 0, 2, 63)) // true
-    /// network.contains(&Ipv4Addr::new(192, 0, 2, 64)) // false
+    /// assert!(network.contains(&Ipv4Addr::new(192, 0, 2, 63)));
+    /// assert!(!network.contains(&Ipv4Addr::new(192, 0, 2, 64)));
+    /// # Ok::<(), Box<dyn std::error::Error>>(())
     /// ```
     #[inline]
     pub const fn contains(&self, addr: &Ipv4Addr) -> bool {
@@ -233,10 +272,13 @@ impl Network<Ipv4Addr> {
     /// Two networks of which neither contains the other have no address in common, and in their order those inside a
     /// network follow it one after the other.
     ///
-    /// ```text
+    /// ```
+    /// # use cidr::{errors::*, more::{canon::*, *}, parsers::*, *};
+    /// # use std::net::*;
     /// let network = "10.0.0.0/8".parse::<Ipv4Cidr>()?;
-    /// network.contains_cidr(&"10.1.0.0/16".parse()?) // true
-    /// network.contains_cidr(&"8.0.0.0/6".parse()?) // false
+    /// assert!(network.contains_cidr(&"10.1.0.0/16".parse()?));
+    /// assert!(!network.contains_cidr(&"8.0.0.0/6".parse()?));
+    /// # Ok::<(), Box<dyn std::error::Error>>(())
     /// ```
     #[inline]
     pub const fn contains_cidr(&self, other: &Network<Ipv4Addr>) -> bool {
@@ -247,8 +289,11 @@ impl Network<Ipv4Addr> {
 
     /// The network, to be printed with its prefix length also where that is full.
     ///
-    /// ```text
-    /// "192.0.2.1".parse::<Ipv4Cidr>()?.with_length() // 192.0.2.1/32
+    /// ```
+    /// # use cidr::{errors::*, more::{canon::*, *}, parsers::*, *};
+    /// # use std::net::*;
+    /// assert_eq!(format!("{}", "192.0.2.1".parse::<Ipv4Cidr>()?.with_length()), "192.0.2.1/32");
+    /// # Ok::<(), Box<dyn std::error::Error>>(())
     /// ```
     #[inline]
     pub const fn with_length(&self) -> WithLength<Network<Ipv4Addr>> {
@@ -262,9 +307,12 @@ impl Network<Ipv6Addr> {
     /// Returns `NetworkLengthTooLongError` for a prefix length above the width, 32 or 128, and then `InvalidHostPart`
     /// for an address with a set bit after the first `len`.
     ///
-    /// ```text
-    /// Ipv4Cidr::new(Ipv4Addr::new(192, 0, 2, 48), 28)? // 192.0.2.48/28
-    /// Ipv4Cidr::new(Ipv4Addr::new(192, 0, 2, 48), 27) // Err(host part of address was not zero)
+    /// ```
+    /// # use cidr::{errors::*, more::{canon::*, *}, parsers::*, *};
+    /// # use std::net::*;
+    /// assert_eq!(format!("{}", Ipv4Cidr::new(Ipv4Addr::new(192, 0, 2, 48), 28)?), "192.0.2.48/28");
+    /// assert_eq!(format!("{:?}", Ipv4Cidr::new(Ipv4Addr::new(192, 0, 2, 48), 27)), "Err(host part of address was not zero)");
+    /// # Ok::<(), Box<dyn std::error::Error>>(())
     /// ```
     pub const fn new(addr: Ipv6Addr, len: u8) -> Result<Network<Ipv6Addr>, NetworkParseError> {
         if len > Family::Ipv6.len() {
@@ -280,9 +328,12 @@ impl Network<Ipv6Addr> {
     /// The network that has only this address, of full prefix length: /32 in IPv4 and /128 in IPv6. It is printed
     /// without the prefix length.
     ///
-    /// ```text
-    /// Ipv4Cidr::new_host(Ipv4Addr::new(192, 0, 2, 1)) // 192.0.2.1
-    /// Ipv6Cidr::new_host(Ipv6Addr::from_bits(1)) // ::1
+    /// ```
+    /// # use cidr::{errors::*, more::{canon::*, *}, parsers::*, *};
+    /// # use std::net::*;
+    /// assert_eq!(format!("{}", Ipv4Cidr::new_host(Ipv4Addr::new(192, 0, 2, 1))), "192.0.2.1");
+    /// assert_eq!(format!("{}", Ipv6Cidr::new_host(Ipv6Addr::from_bits(1))), "::1");
+    /// # Ok::<(), Box<dyn std::error::Error>>(())
     /// ```
     #[inline]
     pub const fn new_host(addr: Ipv6Addr) -> Network<Ipv6Addr> {
@@ -309,8 +360,11 @@ impl Network<Ipv6Addr> {
 
     /// The first address, in which no bit after the prefix is set: in IPv4 the network address, up to /30.
     ///
-    /// ```text
-    /// "192.0.2.48/28".parse::<Ipv4Cidr>()?.first_address() // 192.0.2.48
+    /// ```
+    /// # use cidr::{errors::*, more::{canon::*, *}, parsers::*, *};
+    /// # use std::net::*;
+    /// assert_eq!(format!("{}", "192.0.2.48/28".parse::<Ipv4Cidr>()?.first_address()), "192.0.2.48");
+    /// # Ok::<(), Box<dyn std::error::Error>>(())
     /// ```
     #[inline]
     pub const fn first_address(&self) -> Ipv6Addr {
@@ -319,8 +373,11 @@ impl Network<Ipv6Addr> {
 
     /// The first address, by reference.
     ///
-    /// ```text
-    /// "10.0.0.0/8".parse::<Ipv4Cidr>()?.first_address_ref() // 10.0.0.0
+    /// ```
+    /// # use cidr::{errors::*, more::{canon::*, *}, parsers::*, *};
+    /// # use std::net::*;
+    /// assert_eq!(format!("{}", "10.0.0.0/8".parse::<Ipv4Cidr>()?.first_address_ref()), "10.0.0.0");
+    /// # Ok::<(), Box<dyn std::error::Error>>(())
     /// ```
     #[inline]
     pub const fn first_address_ref(&self) -> &Ipv6Addr {
@@ -329,9 +386,12 @@ impl Network<Ipv6Addr> {
 
     /// The last address, in which all bits after the prefix are set: in IPv4 the broadcast address, up to /30.
     ///
-    /// ```text
-    /// "192.0.2.48/28".parse::<Ipv4Cidr>()?.last_address() // 192.0.2.63
-    /// "2001:db8::/120".parse::<Ipv6Cidr>()?.last_address() // 2001:db8::ff
+    /// ```
+    /// # use cidr::{errors::*, more::{canon::*, *}, parsers::*, *};
+    /// # use std::net::*;
+    /// assert_eq!(format!("{}", "192.0.2.48/28".parse::<Ipv4Cidr>()?.last_address()), "192.0.2.63");
+    /// assert_eq!(format!("{}", "2001:db8::/120".parse::<Ipv6Cidr>()?.last_address()), "2001:db8::ff");
+    /// # Ok::<(), Box<dyn std::error::Error>>(())
     /// ```
     #[inline]
     pub const fn last_address(&self) -> Ipv6Addr {
@@ -340,8 +400,11 @@ impl Network<Ipv6Addr> {
 
     /// The host at the first address, with the prefix length of the network.
     ///
-    /// ```text
-    /// "192.0.2.48/28".parse::<Ipv4Cidr>()?.first() // 192.0.2.48/28
+    /// ```
+    /// # use cidr::{errors::*, more::{canon::*, *}, parsers::*, *};
+    /// # use std::net::*;
+    /// assert_eq!(format!("{}", "192.0.2.48/28".parse::<Ipv4Cidr>()?.first()), "192.0.2.48/28");
+    /// # Ok::<(), Box<dyn std::error::Error>>(())
     /// ```
     #[inline]
     pub const fn first(&self) -> Host<Ipv6Addr> {
@@ -350,8 +413,11 @@ impl Network<Ipv6Addr> {
 
     /// The host at the last address, with the prefix length of the network.
     ///
-    /// ```text
-    /// "192.0.2.48/28".parse::<Ipv4Cidr>()?.last() // 192.0.2.63/28
+    /// ```
+    /// # use cidr::{errors::*, more::{canon::*, *}, parsers::*, *};
+    /// # use std::net::*;
+    /// assert_eq!(format!("{}", "192.0.2.48/28".parse::<Ipv4Cidr>()?.last()), "192.0.2.63/28");
+    /// # Ok::<(), Box<dyn std::error::Error>>(())
     /// ```
     #[inline]
     pub const fn last(&self) -> Host<Ipv6Addr> {
@@ -370,8 +436,11 @@ impl Network<Ipv6Addr> {
 
     /// The prefix length in bits, at most 32 in IPv4 and 128 in IPv6.
     ///
-    /// ```text
-    /// "10.0.0.0/8".parse::<Ipv4Cidr>()?.network_length() // 8
+    /// ```
+    /// # use cidr::{errors::*, more::{canon::*, *}, parsers::*, *};
+    /// # use std::net::*;
+    /// assert_eq!("10.0.0.0/8".parse::<Ipv4Cidr>()?.network_length(), 8);
+    /// # Ok::<(), Box<dyn std::error::Error>>(())
     /// ```
     #[inline]
     pub const fn network_length(&self) -> u8 {
@@ -380,8 +449,11 @@ impl Network<Ipv6Addr> {
 
     /// The family of its addresses, which its type tells.
     ///
-    /// ```text
-    /// "192.0.2.48/28".parse::<Ipv4Cidr>()?.family() // Ipv4
+    /// ```
+    /// # use cidr::{errors::*, more::{canon::*, *}, parsers::*, *};
+    /// # use std::net::*;
+    /// assert_eq!(format!("{:?}", "192.0.2.48/28".parse::<Ipv4Cidr>()?.family()), "Ipv4");
+    /// # Ok::<(), Box<dyn std::error::Error>>(())
     /// ```
     #[inline]
     pub const fn family(&self) -> Family {
@@ -391,9 +463,12 @@ impl Network<Ipv6Addr> {
     /// Whether the network has only one address, that is, whether the prefix length is full: 32 in IPv4 and 128 in
     /// IPv6.
     ///
-    /// ```text
-    /// "10.0.0.1".parse::<Ipv4Cidr>()?.is_host_address() // true
-    /// "::/127".parse::<Ipv6Cidr>()?.is_host_address() // false
+    /// ```
+    /// # use cidr::{errors::*, more::{canon::*, *}, parsers::*, *};
+    /// # use std::net::*;
+    /// assert!("10.0.0.1".parse::<Ipv4Cidr>()?.is_host_address());
+    /// assert!(!("::/127".parse::<Ipv6Cidr>()?.is_host_address()));
+    /// # Ok::<(), Box<dyn std::error::Error>>(())
     /// ```
     #[inline]
     pub const fn is_host_address(&self) -> bool {
@@ -402,9 +477,12 @@ impl Network<Ipv6Addr> {
 
     /// The network mask: as many set bits as the prefix length says, then zeros.
     ///
-    /// ```text
-    /// "192.0.2.48/28".parse::<Ipv4Cidr>()?.mask() // 255.255.255.240
-    /// "2001:db8::/32".parse::<Ipv6Cidr>()?.mask() // ffff:ffff::
+    /// ```
+    /// # use cidr::{errors::*, more::{canon::*, *}, parsers::*, *};
+    /// # use std::net::*;
+    /// assert_eq!(format!("{}", "192.0.2.48/28".parse::<Ipv4Cidr>()?.mask()), "255.255.255.240");
+    /// assert_eq!(format!("{}", "2001:db8::/32".parse::<Ipv6Cidr>()?.mask()), "ffff:ffff::");
+    /// # Ok::<(), Box<dyn std::error::Error>>(())
     /// ```
     #[inline]
     pub const fn mask(&self) -> Ipv6Addr {
@@ -417,10 +495,13 @@ impl Network<Ipv6Addr> {
     /// An IPv6 network that holds IPv4-mapped addresses, as ::ffff:0:0/96, has no IPv4 address: the argument has to be
     /// of the network's own family, and nothing is mapped.
     ///
-    /// ```text
+    /// ```
+    /// # use cidr::{errors::*, more::{canon::*, *}, parsers::*, *};
+    /// # use std::net::*;
     /// let network = "192.0.2.48/28".parse::<Ipv4Cidr>()?;
-    /// network.contains(&Ipv4Addr::new(192, 0, 2, 63)) // true
-    /// network.contains(&Ipv4Addr::new(192, 0, 2, 64)) // false
+    /// assert!(network.contains(&Ipv4Addr::new(192, 0, 2, 63)));
+    /// assert!(!network.contains(&Ipv4Addr::new(192, 0, 2, 64)));
+    /// # Ok::<(), Box<dyn std::error::Error>>(())
     /// ```
     #[inline]
     pub const fn contains(&self, addr: &Ipv6Addr) -> bool {
@@ -432,10 +513,13 @@ impl Network<Ipv6Addr> {
     /// Two networks of which neither contains the other have no address in common, and in their order those inside a
     /// network follow it one after the other.
     ///
-    /// ```text
+    /// ```
+    /// # use cidr::{errors::*, more::{canon::*, *}, parsers::*, *};
+    /// # use std::net::*;
     /// let network = "10.0.0.0/8".parse::<Ipv4Cidr>()?;
-    /// network.contains_cidr(&"10.1.0.0/16".parse()?) // true
-    /// network.contains_cidr(&"8.0.0.0/6".parse()?) // false
+    /// assert!(network.contains_cidr(&"10.1.0.0/16".parse()?));
+    /// assert!(!network.contains_cidr(&"8.0.0.0/6".parse()?));
+    /// # Ok::<(), Box<dyn std::error::Error>>(())
     /// ```
     #[inline]
     pub const fn contains_cidr(&self, other: &Network<Ipv6Addr>) -> bool {
@@ -446,8 +530,11 @@ impl Network<Ipv6Addr> {
 
     /// The network, to be printed with its prefix length also where that is full.
     ///
-    /// ```text
-    /// "192.0.2.1".parse::<Ipv4Cidr>()?.with_length() // 192.0.2.1/32
+    /// ```
+    /// # use cidr::{errors::*, more::{canon::*, *}, parsers::*, *};
+    /// # use std::net::*;
+    /// assert_eq!(format!("{}", "192.0.2.1".parse::<Ipv4Cidr>()?.with_length()), "192.0.2.1/32");
+    /// # Ok::<(), Box<dyn std::error::Error>>(())
     /// ```
     #[inline]
     pub const fn with_length(&self) -> WithLength<Network<Ipv6Addr>> {
@@ -591,9 +678,12 @@ impl<A: AddressText> Network<A> {
     /// The printed string, without a full prefix length, in an `ArrayString`, so that nothing is allocated. It has at
     /// most 18 bytes in IPv4 and 43 in IPv6. Parsing it gives the same network.
     ///
-    /// ```text
-    /// "192.0.2.1/32".parse::<Ipv4Cidr>()?.to_text() // 192.0.2.1
-    /// "2001:DB8:0::/32".parse::<Ipv6Cidr>()?.to_text() // 2001:db8::/32
+    /// ```
+    /// # use cidr::{errors::*, more::{canon::*, *}, parsers::*, *};
+    /// # use std::net::*;
+    /// assert_eq!(format!("{}", "192.0.2.1/32".parse::<Ipv4Cidr>()?.to_text()), "192.0.2.1");
+    /// assert_eq!(format!("{}", "2001:DB8:0::/32".parse::<Ipv6Cidr>()?.to_text()), "2001:db8::/32");
+    /// # Ok::<(), Box<dyn std::error::Error>>(())
     /// ```
     #[inline]
     pub fn to_text(&self) -> ArrayString<43> {
@@ -604,8 +694,11 @@ impl<A: AddressText> Network<A> {
 impl<A: AddressText> WithLength<Network<A>> {
     /// The printed string, with the prefix length also where that is full: at most 18 bytes in IPv4 and 43 in IPv6.
     ///
-    /// ```text
-    /// "::1".parse::<Ipv6Cidr>()?.with_length().to_text() // ::1/128
+    /// ```
+    /// # use cidr::{errors::*, more::{canon::*, *}, parsers::*, *};
+    /// # use std::net::*;
+    /// assert_eq!(format!("{}", "::1".parse::<Ipv6Cidr>()?.with_length().to_text()), "::1/128");
+    /// # Ok::<(), Box<dyn std::error::Error>>(())
     /// ```
     #[inline]
     pub fn to_text(&self) -> ArrayString<43> {

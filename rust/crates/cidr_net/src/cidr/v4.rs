@@ -12,10 +12,13 @@ impl Ipv4Cidr {
     /// The hosts at all addresses of the network, ascending, with its prefix length. None is left out: the network
     /// address and the broadcast address are among them.
     ///
-    /// ```text
+    /// ```
+    /// # use cidr::{errors::*, more::{canon::*, *}, parsers::*, *};
+    /// # use std::net::*;
     /// let mut hosts = "192.0.2.48/30".parse::<Ipv4Cidr>()?.iter();
-    /// hosts.next() // Some(192.0.2.48/30)
-    /// hosts.next_back() // Some(192.0.2.51/30)
+    /// assert_eq!(format!("{:?}", hosts.next()), "Some(192.0.2.48/30)");
+    /// assert_eq!(format!("{:?}", hosts.next_back()), "Some(192.0.2.51/30)");
+    /// # Ok::<(), Box<dyn std::error::Error>>(())
     /// ```
     #[inline]
     pub const fn iter(&self) -> InetIterator<Ipv4Addr> {

@@ -11,10 +11,13 @@ use crate::inet_iterator::InetIterator;
 impl Ipv6Cidr {
     /// The hosts at all addresses of the network, ascending, with its prefix length. None is left out.
     ///
-    /// ```text
+    /// ```
+    /// # use cidr::{errors::*, more::{canon::*, *}, parsers::*, *};
+    /// # use std::net::*;
     /// let mut hosts = "2001:db8::/126".parse::<Ipv6Cidr>()?.iter();
-    /// hosts.next() // Some(2001:db8::/126)
-    /// hosts.next_back() // Some(2001:db8::3/126)
+    /// assert_eq!(format!("{:?}", hosts.next()), "Some(2001:db8::/126)");
+    /// assert_eq!(format!("{:?}", hosts.next_back()), "Some(2001:db8::3/126)");
+    /// # Ok::<(), Box<dyn std::error::Error>>(())
     /// ```
     #[inline]
     pub const fn iter(&self) -> InetIterator<Ipv6Addr> {

@@ -17,8 +17,11 @@ impl IpCidr {
     ///
     /// No other network's bytes begin with them, in either family.
     ///
-    /// ```text
-    /// "10.0.0.0/8".parse::<IpCidr>()?.to_compact() // [8, 10, 0, 0, 0]
+    /// ```
+    /// # use cidr::{errors::*, more::{canon::*, *}, parsers::*, *};
+    /// # use std::net::*;
+    /// assert_eq!(format!("{:?}", "10.0.0.0/8".parse::<IpCidr>()?.to_compact()), "[8, 10, 0, 0, 0]");
+    /// # Ok::<(), Box<dyn std::error::Error>>(())
     /// ```
     #[inline]
     pub fn to_compact(&self) -> ArrayVec<u8, 17> {
@@ -33,9 +36,12 @@ impl IpCidr {
     /// Where no network's bytes come first, it returns the first error of: no byte (`Truncated`), `InvalidTag`, too few
     /// octets (`Truncated`), `InvalidAny`, `InvalidHostPart`.
     ///
-    /// ```text
-    /// IpCidr::from_compact(&[8, 10, 0, 0, 0]) // Ok((V4(10.0.0.0/8), 5))
-    /// IpCidr::from_compact(&[8, 10, 0, 0, 1]) // Err(host part of address was not zero)
+    /// ```
+    /// # use cidr::{errors::*, more::{canon::*, *}, parsers::*, *};
+    /// # use std::net::*;
+    /// assert_eq!(format!("{:?}", IpCidr::from_compact(&[8, 10, 0, 0, 0])), "Ok((V4(10.0.0.0/8), 5))");
+    /// assert_eq!(format!("{:?}", IpCidr::from_compact(&[8, 10, 0, 0, 1])), "Err(host part of address was not zero)");
+    /// # Ok::<(), Box<dyn std::error::Error>>(())
     /// ```
     pub fn from_compact(bytes: &[u8]) -> Result<(IpCidr, usize), CompactError> {
         let (value, used) = match AnyIpCidr::from_compact(bytes) {
@@ -55,8 +61,11 @@ impl IpInet {
     ///
     /// No other host's bytes begin with them, in either family.
     ///
-    /// ```text
-    /// "10.4.3.2/8".parse::<IpInet>()?.to_compact() // [8, 10, 4, 3, 2]
+    /// ```
+    /// # use cidr::{errors::*, more::{canon::*, *}, parsers::*, *};
+    /// # use std::net::*;
+    /// assert_eq!(format!("{:?}", "10.4.3.2/8".parse::<IpInet>()?.to_compact()), "[8, 10, 4, 3, 2]");
+    /// # Ok::<(), Box<dyn std::error::Error>>(())
     /// ```
     #[inline]
     pub fn to_compact(&self) -> ArrayVec<u8, 17> {
@@ -71,9 +80,12 @@ impl IpInet {
     /// Where no host's bytes come first, it returns the first error of: no byte (`Truncated`), `InvalidTag`, too few
     /// octets (`Truncated`), `InvalidAny`.
     ///
-    /// ```text
-    /// IpInet::from_compact(&[8, 10, 4, 3, 2]) // Ok((V4(10.4.3.2/8), 5))
-    /// IpInet::from_compact(&[255]) // Err(invalid value: `any`)
+    /// ```
+    /// # use cidr::{errors::*, more::{canon::*, *}, parsers::*, *};
+    /// # use std::net::*;
+    /// assert_eq!(format!("{:?}", IpInet::from_compact(&[8, 10, 4, 3, 2])), "Ok((V4(10.4.3.2/8), 5))");
+    /// assert_eq!(format!("{:?}", IpInet::from_compact(&[255])), "Err(invalid value: `any`)");
+    /// # Ok::<(), Box<dyn std::error::Error>>(())
     /// ```
     pub fn from_compact(bytes: &[u8]) -> Result<(IpInet, usize), CompactError> {
         let front = match read_front(bytes) {
@@ -99,8 +111,11 @@ impl AnyIpCidr {
     ///
     /// No other value's bytes begin with them, in either family.
     ///
-    /// ```text
-    /// AnyIpCidr::Any.to_compact() // [255]
+    /// ```
+    /// # use cidr::{errors::*, more::{canon::*, *}, parsers::*, *};
+    /// # use std::net::*;
+    /// assert_eq!(format!("{:?}", AnyIpCidr::Any.to_compact()), "[255]");
+    /// # Ok::<(), Box<dyn std::error::Error>>(())
     /// ```
     #[inline]
     pub fn to_compact(&self) -> ArrayVec<u8, 17> {
@@ -116,9 +131,12 @@ impl AnyIpCidr {
     /// Where no value's bytes come first, it returns the first error of: no byte (`Truncated`), `InvalidTag`, too few
     /// octets (`Truncated`), `InvalidHostPart`.
     ///
-    /// ```text
-    /// AnyIpCidr::from_compact(&[255, 1]) // Ok((Any, 1))
-    /// AnyIpCidr::from_compact(&[]) // Err(compact bytes end too early)
+    /// ```
+    /// # use cidr::{errors::*, more::{canon::*, *}, parsers::*, *};
+    /// # use std::net::*;
+    /// assert_eq!(format!("{:?}", AnyIpCidr::from_compact(&[255, 1])), "Ok((Any, 1))");
+    /// assert_eq!(format!("{:?}", AnyIpCidr::from_compact(&[])), "Err(compact bytes end too early)");
+    /// # Ok::<(), Box<dyn std::error::Error>>(())
     /// ```
     pub fn from_compact(bytes: &[u8]) -> Result<(AnyIpCidr, usize), CompactError> {
         let front = match read_front(bytes) {

@@ -16,8 +16,11 @@ impl<A: AddressOctets> Network<A> {
     ///
     /// No other network's bytes begin with them, so that bytes of several networks may follow each other.
     ///
-    /// ```text
-    /// "192.0.2.0/24".parse::<Ipv4Cidr>()?.to_compact() // [24, 192, 0, 2, 0]
+    /// ```
+    /// # use cidr::{errors::*, more::{canon::*, *}, parsers::*, *};
+    /// # use std::net::*;
+    /// assert_eq!(format!("{:?}", "192.0.2.0/24".parse::<Ipv4Cidr>()?.to_compact()), "[24, 192, 0, 2, 0]");
+    /// # Ok::<(), Box<dyn std::error::Error>>(())
     /// ```
     #[inline]
     pub fn to_compact(&self) -> ArrayVec<u8, 17> {
@@ -29,9 +32,12 @@ impl<A: AddressOctets> Network<A> {
     /// Where no network's bytes come first, it returns the first error of: no byte (`Truncated`), `InvalidTag`, too few
     /// octets (`Truncated`), `InvalidAny`, `InvalidFamily`, `InvalidHostPart`.
     ///
-    /// ```text
-    /// Ipv4Cidr::from_compact(&[8, 10, 0, 0, 0, 99]) // Ok((10.0.0.0/8, 5))
-    /// Ipv4Cidr::from_compact(&[24, 192, 0]) // Err(compact bytes end too early)
+    /// ```
+    /// # use cidr::{errors::*, more::{canon::*, *}, parsers::*, *};
+    /// # use std::net::*;
+    /// assert_eq!(format!("{:?}", Ipv4Cidr::from_compact(&[8, 10, 0, 0, 0, 99])), "Ok((10.0.0.0/8, 5))");
+    /// assert_eq!(format!("{:?}", Ipv4Cidr::from_compact(&[24, 192, 0])), "Err(compact bytes end too early)");
+    /// # Ok::<(), Box<dyn std::error::Error>>(())
     /// ```
     #[inline]
     pub fn from_compact(bytes: &[u8]) -> Result<(Network<A>, usize), CompactError> {
@@ -50,8 +56,11 @@ impl<A: AddressOctets> Host<A> {
     ///
     /// No other host's bytes begin with them, so that bytes of several hosts may follow each other.
     ///
-    /// ```text
-    /// "192.0.2.1/24".parse::<Ipv4Inet>()?.to_compact() // [24, 192, 0, 2, 1]
+    /// ```
+    /// # use cidr::{errors::*, more::{canon::*, *}, parsers::*, *};
+    /// # use std::net::*;
+    /// assert_eq!(format!("{:?}", "192.0.2.1/24".parse::<Ipv4Inet>()?.to_compact()), "[24, 192, 0, 2, 1]");
+    /// # Ok::<(), Box<dyn std::error::Error>>(())
     /// ```
     #[inline]
     pub fn to_compact(&self) -> ArrayVec<u8, 17> {
@@ -63,9 +72,12 @@ impl<A: AddressOctets> Host<A> {
     /// Where no host's bytes come first, it returns the first error of: no byte (`Truncated`), `InvalidTag`, too few
     /// octets (`Truncated`), `InvalidAny`, `InvalidFamily`.
     ///
-    /// ```text
-    /// Ipv4Inet::from_compact(&[8, 10, 4, 3, 2]) // Ok((10.4.3.2/8, 5))
-    /// Ipv4Inet::from_compact(&[33, 10, 4, 3, 2]) // Err(invalid tag)
+    /// ```
+    /// # use cidr::{errors::*, more::{canon::*, *}, parsers::*, *};
+    /// # use std::net::*;
+    /// assert_eq!(format!("{:?}", Ipv4Inet::from_compact(&[8, 10, 4, 3, 2])), "Ok((10.4.3.2/8, 5))");
+    /// assert_eq!(format!("{:?}", Ipv4Inet::from_compact(&[33, 10, 4, 3, 2])), "Err(invalid tag)");
+    /// # Ok::<(), Box<dyn std::error::Error>>(())
     /// ```
     #[inline]
     pub fn from_compact(bytes: &[u8]) -> Result<(Host<A>, usize), CompactError> {

@@ -24,8 +24,11 @@ use core::str::FromStr;
 /// All IPv4 hosts come before all IPv6 hosts, and those of one family are ordered by address and then by prefix length.
 /// Steps stay in the network.
 ///
-/// ```text
-/// "2001:db8::5/32".parse::<IpInet>()? // 2001:db8::5/32
+/// ```
+/// # use cidr::{errors::*, more::{canon::*, *}, parsers::*, *};
+/// # use std::net::*;
+/// assert_eq!(format!("{}", "2001:db8::5/32".parse::<IpInet>()?), "2001:db8::5/32");
+/// # Ok::<(), Box<dyn std::error::Error>>(())
 /// ```
 #[derive(Clone, Copy, Debug, PartialEq, Eq, PartialOrd, Ord, Hash)]
 pub enum IpInet {
@@ -38,9 +41,12 @@ impl IpInet {
     ///
     /// Returns an error only for a prefix length above the width, 32 or 128.
     ///
-    /// ```text
-    /// IpInet::new("2001:db8::5".parse()?, 32)? // 2001:db8::5/32
-    /// IpInet::new("192.0.2.50".parse()?, 33).is_err() // true
+    /// ```
+    /// # use cidr::{errors::*, more::{canon::*, *}, parsers::*, *};
+    /// # use std::net::*;
+    /// assert_eq!(format!("{}", IpInet::new("2001:db8::5".parse()?, 32)?), "2001:db8::5/32");
+    /// assert!(IpInet::new("192.0.2.50".parse()?, 33).is_err());
+    /// # Ok::<(), Box<dyn std::error::Error>>(())
     /// ```
     pub const fn new(addr: IpAddr, len: u8) -> Result<IpInet, NetworkLengthTooLongError> {
         match addr {
@@ -57,8 +63,11 @@ impl IpInet {
 
     /// The host of full prefix length, whose network has only this address: /32 in IPv4 and /128 in IPv6.
     ///
-    /// ```text
-    /// IpInet::new_host("192.0.2.1".parse()?) // 192.0.2.1
+    /// ```
+    /// # use cidr::{errors::*, more::{canon::*, *}, parsers::*, *};
+    /// # use std::net::*;
+    /// assert_eq!(format!("{}", IpInet::new_host("192.0.2.1".parse()?)), "192.0.2.1");
+    /// # Ok::<(), Box<dyn std::error::Error>>(())
     /// ```
     #[inline]
     pub const fn new_host(addr: IpAddr) -> IpInet {
@@ -70,10 +79,13 @@ impl IpInet {
 
     /// Steps to the next address of the network. From the last one it wraps to the first, and returns true.
     ///
-    /// ```text
+    /// ```
+    /// # use cidr::{errors::*, more::{canon::*, *}, parsers::*, *};
+    /// # use std::net::*;
     /// let mut host = "192.0.2.63/28".parse::<IpInet>()?;
-    /// host.increment() // true
-    /// host // 192.0.2.48/28
+    /// assert!(host.increment());
+    /// assert_eq!(format!("{}", host), "192.0.2.48/28");
+    /// # Ok::<(), Box<dyn std::error::Error>>(())
     /// ```
     #[inline]
     pub const fn increment(&mut self) -> bool {
@@ -85,10 +97,13 @@ impl IpInet {
 
     /// Steps to the previous address of the network. From the first one it wraps to the last, and returns true.
     ///
-    /// ```text
+    /// ```
+    /// # use cidr::{errors::*, more::{canon::*, *}, parsers::*, *};
+    /// # use std::net::*;
     /// let mut host = "2001:db8::/112".parse::<IpInet>()?;
-    /// host.decrement() // true
-    /// host // 2001:db8::ffff/112
+    /// assert!(host.decrement());
+    /// assert_eq!(format!("{}", host), "2001:db8::ffff/112");
+    /// # Ok::<(), Box<dyn std::error::Error>>(())
     /// ```
     #[inline]
     pub const fn decrement(&mut self) -> bool {
@@ -101,9 +116,12 @@ impl IpInet {
     /// The host at the next address of the network, or `None` at the last one. It takes and returns a value, and is not
     /// `Iterator::next`.
     ///
-    /// ```text
-    /// "192.0.2.62/28".parse::<IpInet>()?.next() // Some(V4(192.0.2.63/28))
-    /// "192.0.2.63/28".parse::<IpInet>()?.next() // None
+    /// ```
+    /// # use cidr::{errors::*, more::{canon::*, *}, parsers::*, *};
+    /// # use std::net::*;
+    /// assert_eq!(format!("{:?}", "192.0.2.62/28".parse::<IpInet>()?.next()), "Some(V4(192.0.2.63/28))");
+    /// assert_eq!(format!("{:?}", "192.0.2.63/28".parse::<IpInet>()?.next()), "None");
+    /// # Ok::<(), Box<dyn std::error::Error>>(())
     /// ```
     pub const fn next(self) -> Option<IpInet> {
         match self {
@@ -120,8 +138,11 @@ impl IpInet {
 
     /// The host at the previous address of the network, or `None` at the first one.
     ///
-    /// ```text
-    /// "2001:db8::5/32".parse::<IpInet>()?.previous() // Some(V6(2001:db8::4/32))
+    /// ```
+    /// # use cidr::{errors::*, more::{canon::*, *}, parsers::*, *};
+    /// # use std::net::*;
+    /// assert_eq!(format!("{:?}", "2001:db8::5/32".parse::<IpInet>()?.previous()), "Some(V6(2001:db8::4/32))");
+    /// # Ok::<(), Box<dyn std::error::Error>>(())
     /// ```
     pub const fn previous(self) -> Option<IpInet> {
         match self {
@@ -141,9 +162,12 @@ impl IpInet {
     /// Any step is exact, also one above the number of addresses, and takes constant time. Where it does not wrap, `+`
     /// returns the same host.
     ///
-    /// ```text
+    /// ```
+    /// # use cidr::{errors::*, more::{canon::*, *}, parsers::*, *};
+    /// # use std::net::*;
     /// let host = "192.0.2.50/28".parse::<IpInet>()?;
-    /// host.overflowing_add(14) // (V4(192.0.2.48/28), true)
+    /// assert_eq!(format!("{:?}", host.overflowing_add(14)), "(V4(192.0.2.48/28), true)");
+    /// # Ok::<(), Box<dyn std::error::Error>>(())
     /// ```
     pub const fn overflowing_add(self, step: u128) -> (IpInet, bool) {
         match self {
@@ -163,8 +187,11 @@ impl IpInet {
     /// Any step is exact, also one above the number of addresses, and takes constant time. Where it does not wrap, `-`
     /// returns the same host.
     ///
-    /// ```text
-    /// "10.0.0.7/29".parse::<IpInet>()?.overflowing_sub(8) // (V4(10.0.0.7/29), true)
+    /// ```
+    /// # use cidr::{errors::*, more::{canon::*, *}, parsers::*, *};
+    /// # use std::net::*;
+    /// assert_eq!(format!("{:?}", "10.0.0.7/29".parse::<IpInet>()?.overflowing_sub(8)), "(V4(10.0.0.7/29), true)");
+    /// # Ok::<(), Box<dyn std::error::Error>>(())
     /// ```
     pub const fn overflowing_sub(self, step: u128) -> (IpInet, bool) {
         match self {
@@ -181,8 +208,11 @@ impl IpInet {
 
     /// The network that the host is in: the bits after the prefix are unset.
     ///
-    /// ```text
-    /// "2001:db8::5/32".parse::<IpInet>()?.network() // 2001:db8::/32
+    /// ```
+    /// # use cidr::{errors::*, more::{canon::*, *}, parsers::*, *};
+    /// # use std::net::*;
+    /// assert_eq!(format!("{}", "2001:db8::5/32".parse::<IpInet>()?.network()), "2001:db8::/32");
+    /// # Ok::<(), Box<dyn std::error::Error>>(())
     /// ```
     #[inline]
     pub const fn network(&self) -> IpCidr {
@@ -194,8 +224,11 @@ impl IpInet {
 
     /// The address, without the prefix length.
     ///
-    /// ```text
-    /// "2001:db8::5/32".parse::<IpInet>()?.address() // 2001:db8::5
+    /// ```
+    /// # use cidr::{errors::*, more::{canon::*, *}, parsers::*, *};
+    /// # use std::net::*;
+    /// assert_eq!(format!("{}", "2001:db8::5/32".parse::<IpInet>()?.address()), "2001:db8::5");
+    /// # Ok::<(), Box<dyn std::error::Error>>(())
     /// ```
     #[inline]
     pub const fn address(&self) -> IpAddr {
@@ -208,8 +241,11 @@ impl IpInet {
     /// The first address of the network, in which no bit after the prefix is set: in IPv4 the network address, up to
     /// /30.
     ///
-    /// ```text
-    /// "192.0.2.50/28".parse::<IpInet>()?.first_address() // 192.0.2.48
+    /// ```
+    /// # use cidr::{errors::*, more::{canon::*, *}, parsers::*, *};
+    /// # use std::net::*;
+    /// assert_eq!(format!("{}", "192.0.2.50/28".parse::<IpInet>()?.first_address()), "192.0.2.48");
+    /// # Ok::<(), Box<dyn std::error::Error>>(())
     /// ```
     #[inline]
     pub const fn first_address(&self) -> IpAddr {
@@ -222,8 +258,11 @@ impl IpInet {
     /// The last address of the network, in which all bits after the prefix are set: in IPv4 the broadcast address, up
     /// to /30.
     ///
-    /// ```text
-    /// "192.0.2.50/28".parse::<IpInet>()?.last_address() // 192.0.2.63
+    /// ```
+    /// # use cidr::{errors::*, more::{canon::*, *}, parsers::*, *};
+    /// # use std::net::*;
+    /// assert_eq!(format!("{}", "192.0.2.50/28".parse::<IpInet>()?.last_address()), "192.0.2.63");
+    /// # Ok::<(), Box<dyn std::error::Error>>(())
     /// ```
     #[inline]
     pub const fn last_address(&self) -> IpAddr {
@@ -235,8 +274,11 @@ impl IpInet {
 
     /// The host at the first address of the network, with the same prefix length.
     ///
-    /// ```text
-    /// "10.4.3.2/8".parse::<IpInet>()?.first() // 10.0.0.0/8
+    /// ```
+    /// # use cidr::{errors::*, more::{canon::*, *}, parsers::*, *};
+    /// # use std::net::*;
+    /// assert_eq!(format!("{}", "10.4.3.2/8".parse::<IpInet>()?.first()), "10.0.0.0/8");
+    /// # Ok::<(), Box<dyn std::error::Error>>(())
     /// ```
     #[inline]
     pub const fn first(&self) -> IpInet {
@@ -248,8 +290,11 @@ impl IpInet {
 
     /// The host at the last address of the network, with the same prefix length.
     ///
-    /// ```text
-    /// "10.4.3.2/8".parse::<IpInet>()?.last() // 10.255.255.255/8
+    /// ```
+    /// # use cidr::{errors::*, more::{canon::*, *}, parsers::*, *};
+    /// # use std::net::*;
+    /// assert_eq!(format!("{}", "10.4.3.2/8".parse::<IpInet>()?.last()), "10.255.255.255/8");
+    /// # Ok::<(), Box<dyn std::error::Error>>(())
     /// ```
     #[inline]
     pub const fn last(&self) -> IpInet {
@@ -261,8 +306,11 @@ impl IpInet {
 
     /// The prefix length in bits, at most 32 in IPv4 and 128 in IPv6.
     ///
-    /// ```text
-    /// "2001:db8::5/32".parse::<IpInet>()?.network_length() // 32
+    /// ```
+    /// # use cidr::{errors::*, more::{canon::*, *}, parsers::*, *};
+    /// # use std::net::*;
+    /// assert_eq!("2001:db8::5/32".parse::<IpInet>()?.network_length(), 32);
+    /// # Ok::<(), Box<dyn std::error::Error>>(())
     /// ```
     #[inline]
     pub const fn network_length(&self) -> u8 {
@@ -274,8 +322,11 @@ impl IpInet {
 
     /// The family of the address.
     ///
-    /// ```text
-    /// "2001:db8::5/32".parse::<IpInet>()?.family() // Ipv6
+    /// ```
+    /// # use cidr::{errors::*, more::{canon::*, *}, parsers::*, *};
+    /// # use std::net::*;
+    /// assert_eq!(format!("{:?}", "2001:db8::5/32".parse::<IpInet>()?.family()), "Ipv6");
+    /// # Ok::<(), Box<dyn std::error::Error>>(())
     /// ```
     #[inline]
     pub const fn family(&self) -> Family {
@@ -288,8 +339,11 @@ impl IpInet {
     /// Whether the network of the host has only one address, that is, whether the prefix length is full: 32 in IPv4 and
     /// 128 in IPv6.
     ///
-    /// ```text
-    /// "192.0.2.50".parse::<IpInet>()?.is_host_address() // true
+    /// ```
+    /// # use cidr::{errors::*, more::{canon::*, *}, parsers::*, *};
+    /// # use std::net::*;
+    /// assert!("192.0.2.50".parse::<IpInet>()?.is_host_address());
+    /// # Ok::<(), Box<dyn std::error::Error>>(())
     /// ```
     #[inline]
     pub const fn is_host_address(&self) -> bool {
@@ -301,8 +355,11 @@ impl IpInet {
 
     /// The network mask: as many set bits as the prefix length says, then zeros.
     ///
-    /// ```text
-    /// "192.0.2.50/28".parse::<IpInet>()?.mask() // 255.255.255.240
+    /// ```
+    /// # use cidr::{errors::*, more::{canon::*, *}, parsers::*, *};
+    /// # use std::net::*;
+    /// assert_eq!(format!("{}", "192.0.2.50/28".parse::<IpInet>()?.mask()), "255.255.255.240");
+    /// # Ok::<(), Box<dyn std::error::Error>>(())
     /// ```
     #[inline]
     pub const fn mask(&self) -> IpAddr {
@@ -316,10 +373,13 @@ impl IpInet {
     ///
     /// No network contains an address of the other family: an IPv4-mapped IPv6 address is in no IPv4 network.
     ///
-    /// ```text
+    /// ```
+    /// # use cidr::{errors::*, more::{canon::*, *}, parsers::*, *};
+    /// # use std::net::*;
     /// let host = "192.0.2.50/28".parse::<IpInet>()?;
-    /// host.contains(&"192.0.2.63".parse()?) // true
-    /// host.contains(&"::ffff:192.0.2.63".parse()?) // false
+    /// assert!(host.contains(&"192.0.2.63".parse()?));
+    /// assert!(!host.contains(&"::ffff:192.0.2.63".parse()?));
+    /// # Ok::<(), Box<dyn std::error::Error>>(())
     /// ```
     #[inline]
     pub const fn contains(&self, addr: &IpAddr) -> bool {
@@ -332,8 +392,11 @@ impl IpInet {
 
     /// Whether this is an IPv4 host.
     ///
-    /// ```text
-    /// "192.0.2.50/28".parse::<IpInet>()?.is_ipv4() // true
+    /// ```
+    /// # use cidr::{errors::*, more::{canon::*, *}, parsers::*, *};
+    /// # use std::net::*;
+    /// assert!("192.0.2.50/28".parse::<IpInet>()?.is_ipv4());
+    /// # Ok::<(), Box<dyn std::error::Error>>(())
     /// ```
     #[inline]
     pub const fn is_ipv4(&self) -> bool {
@@ -342,8 +405,11 @@ impl IpInet {
 
     /// Whether this is an IPv6 host, also where its address is IPv4-mapped.
     ///
-    /// ```text
-    /// "::ffff:192.0.2.50/124".parse::<IpInet>()?.is_ipv6() // true
+    /// ```
+    /// # use cidr::{errors::*, more::{canon::*, *}, parsers::*, *};
+    /// # use std::net::*;
+    /// assert!("::ffff:192.0.2.50/124".parse::<IpInet>()?.is_ipv6());
+    /// # Ok::<(), Box<dyn std::error::Error>>(())
     /// ```
     #[inline]
     pub const fn is_ipv6(&self) -> bool {
@@ -353,8 +419,11 @@ impl IpInet {
     /// The printed string, with all bits of the address and without a full prefix length, in an `ArrayString`, so that
     /// nothing is allocated. It has at most 18 bytes in IPv4 and 43 in IPv6.
     ///
-    /// ```text
-    /// "10.4.3.2/8".parse::<IpInet>()?.to_text() // 10.4.3.2/8
+    /// ```
+    /// # use cidr::{errors::*, more::{canon::*, *}, parsers::*, *};
+    /// # use std::net::*;
+    /// assert_eq!(format!("{}", "10.4.3.2/8".parse::<IpInet>()?.to_text()), "10.4.3.2/8");
+    /// # Ok::<(), Box<dyn std::error::Error>>(())
     /// ```
     #[inline]
     pub fn to_text(&self) -> ArrayString<43> {
@@ -366,8 +435,11 @@ impl IpInet {
 
     /// The host, to be printed with its prefix length also where that is full.
     ///
-    /// ```text
-    /// "10.0.0.1".parse::<IpInet>()?.with_length() // 10.0.0.1/32
+    /// ```
+    /// # use cidr::{errors::*, more::{canon::*, *}, parsers::*, *};
+    /// # use std::net::*;
+    /// assert_eq!(format!("{}", "10.0.0.1".parse::<IpInet>()?.with_length()), "10.0.0.1/32");
+    /// # Ok::<(), Box<dyn std::error::Error>>(())
     /// ```
     #[inline]
     pub const fn with_length(&self) -> WithLength<IpInet> {
@@ -378,8 +450,11 @@ impl IpInet {
 impl WithLength<IpInet> {
     /// The printed string, with the prefix length also where that is full: at most 18 bytes in IPv4 and 43 in IPv6.
     ///
-    /// ```text
-    /// "::1".parse::<IpInet>()?.with_length().to_text() // ::1/128
+    /// ```
+    /// # use cidr::{errors::*, more::{canon::*, *}, parsers::*, *};
+    /// # use std::net::*;
+    /// assert_eq!(format!("{}", "::1".parse::<IpInet>()?.with_length().to_text()), "::1/128");
+    /// # Ok::<(), Box<dyn std::error::Error>>(())
     /// ```
     #[inline]
     pub fn to_text(&self) -> ArrayString<43> {

@@ -29,9 +29,12 @@ use core::str::FromStr;
 /// is in. Steps stay in the network: they change the bits after the prefix only. Hosts are ordered by address and then
 /// by prefix length. A string with no slash is parsed as a host of full prefix length.
 ///
-/// ```text
-/// "192.0.2.50/28".parse::<Ipv4Inet>()? // 192.0.2.50/28
-/// "192.0.2.50/33".parse::<Ipv4Inet>().is_err() // true
+/// ```
+/// # use cidr::{errors::*, more::{canon::*, *}, parsers::*, *};
+/// # use std::net::*;
+/// assert_eq!(format!("{}", "192.0.2.50/28".parse::<Ipv4Inet>()?), "192.0.2.50/28");
+/// assert!("192.0.2.50/33".parse::<Ipv4Inet>().is_err());
+/// # Ok::<(), Box<dyn std::error::Error>>(())
 /// ```
 pub struct Host<A: AddressBits> {
     address: A,
@@ -58,9 +61,12 @@ impl Host<Ipv4Addr> {
     ///
     /// Returns an error only for a prefix length above the width, 32 or 128.
     ///
-    /// ```text
-    /// Ipv4Inet::new(Ipv4Addr::new(192, 0, 2, 50), 28)? // 192.0.2.50/28
-    /// Ipv6Inet::new(Ipv6Addr::from_bits(1), 129).is_err() // true
+    /// ```
+    /// # use cidr::{errors::*, more::{canon::*, *}, parsers::*, *};
+    /// # use std::net::*;
+    /// assert_eq!(format!("{}", Ipv4Inet::new(Ipv4Addr::new(192, 0, 2, 50), 28)?), "192.0.2.50/28");
+    /// assert!(Ipv6Inet::new(Ipv6Addr::from_bits(1), 129).is_err());
+    /// # Ok::<(), Box<dyn std::error::Error>>(())
     /// ```
     #[inline]
     pub const fn new(addr: Ipv4Addr, len: u8) -> Result<Host<Ipv4Addr>, NetworkLengthTooLongError> {
@@ -79,9 +85,12 @@ impl Host<Ipv4Addr> {
     /// The host of full prefix length, whose network has only this address: /32 in IPv4 and /128 in IPv6. It is printed
     /// without the prefix length.
     ///
-    /// ```text
-    /// Ipv4Inet::new_host(Ipv4Addr::new(192, 0, 2, 1)) // 192.0.2.1
-    /// Ipv6Inet::new_host(Ipv6Addr::from_bits(1)) // ::1
+    /// ```
+    /// # use cidr::{errors::*, more::{canon::*, *}, parsers::*, *};
+    /// # use std::net::*;
+    /// assert_eq!(format!("{}", Ipv4Inet::new_host(Ipv4Addr::new(192, 0, 2, 1))), "192.0.2.1");
+    /// assert_eq!(format!("{}", Ipv6Inet::new_host(Ipv6Addr::from_bits(1))), "::1");
+    /// # Ok::<(), Box<dyn std::error::Error>>(())
     /// ```
     #[inline]
     pub const fn new_host(addr: Ipv4Addr) -> Host<Ipv4Addr> {
@@ -90,10 +99,13 @@ impl Host<Ipv4Addr> {
 
     /// Steps to the next address of the network. From the last one it wraps to the first, and returns true.
     ///
-    /// ```text
+    /// ```
+    /// # use cidr::{errors::*, more::{canon::*, *}, parsers::*, *};
+    /// # use std::net::*;
     /// let mut host = "192.0.2.63/28".parse::<Ipv4Inet>()?;
-    /// host.increment() // true
-    /// host // 192.0.2.48/28
+    /// assert!(host.increment());
+    /// assert_eq!(format!("{}", host), "192.0.2.48/28");
+    /// # Ok::<(), Box<dyn std::error::Error>>(())
     /// ```
     #[inline]
     pub const fn increment(&mut self) -> bool {
@@ -104,10 +116,13 @@ impl Host<Ipv4Addr> {
 
     /// Steps to the previous address of the network. From the first one it wraps to the last, and returns true.
     ///
-    /// ```text
+    /// ```
+    /// # use cidr::{errors::*, more::{canon::*, *}, parsers::*, *};
+    /// # use std::net::*;
     /// let mut host = "2001:db8::/112".parse::<Ipv6Inet>()?;
-    /// host.decrement() // true
-    /// host // 2001:db8::ffff/112
+    /// assert!(host.decrement());
+    /// assert_eq!(format!("{}", host), "2001:db8::ffff/112");
+    /// # Ok::<(), Box<dyn std::error::Error>>(())
     /// ```
     #[inline]
     pub const fn decrement(&mut self) -> bool {
@@ -119,9 +134,12 @@ impl Host<Ipv4Addr> {
     /// The host at the next address of the network, or `None` at the last one. It takes and returns a value, and is not
     /// `Iterator::next`.
     ///
-    /// ```text
-    /// "192.0.2.62/28".parse::<Ipv4Inet>()?.next() // Some(192.0.2.63/28)
-    /// "192.0.2.63/28".parse::<Ipv4Inet>()?.next() // None
+    /// ```
+    /// # use cidr::{errors::*, more::{canon::*, *}, parsers::*, *};
+    /// # use std::net::*;
+    /// assert_eq!(format!("{:?}", "192.0.2.62/28".parse::<Ipv4Inet>()?.next()), "Some(192.0.2.63/28)");
+    /// assert_eq!(format!("{:?}", "192.0.2.63/28".parse::<Ipv4Inet>()?.next()), "None");
+    /// # Ok::<(), Box<dyn std::error::Error>>(())
     /// ```
     #[inline]
     pub const fn next(self) -> Option<Host<Ipv4Addr>> {
@@ -131,9 +149,12 @@ impl Host<Ipv4Addr> {
 
     /// The host at the previous address of the network, or `None` at the first one.
     ///
-    /// ```text
-    /// "192.0.2.49/28".parse::<Ipv4Inet>()?.previous() // Some(192.0.2.48/28)
-    /// "192.0.2.48/28".parse::<Ipv4Inet>()?.previous() // None
+    /// ```
+    /// # use cidr::{errors::*, more::{canon::*, *}, parsers::*, *};
+    /// # use std::net::*;
+    /// assert_eq!(format!("{:?}", "192.0.2.49/28".parse::<Ipv4Inet>()?.previous()), "Some(192.0.2.48/28)");
+    /// assert_eq!(format!("{:?}", "192.0.2.48/28".parse::<Ipv4Inet>()?.previous()), "None");
+    /// # Ok::<(), Box<dyn std::error::Error>>(())
     /// ```
     #[inline]
     pub const fn previous(self) -> Option<Host<Ipv4Addr>> {
@@ -146,10 +167,13 @@ impl Host<Ipv4Addr> {
     /// Any step is exact, also one above the number of addresses, and takes constant time. Where it does not wrap, `+`
     /// returns the same host.
     ///
-    /// ```text
+    /// ```
+    /// # use cidr::{errors::*, more::{canon::*, *}, parsers::*, *};
+    /// # use std::net::*;
     /// let host = "192.0.2.50/28".parse::<Ipv4Inet>()?;
-    /// host.overflowing_add(5) // (192.0.2.55/28, false)
-    /// host.overflowing_add(14) // (192.0.2.48/28, true)
+    /// assert_eq!(format!("{:?}", host.overflowing_add(5)), "(192.0.2.55/28, false)");
+    /// assert_eq!(format!("{:?}", host.overflowing_add(14)), "(192.0.2.48/28, true)");
+    /// # Ok::<(), Box<dyn std::error::Error>>(())
     /// ```
     #[inline]
     pub const fn overflowing_add(self, step: u128) -> (Host<Ipv4Addr>, bool) {
@@ -162,10 +186,13 @@ impl Host<Ipv4Addr> {
     /// Any step is exact, also one above the number of addresses, and takes constant time. Where it does not wrap, `-`
     /// returns the same host.
     ///
-    /// ```text
+    /// ```
+    /// # use cidr::{errors::*, more::{canon::*, *}, parsers::*, *};
+    /// # use std::net::*;
     /// let host = "10.0.0.7/29".parse::<Ipv4Inet>()?;
-    /// host.overflowing_sub(7) // (10.0.0.0/29, false)
-    /// host.overflowing_sub(8) // (10.0.0.7/29, true)
+    /// assert_eq!(format!("{:?}", host.overflowing_sub(7)), "(10.0.0.0/29, false)");
+    /// assert_eq!(format!("{:?}", host.overflowing_sub(8)), "(10.0.0.7/29, true)");
+    /// # Ok::<(), Box<dyn std::error::Error>>(())
     /// ```
     #[inline]
     pub const fn overflowing_sub(self, step: u128) -> (Host<Ipv4Addr>, bool) {
@@ -175,8 +202,11 @@ impl Host<Ipv4Addr> {
 
     /// The network that the host is in: the bits after the prefix are unset.
     ///
-    /// ```text
-    /// "192.0.2.50/28".parse::<Ipv4Inet>()?.network() // 192.0.2.48/28
+    /// ```
+    /// # use cidr::{errors::*, more::{canon::*, *}, parsers::*, *};
+    /// # use std::net::*;
+    /// assert_eq!(format!("{}", "192.0.2.50/28".parse::<Ipv4Inet>()?.network()), "192.0.2.48/28");
+    /// # Ok::<(), Box<dyn std::error::Error>>(())
     /// ```
     #[inline]
     pub const fn network(&self) -> Network<Ipv4Addr> {
@@ -185,8 +215,11 @@ impl Host<Ipv4Addr> {
 
     /// The address, without the prefix length.
     ///
-    /// ```text
-    /// "192.0.2.50/28".parse::<Ipv4Inet>()?.address() // 192.0.2.50
+    /// ```
+    /// # use cidr::{errors::*, more::{canon::*, *}, parsers::*, *};
+    /// # use std::net::*;
+    /// assert_eq!(format!("{}", "192.0.2.50/28".parse::<Ipv4Inet>()?.address()), "192.0.2.50");
+    /// # Ok::<(), Box<dyn std::error::Error>>(())
     /// ```
     #[inline]
     pub const fn address(&self) -> Ipv4Addr {
@@ -195,8 +228,11 @@ impl Host<Ipv4Addr> {
 
     /// The address, by reference.
     ///
-    /// ```text
-    /// "192.0.2.50/28".parse::<Ipv4Inet>()?.address_ref() // 192.0.2.50
+    /// ```
+    /// # use cidr::{errors::*, more::{canon::*, *}, parsers::*, *};
+    /// # use std::net::*;
+    /// assert_eq!(format!("{}", "192.0.2.50/28".parse::<Ipv4Inet>()?.address_ref()), "192.0.2.50");
+    /// # Ok::<(), Box<dyn std::error::Error>>(())
     /// ```
     #[inline]
     pub const fn address_ref(&self) -> &Ipv4Addr {
@@ -206,8 +242,11 @@ impl Host<Ipv4Addr> {
     /// The first address of the network, in which no bit after the prefix is set: in IPv4 the network address, up to
     /// /30.
     ///
-    /// ```text
-    /// "192.0.2.50/28".parse::<Ipv4Inet>()?.first_address() // 192.0.2.48
+    /// ```
+    /// # use cidr::{errors::*, more::{canon::*, *}, parsers::*, *};
+    /// # use std::net::*;
+    /// assert_eq!(format!("{}", "192.0.2.50/28".parse::<Ipv4Inet>()?.first_address()), "192.0.2.48");
+    /// # Ok::<(), Box<dyn std::error::Error>>(())
     /// ```
     #[inline]
     pub const fn first_address(&self) -> Ipv4Addr {
@@ -217,8 +256,11 @@ impl Host<Ipv4Addr> {
     /// The last address of the network, in which all bits after the prefix are set: in IPv4 the broadcast address, up
     /// to /30.
     ///
-    /// ```text
-    /// "192.0.2.50/28".parse::<Ipv4Inet>()?.last_address() // 192.0.2.63
+    /// ```
+    /// # use cidr::{errors::*, more::{canon::*, *}, parsers::*, *};
+    /// # use std::net::*;
+    /// assert_eq!(format!("{}", "192.0.2.50/28".parse::<Ipv4Inet>()?.last_address()), "192.0.2.63");
+    /// # Ok::<(), Box<dyn std::error::Error>>(())
     /// ```
     #[inline]
     pub const fn last_address(&self) -> Ipv4Addr {
@@ -227,8 +269,11 @@ impl Host<Ipv4Addr> {
 
     /// The host at the first address of the network, with the same prefix length.
     ///
-    /// ```text
-    /// "10.4.3.2/8".parse::<Ipv4Inet>()?.first() // 10.0.0.0/8
+    /// ```
+    /// # use cidr::{errors::*, more::{canon::*, *}, parsers::*, *};
+    /// # use std::net::*;
+    /// assert_eq!(format!("{}", "10.4.3.2/8".parse::<Ipv4Inet>()?.first()), "10.0.0.0/8");
+    /// # Ok::<(), Box<dyn std::error::Error>>(())
     /// ```
     #[inline]
     pub const fn first(&self) -> Host<Ipv4Addr> {
@@ -237,8 +282,11 @@ impl Host<Ipv4Addr> {
 
     /// The host at the last address of the network, with the same prefix length.
     ///
-    /// ```text
-    /// "10.4.3.2/8".parse::<Ipv4Inet>()?.last() // 10.255.255.255/8
+    /// ```
+    /// # use cidr::{errors::*, more::{canon::*, *}, parsers::*, *};
+    /// # use std::net::*;
+    /// assert_eq!(format!("{}", "10.4.3.2/8".parse::<Ipv4Inet>()?.last()), "10.255.255.255/8");
+    /// # Ok::<(), Box<dyn std::error::Error>>(())
     /// ```
     #[inline]
     pub const fn last(&self) -> Host<Ipv4Addr> {
@@ -247,8 +295,11 @@ impl Host<Ipv4Addr> {
 
     /// The prefix length in bits, at most 32 in IPv4 and 128 in IPv6.
     ///
-    /// ```text
-    /// "::5/32".parse::<Ipv6Inet>()?.network_length() // 32
+    /// ```
+    /// # use cidr::{errors::*, more::{canon::*, *}, parsers::*, *};
+    /// # use std::net::*;
+    /// assert_eq!("::5/32".parse::<Ipv6Inet>()?.network_length(), 32);
+    /// # Ok::<(), Box<dyn std::error::Error>>(())
     /// ```
     #[inline]
     pub const fn network_length(&self) -> u8 {
@@ -257,8 +308,11 @@ impl Host<Ipv4Addr> {
 
     /// The family of the address, which its type tells.
     ///
-    /// ```text
-    /// "2001:db8::5/32".parse::<Ipv6Inet>()?.family() // Ipv6
+    /// ```
+    /// # use cidr::{errors::*, more::{canon::*, *}, parsers::*, *};
+    /// # use std::net::*;
+    /// assert_eq!(format!("{:?}", "2001:db8::5/32".parse::<Ipv6Inet>()?.family()), "Ipv6");
+    /// # Ok::<(), Box<dyn std::error::Error>>(())
     /// ```
     #[inline]
     pub const fn family(&self) -> Family {
@@ -268,9 +322,12 @@ impl Host<Ipv4Addr> {
     /// Whether the network of the host has only one address, that is, whether the prefix length is full: 32 in IPv4 and
     /// 128 in IPv6.
     ///
-    /// ```text
-    /// "192.0.2.50".parse::<Ipv4Inet>()?.is_host_address() // true
-    /// "10.4.3.2/8".parse::<Ipv4Inet>()?.is_host_address() // false
+    /// ```
+    /// # use cidr::{errors::*, more::{canon::*, *}, parsers::*, *};
+    /// # use std::net::*;
+    /// assert!("192.0.2.50".parse::<Ipv4Inet>()?.is_host_address());
+    /// assert!(!("10.4.3.2/8".parse::<Ipv4Inet>()?.is_host_address()));
+    /// # Ok::<(), Box<dyn std::error::Error>>(())
     /// ```
     #[inline]
     pub const fn is_host_address(&self) -> bool {
@@ -279,8 +336,11 @@ impl Host<Ipv4Addr> {
 
     /// The network mask: as many set bits as the prefix length says, then zeros.
     ///
-    /// ```text
-    /// "192.0.2.50/28".parse::<Ipv4Inet>()?.mask() // 255.255.255.240
+    /// ```
+    /// # use cidr::{errors::*, more::{canon::*, *}, parsers::*, *};
+    /// # use std::net::*;
+    /// assert_eq!(format!("{}", "192.0.2.50/28".parse::<Ipv4Inet>()?.mask()), "255.255.255.240");
+    /// # Ok::<(), Box<dyn std::error::Error>>(())
     /// ```
     #[inline]
     pub const fn mask(&self) -> Ipv4Addr {
@@ -290,10 +350,13 @@ impl Host<Ipv4Addr> {
     /// Whether the address is in the network of the host, that is, begins with its prefix. Nothing is mapped: an IPv6
     /// host contains no IPv4 address.
     ///
-    /// ```text
+    /// ```
+    /// # use cidr::{errors::*, more::{canon::*, *}, parsers::*, *};
+    /// # use std::net::*;
     /// let host = "192.0.2.50/28".parse::<Ipv4Inet>()?;
-    /// host.contains(&Ipv4Addr::new(192, 0, 2, 63)) // true
-    /// host.contains(&Ipv4Addr::new(192, 0, 2, 64)) // false
+    /// assert!(host.contains(&Ipv4Addr::new(192, 0, 2, 63)));
+    /// assert!(!host.contains(&Ipv4Addr::new(192, 0, 2, 64)));
+    /// # Ok::<(), Box<dyn std::error::Error>>(())
     /// ```
     #[inline]
     pub const fn contains(&self, addr: &Ipv4Addr) -> bool {
@@ -302,8 +365,11 @@ impl Host<Ipv4Addr> {
 
     /// The host, to be printed with its prefix length also where that is full.
     ///
-    /// ```text
-    /// "10.0.0.1".parse::<Ipv4Inet>()?.with_length() // 10.0.0.1/32
+    /// ```
+    /// # use cidr::{errors::*, more::{canon::*, *}, parsers::*, *};
+    /// # use std::net::*;
+    /// assert_eq!(format!("{}", "10.0.0.1".parse::<Ipv4Inet>()?.with_length()), "10.0.0.1/32");
+    /// # Ok::<(), Box<dyn std::error::Error>>(())
     /// ```
     #[inline]
     pub const fn with_length(&self) -> WithLength<Host<Ipv4Addr>> {
@@ -316,9 +382,12 @@ impl Host<Ipv6Addr> {
     ///
     /// Returns an error only for a prefix length above the width, 32 or 128.
     ///
-    /// ```text
-    /// Ipv4Inet::new(Ipv4Addr::new(192, 0, 2, 50), 28)? // 192.0.2.50/28
-    /// Ipv6Inet::new(Ipv6Addr::from_bits(1), 129).is_err() // true
+    /// ```
+    /// # use cidr::{errors::*, more::{canon::*, *}, parsers::*, *};
+    /// # use std::net::*;
+    /// assert_eq!(format!("{}", Ipv4Inet::new(Ipv4Addr::new(192, 0, 2, 50), 28)?), "192.0.2.50/28");
+    /// assert!(Ipv6Inet::new(Ipv6Addr::from_bits(1), 129).is_err());
+    /// # Ok::<(), Box<dyn std::error::Error>>(())
     /// ```
     #[inline]
     pub const fn new(addr: Ipv6Addr, len: u8) -> Result<Host<Ipv6Addr>, NetworkLengthTooLongError> {
@@ -337,9 +406,12 @@ impl Host<Ipv6Addr> {
     /// The host of full prefix length, whose network has only this address: /32 in IPv4 and /128 in IPv6. It is printed
     /// without the prefix length.
     ///
-    /// ```text
-    /// Ipv4Inet::new_host(Ipv4Addr::new(192, 0, 2, 1)) // 192.0.2.1
-    /// Ipv6Inet::new_host(Ipv6Addr::from_bits(1)) // ::1
+    /// ```
+    /// # use cidr::{errors::*, more::{canon::*, *}, parsers::*, *};
+    /// # use std::net::*;
+    /// assert_eq!(format!("{}", Ipv4Inet::new_host(Ipv4Addr::new(192, 0, 2, 1))), "192.0.2.1");
+    /// assert_eq!(format!("{}", Ipv6Inet::new_host(Ipv6Addr::from_bits(1))), "::1");
+    /// # Ok::<(), Box<dyn std::error::Error>>(())
     /// ```
     #[inline]
     pub const fn new_host(addr: Ipv6Addr) -> Host<Ipv6Addr> {
@@ -348,10 +420,13 @@ impl Host<Ipv6Addr> {
 
     /// Steps to the next address of the network. From the last one it wraps to the first, and returns true.
     ///
-    /// ```text
+    /// ```
+    /// # use cidr::{errors::*, more::{canon::*, *}, parsers::*, *};
+    /// # use std::net::*;
     /// let mut host = "192.0.2.63/28".parse::<Ipv4Inet>()?;
-    /// host.increment() // true
-    /// host // 192.0.2.48/28
+    /// assert!(host.increment());
+    /// assert_eq!(format!("{}", host), "192.0.2.48/28");
+    /// # Ok::<(), Box<dyn std::error::Error>>(())
     /// ```
     #[inline]
     pub const fn increment(&mut self) -> bool {
@@ -362,10 +437,13 @@ impl Host<Ipv6Addr> {
 
     /// Steps to the previous address of the network. From the first one it wraps to the last, and returns true.
     ///
-    /// ```text
+    /// ```
+    /// # use cidr::{errors::*, more::{canon::*, *}, parsers::*, *};
+    /// # use std::net::*;
     /// let mut host = "2001:db8::/112".parse::<Ipv6Inet>()?;
-    /// host.decrement() // true
-    /// host // 2001:db8::ffff/112
+    /// assert!(host.decrement());
+    /// assert_eq!(format!("{}", host), "2001:db8::ffff/112");
+    /// # Ok::<(), Box<dyn std::error::Error>>(())
     /// ```
     #[inline]
     pub const fn decrement(&mut self) -> bool {
@@ -377,9 +455,12 @@ impl Host<Ipv6Addr> {
     /// The host at the next address of the network, or `None` at the last one. It takes and returns a value, and is not
     /// `Iterator::next`.
     ///
-    /// ```text
-    /// "192.0.2.62/28".parse::<Ipv4Inet>()?.next() // Some(192.0.2.63/28)
-    /// "192.0.2.63/28".parse::<Ipv4Inet>()?.next() // None
+    /// ```
+    /// # use cidr::{errors::*, more::{canon::*, *}, parsers::*, *};
+    /// # use std::net::*;
+    /// assert_eq!(format!("{:?}", "192.0.2.62/28".parse::<Ipv4Inet>()?.next()), "Some(192.0.2.63/28)");
+    /// assert_eq!(format!("{:?}", "192.0.2.63/28".parse::<Ipv4Inet>()?.next()), "None");
+    /// # Ok::<(), Box<dyn std::error::Error>>(())
     /// ```
     #[inline]
     pub const fn next(self) -> Option<Host<Ipv6Addr>> {
@@ -389,9 +470,12 @@ impl Host<Ipv6Addr> {
 
     /// The host at the previous address of the network, or `None` at the first one.
     ///
-    /// ```text
-    /// "192.0.2.49/28".parse::<Ipv4Inet>()?.previous() // Some(192.0.2.48/28)
-    /// "192.0.2.48/28".parse::<Ipv4Inet>()?.previous() // None
+    /// ```
+    /// # use cidr::{errors::*, more::{canon::*, *}, parsers::*, *};
+    /// # use std::net::*;
+    /// assert_eq!(format!("{:?}", "192.0.2.49/28".parse::<Ipv4Inet>()?.previous()), "Some(192.0.2.48/28)");
+    /// assert_eq!(format!("{:?}", "192.0.2.48/28".parse::<Ipv4Inet>()?.previous()), "None");
+    /// # Ok::<(), Box<dyn std::error::Error>>(())
     /// ```
     #[inline]
     pub const fn previous(self) -> Option<Host<Ipv6Addr>> {
@@ -404,10 +488,13 @@ impl Host<Ipv6Addr> {
     /// Any step is exact, also one above the number of addresses, and takes constant time. Where it does not wrap, `+`
     /// returns the same host.
     ///
-    /// ```text
+    /// ```
+    /// # use cidr::{errors::*, more::{canon::*, *}, parsers::*, *};
+    /// # use std::net::*;
     /// let host = "192.0.2.50/28".parse::<Ipv4Inet>()?;
-    /// host.overflowing_add(5) // (192.0.2.55/28, false)
-    /// host.overflowing_add(14) // (192.0.2.48/28, true)
+    /// assert_eq!(format!("{:?}", host.overflowing_add(5)), "(192.0.2.55/28, false)");
+    /// assert_eq!(format!("{:?}", host.overflowing_add(14)), "(192.0.2.48/28, true)");
+    /// # Ok::<(), Box<dyn std::error::Error>>(())
     /// ```
     #[inline]
     pub const fn overflowing_add(self, step: u128) -> (Host<Ipv6Addr>, bool) {
@@ -420,10 +507,13 @@ impl Host<Ipv6Addr> {
     /// Any step is exact, also one above the number of addresses, and takes constant time. Where it does not wrap, `-`
     /// returns the same host.
     ///
-    /// ```text
+    /// ```
+    /// # use cidr::{errors::*, more::{canon::*, *}, parsers::*, *};
+    /// # use std::net::*;
     /// let host = "10.0.0.7/29".parse::<Ipv4Inet>()?;
-    /// host.overflowing_sub(7) // (10.0.0.0/29, false)
-    /// host.overflowing_sub(8) // (10.0.0.7/29, true)
+    /// assert_eq!(format!("{:?}", host.overflowing_sub(7)), "(10.0.0.0/29, false)");
+    /// assert_eq!(format!("{:?}", host.overflowing_sub(8)), "(10.0.0.7/29, true)");
+    /// # Ok::<(), Box<dyn std::error::Error>>(())
     /// ```
     #[inline]
     pub const fn overflowing_sub(self, step: u128) -> (Host<Ipv6Addr>, bool) {
@@ -433,8 +523,11 @@ impl Host<Ipv6Addr> {
 
     /// The network that the host is in: the bits after the prefix are unset.
     ///
-    /// ```text
-    /// "192.0.2.50/28".parse::<Ipv4Inet>()?.network() // 192.0.2.48/28
+    /// ```
+    /// # use cidr::{errors::*, more::{canon::*, *}, parsers::*, *};
+    /// # use std::net::*;
+    /// assert_eq!(format!("{}", "192.0.2.50/28".parse::<Ipv4Inet>()?.network()), "192.0.2.48/28");
+    /// # Ok::<(), Box<dyn std::error::Error>>(())
     /// ```
     #[inline]
     pub const fn network(&self) -> Network<Ipv6Addr> {
@@ -443,8 +536,11 @@ impl Host<Ipv6Addr> {
 
     /// The address, without the prefix length.
     ///
-    /// ```text
-    /// "192.0.2.50/28".parse::<Ipv4Inet>()?.address() // 192.0.2.50
+    /// ```
+    /// # use cidr::{errors::*, more::{canon::*, *}, parsers::*, *};
+    /// # use std::net::*;
+    /// assert_eq!(format!("{}", "192.0.2.50/28".parse::<Ipv4Inet>()?.address()), "192.0.2.50");
+    /// # Ok::<(), Box<dyn std::error::Error>>(())
     /// ```
     #[inline]
     pub const fn address(&self) -> Ipv6Addr {
@@ -453,8 +549,11 @@ impl Host<Ipv6Addr> {
 
     /// The address, by reference.
     ///
-    /// ```text
-    /// "192.0.2.50/28".parse::<Ipv4Inet>()?.address_ref() // 192.0.2.50
+    /// ```
+    /// # use cidr::{errors::*, more::{canon::*, *}, parsers::*, *};
+    /// # use std::net::*;
+    /// assert_eq!(format!("{}", "192.0.2.50/28".parse::<Ipv4Inet>()?.address_ref()), "192.0.2.50");
+    /// # Ok::<(), Box<dyn std::error::Error>>(())
     /// ```
     #[inline]
     pub const fn address_ref(&self) -> &Ipv6Addr {
@@ -464,8 +563,11 @@ impl Host<Ipv6Addr> {
     /// The first address of the network, in which no bit after the prefix is set: in IPv4 the network address, up to
     /// /30.
     ///
-    /// ```text
-    /// "192.0.2.50/28".parse::<Ipv4Inet>()?.first_address() // 192.0.2.48
+    /// ```
+    /// # use cidr::{errors::*, more::{canon::*, *}, parsers::*, *};
+    /// # use std::net::*;
+    /// assert_eq!(format!("{}", "192.0.2.50/28".parse::<Ipv4Inet>()?.first_address()), "192.0.2.48");
+    /// # Ok::<(), Box<dyn std::error::Error>>(())
     /// ```
     #[inline]
     pub const fn first_address(&self) -> Ipv6Addr {
@@ -475,8 +577,11 @@ impl Host<Ipv6Addr> {
     /// The last address of the network, in which all bits after the prefix are set: in IPv4 the broadcast address, up
     /// to /30.
     ///
-    /// ```text
-    /// "192.0.2.50/28".parse::<Ipv4Inet>()?.last_address() // 192.0.2.63
+    /// ```
+    /// # use cidr::{errors::*, more::{canon::*, *}, parsers::*, *};
+    /// # use std::net::*;
+    /// assert_eq!(format!("{}", "192.0.2.50/28".parse::<Ipv4Inet>()?.last_address()), "192.0.2.63");
+    /// # Ok::<(), Box<dyn std::error::Error>>(())
     /// ```
     #[inline]
     pub const fn last_address(&self) -> Ipv6Addr {
@@ -485,8 +590,11 @@ impl Host<Ipv6Addr> {
 
     /// The host at the first address of the network, with the same prefix length.
     ///
-    /// ```text
-    /// "10.4.3.2/8".parse::<Ipv4Inet>()?.first() // 10.0.0.0/8
+    /// ```
+    /// # use cidr::{errors::*, more::{canon::*, *}, parsers::*, *};
+    /// # use std::net::*;
+    /// assert_eq!(format!("{}", "10.4.3.2/8".parse::<Ipv4Inet>()?.first()), "10.0.0.0/8");
+    /// # Ok::<(), Box<dyn std::error::Error>>(())
     /// ```
     #[inline]
     pub const fn first(&self) -> Host<Ipv6Addr> {
@@ -495,8 +603,11 @@ impl Host<Ipv6Addr> {
 
     /// The host at the last address of the network, with the same prefix length.
     ///
-    /// ```text
-    /// "10.4.3.2/8".parse::<Ipv4Inet>()?.last() // 10.255.255.255/8
+    /// ```
+    /// # use cidr::{errors::*, more::{canon::*, *}, parsers::*, *};
+    /// # use std::net::*;
+    /// assert_eq!(format!("{}", "10.4.3.2/8".parse::<Ipv4Inet>()?.last()), "10.255.255.255/8");
+    /// # Ok::<(), Box<dyn std::error::Error>>(())
     /// ```
     #[inline]
     pub const fn last(&self) -> Host<Ipv6Addr> {
@@ -505,8 +616,11 @@ impl Host<Ipv6Addr> {
 
     /// The prefix length in bits, at most 32 in IPv4 and 128 in IPv6.
     ///
-    /// ```text
-    /// "::5/32".parse::<Ipv6Inet>()?.network_length() // 32
+    /// ```
+    /// # use cidr::{errors::*, more::{canon::*, *}, parsers::*, *};
+    /// # use std::net::*;
+    /// assert_eq!("::5/32".parse::<Ipv6Inet>()?.network_length(), 32);
+    /// # Ok::<(), Box<dyn std::error::Error>>(())
     /// ```
     #[inline]
     pub const fn network_length(&self) -> u8 {
@@ -515,8 +629,11 @@ impl Host<Ipv6Addr> {
 
     /// The family of the address, which its type tells.
     ///
-    /// ```text
-    /// "2001:db8::5/32".parse::<Ipv6Inet>()?.family() // Ipv6
+    /// ```
+    /// # use cidr::{errors::*, more::{canon::*, *}, parsers::*, *};
+    /// # use std::net::*;
+    /// assert_eq!(format!("{:?}", "2001:db8::5/32".parse::<Ipv6Inet>()?.family()), "Ipv6");
+    /// # Ok::<(), Box<dyn std::error::Error>>(())
     /// ```
     #[inline]
     pub const fn family(&self) -> Family {
@@ -526,9 +643,12 @@ impl Host<Ipv6Addr> {
     /// Whether the network of the host has only one address, that is, whether the prefix length is full: 32 in IPv4 and
     /// 128 in IPv6.
     ///
-    /// ```text
-    /// "192.0.2.50".parse::<Ipv4Inet>()?.is_host_address() // true
-    /// "10.4.3.2/8".parse::<Ipv4Inet>()?.is_host_address() // false
+    /// ```
+    /// # use cidr::{errors::*, more::{canon::*, *}, parsers::*, *};
+    /// # use std::net::*;
+    /// assert!("192.0.2.50".parse::<Ipv4Inet>()?.is_host_address());
+    /// assert!(!("10.4.3.2/8".parse::<Ipv4Inet>()?.is_host_address()));
+    /// # Ok::<(), Box<dyn std::error::Error>>(())
     /// ```
     #[inline]
     pub const fn is_host_address(&self) -> bool {
@@ -537,8 +657,11 @@ impl Host<Ipv6Addr> {
 
     /// The network mask: as many set bits as the prefix length says, then zeros.
     ///
-    /// ```text
-    /// "192.0.2.50/28".parse::<Ipv4Inet>()?.mask() // 255.255.255.240
+    /// ```
+    /// # use cidr::{errors::*, more::{canon::*, *}, parsers::*, *};
+    /// # use std::net::*;
+    /// assert_eq!(format!("{}", "192.0.2.50/28".parse::<Ipv4Inet>()?.mask()), "255.255.255.240");
+    /// # Ok::<(), Box<dyn std::error::Error>>(())
     /// ```
     #[inline]
     pub const fn mask(&self) -> Ipv6Addr {
@@ -548,10 +671,13 @@ impl Host<Ipv6Addr> {
     /// Whether the address is in the network of the host, that is, begins with its prefix. Nothing is mapped: an IPv6
     /// host contains no IPv4 address.
     ///
-    /// ```text
+    /// ```
+    /// # use cidr::{errors::*, more::{canon::*, *}, parsers::*, *};
+    /// # use std::net::*;
     /// let host = "192.0.2.50/28".parse::<Ipv4Inet>()?;
-    /// host.contains(&Ipv4Addr::new(192, 0, 2, 63)) // true
-    /// host.contains(&Ipv4Addr::new(192, 0, 2, 64)) // false
+    /// assert!(host.contains(&Ipv4Addr::new(192, 0, 2, 63)));
+    /// assert!(!host.contains(&Ipv4Addr::new(192, 0, 2, 64)));
+    /// # Ok::<(), Box<dyn std::error::Error>>(())
     /// ```
     #[inline]
     pub const fn contains(&self, addr: &Ipv6Addr) -> bool {
@@ -560,8 +686,11 @@ impl Host<Ipv6Addr> {
 
     /// The host, to be printed with its prefix length also where that is full.
     ///
-    /// ```text
-    /// "10.0.0.1".parse::<Ipv4Inet>()?.with_length() // 10.0.0.1/32
+    /// ```
+    /// # use cidr::{errors::*, more::{canon::*, *}, parsers::*, *};
+    /// # use std::net::*;
+    /// assert_eq!(format!("{}", "10.0.0.1".parse::<Ipv4Inet>()?.with_length()), "10.0.0.1/32");
+    /// # Ok::<(), Box<dyn std::error::Error>>(())
     /// ```
     #[inline]
     pub const fn with_length(&self) -> WithLength<Host<Ipv6Addr>> {
@@ -724,8 +853,11 @@ impl<A: AddressText> Host<A> {
     /// The printed string, with all bits of the address and without a full prefix length, in an `ArrayString`, so that
     /// nothing is allocated. It has at most 18 bytes in IPv4 and 43 in IPv6. Parsing it gives the same host.
     ///
-    /// ```text
-    /// "2001:DB8::5/32".parse::<Ipv6Inet>()?.to_text() // 2001:db8::5/32
+    /// ```
+    /// # use cidr::{errors::*, more::{canon::*, *}, parsers::*, *};
+    /// # use std::net::*;
+    /// assert_eq!(format!("{}", "2001:DB8::5/32".parse::<Ipv6Inet>()?.to_text()), "2001:db8::5/32");
+    /// # Ok::<(), Box<dyn std::error::Error>>(())
     /// ```
     #[inline]
     pub fn to_text(&self) -> ArrayString<43> {
@@ -736,8 +868,11 @@ impl<A: AddressText> Host<A> {
 impl<A: AddressText> WithLength<Host<A>> {
     /// The printed string, with the prefix length also where that is full: at most 18 bytes in IPv4 and 43 in IPv6.
     ///
-    /// ```text
-    /// "::1".parse::<Ipv6Inet>()?.with_length().to_text() // ::1/128
+    /// ```
+    /// # use cidr::{errors::*, more::{canon::*, *}, parsers::*, *};
+    /// # use std::net::*;
+    /// assert_eq!(format!("{}", "::1".parse::<Ipv6Inet>()?.with_length().to_text()), "::1/128");
+    /// # Ok::<(), Box<dyn std::error::Error>>(())
     /// ```
     #[inline]
     pub fn to_text(&self) -> ArrayString<43> {

@@ -10,9 +10,12 @@ impl Ipv4Inet {
     /// What `overflowing_add` returns, for a step that is a `u32`: the host `step` addresses further, and whether it
     /// wrapped.
     ///
-    /// ```text
+    /// ```
+    /// # use cidr::{errors::*, more::{canon::*, *}, parsers::*, *};
+    /// # use std::net::*;
     /// let host = "192.0.2.62/28".parse::<Ipv4Inet>()?;
-    /// host.overflowing_add_u32(2) // (192.0.2.48/28, true)
+    /// assert_eq!(format!("{:?}", host.overflowing_add_u32(2)), "(192.0.2.48/28, true)");
+    /// # Ok::<(), Box<dyn std::error::Error>>(())
     /// ```
     #[inline]
     pub const fn overflowing_add_u32(self, step: u32) -> (Ipv4Inet, bool) {
@@ -22,9 +25,12 @@ impl Ipv4Inet {
     /// What `overflowing_sub` returns, for a step that is a `u32`: the host `step` addresses back, and whether it
     /// wrapped.
     ///
-    /// ```text
+    /// ```
+    /// # use cidr::{errors::*, more::{canon::*, *}, parsers::*, *};
+    /// # use std::net::*;
     /// let host = "192.0.2.62/28".parse::<Ipv4Inet>()?;
-    /// host.overflowing_sub_u32(2) // (192.0.2.60/28, false)
+    /// assert_eq!(format!("{:?}", host.overflowing_sub_u32(2)), "(192.0.2.60/28, false)");
+    /// # Ok::<(), Box<dyn std::error::Error>>(())
     /// ```
     #[inline]
     pub const fn overflowing_sub_u32(self, step: u32) -> (Ipv4Inet, bool) {

@@ -18,12 +18,15 @@ pub enum End {
 /// Calls `next` for each `Front` of `ends` and `next_back` for each `Back`, and writes what they return to `answers`,
 /// in this order. The caller has to ensure that the two slices have the same length.
 ///
-/// ```text
+/// ```
+/// # use cidr::{errors::*, more::{canon::*, *}, parsers::*, *};
+/// # use std::net::*;
 /// let mut addresses = "192.0.2.48/31".parse::<Ipv4Cidr>()?.iter().addresses();
 /// let mut answers = [None; 3];
 /// let ends = [End::Back, End::Front, End::Front];
 /// drive(&mut addresses, &ends, &mut answers);
-/// answers // [Some(192.0.2.49), Some(192.0.2.48), None]
+/// assert_eq!(format!("{:?}", answers), "[Some(192.0.2.49), Some(192.0.2.48), None]");
+/// # Ok::<(), Box<dyn std::error::Error>>(())
 /// ```
 #[inline]
 pub fn drive<A: Address>(iter: &mut InetAddressIterator<A>, ends: &[End], answers: &mut [Option<A>])

@@ -19,9 +19,12 @@ use core::fmt;
 /// It is a range of addresses, from the first to the second inclusive. The first may be above the second; the range has
 /// no address then. It is printed and not parsed, and has no order.
 ///
-/// ```text
+/// ```
+/// # use cidr::{errors::*, more::{canon::*, *}, parsers::*, *};
+/// # use std::net::*;
 /// let host = "2001:db8::1/127".parse::<IpInet>()?;
-/// IpInetPair::new(host.first(), host)? // (2001:db8::/127, 2001:db8::1/127)
+/// assert_eq!(format!("{}", IpInetPair::new(host.first(), host)?), "(2001:db8::/127, 2001:db8::1/127)");
+/// # Ok::<(), Box<dyn std::error::Error>>(())
 /// ```
 #[derive(Clone, Copy, Debug, PartialEq, Eq, Hash)]
 pub enum IpInetPair {
@@ -33,9 +36,12 @@ impl IpInetPair {
     /// The pair of two hosts. Returns `NotInSharedNetwork` for hosts of different families, of different prefix lengths
     /// or of different networks.
     ///
-    /// ```text
+    /// ```
+    /// # use cidr::{errors::*, more::{canon::*, *}, parsers::*, *};
+    /// # use std::net::*;
     /// let (first, second) = ("10.0.0.1/8".parse()?, "10.0.0.3/8".parse()?);
-    /// IpInetPair::new(first, second)? // (10.0.0.1/8, 10.0.0.3/8)
+    /// assert_eq!(format!("{}", IpInetPair::new(first, second)?), "(10.0.0.1/8, 10.0.0.3/8)");
+    /// # Ok::<(), Box<dyn std::error::Error>>(())
     /// ```
     pub const fn new(first: IpInet, second: IpInet) -> Result<IpInetPair, InetTupleError> {
         match (&first, &second) {
@@ -61,9 +67,12 @@ impl IpInetPair {
     /// a prefix length above the width, 32 or 128; then `NotInSharedNetwork` for addresses whose first `len` bits
     /// differ.
     ///
-    /// ```text
+    /// ```
+    /// # use cidr::{errors::*, more::{canon::*, *}, parsers::*, *};
+    /// # use std::net::*;
     /// let (first, second) = ("192.0.2.1".parse()?, "2001:db8::1".parse()?);
-    /// IpInetPair::new_from_addresses(first, second, 0) // Err(addresses not in shared network)
+    /// assert_eq!(format!("{:?}", IpInetPair::new_from_addresses(first, second, 0)), "Err(addresses not in shared network)");
+    /// # Ok::<(), Box<dyn std::error::Error>>(())
     /// ```
     pub const fn new_from_addresses(
         first: IpAddr,
@@ -87,9 +96,12 @@ impl IpInetPair {
 
     /// The first address, as a host with the prefix length of the pair.
     ///
-    /// ```text
+    /// ```
+    /// # use cidr::{errors::*, more::{canon::*, *}, parsers::*, *};
+    /// # use std::net::*;
     /// let host = "192.0.2.49/28".parse::<IpInet>()?;
-    /// IpInetPair::new(host, host.last())?.first() // 192.0.2.49/28
+    /// assert_eq!(format!("{}", IpInetPair::new(host, host.last())?.first()), "192.0.2.49/28");
+    /// # Ok::<(), Box<dyn std::error::Error>>(())
     /// ```
     #[inline]
     pub const fn first(&self) -> IpInet {
@@ -101,9 +113,12 @@ impl IpInetPair {
 
     /// The second address, as a host with the prefix length of the pair.
     ///
-    /// ```text
+    /// ```
+    /// # use cidr::{errors::*, more::{canon::*, *}, parsers::*, *};
+    /// # use std::net::*;
     /// let host = "192.0.2.49/28".parse::<IpInet>()?;
-    /// IpInetPair::new(host, host.last())?.second() // 192.0.2.63/28
+    /// assert_eq!(format!("{}", IpInetPair::new(host, host.last())?.second()), "192.0.2.63/28");
+    /// # Ok::<(), Box<dyn std::error::Error>>(())
     /// ```
     #[inline]
     pub const fn second(&self) -> IpInet {
@@ -116,9 +131,12 @@ impl IpInetPair {
     /// The network that both addresses are in, of the prefix length of the pair. It may have more addresses than the
     /// pair.
     ///
-    /// ```text
+    /// ```
+    /// # use cidr::{errors::*, more::{canon::*, *}, parsers::*, *};
+    /// # use std::net::*;
     /// let host = "192.0.2.49/28".parse::<IpInet>()?;
-    /// IpInetPair::new(host, host)?.network() // 192.0.2.48/28
+    /// assert_eq!(format!("{}", IpInetPair::new(host, host)?.network()), "192.0.2.48/28");
+    /// # Ok::<(), Box<dyn std::error::Error>>(())
     /// ```
     #[inline]
     pub const fn network(&self) -> IpCidr {
@@ -130,9 +148,12 @@ impl IpInetPair {
 
     /// The prefix length in bits, at most 32 in IPv4 and 128 in IPv6.
     ///
-    /// ```text
+    /// ```
+    /// # use cidr::{errors::*, more::{canon::*, *}, parsers::*, *};
+    /// # use std::net::*;
     /// let host = "192.0.2.49/28".parse::<IpInet>()?;
-    /// IpInetPair::new(host, host)?.network_length() // 28
+    /// assert_eq!(IpInetPair::new(host, host)?.network_length(), 28);
+    /// # Ok::<(), Box<dyn std::error::Error>>(())
     /// ```
     #[inline]
     pub const fn network_length(&self) -> u8 {
@@ -144,9 +165,12 @@ impl IpInetPair {
 
     /// The family of both addresses.
     ///
-    /// ```text
+    /// ```
+    /// # use cidr::{errors::*, more::{canon::*, *}, parsers::*, *};
+    /// # use std::net::*;
     /// let host = "192.0.2.49/28".parse::<IpInet>()?;
-    /// IpInetPair::new(host, host)?.family() // Ipv4
+    /// assert_eq!(format!("{:?}", IpInetPair::new(host, host)?.family()), "Ipv4");
+    /// # Ok::<(), Box<dyn std::error::Error>>(())
     /// ```
     #[inline]
     pub const fn family(&self) -> Family {
@@ -158,9 +182,12 @@ impl IpInetPair {
 
     /// Whether this is a pair of IPv4 addresses.
     ///
-    /// ```text
+    /// ```
+    /// # use cidr::{errors::*, more::{canon::*, *}, parsers::*, *};
+    /// # use std::net::*;
     /// let host = "192.0.2.49/28".parse::<IpInet>()?;
-    /// IpInetPair::new(host, host)?.is_ipv4() // true
+    /// assert!(IpInetPair::new(host, host)?.is_ipv4());
+    /// # Ok::<(), Box<dyn std::error::Error>>(())
     /// ```
     #[inline]
     pub const fn is_ipv4(&self) -> bool {
@@ -169,9 +196,12 @@ impl IpInetPair {
 
     /// Whether this is a pair of IPv6 addresses.
     ///
-    /// ```text
+    /// ```
+    /// # use cidr::{errors::*, more::{canon::*, *}, parsers::*, *};
+    /// # use std::net::*;
     /// let host = "192.0.2.49/28".parse::<IpInet>()?;
-    /// IpInetPair::new(host, host)?.is_ipv6() // false
+    /// assert!(!IpInetPair::new(host, host)?.is_ipv6());
+    /// # Ok::<(), Box<dyn std::error::Error>>(())
     /// ```
     #[inline]
     pub const fn is_ipv6(&self) -> bool {
@@ -181,9 +211,12 @@ impl IpInetPair {
     /// The hosts from the first address to the second inclusive, ascending, with the prefix length of the pair. There
     /// are none where the first is above the second.
     ///
-    /// ```text
+    /// ```
+    /// # use cidr::{errors::*, more::{canon::*, *}, parsers::*, *};
+    /// # use std::net::*;
     /// let host = "192.0.2.49/28".parse::<IpInet>()?;
-    /// IpInetPair::new(host, host.last())?.iter().count() // Some(15)
+    /// assert_eq!(format!("{:?}", IpInetPair::new(host, host.last())?.iter().checked_count()), "Some(15)");
+    /// # Ok::<(), Box<dyn std::error::Error>>(())
     /// ```
     #[inline]
     pub const fn iter(self) -> InetIterator<IpAddr> {
@@ -193,9 +226,12 @@ impl IpInetPair {
     /// The printed string, both hosts in parentheses and without a full prefix length, in an `ArrayString`, so that
     /// nothing is allocated. It has at most 90 bytes.
     ///
-    /// ```text
+    /// ```
+    /// # use cidr::{errors::*, more::{canon::*, *}, parsers::*, *};
+    /// # use std::net::*;
     /// let host = "192.0.2.1".parse::<IpInet>()?;
-    /// IpInetPair::new(host, host)?.to_text() // (192.0.2.1, 192.0.2.1)
+    /// assert_eq!(format!("{}", IpInetPair::new(host, host)?.to_text()), "(192.0.2.1, 192.0.2.1)");
+    /// # Ok::<(), Box<dyn std::error::Error>>(())
     /// ```
     #[inline]
     pub fn to_text(&self) -> ArrayString<90> {
@@ -207,9 +243,12 @@ impl IpInetPair {
 
     /// The pair, to be printed with its prefix lengths also where they are full.
     ///
-    /// ```text
+    /// ```
+    /// # use cidr::{errors::*, more::{canon::*, *}, parsers::*, *};
+    /// # use std::net::*;
     /// let host = "192.0.2.1".parse::<IpInet>()?;
-    /// IpInetPair::new(host, host)?.with_length() // (192.0.2.1/32, 192.0.2.1/32)
+    /// assert_eq!(format!("{}", IpInetPair::new(host, host)?.with_length()), "(192.0.2.1/32, 192.0.2.1/32)");
+    /// # Ok::<(), Box<dyn std::error::Error>>(())
     /// ```
     #[inline]
     pub const fn with_length(&self) -> WithLength<IpInetPair> {
@@ -220,10 +259,13 @@ impl IpInetPair {
 impl WithLength<IpInetPair> {
     /// The printed string, with the prefix lengths also where they are full: at most 90 bytes.
     ///
-    /// ```text
+    /// ```
+    /// # use cidr::{errors::*, more::{canon::*, *}, parsers::*, *};
+    /// # use std::net::*;
     /// let host = "::1".parse::<IpInet>()?;
     /// let pair = IpInetPair::new(host, host)?;
-    /// pair.with_length().to_text() // (::1/128, ::1/128)
+    /// assert_eq!(format!("{}", pair.with_length().to_text()), "(::1/128, ::1/128)");
+    /// # Ok::<(), Box<dyn std::error::Error>>(())
     /// ```
     #[inline]
     pub fn to_text(&self) -> ArrayString<90> {

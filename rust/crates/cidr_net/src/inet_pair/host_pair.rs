@@ -25,9 +25,12 @@ use core::hash::{Hash, Hasher};
 /// no address then. The prefix length is at most 32 in IPv4 and 128 in IPv6. It is printed and not parsed, and has no
 /// order.
 ///
-/// ```text
+/// ```
+/// # use cidr::{errors::*, more::{canon::*, *}, parsers::*, *};
+/// # use std::net::*;
 /// let host = "192.0.2.49/28".parse::<Ipv4Inet>()?;
-/// Ipv4InetPair::new(host, host.last())? // (192.0.2.49/28, 192.0.2.63/28)
+/// assert_eq!(format!("{}", Ipv4InetPair::new(host, host.last())?), "(192.0.2.49/28, 192.0.2.63/28)");
+/// # Ok::<(), Box<dyn std::error::Error>>(())
 /// ```
 pub struct HostPair<A: AddressBits> {
     first: A,
@@ -54,9 +57,12 @@ impl HostPair<Ipv4Addr> {
     /// The pair of two hosts. Returns `NotInSharedNetwork` for hosts of different prefix lengths or of different
     /// networks.
     ///
-    /// ```text
+    /// ```
+    /// # use cidr::{errors::*, more::{canon::*, *}, parsers::*, *};
+    /// # use std::net::*;
     /// let (first, second) = ("10.0.0.1/8".parse()?, "10.0.0.3/8".parse()?);
-    /// Ipv4InetPair::new(first, second)? // (10.0.0.1/8, 10.0.0.3/8)
+    /// assert_eq!(format!("{}", Ipv4InetPair::new(first, second)?), "(10.0.0.1/8, 10.0.0.3/8)");
+    /// # Ok::<(), Box<dyn std::error::Error>>(())
     /// ```
     #[inline]
     pub const fn new(first: Host<Ipv4Addr>, second: Host<Ipv4Addr>) -> Result<HostPair<Ipv4Addr>, InetTupleError> {
@@ -71,10 +77,13 @@ impl HostPair<Ipv4Addr> {
     /// Returns `NetworkLengthTooLongError` for a prefix length above the width, 32 or 128, and then
     /// `NotInSharedNetwork` for addresses whose first `len` bits differ.
     ///
-    /// ```text
+    /// ```
+    /// # use cidr::{errors::*, more::{canon::*, *}, parsers::*, *};
+    /// # use std::net::*;
     /// let (first, last) = ("192.0.2.1".parse()?, "192.0.2.129".parse()?);
-    /// Ipv4InetPair::new_from_addresses(first, last, 24)? // (192.0.2.1/24, 192.0.2.129/24)
-    /// Ipv4InetPair::new_from_addresses(first, last, 25) // Err(addresses not in shared network)
+    /// assert_eq!(format!("{}", Ipv4InetPair::new_from_addresses(first, last, 24)?), "(192.0.2.1/24, 192.0.2.129/24)");
+    /// assert_eq!(format!("{:?}", Ipv4InetPair::new_from_addresses(first, last, 25)), "Err(addresses not in shared network)");
+    /// # Ok::<(), Box<dyn std::error::Error>>(())
     /// ```
     #[inline]
     pub const fn new_from_addresses(first: Ipv4Addr, second: Ipv4Addr, len: u8) -> Result<HostPair<Ipv4Addr>, InetTupleError> {
@@ -110,9 +119,12 @@ impl HostPair<Ipv4Addr> {
 
     /// The first address, as a host with the prefix length of the pair.
     ///
-    /// ```text
+    /// ```
+    /// # use cidr::{errors::*, more::{canon::*, *}, parsers::*, *};
+    /// # use std::net::*;
     /// let host = "192.0.2.49/28".parse::<Ipv4Inet>()?;
-    /// Ipv4InetPair::new(host, host.last())?.first() // 192.0.2.49/28
+    /// assert_eq!(format!("{}", Ipv4InetPair::new(host, host.last())?.first()), "192.0.2.49/28");
+    /// # Ok::<(), Box<dyn std::error::Error>>(())
     /// ```
     #[inline]
     pub const fn first(&self) -> Host<Ipv4Addr> {
@@ -121,9 +133,12 @@ impl HostPair<Ipv4Addr> {
 
     /// The second address, as a host with the prefix length of the pair.
     ///
-    /// ```text
+    /// ```
+    /// # use cidr::{errors::*, more::{canon::*, *}, parsers::*, *};
+    /// # use std::net::*;
     /// let host = "192.0.2.49/28".parse::<Ipv4Inet>()?;
-    /// Ipv4InetPair::new(host, host.last())?.second() // 192.0.2.63/28
+    /// assert_eq!(format!("{}", Ipv4InetPair::new(host, host.last())?.second()), "192.0.2.63/28");
+    /// # Ok::<(), Box<dyn std::error::Error>>(())
     /// ```
     #[inline]
     pub const fn second(&self) -> Host<Ipv4Addr> {
@@ -133,9 +148,12 @@ impl HostPair<Ipv4Addr> {
     /// The network that both addresses are in, of the prefix length of the pair. It may have more addresses than the
     /// pair.
     ///
-    /// ```text
+    /// ```
+    /// # use cidr::{errors::*, more::{canon::*, *}, parsers::*, *};
+    /// # use std::net::*;
     /// let host = "192.0.2.49/28".parse::<Ipv4Inet>()?;
-    /// Ipv4InetPair::new(host, host)?.network() // 192.0.2.48/28
+    /// assert_eq!(format!("{}", Ipv4InetPair::new(host, host)?.network()), "192.0.2.48/28");
+    /// # Ok::<(), Box<dyn std::error::Error>>(())
     /// ```
     #[inline]
     pub const fn network(&self) -> Network<Ipv4Addr> {
@@ -144,9 +162,12 @@ impl HostPair<Ipv4Addr> {
 
     /// The prefix length in bits, at most 32 in IPv4 and 128 in IPv6.
     ///
-    /// ```text
+    /// ```
+    /// # use cidr::{errors::*, more::{canon::*, *}, parsers::*, *};
+    /// # use std::net::*;
     /// let host = "192.0.2.49/28".parse::<Ipv4Inet>()?;
-    /// Ipv4InetPair::new(host, host)?.network_length() // 28
+    /// assert_eq!(Ipv4InetPair::new(host, host)?.network_length(), 28);
+    /// # Ok::<(), Box<dyn std::error::Error>>(())
     /// ```
     #[inline]
     pub const fn network_length(&self) -> u8 {
@@ -155,9 +176,12 @@ impl HostPair<Ipv4Addr> {
 
     /// The family of both addresses, which its type tells.
     ///
-    /// ```text
+    /// ```
+    /// # use cidr::{errors::*, more::{canon::*, *}, parsers::*, *};
+    /// # use std::net::*;
     /// let host = "192.0.2.49/28".parse::<Ipv4Inet>()?;
-    /// Ipv4InetPair::new(host, host)?.family() // Ipv4
+    /// assert_eq!(format!("{:?}", Ipv4InetPair::new(host, host)?.family()), "Ipv4");
+    /// # Ok::<(), Box<dyn std::error::Error>>(())
     /// ```
     #[inline]
     pub const fn family(&self) -> Family {
@@ -166,9 +190,12 @@ impl HostPair<Ipv4Addr> {
 
     /// The pair, to be printed with its prefix lengths also where they are full.
     ///
-    /// ```text
+    /// ```
+    /// # use cidr::{errors::*, more::{canon::*, *}, parsers::*, *};
+    /// # use std::net::*;
     /// let host = "192.0.2.1".parse::<Ipv4Inet>()?;
-    /// Ipv4InetPair::new(host, host)?.with_length() // (192.0.2.1/32, 192.0.2.1/32)
+    /// assert_eq!(format!("{}", Ipv4InetPair::new(host, host)?.with_length()), "(192.0.2.1/32, 192.0.2.1/32)");
+    /// # Ok::<(), Box<dyn std::error::Error>>(())
     /// ```
     #[inline]
     pub const fn with_length(&self) -> WithLength<HostPair<Ipv4Addr>> {
@@ -180,9 +207,12 @@ impl HostPair<Ipv6Addr> {
     /// The pair of two hosts. Returns `NotInSharedNetwork` for hosts of different prefix lengths or of different
     /// networks.
     ///
-    /// ```text
+    /// ```
+    /// # use cidr::{errors::*, more::{canon::*, *}, parsers::*, *};
+    /// # use std::net::*;
     /// let (first, second) = ("10.0.0.1/8".parse()?, "10.0.0.3/8".parse()?);
-    /// Ipv4InetPair::new(first, second)? // (10.0.0.1/8, 10.0.0.3/8)
+    /// assert_eq!(format!("{}", Ipv4InetPair::new(first, second)?), "(10.0.0.1/8, 10.0.0.3/8)");
+    /// # Ok::<(), Box<dyn std::error::Error>>(())
     /// ```
     #[inline]
     pub const fn new(first: Host<Ipv6Addr>, second: Host<Ipv6Addr>) -> Result<HostPair<Ipv6Addr>, InetTupleError> {
@@ -197,10 +227,13 @@ impl HostPair<Ipv6Addr> {
     /// Returns `NetworkLengthTooLongError` for a prefix length above the width, 32 or 128, and then
     /// `NotInSharedNetwork` for addresses whose first `len` bits differ.
     ///
-    /// ```text
+    /// ```
+    /// # use cidr::{errors::*, more::{canon::*, *}, parsers::*, *};
+    /// # use std::net::*;
     /// let (first, last) = ("192.0.2.1".parse()?, "192.0.2.129".parse()?);
-    /// Ipv4InetPair::new_from_addresses(first, last, 24)? // (192.0.2.1/24, 192.0.2.129/24)
-    /// Ipv4InetPair::new_from_addresses(first, last, 25) // Err(addresses not in shared network)
+    /// assert_eq!(format!("{}", Ipv4InetPair::new_from_addresses(first, last, 24)?), "(192.0.2.1/24, 192.0.2.129/24)");
+    /// assert_eq!(format!("{:?}", Ipv4InetPair::new_from_addresses(first, last, 25)), "Err(addresses not in shared network)");
+    /// # Ok::<(), Box<dyn std::error::Error>>(())
     /// ```
     #[inline]
     pub const fn new_from_addresses(first: Ipv6Addr, second: Ipv6Addr, len: u8) -> Result<HostPair<Ipv6Addr>, InetTupleError> {
@@ -236,9 +269,12 @@ impl HostPair<Ipv6Addr> {
 
     /// The first address, as a host with the prefix length of the pair.
     ///
-    /// ```text
+    /// ```
+    /// # use cidr::{errors::*, more::{canon::*, *}, parsers::*, *};
+    /// # use std::net::*;
     /// let host = "192.0.2.49/28".parse::<Ipv4Inet>()?;
-    /// Ipv4InetPair::new(host, host.last())?.first() // 192.0.2.49/28
+    /// assert_eq!(format!("{}", Ipv4InetPair::new(host, host.last())?.first()), "192.0.2.49/28");
+    /// # Ok::<(), Box<dyn std::error::Error>>(())
     /// ```
     #[inline]
     pub const fn first(&self) -> Host<Ipv6Addr> {
@@ -247,9 +283,12 @@ impl HostPair<Ipv6Addr> {
 
     /// The second address, as a host with the prefix length of the pair.
     ///
-    /// ```text
+    /// ```
+    /// # use cidr::{errors::*, more::{canon::*, *}, parsers::*, *};
+    /// # use std::net::*;
     /// let host = "192.0.2.49/28".parse::<Ipv4Inet>()?;
-    /// Ipv4InetPair::new(host, host.last())?.second() // 192.0.2.63/28
+    /// assert_eq!(format!("{}", Ipv4InetPair::new(host, host.last())?.second()), "192.0.2.63/28");
+    /// # Ok::<(), Box<dyn std::error::Error>>(())
     /// ```
     #[inline]
     pub const fn second(&self) -> Host<Ipv6Addr> {
@@ -259,9 +298,12 @@ impl HostPair<Ipv6Addr> {
     /// The network that both addresses are in, of the prefix length of the pair. It may have more addresses than the
     /// pair.
     ///
-    /// ```text
+    /// ```
+    /// # use cidr::{errors::*, more::{canon::*, *}, parsers::*, *};
+    /// # use std::net::*;
     /// let host = "192.0.2.49/28".parse::<Ipv4Inet>()?;
-    /// Ipv4InetPair::new(host, host)?.network() // 192.0.2.48/28
+    /// assert_eq!(format!("{}", Ipv4InetPair::new(host, host)?.network()), "192.0.2.48/28");
+    /// # Ok::<(), Box<dyn std::error::Error>>(())
     /// ```
     #[inline]
     pub const fn network(&self) -> Network<Ipv6Addr> {
@@ -270,9 +312,12 @@ impl HostPair<Ipv6Addr> {
 
     /// The prefix length in bits, at most 32 in IPv4 and 128 in IPv6.
     ///
-    /// ```text
+    /// ```
+    /// # use cidr::{errors::*, more::{canon::*, *}, parsers::*, *};
+    /// # use std::net::*;
     /// let host = "192.0.2.49/28".parse::<Ipv4Inet>()?;
-    /// Ipv4InetPair::new(host, host)?.network_length() // 28
+    /// assert_eq!(Ipv4InetPair::new(host, host)?.network_length(), 28);
+    /// # Ok::<(), Box<dyn std::error::Error>>(())
     /// ```
     #[inline]
     pub const fn network_length(&self) -> u8 {
@@ -281,9 +326,12 @@ impl HostPair<Ipv6Addr> {
 
     /// The family of both addresses, which its type tells.
     ///
-    /// ```text
+    /// ```
+    /// # use cidr::{errors::*, more::{canon::*, *}, parsers::*, *};
+    /// # use std::net::*;
     /// let host = "192.0.2.49/28".parse::<Ipv4Inet>()?;
-    /// Ipv4InetPair::new(host, host)?.family() // Ipv4
+    /// assert_eq!(format!("{:?}", Ipv4InetPair::new(host, host)?.family()), "Ipv4");
+    /// # Ok::<(), Box<dyn std::error::Error>>(())
     /// ```
     #[inline]
     pub const fn family(&self) -> Family {
@@ -292,9 +340,12 @@ impl HostPair<Ipv6Addr> {
 
     /// The pair, to be printed with its prefix lengths also where they are full.
     ///
-    /// ```text
+    /// ```
+    /// # use cidr::{errors::*, more::{canon::*, *}, parsers::*, *};
+    /// # use std::net::*;
     /// let host = "192.0.2.1".parse::<Ipv4Inet>()?;
-    /// Ipv4InetPair::new(host, host)?.with_length() // (192.0.2.1/32, 192.0.2.1/32)
+    /// assert_eq!(format!("{}", Ipv4InetPair::new(host, host)?.with_length()), "(192.0.2.1/32, 192.0.2.1/32)");
+    /// # Ok::<(), Box<dyn std::error::Error>>(())
     /// ```
     #[inline]
     pub const fn with_length(&self) -> WithLength<HostPair<Ipv6Addr>> {
@@ -393,9 +444,12 @@ impl<A: AddressText> HostPair<A> {
     /// The printed string, both hosts in parentheses and without a full prefix length, in an `ArrayString`, so that
     /// nothing is allocated. It has at most 40 bytes in IPv4 and 90 in IPv6.
     ///
-    /// ```text
+    /// ```
+    /// # use cidr::{errors::*, more::{canon::*, *}, parsers::*, *};
+    /// # use std::net::*;
     /// let host = "192.0.2.1".parse::<Ipv4Inet>()?;
-    /// Ipv4InetPair::new(host, host)?.to_text() // (192.0.2.1, 192.0.2.1)
+    /// assert_eq!(format!("{}", Ipv4InetPair::new(host, host)?.to_text()), "(192.0.2.1, 192.0.2.1)");
+    /// # Ok::<(), Box<dyn std::error::Error>>(())
     /// ```
     #[inline]
     pub fn to_text(&self) -> ArrayString<90> {
@@ -408,10 +462,13 @@ impl<A: AddressText> HostPair<A> {
 impl<A: AddressText> WithLength<HostPair<A>> {
     /// The printed string, with the prefix lengths also where they are full: at most 40 bytes in IPv4 and 90 in IPv6.
     ///
-    /// ```text
+    /// ```
+    /// # use cidr::{errors::*, more::{canon::*, *}, parsers::*, *};
+    /// # use std::net::*;
     /// let host = "::1".parse::<Ipv6Inet>()?;
     /// let pair = Ipv6InetPair::new(host, host)?;
-    /// pair.with_length().to_text() // (::1/128, ::1/128)
+    /// assert_eq!(format!("{}", pair.with_length().to_text()), "(::1/128, ::1/128)");
+    /// # Ok::<(), Box<dyn std::error::Error>>(())
     /// ```
     #[inline]
     pub fn to_text(&self) -> ArrayString<90> {

@@ -12,11 +12,14 @@ impl Ipv4InetPair {
     /// The hosts from the first address to the second inclusive, ascending, with the prefix length of the pair. There
     /// are none where the first is above the second.
     ///
-    /// ```text
+    /// ```
+    /// # use cidr::{errors::*, more::{canon::*, *}, parsers::*, *};
+    /// # use std::net::*;
     /// let host = "192.0.2.49/28".parse::<Ipv4Inet>()?;
     /// let pair = Ipv4InetPair::new(host, host.last())?;
-    /// pair.iter().next() // Some(192.0.2.49/28)
-    /// pair.iter().count() // Some(15)
+    /// assert_eq!(format!("{:?}", pair.iter().next()), "Some(192.0.2.49/28)");
+    /// assert_eq!(format!("{:?}", pair.iter().checked_count()), "Some(15)");
+    /// # Ok::<(), Box<dyn std::error::Error>>(())
     /// ```
     #[inline]
     pub const fn iter(self) -> InetIterator<Ipv4Addr> {

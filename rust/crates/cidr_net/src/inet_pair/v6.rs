@@ -12,10 +12,13 @@ impl Ipv6InetPair {
     /// The hosts from the first address to the second inclusive, ascending, with the prefix length of the pair. There
     /// are none where the first is above the second.
     ///
-    /// ```text
+    /// ```
+    /// # use cidr::{errors::*, more::{canon::*, *}, parsers::*, *};
+    /// # use std::net::*;
     /// let host = "2001:db8::5/120".parse::<Ipv6Inet>()?;
     /// let pair = Ipv6InetPair::new(host.first(), host)?;
-    /// pair.iter().count() // Some(6)
+    /// assert_eq!(format!("{:?}", pair.iter().checked_count()), "Some(6)");
+    /// # Ok::<(), Box<dyn std::error::Error>>(())
     /// ```
     #[inline]
     pub const fn iter(self) -> InetIterator<Ipv6Addr> {

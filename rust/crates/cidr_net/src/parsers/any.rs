@@ -12,10 +12,14 @@ use crate::parsers::networks::{parse_cidr, parse_cidr_full};
 
 /// `Any` for the string `any`, for which no parser is called. For every other string the result of `parse_cidr_full`.
 ///
-/// ```text
+/// ```
+/// # use cidr::{errors::*, more::{canon::*, *}, parsers::*, *};
+/// # use std::net::*;
+/// # use std::str::FromStr;
 /// let short = |s: &str| parse_short_ip_cidr(s);
 /// let network = parse_any_cidr_full("10.7", IpAddr::from_str, short)?;
-/// network // 10.7.0.0/16
+/// assert_eq!(format!("{}", network), "10.7.0.0/16");
+/// # Ok::<(), Box<dyn std::error::Error>>(())
 /// ```
 #[inline]
 pub fn parse_any_cidr_full<AP, HP>(
@@ -36,9 +40,13 @@ where
 /// `Any` for the string `any`, for which `address_parser` is not called. For every other string the result of
 /// `parse_cidr`.
 ///
-/// ```text
-/// parse_any_cidr("any", IpAddr::from_str)? // any
-/// parse_any_cidr("::1", IpAddr::from_str)? // ::1
+/// ```
+/// # use cidr::{errors::*, more::{canon::*, *}, parsers::*, *};
+/// # use std::net::*;
+/// # use std::str::FromStr;
+/// assert_eq!(format!("{}", parse_any_cidr("any", IpAddr::from_str)?), "any");
+/// assert_eq!(format!("{}", parse_any_cidr("::1", IpAddr::from_str)?), "::1");
+/// # Ok::<(), Box<dyn std::error::Error>>(())
 /// ```
 #[inline]
 pub fn parse_any_cidr<AP>(s: &str, address_parser: AP) -> Result<AnyIpCidr, NetworkParseError>
@@ -54,10 +62,14 @@ where
 /// `Any` for the string `any`, for which no parser is called. For every other string the result of
 /// `parse_cidr_full_ignore_hostbits`.
 ///
-/// ```text
+/// ```
+/// # use cidr::{errors::*, more::{canon::*, *}, parsers::*, *};
+/// # use std::net::*;
+/// # use std::str::FromStr;
 /// let short = |s: &str| parse_short_ip_cidr(s);
 /// let network = parse_any_cidr_full_ignore_hostbits("10.0.0.7/8", IpAddr::from_str, short)?;
-/// network // 10.0.0.0/8
+/// assert_eq!(format!("{}", network), "10.0.0.0/8");
+/// # Ok::<(), Box<dyn std::error::Error>>(())
 /// ```
 #[inline]
 pub fn parse_any_cidr_full_ignore_hostbits<AP, HP>(
@@ -78,9 +90,13 @@ where
 /// `Any` for the string `any`, for which `address_parser` is not called. For every other string the result of
 /// `parse_cidr_ignore_hostbits`.
 ///
-/// ```text
+/// ```
+/// # use cidr::{errors::*, more::{canon::*, *}, parsers::*, *};
+/// # use std::net::*;
+/// # use std::str::FromStr;
 /// let network = parse_any_cidr_ignore_hostbits("127.0.0.1/8", IpAddr::from_str)?;
-/// network // 127.0.0.0/8
+/// assert_eq!(format!("{}", network), "127.0.0.0/8");
+/// # Ok::<(), Box<dyn std::error::Error>>(())
 /// ```
 #[inline]
 pub fn parse_any_cidr_ignore_hostbits<AP>(

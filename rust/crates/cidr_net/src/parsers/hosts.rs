@@ -14,10 +14,14 @@ use crate::traits::{Address, Inet};
 /// The first error is returned: that of `address_parser`; `NetworkLengthParseError` for what follows the slash;
 /// `NetworkLengthTooLongError`.
 ///
-/// ```text
+/// ```
+/// # use cidr::{errors::*, more::{canon::*, *}, parsers::*, *};
+/// # use std::net::*;
+/// # use std::str::FromStr;
 /// let loose = |s: &str| parse_loose_ipv4(s);
 /// let host = parse_inet_full("127.1/8", loose, Ipv4Inet::from_str)?;
-/// host // 127.0.0.1/8
+/// assert_eq!(format!("{}", host), "127.0.0.1/8");
+/// # Ok::<(), Box<dyn std::error::Error>>(())
 /// ```
 #[inline]
 pub fn parse_inet_full<I, AP, HP>(
@@ -43,10 +47,13 @@ where
 /// The first error is returned: that of `address_parser`; `NetworkLengthParseError` for what follows the slash;
 /// `NetworkLengthTooLongError`.
 ///
-/// ```text
+/// ```
+/// # use cidr::{errors::*, more::{canon::*, *}, parsers::*, *};
+/// # use std::net::*;
 /// let loose = |s: &str| parse_loose_ipv4(s);
 /// let host: Ipv4Inet = parse_inet("127.1/8", loose)?;
-/// host // 127.0.0.1/8
+/// assert_eq!(format!("{}", host), "127.0.0.1/8");
+/// # Ok::<(), Box<dyn std::error::Error>>(())
 /// ```
 #[inline]
 pub fn parse_inet<I, AP>(s: &str, address_parser: AP) -> Result<I, NetworkParseError>

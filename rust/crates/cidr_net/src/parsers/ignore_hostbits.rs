@@ -12,10 +12,14 @@ use crate::traits::{Address, Cidr, Inet};
 ///
 /// The result of `host_parser` is returned as it is, also where it is `InvalidHostPart`.
 ///
-/// ```text
+/// ```
+/// # use cidr::{errors::*, more::{canon::*, *}, parsers::*, *};
+/// # use std::net::*;
+/// # use std::str::FromStr;
 /// let short = |s: &str| parse_short_ipv4_cidr(s);
 /// let network = parse_cidr_full_ignore_hostbits("10.0.0.7/8", Ipv4Addr::from_str, short)?;
-/// network // 10.0.0.0/8
+/// assert_eq!(format!("{}", network), "10.0.0.0/8");
+/// # Ok::<(), Box<dyn std::error::Error>>(())
 /// ```
 #[inline]
 pub fn parse_cidr_full_ignore_hostbits<C, AP, HP>(
@@ -39,10 +43,13 @@ where
 
 /// As `parse_cidr`, but set bits after the prefix are ignored: the network is that which has the address.
 ///
-/// ```text
+/// ```
+/// # use cidr::{errors::*, more::{canon::*, *}, parsers::*, *};
+/// # use std::net::*;
 /// let loose = |s: &str| parse_loose_ipv4(s);
 /// let network: Ipv4Cidr = parse_cidr_ignore_hostbits("10.7/8", loose)?;
-/// network // 10.0.0.0/8
+/// assert_eq!(format!("{}", network), "10.0.0.0/8");
+/// # Ok::<(), Box<dyn std::error::Error>>(())
 /// ```
 #[inline]
 pub fn parse_cidr_ignore_hostbits<C, AP>(

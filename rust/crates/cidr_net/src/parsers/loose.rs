@@ -42,11 +42,14 @@ impl Part for LoosePart {
 /// decimal number may have a plus before it, as in the crate `cidr`, and then zeros: `+010` is 10. There may be any
 /// number of leading zeros, and no number wraps: for `4294967296`, `256.1` and `1.16777216` it returns `None`.
 ///
-/// ```text
-/// inet_addr("127.1") // Some(127.0.0.1)
-/// inet_addr("10.0x20.513") // Some(10.32.2.1)
-/// inet_addr("3221225985") // Some(192.0.2.1)
-/// inet_addr("08.1.1.1") // None
+/// ```
+/// # use cidr::{errors::*, more::{canon::*, *}, parsers::*, *};
+/// # use std::net::*;
+/// assert_eq!(format!("{:?}", inet_addr("127.1")), "Some(127.0.0.1)");
+/// assert_eq!(format!("{:?}", inet_addr("10.0x20.513")), "Some(10.32.2.1)");
+/// assert_eq!(format!("{:?}", inet_addr("3221225985")), "Some(192.0.2.1)");
+/// assert_eq!(format!("{:?}", inet_addr("08.1.1.1")), "None");
+/// # Ok::<(), Box<dyn std::error::Error>>(())
 /// ```
 #[inline]
 pub fn inet_addr(s: &str) -> Option<Ipv4Addr> {
@@ -63,9 +66,12 @@ pub fn inet_addr(s: &str) -> Option<Ipv4Addr> {
 ///
 /// A strict string is a loose string of the same address. The error is that of `Ipv4Addr`.
 ///
-/// ```text
-/// parse_loose_ipv4("127.1")? // 127.0.0.1
-/// parse_loose_ipv4("256.1") // Err(invalid IPv4 address syntax)
+/// ```
+/// # use cidr::{errors::*, more::{canon::*, *}, parsers::*, *};
+/// # use std::net::*;
+/// assert_eq!(format!("{}", parse_loose_ipv4("127.1")?), "127.0.0.1");
+/// assert_eq!(format!("{:?}", parse_loose_ipv4("256.1")), "Err(AddrParseError(Ipv4))");
+/// # Ok::<(), Box<dyn std::error::Error>>(())
 /// ```
 #[inline]
 pub fn parse_loose_ipv4(s: &str) -> Result<Ipv4Addr, AddrParseError> {
@@ -80,9 +86,12 @@ pub fn parse_loose_ipv4(s: &str) -> Result<Ipv4Addr, AddrParseError> {
 ///
 /// The error is that of `IpAddr`.
 ///
-/// ```text
-/// parse_loose_ip("0x7f000001")? // 127.0.0.1
-/// parse_loose_ip("::1")? // ::1
+/// ```
+/// # use cidr::{errors::*, more::{canon::*, *}, parsers::*, *};
+/// # use std::net::*;
+/// assert_eq!(format!("{}", parse_loose_ip("0x7f000001")?), "127.0.0.1");
+/// assert_eq!(format!("{}", parse_loose_ip("::1")?), "::1");
+/// # Ok::<(), Box<dyn std::error::Error>>(())
 /// ```
 #[inline]
 pub fn parse_loose_ip(s: &str) -> Result<IpAddr, AddrParseError> {

@@ -14,10 +14,14 @@ use crate::traits::{Address, Cidr};
 /// The first error is returned: that of `address_parser`; `NetworkLengthParseError` for what follows the slash; then
 /// those of `Cidr::new`, `NetworkLengthTooLongError` and `InvalidHostPart`.
 ///
-/// ```text
+/// ```
+/// # use cidr::{errors::*, more::{canon::*, *}, parsers::*, *};
+/// # use std::net::*;
+/// # use std::str::FromStr;
 /// let short = |s: &str| parse_short_ipv4_cidr(s);
 /// let network = parse_cidr_full("10.7", Ipv4Addr::from_str, short)?;
-/// network // 10.7.0.0/16
+/// assert_eq!(format!("{}", network), "10.7.0.0/16");
+/// # Ok::<(), Box<dyn std::error::Error>>(())
 /// ```
 #[inline]
 pub fn parse_cidr_full<C, AP, HP>(
@@ -43,10 +47,13 @@ where
 /// The first error is returned: that of `address_parser`; `NetworkLengthParseError` for what follows the slash; then
 /// those of `Cidr::new`, `NetworkLengthTooLongError` and `InvalidHostPart`.
 ///
-/// ```text
+/// ```
+/// # use cidr::{errors::*, more::{canon::*, *}, parsers::*, *};
+/// # use std::net::*;
 /// let loose = |s: &str| parse_loose_ipv4(s);
 /// let network: Ipv4Cidr = parse_cidr("0x0a000000/8", loose)?;
-/// network // 10.0.0.0/8
+/// assert_eq!(format!("{}", network), "10.0.0.0/8");
+/// # Ok::<(), Box<dyn std::error::Error>>(())
 /// ```
 #[inline]
 pub fn parse_cidr<C, AP>(s: &str, address_parser: AP) -> Result<C, NetworkParseError>

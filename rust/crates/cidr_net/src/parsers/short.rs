@@ -41,9 +41,12 @@ fn read_short(text: &[u8]) -> Option<Ipv4Cidr> {
 /// strings as other addresses: `192.168` as 192.0.0.168. A string with a slash is an error, and the error is the
 /// `AddrParseError` of `Ipv4Addr`.
 ///
-/// ```text
-/// parse_short_ipv4_address_as_cidr("192.168")? // 192.168.0.0/16
-/// parse_short_ipv4_address_as_cidr("192.0.2.1")? // 192.0.2.1
+/// ```
+/// # use cidr::{errors::*, more::{canon::*, *}, parsers::*, *};
+/// # use std::net::*;
+/// assert_eq!(format!("{}", parse_short_ipv4_address_as_cidr("192.168")?), "192.168.0.0/16");
+/// assert_eq!(format!("{}", parse_short_ipv4_address_as_cidr("192.0.2.1")?), "192.0.2.1");
+/// # Ok::<(), Box<dyn std::error::Error>>(())
 /// ```
 #[inline]
 pub fn parse_short_ipv4_address_as_cidr(s: &str) -> Result<Ipv4Cidr, NetworkParseError> {
@@ -58,9 +61,12 @@ pub fn parse_short_ipv4_address_as_cidr(s: &str) -> Result<Ipv4Cidr, NetworkPars
 ///
 /// A string with a slash is an error, and the error is the `AddrParseError` of `IpAddr`.
 ///
-/// ```text
-/// parse_short_ip_address_as_cidr("10")? // 10.0.0.0/8
-/// parse_short_ip_address_as_cidr("::1")? // ::1
+/// ```
+/// # use cidr::{errors::*, more::{canon::*, *}, parsers::*, *};
+/// # use std::net::*;
+/// assert_eq!(format!("{}", parse_short_ip_address_as_cidr("10")?), "10.0.0.0/8");
+/// assert_eq!(format!("{}", parse_short_ip_address_as_cidr("::1")?), "::1");
+/// # Ok::<(), Box<dyn std::error::Error>>(())
 /// ```
 #[inline]
 pub fn parse_short_ip_address_as_cidr(s: &str) -> Result<IpCidr, NetworkParseError> {
@@ -76,9 +82,12 @@ pub fn parse_short_ip_address_as_cidr(s: &str) -> Result<IpCidr, NetworkParseErr
 /// The network of a string with a slash, as `Ipv4Cidr` parses it, or else of a short string. With a slash there have to
 /// be four octets.
 ///
-/// ```text
-/// parse_short_ipv4_cidr("10.0.0.0/9")? // 10.0.0.0/9
-/// parse_short_ipv4_cidr("10.7")? // 10.7.0.0/16
+/// ```
+/// # use cidr::{errors::*, more::{canon::*, *}, parsers::*, *};
+/// # use std::net::*;
+/// assert_eq!(format!("{}", parse_short_ipv4_cidr("10.0.0.0/9")?), "10.0.0.0/9");
+/// assert_eq!(format!("{}", parse_short_ipv4_cidr("10.7")?), "10.7.0.0/16");
+/// # Ok::<(), Box<dyn std::error::Error>>(())
 /// ```
 #[inline]
 pub fn parse_short_ipv4_cidr(s: &str) -> Result<Ipv4Cidr, NetworkParseError> {
@@ -87,8 +96,11 @@ pub fn parse_short_ipv4_cidr(s: &str) -> Result<Ipv4Cidr, NetworkParseError> {
 
 /// The network of a string with a slash, as `IpCidr` parses it, or what [`parse_short_ip_address_as_cidr`] parses.
 ///
-/// ```text
-/// parse_short_ip_cidr("10.7")? // 10.7.0.0/16
+/// ```
+/// # use cidr::{errors::*, more::{canon::*, *}, parsers::*, *};
+/// # use std::net::*;
+/// assert_eq!(format!("{}", parse_short_ip_cidr("10.7")?), "10.7.0.0/16");
+/// # Ok::<(), Box<dyn std::error::Error>>(())
 /// ```
 #[inline]
 pub fn parse_short_ip_cidr(s: &str) -> Result<IpCidr, NetworkParseError> {
@@ -97,9 +109,12 @@ pub fn parse_short_ip_cidr(s: &str) -> Result<IpCidr, NetworkParseError> {
 
 /// `Any` for the string `any`, and for every other what [`parse_short_ip_cidr`] parses.
 ///
-/// ```text
-/// parse_short_any_ip_cidr("any")? // any
-/// parse_short_any_ip_cidr("10.7")? // 10.7.0.0/16
+/// ```
+/// # use cidr::{errors::*, more::{canon::*, *}, parsers::*, *};
+/// # use std::net::*;
+/// assert_eq!(format!("{}", parse_short_any_ip_cidr("any")?), "any");
+/// assert_eq!(format!("{}", parse_short_any_ip_cidr("10.7")?), "10.7.0.0/16");
+/// # Ok::<(), Box<dyn std::error::Error>>(())
 /// ```
 #[inline]
 pub fn parse_short_any_ip_cidr(s: &str) -> Result<AnyIpCidr, NetworkParseError> {
