@@ -36,8 +36,8 @@ def with_casts(text):
 
 
 def with_const(text, but=()):
-    """Each function `const`, but those of these names."""
-    return re.sub(FUNCTION, lambda found: found[0] if found[2] in but else f"{found[1]}const fn {found[2]}", text, flags=re.M)
+    """Each function `const`, but those of these names, and what is given a `&mut`, which may be so only from Rust 1.83 on."""
+    return re.sub(FUNCTION + r"\b(?!\(&mut)", lambda found: found[0] if found[2] in but else f"{found[1]}const fn {found[2]}", text, flags=re.M)
 
 
 CARRIES = '''

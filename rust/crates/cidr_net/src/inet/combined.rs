@@ -88,7 +88,7 @@ impl IpInet {
     /// # Ok::<(), Box<dyn std::error::Error>>(())
     /// ```
     #[inline]
-    pub const fn increment(&mut self) -> bool {
+    pub fn increment(&mut self) -> bool {
         match self {
             IpInet::V4(host) => host.increment(),
             IpInet::V6(host) => host.increment(),
@@ -106,7 +106,7 @@ impl IpInet {
     /// # Ok::<(), Box<dyn std::error::Error>>(())
     /// ```
     #[inline]
-    pub const fn decrement(&mut self) -> bool {
+    pub fn decrement(&mut self) -> bool {
         match self {
             IpInet::V4(host) => host.decrement(),
             IpInet::V6(host) => host.decrement(),

@@ -108,7 +108,7 @@ impl Host<Ipv4Addr> {
     /// # Ok::<(), Box<dyn std::error::Error>>(())
     /// ```
     #[inline]
-    pub const fn increment(&mut self) -> bool {
+    pub fn increment(&mut self) -> bool {
         let (next, wraps) = self.overflowing_add(1);
         *self = next;
         wraps
@@ -125,7 +125,7 @@ impl Host<Ipv4Addr> {
     /// # Ok::<(), Box<dyn std::error::Error>>(())
     /// ```
     #[inline]
-    pub const fn decrement(&mut self) -> bool {
+    pub fn decrement(&mut self) -> bool {
         let (previous, wraps) = self.overflowing_sub(1);
         *self = previous;
         wraps
@@ -429,7 +429,7 @@ impl Host<Ipv6Addr> {
     /// # Ok::<(), Box<dyn std::error::Error>>(())
     /// ```
     #[inline]
-    pub const fn increment(&mut self) -> bool {
+    pub fn increment(&mut self) -> bool {
         let (next, wraps) = self.overflowing_add(1);
         *self = next;
         wraps
@@ -446,7 +446,7 @@ impl Host<Ipv6Addr> {
     /// # Ok::<(), Box<dyn std::error::Error>>(())
     /// ```
     #[inline]
-    pub const fn decrement(&mut self) -> bool {
+    pub fn decrement(&mut self) -> bool {
         let (previous, wraps) = self.overflowing_sub(1);
         *self = previous;
         wraps
