@@ -13,6 +13,9 @@ pub mod Nodes
 pub mod Splits
 pub mod Passes
 pub mod Placing
+pub mod Chains
+pub mod Sharing
+pub mod Reading
 pub mod Final
 pub mod Sorted
 pub mod Calls

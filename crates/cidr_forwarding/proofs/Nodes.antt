@@ -14,7 +14,7 @@ not_first (b ∷ p) [] e n = cc
 not_first p (b ∷ q) e n = cc
 
 -- ---- lists of no more bits than depth
-shallow : (depth : ℕ) (p : List Bool) → length p ≤ depth → drop depth p ≡ []
+pub shallow : (depth : ℕ) (p : List Bool) → length p ≤ depth → drop depth p ≡ []
 shallow depth p h = empty (drop depth p) (omega (arith, length-drop depth p))
   where
     empty : (l : List Bool) → length l ≤ 0 → l ≡ []

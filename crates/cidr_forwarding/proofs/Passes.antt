@@ -10,9 +10,9 @@ use Rattle.std.specs.declared.cmp.Ordering.TheVariants.{Less}
 use Rattle.std.proofs.lemmas.List.Elements.{recursion_from_All}
 use Rattle.cidr.specs.model.Bits.{bit_cmp}
 use Rattle.cidr_forwarding.specs.Trees.{own, below, under, AreWithin, Region, Even, Halves, deeper, region}
-use Rattle.cidr_forwarding.specs.Choices.{joined, EndsIn, is_free}
+use Rattle.cidr_forwarding.specs.Choices.{joined, EndsIn, is_free, Measured, Fork, noted, counted}
 use Rattle.std.specs.Option.{option_eq}
-use Rattle.cidr_forwarding.specs.Plans.{tails, planned, IsNode, AreDeep, NextIs, choices, choice_lists, choice_counts}
+use Rattle.cidr_forwarding.specs.Plans.{tails, planned, IsNode, AreDeep, NextIs, choices}
 use Rattle.cidr_forwarding.proofs.RowParts.{below_halves_false, below_halves_true}
 use Rattle.cidr_forwarding.proofs.Steps.{part, part_kept}
 use Rattle.cidr_forwarding.proofs.Splits.{split_under}
@@ -20,7 +20,7 @@ use Rattle.cidr_forwarding.proofs.Order.{Ascend}
 
 -- ---- trees
 module _ {X : Type 0} where
-  even_region : (w : ℕ) (c : X) (rows : List (List Bool × X)) → below false rows ≡ [] → below true rows ≡ [] → region w c rows ≡ Even (own c rows)
+  pub even_region : (w : ℕ) (c : X) (rows : List (List Bool × X)) → below false rows ≡ [] → below true rows ≡ [] → region w c rows ≡ Even (own c rows)
   even_region zero c rows e f = refl
   even_region (suc w) c rows e f =
       ap₂ (λ lows highs. deeper lows highs (own c rows) (region w (own c rows) (below false rows)) (region w (own c rows) (below true rows))) e f
@@ -30,7 +30,7 @@ module _ {X : Type 0} where
   deeper_some [] (x ∷ highs) o l r h = refl
   deeper_some (x ∷ lows) highs o l r h = refl
 
-  halves_region : (w : ℕ) (c o : X) (rows lows highs : List (List Bool × X)) → o ≡ own c rows → below false rows ≡ lows → below true rows ≡ highs
+  pub halves_region : (w : ℕ) (c o : X) (rows lows highs : List (List Bool × X)) → o ≡ own c rows → below false rows ≡ lows → below true rows ≡ highs
       → 0 < length lows + length highs → region (suc w) c rows ≡ Halves (region w o lows) (region w o highs)
   halves_region w c o rows lows highs s e f h =
       ap₂ (λ x y. deeper x y (own c rows) (region w (own c rows) x) (region w (own c rows) y)) e f
@@ -57,12 +57,12 @@ module _ {X : Type 0} where
   above_high p [] h = tt
   above_high p (r ∷ highs) h = (h.0, above_high p highs h.1)
 
-  ascend_high : (highs : List (List Bool × X)) → Ascend (under true highs) → Ascend highs
+  pub ascend_high : (highs : List (List Bool × X)) → Ascend (under true highs) → Ascend highs
   unfolding IsStrictlySortedBy
   ascend_high [] h = tt
   ascend_high (r ∷ highs) h = (above_high r.0 highs h.0, ascend_high highs h.1)
 
-  ascend_parts : (lows highs : List (List Bool × X)) → Ascend (under false lows ++ under true highs) → Ascend lows × Ascend highs
+  pub ascend_parts : (lows highs : List (List Bool × X)) → Ascend (under false lows ++ under true highs) → Ascend lows × Ascend highs
   unfolding IsStrictlySortedBy
   ascend_parts [] highs h = (tt, ascend_high highs h)
   ascend_parts (r ∷ lows) highs h = let k = ascend_parts lows highs h.1 in ((above_low r.0 lows highs h.0, k.0), k.1)
@@ -78,7 +78,7 @@ some_left d (b ∷ p) n k = omega arith
 
 -- ---- rows of a type of networks
 module _ {C V : Type 0} (bits : C → List Bool) where
-  length_tails : (d : ℕ) (rows : List (C × V)) → length (tails bits d rows) ≡ length rows
+  pub length_tails : (d : ℕ) (rows : List (C × V)) → length (tails bits d rows) ≡ length rows
   length_tails d [] = refl
   length_tails d (r ∷ rows) = ap suc (length_tails d rows)
 
@@ -128,6 +128,12 @@ module _ {C V : Type 0} (bits : C → List Bool) where
     parts : tails bits d rest ≡ under false (tails bits (d + 1) (take n rest)) ++ under true (tails bits (d + 1) (drop n rest))
     parts = split_under bits d rest n lower upper
 
+    pub lows_are : below false (tails bits d rows) ≡ tails bits (d + 1) (take n rest)
+    lows_are = let lows = tails bits (d + 1) (take n rest) in halves false ∙ ap (below false) parts ∙ below_halves_false lows (tails bits (d + 1) (drop n rest))
+
+    pub highs_are : below true (tails bits d rows) ≡ tails bits (d + 1) (drop n rest)
+    highs_are = let lows = tails bits (d + 1) (take n rest) in halves true ∙ ap (below true) parts ∙ below_halves_true lows (tails bits (d + 1) (drop n rest))
+
     pub planned_halves : planned bits d c rows ≡ Halves (planned bits (d + 1) o (take n rest)) (planned bits (d + 1) o (drop n rest))
     unfolding planned
     planned_halves =
@@ -135,8 +141,7 @@ module _ {C V : Type 0} (bits : C → List Bool) where
         let highs = tails bits (d + 1) (drop n rest) in
         ap (λ w. region w c (tails bits d rows)) (sym left)
         ∙ halves_region (129 - (d + 1)) c o (tails bits d rows) lows highs own_is
-        (halves false ∙ ap (below false) parts ∙ below_halves_false lows highs)
-        (halves true ∙ ap (below true) parts ∙ below_halves_true lows highs)
+        lows_are highs_are
         (omega (arith, ap length parts, length_parts lows highs, length_tails d rest, some))
 
     both_within : AreWithin (129 - (d + 1)) (tails bits (d + 1) (take n rest)) × AreWithin (129 - (d + 1)) (tails bits (d + 1) (drop n rest))
@@ -160,44 +165,9 @@ module _ {V : Type 0} (eq : V → V → Bool) (holes : Bool) where
   unfolding choices
   choices_even x = refl
 
-  pub lists_even : (x : Option V) → choice_lists eq holes (Even x) ≡ x ∷ []
-  unfolding choice_lists
-  lists_even x = refl
-
-  pub counts_even : (x : Option V) → choice_counts eq holes (Even x) ≡ 1 ∷ []
-  unfolding choice_counts
-  counts_even x = refl
-
   pub choices_halves : (l r : Region (Option V)) → choices eq holes (Halves l r) ≡ joined (option_eq eq) (is_free holes) (choices eq holes l) (choices eq holes r)
   unfolding choices
   choices_halves l r = refl
-
-  pub lists_halves : (l r : Region (Option V))
-      → choice_lists eq holes (Halves l r) ≡ choice_lists eq holes r ++ (choice_lists eq holes l ++ joined (option_eq eq) (is_free holes) (choices eq holes l) (choices eq holes r))
-  unfolding choice_lists choices
-  lists_halves l r = refl
-
-  pub counts_halves : (l r : Region (Option V))
-      → choice_counts eq holes (Halves l r) ≡ choice_counts eq holes r ++ (choice_counts eq holes l ++ length (joined (option_eq eq) (is_free holes) (choices eq holes l) (choices eq holes r)) ∷ [])
-  unfolding choice_counts choices
-  counts_halves l r = refl
-
-  -- a network's are the last
-  pub lists_end : (t : Region (Option V)) → EndsIn (choice_lists eq holes t) (choices eq holes t)
-  unfolding choice_lists choices
-  lists_end (Even x) = ([], refl)
-  lists_end (Halves l r) = (
-    choice_lists eq holes r ++ choice_lists eq holes l,
-    sym (append_assoc (choice_lists eq holes r) (choice_lists eq holes l) (joined (option_eq eq) (is_free holes) (choices eq holes l) (choices eq holes r))),
-  )
-
-  pub counts_end : (t : Region (Option V)) → EndsIn (choice_counts eq holes t) (length (choices eq holes t) ∷ [])
-  unfolding choice_counts choices
-  counts_end (Even x) = ([], refl)
-  counts_end (Halves l r) = (
-    choice_counts eq holes r ++ choice_counts eq holes l,
-    sym (append_assoc (choice_counts eq holes r) (choice_counts eq holes l) (length (joined (option_eq eq) (is_free holes) (choices eq holes l) (choices eq holes r)) ∷ [])),
-  )
 
 module _ {X : Type 0} where
   -- the last of a list
@@ -212,6 +182,12 @@ module _ {X : Type 0} where
   pub ends_more : (xs whole end : List X) → EndsIn whole end → EndsIn (xs ++ whole) end
   ends_more xs whole end e = (xs ++ e.0, ap (λ l. xs ++ l) e.1 ∙ sym (append_assoc xs e.0 end))
 
+  pub ends_of_end : (whole mid end : List X) → EndsIn whole mid → EndsIn mid end → EndsIn whole end
+  ends_of_end whole mid end e f = (e.0 ++ f.0, e.1 ∙ ap (λ l. e.0 ++ l) f.1 ∙ sym (append_assoc e.0 f.0 end))
+
+  pub ends_fit : (whole end : List X) → EndsIn whole end → length end ≤ length whole
+  ends_fit whole end e = omega (arith, ap length e.1, length-append e.0 end)
+
   -- what `&xs[n..]` is
   pub whole_rest : (n : ℕ) (xs : List X) → take (length xs - n) (drop n xs) ≡ drop n xs
   whole_rest n xs = take_all (length xs - n) (drop n xs) (omega (arith, length-drop n xs))
@@ -224,7 +200,7 @@ module _ {C V : Type 0} (bits : C → List Bool) (d : ℕ) (c o : Option V) (row
 
   module _ (node : IsNode bits d (drop skip rows)) (deep : AreDeep bits d (drop skip rows)) (rest : List (C × V)) (rest_is : rest ≡ take (length rows - skip) (drop skip rows))
       (some : 0 < length rest) where
-    is_rest : drop skip rows ≡ rest
+    pub is_rest : drop skip rows ≡ rest
     is_rest = sym (rest_is ∙ whole_rest skip rows)
 
     pub read_small : d < 129
@@ -234,16 +210,22 @@ module _ {C V : Type 0} (bits : C → List Bool) (d : ℕ) (c o : Option V) (row
     read_deep = subst (AreDeep bits d) is_rest deep
 
     module _ (n : ℕ) (lower : AllByRecursion (NextIs bits d false) (take n rest)) (upper : AllByRecursion (NextIs bits d true) (drop n rest)) where
-      halves_rest : (b : Bool) → below b (tails bits d rows) ≡ below b (tails bits d rest)
+      pub halves_rest : (b : Bool) → below b (tails bits d rows) ≡ below b (tails bits d rest)
       halves_rest b = halves b ∙ ap (λ l. below b (tails bits d l)) is_rest
 
-      node_rest : IsNode bits d rest
+      pub node_rest : IsNode bits d rest
       node_rest = subst (IsNode bits d) is_rest node
 
       pub read_halves : planned bits d c rows ≡ Halves (planned bits (d + 1) o (take n rest)) (planned bits (d + 1) o (take (length rest - n) (drop n rest)))
       read_halves =
           planned_halves bits d c o rows rest n own_is halves_rest node_rest read_deep some lower upper
           ∙ ap (λ l. Halves (planned bits (d + 1) o (take n rest)) (planned bits (d + 1) o l)) (sym (whole_rest n rest))
+
+      pub read_lows : below false (tails bits d rows) ≡ tails bits (d + 1) (take n rest)
+      read_lows = lows_are bits d c o rows rest n own_is halves_rest node_rest read_deep some lower upper
+
+      pub read_highs : below true (tails bits d rows) ≡ tails bits (d + 1) (take (length rest - n) (drop n rest))
+      read_highs = highs_are bits d c o rows rest n own_is halves_rest node_rest read_deep some lower upper ∙ ap (tails bits (d + 1)) (sym (whole_rest n rest))
 
       pub read_low : IsNode bits (d + 1) (take n rest)
       read_low = low_node bits d c o rows rest n own_is halves_rest node_rest read_deep some lower upper
@@ -253,44 +235,50 @@ module _ {C V : Type 0} (bits : C → List Bool) (d : ℕ) (c o : Option V) (row
 
 -- ---- what the first pass appends
 module _ {V : Type 0} (eq : V → V → Bool) (holes : Bool) where
-  pub count_fits : (t : Region (Option V)) → length (choices eq holes t) ≤ length (choice_lists eq holes t)
-  count_fits t = let e = lists_end eq holes t in omega (arith, ap length e.1, length-append e.0 (choices eq holes t))
-
-  module _ (t l r : Region (Option V)) (is : t ≡ Halves l r) (v0 v1 v2 v3 : List (Option V)) (low high n : ℕ) (low_is : low ≡ length (choices eq holes l)) (high_is : high ≡ length (choices eq holes r))
-      (first : v1 ≡ v0 ++ choice_lists eq holes r) (second : v2 ≡ v1 ++ choice_lists eq holes l) (stop other : ℕ) (stop_is : stop ≡ length v2) (other_is : other ≡ length v1)
+  module _ (t l r : Region (Option V)) (n_t n_l n_r : Measured (Option V)) (is : t ≡ Halves l r) (fork : n_t ≡ Fork (choices eq holes t) n_l n_r)
+      (v0 v1 v2 v3 : List (Option V)) (low high n : ℕ) (low_is : (low ≡ length (choices eq holes l)) × EndsIn (noted n_l) (choices eq holes l))
+      (high_is : (high ≡ length (choices eq holes r)) × EndsIn (noted n_r) (choices eq holes r))
+      (first : v1 ≡ v0 ++ noted n_r) (second : v2 ≡ v1 ++ noted n_l) (stop other : ℕ) (stop_is : stop ≡ length v2) (other_is : other ≡ length v1)
       (last : (v3 ≡ v2 ++ joined (option_eq eq) (is_free holes) (part v2 (stop - low) stop) (part v2 (other - high) other))
       × (n ≡ length (joined (option_eq eq) (is_free holes) (part v2 (stop - low) stop) (part v2 (other - high) other)))) where
     low_part : part v2 (stop - low) stop ≡ choices eq holes l
     low_part =
-        part_end v2 (choices eq holes l) (stop - low) stop (subst (λ v. EndsIn v (choices eq holes l)) (sym second) (ends_more v1 (choice_lists eq holes l) (choices eq holes l) (lists_end eq holes l)))
-        stop_is (omega (arith, low_is))
+        part_end v2 (choices eq holes l) (stop - low) stop (subst (λ v. EndsIn v (choices eq holes l)) (sym second) (ends_more v1 (noted n_l) (choices eq holes l) low_is.1))
+        stop_is (omega (arith, low_is.0))
 
     high_part : part v2 (other - high) other ≡ choices eq holes r
     high_part =
         ap (λ v. part v (other - high) other) second
-        ∙ part_kept v1 (choice_lists eq holes l) (other - high) other (omega arith) (omega (arith, other_is))
-        ∙ part_end v1 (choices eq holes r) (other - high) other (subst (λ v. EndsIn v (choices eq holes r)) (sym first) (ends_more v0 (choice_lists eq holes r) (choices eq holes r) (lists_end eq holes r)))
-        other_is (omega (arith, high_is))
+        ∙ part_kept v1 (noted n_l) (other - high) other (omega arith) (omega (arith, other_is))
+        ∙ part_end v1 (choices eq holes r) (other - high) other (subst (λ v. EndsIn v (choices eq holes r)) (sym first) (ends_more v0 (noted n_r) (choices eq holes r) high_is.1))
+        other_is (omega (arith, high_is.0))
 
-    both : joined (option_eq eq) (is_free holes) (part v2 (stop - low) stop) (part v2 (other - high) other) ≡ joined (option_eq eq) (is_free holes) (choices eq holes l) (choices eq holes r)
-    both = ap₂ (joined (option_eq eq) (is_free holes)) low_part high_part
+    both : joined (option_eq eq) (is_free holes) (part v2 (stop - low) stop) (part v2 (other - high) other) ≡ choices eq holes t
+    both = ap₂ (joined (option_eq eq) (is_free holes)) low_part high_part ∙ sym (choices_halves eq holes l r) ∙ ap (choices eq holes) (sym is)
 
-    pub measured_values : v3 ≡ v0 ++ choice_lists eq holes t
+    pub measured_last : (n ≡ length (choices eq holes t)) × EndsIn (noted n_t) (choices eq holes t)
+    measured_last = (
+      last.1 ∙ ap length both,
+      (noted n_r ++ noted n_l, ap noted fork ∙ sym (append_assoc (noted n_r) (noted n_l) (choices eq holes t))),
+    )
+
+    pub measured_values : v3 ≡ v0 ++ noted n_t
     measured_values =
-        let j = joined (option_eq eq) (is_free holes) (choices eq holes l) (choices eq holes r) in
-        last.0 ∙ ap₂ (λ x y. x ++ y) (second ∙ ap (λ v. v ++ choice_lists eq holes l) first) both
-        ∙ ap (λ v. v ++ j) (append_assoc v0 (choice_lists eq holes r) (choice_lists eq holes l))
-        ∙ append_assoc v0 (choice_lists eq holes r ++ choice_lists eq holes l) j
-        ∙ ap (λ v. v0 ++ v) (append_assoc (choice_lists eq holes r) (choice_lists eq holes l) j ∙ sym (lists_halves eq holes l r) ∙ ap (choice_lists eq holes) (sym is))
+        let j = choices eq holes t in
+        last.0 ∙ ap₂ (λ x y. x ++ y) (second ∙ ap (λ v. v ++ noted n_l) first) both
+        ∙ ap (λ v. v ++ j) (append_assoc v0 (noted n_r) (noted n_l))
+        ∙ append_assoc v0 (noted n_r ++ noted n_l) j
+        ∙ ap (λ v. v0 ++ v) (append_assoc (noted n_r) (noted n_l) j ∙ ap noted (sym fork))
 
-    pub measured_last : n ≡ length (choices eq holes t)
-    measured_last = last.1 ∙ ap length (both ∙ sym (choices_halves eq holes l r) ∙ ap (choices eq holes) (sym is))
-
-    pub measured_counts : (c0 c1 c2 c3 : List ℕ) → c1 ≡ c0 ++ choice_counts eq holes r → c2 ≡ c1 ++ choice_counts eq holes l → c3 ≡ c2 ++ n ∷ [] → c3 ≡ c0 ++ choice_counts eq holes t
+    pub measured_counts : (c0 c1 c2 c3 : List ℕ) → c1 ≡ c0 ++ counted n_r → c2 ≡ c1 ++ counted n_l → c3 ≡ c2 ++ n ∷ [] → c3 ≡ c0 ++ counted n_t
     measured_counts c0 c1 c2 c3 e f g =
-        let m : n ≡ length (joined (option_eq eq) (is_free holes) (choices eq holes l) (choices eq holes r)) = last.1 ∙ ap length both in
-        g ∙ ap₂ (λ x k. x ++ k ∷ []) (f ∙ ap (λ v. v ++ choice_counts eq holes l) e) m
-        ∙ ap (λ v. v ++ length (joined (option_eq eq) (is_free holes) (choices eq holes l) (choices eq holes r)) ∷ []) (append_assoc c0 (choice_counts eq holes r) (choice_counts eq holes l))
-        ∙ append_assoc c0 (choice_counts eq holes r ++ choice_counts eq holes l) (length (joined (option_eq eq) (is_free holes) (choices eq holes l) (choices eq holes r)) ∷ [])
-        ∙ ap (λ v. c0 ++ v) (append_assoc (choice_counts eq holes r) (choice_counts eq holes l) (length (joined (option_eq eq) (is_free holes) (choices eq holes l) (choices eq holes r)) ∷ [])
-        ∙ sym (counts_halves eq holes l r) ∙ ap (choice_counts eq holes) (sym is))
+        let j : List ℕ = length (choices eq holes t) ∷ [] in
+        g ∙ ap₂ (λ x k. x ++ k ∷ []) (f ∙ ap (λ v. v ++ counted n_l) e) measured_last.0
+        ∙ ap (λ v. v ++ j) (append_assoc c0 (counted n_r) (counted n_l))
+        ∙ append_assoc c0 (counted n_r ++ counted n_l) j
+        ∙ ap (λ v. c0 ++ v) (append_assoc (counted n_r) (counted n_l) j ∙ ap counted (sym fork))
+
+  -- with the one candidate last
+  pub noted_one : (t : Region (Option V)) (n_t : Measured (Option V)) (o : Option V) (front : List (Option V)) → choices eq holes t ≡ o ∷ [] → noted n_t ≡ front ++ o ∷ []
+      → (1 ≡ length (choices eq holes t)) × EndsIn (noted n_t) (choices eq holes t)
+  noted_one t n_t o front c e = (sym (ap length c), (front, e ∙ ap (λ l. front ++ l) (sym c)))

@@ -1,42 +1,56 @@
 -- What the second pass reads and writes at a network.
-use Rattle.std.proofs.Common.{◌≡◌, ℕ, zero, suc, ◌+◌, ◌-◌, ◌<◌, ◌≤◌, Bool, true, false, cond, List, [], ◌∷◌, ◌++◌, length, get_or, take, drop, Option, None, refl, sym, ap, ap₂, ◌∙◌, subst, arith, append_assoc, append-nil, length-append}
+use Rattle.std.proofs.Common.{◌≡◌, ◌⊎◌, inl, inr, ℕ, zero, suc, ◌+◌, ◌-◌, ◌<◌, ◌≤◌, Bool, true, false, cond, List, [], ◌∷◌, ◌++◌, length, get_or, take, drop, Option, None, refl, sym, ap, ap₂, ◌∙◌, subst, arith, append_assoc, append-nil, length-append}
 use Rattle.std.proofs.Math.Seq.{take-append_seam}
 use Rattle.std.proofs.lemmas.List.{take-append-drop, get_or_at}
+use Rattle.std.specs.Bool.{Decides}
 use Rattle.std.specs.List.{AllByRecursion}
 use Rattle.cidr_forwarding.specs.Trees.{under, Region, Even, Halves}
-use Rattle.cidr_forwarding.specs.Choices.{has, head_or, pick, fill, EndsIn, is_free}
+use Rattle.cidr_forwarding.specs.Choices.{has, head_or, pick, fill, EndsIn, is_free, Measured, Sole, Fork, Chain, noted, counted}
 use Rattle.std.specs.Option.{option_eq}
 use Rattle.cidr_forwarding.specs.Forwarding.{in_bits}
-use Rattle.cidr_forwarding.specs.Plans.{AreDeep, NextIs, AreOf, behind, choices, choice_lists, choice_counts, put_rows}
+use Rattle.cidr_forwarding.specs.Plans.{AreDeep, NextIs, AreOf, behind, choices, put_rows}
 use Rattle.cidr_forwarding.proofs.Splits.{deep_at, longer_than}
-use Rattle.cidr_forwarding.proofs.Passes.{lists_end, counts_end, part_end}
+use Rattle.cidr_forwarding.proofs.Passes.{part_end, ends_of_end, ends_fit}
 
-module _ {V : Type 0} (eq : V → V → Bool) (holes : Bool) (t : Region (Option V)) where
-  pub counts_some : 0 < length (choice_counts eq holes t)
-  counts_some = let e = counts_end eq holes t in omega (arith, ap length e.1, length-append e.0 (length (choices eq holes t) ∷ []))
+-- ---- what the first pass has left
+module _ {X : Type 0} (n_t n_l n_r : Measured X) (s : List X) (fork : n_t ≡ Fork s n_l n_r) (counts : List ℕ) (ends : EndsIn counts (counted n_t)) where
+  last_ends : EndsIn counts (length s ∷ [])
+  last_ends =
+      ends_of_end counts (counted n_t) (length s ∷ []) ends
+      (counted n_r ++ counted n_l, ap counted fork ∙ sym (append_assoc (counted n_r) (counted n_l) (length s ∷ [])))
 
-  pub last_count : (counts : List ℕ) (n d : ℕ) → EndsIn counts (choice_counts eq holes t) → n ≡ length counts - 1 → get_or counts n d ≡ length (choices eq holes t)
-  last_count counts n d ends m =
-      let e = counts_end eq holes t in
-      let whole : counts ≡ (ends.0 ++ e.0) ++ length (choices eq holes t) ∷ [] =
-      ends.1 ∙ ap (λ l. ends.0 ++ l) e.1 ∙ sym (append_assoc ends.0 e.0 (length (choices eq holes t) ∷ [])) in
-      ap (λ l. get_or l n d) whole
-      ∙ get_or_at (ends.0 ++ e.0) (length (choices eq holes t)) [] d n (omega (arith, m, ap length whole, length-append (ends.0 ++ e.0) (length (choices eq holes t) ∷ [])))
+  pub counts_long : 0 < length counts
+  counts_long = let e = ends_fit counts (length s ∷ []) last_ends in omega (arith, e)
 
-  pub set_is : (values : List (Option V)) (start : ℕ) → EndsIn values (choice_lists eq holes t) → start ≡ length values - length (choices eq holes t)
-      → take (length values - start) (drop start values) ≡ choices eq holes t
-  set_is values start ends s =
-      let e = lists_end eq holes t in
-      part_end values (choices eq holes t) start (length values)
-      (ends.0 ++ e.0, ends.1 ∙ ap (λ l. ends.0 ++ l) e.1 ∙ sym (append_assoc ends.0 e.0 (choices eq holes t))) refl s
+  pub last_count : (d : ℕ) → get_or counts (length counts - 1) d ≡ length s
+  last_count d =
+      let e = last_ends in
+      ap (λ l. get_or l (length counts - 1) d) e.1
+      ∙ get_or_at e.0 (length s) [] d (length counts - 1) (omega (arith, ap length e.1, length-append e.0 (length s ∷ [])))
 
-  pub values_long : (values : List (Option V)) → EndsIn values (choice_lists eq holes t) → length (choices eq holes t) ≤ length values
-  values_long values ends =
-      let e = lists_end eq holes t in
-      omega (arith, ap length e.1, length-append e.0 (choices eq holes t), ap length ends.1, length-append ends.0 (choice_lists eq holes t))
+module _ {X : Type 0} (n_t : Measured X) (s : List X) (top : EndsIn (noted n_t) s) (values : List X) (ends : EndsIn values (noted n_t)) where
+  pub values_long : length s ≤ length values
+  values_long = ends_fit values s (ends_of_end values (noted n_t) s ends top)
 
-  pub counts_long : (counts : List ℕ) → EndsIn counts (choice_counts eq holes t) → 0 < length counts
-  counts_long counts ends = omega (arith, counts_some, ap length ends.1, length-append ends.0 (choice_counts eq holes t))
+  pub set_is : (start : ℕ) → start ≡ length values - length s → take (length values - start) (drop start values) ≡ s
+  set_is start e = part_end values s start (length values) (ends_of_end values (noted n_t) s ends top) refl e
+
+module _ {X : Type 0} (n_t : Measured X) where
+  pub fork_ends : (s : List X) (n_l n_r : Measured X) → n_t ≡ Fork s n_l n_r → EndsIn (noted n_t) s
+  fork_ends s n_l n_r e = (noted n_r ++ noted n_l, ap noted e ∙ sym (append_assoc (noted n_r) (noted n_l) s))
+
+  pub sole_ends : (x : X) → n_t ≡ Sole x → EndsIn (noted n_t) (x ∷ [])
+  sole_ends x e = ([], ap noted e)
+
+  pub chain_ends : (x : X) (n_in : Measured X) → n_t ≡ Chain x n_in → EndsIn (noted n_t) (x ∷ [])
+  chain_ends x n_in e = (noted n_in, ap noted e)
+
+-- the only candidate is chosen
+pub only_chosen : {V : Type 0} → (same : Option V → Option V → Bool) (decides : (x y : Option V) → Decides (same x y) (x ≡ y)) (s : List (Option V)) (o w : Option V) → s ≡ o ∷ []
+    → o ≡ cond (has same s w) w (head_or None s)
+only_chosen same decides s o w e =
+    subst (λ l. o ≡ cond (has same l w) w (head_or None l)) (sym e)
+    (elim (same o w) as (λ b. same o w ≡ b → o ≡ cond (cond b true false) w o) [ true ↦ λ h. (decides o w).0 h | false ↦ λ h. refl ] refl)
 
 -- ---- the rows that are put
 unfoldable pub fill_rows : {V : Type 0} → (V → V → Bool) → Bool → Region (Option V) → Option V → List (List Bool × Option V)
@@ -74,6 +88,22 @@ module _ {Y : Type 0} where
   behind_under q b [] = refl
   behind_under q b (x ∷ xs) = ap₂ (λ p l. (p, x.1) ∷ l) (sym (append_assoc q (b ∷ []) x.0)) (behind_under q b xs)
 
+  pub under_behind : (b : Bool) (p : List Bool) (xs : List (List Bool × Y)) → under b (behind p xs) ≡ behind (b ∷ p) xs
+  under_behind b p [] = refl
+  under_behind b p (x ∷ xs) = ap (λ l. (b ∷ (p ++ x.0), x.1) ∷ l) (under_behind b p xs)
+
+  pub under_is : (b : Bool) (xs : List (List Bool × Y)) → under b xs ≡ behind (b ∷ []) xs
+  under_is b [] = refl
+  under_is b (x ∷ xs) = ap (λ l. (b ∷ x.0, x.1) ∷ l) (under_is b xs)
+
+  pub behind_behind : (q p : List Bool) (xs : List (List Bool × Y)) → behind q (behind p xs) ≡ behind (q ++ p) xs
+  behind_behind q p [] = refl
+  behind_behind q p (x ∷ xs) = ap₂ (λ k l. (k, x.1) ∷ l) (sym (append_assoc q p x.0)) (behind_behind q p xs)
+
+  pub length_behind : (p : List Bool) (xs : List (List Bool × Y)) → length (behind p xs) ≡ length xs
+  length_behind p [] = refl
+  length_behind p (x ∷ xs) = ap suc (length_behind p xs)
+
   pub behind_nothing : (xs : List (List Bool × Y)) → behind [] xs ≡ xs
   behind_nothing [] = refl
   behind_nothing (x ∷ xs) = ap (λ l. x ∷ l) (behind_nothing xs)
@@ -99,6 +129,30 @@ module _ {C V : Type 0} (bits : C → List Bool) (eq : V → V → Bool) (holes 
       let f : put_rows eq holes t wanted ≡ ([], value) ∷ fill_rows eq holes t value = put_new eq holes t wanted h ∙ ap (λ x. ([], x) ∷ fill_rows eq holes t x) (sym v) in
       ap (λ l. l ++ behind q (fill_rows eq holes t value)) e ∙ append_assoc (in_bits bits old) ((q, value) ∷ []) (behind q (fill_rows eq holes t value))
       ∙ ap (λ p. in_bits bits old ++ (p, value) ∷ behind q (fill_rows eq holes t value)) (sym (append-nil q)) ∙ ap (λ l. in_bits bits old ++ behind q l) (sym f)
+
+  -- as the row is appended, or not
+  pub begun : (s : List (Option V)) (value : Option V) (now : List (C × Option V)) (network : C) → s ≡ choices eq holes t → bits network ≡ q
+      → value ≡ cond (has (option_eq eq) s wanted) wanted (head_or None s)
+      → now ≡ old ++ cond (has (option_eq eq) s wanted) [] ((network, head_or None s) ∷ []) → IsBegun value now
+  begun s value now network is b v n = elim (decided (has (option_eq eq) s wanted)) [
+    | inl h ↦ begun_held value now (ap (λ l. has (option_eq eq) l wanted) (sym is) ∙ h) (v ∙ ap (λ c. cond c wanted (head_or None s)) h)
+        (n ∙ ap (λ c. old ++ cond c [] ((network, head_or None s) ∷ [])) h ∙ append-nil old)
+    | inr h ↦
+        let w : value ≡ head_or None s = v ∙ ap (λ c. cond c wanted (head_or None s)) h in
+        begun_new value now network b (ap (λ l. has (option_eq eq) l wanted) (sym is) ∙ h) (w ∙ ap (head_or None) is)
+        (n ∙ ap (λ c. old ++ cond c [] ((network, head_or None s) ∷ [])) h ∙ ap (λ x. old ++ (network, x) ∷ []) (sym w))
+  ]
+    where
+      decided : (c : Bool) → (c ≡ true) ⊎ (c ≡ false)
+      decided true = inl refl
+      decided false = inr refl
+
+  -- all of it behind bits that the rows share
+  pub ended_chain : (value : Option V) (now low : List (C × Option V)) (p inside : List Bool) (more : List (List Bool × Option V)) → IsBegun value now → inside ≡ q ++ p
+      → fill_rows eq holes t value ≡ behind p more → in_bits bits low ≡ in_bits bits now ++ behind inside more
+      → in_bits bits low ≡ in_bits bits old ++ behind q (put_rows eq holes t wanted)
+  ended_chain value now low p inside more h i f e =
+      e ∙ ap (λ l. in_bits bits now ++ l) (ap (λ k. behind k more) i ∙ sym (behind_behind q p more) ∙ ap (behind q) (sym f)) ∙ h
 
   pub ended_even : (x value : Option V) (now : List (C × Option V)) → t ≡ Even x → IsBegun value now → in_bits bits now ≡ in_bits bits old ++ behind q (put_rows eq holes t wanted)
   ended_even x value now e h =
@@ -159,6 +213,16 @@ module _ {C V : Type 0} (bits : C → List Bool) where
       subst (λ (x : C × V). d < length (bits x.0)) e (longer_than d (bits r.0) (deep_at bits d rest 0 r deep some e))
 
 -- ---- what is before
+module _ {X : Type 0} (whole front a e : List X) (is : whole ≡ front ++ (a ++ e)) (n : ℕ) (n_is : n ≡ length whole - length e) where
+  pub cut_last : take n whole ≡ front ++ a
+  cut_last =
+      let again : whole ≡ (front ++ a) ++ e = is ∙ sym (append_assoc front a e) in
+      let m : n ≡ length (front ++ a) = omega (arith, n_is, ap length again, length-append (front ++ a) e) in
+      ap₂ take m again ∙ take-append_seam (front ++ a) e
+
+  pub last_before : (k : ℕ) → k + length a ≡ length (take n whole) → k + length (a ++ e) ≡ length whole
+  last_before k h = omega (arith, h, ap length cut_last, length-append front a, ap length is, length-append front (a ++ e), length-append a e)
+
 module _ {X : Type 0} (whole front a b e : List X) (is : whole ≡ front ++ (a ++ (b ++ e))) (n : ℕ) (n_is : n ≡ length whole - length e) where
   lengths : length whole ≡ length front + (length a + (length b + length e))
   lengths = omega (arith, ap length is, length-append front (a ++ (b ++ e)), length-append a (b ++ e), length-append b e)

@@ -81,7 +81,7 @@ module _ {X : Type 0} (same : X → X → Bool) (decides : (x y : X) → Decides
       ]
 
       module _ (px : (x : X) → has same xs x ≡ true → free x ≡ false → c ≡ x) (py : (x : X) → has same ys x ≡ true → free x ≡ false → c ≡ x) where
-        in_either : has same (xs ++ ys) c ≡ true → has same (united free xs ys) c ≡ true
+        pub in_either : has same (xs ++ ys) c ≡ true → has same (united free xs ys) c ≡ true
         in_either h = elim (filled same decides (filter (not_of free) (xs ++ ys))) [
           | inl e ↦ subst (λ l. has same (or_else l (xs ++ ys)) c ≡ true) (sym e) h
           | inr f ↦

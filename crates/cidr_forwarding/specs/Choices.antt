@@ -1,7 +1,7 @@
 -- The values that one network can have at the least cost, and the rows that are put.
-use Rattle.std.specs.Prelude.{◌≡◌, ℕ, Bool, true, false, cond, List, Option, Some, None, [], ◌∷◌, ◌++◌, length}
+use Rattle.std.specs.Prelude.{◌≡◌, ℕ, zero, suc, ◌-◌, Bool, true, false, cond, List, Option, Some, None, [], ◌∷◌, ◌++◌, length}
 use Rattle.std.specs.List.{filter}
-use Rattle.cidr_forwarding.specs.Trees.{Region, Even, Halves, under}
+use Rattle.cidr_forwarding.specs.Trees.{Region, Even, Halves, own, below, under, region, longer, dropped, sharing}
 
 -- whether a row may have this value: any, or with no holes any but none
 abbrev pub is_free : {V : Type 0} → Bool → Option V → Bool
@@ -68,17 +68,43 @@ module _ {X : Type 0} (same : X → X → Bool) (free : X → Bool) (none : X) w
   abbrev pub put : Region X → X → List (List Bool × X)
   put t c = cond (has same (candidates same free t) c) (fill t c) (([], pick t) ∷ fill t (pick t))
 
--- ---- a list that holds what a pass over a tree leaves: the upper half first, and the network last
-module _ {X : Type 0} (same : X → X → Bool) (free : X → Bool) where
-  -- the candidates of each network that is reached
-  abbrev pub lists : Region X → List X
-  lists (Even x) = x ∷ []
-  lists (Halves l r) = lists r ++ (lists l ++ joined same free (candidates same free l) (candidates same free r))
+-- ---- what the first pass leaves of a network
+pub data Measured (X : Type 0) : Type 0 where
+  -- one value, which is its one candidate
+  Sole : X → Measured X
+  -- its candidates, and what is left of its halves
+  Fork : List X → Measured X → Measured X → Measured X
+  -- its one candidate, where all longer rows share at least two bits more, and what is left of the network of these bits
+  Chain : X → Measured X → Measured X
 
-  -- how many they are
-  abbrev pub counts_of : Region X → List ℕ
-  counts_of (Even x) = 1 ∷ []
-  counts_of (Halves l r) = counts_of r ++ (counts_of l ++ length (joined same free (candidates same free l) (candidates same free r)) ∷ [])
+module _ {X : Type 0} where
+  -- the candidates, those of the upper half first and those of the network last
+  abbrev pub noted : Measured X → List X
+  noted (Sole x) = x ∷ []
+  noted (Fork s l r) = noted r ++ (noted l ++ s)
+  noted (Chain x t) = noted t ++ x ∷ []
+
+  -- how many they are, where they may be more than one
+  abbrev pub counted : Measured X → List ℕ
+  counted (Sole x) = []
+  counted (Fork s l r) = counted r ++ (counted l ++ length s ∷ [])
+  counted (Chain x t) = counted t
+
+  abbrev pub measured_at : List (List Bool × X) → ℕ → X → List X → Measured X → Measured X → Measured X → Measured X
+  measured_at [] n o s far l r = Sole o
+  measured_at (x ∷ rest) zero o s far l r = Fork s l r
+  measured_at (x ∷ rest) (suc zero) o s far l r = Fork s l r
+  measured_at (x ∷ rest) (suc (suc n)) o s far l r = Chain o far
+
+module _ {X : Type 0} (same : X → X → Bool) (free : X → Bool) where
+  -- of rows that share n bits, by how many bits they may have
+  abbrev pub measured_of : ℕ → ℕ → X → List (List Bool × X) → Measured X
+  measured_of zero n c rows = Sole (own c rows)
+  measured_of (suc w) zero c rows =
+      measured_at (longer rows) (sharing (longer rows)) (own c rows) (candidates same free (region (suc w) c rows))
+      (measured_of w (sharing (longer rows) - 1) (own c rows) (dropped 1 (longer rows)))
+      (measured_of w 0 (own c rows) (below false rows)) (measured_of w 0 (own c rows) (below true rows))
+  measured_of (suc w) (suc n) c rows = measured_of w n c (dropped 1 rows)
 
 -- the whole ends in this list
 abbrev pub EndsIn : {X : Type 0} → List X → List X → Type 0

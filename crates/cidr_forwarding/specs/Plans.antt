@@ -5,7 +5,7 @@ use Rattle.std.specs.Map.{keys_of}
 use Rattle.std.specs.Option.{option_eq}
 use Rattle.cidr.specs.model.Bits.{bit_cmp}
 use Rattle.cidr_forwarding.specs.Trees.{Region, region, AreWithin}
-use Rattle.cidr_forwarding.specs.Choices.{candidates, lists, counts_of, put, is_free}
+use Rattle.cidr_forwarding.specs.Choices.{candidates, put, is_free, Measured, measured_of}
 
 module _ {C V : Type 0} (bits : C → List Bool) where
   -- the bits of a row's network from depth on
@@ -36,6 +36,14 @@ module _ {C V : Type 0} (bits : C → List Bool) where
   AreOf network [] = Unit {0}
   AreOf network (r ∷ rows) = (take (length network) (bits r.0) ≡ network) × AreOf network rows
 
+  -- all are of one network of so many bits
+  abbrev pub AreOfOne : ℕ → List (C × V) → Type 0
+  AreOfOne depth rows = (network : List Bool) × (length network ≡ depth) × AreOf network rows
+
+  -- what the first pass leaves of a network of so many bits
+  unfoldable pub measured : (V → V → Bool) → Bool → ℕ → Option V → List (C × V) → Measured (Option V)
+  measured eq holes depth inherited rows = measured_of (option_eq eq) (is_free holes) (129 - depth) 0 inherited (tails depth rows)
+
 -- the rows behind these bits
 abbrev pub behind : {Y : Type 0} → List Bool → List (List Bool × Y) → List (List Bool × Y)
 behind network [] = []
@@ -45,12 +53,6 @@ behind network (r ∷ rows) = (network ++ r.0, r.1) ∷ behind network rows
 module _ {V : Type 0} (eq : V → V → Bool) where
   unfoldable pub choices : Bool → Region (Option V) → List (Option V)
   choices holes t = candidates (option_eq eq) (is_free holes) t
-
-  unfoldable pub choice_lists : Bool → Region (Option V) → List (Option V)
-  choice_lists holes t = lists (option_eq eq) (is_free holes) t
-
-  unfoldable pub choice_counts : Bool → Region (Option V) → List ℕ
-  choice_counts holes t = counts_of (option_eq eq) (is_free holes) t
 
   unfoldable pub put_rows : Bool → Region (Option V) → Option V → List (List Bool × Option V)
   put_rows holes t c = put (option_eq eq) (is_free holes) None t c

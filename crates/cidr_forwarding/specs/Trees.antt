@@ -1,5 +1,14 @@
 -- Rows by the next bit of their networks, and a forwarding as a tree of halves.
-use Rattle.std.specs.Prelude.{ℕ, zero, suc, ◌≤◌, ◌&&◌, Bool, true, false, List, [], ◌∷◌, length}
+use Rattle.std.specs.Prelude.{ℕ, zero, suc, ◌≤◌, ◌&&◌, Bool, true, false, List, [], ◌∷◌, length, drop}
+
+-- how many bits two lists begin with alike
+abbrev pub common : List Bool → List Bool → ℕ
+common [] q = 0
+common (b ∷ p) [] = 0
+common (false ∷ p) (false ∷ q) = suc (common p q)
+common (false ∷ p) (true ∷ q) = 0
+common (true ∷ p) (false ∷ q) = 0
+common (true ∷ p) (true ∷ q) = suc (common p q)
 
 -- a network that has one value, or two halves
 pub data Region (X : Type 0) : Type 0 where
@@ -47,6 +56,29 @@ module _ {X : Type 0} where
   abbrev pub AreWithin : ℕ → List (List Bool × X) → Type 0
   AreWithin w [] = Unit {0}
   AreWithin w (r ∷ rows) = (length r.0 ≤ w) × AreWithin w rows
+
+  abbrev pub longer_step : List Bool → X → List (List Bool × X) → List (List Bool × X)
+  longer_step [] x rest = rest
+  longer_step (b ∷ p) x rest = (b ∷ p, x) ∷ rest
+
+  -- the rows that have a bit
+  abbrev pub longer : List (List Bool × X) → List (List Bool × X)
+  longer [] = []
+  longer (r ∷ rows) = longer_step r.0 r.1 (longer rows)
+
+  -- the rows without their first n bits
+  abbrev pub dropped : ℕ → List (List Bool × X) → List (List Bool × X)
+  dropped n [] = []
+  dropped n (r ∷ rows) = (drop n r.0, r.1) ∷ dropped n rows
+
+  abbrev pub last_key : List Bool → List (List Bool × X) → List Bool
+  last_key p [] = p
+  last_key p (r ∷ rows) = last_key r.0 rows
+
+  -- how many bits the first row and the last one share
+  abbrev pub sharing : List (List Bool × X) → ℕ
+  sharing [] = 0
+  sharing (r ∷ rows) = common r.0 (last_key r.0 rows)
 
 -- ---- whether two forwardings are the same
 module _ {X : Type 0} (same : X → X → Bool) where

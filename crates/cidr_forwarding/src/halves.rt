@@ -3,8 +3,8 @@ ghost use Rattle.std.specs.Prelude.{◌≡◌, ◌+◌, ◌<◌, ◌≤◌, ◌+
 ghost use Rattle.std.specs.List.{AllByRecursion};
 ghost use Rattle.std.specs.List.Sorted.{IsStrictlySortedBy};
 ghost use Rattle.std.specs.Map.{keys_of};
-ghost use Rattle.cidr_forwarding.specs.Trees.{own, below};
-ghost use Rattle.cidr_forwarding.specs.Plans.{tails, IsNode, AreDeep, NextIs};
+ghost use Rattle.cidr_forwarding.specs.Trees.{own, below, longer, sharing};
+ghost use Rattle.cidr_forwarding.specs.Plans.{tails, IsNode, AreDeep, AreOfOne, NextIs};
 
 use cidr::NetworkBits;
 
@@ -23,6 +23,7 @@ pub(crate) fn skipped<C: NetworkBits + Copy, V: Copy>(rows: &[(C, V)], depth: us
     requires { IsNode C.bits depth rows.now }
     ensures fits { result ≤ length rows.now }
     ensures halves { (b : Bool) → below b (tails C.bits depth rows.now) ≡ below b (tails C.bits depth (drop result rows.now)) }
+    ensures longer { longer (tails C.bits depth rows.now) ≡ tails C.bits depth (drop result rows.now) }
     ensures node { IsNode C.bits depth (drop result rows.now) }
     ensures deep { AreDeep C.bits depth (drop result rows.now) }
 {
@@ -47,6 +48,15 @@ pub(crate) fn own_value<C: NetworkBits + Copy, V: Copy>(
     }
 }
 
+/// How many bits more than `depth` all rows share.
+pub(crate) fn shared<C: NetworkBits + Copy, V: Copy>(rows: &[(C, V)], depth: usize) -> usize
+    requires some { 0 < length rows.now }
+    requires of { AreOfOne C.bits depth rows.now }
+    ensures { result ≡ sharing (tails C.bits depth rows.now) }
+{
+    rows[0].0.shared_prefix_len(&rows[rows.len() - 1].0) - depth
+}
+
 /// How many rows are in the lower half.
 pub(crate) fn split<C: NetworkBits + Copy, V: Copy>(rows: &[(C, V)], depth: usize) -> usize
     requires node { IsNode C.bits depth rows.now }
@@ -66,6 +76,15 @@ pub(crate) fn split<C: NetworkBits + Copy, V: Copy>(rows: &[(C, V)], depth: usiz
         }
     }
     low
+}
+
+/// The network of the first `len` bits of a key.
+pub(crate) fn first_bits<C: NetworkBits + Copy>(key: &C, len: usize) -> C
+    ensures { C.bits result ≡ take len (C.bits key.now) }
+{
+    let mut first = *key;
+    first.clip(len);
+    first
 }
 
 /// The network of the first `depth` bits of a key and one bit more.

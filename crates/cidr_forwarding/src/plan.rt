@@ -1,16 +1,17 @@
 //! The smallest rows, in two passes.
-ghost use Rattle.std.specs.Prelude.{◌≡◌, ℕ, ◌+◌, ◌-◌, ◌<◌, ◌≤◌, ◌++◌, [], length, IfOk, OnOk, None};
+ghost use Rattle.std.specs.Prelude.{◌≡◌, ℕ, ◌+◌, ◌-◌, ◌<◌, ◌≤◌, ◌++◌, ◌∷◌, [], length, cond, IfOk, OnOk, None};
+ghost use Rattle.std.specs.Option.{option_eq};
 ghost use Rattle.std.specs.List.Sorted.{IsStrictlySortedBy};
 ghost use Rattle.std.specs.Map.{keys_of};
 ghost use Rattle.cidr.specs.either.IpAddress.{TellsEqual};
 ghost use Rattle.cidr.specs.model.Network.{HasWidth};
 ghost use Rattle.cidr_table.specs.CoverAddresses.{IsIpAddress};
 ghost use Rattle.cidr_forwarding.specs.Forwarding.{in_bits, AreNetworksOf, AreIpRows, IsSmallest, IsSmallestHoled};
-ghost use Rattle.cidr_forwarding.specs.Choices.{EndsIn};
-ghost use Rattle.cidr_forwarding.specs.Plans.{planned, IsNode, AreDeep, AreOf, behind, choices, choice_lists, choice_counts, put_rows};
+ghost use Rattle.cidr_forwarding.specs.Choices.{EndsIn, has, head_or, noted, counted};
+ghost use Rattle.cidr_forwarding.specs.Plans.{planned, measured, IsNode, AreDeep, AreOf, AreOfOne, behind, choices, put_rows};
 
 use crate::candidates::{first_of, holds, join};
-use crate::halves::{half, know_all, own_value, skipped, split};
+use crate::halves::{first_bits, half, know_all, own_value, shared, skipped, split};
 use cidr::NetworkBits;
 use std::alloc::{AllocError, Global};
 
@@ -31,7 +32,7 @@ pub(crate) fn smallest_rows<C: NetworkBits + Copy, V: Copy + Ord>(
     ensures fits { IfOk result (λ smallest. length smallest.items ≤ length rows.now) }
 {
     let smallest = smallest(alloc, rows, false)?;
-    let mut out = Vec::new(alloc);
+    let mut out = Vec::with_capacity(alloc, smallest.len())?;
     for row in &smallest {
         match row.1 {
             Some(value) => out.push((row.0, value))?,
@@ -72,8 +73,10 @@ fn smallest<C: NetworkBits + Copy, V: Copy + Ord>(
     ensures node { IsNode C.bits 0 rows.now }
 {
     know_all(rows);
-    let mut counts = Vec::new(alloc);
-    let mut values = Vec::new(alloc);
+    // tables of routers and of GeoIP have some 1.1 counts and 2.5 to 3.1 candidates a row
+    let quarter = rows.len() / 4;
+    let mut counts = Vec::with_capacity(alloc, quarter.saturating_mul(5))?;
+    let mut values = Vec::with_capacity(alloc, quarter.saturating_mul(13))?;
     measure(alloc, rows, 0, None, holes, &mut counts, &mut values)?;
     let mut out = Vec::new(alloc);
     place(
@@ -91,7 +94,10 @@ fn smallest<C: NetworkBits + Copy, V: Copy + Ord>(
 }
 
 /// Appends the candidates of each network that is reached, the upper half first and the network last, and how many they
-/// are. Returns how many the last ones are.
+/// are where they may be more than one. Returns how many the last ones are.
+///
+/// Where all longer rows share at least two bits more, the network of these bits is reached next, and the only candidate
+/// is the network's own value.
 fn measure<C: NetworkBits + Copy, V: Copy + Ord>(
     alloc: Global,
     rows: &[(C, V)],
@@ -103,15 +109,22 @@ fn measure<C: NetworkBits + Copy, V: Copy + Ord>(
 ) -> Result<usize, AllocError>
     requires tells { TellsEqual V.eq }
     requires node { IsNode C.bits depth rows.now }
-    ensures counts { OnOk result (counts.new.items ≡ counts.old.items ++ choice_counts V.eq holes (planned C.bits depth inherited rows.now)) }
-    ensures values { OnOk result (values.new.items ≡ values.old.items ++ choice_lists V.eq holes (planned C.bits depth inherited rows.now)) }
-    ensures last { IfOk result (λ n. n ≡ length (choices V.eq holes (planned C.bits depth inherited rows.now))) }
+    requires of { AreOfOne C.bits depth rows.now }
+    ensures counts { OnOk result (counts.new.items ≡ counts.old.items ++ counted (measured C.bits V.eq holes depth inherited rows.now)) }
+    ensures values { OnOk result (values.new.items ≡ values.old.items ++ noted (measured C.bits V.eq holes depth inherited rows.now)) }
+    ensures last { IfOk result (λ n. (n ≡ length (choices V.eq holes (planned C.bits depth inherited rows.now)))
+        × EndsIn (noted (measured C.bits V.eq holes depth inherited rows.now)) (choices V.eq holes (planned C.bits depth inherited rows.now))) }
 {
     let own = own_value(rows, depth, inherited);
     let rest = &rows[skipped(rows, depth)..];
     if rest.is_empty() {
         values.push(own)?;
-        counts.push(1)?;
+        return Ok(1);
+    }
+    let more = shared(rest, depth);
+    if more > 1 {
+        measure(alloc, rest, depth + more, own, holes, counts, values)?;
+        values.push(own)?;
         return Ok(1);
     }
     let mid = split(rest, depth);
@@ -132,6 +145,26 @@ fn measure<C: NetworkBits + Copy, V: Copy + Ord>(
     Ok(count)
 }
 
+/// Appends the row of a network itself if what is inherited is none of its candidates. Returns the value that the
+/// network has.
+fn begin<C: NetworkBits + Copy, V: Copy + Ord>(
+    candidates: &[Option<V>],
+    wanted: Option<V>,
+    network: C,
+    out: &mut Vec<(C, Option<V>)>,
+) -> Result<Option<V>, AllocError>
+    ensures value { IfOk result (λ value. value ≡ cond (has (option_eq V.eq) candidates.now wanted) wanted (head_or None candidates.now)) }
+    ensures rows { OnOk result (out.new.items ≡ out.old.items
+        ++ cond (has (option_eq V.eq) candidates.now wanted) [] ((network, head_or None candidates.now) ∷ [])) }
+{
+    if holds(candidates, wanted) {
+        return Ok(wanted);
+    }
+    let first = first_of(candidates);
+    out.push((network, first))?;
+    Ok(first)
+}
+
 /// Appends the rows of a network where a value is inherited in the new table. Returns how many counts and values are
 /// before those of the network.
 fn place<C: NetworkBits + Copy, V: Copy + Ord>(
@@ -149,29 +182,42 @@ fn place<C: NetworkBits + Copy, V: Copy + Ord>(
     requires node { IsNode C.bits depth rows.now }
     requires of { AreOf C.bits (C.bits network) rows.now }
     requires depth { length (C.bits network) ≡ depth }
-    requires counts { EndsIn counts.now (choice_counts V.eq holes (planned C.bits depth inherited rows.now)) }
-    requires values { EndsIn values.now (choice_lists V.eq holes (planned C.bits depth inherited rows.now)) }
+    requires counts { EndsIn counts.now (counted (measured C.bits V.eq holes depth inherited rows.now)) }
+    requires values { EndsIn values.now (noted (measured C.bits V.eq holes depth inherited rows.now)) }
     ensures rows { OnOk result (in_bits C.bits out.new.items
         ≡ in_bits C.bits out.old.items ++ behind (C.bits network) (put_rows V.eq holes (planned C.bits depth inherited rows.now) wanted)) }
-    ensures count { IfOk result (λ before. before.0 + length (choice_counts V.eq holes (planned C.bits depth inherited rows.now)) ≡ length counts.now) }
-    ensures start { IfOk result (λ before. before.1 + length (choice_lists V.eq holes (planned C.bits depth inherited rows.now)) ≡ length values.now) }
+    ensures count { IfOk result (λ before. before.0 + length (counted (measured C.bits V.eq holes depth inherited rows.now)) ≡ length counts.now) }
+    ensures start { IfOk result (λ before. before.1 + length (noted (measured C.bits V.eq holes depth inherited rows.now)) ≡ length values.now) }
 {
-    let last = counts.len() - 1;
-    let from = values.len() - counts[last];
-    let candidates = &values[from..];
-    let value = if holds(candidates, wanted) {
-        wanted
-    } else {
-        let first = first_of(candidates);
-        out.push((network, first))?;
-        first
-    };
     let own = own_value(rows, depth, inherited);
     let rest = &rows[skipped(rows, depth)..];
     if rest.is_empty() {
-        return Ok((last, from));
+        let from = values.len() - 1;
+        begin(&values[from..], wanted, network, out)?;
+        return Ok((counts.len(), from));
+    }
+    let more = shared(rest, depth);
+    if more > 1 {
+        let from = values.len() - 1;
+        begin(&values[from..], wanted, network, out)?;
+        let inside = first_bits(&rest[0].0, depth + more);
+        let before = place(
+            rest,
+            depth + more,
+            own,
+            holes,
+            own,
+            inside,
+            counts,
+            &values[..from],
+            out,
+        )?;
+        return Ok(before);
     }
     let mid = split(rest, depth);
+    let last = counts.len() - 1;
+    let from = values.len() - counts[last];
+    let value = begin(&values[from..], wanted, network, out)?;
     let lower = half(&rest[0].0, depth, false);
     let upper = half(&rest[0].0, depth, true);
     let (count, start) = place(

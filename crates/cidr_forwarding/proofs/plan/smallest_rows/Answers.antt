@@ -7,7 +7,7 @@ use Rattle.cidr_forwarding.proofs.plan.smallest_rows.Goals as goal
 use Rattle.cidr_forwarding.proofs.plan.smallest_rows.Goals.{in-Some+in_ok-push-in-Some, in-None}
 
 pub loop-row-init : goal.loop-row-init
-loop-row-init g c = ap (in_bits g.C.BitString.bits) c.new-out.ensures.items
+loop-row-init g c = ap (in_bits g.C.BitString.bits) c.in_ok-out.ensures.items
 
 pub loop-row-preserved : goal.loop-row-preserved
 loop-row-preserved g c =
