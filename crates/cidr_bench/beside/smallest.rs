@@ -2,8 +2,10 @@
 //! GeoIP: what `cidr_forwarding` is measured beside.
 //!
 //! `smallest measure` prints a line for each table with tabs between: its name, its rows, and for tables without holes
-//! and with holes the rows left and the least milliseconds of five turns. `smallest table NAME` writes the rows of a
-//! table, one a line. `smallest compare N` compares N random tables of few rows with a count by trial of all values.
+//! and with holes the rows left and the least milliseconds of five turns. `smallest measure NAME` does so of one table,
+//! `smallest rows NAME` only makes it and prints how many rows it has, and `smallest table NAME` writes them, one a line. `smallest compare N` compares N random tables of few rows with a count by trial of all values.
+//! `smallest count` writes how many rows are left of each table of standard input: its rows in ascending order, the bits
+//! of a network (`-` for none) and a number in each line, and then a line `smallest` or `holes`.
 //!
 //! Two passes over the ascending rows. The first leaves a token for each network that it reaches, the second takes them
 //! from the end. Networks with one network in them are passed in one step.
@@ -330,8 +332,8 @@ fn text(name: &str, row: &Row) -> String {
     text
 }
 
-fn measure() {
-    for name in NAMES {
+fn measure(part: &str) {
+    for name in NAMES.into_iter().filter(|name| name.contains(part)) {
         let rows = table(name);
         print!("{name}\t{}", rows.len());
         for holes in [false, true] {
@@ -396,16 +398,37 @@ fn compare(count: u64) {
     println!("{count} tables, each without and with holes: no table is smaller");
 }
 
+/// Writes how many rows are left of each table of standard input.
+fn count() {
+    let mut rows = Vec::new();
+    for line in std::io::stdin().lines() {
+        let line = line.expect("a line");
+        let Some((digits, value)) = line.split_once(' ') else {
+            println!("{}", smallest(&rows, line == "holes").len());
+            rows.clear();
+            continue;
+        };
+        let digits = digits.trim_matches('-');
+        let number = u128::from_str_radix(digits, 2).unwrap_or(0);
+        let len = digits.len() as u8;
+        let bits = number.checked_shl(128 - len as u32).unwrap_or(0);
+        rows.push(Row { bits, len, value: value.parse().expect("a number") });
+    }
+}
+
 fn main() {
     let words: Vec<String> = std::env::args().skip(1).collect();
     match words.iter().map(String::as_str).collect::<Vec<_>>()[..] {
-        ["measure"] => measure(),
+        ["measure"] => measure(""),
+        ["measure", name] => measure(name),
+        ["rows", name] => println!("{}", table(name).len()),
         ["table", name] => {
             for row in table(name) {
                 println!("{}", text(name, &row));
             }
         }
+        ["count"] => count(),
         ["compare", count] => compare(count.parse().expect("a number of tables")),
-        _ => eprintln!("smallest measure | smallest table NAME | smallest compare N"),
+        _ => eprintln!("smallest measure | smallest table NAME | smallest compare N | smallest count"),
     }
 }

@@ -1,0 +1,219 @@
+#!/usr/bin/env python3
+"""Judges smallest tables with the same forwarding that a program writes.
+
+    check.py PROGRAM            a part of the tables, within seconds
+    check.py PROGRAM whole      all of them, also beside crates/cidr_bench/beside/smallest.rs, which needs `rustc`
+
+For each table it makes, without and with holes: the rows ascend, each network once; they forward each address as the
+table does, which two sweeps over the boundaries of all rows tell; and they are as few as wanted. What is wanted comes
+from none of our programs: for all forwardings of the eight networks of three bits over three values and none from
+trials of each value and of no row at each network; for 900,000 networks of 900,000 values from their number. For some
+of the random nested tables of both families it comes from such trials too, and for all, of the whole, from the
+program beside. Prints the tables that differ, and how many were judged.
+"""
+import random
+import socket
+import subprocess
+import sys
+from pathlib import Path
+
+BITS = 129  # of an address: that of the family, and 32 or 128
+VALUES = (None, 1, 2, 3)
+
+
+# ---- networks: the first address as a number of 129 bits, and how many bits they have
+def network_of(text):
+    if text == "any":
+        return 0, 0
+    address, _, length = text.partition("/")
+    if ":" in address:
+        number = 1 << 128 | int.from_bytes(socket.inet_pton(socket.AF_INET6, address), "big")
+        return number, 1 + int(length or 128)
+    return int.from_bytes(socket.inet_aton(address), "big") << 96, 1 + int(length or 32)
+
+
+def text_of(network):
+    start, bits = network
+    if bits == 0:
+        return "any"
+    if start >> 128:
+        return f"{socket.inet_ntop(socket.AF_INET6, (start - (1 << 128)).to_bytes(16, 'big'))}/{bits - 1}"
+    return f"{socket.inet_ntoa((start >> 96).to_bytes(4, 'big'))}/{bits - 1}"
+
+
+def forwarding(rows):
+    """Where the value changes, in ascending order, by the longest match: no two tables that forward alike differ in it."""
+    changes, open_rows = [], [(1 << BITS, None)]
+
+    def put(at, value):
+        while changes and changes[-1][0] == at:
+            changes.pop()
+        if (changes[-1][1] if changes else None) != value:
+            changes.append((at, value))
+
+    for (start, bits), value in sorted(rows, key=lambda row: row[0]):
+        while open_rows[-1][0] <= start:
+            end = open_rows.pop()[0]
+            put(end, open_rows[-1][1])
+        put(start, value)
+        open_rows.append((start + (1 << BITS - bits), value))
+    while len(open_rows) > 1:
+        end = open_rows.pop()[0]
+        put(end, open_rows[-1][1])
+    return changes
+
+
+# ---- the fewest rows, by trials
+def fewest_below(low, high, values):
+    """By the value that is inherited: the fewest rows for a network, from those for its halves."""
+    row = 1 + min(low[value] + high[value] for value in values)
+    return {inherited: min(row, low[inherited] + high[inherited]) for inherited in low}
+
+
+def fewest_of(value, values, wanted):
+    row = 1 if wanted in values else 1_000_000
+    return {inherited: 0 if inherited == wanted else row for inherited in value}
+
+
+def fewest_forwarding(wanted, values, known={}):
+    """The fewest rows for the networks of some bits with these values."""
+    key = (wanted, values)
+    if key not in known:
+        half = len(wanted) // 2
+        known[key] = (
+            fewest_below(fewest_forwarding(wanted[:half], values), fewest_forwarding(wanted[half:], values), values)
+            if half
+            else fewest_of(VALUES, values, wanted[0])
+        )
+    return known[key]
+
+
+def fewest_table(rows, start, bits, inherited, values, all_values):
+    own = [value for network, value in rows if network == (start, bits)]
+    inherited = own[0] if own else inherited
+    rest = [row for row in rows if row[0][1] > bits]
+    if not rest:
+        return fewest_of(all_values, values, inherited)
+    middle = start + (1 << BITS - bits - 1)
+    low = [row for row in rest if row[0][0] < middle]
+    high = [row for row in rest if row[0][0] >= middle]
+    return fewest_below(
+        fewest_table(low, start, bits + 1, inherited, values, all_values),
+        fewest_table(high, middle, bits + 1, inherited, values, all_values),
+        values,
+    )
+
+
+# ---- tables
+def forwardings_of_three_bits(step):
+    for code in range(0, 4**8, step):
+        wanted = tuple(VALUES[code >> 2 * at & 3] for at in range(8))
+        rows = [((at << 125, 4), value) for at, value in enumerate(wanted) if value is not None]
+        yield rows, [
+            fewest_forwarding(wanted, VALUES[1:])[None],
+            fewest_forwarding(wanted, VALUES)[None],
+        ]
+
+
+def random_tables(count, every):
+    numbers = random.Random(20261126)
+    for index in range(count):
+        families = numbers.choice(((0,), (1,), (0, 1)))
+        front = numbers.randrange(26)
+        steps = numbers.choice((3, 6, 6, 40))
+        shared = [numbers.getrandbits(128) for _ in families]
+        rows = {}
+        if numbers.randrange(8) == 0:
+            rows[0, 0] = numbers.randrange(4)
+        for _ in range(numbers.randrange(14)):
+            family = numbers.choice(families)
+            length = min(front + numbers.randrange(steps + 1), 100 if family else 32)
+            kept = shared[families.index(family)] >> 128 - front << 128 - front if front else 0
+            address = (kept | numbers.getrandbits(128 - front)) >> 128 - length << 128 - length
+            rows[family << 128 | address, 1 + length] = numbers.randrange(4)
+        rows = list(rows.items())
+        wanted = [None, None]
+        if index % every == 0:
+            values = tuple(range(4))
+            all_values = (None, *values)
+            wanted = [fewest_table(rows, 0, 0, None, it, all_values)[None] for it in (values, all_values)]
+        yield rows, wanted
+
+
+def different_values(count):
+    yield [((at << 104, 25), at) for at in range(count)], [count, None]
+
+
+# ---- judged
+def answers(lines):
+    """The rows of each answer."""
+    rows = []
+    for line in lines:
+        network, _, value = line.partition(" ")
+        if value:
+            rows.append((network_of(network), None if value == "none" else int(value)))
+        else:
+            yield rows, line
+            rows = []
+
+
+def bits_of(network):
+    start, bits = network
+    return f"{start >> BITS - bits:0{bits}b}" if bits else "-"
+
+
+def judge(program, name, tables, beside):
+    tables = list(tables)
+    given, also = [], []
+    for rows, _ in tables:
+        for what in ("smallest", "holes"):
+            given += [f"{text_of(network)} {value}" for network, value in rows] + [what]
+            if beside:
+                also += [f"{bits_of(network)} {value}" for network, value in sorted(rows)] + [what]
+    written = subprocess.run([program, "any"], input="\n".join(given) + "\n", capture_output=True, text=True, check=True)
+    counts = []
+    if beside:
+        count = subprocess.run([beside, "count"], input="\n".join(also) + "\n", capture_output=True, text=True, check=True)
+        counts = [int(line) for line in count.stdout.split()]
+    found = list(answers(written.stdout.splitlines()))
+    differ = int(len(found) != 2 * len(tables)) + int(bool(beside) and len(counts) != len(found))
+    for index, (rows, last) in enumerate(found):
+        table, wanted = tables[index // 2]
+        wanted = wanted[index % 2]
+        wrong = []
+        if last != "true":
+            wrong.append("`forwards_same` denies it")
+        if any(one[0] >= other[0] for one, other in zip(rows, rows[1:])):
+            wrong.append("the rows do not ascend")
+        if index % 2 == 0 and any(value is None for _, value in rows):
+            wrong.append("a hole")
+        if forwarding(rows) != forwarding(table):
+            wrong.append("another forwarding")
+        if wanted is not None and len(rows) != wanted:
+            wrong.append(f"{len(rows)} rows, not {wanted}")
+        if counts and len(rows) > counts[index]:
+            wrong.append(f"{len(rows)} rows, and {counts[index]} beside")
+        if wrong:
+            differ += 1
+            print(f"{name}, table {index // 2}: {', '.join(wrong)}", file=sys.stderr)
+    print(f"{name}: {len(tables)} tables, each without and with holes; {differ} differ")
+    return differ
+
+
+def main():
+    program, whole = sys.argv[1], sys.argv[2:] == ["whole"]
+    beside = None
+    if whole:
+        here = Path(__file__).resolve().parent
+        beside = here / "out" / "smallest"
+        source = here.parent / "cidr_bench" / "beside" / "smallest.rs"
+        subprocess.run(["rustc", "-O", "--edition", "2021", "-o", beside, source], check=True)
+    differ = judge(program, "forwardings of three bits", forwardings_of_three_bits(1 if whole else 29), beside)
+    differ += judge(program, "random nested tables", random_tables(*((100_000, 50) if whole else (1_000, 10))), beside)
+    if whole:
+        differ += judge(program, "different values", different_values(900_000), beside)
+    sys.exit(differ > 0)
+
+
+if __name__ == "__main__":
+    main()
