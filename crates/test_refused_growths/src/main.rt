@@ -3,6 +3,7 @@
 //! turn.
 #![tactic(auto)]
 
+mod forwarding;
 mod loading;
 mod rules;
 mod sets;
@@ -43,6 +44,7 @@ fn main(rt: HostRuntime) -> io::Result<()> {
         ("insert and remove of a set", sets::changes(rt.alloc())),
         ("from_range", sets::range(rt.alloc())),
         ("access lists", rules::access_lists(rt.alloc())),
+        ("smallest tables", forwarding::smallest(rt.alloc())),
     ];
     for (call, held) in rows {
         println!(rt; "{call}: {}", outcome(held))?;
