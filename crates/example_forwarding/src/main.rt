@@ -1,8 +1,10 @@
-//! Forwarding: a routing table of six rows, the smallest table with the same forwarding, and the same look-ups in both.
+//! Forwarding: a routing table of six rows, the smallest table with the same forwarding, the same look-ups in both, and
+//! look-ups of next hops by ranges.
 #![tactic(auto)]
 
 use cidr::Ipv4Cidr;
 use cidr::errors::NetworkParseError;
+use cidr_fib::{ForwardingError, ForwardingTable};
 use cidr_forwarding::{SmallestTable, forwards_same};
 use cidr_table::LpmTable;
 use std::alloc::AllocError;
@@ -12,7 +14,8 @@ type Routes = LpmTable<Ipv4Cidr, u32>;
 
 fn main(rt: HostRuntime) -> Result<(), Failure> {
     without_holes(&rt)?;
-    with_holes(&rt)
+    with_holes(&rt)?;
+    by_ranges(&rt)
 }
 
 /// Six routes by three next hops become three.
@@ -49,12 +52,37 @@ fn with_holes(rt: &HostRuntime) -> Result<(), Failure> {
     Ok(())
 }
 
+/// Look-ups of next hops, and a table with a value that is none.
+fn by_ranges(rt: &HostRuntime) -> Result<(), Failure> {
+    let mut routes = Routes::new(rt.alloc());
+    routes.set("0.0.0.0/0".parse()?, 1)?;
+    routes.set("10.0.0.0/8".parse()?, 2)?;
+    routes.set("10.1.0.0/16".parse()?, 3)?;
+    let ready = ForwardingTable::new(rt.alloc(), routes).map_err(|refused| refused.1)?;
+    println!(rt; "{:?}", ready.find(&"10.1.2.3".parse()?))?; // Some(3)
+    println!(rt; "{:?}", ready.find(&"10.0.0.0/15".parse()?))?; // Some(2)
+    println!(rt; "{}", ready.table().len())?; // 3
+    let mut routes = ready.into_table();
+    routes.set("10.2.0.0/16".parse()?, u32::MAX)?;
+    if let Err((_, error)) = ForwardingTable::new(rt.alloc(), routes) {
+        println!(rt; "{error:?}")?; // TooLarge(3)
+    }
+    Ok(())
+}
+
 /// What this program fails by.
 #[derive(Debug, Drop)]
 enum Failure {
+    Forwarding(ForwardingError),
     Network(NetworkParseError),
     NoMemory,
     Output(io::Error),
+}
+
+impl From<ForwardingError> for Failure {
+    fn from(error: ForwardingError) -> Failure {
+        Failure::Forwarding(error)
+    }
 }
 
 impl From<NetworkParseError> for Failure {

@@ -1,0 +1,22 @@
+-- The codes stand where the ends stood.
+use Rattle.std.proofs.Common.{◌≡◌, ℕ, List, [], ◌++◌, length, take, drop, ap, sym, subst, ◌∙◌, arith, append-nil, take_all, drop_of_length-le}
+use Rattle.cidr_fib.specs.Ranges.{numbers, AreAnswers, AreCodes}
+use Rattle.cidr_fib.proofs.Found.{answers}
+use Rattle.cidr_fib.proofs.find.Ranges.of.Goals as goal
+
+written : (n : ℕ) (new old : List ℕ) → length new ≡ length old → n ≡ length old → take n (new ++ drop (length new) old) ≡ new
+written n new old e s =
+    let none : drop (length new) old ≡ [] = drop_of_length-le old (omega (arith, e)) in
+    ap (λ l. take n (new ++ l)) none ∙ (ap (take n) (append-nil new) ∙ take_all n new (omega (arith, e, s)))
+
+pub returns : goal.returns
+returns g c =
+    let bits = g.C.BitString.bits in
+    let rows = c.args.rows.now in
+    let made = c.in_ok-starts.field-0 in
+    let is_old = c.as_mut_slice.ensures.value in
+    let new = c.put_codes.new.ends in
+    let is = written made.ends.len new made.ends.items (omega (arith, c.put_codes.auto.ends, ap length is_old)) (omega (arith, c.as_mut_slice.ensures.len, ap length is_old)) in
+    let coded = subst (λ l. AreCodes bits rows l new) is_old c.put_codes.ensures in
+    subst (λ l. AreAnswers bits rows (numbers made.starts) l) (sym is)
+    (answers g.C.Ord.cmp bits g.met.C.NetworkBits.ordered rows (numbers made.starts) made.ends.items new c.requires.sorted c.in_ok-starts.ensures.both c.in_ok-starts.ensures.ranges c.in_ok-starts.ensures.filled coded)

@@ -1,0 +1,13 @@
+use Rattle.std.proofs.Common.{◌≤◌, length}
+use Rattle.cidr_fib.specs.Growth.{AreGrowing, last_of}
+use Rattle.cidr_fib.specs.Ranges.{numbers}
+use Rattle.cidr_fib.proofs.ranges.close.Given as goal
+
+abbrev pub invariant-loop-alloc : goal.invariant-loop-alloc
+invariant-loop-alloc g l = record {
+  growing : AreGrowing g.C.BitString.bits l.rows l.place l.growing;
+  start : last_of (numbers l.initial.growing.starts) ≤ l.number → last_of (numbers l.growing.starts) ≤ l.number;
+}
+
+abbrev pub decreases-loop-alloc : goal.decreases-loop-alloc
+decreases-loop-alloc g l = length l.growing.open_lasts.items

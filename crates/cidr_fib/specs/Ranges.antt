@@ -1,0 +1,48 @@
+-- Ranges of the numbers that the first 64 bits of a look-up key can be. A range begins with its start, and ends before
+-- the next one's start, or before 2 ^ 64.
+use Rattle.std.specs.Prelude.{◌≡◌, ℕ, ◌+◌, ◌-◌, ◌*◌, ◌^◌, ◌<◌, ◌≤◌, ◌⊎◌, Bool, List, Some, None, length, map, slice_get, slice_index_or}
+use Rattle.cidr.specs.model.BitString.{leading}
+use Rattle.cidr_fib.specs.declared.starts.Starts.{Starts}
+use Rattle.cidr_fib.specs.declared.starts.Starts.TheVariants.{Narrow, Wide}
+use Rattle.cidr_table.specs.Prefixes.{IsValueLookedUp}
+
+-- the starts, of which narrow ones are kept without their last 32 bits
+abbrev pub numbers : Starts → List ℕ
+numbers (Narrow starts) = map (λ start. start * 2 ^ 32) starts.items
+numbers (Wide starts) = map (λ start. start) starts.items
+
+-- the greatest number that the first 64 bits of what begins with a network can be
+abbrev pub last_leading : List Bool → ℕ
+last_leading p = leading p + (2 ^ (64 - length p) - 1)
+
+-- the range has all numbers from the first to the last
+pub record IsRangeOf (starts : List ℕ) (first last k : ℕ) : Type 0 where
+  pub within : k < length starts
+  pub from : slice_index_or starts k 0 ≤ first
+  pub to : last < slice_index_or starts (k + 1) (2 ^ 64)
+
+-- the code of a range of these numbers, or the one that says nothing
+abbrev pub IsFound : (starts codes : List ℕ) (first last code : ℕ) → Type 0
+IsFound starts codes first last code =
+    (code ≡ 2 ^ 32 - 2) ⊎ ((k : ℕ) × IsRangeOf starts first last k × (code ≡ slice_index_or codes k 0))
+
+module _ {C : Type 0} (bits : C → List Bool) (rows : List (C × ℕ)) where
+  -- what a code says of the longest match of a look-up key: its value, or that there is none; 2 ^ 32 - 2 says nothing
+  pub record IsAnswer (asked : List Bool) (code : ℕ) : Type 0 where
+    pub some : code < 2 ^ 32 - 2 → IsValueLookedUp bits asked rows (Some code)
+    pub none : code ≡ 2 ^ 32 - 1 → IsValueLookedUp bits asked rows None
+
+  -- the code of each range is the answer for the look-up keys that have no number outside of it
+  abbrev pub AreAnswers : (starts codes : List ℕ) → Type 0
+  AreAnswers starts codes = (asked : List Bool) (k : ℕ) → IsRangeOf starts (leading asked) (last_leading asked) k
+      → IsAnswer asked (slice_index_or codes k 0)
+
+  -- the code of a range by how many rows there are up to that of its longest match, or 0 where there is none: the value
+  -- of that row only where its key has at most 64 bits
+  pub record IsCode (end code : ℕ) : Type 0 where
+    pub some : code < 2 ^ 32 - 2
+        → (row : C × ℕ) × (0 < end) × (slice_get rows (end - 1) ≡ Some row) × (length (bits row.0) ≤ 64) × (code ≡ row.1)
+    pub none : code ≡ 2 ^ 32 - 1 → end ≡ 0
+
+  abbrev pub AreCodes : (ends codes : List ℕ) → Type 0
+  AreCodes ends codes = (k : ℕ) → k < length ends → IsCode (slice_index_or ends k 0) (slice_index_or codes k 0)

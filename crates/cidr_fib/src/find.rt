@@ -1,0 +1,147 @@
+//! The value of the longest match, by ranges.
+ghost use Rattle.std.specs.Prelude.{◌≡◌, ◌+◌, ◌-◌, ◌*◌, ◌^◌, ◌<◌, ◌≤◌, ◌⊎◌, length, map, position, IfOk, IfErr, IsTrue};
+ghost use Rattle.std.specs.List.Sorted.{IsStrictlySortedBy};
+ghost use Rattle.std.specs.Map.{keys_of};
+ghost use Rattle.cidr_table.specs.Prefixes.{IsValueLookedUp};
+ghost use Rattle.cidr_fib.specs.Errors.{is_too_large, IsRefused};
+ghost use Rattle.cidr_fib.specs.Ranges.{numbers, AreAnswers, IsFound, IsRangeOf};
+
+use crate::codes::{NOTHING, SEARCH, put_codes};
+use crate::error::ForwardingError;
+use crate::level::FirstLevel;
+use crate::ranges::{Ends, last_bits, ranges_of};
+use crate::starts::{Start, Starts};
+use cidr::NetworkBits;
+use cidr_table::LpmTable;
+use std::alloc::{AllocError, Global};
+
+/// The ranges of a table, each with a code.
+#[derive(Drop)]
+pub(crate) struct Ranges {
+    /// The number that each range begins with.
+    pub(crate) starts: Starts,
+    pub(crate) codes: Vec<u32>,
+    /// About where to search. A look-up tests what it finds.
+    level: FirstLevel,
+}
+
+/// The ranges of a table, or why there are none.
+pub(crate) fn answers_of<C: NetworkBits + Copy>(
+    alloc: Global,
+    table: &LpmTable<C, u32>,
+) -> Result<Ranges, ForwardingError>
+    ensures answers { IfOk result (λ ranges. AreAnswers C.bits table.now.rows (numbers ranges.starts) ranges.codes.items) }
+    ensures refused { IfErr result (IsRefused table.now.rows) }
+{
+    let rows = table.iter().as_slice();
+    if rows.len() >= u32::MAX as usize {
+        return Err(ForwardingError::TooManyRows);
+    }
+    if let Some(place) = first_too_large(rows) {
+        return Err(ForwardingError::TooLarge(place));
+    }
+    match Ranges::of(alloc, rows) {
+        Ok(ranges) => Ok(ranges),
+        Err(_) => Err(ForwardingError::NoMemory),
+    }
+}
+
+/// The index of the first value that is no value of a forwarding table.
+fn first_too_large<C>(rows: &[(C, u32)]) -> Option<usize>
+    ensures { result ≡ position is_too_large rows.now }
+{
+    rows.iter().position(|row| row.1 >= SEARCH)
+}
+
+/// The value of the longest match of the look-up key, or `None` where no key contains it.
+#[inline(always)]
+pub(crate) fn found<C: NetworkBits + Copy>(
+    table: &LpmTable<C, u32>,
+    ranges: &Ranges,
+    asked: &C,
+) -> Option<u32>
+    requires { AreAnswers C.bits table.now.rows (numbers ranges.now.starts) ranges.now.codes.items }
+    ensures { IsValueLookedUp C.bits (C.bits asked.now) table.now.rows result }
+{
+    let code = ranges.code(asked.first_bits(), last_bits(asked));
+    if code < SEARCH {
+        Some(code)
+    } else if code == NOTHING {
+        None
+    } else {
+        searched(table, asked)
+    }
+}
+
+/// The same by a search of the rows.
+#[inline(never)]
+fn searched<C: NetworkBits + Copy>(table: &LpmTable<C, u32>, asked: &C) -> Option<u32>
+    ensures { IsValueLookedUp C.bits (C.bits asked.now) table.now.rows result }
+{
+    match table.lookup(asked) {
+        Some(row) => Some(row.1),
+        None => None,
+    }
+}
+
+impl Ranges {
+    /// The ranges of ascending rows.
+    fn of<C: NetworkBits + Copy>(alloc: Global, rows: &[(C, u32)]) -> Result<Ranges, AllocError>
+        requires sorted { IsStrictlySortedBy C.cmp (keys_of rows.now) }
+        requires few { length rows.now < 2 ^ 32 - 1 }
+        ensures { IfOk result (λ ranges. AreAnswers C.bits rows.now (numbers ranges.starts) ranges.codes.items) }
+    {
+        let Ends { starts, ends } = ranges_of(alloc, rows)?;
+        let mut codes = ends;
+        put_codes(rows, codes.as_mut_slice());
+        let level = FirstLevel::of(alloc, &starts)?;
+        Ok(Ranges {
+            starts,
+            codes,
+            level,
+        })
+    }
+
+    /// The code of the range that has all numbers from the first to the last, or `SEARCH` where none is found.
+    #[inline(always)]
+    fn code(&self, first: u64, last: u64) -> u32
+        ensures { IsFound (numbers self.now.starts) self.now.codes.items first last result }
+    {
+        let codes = self.codes.as_slice();
+        match &self.starts {
+            Starts::Narrow(starts) => {
+                code_by(starts.as_slice(), codes, &self.level, first, last)
+            }
+            Starts::Wide(starts) => code_by(starts.as_slice(), codes, &self.level, first, last),
+        }
+    }
+}
+
+/// The code of the range that has all numbers from the first to the last, or `SEARCH` where none is found.
+#[inline(always)]
+fn code_by<N: Start>(starts: &[N], codes: &[u32], level: &FirstLevel, first: u64, last: u64) -> u32
+    ensures { IsFound (map N.value starts.now) codes.now first last result }
+{
+    let at = level.find(starts, first);
+    if !has_all(starts, at, first, last) {
+        return SEARCH;
+    }
+    match codes.get(at) {
+        Some(code) => *code,
+        None => SEARCH,
+    }
+}
+
+/// Whether a range has all numbers from the first to the last.
+#[inline(always)]
+fn has_all<N: Start>(starts: &[N], at: usize, first: u64, last: u64) -> bool
+    ensures { IsTrue result → IsRangeOf (map N.value starts.now) first last at }
+{
+    if at >= starts.len() || !starts[at].is_upto(first) {
+        return false;
+    }
+    if at + 1 == starts.len() {
+        return true;
+    }
+    !starts[at + 1].is_upto(last)
+}
