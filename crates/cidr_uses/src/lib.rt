@@ -1,5 +1,5 @@
-//! Parts of small programs, written by the public calls of `cidr`, `cidr_table`, `cidr_forwarding`, `cidr_sets` and
-//! `cidr_ext` only and proved from their public contracts only.
+//! Parts of small programs, written by the public calls of `cidr`, `cidr_table`, `cidr_forwarding`, `cidr_fib`,
+//! `cidr_sets` and `cidr_ext` only and proved from their public contracts only.
 #![tactic(auto)]
 
 pub mod access_list;
@@ -19,6 +19,7 @@ pub mod look_ups;
 pub mod nesting;
 pub mod network_lengths;
 pub mod network_loops;
+pub mod next_hops;
 pub mod over_traits;
 pub mod prefix_bytes;
 pub mod prefix_tree;

@@ -1,0 +1,42 @@
+//! Next hops by a forwarding table, whose values are indices of a list.
+ghost use Rattle.std.specs.Prelude.{◌≡◌, ℕ, List, Option, IfErr, IfOk, slice_get};
+ghost use Rattle.std.specs.Option.{option_and_then};
+ghost use Rattle.cidr_fib.specs.Errors.{IsRefused};
+ghost use Rattle.cidr_table.specs.LastRows.{AreLastRows};
+ghost use Rattle.cidr_table.specs.Prefixes.{IsValueLookedUp};
+
+use cidr::NetworkBits;
+use cidr_fib::{ForwardingError, ForwardingTable};
+use cidr_table::LpmTable;
+use std::alloc::Global;
+
+/// The gateway of an address: the value of its longest match is the index of the gateway in a list. `None` where no
+/// network has the address, or the list has no such entry.
+pub fn gateway<C: NetworkBits + Copy, G: Copy>(
+    ready: &ForwardingTable<C>,
+    gateways: &[G],
+    address: &C,
+) -> Option<G>
+    ensures { (index : Option ℕ) × IsValueLookedUp C.bits (C.bits address.now) ready.now.rows index
+        × (result ≡ option_and_then (λ i. slice_get gateways.now i) index) }
+{
+    let index = ready.find(address)?;
+    gateways.get(index as usize).copied()
+}
+
+/// The value of the longest match among rows in any order, of which the last one of each network counts.
+pub fn value_of_rows<C: NetworkBits + Copy>(
+    alloc: Global,
+    rows: Vec<(C, u32)>,
+    asked: &C,
+) -> Result<Option<u32>, ForwardingError>
+    ensures value { IfOk result (λ value. (table : List (C × ℕ)) × AreLastRows rows.items table
+        × IsValueLookedUp C.bits (C.bits asked.now) table value) }
+    ensures refused { IfErr result (λ error. (table : List (C × ℕ)) × AreLastRows rows.items table × IsRefused table error) }
+{
+    let ready = match ForwardingTable::new(alloc, LpmTable::from_rows(rows)) {
+        Ok(ready) => ready,
+        Err((_, error)) => return Err(error),
+    };
+    Ok(ready.find(asked))
+}
