@@ -1,15 +1,15 @@
 -- What `check` finds in the entries of lists.
-use Rattle.std.specs.Prelude.{◌≡◌, ◌≢◌, ◌↔◌, ℕ, ◌+◌, ◌*◌, ◌<◌, ◌≤◌, false, List, [], ◌++◌, length, map, Contains, slice_get, codes, decimal, Option, Some, None}
+use Rattle.std.specs.Prelude.{◌≡◌, ◌≢◌, ◌↔◌, ℕ, ◌+◌, ◌*◌, ◌<◌, ◌≤◌, Bool, false, List, [], ◌++◌, length, map, Contains, slice_get, codes, decimal, Option, Some, None}
 use Rattle.std.specs.List.{flat_map}
 use Rattle.std.specs.List.Sorted.{IsStrictlyIncreasing}
 use Rattle.cidr.specs.either.IpHost.{host_network, host_parts}
-use Rattle.cidr.specs.either.IpNetwork.{any_bits, any_of, network_bits, network_family, network_prefix}
+use Rattle.cidr.specs.either.IpNetwork.{network_bits, network_family, network_prefix}
 use Rattle.cidr.specs.either.IpText.{ip_host_text, ip_network_text}
 use Rattle.cidr.specs.model.Host.{host_part}
 use Rattle.cidr.specs.model.Network.{BeginsWith}
 use Rattle.cidr.specs.texts.Printed.{plain_host_text, plain_text}
-use Rattle.cidr.specs.declared.cidr.any.AnyIpCidr.{AnyIpCidr}
 use Rattle.cidr.specs.declared.cidr.combined.IpCidr.{IpCidr}
+use Rattle.cidr.specs.declared.cidr.combined.IpCidr.TheVariants.{V4, V6}
 use Rattle.cidr.specs.declared.inet.combined.IpInet.{IpInet}
 use Rattle.cidr_ext.specs.Tree.{AreSiblings}
 use Rattle.netset.specs.Entries.{AreAllEntries}
@@ -21,8 +21,11 @@ use Rattle.netset.specs.declared.entries.Entry.{Entry}
 use Rattle.netset.specs.declared.entries.Place.{Place}
 use Rattle.netset.specs.declared.findings.Finding.{Finding}
 use Rattle.netset.specs.declared.findings.Finding.TheVariants.{HostBits, NotCanonical, Repeats, Inside, Mergeable}
+use Rattle.netset.specs.declared.findings.Firsts.{Firsts}
 use Rattle.netset.specs.declared.findings.Kind.{Kind}
 use Rattle.netset.specs.declared.findings.Kind.TheVariants as kind
+use Rattle.netset.specs.declared.findings.LookedUp.{LookedUp}
+use Rattle.netset.specs.declared.findings.Near.{Near}
 use Rattle.netset.specs.declared.findings.Note.{Note}
 
 -- the network of an entry
@@ -33,10 +36,13 @@ entry_network entry = host_network entry.host
 abbrev pub HasHostBits : IpInet → Type 0
 HasHostBits host = host_part (host_parts host) ≢ 0
 
+-- bits begin with the outer ones, and are longer
+abbrev pub AreInside : List Bool → List Bool → Type 0
+AreInside bits outer = BeginsWith bits outer × (length outer < length bits)
+
 -- a network is inside the outer one, and is not all of it
 abbrev pub IsInside : IpCidr → IpCidr → Type 0
-IsInside network outer =
-    BeginsWith (network_bits network) (network_bits outer) × (length (network_bits outer) < length (network_bits network))
+IsInside network outer = AreInside (network_bits network) (network_bits outer)
 
 -- both are the halves of one network, in either order
 abbrev pub AreHalves : IpCidr → IpCidr → Type 0
@@ -115,27 +121,54 @@ IsCheck names texts answer verdict = (entries : List Entry) × AreAllEntries nam
     × (notes : List Note) × AreNotes entries notes × (answer ≡ flat_map note_line notes) × IsClean notes verdict
 
 -- ---- what private functions promise
--- the network of an entry as a key of a table of both families
-abbrev pub entry_key : Entry → AnyIpCidr
-entry_key entry = any_of (entry_network entry)
+-- this is the first index of the network
+abbrev pub IsFirstIndex : List IpCidr → IpCidr → ℕ → Type 0
+IsFirstIndex networks network i = (slice_get networks i ≡ Some network) × ((j : ℕ) → slice_get networks j ≡ Some network → i ≤ j)
 
--- this is the first index of the key
-abbrev pub IsFirstIndex : {C : Type 0} → List C → C → ℕ → Type 0
-IsFirstIndex keys key i = (slice_get keys i ≡ Some key) × ((j : ℕ) → slice_get keys j ≡ Some key → i ≤ j)
+-- the same, or none where the network is not among them
+abbrev pub IsFirstAt : List IpCidr → IpCidr → Option ℕ → Type 0
+IsFirstAt networks network None = (j : ℕ) → ¬ (slice_get networks j ≡ Some network)
+IsFirstAt networks network (Some i) = IsFirstIndex networks network i
 
--- each key with its first index
-abbrev pub AreFirsts : {C : Type 0} → List C → List (C × ℕ) → Type 0
-AreFirsts {C} keys rows = (row : C × ℕ) → Contains rows row ↔ IsFirstIndex keys row.0 row.1
+-- each network of a family with its first index
+abbrev pub AreFirstsOf : (List Bool → IpCidr) → List IpCidr → List (List Bool × ℕ) → Type 0
+AreFirstsOf of networks rows = (row : List Bool × ℕ) → Contains rows row ↔ IsFirstIndex networks (of row.0) row.1
 
--- the network is inside that of the key, and is not all of it
-abbrev pub IsInsideKey : IpCidr → AnyIpCidr → Type 0
-IsInsideKey network key = BeginsWith (network_bits network) (any_bits key) × (length (any_bits key) < length (network_bits network))
+-- the same of both families
+abbrev pub AreFirsts : List IpCidr → Firsts → Type 0
+AreFirsts networks firsts = AreFirstsOf V4 networks firsts.v4.rows × AreFirstsOf V6 networks firsts.v6.rows
 
--- the row of the longest key that the network is inside, or none
-abbrev pub IsInnermostRow : List (AnyIpCidr × ℕ) → IpCidr → Option ℕ → Type 0
-IsInnermostRow rows network None = (row : AnyIpCidr × ℕ) → Contains rows row → ¬ (IsInsideKey network row.0)
-IsInnermostRow rows network (Some i) = (key : AnyIpCidr) × Contains rows (key, i) × IsInsideKey network key
-    × ((row : AnyIpCidr × ℕ) → Contains rows row → IsInsideKey network row.0 → length (any_bits row.0) ≤ length (any_bits key))
+-- the row of the longest key that this one is inside, or none
+abbrev pub IsRowAround : {C : Type 0} → (C → List Bool) → List (C × ℕ) → C → Option ℕ → Type 0
+IsRowAround {C} bits rows key None = (row : C × ℕ) → Contains rows row → ¬ (AreInside (bits key) (bits row.0))
+IsRowAround {C} bits rows key (Some i) = (outer : C) × Contains rows (outer, i) × AreInside (bits key) (bits outer)
+    × ((row : C × ℕ) → Contains rows row → AreInside (bits key) (bits row.0) → length (bits row.0) ≤ length (bits outer))
+
+-- the first index of the longest network that this one is inside, or none
+abbrev pub IsAroundAt : List IpCidr → IpCidr → Option ℕ → Type 0
+IsAroundAt networks network None = (j : ℕ) (other : IpCidr) → slice_get networks j ≡ Some other → ¬ (IsInside network other)
+IsAroundAt networks network (Some i) = (outer : IpCidr) × IsFirstIndex networks outer i × IsInside network outer
+    × ((j : ℕ) (other : IpCidr) → slice_get networks j ≡ Some other → IsInside network other
+    → length (network_bits other) ≤ length (network_bits outer))
+
+-- the first index of the other half, or none
+abbrev pub IsHalfAt : List IpCidr → IpCidr → Option ℕ → Type 0
+IsHalfAt networks network None = (other : IpCidr) → AreHalves network other → IsFirstAt networks other None
+IsHalfAt networks network (Some i) = (other : IpCidr) × AreHalves network other × IsFirstIndex networks other i
+
+-- what stands near a network
+abbrev pub IsNear : List IpCidr → IpCidr → Near → Type 0
+IsNear networks network near = IsAroundAt networks network near.outer × IsHalfAt networks network near.half
+
+-- what is kept at an index is near the network there, which stands at no earlier one
+pub record AreNear (networks : List IpCidr) (near : List (Option Near)) : Type 0 where
+  pub size : length near ≡ length networks
+  pub each : (i : ℕ) (one : Near) → slice_get near i ≡ Some (Some one)
+      → (network : IpCidr) × IsFirstIndex networks network i × IsNear networks network one
+
+-- what was looked up of networks
+abbrev pub AreLookedUp : List IpCidr → LookedUp → Type 0
+AreLookedUp networks found = AreFirsts networks found.firsts × AreNear networks found.near.items
 
 -- of the findings of this rank none holds, or only this one
 abbrev pub IsOnly : (Finding → Type 0) → ℕ → Option Finding → Type 0

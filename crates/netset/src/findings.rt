@@ -1,13 +1,14 @@
 //! What is found in the lines of lists.
-ghost use Rattle.std.specs.Prelude.{◌≡◌, ◌<◌, ◌+◌, ◌*◌, ◌++◌, IfOk, ℕ, OnOk, Some, length, map, slice_get};
+ghost use Rattle.std.specs.Prelude.{◌≡◌, ◌<◌, ◌+◌, ◌*◌, IfOk, List, ℕ, None, OnOk, Some, length, map, replicate, slice_get, slice_set};
 ghost use Rattle.std.specs.Bool.{Decides};
-ghost use Rattle.cidr.specs.either.IpNetwork.{any_of};
+ghost use Rattle.cidr.specs.declared.cidr.combined.IpCidr.{IpCidr as Network};
 ghost use Rattle.cidr_table.specs.FiniteMap.{IsUnder};
-ghost use Rattle.netset.specs.Findings.{AreFirsts, AreNotes, AreNotesBelow, IsInnermostRow, IsOnlyNote, entry_key, kind_rank};
+ghost use Rattle.cidr_table.specs.LastRows.{AreLastRows};
+ghost use Rattle.netset.specs.Findings.{AreFirsts, AreLookedUp, AreNear, AreNotes, AreNotesBelow, IsAroundAt, IsFirstAt, IsHalfAt, IsNear, IsOnlyNote, IsRowAround, entry_network, kind_rank};
 
 use crate::entries::{Entry, Place};
 use crate::table::table_of;
-use cidr::{AnyIpCidr, IpCidr, IpInet, NetworkBits};
+use cidr::{IpCidr, IpInet, Ipv4Cidr, Ipv6Cidr, NetworkBits};
 use cidr_ext::{IpCidrExt, NetworkExt};
 use cidr_table::ReadyTable;
 use std::alloc::{AllocError, Global};
@@ -37,7 +38,31 @@ pub struct Note<'a> {
 }
 
 /// For each network of lines the index of the first line that has it, made ready for look-ups.
-type Firsts = ReadyTable<AnyIpCidr, usize>;
+#[derive(Drop)]
+struct Firsts {
+    v4: ReadyTable<Ipv4Cidr, usize>,
+    v6: ReadyTable<Ipv6Cidr, usize>,
+}
+
+/// The indices of the first lines of two networks that stand near another one.
+#[derive(Clone, Copy, Debug)]
+struct Near {
+    /// The longest network around it.
+    outer: Option<usize>,
+    /// Its other half.
+    half: Option<usize>,
+}
+
+/// What was looked up of lines.
+///
+/// The look-ups are made in the order of the networks, in which those that follow each other read the same memory, and
+/// kept by the index of the line.
+#[derive(Drop)]
+struct LookedUp {
+    firsts: Firsts,
+    /// What stands near the network of a line, for the first line of each network.
+    near: Vec<Option<Near>>,
+}
 
 /// The line at an index.
 fn entry_at<'e, 'a>(entries: &'e [Entry<'a>], index: usize) -> &'e Entry<'a>
@@ -47,26 +72,35 @@ fn entry_at<'e, 'a>(entries: &'e [Entry<'a>], index: usize) -> &'e Entry<'a>
     &entries[index]
 }
 
-/// A network as a key of a table of both families.
-fn key_of(network: IpCidr) -> AnyIpCidr
-    ensures { result ≡ any_of network }
+/// Rows made ready for look-ups, of which the last one of each key counts.
+fn ready<C: NetworkBits + Copy>(
+    alloc: Global,
+    rows: Vec<(C, usize)>,
+) -> Result<ReadyTable<C, usize>, AllocError>
+    ensures { IfOk result (λ table. AreLastRows rows.items table.rows) }
 {
-    AnyIpCidr::from(network)
+    match table_of(rows).into_lookups(alloc) {
+        Ok(table) => Ok(table),
+        Err(_) => Err(AllocError),
+    }
 }
 
 /// The first index of each network. The rows go from the last line to the first, since the last row of a key counts.
 fn firsts_of(alloc: Global, entries: &[Entry<'_>]) -> Result<Firsts, AllocError>
-    ensures { IfOk result (λ table. AreFirsts (map entry_key entries.now) table.rows) }
+    ensures { IfOk result (λ firsts. AreFirsts (map entry_network entries.now) firsts) }
 {
-    let mut rows = Vec::with_capacity(alloc, entries.len())?;
+    let mut v4 = Vec::new(alloc);
+    let mut v6 = Vec::new(alloc);
     for index in (0..entries.len()).rev() {
-        let network = entry_at(entries, index).host.network();
-        rows.push((key_of(network), index))?;
+        match entry_at(entries, index).host.network() {
+            IpCidr::V4(network) => v4.push((network, index))?,
+            IpCidr::V6(network) => v6.push((network, index))?,
+        }
     }
-    match table_of(rows).into_lookups(alloc) {
-        Ok(firsts) => Ok(firsts),
-        Err(_) => Err(AllocError),
-    }
+    Ok(Firsts {
+        v4: ready(alloc, v4)?,
+        v6: ready(alloc, v6)?,
+    })
 }
 
 /// Whether two keys are the same.
@@ -76,26 +110,174 @@ fn is_same<C: NetworkBits>(one: &C, other: &C) -> bool
     one.cmp(other).is_eq()
 }
 
-/// The first index of a network.
-fn first_with(firsts: &Firsts, network: IpCidr) -> Option<usize>
-    ensures { IsUnder firsts.now.rows (any_of network) result }
+/// The index under a key.
+fn index_of<C: NetworkBits + Copy>(table: &ReadyTable<C, usize>, key: &C) -> Option<usize>
+    ensures { IsUnder table.now.rows key.now result }
 {
-    let key = key_of(network);
-    let row = firsts.lookup(&key)?;
-    if is_same(&row.0, &key) {
+    let row = table.lookup(key)?;
+    if is_same(&row.0, key) {
         Some(row.1)
     } else {
         None
     }
 }
 
+/// The index under the longest key that a key is inside and is not all of.
+fn index_around<C: NetworkBits + Copy>(table: &ReadyTable<C, usize>, key: &C) -> Option<usize>
+    ensures { IsRowAround C.bits table.now.rows key.now result }
+{
+    let parent = key.parent()?;
+    let row = table.lookup(&parent)?;
+    Some(row.1)
+}
+
+/// The first index of a network.
+fn first_with(firsts: &Firsts, network: &IpCidr) -> Option<usize>
+    ensures { (networks : List Network) → AreFirsts networks firsts.now → IsFirstAt networks network.now result }
+{
+    match network {
+        IpCidr::V4(network) => index_of(&firsts.v4, network),
+        IpCidr::V6(network) => index_of(&firsts.v6, network),
+    }
+}
+
 /// The first index of the longest network that a network is inside and is not all of.
 fn innermost(firsts: &Firsts, network: &IpCidr) -> Option<usize>
-    ensures { IsInnermostRow firsts.now.rows network.now result }
+    ensures { (networks : List Network) → AreFirsts networks firsts.now → IsAroundAt networks network.now result }
 {
-    let parent = key_of(*network).parent()?;
-    let row = firsts.lookup(&parent)?;
-    Some(row.1)
+    match network {
+        IpCidr::V4(network) => index_around(&firsts.v4, network),
+        IpCidr::V6(network) => index_around(&firsts.v6, network),
+    }
+}
+
+/// The first index of the other half of a network.
+fn other_half(firsts: &Firsts, network: &IpCidr) -> Option<usize>
+    ensures { (networks : List Network) → AreFirsts networks firsts.now → IsHalfAt networks network.now result }
+{
+    let other = network.sibling()?;
+    first_with(firsts, &other)
+}
+
+/// What stands near a network.
+fn near_of(firsts: &Firsts, network: &IpCidr) -> Near
+    ensures { (networks : List Network) → AreFirsts networks firsts.now → IsNear networks network.now result }
+{
+    Near {
+        outer: innermost(firsts, network),
+        half: other_half(firsts, network),
+    }
+}
+
+/// Keeps what stands near a network under its index.
+fn put(near: &mut [Option<Near>], index: usize, one: Near)
+    requires { index < length near.old }
+    ensures { near.new ≡ slice_set near.old index (Some one) }
+{
+    near[index] = Some(one);
+}
+
+/// Keeps what stands near each network of IPv4.
+fn keep_v4(near: &mut [Option<Near>], entries: &[Entry<'_>], firsts: &Firsts)
+    requires firsts { AreFirsts (map entry_network entries.now) firsts.now }
+    requires before { AreNear (map entry_network entries.now) near.old }
+    ensures { AreNear (map entry_network entries.now) near.new }
+{
+    let table = firsts.v4.table();
+    for place in 0..table.len() {
+        let Some(row) = table.row(place) else {
+            return;
+        };
+        put(near, row.1, near_of(firsts, &IpCidr::V4(row.0)));
+    }
+}
+
+/// Keeps what stands near each network of IPv6.
+fn keep_v6(near: &mut [Option<Near>], entries: &[Entry<'_>], firsts: &Firsts)
+    requires firsts { AreFirsts (map entry_network entries.now) firsts.now }
+    requires before { AreNear (map entry_network entries.now) near.old }
+    ensures { AreNear (map entry_network entries.now) near.new }
+{
+    let table = firsts.v6.table();
+    for place in 0..table.len() {
+        let Some(row) = table.row(place) else {
+            return;
+        };
+        put(near, row.1, near_of(firsts, &IpCidr::V6(row.0)));
+    }
+}
+
+/// Keeps what stands near each network.
+fn keep(near: &mut [Option<Near>], entries: &[Entry<'_>], firsts: &Firsts)
+    requires firsts { AreFirsts (map entry_network entries.now) firsts.now }
+    requires before { AreNear (map entry_network entries.now) near.old }
+    ensures { AreNear (map entry_network entries.now) near.new }
+{
+    keep_v4(near, entries, firsts);
+    keep_v6(near, entries, firsts);
+}
+
+/// Nothing kept yet.
+fn none_kept(alloc: Global, count: usize) -> Result<Vec<Option<Near>>, AllocError>
+    ensures { IfOk result (λ near. near.items ≡ replicate count None) }
+{
+    let mut near = Vec::with_capacity(alloc, count)?;
+    for _index in 0..count {
+        near.push(None)?;
+    }
+    Ok(near)
+}
+
+/// Looks the networks of lines up.
+fn look_up(alloc: Global, entries: &[Entry<'_>]) -> Result<LookedUp, AllocError>
+    ensures { IfOk result (λ found. AreLookedUp (map entry_network entries.now) found) }
+{
+    let firsts = firsts_of(alloc, entries)?;
+    let mut near = none_kept(alloc, entries.len())?;
+    keep(&mut near, entries, &firsts);
+    Ok(LookedUp { firsts, near })
+}
+
+/// The first index of the network of a line.
+fn first_at(found: &LookedUp, index: usize, network: &IpCidr) -> Option<usize>
+    requires { index < length found.now.near.items }
+    ensures { (networks : List Network) → AreLookedUp networks found.now → slice_get networks index ≡ Some network.now
+        → IsFirstAt networks network.now result }
+{
+    match found.near[index] {
+        Some(_) => Some(index),
+        None => first_with(&found.firsts, network),
+    }
+}
+
+/// What stands near the network of a line.
+fn near_at(found: &LookedUp, index: usize, network: &IpCidr) -> Near
+    requires { index < length found.now.near.items }
+    ensures { (networks : List Network) → AreLookedUp networks found.now → slice_get networks index ≡ Some network.now
+        → IsNear networks network.now result }
+{
+    match found.near[index] {
+        Some(near) => near,
+        None => near_of(&found.firsts, network),
+    }
+}
+
+/// The first index of the longest network around that of a line.
+fn outer_at(found: &LookedUp, index: usize, network: &IpCidr) -> Option<usize>
+    requires { index < length found.now.near.items }
+    ensures { (networks : List Network) → AreLookedUp networks found.now → slice_get networks index ≡ Some network.now
+        → IsAroundAt networks network.now result }
+{
+    near_at(found, index, network).outer
+}
+
+/// The first index of the other half of the network of a line.
+fn half_at(found: &LookedUp, index: usize, network: &IpCidr) -> Option<usize>
+    requires { index < length found.now.near.items }
+    ensures { (networks : List Network) → AreLookedUp networks found.now → slice_get networks index ≡ Some network.now
+        → IsHalfAt networks network.now result }
+{
+    near_at(found, index, network).half
 }
 
 /// The finding that a bit after the prefix is set.
@@ -131,15 +313,15 @@ fn not_canonical<'a>(entries: &[Entry<'a>], index: usize, entry: &Entry<'a>) -> 
 /// The finding that an earlier line has the same network.
 fn repeats<'a>(
     entries: &[Entry<'a>],
-    firsts: &Firsts,
+    found: &LookedUp,
     index: usize,
     entry: &Entry<'a>,
 ) -> Option<Note<'a>>
-    requires firsts { AreFirsts (map entry_key entries.now) firsts.now.rows }
-    requires within { index < length entries.now }
+    requires found { AreLookedUp (map entry_network entries.now) found.now }
+    requires here { slice_get entries.now index ≡ Some entry.now }
     ensures { IsOnlyNote entries.now index entry.now 2 result }
 {
-    let first = first_with(firsts, entry.host.network())?;
+    let first = first_at(found, index, &entry.host.network())?;
     if first >= index {
         return None;
     }
@@ -153,14 +335,15 @@ fn repeats<'a>(
 /// The finding that the network is inside a longer one.
 fn inside<'a>(
     entries: &[Entry<'a>],
-    firsts: &Firsts,
+    found: &LookedUp,
     index: usize,
     entry: &Entry<'a>,
 ) -> Option<Note<'a>>
-    requires { AreFirsts (map entry_key entries.now) firsts.now.rows }
+    requires found { AreLookedUp (map entry_network entries.now) found.now }
+    requires here { slice_get entries.now index ≡ Some entry.now }
     ensures { IsOnlyNote entries.now index entry.now 3 result }
 {
-    let first = innermost(firsts, &entry.host.network())?;
+    let first = outer_at(found, index, &entry.host.network())?;
     let outer = entry_at(entries, first);
     Some(Note {
         index,
@@ -172,16 +355,15 @@ fn inside<'a>(
 /// The finding that an earlier line has the other half.
 fn mergeable<'a>(
     entries: &[Entry<'a>],
-    firsts: &Firsts,
+    found: &LookedUp,
     index: usize,
     entry: &Entry<'a>,
 ) -> Option<Note<'a>>
-    requires firsts { AreFirsts (map entry_key entries.now) firsts.now.rows }
-    requires within { index < length entries.now }
+    requires found { AreLookedUp (map entry_network entries.now) found.now }
+    requires here { slice_get entries.now index ≡ Some entry.now }
     ensures { IsOnlyNote entries.now index entry.now 4 result }
 {
-    let other = entry.host.network().sibling()?;
-    let first = first_with(firsts, other)?;
+    let first = half_at(found, index, &entry.host.network())?;
     if first >= index {
         return None;
     }
@@ -211,20 +393,20 @@ enum Kind {
 fn find<'a>(
     kind: Kind,
     entries: &[Entry<'a>],
-    firsts: &Firsts,
+    found: &LookedUp,
     index: usize,
     entry: &Entry<'a>,
 ) -> Option<Note<'a>>
-    requires firsts { AreFirsts (map entry_key entries.now) firsts.now.rows }
-    requires within { index < length entries.now }
+    requires found { AreLookedUp (map entry_network entries.now) found.now }
+    requires here { slice_get entries.now index ≡ Some entry.now }
     ensures { IsOnlyNote entries.now index entry.now (kind_rank kind) result }
 {
     match kind {
         Kind::HostBits => host_bits(entries, index, entry),
         Kind::Form => not_canonical(entries, index, entry),
-        Kind::Same => repeats(entries, firsts, index, entry),
-        Kind::Outer => inside(entries, firsts, index, entry),
-        Kind::Half => mergeable(entries, firsts, index, entry),
+        Kind::Same => repeats(entries, found, index, entry),
+        Kind::Outer => inside(entries, found, index, entry),
+        Kind::Half => mergeable(entries, found, index, entry),
     }
 }
 
@@ -232,17 +414,17 @@ fn find<'a>(
 fn add<'a>(
     notes: &mut Vec<Note<'a>>,
     entries: &[Entry<'a>],
-    firsts: &Firsts,
+    found: &LookedUp,
     index: usize,
     kind: Kind,
 ) -> Result<(), AllocError>
-    requires firsts { AreFirsts (map entry_key entries.now) firsts.now.rows }
+    requires found { AreLookedUp (map entry_network entries.now) found.now }
     requires within { index < length entries.now }
     ensures { OnOk result ((bound : ℕ) → bound ≡ index * 5 + kind_rank kind
         → AreNotesBelow entries.now bound notes.old.items → AreNotesBelow entries.now (bound + 1) notes.new.items) }
 {
     let entry = entry_at(entries, index);
-    let Some(note) = find(kind, entries, firsts, index, entry) else {
+    let Some(note) = find(kind, entries, found, index, entry) else {
         return Ok(());
     };
     let Ok(()) = notes.push(note) else {
@@ -255,19 +437,19 @@ fn add<'a>(
 fn add_line<'a>(
     notes: &mut Vec<Note<'a>>,
     entries: &[Entry<'a>],
-    firsts: &Firsts,
+    found: &LookedUp,
     index: usize,
 ) -> Result<(), AllocError>
-    requires firsts { AreFirsts (map entry_key entries.now) firsts.now.rows }
+    requires found { AreLookedUp (map entry_network entries.now) found.now }
     requires within { index < length entries.now }
     requires before { AreNotesBelow entries.now (index * 5) notes.old.items }
     ensures { OnOk result (AreNotesBelow entries.now (index * 5 + 5) notes.new.items) }
 {
-    add(notes, entries, firsts, index, Kind::HostBits)?;
-    add(notes, entries, firsts, index, Kind::Form)?;
-    add(notes, entries, firsts, index, Kind::Same)?;
-    add(notes, entries, firsts, index, Kind::Outer)?;
-    add(notes, entries, firsts, index, Kind::Half)?;
+    add(notes, entries, found, index, Kind::HostBits)?;
+    add(notes, entries, found, index, Kind::Form)?;
+    add(notes, entries, found, index, Kind::Same)?;
+    add(notes, entries, found, index, Kind::Outer)?;
+    add(notes, entries, found, index, Kind::Half)?;
     Ok(())
 }
 
@@ -275,10 +457,10 @@ fn add_line<'a>(
 pub fn findings_of<'a>(alloc: Global, entries: &[Entry<'a>]) -> Result<Vec<Note<'a>>, AllocError>
     ensures { IfOk result (λ notes. AreNotes entries.now notes.items) }
 {
-    let firsts = firsts_of(alloc, entries)?;
+    let found = look_up(alloc, entries)?;
     let mut notes = Vec::new(alloc);
     for index in 0..entries.len() {
-        add_line(&mut notes, entries, &firsts, index)?;
+        add_line(&mut notes, entries, &found, index)?;
     }
     Ok(notes)
 }

@@ -1,17 +1,10 @@
-use Rattle.std.proofs.Common.{sym, ◌∙◌}
-use Rattle.std.proofs.lemmas.Bool.{true≢false}
-use Rattle.netset.proofs.Found.{key_found, key_missed, key_unmatched}
+use Rattle.netset.proofs.Found.{first_v4, first_v6}
 use Rattle.netset.proofs.findings.first_with.Goals as goal
 
-pub returns-in_err-row : goal.returns-in_err-row
-returns-in_err-row c = rw c.from_residual.ensures (key_missed c.args.firsts.now.rows c.args.network c.key_of-key.result c.key_of-key.ensures c.in_err-row.ensures)
+pub returns-in-V4 : goal.returns-in-V4
+returns-in-V4 c networks are =
+    rw c.in-V4.is (first_v4 networks c.args.firsts.now are c.in-V4.network c.index_of.result c.index_of.ensures)
 
-pub returns-then-is_same : goal.returns-then-is_same
-returns-then-is_same c =
-    key_found c.args.firsts.now.rows c.args.network c.key_of-key.result c.key_of-key.ensures c.in_ok-row.row.now (c.is_same.ensures.0 c.if-is_same.true)
-    c.in_ok-row.ensures
-
-pub returns-else-is_same : goal.returns-else-is_same
-returns-else-is_same c =
-    key_unmatched c.args.firsts.now.rows c.args.network c.key_of-key.result c.key_of-key.ensures c.in_ok-row.row.now
-    (λ same. true≢false (sym (c.is_same.ensures.1 same) ∙ c.if-is_same.false)) c.in_ok-row.ensures
+pub returns-in-V6 : goal.returns-in-V6
+returns-in-V6 c networks are =
+    rw c.in-V6.is (first_v6 networks c.args.firsts.now are c.in-V6.network c.index_of-in-V6.result c.index_of-in-V6.ensures)
