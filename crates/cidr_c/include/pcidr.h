@@ -111,7 +111,7 @@ uint32_t pcidr_read_short_network(const char *text, size_t text_len, pcidr_value
 /* Reads a text of networks, one a line, as `pcidr_read_network` does, into the front of `out`. Lines are separated by
  * line feeds; the last one has none behind it, so that a text with one at its end has an empty last line, which is no
  * network. `count` becomes how many lines were read. PCIDR_NO_ROOM, where `out` is full before the text has ended; else
- * the error of line `count`, counted from 0. */
+ * the error of line `count`, counted from 0. What `out` has behind `count` values stays. */
 uint32_t pcidr_read_lines(const char *text, size_t text_len, pcidr_value *out, size_t out_len, size_t *count);
 
 /* ---- values into strings: the length of the string, or 0 for a value that the call does not take
@@ -236,14 +236,14 @@ static inline int pcidr_order(const void *one, const void *other) {
  * A set is the shortest list of networks that has its addresses, ascending, in memory of the caller. Any list of networks
  * is taken for the set of its addresses, in any order; networks may repeat and overlap. */
 
-/* Replaces networks by the set of their addresses: the first `count` of them; what is behind is not specified. Errors:
+/* Replaces networks by the set of their addresses: the first `count` of them; what is behind stays as it was. Errors:
  * NO_MEMORY, NO_VALUE; then all is as it was. Allocates. */
 uint32_t pcidr_cover(pcidr_value *networks, size_t networks_len, size_t *count);
 
 /* The set of the addresses that one list has or the other (union), that both have (intersection), that the first has and
- * the second has not (difference), or that exactly one has (symmetric difference): the first `count` of `out`. Where
- * `out_len` is too small, PCIDR_NO_ROOM, and `count` is how many are needed. Errors: NO_MEMORY, NO_VALUE, NO_ROOM; then
- * `out` is as it was. Allocates. */
+ * the second has not (difference), or that exactly one has (symmetric difference): the first `count` of `out`, and what
+ * is behind them stays. Where `out_len` is too small, PCIDR_NO_ROOM, and `count` is how many networks the set has. Errors:
+ * NO_MEMORY, NO_VALUE, NO_ROOM; then `out` is as it was. Allocates. */
 uint32_t pcidr_union(const pcidr_value *these, size_t these_len, const pcidr_value *those, size_t those_len,
                      pcidr_value *out, size_t out_len, size_t *count);
 uint32_t pcidr_intersection(const pcidr_value *these, size_t these_len, const pcidr_value *those, size_t those_len,
@@ -256,7 +256,7 @@ uint32_t pcidr_symmetric_difference(const pcidr_value *these, size_t these_len, 
 /* The same in place: the first `count` networks of `networks` are replaced by the set of the addresses that they have or
  * the others have (union), that both have (intersection), or that they have and the others have not (difference), and
  * `count` becomes its number of networks. `networks_len` is the room; a `count` above it stands for all of it. What is
- * behind the set is not specified. Errors as above; then `networks` is as it was. Allocates. */
+ * behind the set stays as it was. Errors as above; then `networks` is as it was. Allocates. */
 uint32_t pcidr_union_in_place(pcidr_value *networks, size_t networks_len, size_t *count, const pcidr_value *others,
                               size_t others_len);
 uint32_t pcidr_intersection_in_place(pcidr_value *networks, size_t networks_len, size_t *count,
@@ -265,8 +265,9 @@ uint32_t pcidr_difference_in_place(pcidr_value *networks, size_t networks_len, s
                                    const pcidr_value *others, size_t others_len);
 
 /* For each of the asked networks or addresses, 1 where the list has all of its addresses, and 0 where not, at the same
- * index of `out`. Errors: NO_MEMORY, NO_ROOM, and then `out` is as it was; NO_VALUE, and then what `out` has is not
- * specified. Allocates. */
+ * index of `out`, whose further places stay. Errors: NO_VALUE for a value of the list; then NO_ROOM, and `out` is as it
+ * was; then NO_VALUE for an asked value, and what `out` has at the places of answers is not specified. NO_MEMORY may come
+ * before any answer, and `out` is as it was. Allocates. */
 uint32_t pcidr_contains_each(const pcidr_value *networks, size_t networks_len, const pcidr_value *asked,
                              size_t asked_len, uint8_t *out, size_t out_len);
 
@@ -275,8 +276,7 @@ uint32_t pcidr_contains_each(const pcidr_value *networks, size_t networks_len, c
 
 /* The longest match: for each of the asked networks or addresses the index, in `networks`, of the longest network that it
  * is in, and PCIDR_NO_INDEX where it is in none, at the same index of `out`. The networks may be in any order, which is
- * fastest where they ascend; of a network that repeats the last index counts. Errors: NO_MEMORY, NO_ROOM, and then `out`
- * is as it was; NO_VALUE, and then what `out` has is not specified. Allocates. */
+ * fastest where they ascend; of a network that repeats the last index counts. Errors as above. Allocates. */
 uint32_t pcidr_longest_match_each(const pcidr_value *networks, size_t networks_len, const pcidr_value *asked,
                                   size_t asked_len, size_t *out, size_t out_len);
 

@@ -1,5 +1,5 @@
 -- Asked values that are answered one after another.
-use Rattle.std.proofs.Common.{◌≡◌, ◌≢◌, ℕ, ◌+◌, ◌<◌, ◌≤◌, List, length, get_or, set, slice_get, Some, map, inl, inr, refl, sym, ap, ◌∙◌, arith, subst}
+use Rattle.std.proofs.Common.{◌≡◌, ◌≢◌, ℕ, ◌+◌, ◌<◌, ◌≤◌, List, drop, length, get_or, set, slice_get, Some, map, inl, inr, refl, sym, ap, ◌∙◌, arith, subst}
 use Rattle.std.proofs.lemmas.Bool.{cases_eq, cases_lt}
 use Rattle.std.proofs.lemmas.List.{length-set, get_or-set_same, get_or-set_other}
 use Rattle.std.proofs.lemmas.Option.{get_or_from_slice_get, slice_get_within, slice_get_past, slice_get-get_or}
@@ -52,8 +52,9 @@ all Answers n asked out past first i v found = first i v (omega (arith, past, sl
 
 pub contained : (values asked : List CValue) (set : List AnyIpCidr) (old out : List ℕ) (n : ℕ) → AreNetworks values
     → IsSetOf 129 (Covers (bits_in values)) (map any_bits set) → length asked ≤ n
-    → AreFirst (λ n answer. IsAnswer answer (IsFull 129 (map any_bits set) (any_bits n))) n asked out → AreContained values asked old out 0
-contained values asked set old out n fine is_set past first = record {
+    → AreFirst (λ n answer. IsAnswer answer (IsFull 129 (map any_bits set) (any_bits n))) n asked out
+    → drop (length asked) out ≡ drop (length asked) old → AreContained values asked old out 0
+contained values asked set old out n fine is_set past first behind = record {
   networks = λ _. fine;
   answers = λ _. all (λ n answer. IsAnswer answer (IsFull 129 (bits_in values) (any_bits n))) n asked out past
       (λ i v lt found.
@@ -72,5 +73,6 @@ contained values asked set old out n fine is_set past first = record {
   value = λ z. absurd (omega (arith, z));
   room = λ z. absurd (omega (arith, z));
   codes = inl refl;
+  behind = behind;
   stays = λ h. elim h [ inl z ↦ absurd (omega (arith, z)) | inr z ↦ absurd (omega (arith, z)) ];
 }

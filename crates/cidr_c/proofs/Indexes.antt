@@ -1,5 +1,5 @@
 -- Networks with their indexes, and the longest match among them.
-use Rattle.std.proofs.Common.{◌≡◌, ℕ, zero, suc, ◌+◌, ◌<◌, ◌≤◌, List, [], ◌∷◌, ◌++◌, length, take, get_or, slice_get, Some, map, inl, inr, refl, sym, ap, ◌∙◌, arith, subst}
+use Rattle.std.proofs.Common.{◌≡◌, ℕ, zero, suc, ◌+◌, ◌<◌, ◌≤◌, List, [], ◌∷◌, ◌++◌, drop, length, take, get_or, slice_get, Some, map, inl, inr, refl, sym, ap, ◌∙◌, arith, subst}
 use Rattle.std.specs.List.{Contains}
 use Rattle.std.specs.Map.{keys_of}
 use Rattle.std.proofs.lemmas.Bool.{cases_lt}
@@ -84,8 +84,8 @@ longest_index ns rows asked index last (inr none) = inr (
 
 pub matched : (values asked : List CValue) (rows : List (AnyIpCidr × ℕ)) (old out : List ℕ) (n : ℕ) → AreNetworks values
     → AreIndexed (map network_in values) rows → length asked ≤ n → AreFirst (IsRowIndex rows) n asked out
-    → AreMatched values asked old out 0
-matched values asked rows old out n fine last past first = record {
+    → drop (length asked) out ≡ drop (length asked) old → AreMatched values asked old out 0
+matched values asked rows old out n fine last past first behind = record {
   networks = λ _. fine;
   answers = λ _. all (IsLongestIndex (map network_in values)) n asked out past
       (λ i v lt found.
@@ -94,5 +94,6 @@ matched values asked rows old out n fine last past first = record {
   value = λ z. absurd (omega (arith, z));
   room = λ z. absurd (omega (arith, z));
   codes = inl refl;
+  behind = behind;
   stays = λ h. elim h [ inl z ↦ absurd (omega (arith, z)) | inr z ↦ absurd (omega (arith, z)) ];
 }

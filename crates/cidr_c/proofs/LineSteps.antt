@@ -1,7 +1,7 @@
 -- Lines that are read one after another.
 use Rattle.std.proofs.Common.{rules, ◌≡◌, ◌≢◌, ℕ, ◌+◌, ◌<◌, ◌≤◌, Bool, true, false, List, [], ◌∷◌, ◌++◌, length, take, drop, set, slice_index_or, slice_get, get_or, map, ◌-◌, Some, inl, inr, refl, sym, ap, ◌∙◌, arith, append_assoc, length-append, length-drop, add-one, subst}
 use Rattle.std.specs.List.{AllZip, slice_split, All}
-use Rattle.std.proofs.lemmas.List.{take_more, take_more_set, take-set, append-nil, take-append-drop, length-set, get_or-take, length-take-le}
+use Rattle.std.proofs.lemmas.List.{take_more, take_more_set, take-set, append-nil, take-append-drop, drop-drop, drop-set-lt, length-set, get_or-take, length-take-le, set-get_or}
 use Rattle.std.proofs.lemmas.Grind.{get_or_default_zero}
 use Rattle.std.proofs.lemmas.Bool.{cases_eq}
 use Rattle.std.proofs.lemmas.List.Splits.{slice_split_at, slice_split_none}
@@ -33,9 +33,10 @@ pub record AreSoFar (text rest : List ℕ) (more : Bool) (old : List CValue) (n 
   pub fits : n ≤ length out
   pub kept : length out ≡ length old
   pub said : AllZip Says done (take n out)
+  pub behind : drop n out ≡ drop n old
 
 pub none_yet : (text : List ℕ) (out : List CValue) → AreSoFar text text true out 0 out
-none_yet text out = record { done = []; split = refl; count = refl; fits = omega arith; kept = refl; said = tt }
+none_yet text out = record { done = []; split = refl; count = refl; fits = omega arith; kept = refl; said = tt; behind = refl }
 
 left_behind : (rest line behind : List ℕ) (more : Bool) → IsFirstLine rest line behind more → lines_of rest ≡ line ∷ lines_left behind more
 left_behind rest line behind true first = first.0
@@ -83,6 +84,9 @@ module _ (text rest : List ℕ) (old : List CValue) (n : ℕ) (out : List CValue
         fits = omega (arith, same, fits);
         kept = same ∙ so_far.kept;
         said = subst (AllZip Says (so_far.done ++ line ∷ [])) (sym (ap (take (n + 1)) is ∙ take_more_set out n value fits)) (says_more so_far.done (take n out) line value so_far.said (read.value ok));
+        behind =
+            ap (drop (n + 1)) is ∙ (drop-set-lt (n + 1) out n value (omega arith)
+            ∙ (sym (drop-drop 1 n out) ∙ (ap (drop 1) so_far.behind ∙ drop-drop 1 n old)));
       }
 
   -- a line in error, or no more room
@@ -90,6 +94,7 @@ module _ (text rest : List ℕ) (old : List CValue) (n : ℕ) (out : List CValue
   stopped new code other (inl (past, full, same)) = record {
     fits = omega (arith, so_far.fits, so_far.kept);
     said = said_so_far new (ap (take n) same);
+    behind = ap (drop n) same ∙ so_far.behind;
     all = λ z. absurd (other z);
     room = λ _. (omega (arith, so_far.fits, so_far.kept, past), rw next_split (omega (arith, so_far.count, length-append so_far.done (line ∷ lines_left behind more))));
     error = λ _ none. absurd (none full);
@@ -97,6 +102,7 @@ module _ (text rest : List ℕ) (old : List CValue) (n : ℕ) (out : List CValue
   stopped new code other (inr (fits, value, is, read)) = record {
     fits = omega (arith, so_far.fits, so_far.kept);
     said = said_so_far new (ap (take n) is ∙ take-set out n value);
+    behind = ap (drop n) (is ∙ (ap (set out n) (read.stays other) ∙ set-get_or out n value)) ∙ so_far.behind;
     all = λ z. absurd (other z);
     room = λ full. let (e, is_code, _) = read.error (omega (arith, full)) in absurd (omega (arith, full, is_code, below_room e));
     error = λ _ _. (
@@ -114,6 +120,7 @@ all_read text rest old n out so_far =
       fits = omega (arith, so_far.fits, so_far.kept);
       said = subst (λ (t : List (List ℕ)). AllZip Says t (take n out))
           (sym (ap (take n) all ∙ (ap (λ (k : ℕ). take k so_far.done) so_far.count ∙ take-length so_far.done))) so_far.said;
+      behind = so_far.behind;
       all = λ _. rw all so_far.count;
       room = λ z. absurd (omega (arith, z));
       error = λ other _. absurd (other refl);

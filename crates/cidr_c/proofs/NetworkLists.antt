@@ -1,5 +1,5 @@
 -- Sets and lists of networks as C has them.
-use Rattle.std.proofs.Common.{◌≡◌, ◌↔◌, ◌⊎◌, ℕ, ◌+◌, ◌<◌, ◌≤◌, Bool, List, [], ◌∷◌, ◌++◌, length, map, take, get_or, Result, Ok, Err, inl, inr, refl, sym, ap, ◌∙◌, arith, suc, zero}
+use Rattle.std.proofs.Common.{◌≡◌, ◌↔◌, ◌⊎◌, ℕ, ◌+◌, ◌<◌, ◌≤◌, Bool, List, [], ◌∷◌, ◌++◌, length, map, drop, take, get_or, Result, Ok, Err, inl, inr, refl, sym, ap, ◌∙◌, arith, suc, zero}
 use Rattle.std.specs.Prelude.{IfOk}
 use Rattle.std.proofs.lemmas.List.{take_more, map-append, length-map}
 use Rattle.std.proofs.lemmas.Simd.{map-map}
@@ -39,12 +39,13 @@ set_read vs ns set fine e is_set fits = (fine, rw (← bits_of vs ns e) is_set, 
 pub left : (old new : List CValue) (set shown : List AnyIpCidr) (count n : ℕ) → shown ≡ set → n ≡ length set
     → AreNetworks old × IsSetOf 129 (Covers (bits_in old)) (map any_bits set) × (length set ≤ length old)
     → AreNetworks (take (length shown) new) → map network_in (take (length shown) new) ≡ shown
-    → IsLeft (IsSetOf 129 (Covers (bits_in old))) old new count n 0
-left old new set shown count n same is read fine put = record {
+    → drop (length shown) new ≡ drop (length shown) old → IsLeft (IsSetOf 129 (Covers (bits_in old))) old new count n 0
+left old new set shown count n same is read fine put behind = record {
   networks = λ _. read.0;
   fits = λ _. rw is read.2;
   left = λ _. rw (is, ← same) fine;
   holds = λ _. rw (is, ← same, ← bits_of (take (length shown) new) shown (sym put), same) read.1;
+  behind = λ _. rw (is, ← same) behind;
   value = λ z. absurd (omega (arith, z));
   codes = inl refl;
   stays = λ other. absurd (other refl);
@@ -115,6 +116,7 @@ delivered these those Holds (Ok set) old new count n code fine holds (inl done) 
   fits = λ _. rw done.1 done.2;
   left = λ _. done.3;
   holds = λ _. rw (← bits_of (take n new) set (sym done.4)) holds;
+  behind = λ _. done.5;
   value = λ z. absurd (omega (arith, z, done.0));
   room = λ z. absurd (omega (arith, z, done.0));
   codes = inl done.0;
@@ -126,8 +128,9 @@ delivered these those Holds (Ok set) old new count n code fine holds (inr short)
   fits = λ z. absurd (omega (arith, z, short.0));
   left = λ z. absurd (omega (arith, z, short.0));
   holds = λ z. absurd (omega (arith, z, short.0));
+  behind = λ z. absurd (omega (arith, z, short.0));
   value = λ z. absurd (omega (arith, z, short.0));
-  room = λ _. rw short.1 short.2;
+  room = λ _. (rw short.1 short.2, map any_bits set, holds, short.1 ∙ sym (length-map set any_bits));
   codes = inr (inr (inl short.0));
   stays = λ _. short.3;
   count_stays = λ _ other. absurd (other short.0);
@@ -137,6 +140,7 @@ delivered these those Holds (Err e) old new count n code fine holds none = recor
   fits = λ z. absurd (omega (arith, z, none.0));
   left = λ z. absurd (omega (arith, z, none.0));
   holds = λ z. absurd (omega (arith, z, none.0));
+  behind = λ z. absurd (omega (arith, z, none.0));
   value = λ z. absurd (omega (arith, z, none.0));
   room = λ z. absurd (omega (arith, z, none.0));
   codes = inr (inr (inr none.0));

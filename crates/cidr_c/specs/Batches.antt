@@ -1,5 +1,5 @@
 -- What calls on many values return and leave.
-use Rattle.std.specs.Prelude.{◌≡◌, ◌≢◌, ◌⊎◌, ℕ, ◌<◌, ◌≤◌, Bool, List, All, map, length, take, Result, Ok, Err}
+use Rattle.std.specs.Prelude.{◌≡◌, ◌≢◌, ◌⊎◌, ℕ, ◌<◌, ◌≤◌, Bool, List, All, drop, map, length, take, Result, Ok, Err}
 use Rattle.cidr.specs.either.IpNetwork.{any_bits}
 use Rattle.cidr.specs.declared.cidr.any.AnyIpCidr.{AnyIpCidr}
 use Rattle.cidr_table.specs.Cover.{Covers}
@@ -16,19 +16,21 @@ AreNetworks values = All IsNetwork values
 abbrev pub bits_in : List CValue → List (List Bool)
 bits_in values = map (λ v. any_bits (network_in v)) values
 
--- what is left of the caller's networks: the first `count` of them are networks for which Holds is true; or there is an
--- error, and all is as it was
+-- what is left of the caller's networks: the first `count` of them are networks for which Holds is true, and what is
+-- behind them stays; or there is an error, and all is as it was
 pub record IsLeft (Holds : List (List Bool) → Type 0) (old new : List CValue) (count count_new : ℕ) (code : ℕ) : Type 0 where
   pub networks : code ≡ 0 → AreNetworks old
   pub fits : code ≡ 0 → count_new ≤ length old
   pub left : code ≡ 0 → AreNetworks (take count_new new)
   pub holds : code ≡ 0 → Holds (bits_in (take count_new new))
+  pub behind : code ≡ 0 → drop count_new new ≡ drop count_new old
   pub value : code ≡ no_value → ¬ (AreNetworks old)
   pub codes : (code ≡ 0) ⊎ ((code ≡ no_value) ⊎ (code ≡ no_memory))
   pub stays : code ≢ 0 → (new ≡ old) × (count_new ≡ count)
 
 -- the set of two lists of networks in the caller's room, of which the first `count` are networks for which Holds is true;
--- or there is an error, and the room is as it was. Where there is too little of it, the count tells how much is needed
+-- and what is behind them stays; or there is an error, and the room is as it was. Where there is too little of it, the
+-- count tells how many networks the set has
 pub record IsPut (these those : List CValue) (Holds : List (List Bool) → Type 0) (old new : List CValue) (count count_new : ℕ)
     (code : ℕ) : Type 0 where
   pub networks : code ≡ 0 → AreNetworks these × AreNetworks those
@@ -36,7 +38,8 @@ pub record IsPut (these those : List CValue) (Holds : List (List Bool) → Type 
   pub left : code ≡ 0 → AreNetworks (take count_new new)
   pub holds : code ≡ 0 → Holds (bits_in (take count_new new))
   pub value : code ≡ no_value → ¬ (AreNetworks these × AreNetworks those)
-  pub room : code ≡ no_room → length old < count_new
+  pub behind : code ≡ 0 → drop count_new new ≡ drop count_new old
+  pub room : code ≡ no_room → (length old < count_new) × (set : List (List Bool)) × Holds set × (count_new ≡ length set)
   pub codes : (code ≡ 0) ⊎ ((code ≡ no_value) ⊎ ((code ≡ no_room) ⊎ (code ≡ no_memory)))
   pub stays : code ≢ 0 → new ≡ old
   pub count_stays : code ≢ 0 → code ≢ no_room → count_new ≡ count
@@ -56,6 +59,6 @@ AreSetsRead these those (Err code) = ((code ≡ no_value) × ¬ (AreNetworks the
 abbrev pub IsDelivered : {E : Type 0} → Result (List AnyIpCidr) E → List CValue → List CValue → ℕ → ℕ → ℕ → Type 0
 IsDelivered (Ok set) old new count count_new code =
     ((code ≡ 0) × (count_new ≡ length set) × (length set ≤ length old) × AreNetworks (take count_new new)
-    × (map network_in (take count_new new) ≡ set))
+    × (map network_in (take count_new new) ≡ set) × (drop count_new new ≡ drop count_new old))
     ⊎ ((code ≡ no_room) × (count_new ≡ length set) × (length old < length set) × (new ≡ old))
 IsDelivered (Err e) old new count count_new code = (code ≡ no_memory) × (new ≡ old) × (count_new ≡ count)

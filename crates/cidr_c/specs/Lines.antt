@@ -1,5 +1,5 @@
 -- Texts of networks, one a line.
-use Rattle.std.specs.Prelude.{◌≡◌, ◌≢◌, ◌⊎◌, ℕ, ◌<◌, ◌≤◌, ◌==◌, Bool, List, [], ◌∷◌, ◌++◌, length, take, flat_map, slice_get, slice_index_or, Some, set, true, false, Ok, Err, IsUtf8}
+use Rattle.std.specs.Prelude.{◌≡◌, ◌≢◌, ◌⊎◌, ℕ, ◌*◌, ◌<◌, ◌≤◌, ◌==◌, Bool, List, [], ◌∷◌, ◌++◌, drop, length, take, flat_map, slice_get, slice_index_or, Some, set, true, false, Ok, Err, IsUtf8}
 use Rattle.std.specs.List.{AllZip, slice_split}
 use Rattle.cidr.specs.either.IpText.{ReadsAnyNetwork, any_network_text}
 use Rattle.cidr.specs.texts.Printed.{plain_text}
@@ -38,10 +38,12 @@ IsLineRead line place old new code =
     ⊎ ((place < length old) × (value : CValue) × (new ≡ set old place value)
     × IsRead ReadsAnyNetwork parse_code IsNetwork network_in line (slice_index_or old place value) value code)
 
--- the first `count` lines of a text are read: all of them, or else the next one is in error, or the room is full
+-- the first `count` lines of a text are read: all of them, or else the next one is in error, or the room is full; what is
+-- behind their networks stays
 pub record AreLinesRead (text : List ℕ) (old new : List CValue) (count code : ℕ) : Type 0 where
   pub fits : count ≤ length old
   pub said : AllZip Says (take count (lines_of text)) (take count new)
+  pub behind : drop count new ≡ drop count old
   pub all : code ≡ 0 → count ≡ length (lines_of text)
   pub room : code ≡ no_room → (count ≡ length old) × (count < length (lines_of text))
   pub error : code ≢ 0 → code ≢ no_room → (line : List ℕ) × (slice_get (lines_of text) count ≡ Some line) × IsInError line code
@@ -50,10 +52,12 @@ pub record AreLinesRead (text : List ℕ) (old new : List CValue) (count code : 
 abbrev pub lines_in : List CValue → List ℕ
 lines_in values = flat_map (λ v. any_network_text plain_text (network_in v) ++ 10 ∷ []) values
 
--- it is there, and `count` is how many bytes it has; or there is an error, and `count` stays
+-- it is there, and `count` is how many bytes it has; or there is an error, and `count` stays. There is room for it where
+-- there are 44 bytes for each network
 pub record AreLinesPrinted (values : List CValue) (new : List ℕ) (count count_new code : ℕ) : Type 0 where
   pub networks : code ≡ 0 → AreNetworks values
   pub text : code ≡ 0 → (count_new ≤ length new) × (take count_new new ≡ lines_in values)
   pub value : code ≡ no_value → ¬ (AreNetworks values)
+  pub room : 44 * length values ≤ length new → code ≢ no_room
   pub codes : (code ≡ 0) ⊎ ((code ≡ no_value) ⊎ (code ≡ no_room))
   pub stays : code ≢ 0 → count_new ≡ count

@@ -1,5 +1,5 @@
 -- Look-ups of many networks.
-use Rattle.std.specs.Prelude.{◌≡◌, ◌≢◌, ◌<◌, ◌⊎◌, ℕ, ◌-◌, ◌^◌, List, length, map, slice_get, Some, None}
+use Rattle.std.specs.Prelude.{◌≡◌, ◌≢◌, ◌<◌, ◌≤◌, ◌⊎◌, ℕ, ◌-◌, ◌^◌, List, drop, length, map, slice_get, Some, None}
 use Rattle.cidr.specs.either.IpNetwork.{any_bits}
 use Rattle.cidr.specs.declared.cidr.any.AnyIpCidr.{AnyIpCidr}
 use Rattle.cidr_table.specs.Cover.{IsFull}
@@ -18,14 +18,16 @@ AreAnswered Answers asked out =
     (i : ℕ) (v : CValue) → slice_get asked i ≡ Some v
     → IsNetwork v × (answer : ℕ) × (slice_get out i ≡ Some answer) × Answers (network_in v) answer
 
--- where there is no error, each asked value has its answer; when each error comes, and for which of them nothing is
--- written
+-- where there is no error, each asked value has its answer; when each error comes: first for a value that is no network,
+-- then for too little room, then for an asked value; for which of them nothing is written; and what is behind the answers
+-- stays
 pub record AreAllAnswered (Answers : AnyIpCidr → ℕ → Type 0) (values asked : List CValue) (old out : List ℕ) (code : ℕ) : Type 0 where
   pub networks : code ≡ 0 → AreNetworks values
   pub answers : code ≡ 0 → AreAnswered Answers asked out
-  pub value : code ≡ no_value → ¬ (AreNetworks values × AreNetworks asked)
-  pub room : code ≡ no_room → length out < length asked
+  pub value : code ≡ no_value → ¬ (AreNetworks values) ⊎ ((length asked ≤ length out) × ¬ (AreNetworks asked))
+  pub room : code ≡ no_room → AreNetworks values × (length out < length asked)
   pub codes : (code ≡ 0) ⊎ ((code ≡ no_value) ⊎ ((code ≡ no_room) ⊎ (code ≡ no_memory)))
+  pub behind : drop (length asked) out ≡ drop (length asked) old
   pub stays : (code ≡ no_room) ⊎ (code ≡ no_memory) → out ≡ old
 
 -- each answer is whether all addresses of the asked network are in the networks

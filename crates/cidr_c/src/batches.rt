@@ -1,5 +1,5 @@
 //! Many networks at once.
-ghost use Rattle.std.specs.Prelude.{◌≡◌, ◌⊎◌, ◌≤◌, length, map, take, MatchResult};
+ghost use Rattle.std.specs.Prelude.{◌≡◌, ◌⊎◌, ◌≤◌, drop, length, map, take, MatchResult};
 ghost use Rattle.cidr_c.specs.Batches.{AreNetworks};
 ghost use Rattle.cidr_c.specs.Codes.{no_memory, no_value};
 ghost use Rattle.cidr_c.specs.Values.{network_in};
@@ -34,6 +34,7 @@ pub fn put(networks: &[AnyIpCidr], out: &mut [CValue])
     requires { length networks.now ≤ length out.old }
     ensures networks { AreNetworks (take (length networks.now) out.new) }
     ensures values { map network_in (take (length networks.now) out.new) ≡ networks.now }
+    ensures behind { drop (length networks.now) out.new ≡ drop (length networks.now) out.old }
 {
     for i in 0..networks.len() {
         put_network(&networks[i], &mut out[i]);

@@ -1,5 +1,5 @@
 //! Texts of networks, one a line.
-ghost use Rattle.std.specs.Prelude.{◌≡◌, ◌≤◌, ◌++◌, ◌∷◌, [], length, take, MatchOption};
+ghost use Rattle.std.specs.Prelude.{◌≡◌, ◌+◌, ◌≤◌, ◌++◌, ◌∷◌, [], length, take, MatchOption};
 ghost use Rattle.cidr_c.specs.Lines.{AreLinesPrinted, AreLinesRead, IsFirstLine, IsLineRead};
 
 use crate::codes::{NO_ROOM, NO_VALUE, OK};
@@ -76,8 +76,10 @@ pub extern "C" fn pcidr_print_lines(networks: &[CValue], out: &mut [u8], count: 
 /// Writes a string and a line feed from a place on, if there is room for both, and returns where they end.
 fn print_line(text: &str, out: &mut [u8], at: usize) -> Option<usize>
     requires { at ≤ length out.old }
-    ensures { MatchOption result (out.new ≡ out.old) (λ end. (end ≤ length out.new)
+    ensures line { MatchOption result (out.new ≡ out.old) (λ end. (end ≤ length out.new)
         × (take end out.new ≡ take at out.old ++ (text.now ++ 10 ∷ []))) }
+    ensures room { MatchOption result (length out.old ≤ at + length text.now) (λ end. end ≡ at + length text.now + 1) }
+    ensures size { length out.new ≡ length out.old }
 {
     let bytes = text.as_bytes();
     if out.len() - at <= bytes.len() {

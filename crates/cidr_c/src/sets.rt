@@ -24,7 +24,7 @@ pub fn set_of(alloc: Global, values: &[CValue]) -> Result<NetworkSet<AnyIpCidr>,
 }
 
 /// Replaces networks, in any order, by the shortest list of networks with the same addresses, ascending: the first
-/// `count` of the slice. What is behind them is not specified.
+/// `count` of the slice. What is behind them stays as it was.
 ///
 /// It allocates, and puts the networks in order: O(n log n).
 #[unsafe(no_mangle)]

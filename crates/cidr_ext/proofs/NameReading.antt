@@ -1,5 +1,5 @@
 -- The name of a network: labels, the domain and perhaps a dot.
-use Rattle.std.proofs.Common.{◌≡◌, ◌≢◌, ℕ, ◌+◌, ◌-◌, ◌/◌, ◌^◌, ◌<◌, ◌≤◌, Bool, List, [], ◌∷◌, ◌++◌, length, take, drop, map, reverse, codes, refl, sym, ap, ap₂, ◌∙◌, arith, inl, inr, Option, Some, None, IfSome, append_assoc, length-append, take-append-drop, drop_at}
+use Rattle.std.proofs.Common.{◌≡◌, ◌≢◌, ℕ, ◌+◌, ◌-◌, ◌/◌, ◌%◌, ◌^◌, ◌<◌, ◌≤◌, Bool, List, [], ◌∷◌, ◌++◌, length, take, drop, map, reverse, codes, refl, sym, ap, ap₂, ◌∙◌, arith, inl, inr, Option, Some, None, IfSome, append_assoc, length-append, take-append-drop, drop_at, subst}
 use Rattle.std.proofs.lemmas.List.{append_cancel_right, length-map, map-append, drop-map}
 use Rattle.std.specs.Char.{to_ascii_lowercase}
 use Rattle.cidr.specs.model.Bits.{bits, number}
@@ -8,7 +8,7 @@ use Rattle.cidr.specs.laws.BitLaws.{length-bits}
 use Rattle.cidr.specs.texts.Ipv4Text.{dot}
 use Rattle.cidr.specs.declared.family.Family.{Family}
 use Rattle.cidr.specs.declared.family.Family.TheVariants.{Ipv4, Ipv6}
-use Rattle.cidr_ext.specs.Reverse.{domain_of, label_width, labels_of, labels_text, reverse_text, EndsAtLabel, IsSameName, IsReverseName}
+use Rattle.cidr_ext.specs.Reverse.{domain_of, label_width, labels_of, labels_text, reverse_text, EndsAtLabel, IsSameName, IsReverseAddressName, IsReverseName}
 use Rattle.cidr_ext.specs.LabelReading.{HasName, IsNamedBy, IsWithoutDot}
 use Rattle.cidr_ext.proofs.Labels.{exact}
 use Rattle.cidr_ext.proofs.LabelReading.{lower_labels}
@@ -151,3 +151,8 @@ printed_named f p within ends =
           (map-append to_ascii_lowercase labels (domain_of f)
           ∙ ap₂ (λ x y. x ++ y) (lower_labels f (length p / label_width f) p (exact f (length p) ends)) (lower_domain f)),
     )
+
+-- a printed name is the name of its address
+pub printed_address_named : (f : Family) (a : List Bool) → length a ≡ width_of f → IsReverseAddressName f (reverse_text f a) a
+printed_address_named Ipv4 a w = (w, (printed_named Ipv4 a (omega (arith, w)) (subst (λ n. n % 8 ≡ 0) (sym w) refl)).2)
+printed_address_named Ipv6 a w = (w, (printed_named Ipv6 a (omega (arith, w)) (subst (λ n. n % 4 ≡ 0) (sym w) refl)).2)

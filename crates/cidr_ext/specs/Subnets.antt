@@ -1,7 +1,8 @@
 -- The networks of one prefix length inside a network, by their index in ascending order.
 use Rattle.std.specs.Prelude.{◌≡◌, ℕ, ◌+◌, ◌-◌, ◌^◌, ◌<◌, ◌≤◌, ◌⊎◌, ◌↔◌, Bool, List, [], ◌++◌, length, map, Option, Some, None}
-use Rattle.std.specs.List.{Contains, range_with_len}
-use Rattle.cidr.specs.model.Bits.{bits, number}
+use Rattle.std.specs.List.{Contains, range_with_len, slice_get}
+use Rattle.std.specs.declared.cmp.Ordering.TheVariants.{Less}
+use Rattle.cidr.specs.model.Bits.{bit_cmp, bits, number}
 use Rattle.cidr.specs.model.Network.{BeginsWith}
 use Rattle.cidr.specs.declared.family.Family.{Family}
 
@@ -36,6 +37,11 @@ subnets_left family network n (Some (first, last)) = subnets_from family network
 abbrev pub HasExactlySubnets : Family → List Bool → ℕ → List (Family × List Bool) → Type 0
 HasExactlySubnets family network n inner =
     (q : Family × List Bool) → Contains inner q ↔ ((q.0 ≡ family) × (length q.1 ≡ n) × BeginsWith q.1 network)
+
+-- of two networks the one with the lower index comes first, so that none comes twice
+abbrev pub AscendEachOnce : List (Family × List Bool) → Type 0
+AscendEachOnce inner = (i j : ℕ) (p q : Family × List Bool) → i < j → slice_get inner i ≡ Some p → slice_get inner j ≡ Some q
+    → bit_cmp p.1 q.1 ≡ Less
 
 -- how many indexes there are from one to another
 abbrev pub count_of : Option (ℕ × ℕ) → ℕ

@@ -4,6 +4,7 @@ use Rattle.std.proofs.lemmas.Bool.{cases_lt, false≢true}
 use Rattle.std.proofs.lemmas.List.{get_or_default, get_or-take, length-take, take_more, drop_more, drop_all, get_or_push, get_or_append_left, length_push}
 use Rattle.std.proofs.lemmas.List.Elements.{Contains-push, Contains-push_cases, Contains-append_left}
 use Rattle.std.proofs.lemmas.Option.{none-some, same_Some, slice_get_within, get_or_from_slice_get}
+use Rattle.std.specs.Bool.{Decides}
 use Rattle.std.specs.List.{Contains, slice_get}
 use Rattle.std.specs.List.Sorted.{IsStrictlyIncreasing}
 use Rattle.cidr.specs.model.Network.{BeginsWith}
@@ -100,6 +101,57 @@ module _ (p : List Bool) (ps : List (List Bool)) (a : List Bool) where
       λ h. (suc h.0.0, first_behind h.0.0 h.1 h.0.1, h.0.2),
       λ h. denies_first h.0 h.1 h.2,
     )
+
+-- ---- the first rule of those that are left
+decided_first : (p : List Bool) (ps : List (List Bool)) (a : List Bool) (acts : List Action) (b : Action) → BeginsWith a p
+    → IsPermitted (p ∷ ps) (b ∷ acts) a ↔ (b ≡ Permit)
+unfolding is_permit
+decided_first p ps a acts Permit begins = (λ h. refl, λ e. (permits_more p ps a acts).0 (inr begins))
+decided_first p ps a acts Deny begins =
+    (λ h. absurd (((denies_more p ps a acts).1 h).1 begins), λ e. absurd (false≢true (ap is_permit e)))
+
+passed_first : (p : List Bool) (ps : List (List Bool)) (a : List Bool) (acts : List Action) (b : Action) → ¬ (BeginsWith a p)
+    → IsPermitted (p ∷ ps) (b ∷ acts) a ↔ IsPermitted ps acts a
+passed_first p ps a acts Permit none = (
+  λ h. elim ((permits_more p ps a acts).1 h) [ inl d ↦ d | inr b ↦ absurd (none b) ],
+  λ h. (permits_more p ps a acts).0 (inl h),
+)
+passed_first p ps a acts Deny none = (λ h. ((denies_more p ps a acts).1 h).0, λ h. (denies_more p ps a acts).0 (h, none))
+
+module _ {R : Type 0} (f : R → List Bool) (act : R → Action) (xs : List R) (a : List Bool) where
+  -- the rules from i on decide the address
+  abbrev pub AreLeftToDecide : ℕ → Type 0
+  AreLeftToDecide i = IsPermitted (map f xs) (map act xs) a ↔ IsPermitted (map f (drop i xs)) (map act (drop i xs)) a
+
+  pub all_left : AreLeftToDecide 0
+  all_left = (λ h. h, λ h. h)
+
+  module _ (i : ℕ) (left : AreLeftToDecide i) where
+    pub none_left : length xs ≤ i → Decides false (IsPermitted (map f xs) (map act xs) a)
+    none_left past = (
+      λ e. absurd (false≢true e),
+      λ h.
+          let k = subst (λ ys. IsPermitted (map f ys) (map act ys) a) (drop_all i xs past) (left.0 h) in
+          absurd (none-some k.1.0.0 k.1.0.1),
+    )
+
+    module _ (r : R) (here : i < length xs) (is : r ≡ get_or xs i r) where
+      rules_left : drop i xs ≡ r ∷ drop (i + 1) xs
+      rules_left = drop_more xs i r here ∙ ap (λ x. x ∷ drop (i + 1) xs) (sym is)
+
+      pub one_decides : (b : Bool) → BeginsWith a (f r) → Decides b (act r ≡ Permit) → Decides b (IsPermitted (map f xs) (map act xs) a)
+      one_decides b begins is_permit =
+          let first = decided_first (f r) (map f (drop (i + 1) xs)) a (map act (drop (i + 1) xs)) (act r) begins in (
+            λ t. left.1 (subst (λ ys. IsPermitted (map f ys) (map act ys) a) (sym rules_left) (first.1 (is_permit.0 t))),
+            λ h. is_permit.1 (first.0 (subst (λ ys. IsPermitted (map f ys) (map act ys) a) rules_left (left.0 h))),
+          )
+
+      pub one_passes : ¬ (BeginsWith a (f r)) → AreLeftToDecide (i + 1)
+      one_passes none =
+          let first = passed_first (f r) (map f (drop (i + 1) xs)) a (map act (drop (i + 1) xs)) (act r) none in (
+            λ h. first.0 (subst (λ ys. IsPermitted (map f ys) (map act ys) a) rules_left (left.0 h)),
+            λ h. left.1 (subst (λ ys. IsPermitted (map f ys) (map act ys) a) (sym rules_left) (first.1 h)),
+          )
 
 -- ---- the set of the permitted addresses, from the last rule to the first
 one_covers : (p a : List Bool) → Covers (p ∷ []) a ↔ BeginsWith a p

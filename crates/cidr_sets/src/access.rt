@@ -1,12 +1,15 @@
 //! Access lists: rules in order, each of which permits or denies the addresses of a network.
 ghost use Rattle.std.specs.Prelude.{◌≡◌, ◌↔◌, ◌<◌, ℕ, Bool, List, length, map, Contains, IfOk, Some};
+ghost use Rattle.std.specs.Bool.{Decides};
 ghost use Rattle.std.specs.List.{All, slice_get};
 ghost use Rattle.std.specs.List.Sorted.{IsStrictlyIncreasing};
 ghost use Rattle.cidr.specs.model.Network.{BeginsWith};
 ghost use Rattle.cidr_sets.specs.Sets.{IsSetOf};
 ghost use Rattle.cidr_sets.specs.FirstRules.{IsFirst, IsPermitted, IsDeciding, AreDecidingRules, IsShadowed};
 ghost use Rattle.cidr_sets.specs.declared.access.Action.{Action};
+ghost use Rattle.cidr_sets.specs.declared.access.Action.TheVariants.{Permit};
 
+use crate::search::is_inside;
 use crate::set::NetworkSet;
 use cidr::NetworkBits;
 use std::alloc::{AllocError, Global};
@@ -27,6 +30,38 @@ pub struct Rule<C: NetworkBits + Copy> {
     pub action: Action,
     /// The network.
     pub network: C,
+}
+
+/// Whether an access list permits an address, which is given as the network of full prefix length. The first rule whose
+/// network contains it decides; an address in none of the networks is denied.
+///
+/// It goes through the rules up to the one that decides, and takes no memory. For many addresses take the set that
+/// [`permitted`] returns.
+///
+/// ```
+/// permits(&rules, &"10.128.0.1".parse()?) // true
+/// permits(&rules, &"10.0.0.1".parse()?) // false
+/// ```
+pub fn permits<C: NetworkBits + Copy>(rules: &[Rule<C>], address: &C) -> bool
+    ensures { Decides result (IsPermitted (map (λ r. C.bits r.network) rules.now) (map (λ r. r.action) rules.now)
+        (C.bits address.now)) }
+{
+    for rule in rules {
+        if is_inside(address, &rule.network) {
+            return is_permit(rule.action);
+        }
+    }
+    false
+}
+
+/// Whether the addresses are permitted.
+fn is_permit(action: Action) -> bool
+    ensures { Decides result (action ≡ Permit) }
+{
+    match action {
+        Action::Permit => true,
+        Action::Deny => false,
+    }
 }
 
 /// The addresses that an access list permits.

@@ -15,6 +15,7 @@ pub mod PrefixLists
 pub mod Merging
 pub mod LastRows
 pub mod LastPlaces
+pub mod OneResult
 -- The lemmas of the least cover.
 pub mod Halves
 pub mod Containing

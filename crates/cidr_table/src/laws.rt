@@ -3,3 +3,4 @@
 
 pub mod covers;
 pub mod loading;
+pub mod look_ups;

@@ -151,7 +151,7 @@ impl<C: NetworkBits + Copy, V> LpmTable<C, V> {
     ///
     /// A new key shifts the rows after it, O(n), and allocates where there is no room for one more row, see `capacity`.
     /// Where an allocation fails, it returns the key and the value as the error and the rows are as they were.
-    /// Replacing a value never fails.
+    /// Replacing a value never fails and takes no memory.
     ///
     /// ```
     /// let mut routes = LpmTable::<Ipv4Cidr, u32>::new(rt.alloc());
@@ -165,6 +165,8 @@ impl<C: NetworkBits + Copy, V> LpmTable<C, V> {
         ensures unchanged { OnErr result (self.new.rows ≡ self.old.rows) }
         ensures present { Contains (keys_of self.old.rows) key → IsOk result }
         ensures room { length self.old.rows < self.old.capacity → IsOk result }
+        ensures kept { Contains (keys_of self.old.rows) key → self.new.capacity ≡ self.old.capacity }
+        ensures enough { length self.old.rows < self.old.capacity → self.new.capacity ≡ self.old.capacity }
         ensures capacity { self.old.capacity ≤ self.new.capacity }
         ensures sorted { IsStrictlySortedBy C.cmp (keys_of self.new.rows) }
     {

@@ -17,3 +17,5 @@ pub mod Routes
 pub mod RouteHits
 pub mod StrictParsers
 pub mod WalkCalls
+pub mod Differences
+pub mod SubnetParts

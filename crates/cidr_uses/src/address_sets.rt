@@ -1,5 +1,5 @@
 //! Sets of addresses: what is left of a pool, and laws of sets as callers see them.
-ghost use Rattle.std.specs.Prelude.{◌≡◌, ◌+◌, ◌≤◌, [], true, length, map, IfOk};
+ghost use Rattle.std.specs.Prelude.{◌≡◌, ◌+◌, ◌≤◌, [], true, length, map, IfOk, IfSome};
 ghost use Rattle.std.specs.Bool.{Decides};
 ghost use Rattle.std.specs.Option.{option_map};
 ghost use Rattle.cidr_table.specs.Cover.{Covers, IsReduced};
@@ -61,4 +61,44 @@ pub fn unions_are_equal<C: NetworkBits + Copy>(
     let union = set.union(other)?;
     let turned = other.union(set)?;
     Ok(union == turned)
+}
+
+/// What the union of two sets has that the second has not, which is what the first has that the second has not: whether
+/// both are equal, which they are.
+pub fn union_minus_other_is_difference<C: NetworkBits + Copy>(
+    set: &NetworkSet<C>,
+    other: &NetworkSet<C>,
+) -> Result<bool, AllocError>
+    ensures { IfOk result (λ same. same ≡ true) }
+{
+    equal_sets_are_equal_lists();
+    equal_sets_are_the_same::<C>();
+    let both = set.union(other)?;
+    let rest = both.difference(other)?;
+    let less = set.difference(other)?;
+    Ok(rest == less)
+}
+
+/// Whether the first network that a pool has free is in the pool, which it is.
+pub fn first_free_is_in_pool<C: Subnets + Copy>(pool: &NetworkSet<C>, len: usize) -> Option<bool>
+    ensures { IfSome result (λ within. within ≡ true) }
+{
+    let network = pool.first_free(len)?;
+    Some(pool.contains(&network))
+}
+
+/// Adds the first network that a pool has free to those in use; whether they have it then, which they do. `None` where
+/// nothing is free.
+pub fn used_has_first_free<C: Subnets + Copy>(
+    pool: &NetworkSet<C>,
+    used: &mut NetworkSet<C>,
+    len: usize,
+) -> Result<Option<bool>, AllocError>
+    ensures { IfOk result (λ told. IfSome told (λ within. within ≡ true)) }
+{
+    let Some(network) = pool.first_free(len) else {
+        return Ok(None);
+    };
+    used.insert(network)?;
+    Ok(Some(used.contains(&network)))
 }

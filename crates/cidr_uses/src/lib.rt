@@ -16,6 +16,7 @@ pub mod five_equalities;
 pub mod forwarding;
 pub mod host_lengths;
 pub mod look_ups;
+pub mod names_and_subnets;
 pub mod nesting;
 pub mod network_lengths;
 pub mod network_loops;

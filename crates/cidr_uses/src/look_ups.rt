@@ -5,6 +5,7 @@ ghost use Rattle.cidr_table.specs.Prefixes.{IsLookedUp, AreMatching, AreShortest
 
 use cidr::NetworkBits;
 use cidr_table::LpmTable;
+use cidr_table::laws::look_ups::look_ups_have_one_result;
 use std::alloc::{AllocError, Global};
 
 /// The row of the longest match, copied.
@@ -71,4 +72,19 @@ pub fn covering_rows<C: NetworkBits + Copy, V: Copy + Drop>(
         rows.push(*row)?;
     }
     Ok(rows)
+}
+
+/// The rows that the table itself returns and that its rows made ready return, which are the same.
+pub fn rows_of_both_look_ups<C: NetworkBits + Copy, V: Copy>(
+    alloc: Global,
+    routes: &LpmTable<C, V>,
+    asked: &C,
+) -> Result<(Option<(C, V)>, Option<(C, V)>), AllocError>
+    ensures { IfOk result (λ rows. rows.0 ≡ rows.1) }
+{
+    look_ups_have_one_result::<C, V>();
+    let ready = routes.lookups(alloc)?;
+    let one = routes.lookup(asked).copied();
+    let other = ready.lookup(asked).copied();
+    Ok((one, other))
 }

@@ -76,7 +76,8 @@ impl<C: NetworkBits + Copy, V> LpmTable<C, V> {
     /// routes.lookup(&"10.2.0.0/16".parse()?) // Some((10.0.0.0/8, 2))
     /// ```
     pub fn lookup(&self, asked: &C) -> Option<&(C, V)>
-        ensures { IsLookedUp C.bits (C.bits asked.now) self.now.rows (option_copied result) }
+        ensures row { IsLookedUp C.bits (C.bits asked.now) self.now.rows (option_copied result) }
+        ensures sorted { IsStrictlySortedBy C.cmp (keys_of self.now.rows) }
     {
         longest(self.ascending(), asked)
     }
@@ -130,7 +131,8 @@ impl<C: NetworkBits + Copy, V> ReadyTable<C, V> {
     /// ready.lookup(&"10.1.2.5".parse()?) // Some((10.0.0.0/8, 1))
     /// ```
     pub fn lookup(&self, asked: &C) -> Option<&(C, V)>
-        ensures { IsLookedUp C.bits (C.bits asked.now) self.now.rows (option_copied result) }
+        ensures row { IsLookedUp C.bits (C.bits asked.now) self.now.rows (option_copied result) }
+        ensures sorted { IsStrictlySortedBy C.cmp (keys_of self.now.rows) }
     {
         by_links(self.table.ascending(), &self.above, &self.hints, asked)
     }
@@ -167,7 +169,8 @@ impl<'a, C: NetworkBits + Copy, V> Lookups<'a, C, V> {
     /// ready.lookup(&"10.1.2.4".parse()?) // Some((10.1.0.0/16, 3))
     /// ```
     pub fn lookup(&self, asked: &C) -> Option<&'a (C, V)>
-        ensures { IsLookedUp C.bits (C.bits asked.now) self.now (option_copied result) }
+        ensures row { IsLookedUp C.bits (C.bits asked.now) self.now (option_copied result) }
+        ensures sorted { IsStrictlySortedBy C.cmp (keys_of self.now) }
     {
         by_links(self.rows, &self.above, &self.hints, asked)
     }

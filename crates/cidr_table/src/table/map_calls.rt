@@ -64,6 +64,8 @@ impl<C: NetworkBits + Copy, V: Drop> LpmTable<C, V> {
         ensures unchanged { OnErr result (self.new.rows ≡ self.old.rows) }
         ensures present { Contains (keys_of self.old.rows) key → IsOk result }
         ensures room { length self.old.rows < self.old.capacity → IsOk result }
+        ensures kept { Contains (keys_of self.old.rows) key → self.new.capacity ≡ self.old.capacity }
+        ensures enough { length self.old.rows < self.old.capacity → self.new.capacity ≡ self.old.capacity }
         ensures capacity { self.old.capacity ≤ self.new.capacity }
         ensures sorted { IsStrictlySortedBy C.cmp (keys_of self.new.rows) }
     {

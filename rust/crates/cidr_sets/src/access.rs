@@ -1,6 +1,7 @@
 //! Access lists: rules in order, each of which permits or denies the addresses of a network.
 
 use cidr_support::vec::Vec;
+use crate::search::is_inside;
 use crate::set::NetworkSet;
 use cidr::NetworkBits;
 use cidr_support::alloc::{AllocError, Global};
@@ -21,6 +22,41 @@ pub struct Rule<C: NetworkBits + Copy> {
     pub action: Action,
     /// The network.
     pub network: C,
+}
+
+/// Whether an access list permits an address, which is given as the network of full prefix length. The first rule whose
+/// network contains it decides; an address in none of the networks is denied.
+///
+/// It goes through the rules up to the one that decides, and takes no memory. For many addresses take the set that
+/// [`permitted`] returns.
+///
+/// ```
+/// # use cidr::*;
+/// # use cidr_table::Probe;
+/// # use cidr_sets::{access::*, alloc::*, *};
+/// let rules = [("10.0.0.0/9", Action::Deny), ("10.0.0.0/8", Action::Permit), ("10.64.0.0/10", Action::Permit)];
+/// let rules = rules.map(|(network, action)| Rule { action, network: network.parse::<Ipv4Cidr>().unwrap() });
+/// assert!(permits(&rules, &"10.128.0.1".parse()?));
+/// assert!(!permits(&rules, &"10.0.0.1".parse()?));
+/// # Ok::<(), Box<dyn std::error::Error>>(())
+/// ```
+#[inline]
+pub fn permits<C: NetworkBits + Copy>(rules: &[Rule<C>], address: &C) -> bool {
+    for rule in rules {
+        if is_inside(address, &rule.network) {
+            return is_permit(rule.action);
+        }
+    }
+    false
+}
+
+/// Whether the addresses are permitted.
+#[inline]
+fn is_permit(action: Action) -> bool {
+    match action {
+        Action::Permit => true,
+        Action::Deny => false,
+    }
 }
 
 /// The addresses that an access list permits.

@@ -134,7 +134,7 @@ impl<C: NetworkBits + Copy, V> LpmTable<C, V> {
     ///
     /// A new key shifts the rows after it, O(n), and allocates where there is no room for one more row, see `capacity`.
     /// Where an allocation fails, it returns the key and the value as the error and the rows are as they were.
-    /// Replacing a value never fails.
+    /// Replacing a value never fails and takes no memory.
     ///
     /// ```
     /// # use cidr::{errors::*, *};

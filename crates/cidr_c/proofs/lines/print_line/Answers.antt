@@ -2,8 +2,8 @@ use Rattle.std.proofs.Common.{◌∙◌, ◌++◌, ◌∷◌, [], List, ℕ, ari
 use Rattle.cidr_c.proofs.LineSteps.{line_put}
 use Rattle.cidr_c.proofs.lines.print_line.Goals as goal
 
-pub returns : goal.returns
-returns c =
+pub returns-clause-line : goal.returns-clause-line
+returns-clause-line c =
     let bytes = c.as_bytes-bytes.result.now in
     let fits : c.args.at + length bytes < length c.args.out.now = omega arith in
     let put = line_put c.args.at c.args.out.now c.copy_from_slice.new.self bytes c.copy_from_slice.ensures.after fits in

@@ -1,7 +1,8 @@
-use Rattle.std.proofs.Common.{◌≡◌, length}
+use Rattle.std.proofs.Common.{◌≡◌, drop, length}
 use Rattle.cidr_c.specs.Lookups.{IsRowIndex}
 use Rattle.cidr_c.proofs.Answering.{AreFirst}
 use Rattle.cidr_c.proofs.lookups.pcidr_longest_match_each.Given as goal
 
 abbrev pub invariant-loop-i : goal.invariant-loop-i
 invariant-loop-i l = (length l.out ≡ length l.fn.out) × AreFirst (IsRowIndex l.ready) l.i l.asked l.out
+    × (drop (length l.asked) l.out ≡ drop (length l.asked) l.fn.out)

@@ -8,9 +8,9 @@ returns-in_err-parent g c =
 pub returns-in_err-row : goal.returns-in_err-row
 returns-in_err-row g c =
     rw c.from_residual-in_err-row.ensures
-    (none_above g.C.BitString.bits c.args.table.now.rows c.args.key.now c.in_ok-parent.parent c.in_ok-parent.ensures c.in_err-row.ensures)
+    (none_above g.C.BitString.bits c.args.table.now.rows c.args.key.now c.in_ok-parent.parent c.in_ok-parent.ensures c.in_err-row.ensures.row)
 
 pub returns : goal.returns
 returns g c =
     one_above g.C.BitString.bits c.args.table.now.rows c.args.key.now c.in_ok-parent.parent c.in_ok-row.row.now c.in_ok-parent.ensures
-    c.in_ok-row.ensures
+    c.in_ok-row.ensures.row
