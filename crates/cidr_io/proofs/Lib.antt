@@ -1,3 +1,4 @@
 pub mod Reading
 pub mod Chains
 pub mod Collected
+pub mod Feeds

@@ -2,3 +2,4 @@ pub mod Writing
 pub mod Collecting
 pub mod Tracked
 pub mod Arguments
+pub mod Lines

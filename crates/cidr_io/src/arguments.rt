@@ -1,12 +1,13 @@
 //! Reading the arguments of a run, without the program's name.
-ghost use Rattle.std.specs.Prelude.{◌≡◌, ℕ, ◌<◌, List, map, Option, IfOk, MatchResult};
+ghost use Rattle.std.specs.Prelude.{◌≡◌, ℕ, ◌<◌, List, map, Option, IfErr, IfOk, MatchResult, OnErr, true};
 ghost use Rattle.std.specs.Option.{option_map};
 ghost use Rattle.std.specs.Io.{WritesAtMost};
 ghost use Rattle.std.specs.String.{string_bytes};
 ghost use Rattle.cidr_io.specs.Arguments.{IsArgument, Fills, AreArguments, AreUnreadable};
-ghost use Rattle.cidr_io.specs.declared.arguments.ReadError.TheVariants.{NotText};
+ghost use Rattle.cidr_io.specs.declared.arguments.ReadError.TheVariants.{NoMemory, NotText};
 
-use std::alloc::{AllocError, Global};
+use crate::memory::Memory;
+use std::alloc::AllocError;
 use std::env::{Env, FillError};
 
 /// The bytes of an argument for which there is room at first.
@@ -45,7 +46,7 @@ impl<R: Env> Arguments for Given<'_, R> {
 pub enum ReadError {
     /// An argument is not UTF-8.
     NotText,
-    /// There is no memory for the arguments.
+    /// An allocation for the arguments was refused.
     NoMemory,
 }
 
@@ -61,57 +62,73 @@ impl From<AllocError> for ReadError {
 }
 
 /// The bytes of the argument at this index; `None` past the last one.
-fn bytes_at<A: Arguments>(
-    alloc: Global,
+fn bytes_at<M: Memory, A: Arguments>(
+    memory: &mut M,
     arguments: &A,
     place: usize,
 ) -> Result<Option<Vec<u8>>, AllocError>
     requires { place < 18446744073709551615 }
-    ensures { IfOk result (λ found. IsArgument (A.told arguments.now) place (option_map (λ bytes. bytes.items) found)) }
+    ensures argument { IfOk result
+        (λ found. IsArgument (A.told arguments.now) place (option_map (λ bytes. bytes.items) found)) }
+    ensures refused { OnErr result (M.refused memory.new ≡ true) }
 {
-    let mut buf = Vec::new(alloc);
+    let mut buf = Vec::new(memory.alloc());
     let mut room = ROOM;
-    for _ in 0..usize::BITS {
-        buf.resize(room, 0)?;
+    loop {
+        buf.clear();
+        memory.reserve(&mut buf, room)?;
+        let Ok(()) = buf.resize(room, 0) else {
+            unreachable!()
+        };
         match arguments.copy_to(place, buf.as_mut_slice()) {
             Ok(n) => {
                 buf.truncate(n);
                 return Ok(Some(buf));
             }
             Err(FillError::NotPresent) => return Ok(None),
-            Err(FillError::TooLong) => room = room.saturating_mul(2),
+            Err(FillError::TooLong) => room *= 2,
         }
     }
-    Err(AllocError)
 }
 
 /// The arguments as strings.
-pub fn texts_of<A: Arguments>(alloc: Global, arguments: &A) -> Result<Vec<String>, ReadError>
-    ensures { MatchResult result (λ texts. AreArguments (A.told arguments.now) (map string_bytes texts.items))
+pub fn texts_of<M: Memory, A: Arguments>(
+    memory: &mut M,
+    arguments: &A,
+) -> Result<Vec<String>, ReadError>
+    ensures texts { MatchResult result (λ texts. AreArguments (A.told arguments.now) (map string_bytes texts.items))
         (λ e. e ≡ NotText → AreUnreadable (A.told arguments.now)) }
+    ensures refused { IfErr result (λ e. e ≡ NoMemory → M.refused memory.new ≡ true) }
 {
-    let mut texts = Vec::new(alloc);
-    for place in 0..usize::MAX {
-        let Some(bytes) = bytes_at(alloc, arguments, place)? else {
+    let mut texts = Vec::new(memory.alloc());
+    loop {
+        let Some(bytes) = bytes_at(memory, arguments, texts.len())? else {
             return Ok(texts);
         };
         let Ok(text) = String::from_utf8(bytes) else {
             return Err(ReadError::NotText);
         };
+        memory.reserve(&mut texts, 1)?;
         let Ok(()) = texts.push(text) else {
-            return Err(ReadError::NoMemory);
+            unreachable!()
         };
     }
-    Err(ReadError::NoMemory)
 }
 
-/// The arguments as `run` takes them.
-pub fn borrowed(alloc: Global, texts: &[String]) -> Result<Vec<&str>, AllocError>
-    ensures { IfOk result (λ slices. map (λ s. s.now) slices.items ≡ map string_bytes texts.now) }
+/// The arguments as a program takes them.
+pub fn borrowed<'a, M: Memory>(
+    memory: &mut M,
+    texts: &'a [String],
+) -> Result<Vec<&'a str>, AllocError>
+    ensures slices { IfOk result (λ slices. map (λ s. s.now) slices.items ≡ map string_bytes texts.now) }
+    ensures refused { OnErr result (M.refused memory.new ≡ true) }
 {
-    let mut slices = Vec::new(alloc);
+    let mut slices = Vec::new(memory.alloc());
     for text in texts {
-        slices.push(text.as_str())?;
+        memory.reserve(&mut slices, 1)?;
+        let Ok(()) = slices.push(text.as_str()) else {
+            unreachable!()
+        };
     }
     Ok(slices)
 }

@@ -4,5 +4,8 @@
 
 pub mod arguments;
 pub mod block;
+pub mod lines;
+pub mod memory;
 pub mod sink;
+pub mod source;
 pub mod writing;

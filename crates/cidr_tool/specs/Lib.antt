@@ -3,5 +3,4 @@ pub mod Answer
 pub mod Command
 pub mod Report
 pub mod Walking
-pub mod Arguments
 pub mod Program

@@ -1,7 +1,7 @@
 -- What a run of the program does with its arguments, standard output and standard error.
 use Rattle.std.specs.Prelude.{◌≡◌, ℕ, Bool, true, List, Option, Result, Err, ◌⊎◌}
 use Rattle.cidr_tool.specs.Answer.{Answers}
-use Rattle.cidr_tool.specs.Arguments.{AreArguments, AreUnreadable}
+use Rattle.cidr_io.specs.Arguments.{AreArguments, AreUnreadable}
 use Rattle.cidr_io.specs.Writing.{State, Says}
 use Rattle.cidr_tool.specs.Report.{Reports, status_of, no_memory_line}
 use Rattle.cidr_tool.specs.declared.errors.ToolError.{ToolError}

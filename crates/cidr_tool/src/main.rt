@@ -1,10 +1,8 @@
 //! A program over the crate `cidr`: it answers questions about IP networks.
 #![tactic(auto)]
 
-mod arguments;
 mod commands;
 mod errors;
-mod memory;
 mod program;
 mod report;
 mod run;
@@ -13,9 +11,9 @@ mod tests;
 mod walks;
 mod writing;
 
-use arguments::Given;
+use cidr_io::arguments::Given;
+use cidr_io::memory::Heap;
 use cidr_io::sink::Tracked;
-use memory::Heap;
 use program::program;
 use std::process::ExitCode;
 

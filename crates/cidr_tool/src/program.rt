@@ -2,11 +2,11 @@
 ghost use Rattle.std.specs.Prelude.{◌≡◌, IfOk, OnErr, true};
 ghost use Rattle.cidr_tool.specs.Program.{AnswersAll, Runs};
 
-use crate::arguments::{Arguments, ReadError, borrowed, texts_of};
 use crate::errors::ToolError;
-use crate::memory::Memory;
 use crate::report::{report, report_no_memory};
 use crate::run::run;
+use cidr_io::arguments::{Arguments, ReadError, borrowed, texts_of};
+use cidr_io::memory::Memory;
 use cidr_io::sink::Sink;
 use std::alloc::AllocError;
 

@@ -6,7 +6,7 @@ use Rattle.netset.specs.Commands.{Request, Lists, NotIn, Diff, Free, Check, Matc
 use Rattle.netset.specs.Keeping.{AreKept, kept_or}
 use Rattle.netset.specs.Lists.{Text, text_by}
 use Rattle.netset.specs.Look.{IsUnreadTable}
-use Rattle.netset.specs.Program.{AnswersRequest, AnswersWhole, IsRefused, IsUnread}
+use Rattle.netset.specs.Program.{AnswersRequest, AnswersWhole, IsRefused, IsUnread, StopsAt}
 use Rattle.netset.specs.Unchecked.{IsUnchecked}
 use Rattle.netset.specs.declared.answers.Verdict.{Verdict}
 use Rattle.netset.specs.declared.errors.CommandError.{CommandError}
@@ -34,12 +34,14 @@ module _ (told more : List ℕ → Option Text) (agree : (name : List ℕ) (text
   answer_more Help answer verdict h = h
   answer_more Version answer verdict h = h
 
+  stops_more : (names : List (List ℕ)) (name : List ℕ) → StopsAt more names name → StopsAt told names name
+  stops_more names name (before, after, is, said) = (before, after, is, λ texts t. said texts (told_more before texts t))
+
   unread_more : (names : List (List ℕ)) (e : CommandError) → IsUnread more names e → IsUnread told names e
   unread_more names error.Usage h = h
   unread_more names (error.Argument text e) h = h
-  unread_more names (error.Line name number e) (before, after, is, said, first) =
-      (before, after, is, λ texts t. said texts (told_more before texts t), λ text t. first text (agree name.now text t))
-  unread_more names (error.Input name) h = h
+  unread_more names (error.Line name number e) (stops, first) = (stops_more names name.now stops, λ text t. first text (agree name.now text t))
+  unread_more names (error.Input name) h = stops_more names name.now h
   unread_more names error.NoMemory h = h
   unread_more names error.Output h = h
 
@@ -67,7 +69,7 @@ module _ (told more : List ℕ → Option Text) (agree : (name : List ℕ) (text
   refused_more (NotIn net files) (Err e) (inr (network, is, h)) = inr (network, is, unread_more (read_files files) e h)
   refused_more (Diff old new) (Err e) h = unread_more (old ∷ new ∷ []) e h
   refused_more (Free pool len used) (Err e) (inl h) = inl h
-  refused_more (Free pool len used) (Err e) (inr h) = inr (unread_more (pool ∷ used) e h)
+  refused_more (Free pool len used) (Err e) (inr (n, is, within, h)) = inr (n, is, within, unread_more (pool ∷ used) e h)
   refused_more (Check files) (Err e) h = unchecked_more (read_files files) e h
   refused_more (Match options list file) (Err e) (inl h) = inl (unread_more (list ∷ []) e h)
   refused_more (Match options list file) (Err e) (inr h) = inr h

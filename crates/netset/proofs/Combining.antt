@@ -1,5 +1,5 @@
 -- Sets put together, and the lists that they stand for.
-use Rattle.std.proofs.Common.{◌≡◌, ◌↔◌, refl, sym, ◌∙◌, ap, subst, inl, inr, ℕ, ◌+◌, ◌<◌, ◌≤◌, List, Bool, [], ◌∷◌, ◌++◌, length, take, get_or, map, true, false, Option, Result, ◌^◌, Some, None, MatchOption, decimal, lit≤, lit<}
+use Rattle.std.proofs.Common.{◌≡◌, ◌↔◌, ◌⊎◌, refl, sym, ◌∙◌, ap, subst, inl, inr, ℕ, ◌+◌, ◌<◌, ◌≤◌, List, Bool, [], ◌∷◌, ◌++◌, length, take, get_or, map, true, false, Option, Result, ◌^◌, Some, None, MatchOption, decimal, lit≤, lit<}
 use Rattle.std.specs.List.{AllZip}
 use Rattle.std.proofs.lemmas.Fmt.{decimal_step_wide}
 use Rattle.std.proofs.lemmas.List.{take_more, take_all, map-id}
@@ -14,7 +14,7 @@ use Rattle.cidr_sets.specs.Sets.{IsComplement, IsSetOf}
 use Rattle.cidr_io.specs.Writing.{State, Answered}
 use Rattle.cidr_io.specs.declared.sink.OutputFailed.{OutputFailed}
 use Rattle.netset.specs.Answering.{AreRead, HasAddresses}
-use Rattle.netset.specs.Combining.{Combined, IsMade, Steps, Turned, form_of, step_of, turns}
+use Rattle.netset.specs.Combining.{AllHave, Combined, FirstAlone, IsMade, SomeHas, Steps, Turned, form_of, step_of, turns}
 use Rattle.netset.specs.Commands.{Lists, NotIn, Says, read_files}
 use Rattle.netset.specs.Program.{AnswersRequest, by_output}
 use Rattle.netset.specs.Lists.{Text, network_in}
@@ -25,7 +25,7 @@ use Rattle.netset.specs.declared.answers.Verdict.{Verdict}
 use Rattle.netset.specs.declared.answers.Verdict.TheVariants.{Yes}
 use Rattle.netset.specs.declared.errors.CommandError.{CommandError}
 use Rattle.netset.specs.declared.operations.Operation.{Operation}
-use Rattle.netset.specs.declared.operations.Operation.TheVariants.{Not}
+use Rattle.netset.specs.declared.operations.Operation.TheVariants.{Merge, Nets, Minus, And, Not, Ranges, Count}
 use Rattle.netset.specs.declared.operations.Step.{Step}
 use Rattle.netset.specs.declared.operations.Step.TheVariants.{Union, Difference, Intersection}
 use Rattle.netset.specs.declared.sets.Sets.{Sets}
@@ -47,23 +47,76 @@ turned_same false P Q f = f
 turned_same true P Q f = (λ h q. h (f.1 q), λ h p. h (f.0 p))
 
 -- ---- lists and the sets that have their addresses
-combined_same : {X Y : Type 0} (In : X → Family → List Bool → Type 0) (On : Y → Family → List Bool → Type 0) (step : Step) (P Q : Type 0) (xs : List X) (ys : List Y)
-    (family : Family) (a : List Bool) → AllZip (λ x y. In x family a ↔ On y family a) xs ys → (P ↔ Q)
-    → Combined In step P xs family a ↔ Combined On step Q ys family a
-combined_same In On step P Q [] [] family a h f = f
-combined_same In On step P Q [] (y ∷ ys) family a h f = absurd h
-combined_same In On step P Q (x ∷ xs) [] family a h f = absurd h
-combined_same In On step P Q (x ∷ xs) (y ∷ ys) family a h f =
-    combined_same In On step (Steps step P (In x family a)) (Steps step Q (On y family a)) xs ys family a h.1
-    (steps_same step P Q (In x family a) (On y family a) f h.0)
+module _ {X Y : Type 0} (In : X → Family → List Bool → Type 0) (On : Y → Family → List Bool → Type 0) (family : Family) (a : List Bool) where
+  abbrev Same : List X → List Y → Type 0
+  Same xs ys = AllZip (λ x y. In x family a ↔ On y family a) xs ys
+
+  some_same : (xs : List X) (ys : List Y) → Same xs ys → SomeHas In xs family a ↔ SomeHas On ys family a
+  some_same [] [] h = same ⊥
+  some_same [] (y ∷ ys) h = absurd h
+  some_same (x ∷ xs) [] h = absurd h
+  some_same (x ∷ xs) (y ∷ ys) h = steps_same Union _ _ _ _ h.0 (some_same xs ys h.1)
+
+  all_same : (xs : List X) (ys : List Y) → Same xs ys → AllHave In xs family a ↔ AllHave On ys family a
+  all_same [] [] h = same (Unit {0})
+  all_same [] (y ∷ ys) h = absurd h
+  all_same (x ∷ xs) [] h = absurd h
+  all_same (x ∷ xs) (y ∷ ys) h = steps_same Intersection _ _ _ _ h.0 (all_same xs ys h.1)
+
+  first_same : (xs : List X) (ys : List Y) → Same xs ys → FirstAlone In xs family a ↔ FirstAlone On ys family a
+  first_same [] [] h = same ⊥
+  first_same [] (y ∷ ys) h = absurd h
+  first_same (x ∷ xs) [] h = absurd h
+  first_same (x ∷ xs) (y ∷ ys) h = steps_same Difference _ _ _ _ h.0 (some_same xs ys h.1)
 
 pub made_same : {X Y : Type 0} (In : X → Family → List Bool → Type 0) (On : Y → Family → List Bool → Type 0) (operation : Operation) (xs : List X) (ys : List Y)
     (family : Family) (a : List Bool) → AllZip (λ x y. In x family a ↔ On y family a) xs ys → IsMade In operation xs family a ↔ IsMade On operation ys family a
-made_same In On operation [] [] family a h = same ⊥
-made_same In On operation [] (y ∷ ys) family a h = absurd h
-made_same In On operation (x ∷ xs) [] family a h = absurd h
-made_same In On operation (x ∷ xs) (y ∷ ys) family a h =
-    turned_same (turns operation) _ _ (combined_same In On (step_of operation) (In x family a) (On y family a) xs ys family a h.1 h.0)
+made_same In On Merge xs ys family a h = some_same In On family a xs ys h
+made_same In On Nets xs ys family a h = some_same In On family a xs ys h
+made_same In On Minus xs ys family a h = first_same In On family a xs ys h
+made_same In On And xs ys family a h = all_same In On family a xs ys h
+made_same In On Not xs ys family a h = turned_same true _ _ (some_same In On family a xs ys h)
+made_same In On Ranges xs ys family a h = some_same In On family a xs ys h
+made_same In On Count xs ys family a h = some_same In On family a xs ys h
+
+-- ---- what the steps make
+either_first : (P Q R : Type 0) → ((P ⊎ Q) ⊎ R) ↔ (P ⊎ (Q ⊎ R))
+either_first P Q R = (
+  elim [ inl h ↦ elim h [ inl p ↦ inl p | inr q ↦ inr (inl q) ] | inr r ↦ inr (inr r) ],
+  elim [ inl p ↦ inl (inl p) | inr h ↦ elim h [ inl q ↦ inl (inr q) | inr r ↦ inr r ] ],
+)
+
+neither : (P Q R : Type 0) → ((P × ¬ Q) × ¬ R) ↔ (P × ¬ (Q ⊎ R))
+neither P Q R = (
+  λ h. (h.0.0, elim [ inl q ↦ h.0.1 q | inr r ↦ h.1 r ]),
+  λ h. ((h.0, λ q. h.1 (inl q)), λ r. h.1 (inr r)),
+)
+
+both_first : (P Q R : Type 0) → ((P × Q) × R) ↔ (P × (Q × R))
+both_first P Q R = (λ h. (h.0.0, (h.0.1, h.1)), λ h. ((h.0, h.1.0), h.1.1))
+
+module _ {X : Type 0} (In : X → Family → List Bool → Type 0) (family : Family) (a : List Bool) where
+  by_unions : (P : Type 0) (xs : List X) → Combined In Union P xs family a ↔ (P ⊎ SomeHas In xs family a)
+  by_unions P [] = (λ p. inl p, elim [ inl p ↦ p | inr none ↦ absurd none ])
+  by_unions P (x ∷ xs) = chained _ _ _ (by_unions (P ⊎ In x family a) xs) (either_first P (In x family a) (SomeHas In xs family a))
+
+  by_differences : (P : Type 0) (xs : List X) → Combined In Difference P xs family a ↔ (P × ¬ (SomeHas In xs family a))
+  by_differences P [] = (λ p. (p, λ none. absurd none), λ h. h.0)
+  by_differences P (x ∷ xs) = chained _ _ _ (by_differences (P × ¬ (In x family a)) xs) (neither P (In x family a) (SomeHas In xs family a))
+
+  by_intersections : (P : Type 0) (xs : List X) → Combined In Intersection P xs family a ↔ (P × AllHave In xs family a)
+  by_intersections P [] = (λ p. (p, tt), λ h. h.0)
+  by_intersections P (x ∷ xs) = chained _ _ _ (by_intersections (P × In x family a) xs) (both_first P (In x family a) (AllHave In xs family a))
+
+  made_by : (operation : Operation) (x : X) (xs : List X)
+      → Turned (turns operation) (Combined In (step_of operation) (In x family a) xs family a) ↔ IsMade In operation (x ∷ xs) family a
+  made_by Merge x xs = by_unions (In x family a) xs
+  made_by Nets x xs = by_unions (In x family a) xs
+  made_by Minus x xs = by_differences (In x family a) xs
+  made_by And x xs = by_intersections (In x family a) xs
+  made_by Not x xs = turned_same true _ _ (by_unions (In x family a) xs)
+  made_by Ranges x xs = by_unions (In x family a) xs
+  made_by Count x xs = by_unions (In x family a) xs
 
 pub has_same : (said : List (List (List IpCidr))) (sets : List Sets) (family : Family) (a : List Bool) → length a ≡ 129 → AllZip HasAddresses said sets
     → AllZip (λ x y. Held x family a ↔ Says y family a) sets said
@@ -183,22 +236,36 @@ pub all_steps : (step : Step) (first : Sets) (others : List Sets) (i : ℕ) (all
 all_steps step first others i all past h = let P : List Sets → Type 0 = λ k. IsCombined step first k all in subst P (take_all i others past) h
 
 -- ---- what an operation makes
+turned_kept : (operation : Operation) (step : Step) (turned : Bool) (first : Sets) (others items : List Sets) (a : List Bool) (family : Family) → step ≡ step_of operation
+    → turned ≡ turns operation → turned ≡ false → others ≡ items
+    → Combined Held step (Held first family a) others family a ↔ Turned (turns operation) (Combined Held (step_of operation) (Held first family a) items family a)
+turned_kept operation step turned first others items a family by is off whole =
+    let kept : turns operation ≡ false = sym is ∙ off in
+    rw (kept, ← by, ← whole) (same (Combined Held step (Held first family a) others family a))
+
+turned_away : (operation : Operation) (step : Step) (turned : Bool) (first : Sets) (others items : List Sets) (all : Sets) (a : List Bool) (family : Family)
+    → step ≡ step_of operation → turned ≡ turns operation → turned ≡ true → others ≡ items
+    → (Held all family a ↔ Combined Held step (Held first family a) others family a)
+    → (¬ (Held all family a)) ↔ Turned (turns operation) (Combined Held (step_of operation) (Held first family a) items family a)
+turned_away operation step turned first others items all a family by is on whole exact =
+    let away : turns operation ≡ true = sym is ∙ on in
+    rw (away, ← by, ← whole) (turned_same true (Held all family a) (Combined Held step (Held first family a) others family a) exact)
+
 pub made_kept : (operation : Operation) (step : Step) (turned : Bool) (first : Sets) (others items : List Sets) (all : Sets) → step ≡ step_of operation
     → turned ≡ turns operation → turned ≡ false → others ≡ items → IsCombined step first others all
     → (family : Family) → IsSetOf 129 (IsMade Held operation (first ∷ items) family) (held all family)
 made_kept operation step turned first others items all by is off whole h family =
-    let kept : turns operation ≡ false = sym is ∙ off in
     set_same _ _ (held all family) (h family) (λ a wide.
-    rw (kept, ← by, ← whole) (same (Combined Held step (Held first family a) others family a)))
+    chained _ _ _ (turned_kept operation step turned first others items a family by is off whole) (made_by Held family a operation first items))
 
 pub made_turned : (operation : Operation) (step : Step) (turned : Bool) (first : Sets) (others items : List Sets) (all sets : Sets) → step ≡ step_of operation
     → turned ≡ turns operation → turned ≡ true → others ≡ items → IsCombined step first others all
     → ((family : Family) → IsSetOf 129 (λ a. ¬ (Held all family a)) (held sets family))
     → (family : Family) → IsSetOf 129 (IsMade Held operation (first ∷ items) family) (held sets family)
 made_turned operation step turned first others items all sets by is on whole h set family =
-    let away : turns operation ≡ true = sym is ∙ on in
     set_same _ _ (held sets family) (set family) (λ a wide.
-    rw (away, ← by, ← whole) (turned_same true (Held all family a) (Combined Held step (Held first family a) others family a) ((h family).exact a wide)))
+    chained _ _ _ (turned_away operation step turned first others items all a family by is on whole ((h family).exact a wide))
+    (made_by Held family a operation first items))
 
 -- ---- networks whose bits are themselves
 pub step_plain : (step : Step) (these those set : List (List Bool))

@@ -2,7 +2,6 @@
 use Rattle.std.proofs.Common.{◌≡◌, refl, sym, ◌∙◌, ap, subst, arith, Bor, ℕ, ◌+◌, ◌<◌, ◌≤◌, List, Bool, [], ◌∷◌, ◌++◌, length, take, drop, get_or, Option, Some, Result, Ok, Err}
 use Rattle.std.specs.Option.{IfSome}
 use Rattle.std.specs.List.{AllZip}
-use Rattle.std.proofs.lemmas.List.Elements.{Contains-append_right}
 use Rattle.std.proofs.lemmas.List.{take_more, take_all, take-append-drop, at_drop_more, get_or-map}
 use Rattle.cidr.specs.declared.cidr.combined.IpCidr.{IpCidr}
 use Rattle.cidr.specs.declared.family.Family.{Family}
@@ -12,7 +11,7 @@ use Rattle.cidr_sets.specs.Sets.{IsSetOf}
 use Rattle.netset.specs.Lists.{Text, text_by, ListSays, networks_in}
 use Rattle.netset.specs.Reading.{ReadsList, listed}
 use Rattle.netset.specs.Commands.{AreTold}
-use Rattle.netset.specs.Program.{IsUnread}
+use Rattle.netset.specs.Program.{IsUnread, StopsAt}
 use Rattle.netset.specs.Sets.{held}
 use Rattle.netset.specs.Answering.{IsFileError, AddsFile, AreRead, HasAddresses, ReadsFile}
 use Rattle.netset.proofs.Arguments.{bytes_of, same_length, within_bytes}
@@ -77,23 +76,26 @@ file_read told names i name sets set within at before read =
     subst P (sym (next_taken names i name within at)) behind
 
 -- a file that is not read
+stops_there : (told : List ℕ → Option Text) (names : List (List ℕ)) (i : ℕ) (name file : List ℕ) (sets : List Sets) → i < length names → get_or names i name ≡ name
+    → AreRead told (take i names) sets → file ≡ name → StopsAt told names file
+stops_there told names i name file sets within at before same =
+    let whole : names ≡ take i names ++ name ∷ drop (i + 1) names =
+    sym (take-append-drop i names) ∙ (at_drop_more (λ k. take i names ++ k) names i name within ∙ ap (λ (k : List ℕ). take i names ++ k ∷ drop (i + 1) names) at) in (
+      take i names,
+      drop (i + 1) names,
+      whole ∙ ap (λ (k : List ℕ). take i names ++ k ∷ drop (i + 1) names) (sym same),
+      λ texts are. let (said, says, has) = before texts are in (said, says),
+    )
+
 not_read : (told : List ℕ → Option Text) (names : List (List ℕ)) (i : ℕ) (name : List ℕ) (sets : List Sets) (e : CommandError) → i < length names → get_or names i name ≡ name
     → AreRead told (take i names) sets → IsFileError (told name) name e → IsUnread told names e
 not_read told names i name sets error.Usage within at before h = absurd h
 not_read told names i name sets (error.Argument text e) within at before h = absurd h
 not_read told names i name sets error.NoMemory within at before h = tt
 not_read told names i name sets error.Output within at before h = absurd h
-not_read told names i name sets (error.Input file) within at before h =
-    (i, within, subst (λ (k : List ℕ). get_or names i k ≡ k) (sym h) at)
+not_read told names i name sets (error.Input file) within at before h = stops_there told names i name file.now sets within at before h
 not_read told names i name sets (error.Line file number e) within at before h =
-    let whole : names ≡ take i names ++ name ∷ drop (i + 1) names =
-    sym (take-append-drop i names) ∙ (at_drop_more (λ k. take i names ++ k) names i name within ∙ ap (λ (k : List ℕ). take i names ++ k ∷ drop (i + 1) names) at) in (
-      take i names,
-      drop (i + 1) names,
-      whole ∙ ap (λ (k : List ℕ). take i names ++ k ∷ drop (i + 1) names) (sym h.0),
-      λ texts are. let (said, says, has) = before texts are in (said, says),
-      λ text is. h.1 text (ap told (sym h.0) ∙ is),
-    )
+    (stops_there told names i name file.now sets within at before h.0, λ text is. h.1 text (ap told (sym h.0) ∙ is))
 
 -- the same of files by their names
 pub file_read_at : (told : List ℕ → Option Text) (files : List (Bor (List ℕ))) (i : ℕ) (d : Bor (List ℕ)) (sets : List Sets) (set : Sets) → i < length files
@@ -138,13 +140,16 @@ said_first told name names set first others (text ∷ texts) h =
     let (said, says) = others texts h.1 in
     (one ∷ said, (here, says))
 
+stops_behind : (told : List ℕ → Option Text) (name : List ℕ) (names : List (List ℕ)) (set : Sets) (file : List ℕ) → ReadsFile (told name) name (Ok set)
+    → StopsAt told names file → StopsAt told (name ∷ names) file
+stops_behind told name names set file first (before, after, whole, says) =
+    (name ∷ before, after, ap (λ (k : List (List ℕ)). name ∷ k) whole, said_first told name before set first says)
+
 pub others_not_read : (told : List ℕ → Option Text) (name : List ℕ) (names : List (List ℕ)) (set : Sets) (e : CommandError) → ReadsFile (told name) name (Ok set)
     → IsUnread told names e → IsUnread told (name ∷ names) e
 others_not_read told name names set error.Usage first h = absurd h
 others_not_read told name names set (error.Argument text e) first h = absurd h
 others_not_read told name names set error.NoMemory first h = tt
 others_not_read told name names set error.Output first h = absurd h
-others_not_read told name names set (error.Input file) first h = Contains-append_right (name ∷ []) names file.now h
-others_not_read told name names set (error.Line file number e) first h =
-    let (before, after, whole, says, fault) = h in
-    (name ∷ before, after, ap (λ (k : List (List ℕ)). name ∷ k) whole, said_first told name before set first says, fault)
+others_not_read told name names set (error.Input file) first h = stops_behind told name names set file.now first h
+others_not_read told name names set (error.Line file number e) first h = (stops_behind told name names set file.now first h.0, h.1)

@@ -1,4 +1,5 @@
 pub mod Zips
+pub mod Causes
 pub mod LineFeeds
 pub mod Contents
 pub mod Progress
@@ -30,3 +31,4 @@ pub mod Agreeing
 pub mod Telling
 pub mod Loading
 pub mod Running
+pub mod Consequences

@@ -1,15 +1,12 @@
 -- Lines, one after another.
-use Rattle.std.proofs.Common.{◌≡◌, ◌≢◌, ◌<◌, ◌≤◌, refl, sym, ◌∙◌, ap, ℕ, ◌+◌, take, drop, add-one, slice_index_or, ◌==◌, Bool, true, false, List, [], ◌∷◌, ◌++◌, length, cond, if◌then◌else◌, arith, Option, Some, None}
-use Rattle.std.specs.List.{All, onto_first, before_first, slice_split}
-use Rattle.std.proofs.lemmas.Grind.{get_or_default_zero}
-use Rattle.std.proofs.lemmas.List.{get_or-take, length-take-le, take-append-drop}
-use Rattle.std.proofs.lemmas.List.Splits.{slice_split_at, slice_split_none}
+use Rattle.std.proofs.Common.{◌≡◌, ◌≢◌, ◌<◌, ◌≤◌, refl, sym, ◌∙◌, ap, ℕ, take, slice_index_or, ◌==◌, Bool, true, false, List, [], ◌∷◌, ◌++◌, length, cond, if◌then◌else◌, arith, Option, Some, None}
+use Rattle.std.specs.List.{onto_first, before_first}
 use Rattle.std.proofs.lemmas.List.Sums.{position_or_len_is}
-use Rattle.std.proofs.Math.Seq.{drop-cons, take-length}
+use Rattle.std.proofs.Math.Seq.{take-length}
 use Rattle.std.specs.Option.{IfSome}
 use Rattle.std.specs.Io.BufRead.{take_through, drop_through, DropsThrough}
 use Rattle.std.proofs.lemmas.Bool.Decides.{Decides-eqb}
-use Rattle.netset.specs.Lists.{is_line_feed, lines_of}
+use Rattle.netset.specs.Lists.{lines_of}
 use Rattle.netset.specs.Reading.{IsNextLine, DropsLineFeed}
 
 front_split : (x : ℕ) (xs line : List ℕ) (b : Bool) → (x == 10) ≡ b
@@ -70,26 +67,6 @@ uncut p line place below past =
     let all : (k : ℕ) → k < length line → p (slice_index_or line k 0) ≡ false = λ k h. below k (omega arith) in
     let none : length line < length line → p (slice_index_or line (length line) 0) ≡ true = λ h. absurd (omega (arith, h)) in
     sym (ap (λ (k : ℕ). take k line) (position_or_len_is p line (length line) 0 (omega arith) all none) ∙ take-length line)
-
--- the line up to the first line feed, or the whole text
-pub line_cut : (text : List ℕ) (place : ℕ) → ((k : ℕ) → k < place → is_line_feed (slice_index_or text k 0) ≡ false)
-    → place < length text → is_line_feed (slice_index_or text place 0) ≡ true → lines_of text ≡ take place text ∷ lines_of (drop (place + 1) text)
-line_cut text place before within here =
-    let behind = drop (place + 1) text in
-    let y = slice_index_or text place 0 in
-    let tail : drop place text ≡ y ∷ behind = rw add-one (drop-cons text place 0 within) in
-    let whole : take place text ++ (y ∷ behind) ≡ text = ap (λ (t : List ℕ). take place text ++ t) (sym tail) ∙ take-append-drop place text in
-    let none : All (λ x. is_line_feed x ≡ false) (take place text) =
-    λ k d lt.
-    let below : k < place = omega (arith, lt, length-take-le place text (omega arith)) in
-    let inside : k < length text = omega arith in
-    ap is_line_feed (get_or-take place text k d below ∙ get_or_default_zero text k d inside) ∙ before k below in
-    ap (slice_split is_line_feed) (sym whole) ∙ slice_split_at is_line_feed (take place text) y behind none here
-
-pub line_whole : (text : List ℕ) (place : ℕ) → ((k : ℕ) → k < place → is_line_feed (slice_index_or text k 0) ≡ false) → length text ≤ place
-    → lines_of text ≡ text ∷ []
-line_whole text place before past =
-    slice_split_none is_line_feed text (λ k d lt. ap is_line_feed (get_or_default_zero text k d lt) ∙ before k (omega (arith, lt, past)))
 
 pub not_empty : (field : List ℕ) (test : Bool) → test ≡ (length field == 0) → test ≡ false → field ≢ []
 not_empty [] test is fails = λ e. cc

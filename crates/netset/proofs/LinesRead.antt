@@ -1,7 +1,9 @@
 -- How far the lines of a text have been read, whatever is made of them: `Done` says what a state has of the lines so far.
-use Rattle.std.proofs.Common.{◌≡◌, refl, sym, ◌∙◌, ap, subst, ℕ, ◌+◌, Bool, true, false, List, [], ◌∷◌, ◌++◌, length, arith, Option, Some, None, append_assoc, length-append}
+use Rattle.std.proofs.Common.{◌≡◌, refl, sym, ◌∙◌, ap, subst, ℕ, ◌+◌, ◌≤◌, Bool, true, false, List, [], ◌∷◌, ◌++◌, length, arith, Option, Some, None, append_assoc, length-append}
 use Rattle.std.specs.Option.{IfSome}
+use Rattle.netset.specs.Causes.{TextFails}
 use Rattle.netset.specs.Lists.{lines_of}
+use Rattle.netset.proofs.Causes.{KnownOf, too_many}
 use Rattle.netset.specs.Reading.{IsNextLine}
 
 module _ {S : Type 0} (Done : List (List ℕ) → S → Type 0) where
@@ -68,3 +70,14 @@ module _ {S : Type 0} (Done : List (List ℕ) → S → Type 0) where
   stops_at (Some text) left next state number line more p n =
       let (after, lines) = first_of_more p.rest line more next (rw p.known at n) in
       record { before = p.before; after = after; lines = p.lines ∙ ap (λ k. p.before ++ k) lines; place = p.place; done = p.done }
+
+  -- what is left is told too
+  pub left_known : (told left : Option (List ℕ)) (state : S) (number : ℕ) → IfSome told (λ text. LinesRead text left state number) → KnownOf told left
+  left_known None left state number p = tt
+  left_known (Some text) left state number p = (p.rest, p.known)
+
+  -- there are more lines than numbers
+  pub numbers_used : (told left : Option (List ℕ)) (state : S) (number : ℕ) → IfSome told (λ text. LinesRead text left state number)
+      → 18446744073709551615 ≤ number → TextFails told
+  numbers_used None left state number p most = tt
+  numbers_used (Some text) left state number p most = too_many text p.before (lines_of p.rest) number p.lines p.place most

@@ -1,9 +1,7 @@
 -- Addresses that are looked up, one line after the other.
-use Rattle.std.proofs.Common.{◌≡◌, ◌⊎◌, refl, sym, ◌∙◌, ap, subst, inl, inr, ℕ, ◌+◌, Bool, true, false, ◌||◌, List, [], ◌∷◌, ◌++◌, ◌==◌, length, arith, codes, map, is_some, option_map, option_copied, Bor, append_assoc, Option, Some, None, Result, Ok, Err}
-use Rattle.std.specs.Io.Buffered.{reader_buffer, reader_capacity, reader_inner, reader_remaining}
+use Rattle.std.proofs.Common.{◌≡◌, ◌⊎◌, refl, sym, ◌∙◌, ap, subst, inl, inr, ℕ, ◌+◌, Bool, true, false, ◌||◌, List, [], ◌∷◌, ◌++◌, ◌==◌, length, arith, codes, map, is_some, option_map, option_copied, Bor, Option, Some, None, Result, Ok, Err}
 use Rattle.std.specs.Option.{IfSome}
 use Rattle.std.specs.List.{AllZip, flat_map, list_any}
-use Rattle.std.specs.declared.io.buffered.BufReader.{BufReader}
 use Rattle.std.proofs.lemmas.Bool.{true≢false}
 use Rattle.std.proofs.lemmas.List.{append-nil, flat_map_more}
 use borrow.Author.Tests.{eqb-true}
@@ -15,12 +13,12 @@ use Rattle.cidr.specs.declared.addr.ip.IpAddr.{IpAddr}
 use Rattle.cidr.specs.declared.family.Family.{Family}
 use Rattle.cidr_io.specs.Writing.{State, Part, Writes, Answered}
 use Rattle.cidr_io.specs.declared.sink.OutputFailed.{OutputFailed}
-use Rattle.cidr_io.proofs.Chains.{part_none, part_more, answered, then_writes}
+use Rattle.cidr_io.proofs.Chains.{part_none, answered, then_writes}
 use Rattle.cidr_table.specs.Prefixes.{IsLookedUp}
 use Rattle.cidr_io.specs.Collecting.{Collects}
 use Rattle.netset.specs.Commands.{Look}
 use Rattle.netset.specs.Lists.{Text, lines_of}
-use Rattle.netset.specs.Look.{IsBadLine, IsSplit, LineLooks, LookUp, TellsFound, found_line, gap, is_found, look_line, shown}
+use Rattle.netset.specs.Look.{IsBadLine, IsSplit, LineLooks, LookUp, TellsFound, found_line, is_found, look_line, shown}
 use Rattle.netset.specs.LookUps.{AreFirst, EndsReading, IsErrorAt, LooksAll, LooksLine, LooksLines, LooksUp, PushesFound, ReadsTable, kept, resolved, unread, value_at, verdict_of}
 use Rattle.netset.specs.Program.{AnswersRequest}
 use Rattle.netset.specs.Reading.{IsNextLine, IsStopped}
@@ -33,7 +31,6 @@ use Rattle.netset.specs.declared.look.LookError.TheVariants.{Reading, Output}
 use Rattle.netset.specs.declared.rows.Span.{Span}
 use Rattle.netset.specs.declared.table.Table.{Table}
 use Rattle.cidr_io.proofs.Collected.{collected_more, none_collected}
-use Rattle.netset.proofs.Matched.{fresh_reader}
 use Rattle.netset.proofs.ReadBy.{bytes_read}
 use Rattle.netset.proofs.Resolved.{looked_up_mapped}
 use Rattle.netset.proofs.Passed.{Passed, none_passed, one_passed, all_passed, error_passed, first_passed, one_more_passed, all_first, cut_before, cut_behind}
@@ -322,11 +319,6 @@ pub nothing_looked : (table : Family → List (List Bool × List ℕ)) (told : O
 nothing_looked table told s failed = ([], record {}, (part_none s [] failed, λ _. refl), nothing_told table told)
 
 -- ---- the command
--- a reader in blocks has the bytes of what it reads
-pub opened : {T A : Type 0} (remaining : T → Option (List ℕ)) (r : BufReader T A) (inner : T) (text : List ℕ) → reader_inner r ≡ inner → reader_buffer r ≡ []
-    → reader_capacity r ≡ 8192 → remaining inner ≡ Some text → reader_remaining remaining r ≡ Some text
-opened remaining r inner text at empty room is = fresh_reader remaining inner r at empty room ∙ is
-
 module _ (told : List ℕ → Option Text) (rows : List ℕ) (file : Bor (List ℕ)) (left : Option (List ℕ)) (table : Table) (s t : State)
     (reads : ReadsTable (told rows) rows (Ok table)) (opens : (text : Text) → told file.now ≡ Some text → left ≡ Some text.bytes) where
   tells : (looks : List (Option LookUp)) (found : Bool) → found ≡ list_any is_found looks → TellsFound looks (verdict_of found)

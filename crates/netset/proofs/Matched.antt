@@ -1,9 +1,6 @@
 -- Lines that are picked of a file.
-use Rattle.std.proofs.Common.{◌≡◌, ◌≢◌, ◌↔◌, refl, sym, ◌∙◌, ap, subst, inl, inr, ℕ, ◌+◌, ◌<◌, Bool, true, false, not, ◌==◌, if◌then◌else◌, List, [], ◌∷◌, ◌++◌, length, map, arith, codes, Option, Some, None, Result, Ok, Err, IsTrue, Decides, append_assoc, length-append}
+use Rattle.std.proofs.Common.{◌≡◌, ◌≢◌, ◌↔◌, refl, sym, ◌∙◌, ap, subst, inl, inr, ℕ, ◌+◌, ◌<◌, ◌≤◌, Bool, true, false, not, if◌then◌else◌, List, [], ◌∷◌, ◌++◌, length, map, arith, codes, Option, Some, None, Result, Ok, Err, IsTrue, Decides, append_assoc, length-append}
 use Rattle.std.specs.Option.{IfSome}
-use Rattle.std.specs.Io.Buffered.{reader_buffer, reader_capacity, reader_inner, reader_remaining}
-use Rattle.std.specs.Io.KnownBytes.{prepend_known}
-use Rattle.std.specs.declared.io.buffered.BufReader.{BufReader}
 use Rattle.std.specs.List.{AllZip, flat_map, items_where_true}
 use Rattle.std.proofs.lemmas.Bool.{true≢false}
 use Rattle.std.proofs.lemmas.List.{append-nil, flat_map_more, map-id}
@@ -19,6 +16,7 @@ use Rattle.cidr_io.specs.declared.sink.OutputFailed.{OutputFailed}
 use Rattle.cidr_io.proofs.Chains.{answered, part_none, then_writes}
 use Rattle.netset.specs.Answering.{HasAddresses, ReadsFile}
 use Rattle.cidr_io.specs.Collecting.{Collects, Holds}
+use Rattle.netset.specs.Causes.{TextFails}
 use Rattle.netset.specs.Combining.{Turned}
 use Rattle.netset.specs.Commands.{Match, Says}
 use Rattle.netset.specs.Gathering.{Finishes, IsCounted, IsDone, IsLost, IsUnreadable, Stops, Streams, TakesPart, ended_by, lines_of_part, rest_written}
@@ -39,9 +37,19 @@ use Rattle.netset.specs.declared.matching.Written.TheVariants as written
 use Rattle.netset.specs.declared.sets.Sets.{Sets}
 use Rattle.netset.proofs.Blocks.{last_block, nothing_held}
 use Rattle.cidr_io.proofs.Collected.{held_lost, held_then, none_collected}
+use Rattle.netset.proofs.Causes.{KnownOf, longer_than}
 use Rattle.netset.proofs.Combining.{turned_same}
 
 -- ---- lines
+among_shorter : (parts : List (List ℕ)) → length (lines_among parts) ≤ length parts
+among_shorter [] = omega arith
+among_shorter ([] ∷ []) = omega arith
+among_shorter ((byte ∷ part) ∷ []) = omega arith
+among_shorter (part ∷ next ∷ parts) = omega (arith, among_shorter (next ∷ parts))
+
+more_parts : (most : ℕ) (text : List ℕ) → most ≤ length (lines_in text) → most ≤ length (lines_of text)
+more_parts most text h = omega (arith, h, among_shorter (lines_of text))
+
 among_more : (part : List ℕ) (parts : List (List ℕ)) → 0 < length parts → lines_among (part ∷ parts) ≡ part ∷ lines_among parts
 among_more part [] h = absurd (omega (arith, h))
 among_more part (next ∷ parts) h = refl
@@ -408,6 +416,19 @@ module _ (P : List ℕ → Result Bool LineError → Type 0) (what : Written) wh
       (cut_here known left number st.picked error.Output (λ _ _. tt) st.passed)
   unread file known left s t u number count block error.Output r fine h st stops = absurd h
 
+  -- what is left is told too
+  pub left_known : (known left : Option (List ℕ)) (s t : State) (number count : ℕ) (block : List ℕ) → Streamed known left s t number count block → KnownOf known left
+  left_known None left s t number count block st = tt
+  left_known (Some text) left s t number count block st = (st.passed.rest, st.passed.known)
+
+  -- there are more lines than numbers
+  pub numbers_used : (known left : Option (List ℕ)) (s t : State) (number count : ℕ) (block : List ℕ) → Streamed known left s t number count block
+      → 18446744073709551615 ≤ number → TextFails known
+  numbers_used None left s t number count block st most = tt
+  numbers_used (Some text) left s t number count block st most =
+      more_parts 18446744073709551614 text
+      (longer_than 18446744073709551614 (lines_in text) st.passed.read (lines_in st.passed.rest) number st.passed.lines st.passed.place most)
+
   -- what was collected is written before more is read, or not all of it
   pub caught_up : (known left : Option (List ℕ)) (s t u : State) (number count after : ℕ) (block next : List ℕ) → after ≡ count → Collects t u block next [] (Ok tt)
       → Streamed known left s t number count block → Streamed known left s u number after next
@@ -507,18 +528,6 @@ module _ (P : List ℕ → Result Bool LineError → Type 0) (what : Written) wh
       )
 
 -- ---- by the bytes of the files
--- a reader in blocks has what the reader has that it reads from
-put_before_nothing : (known : Option (List ℕ)) → prepend_known [] known ≡ known
-put_before_nothing None = refl
-put_before_nothing (Some text) = refl
-
-pub fresh_reader : {R A : Type 0} (remaining : R → Option (List ℕ)) (inner : R) (reader : BufReader R A) → reader_inner reader ≡ inner → reader_buffer reader ≡ []
-    → reader_capacity reader ≡ 8192 → reader_remaining remaining reader ≡ remaining inner
-fresh_reader remaining inner reader same empty room =
-    ap (λ (n : ℕ). if n == 0 then None else prepend_known (reader_buffer reader) (remaining reader.inner)) room
-    ∙ (ap (λ (k : List ℕ). prepend_known k (remaining reader.inner)) empty
-    ∙ (put_before_nothing (remaining reader.inner) ∙ ap remaining same))
-
 known_match : (P Q : List ℕ → Result Bool LineError → Type 0) → ((line : List ℕ) (r : Result Bool LineError) → P line r → Q line r) → (what : Written) (known : Option (List ℕ)) (text answer : List ℕ) (verdict : Verdict)
     → known ≡ Some text → IfSome known (λ k. IsMatch P what k answer verdict) → IsMatch Q what text answer verdict
 known_match P Q f what known text answer verdict is h =

@@ -1,11 +1,13 @@
 -- How far a list has been read.
-use Rattle.std.proofs.Common.{◌≡◌, refl, sym, ◌∙◌, ap, ℕ, ◌+◌, Bool, true, false, List, [], ◌∷◌, ◌++◌, length, arith, Option, Some, None, Result, Ok, Err, subst, append_assoc, length-append}
+use Rattle.std.proofs.Common.{◌≡◌, refl, sym, ◌∙◌, ap, ℕ, ◌+◌, ◌≤◌, Bool, true, false, List, [], ◌∷◌, ◌++◌, length, arith, Option, Some, None, Result, Ok, Err, subst, append_assoc, length-append}
 use Rattle.std.specs.Option.{IfSome}
 use Rattle.std.specs.List.{AllZip}
 use Rattle.std.proofs.lemmas.List.{append-nil, flat_map_more}
 use Rattle.cidr.specs.declared.cidr.combined.IpCidr.{IpCidr}
+use Rattle.netset.specs.Causes.{TextFails}
 use Rattle.netset.specs.Lists.{text_by, lines_of, LineSays, network_in, networks_in}
 use Rattle.netset.specs.Reading.{IsNextLine, IsStopped, IsReadError, IsLineError, listed, Grows, ReadsList}
+use Rattle.netset.proofs.Causes.{KnownOf, too_many}
 use Rattle.netset.proofs.Zips.{zip_behind}
 use Rattle.netset.specs.declared.errors.ReadError.{ReadError}
 use Rattle.netset.specs.declared.errors.ReadError.TheVariants.{Line, Input, NoMemory}
@@ -80,7 +82,7 @@ module _ (bits : HostBits) where
       → IfSome told (λ text. Progress text left old now number) → IfSome left (λ text. IsNextLine text line more next) → IsLineError bits line number e
       → IfSome told (λ text. IsReadError (text_by bits text) e)
   failed_by None left next old now number line more e p n h = tt
-  failed_by (Some text) left next old now number line more Input p n h = tt
+  failed_by (Some text) left next old now number line more Input p n h = absurd h
   failed_by (Some text) left next old now number line more NoMemory p n h = tt
   failed_by (Some text) left next old now number line more (Line m e) p n h =
       let (after, lines) = first_of_more p.rest line more next (rw p.known at n) in
@@ -120,3 +122,14 @@ module _ (bits : HostBits) where
   pub stopped : (told : Option (List ℕ)) (old new : Lists) (r : Result (Unit {0}) ReadError) (y e : ReadError) → r ≡ Err y → y ≡ e → IsStopped e
       → IfSome told (λ text. ReadsList (text_by bits text) old new r)
   stopped told old new r y e is same h = passed_on told old new r y e is same (stopped_by told e h)
+
+  -- what is left is told too
+  pub left_known : (told left : Option (List ℕ)) (old new : Lists) (number : ℕ) → IfSome told (λ text. Progress text left old new number) → KnownOf told left
+  left_known None left old new number p = tt
+  left_known (Some text) left old new number p = (p.rest, p.known)
+
+  -- there are more lines than numbers
+  pub numbers_used : (told left : Option (List ℕ)) (old new : Lists) (number : ℕ) → IfSome told (λ text. Progress text left old new number)
+      → 18446744073709551615 ≤ number → TextFails told
+  numbers_used None left old new number p most = tt
+  numbers_used (Some text) left old new number p most = too_many text p.before (lines_of p.rest) number p.lines p.place most

@@ -4,12 +4,13 @@ use Rattle.std.proofs.lemmas.Bool.{true≢false}
 use Rattle.std.specs.Bool.{Decides}
 use Rattle.std.specs.List.{count_by}
 use Rattle.cidr_io.specs.Writing.{State}
+use Rattle.netset.specs.Causes.{Cause, MayFail}
 use Rattle.netset.specs.Commands.{Request, IsRequest, MayRead, input_name, lists_of, others_of, reading_of, reading_options, without_options}
 use Rattle.netset.specs.Keeping.{kept_or, kind_of}
 use Rattle.netset.specs.Lists.{Text}
 use Rattle.netset.specs.Matching.{is_word}
 use Rattle.netset.specs.Loading.{IsLoaded, IsUnloaded}
-use Rattle.netset.specs.Program.{AnswersRequest, IsReadTwice, KeepsGoing, Reports, RunsArguments, RunsOnce, RunsRequest, RunsWords, status_of, told_by}
+use Rattle.netset.specs.Program.{AnswersRequest, IsCaused, IsReadTwice, KeepsGoing, Reports, RunsArguments, RunsOnce, RunsRequest, RunsWords, status_of, told_by}
 use Rattle.netset.specs.declared.answers.Verdict.{Verdict}
 use Rattle.netset.specs.declared.commands.Reading.{Reading}
 use Rattle.netset.specs.declared.errors.CommandError.{CommandError}
@@ -17,10 +18,11 @@ use Rattle.netset.specs.declared.errors.CommandError.TheVariants as error
 use Rattle.netset.specs.declared.keeping.Kept.{Kept}
 use Rattle.netset.specs.declared.keeping.Kind.{Kind}
 use Rattle.netset.proofs.Agreeing.{kept_agree, request_more}
+use Rattle.netset.proofs.Causes.{caused_more}
 use Rattle.netset.proofs.Loading.{none_told}
 
 -- ---- with lists that are read whole first
-module _ (told : List ℕ → Option Text) (request : Request) (kind : Kind) (names : List (List ℕ)) (closed : Bool) (out s t : State) (is_kind : kind ≡ kind_of request)
+module _ (told : List ℕ → Option Text) (request : Request) (kind : Kind) (names : List (List ℕ)) (refused closed : Bool) (out s t : State) (is_kind : kind ≡ kind_of request)
     (are : names ≡ lists_of request) where
   loaded_of : (lists : List Kept) (found : Bool) → IsLoaded told kind names s t lists found → IsLoaded told (kind_of request) (lists_of request) s t lists found
   loaded_of lists found h =
@@ -30,46 +32,60 @@ module _ (told : List ℕ → Option Text) (request : Request) (kind : Kind) (na
   unloaded_of e h =
       subst (λ (k : List (List ℕ)). IsUnloaded told (kind_of request) k s t e) are (subst (λ (k : Kind). IsUnloaded told k names s t e) is_kind h)
 
-  pub lines_in_error : (lists : List Kept) → IsLoaded told kind names s t lists true → KeepsGoing told request closed out out s t 2
+  pub lines_in_error : (lists : List Kept) → IsLoaded told kind names s t lists true → KeepsGoing told refused request closed out out s t 2
   lines_in_error lists h =
       let (kept, lines, (tells, fine), any) = loaded_of lists true h in
       (lines, t, tells, inl (fine, inl (any, refl, refl, refl)))
 
   pub no_line_in_error : (lists : List Kept) (new u : State) (r : Result Verdict CommandError) (status : ℕ) → IsLoaded told kind names s t lists false
-      → AnswersRequest (kept_or lists told) request out new r → Reports closed r t u → status ≡ status_of r → KeepsGoing told request closed out new s u status
-  no_line_in_error lists new u r status h answers says is =
-      let (kept, lines, (tells, fine), any) = loaded_of lists false h in
-      (lines, t, tells, inl (fine, inr (any, r, request_more told (kept_or lists told) (kept_agree told lists kept) request out new r answers, says, is)))
+      → AnswersRequest (kept_or lists told) request out new r → IsCaused (kept_or lists told) refused request r → Reports closed r t u → status ≡ status_of r → KeepsGoing told refused request closed out new s u status
+  no_line_in_error lists new u r status h answers caused says is =
+      let (kept, lines, (tells, fine), any) = loaded_of lists false h in (
+        lines,
+        t,
+        tells,
+        inl (
+          fine,
+          inr (
+            any,
+            r,
+            request_more told (kept_or lists told) (kept_agree told lists kept) request out new r answers,
+            caused_more told (kept_or lists told) (kept_agree told lists kept) refused request r caused,
+            says,
+            is,
+          ),
+        ),
+      )
 
-  pub not_loaded : (u : State) (e : CommandError) (status : ℕ) → IsUnloaded told kind names s t e → Reports closed (Err e) t u → status ≡ status_of (Err e)
-      → KeepsGoing told request closed out out s u status
-  not_loaded u e status h says is =
+  pub not_loaded : (u : State) (e : CommandError) (status : ℕ) → IsUnloaded told kind names s t e → Cause (MayFail told) refused e → Reports closed (Err e) t u → status ≡ status_of (Err e)
+      → KeepsGoing told refused request closed out out s u status
+  not_loaded u e status h cause says is =
       let (before, after, split, why, lines, (tells, fine)) = unloaded_of e h in
-      (lines, t, tells, inr (before, after, split, fine, e, why, refl, says, is))
+      (lines, t, tells, inr (before, after, split, fine, e, why, cause, refl, says, is))
 
-pub no_names : (told : List ℕ → Option Text) (request : Request) (closed : Bool) (out s u : State) (status : ℕ) → Reports closed (Err error.NoMemory) s u → status ≡ status_of (Err error.NoMemory)
-    → KeepsGoing told request closed out out s u status
-no_names told request closed out s u status says is =
+pub no_names : (told : List ℕ → Option Text) (request : Request) (refused closed : Bool) (out s u : State) (status : ℕ) → refused ≡ true → Reports closed (Err error.NoMemory) s u → status ≡ status_of (Err error.NoMemory)
+    → KeepsGoing told refused request closed out out s u status
+no_names told request refused closed out s u status none_left says is =
     let none = none_told told (kind_of request) s in
-    ([], s, none.0, inr ([], lists_of request, refl, none.1, error.NoMemory, tt, refl, says, is))
+    ([], s, none.0, inr ([], lists_of request, refl, none.1, error.NoMemory, tt, none_left, refl, says, is))
 
 -- ---- arguments
-pub run_words : (reading : Reading) (told : List ℕ → Option (List ℕ)) (words rest : List (List ℕ)) (closed : Bool) (out new s t : State) (status : ℕ)
-    → reading ≡ reading_of (reading_options words) → rest ≡ without_options words → RunsWords reading told rest closed out new s t status
-    → RunsArguments told words closed out new s t status
-run_words reading told words rest closed out new s t status asked left h =
-    inl (subst (λ (k : Reading). RunsWords k told (without_options words) closed out new s t status) asked
-    (subst (λ (k : List (List ℕ)). RunsWords reading told k closed out new s t status) left h))
+pub run_words : (reading : Reading) (told : List ℕ → Option (List ℕ)) (refused : Bool) (words rest : List (List ℕ)) (closed : Bool) (out new s t : State) (status : ℕ)
+    → reading ≡ reading_of (reading_options words) → rest ≡ without_options words → RunsWords reading told refused rest closed out new s t status
+    → RunsArguments told refused words closed out new s t status
+run_words reading told refused words rest closed out new s t status asked left h =
+    inl (subst (λ (k : Reading). RunsWords k told refused (without_options words) closed out new s t status) asked
+    (subst (λ (k : List (List ℕ)). RunsWords reading told refused k closed out new s t status) left h))
 
-pub run_request : (reading : Reading) (told : List ℕ → Option (List ℕ)) (words : List (List ℕ)) (request : Request) (closed : Bool) (out new s t : State) (status : ℕ)
-    → IsRequest words request × MayRead reading request → RunsOnce reading told request closed out new s t status
-    → RunsWords reading told words closed out new s t status
-run_request reading told words request closed out new s t status is h = inr (request, is.0, is.1, h)
+pub run_request : (reading : Reading) (told : List ℕ → Option (List ℕ)) (refused : Bool) (words : List (List ℕ)) (request : Request) (closed : Bool) (out new s t : State) (status : ℕ)
+    → IsRequest words request × MayRead reading request → RunsOnce reading told refused request closed out new s t status
+    → RunsWords reading told refused words closed out new s t status
+run_request reading told refused words request closed out new s t status is h = inr (request, is.0, is.1, h)
 
-pub run_once : (reading : Reading) (told : List ℕ → Option (List ℕ)) (request : Request) (closed : Bool) (out new s t : State) (status : ℕ) (twice : Bool) (names : List (List ℕ))
-    → names ≡ lists_of request ++ others_of request → Decides twice (1 < count_by (is_word input_name) names) → twice ≡ false → RunsRequest reading (told_by reading.host_bits told) request closed out new s t status
-    → RunsOnce reading told request closed out new s t status
-run_once reading told request closed out new s t status twice names are decides once h = inr (
+pub run_once : (reading : Reading) (told : List ℕ → Option (List ℕ)) (refused : Bool) (request : Request) (closed : Bool) (out new s t : State) (status : ℕ) (twice : Bool) (names : List (List ℕ))
+    → names ≡ lists_of request ++ others_of request → Decides twice (1 < count_by (is_word input_name) names) → twice ≡ false → RunsRequest reading (told_by reading.host_bits told) refused request closed out new s t status
+    → RunsOnce reading told refused request closed out new s t status
+run_once reading told refused request closed out new s t status twice names are decides once h = inr (
   λ twice_read. true≢false (sym (decides.1 (subst (λ (k : List (List ℕ)). 1 < count_by (is_word input_name) k) (sym are) twice_read)) ∙ once),
   h,
 )
@@ -83,8 +99,8 @@ told_anyway closed (error.Input name) s t is says = absurd is
 told_anyway closed error.NoMemory s t is says = absurd is
 told_anyway closed error.Output s t is says = absurd is
 
-pub run_none : (reading : Reading) (told : List ℕ → Option (List ℕ)) (request : Request) (closed : Bool) (out s t : State) (status : ℕ) (twice : Bool) (names : List (List ℕ)) (e : CommandError)
+pub run_none : (reading : Reading) (told : List ℕ → Option (List ℕ)) (refused : Bool) (request : Request) (closed : Bool) (out s t : State) (status : ℕ) (twice : Bool) (names : List (List ℕ)) (e : CommandError)
     → names ≡ lists_of request ++ others_of request → Decides twice (1 < count_by (is_word input_name) names) → twice ≡ true → IsReadTwice e → Reports false (Err e) s t → status ≡ status_of (Err e)
-    → RunsOnce reading told request closed out out s t status
-run_none reading told request closed out s t status twice names e are decides again is says ends =
+    → RunsOnce reading told refused request closed out out s t status
+run_none reading told refused request closed out s t status twice names e are decides again is says ends =
     inl (subst (λ (k : List (List ℕ)). 1 < count_by (is_word input_name) k) are (decides.0 again), e, is, (refl, told_anyway closed e s t is says, ends))

@@ -8,7 +8,8 @@ use Rattle.cidr.specs.declared.family.Family.{Family}
 use Rattle.cidr.specs.declared.family.Family.TheVariants.{Ipv4, Ipv6}
 use Rattle.cidr_table.specs.FiniteMap.{StoredRows}
 use Rattle.cidr_table.specs.LastRows.{AreLastRows}
-use Rattle.netset.specs.Lists.{Text, text_by}
+use Rattle.netset.specs.Causes.{TextFails}
+use Rattle.netset.specs.Lists.{Text, lines_of, text_by}
 use Rattle.netset.specs.Look.{IsBadRow, IsUnreadTable, RowSays, row_in, rows_in, said_in}
 use Rattle.netset.specs.LookUps.{Adds, AreWithin, IsErrorAt, ReadsRows, ReadsTable, Stores, kept, resolved, stored, unread, value_at}
 use Rattle.netset.specs.Reading.{IsNextLine, IsStopped}
@@ -18,6 +19,7 @@ use Rattle.netset.specs.declared.lines.HostBits.{HostBits}
 use Rattle.netset.specs.declared.rows.Rows.{Rows}
 use Rattle.netset.specs.declared.rows.Span.{Span}
 use Rattle.netset.specs.declared.table.Table.{Table}
+use Rattle.netset.proofs.Causes.{KnownOf, too_many}
 use Rattle.netset.proofs.ReadBy.{bytes_read, text_same}
 use Rattle.netset.proofs.Resolved.{last_rows_mapped}
 use Rattle.netset.proofs.Passed.{Passed, none_passed, one_passed, all_passed, cut_before, error_passed}
@@ -154,6 +156,17 @@ module _ (bits : HostBits) where
       → IfSome told (λ text. ReadsRows (text_by bits text) r)
   rows_stopped told r y e is same h =
       subst (λ (k : Result Rows ReadError). IfSome told (λ text. ReadsRows (text_by bits text) k)) (sym (is ∙ ap failing same)) (no_more_rows told e h)
+
+  -- what is left is told too
+  pub rows_known : (told left : Option (List ℕ)) (rows : Rows) (number : ℕ) → IfSome told (λ text. Reads text left rows number) → KnownOf told left
+  rows_known None left rows number p = tt
+  rows_known (Some text) left rows number (said, p, s) = (p.rest, p.known)
+
+  -- there are more lines than numbers
+  pub rows_used : (told left : Option (List ℕ)) (rows : Rows) (number : ℕ) → IfSome told (λ text. Reads text left rows number)
+      → 18446744073709551615 ≤ number → TextFails told
+  rows_used None left rows number p most = tt
+  rows_used (Some text) left rows number (said, p, s) most = too_many text p.before (lines_of p.rest) number p.lines p.place most
 
 -- ---- the table of the rows
 -- what is read of a reader whose bytes are told

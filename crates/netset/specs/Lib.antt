@@ -1,6 +1,7 @@
 -- What has to be believed: what lists say, what commands answer, and a run of the program. `Reading`, `Command`,
 -- `Gathering`, `Loading`, `Answering` and `LookUps` are what private functions promise.
 pub mod Lists
+pub mod Causes
 pub mod Reading
 pub mod Printing
 pub mod Single

@@ -3,7 +3,7 @@
 -- which says nothing.
 use Rattle.std.specs.Prelude.{◌≡◌, ◌≢◌, ◌⊎◌, ℕ, ◌+◌, ◌==◌, Bool, ◌||◌, List, [], ◌∷◌, ◌++◌, length, map, IsUtf8}
 use Rattle.std.specs.Char.{is_ascii_whitespace}
-use Rattle.std.specs.List.{AllZip, slice_split, before_first, flat_map}
+use Rattle.std.specs.List.{AllZip, before_first, flat_map}
 use Rattle.std.specs.Str.{IsTrimAscii, IsTrimAsciiStart}
 use Rattle.std.specs.declared.cmp.Ordering.TheVariants.{Greater}
 use Rattle.cidr.specs.either.IpAddress.{IsIpText, address_family, ip_address_bits}
@@ -20,6 +20,7 @@ use Rattle.cidr.specs.declared.errors.NetworkParseError.{NetworkParseError}
 use Rattle.cidr.specs.declared.family.Family.{Family}
 use Rattle.cidr.specs.declared.family.Family.TheVariants.{Ipv4, Ipv6}
 use Rattle.cidr.specs.declared.inet.combined.IpInet.{IpInet}
+pub use Rattle.cidr_io.specs.Lines.{is_line_feed, lines_of}
 use Rattle.cidr_sets.specs.Ranges.{IsBetween}
 use Rattle.cidr_sets.specs.Sets.{IsSetOf}
 use Rattle.netset.specs.declared.errors.LineError.{LineError}
@@ -28,10 +29,6 @@ use Rattle.netset.specs.declared.lines.HostBits.{HostBits}
 use Rattle.netset.specs.declared.lines.HostBits.TheVariants.{Refused, Cleared}
 use Rattle.netset.specs.declared.lines.Content.{Content}
 use Rattle.netset.specs.declared.lines.Content.TheVariants.{Blank, Network, Ipv4Range, Ipv6Range}
-
--- a line feed
-abbrev pub is_line_feed : ℕ → Bool
-is_line_feed byte = byte == 10
 
 -- # or ;
 abbrev pub is_comment_sign : ℕ → Bool
@@ -48,10 +45,6 @@ pub record Text : Type 0 where
 
 abbrev pub text_by : HostBits → List ℕ → Text
 text_by bits bytes = record { bytes = bytes; host_bits = bits }
-
--- the bytes between line feeds
-abbrev pub lines_of : List ℕ → List (List ℕ)
-lines_of text = slice_split is_line_feed text
 
 -- the line without a comment and without ASCII white space at both ends, the carriage return of CRLF among it
 abbrev pub IsField : List ℕ → List ℕ → Type 0

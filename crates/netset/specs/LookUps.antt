@@ -81,7 +81,7 @@ pub record AreBeforeError {S : Type 0} (Says : List ℕ → S → Type 0) (IsBad
 -- the error is that of this line, or the line is not known to have one
 abbrev pub IsErrorAt : (List ℕ → LineError → Type 0) → List ℕ → ℕ → ReadError → Type 0
 IsErrorAt IsBad line number (Line n e) = (n ≡ number) × IsBad line e
-IsErrorAt IsBad line number Input = Unit {0}
+IsErrorAt IsBad line number Input = ⊥
 IsErrorAt IsBad line number NoMemory = Unit {0}
 
 -- the row that a line says, if it says one, comes behind those before

@@ -1,5 +1,5 @@
 -- What a run of the program does with its arguments, the files, standard output and standard error.
-use Rattle.std.specs.Prelude.{◌≡◌, ◌≢◌, ℕ, Bool, true, false, List, [], ◌∷◌, ◌++◌, ◌⊎◌, codes, Option, Some, option_map, Result, Ok, Err, Contains}
+use Rattle.std.specs.Prelude.{◌≡◌, ◌≢◌, ℕ, ◌≤◌, Bool, true, false, List, [], ◌∷◌, ◌++◌, ◌⊎◌, codes, Option, Some, option_map, Result, Ok, Err, IfErr}
 use Rattle.std.specs.List.{AllZip}
 use Rattle.cidr.specs.texts.Messages.{parse_message}
 use Rattle.cidr.specs.either.IpText.{IsIpNetworkText}
@@ -9,12 +9,13 @@ use Rattle.cidr_io.specs.Writing.{State, Answered, Says as Tells}
 use Rattle.cidr_io.specs.declared.sink.OutputFailed.{OutputFailed}
 use Rattle.netset.specs.Lists.{Text, text_by, ListSays, IsFirstError}
 use Rattle.netset.specs.Commands.{Request, Lists, NotIn, Diff, Free, Check, Match, Look, Single, Help, Version, IsRequest, IsUsage, MayRead, ReadsInputTwice, input_name, lists_of, reading_of, reading_options, without_options, read_files, AreTold, IsAnswer, Says}
+use Rattle.netset.specs.Causes.{Cause, MayFail}
 use Rattle.netset.specs.Free.{IsBadLength}
 use Rattle.netset.specs.Keeping.{AreTellings, fault_line, kind_of}
 use Rattle.netset.specs.Look.{IsLookCut, IsUnreadTable}
 use Rattle.netset.specs.Matching.{has, written_of, IsCutAt, Picks}
 use Rattle.netset.specs.Streaming.{IsCutShort}
-use Rattle.netset.specs.Single.{IsBadSingle, IsNoNetwork}
+use Rattle.netset.specs.Single.{IsBadSingle, IsNoNetwork, IsNumber}
 use Rattle.netset.specs.Unchecked.{IsUnchecked}
 use Rattle.netset.specs.declared.errors.ArgumentError.{ArgumentError}
 use Rattle.netset.specs.declared.errors.ArgumentError.TheVariants as bad
@@ -25,16 +26,18 @@ use Rattle.netset.specs.declared.answers.Verdict.TheVariants.{Yes, No}
 use Rattle.netset.specs.declared.errors.CommandError.{CommandError}
 use Rattle.netset.specs.declared.errors.CommandError.TheVariants as error
 
--- why the lists of these names are not read: the first line in error of the first list that has one, a file that can't
--- be read, or memory
+-- one of these files is the first whose list is not read: those before it say their networks
+abbrev pub StopsAt : (List ℕ → Option Text) → List (List ℕ) → List ℕ → Type 0
+StopsAt told names name = (before : List (List ℕ)) × (after : List (List ℕ)) × (names ≡ before ++ name ∷ after)
+    × ((texts : List Text) → AreTold told before texts → (said : List (List (List IpCidr))) × AllZip ListSays texts said)
+
+-- why the lists of these names are not read: the first line in error of the first list that is not read, that its file
+-- can't be read, or memory
 abbrev pub IsUnread : (List ℕ → Option Text) → List (List ℕ) → CommandError → Type 0
 IsUnread told names error.Usage = ⊥
 IsUnread told names (error.Argument text e) = ⊥
-IsUnread told names (error.Line name number e) =
-    (before : List (List ℕ)) × (after : List (List ℕ)) × (names ≡ before ++ name.now ∷ after)
-    × ((texts : List Text) → AreTold told before texts → (said : List (List (List IpCidr))) × AllZip ListSays texts said)
-    × ((text : Text) → told name.now ≡ Some text → IsFirstError text number e)
-IsUnread told names (error.Input name) = Contains names name.now
+IsUnread told names (error.Line name number e) = StopsAt told names name.now × ((text : Text) → told name.now ≡ Some text → IsFirstError text number e)
+IsUnread told names (error.Input name) = StopsAt told names name.now
 IsUnread told names error.NoMemory = Unit {0}
 IsUnread told names error.Output = ⊥
 
@@ -59,7 +62,8 @@ IsRefused told (Lists operation files) (Err e) = IsUnread told (read_files files
 IsRefused told (NotIn net files) (Err e) = IsBadArgument (λ text bad. (text ≡ net) × IsNoNetwork net bad) e
     ⊎ ((network : IpCidr) × IsIpNetworkText net network × IsUnread told (read_files files) e)
 IsRefused told (Diff old new) (Err e) = IsUnread told (old ∷ new ∷ []) e
-IsRefused told (Free pool len used) (Err e) = IsBadArgument (IsBadLength len) e ⊎ IsUnread told (pool ∷ used) e
+IsRefused told (Free pool len used) (Err e) = IsBadArgument (IsBadLength len) e
+    ⊎ ((n : ℕ) × IsNumber len n × (n ≤ 128) × IsUnread told (pool ∷ used) e)
 IsRefused told (Check files) (Err e) = IsUnchecked told (read_files files) e
 IsRefused told (Match options list file) (Err e) = IsUnread told (list ∷ []) e ⊎ IsInputError file e
 IsRefused told (Look table file) (Err e) = IsUnreadTable (told table) table e ⊎ IsInputError file e
@@ -98,6 +102,11 @@ AnswersRequest told (Match options list file) old new r =
 AnswersRequest told (Look table file) old new r =
     AnswersWhole told (Look table file) old new r ⊎ IsCutShort (IsLookUntil told table file) file old new r
 AnswersRequest told request old new r = AnswersWhole told request old new r
+
+-- a request is given up only for its cause; why `check` is given up is not told yet
+abbrev pub IsCaused : (List ℕ → Option Text) → Bool → Request → Result Verdict CommandError → Type 0
+IsCaused told refused (Check files) r = Unit {0}
+IsCaused told refused request r = IfErr r (Cause (MayFail told) refused)
 
 -- the lists of the files, read this way
 abbrev pub told_by : HostBits → (List ℕ → Option (List ℕ)) → List ℕ → Option Text
@@ -157,21 +166,22 @@ IsLoadError names e = ⊥
 
 -- a request whose lists are read whole first: each line in error is told, and then nothing is written; where there is
 -- none, the request is answered
-abbrev pub KeepsGoing : (List ℕ → Option Text) → Request → Bool → State → State → State → State → ℕ → Type 0
-KeepsGoing told request closed out new_out err new_err status = (lines : List ℕ) × (mid : State) × Tells err mid lines
+abbrev pub KeepsGoing : (List ℕ → Option Text) → Bool → Request → Bool → State → State → State → State → ℕ → Type 0
+KeepsGoing told refused request closed out new_out err new_err status = (lines : List ℕ) × (mid : State) × Tells err mid lines
     × ((((texts : List Text) → AreTold told (lists_of request) texts → AreTellings (kind_of request) (lists_of request) texts lines)
     × (((lines ≢ []) × (new_out ≡ out) × (new_err ≡ mid) × (status ≡ 2))
-    ⊎ ((lines ≡ []) × (r : Result Verdict CommandError) × AnswersRequest told request out new_out r × Reports closed r mid new_err × (status ≡ status_of r))))
+    ⊎ ((lines ≡ []) × (r : Result Verdict CommandError) × AnswersRequest told request out new_out r × IsCaused told refused request r
+    × Reports closed r mid new_err × (status ≡ status_of r))))
     ⊎ ((before after : List (List ℕ)) × (lists_of request ≡ before ++ after)
     × ((texts : List Text) → AreTold told before texts → AreTellings (kind_of request) before texts lines)
-    × (e : CommandError) × IsLoadError after e × (new_out ≡ out) × Reports closed (Err e) mid new_err × (status ≡ status_of (Err e))))
+    × (e : CommandError) × IsLoadError after e × Cause (MayFail told) refused e × (new_out ≡ out) × Reports closed (Err e) mid new_err × (status ≡ status_of (Err e))))
 
 -- what becomes of a request, its lists read this way
-abbrev pub RunsRequest : Reading → (List ℕ → Option Text) → Request → Bool → State → State → State → State → ℕ → Type 0
-RunsRequest reading told request closed out new_out err new_err status =
-    ((reading.keeps_going ≡ true) × KeepsGoing told request closed out new_out err new_err status)
+abbrev pub RunsRequest : Reading → (List ℕ → Option Text) → Bool → Request → Bool → State → State → State → State → ℕ → Type 0
+RunsRequest reading told refused request closed out new_out err new_err status =
+    ((reading.keeps_going ≡ true) × KeepsGoing told refused request closed out new_out err new_err status)
     ⊎ ((reading.keeps_going ≡ false) × (r : Result Verdict CommandError) × AnswersRequest told request out new_out r
-    × Reports closed r err new_err × (status ≡ status_of r))
+    × IsCaused told refused request r × Reports closed r err new_err × (status ≡ status_of r))
 
 -- the run ends with this error, and nothing is written to standard output
 abbrev pub EndsWith : CommandError → Bool → State → State → State → State → ℕ → Type 0
@@ -182,27 +192,27 @@ abbrev pub IsReadTwice : CommandError → Type 0
 IsReadTwice e = IsBadArgument (λ text why. (text ≡ input_name) × (why ≡ bad.ReadTwice)) e
 
 -- what becomes of a request by itself: one that reads the standard input more than once is not answered
-abbrev pub RunsOnce : Reading → (List ℕ → Option (List ℕ)) → Request → Bool → State → State → State → State → ℕ → Type 0
-RunsOnce reading told request closed out new_out err new_err status =
+abbrev pub RunsOnce : Reading → (List ℕ → Option (List ℕ)) → Bool → Request → Bool → State → State → State → State → ℕ → Type 0
+RunsOnce reading told refused request closed out new_out err new_err status =
     (ReadsInputTwice request × (e : CommandError) × IsReadTwice e × EndsWith e closed out new_out err new_err status)
-    ⊎ (¬ (ReadsInputTwice request) × RunsRequest reading (told_by reading.host_bits told) request closed out new_out err new_err status)
+    ⊎ (¬ (ReadsInputTwice request) × RunsRequest reading (told_by reading.host_bits told) refused request closed out new_out err new_err status)
 
 -- what becomes of arguments without options of reading; others than those of a request are usage
-abbrev pub RunsWords : Reading → (List ℕ → Option (List ℕ)) → List (List ℕ) → Bool → State → State → State → State → ℕ → Type 0
-RunsWords reading told words closed out new_out err new_err status =
+abbrev pub RunsWords : Reading → (List ℕ → Option (List ℕ)) → Bool → List (List ℕ) → Bool → State → State → State → State → ℕ → Type 0
+RunsWords reading told refused words closed out new_out err new_err status =
     (IsUsageBy reading words × EndsWith error.Usage closed out new_out err new_err status)
-    ⊎ ((request : Request) × IsRequest words request × MayRead reading request × RunsOnce reading told request closed out new_out err new_err status)
+    ⊎ ((request : Request) × IsRequest words request × MayRead reading request × RunsOnce reading told refused request closed out new_out err new_err status)
 
 -- the same of arguments with options of reading, or there was no memory for them
-abbrev pub RunsArguments : (List ℕ → Option (List ℕ)) → List (List ℕ) → Bool → State → State → State → State → ℕ → Type 0
-RunsArguments told words closed out new_out err new_err status =
-    RunsWords (reading_of (reading_options words)) told (without_options words) closed out new_out err new_err status
-    ⊎ EndsWith error.NoMemory closed out new_out err new_err status
+abbrev pub RunsArguments : (List ℕ → Option (List ℕ)) → Bool → List (List ℕ) → Bool → State → State → State → State → ℕ → Type 0
+RunsArguments told refused words closed out new_out err new_err status =
+    RunsWords (reading_of (reading_options words)) told refused (without_options words) closed out new_out err new_err status
+    ⊎ ((refused ≡ true) × EndsWith error.NoMemory closed out new_out err new_err status)
 
--- A run, from the arguments and the files to the exit status. `closed` tells whether the output has failed since nobody
+-- A run, from the arguments and the files to the exit status. `refused` tells whether an allocation was refused, and `closed` tells whether the output has failed since nobody
 -- reads it any more.
-abbrev pub Runs : Option (List (List ℕ)) → (List ℕ → Option (List ℕ)) → Bool → State → State → State → State → ℕ → Type 0
-Runs words told closed out new_out err new_err status =
-    ((given : List (List ℕ)) × AreArguments words given × RunsArguments told given closed out new_out err new_err status)
+abbrev pub Runs : Option (List (List ℕ)) → (List ℕ → Option (List ℕ)) → Bool → Bool → State → State → State → State → ℕ → Type 0
+Runs words told refused closed out new_out err new_err status =
+    ((given : List (List ℕ)) × AreArguments words given × RunsArguments told refused given closed out new_out err new_err status)
     ⊎ ((AreUnreadable words × EndsWith error.Usage closed out new_out err new_err status)
-    ⊎ EndsWith error.NoMemory closed out new_out err new_err status)
+    ⊎ ((refused ≡ true) × EndsWith error.NoMemory closed out new_out err new_err status))

@@ -1,20 +1,19 @@
 -- What functions that read a list promise, about bytes that are known.
-use Rattle.std.specs.Prelude.{◌≡◌, ◌≢◌, ℕ, Bool, true, false, List, [], ◌∷◌, ◌++◌, Option, Some, Result, Ok, Err, MatchResult}
+use Rattle.std.specs.Prelude.{◌≡◌, ◌≢◌, ℕ, Bool, true, false, List, [], ◌∷◌, ◌++◌, Result, Ok, Err, MatchResult}
 use Rattle.cidr.specs.declared.cidr.combined.IpCidr.{IpCidr}
 use Rattle.cidr.specs.declared.family.Family.{Family}
 use Rattle.cidr.specs.declared.family.Family.TheVariants.{Ipv4, Ipv6}
-use Rattle.netset.specs.Lists.{Text, lines_of, IsField, IsContent, IsFieldError, AreNetworks, LineSays, IsInError, ListSays, IsFirstError, network_in, networks_in}
+pub use Rattle.cidr_io.specs.Lines.{IsNextLine}
+use Rattle.cidr_io.specs.declared.lines.ReadError.{ReadError as NoLine}
+use Rattle.cidr_io.specs.declared.lines.ReadError.TheVariants.{Failed}
+use Rattle.cidr_io.specs.declared.lines.ReadError.TheVariants as no_line
+use Rattle.netset.specs.Lists.{Text, IsField, IsContent, IsFieldError, AreNetworks, LineSays, IsInError, ListSays, IsFirstError, network_in, networks_in}
 use Rattle.netset.specs.declared.errors.LineError.{LineError}
 use Rattle.netset.specs.declared.errors.ReadError.{ReadError}
 use Rattle.netset.specs.declared.errors.ReadError.TheVariants.{Line, Input, NoMemory}
 use Rattle.netset.specs.declared.lines.Content.{Content}
 use Rattle.netset.specs.declared.lines.HostBits.{HostBits}
 use Rattle.netset.specs.declared.lists.Lists.{Lists}
-
--- the first line of a text; if it is not the last, the others are what the reader has left
-abbrev pub IsNextLine : List ℕ → List ℕ → Bool → Option (List ℕ) → Type 0
-IsNextLine text line true left = (rest : List ℕ) × (left ≡ Some rest) × (lines_of text ≡ line ∷ lines_of rest)
-IsNextLine text line false left = lines_of text ≡ line ∷ []
 
 -- a line feed at the end is dropped, if there is one
 abbrev pub DropsLineFeed : List ℕ → List ℕ → Bool → Type 0
@@ -28,6 +27,11 @@ ReadsField bits field r = MatchResult r (IsContent bits field) (IsFieldError bit
 -- what the field of a line says, or its error
 abbrev pub ReadsLine : HostBits → List ℕ → Result Content LineError → Type 0
 ReadsLine bits line r = (field : List ℕ) × IsField line field × ReadsField bits field r
+
+-- a source that has failed can't be read
+abbrev pub read_error : NoLine → ReadError
+read_error Failed = Input
+read_error no_line.NoMemory = NoMemory
 
 -- no line is in error
 abbrev pub IsStopped : ReadError → Type 0
@@ -57,7 +61,7 @@ AddsContent content old new = (said : List IpCidr) × AreNetworks content said �
 -- the error is that of this line, or the line is not known to have one
 abbrev pub IsLineError : HostBits → List ℕ → ℕ → ReadError → Type 0
 IsLineError bits line number (Line n e) = (n ≡ number) × IsInError bits line e
-IsLineError bits line number Input = Unit {0}
+IsLineError bits line number Input = ⊥
 IsLineError bits line number NoMemory = Unit {0}
 
 -- the networks that a line says come behind those before

@@ -1,5 +1,5 @@
 //! What a second list adds to a first one, and what it lacks.
-ghost use Rattle.std.specs.Prelude.{◌≡◌, ◌↔◌, [], map, IsTrue};
+ghost use Rattle.std.specs.Prelude.{◌≡◌, ◌↔◌, [], map, IfErr, IsTrue};
 ghost use Rattle.std.specs.Iterator.{YieldsFirst, item_count};
 ghost use Rattle.std.specs.List.{flat_map};
 ghost use Rattle.cidr.specs.declared.family.Family.{Family};
@@ -7,6 +7,7 @@ ghost use Rattle.cidr_io.specs.Writing.{Answered, Writes};
 ghost use Rattle.netset.specs.Answering.{changed};
 ghost use Rattle.netset.specs.Changes.{AreSame, adds_first, change_line, merged, printed_changes, sign_text};
 ghost use Rattle.cidr_io.specs.Collecting.{Collects};
+ghost use Rattle.netset.specs.Causes.{Cause, MayFail};
 ghost use Rattle.netset.specs.Commands.{Diff};
 ghost use Rattle.netset.specs.Program.{AnswersRequest};
 
@@ -19,9 +20,9 @@ use crate::sets::Sets;
 use crate::several::read_both;
 use cidr::NetworkBits;
 use cidr_io::block::Block;
+use cidr_io::memory::Memory;
 use cidr_io::sink::{OutputFailed, Sink};
 use cidr_io::writing::flush;
-use std::alloc::Global;
 use std::marker::Model;
 
 /// Whether a network is added or lacking.
@@ -150,18 +151,21 @@ fn verdict_of(added: &Sets, lacking: &Sets) -> Verdict
 }
 
 /// The command `diff`.
-pub fn diff<'a, F: Sources, O: Sink>(
-    alloc: Global,
+pub fn diff<'a, M: Memory, F: Sources, O: Sink>(
+    memory: &mut M,
     sources: &F,
     old: &'a str,
     new: &'a str,
     out: &mut O,
 ) -> Result<Verdict, CommandError<'a>>
-    ensures { AnswersRequest (F.told sources.now) (Diff old.now new.now) (O.state out.old) (O.state out.new) result }
+    ensures answers { AnswersRequest (F.told sources.now) (Diff old.now new.now) (O.state out.old) (O.state out.new) result }
+    ensures cause { IfErr result (Cause (MayFail (F.told sources.now)) (M.refused memory.new)) }
 {
-    let (old, new) = read_both(alloc, sources, old, new)?;
-    let added = new.stepped(Step::Difference, &old)?;
-    let lacking = old.stepped(Step::Difference, &new)?;
+    let (old, new) = read_both(memory, sources, old, new)?;
+    let added = new.stepped(Step::Difference, &old);
+    let added = memory.watch(added)?;
+    let lacking = old.stepped(Step::Difference, &new);
+    let lacking = memory.watch(lacking)?;
     by_output(
         verdict_of(&added, &lacking),
         write_both(out, &added, &lacking),

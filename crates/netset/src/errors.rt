@@ -1,6 +1,7 @@
 //! Why a list can't be read, and why a command gave no answer.
 use cidr::AddrParseError;
 use cidr::errors::NetworkParseError;
+use cidr_io::lines;
 use std::alloc::{AllocError, AllocFailed};
 use std::io;
 
@@ -80,6 +81,20 @@ impl From<io::Error> for ReadError {
         match error.kind() {
             io::ErrorKind::OutOfMemory => ReadError::NoMemory,
             _ => ReadError::Input,
+        }
+    }
+}
+
+impl From<lines::ReadError> for ReadError {
+    ghost use Rattle.netset.specs.Reading.{read_error};
+    ghost use Rattle.std.specs.Prelude.{◌≡◌};
+
+    ghost from_gives = { λ e read. read ≡ read_error e };
+
+    fn from(error: lines::ReadError) -> ReadError {
+        match error {
+            lines::ReadError::Failed => ReadError::Input,
+            lines::ReadError::NoMemory => ReadError::NoMemory,
         }
     }
 }

@@ -5,34 +5,42 @@ ghost use Rattle.netset.specs.Program.{told_by};
 
 use crate::lines::HostBits;
 use crate::terminal::{Progress, Watched};
+use cidr_io::source::Source;
 use std::io::{Eprint, Input, Read};
 use std::rt::Clock;
 use std::{fs, io, rt};
 
 /// What a run reads: its files and its standard input.
 pub trait Files {
-    type Reader: Read + Drop;
+    type Reader: Read + Source + Drop;
 
-    /// The bytes of the file of a name, if they are told. The name `-` is that of the standard input.
+    /// The bytes of the file of a name, if they are told: it can be read then. The name `-` is that of the standard
+    /// input.
     ghost told: { Self → List ℕ → Option (List ℕ) };
 
     /// Opens the file of this name; `None` where it can't be opened.
     fn open(&self, name: &str) -> Option<Self::Reader>
-        ensures { IfSome result (λ reader. (text : List ℕ) → told self.now name.now ≡ Some text
-            → Self.Reader.remaining reader ≡ Some text) };
+        ensures bytes { IfSome result (λ reader. (text : List ℕ) → told self.now name.now ≡ Some text
+            → Self.Reader.Read.remaining reader ≡ Some text) }
+        ensures left { IfSome result (λ reader. (text : List ℕ) → told self.now name.now ≡ Some text
+            → Self.Reader.Source.left reader ≡ Some text) }
+        ensures none { result ≡ None → told self.now name.now ≡ None };
 }
 
 /// What lists are read from, and how.
 pub trait Sources {
-    type Reader: Read + Drop;
+    type Reader: Read + Source + Drop;
 
     /// The list of the file of a name, if it is told. The name `-` is that of the standard input.
     ghost told: { Self → List ℕ → Option Text };
 
     /// Opens the file of this name; `None` where it can't be opened.
     fn open(&self, name: &str) -> Option<Self::Reader>
-        ensures { IfSome result (λ reader. (text : Text) → told self.now name.now ≡ Some text
-            → Self.Reader.remaining reader ≡ Some text.bytes) };
+        ensures bytes { IfSome result (λ reader. (text : Text) → told self.now name.now ≡ Some text
+            → Self.Reader.Read.remaining reader ≡ Some text.bytes) }
+        ensures left { IfSome result (λ reader. (text : Text) → told self.now name.now ≡ Some text
+            → Self.Reader.Source.left reader ≡ Some text.bytes) }
+        ensures none { result ≡ None → told self.now name.now ≡ None };
 
     /// What is done with a set bit after the prefix of a network.
     fn host_bits(&self) -> HostBits
@@ -76,6 +84,19 @@ impl<F: Read + Drop, I: Read + Drop> Read for Opened<F, I> {
         match self {
             Opened::File(file) => file.read(buf),
             Opened::Input(input) => input.read(buf),
+        }
+    }
+}
+
+impl<F: Read + Source + Drop, I: Read + Source + Drop> Source for Opened<F, I> {
+    ghost use Rattle.netset.specs.Opened.{opened_remaining};
+
+    ghost left = { opened_remaining F.Source.left I.Source.left };
+
+    fn read_some(&mut self, buf: &mut [u8]) -> Option<usize> {
+        match self {
+            Opened::File(file) => file.read_some(buf),
+            Opened::Input(input) => input.read_some(buf),
         }
     }
 }

@@ -1,5 +1,6 @@
 //! The first free network of a pool.
-ghost use Rattle.std.specs.Prelude.{ℕ, ◌≤◌, ◌<◌, map, MatchOption};
+ghost use Rattle.std.specs.Prelude.{ℕ, ◌≤◌, ◌<◌, map, IfErr, MatchOption};
+ghost use Rattle.netset.specs.Causes.{Cause, MayFail};
 ghost use Rattle.netset.specs.Commands.{Free};
 ghost use Rattle.netset.specs.Free.{IsFreeOf};
 ghost use Rattle.netset.specs.Program.{AnswersRequest};
@@ -15,9 +16,9 @@ use crate::report::write_line;
 use crate::sets::Sets;
 use crate::several::read_named;
 use cidr::IpCidr;
+use cidr_io::memory::Memory;
 use cidr_io::sink::Sink;
 use cidr_io::writing::write_text;
-use std::alloc::Global;
 
 /// The longest prefix length.
 const LONGEST: u8 = 128;
@@ -48,22 +49,24 @@ impl Sets {
 }
 
 /// The command `free`.
-pub fn free<'a, F: Sources, O: Sink>(
-    alloc: Global,
+pub fn free<'a, M: Memory, F: Sources, O: Sink>(
+    memory: &mut M,
     sources: &F,
     pool: &'a str,
     len: &'a str,
     used: &'a [&'a str],
     out: &mut O,
 ) -> Result<Verdict, CommandError<'a>>
-    ensures { AnswersRequest (F.told sources.now) (Free pool.now len.now (map (λ file. file.now) used.now))
+    ensures answers { AnswersRequest (F.told sources.now) (Free pool.now len.now (map (λ file. file.now) used.now))
         (O.state out.old) (O.state out.new) result }
+    ensures cause { IfErr result (Cause (MayFail (F.told sources.now)) (M.refused memory.new)) }
 {
     let Some(bits) = length_of(len) else {
         return Err(CommandError::Argument(len, ArgumentError::Length));
     };
-    let several = read_named(alloc, sources, pool, used)?;
-    let rest = made(Operation::Minus, several)?;
+    let several = read_named(memory, sources, pool, used)?;
+    let rest = made(Operation::Minus, several);
+    let rest = memory.watch(rest)?;
     match rest.first_free(bits) {
         Some(network) => by_output(
             Verdict::Yes,

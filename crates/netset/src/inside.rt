@@ -1,8 +1,9 @@
 //! The addresses of a network that no list has.
-ghost use Rattle.std.specs.Prelude.{◌∷◌, [], map, IfOk};
+ghost use Rattle.std.specs.Prelude.{◌∷◌, [], map, IfErr, IfOk};
 ghost use Rattle.cidr.specs.declared.family.Family.{Family};
 ghost use Rattle.cidr_table.specs.Cover.{Covers};
 ghost use Rattle.cidr_sets.specs.Sets.{IsSetOf};
+ghost use Rattle.netset.specs.Causes.{Cause, MayFail};
 ghost use Rattle.netset.specs.Commands.{NotIn};
 ghost use Rattle.netset.specs.Lists.{network_in};
 ghost use Rattle.netset.specs.Program.{AnswersRequest};
@@ -18,6 +19,7 @@ use crate::sets::Sets;
 use crate::several::read_several;
 use crate::single::network_of;
 use cidr::IpCidr;
+use cidr_io::memory::Memory;
 use cidr_io::sink::Sink;
 use std::alloc::{AllocError, Global};
 
@@ -35,20 +37,24 @@ impl Sets {
 }
 
 /// The command `not --in`.
-pub fn not_in<'a, F: Sources, O: Sink>(
-    alloc: Global,
+pub fn not_in<'a, M: Memory, F: Sources, O: Sink>(
+    memory: &mut M,
     sources: &F,
     net: &'a str,
     files: &'a [&'a str],
     out: &mut O,
 ) -> Result<Verdict, CommandError<'a>>
-    ensures { AnswersRequest (F.told sources.now) (NotIn net.now (map (λ file. file.now) files.now))
+    ensures answers { AnswersRequest (F.told sources.now) (NotIn net.now (map (λ file. file.now) files.now))
         (O.state out.old) (O.state out.new) result }
+    ensures cause { IfErr result (Cause (MayFail (F.told sources.now)) (M.refused memory.new)) }
 {
     let network = network_of(net)?;
-    let several = read_several(alloc, sources, files)?;
-    let rest = made(Operation::Not, several)?;
-    let whole = Sets::of_network(alloc, &network)?;
-    let inside = whole.stepped(Step::Intersection, &rest)?;
+    let several = read_several(memory, sources, files)?;
+    let rest = made(Operation::Not, several);
+    let rest = memory.watch(rest)?;
+    let whole = Sets::of_network(memory.alloc(), &network);
+    let whole = memory.watch(whole)?;
+    let inside = whole.stepped(Step::Intersection, &rest);
+    let inside = memory.watch(inside)?;
     by_output(Verdict::Yes, inside.write(out))
 }

@@ -1,5 +1,6 @@
 //! Telling every line in error of the lists of a command.
-ghost use Rattle.std.specs.Prelude.{◌≡◌, ◌<◌, ◌∷◌, ◌++◌, [], Some, length, map, is_some, option_map, IfSome, MatchResult, IfOk};
+ghost use Rattle.std.specs.Prelude.{◌≡◌, ◌<◌, ◌∷◌, ◌++◌, [], Some, length, map, is_some, option_map, IfSome, MatchResult, IfErr, IfOk, OnErr, true};
+ghost use Rattle.netset.specs.Causes.{Cause, MayFail};
 ghost use Rattle.netset.specs.Command.{request_of};
 ghost use Rattle.netset.specs.Commands.{lists_of, others_of};
 ghost use Rattle.netset.specs.Keeping.{FindsError, TellsErrors, kind_of, kept_or};
@@ -12,14 +13,15 @@ ghost use Rattle.netset.specs.declared.keeping.Kind.TheVariants.{Rows as AsRows}
 use crate::columns::{network_in, split_row};
 use crate::commands::Command;
 use crate::entries::{Place, entry_of};
-use crate::errors::{CommandError, LineError, ReadError};
+use crate::errors::{CommandError, LineError};
 use crate::files::{Opened, Sources};
 use crate::lines::{HostBits, content_of};
 use crate::report::say_fault;
 use cidr_io::block::Block;
+use cidr_io::lines::{ReadError, read_to_end};
+use cidr_io::memory::Memory;
 use cidr_io::sink::Sink;
 use std::alloc::{AllocError, Global};
-use std::io::Read;
 
 /// What the lines of a list are.
 #[derive(Clone, Copy, Debug, Drop, PartialEq)]
@@ -105,7 +107,16 @@ fn tell_errors<E: Sink>(
 
 impl<'a> Command<'a> {
     /// The lists that are read.
-    pub fn lists(&self, alloc: Global) -> Result<Vec<&'a str>, AllocError>
+    pub fn lists<M: Memory>(&self, memory: &mut M) -> Result<Vec<&'a str>, AllocError>
+        ensures names { IfOk result (λ names. map (λ name. name.now) names.items ≡ lists_of (request_of self.now)) }
+        ensures refused { OnErr result (M.refused memory.new ≡ true) }
+    {
+        let listed = self.list_names(memory.alloc());
+        memory.watch(listed)
+    }
+
+    /// The lists that are read.
+    fn list_names(&self, alloc: Global) -> Result<Vec<&'a str>, AllocError>
         ensures { IfOk result (λ names. map (λ name. name.now) names.items ≡ lists_of (request_of self.now)) }
     {
         let mut names = Vec::new(alloc);
@@ -131,13 +142,14 @@ impl<'a> Command<'a> {
     }
 
     /// The files that are read: the lists, and another one behind them.
-    pub fn files(&self, alloc: Global) -> Result<Vec<&'a str>, AllocError>
-        ensures { IfOk result (λ names. map (λ name. name.now) names.items
+    pub fn files<M: Memory>(&self, memory: &mut M) -> Result<Vec<&'a str>, AllocError>
+        ensures names { IfOk result (λ names. map (λ name. name.now) names.items
             ≡ lists_of (request_of self.now) ++ others_of (request_of self.now)) }
+        ensures refused { OnErr result (M.refused memory.new ≡ true) }
     {
-        let mut names = self.lists(alloc)?;
+        let mut names = self.lists(memory)?;
         match self {
-            Command::Match(_, _, file) | Command::Look(_, file) => names.push(*file)?,
+            Command::Match(_, _, file) | Command::Look(_, file) => memory.push(&mut names, *file)?,
             _ => {}
         }
         Ok(names)
@@ -194,49 +206,46 @@ impl<'a, F: Sources> Sources for Loaded<'a, F> {
 }
 
 /// The bytes of a file.
-fn read_whole<'a, F: Sources>(
-    alloc: Global,
+fn read_whole<'a, M: Memory, F: Sources>(
+    memory: &mut M,
     sources: &F,
     file: &'a str,
 ) -> Result<Vec<u8>, CommandError<'a>>
-    ensures { MatchResult result
+    ensures bytes { MatchResult result
         (λ bytes. (text : Text) → F.told sources.now file.now ≡ Some text → bytes.items ≡ text.bytes)
         (IsLoadError (file.now ∷ [])) }
+    ensures cause { IfErr result (Cause (MayFail (F.told sources.now)) (M.refused memory.new)) }
 {
-    let mut bytes = Vec::new(alloc);
-    let Some(mut reader) = sources.open(file) else {
+    let Some(reader) = sources.open(file) else {
         return Err(CommandError::Input(file));
     };
-    match reader.read_to_end(&mut bytes) {
-        Ok(_) => Ok(bytes),
-        Err(e) => match ReadError::from(e) {
-            ReadError::NoMemory => Err(CommandError::NoMemory),
-            _ => Err(CommandError::Input(file)),
-        },
+    match read_to_end(memory, reader) {
+        Ok(bytes) => Ok(bytes),
+        Err(ReadError::NoMemory) => Err(CommandError::NoMemory),
+        Err(ReadError::Failed) => Err(CommandError::Input(file)),
     }
 }
 
 /// Reads lists whole, and tells their lines in error, up to the first list that can't be read.
-pub fn load<'a, F: Sources, E: Sink>(
-    alloc: Global,
+pub fn load<'a, M: Memory, F: Sources, E: Sink>(
+    memory: &mut M,
     sources: &F,
     kind: Kind,
     names: &[&'a str],
     err: &mut E,
 ) -> Result<(Vec<Kept<'a>>, bool), CommandError<'a>>
-    ensures { MatchResult result
+    ensures loads { MatchResult result
         (λ loaded. IsLoaded (F.told sources.now) kind (map (λ name. name.now) names.now)
         (E.state err.old) (E.state err.new) loaded.0.items loaded.1)
         (IsUnloaded (F.told sources.now) kind (map (λ name. name.now) names.now) (E.state err.old) (E.state err.new)) }
+    ensures cause { IfErr result (Cause (MayFail (F.told sources.now)) (M.refused memory.new)) }
 {
-    let mut lists = Vec::new(alloc);
+    let mut lists = Vec::new(memory.alloc());
     let mut found = false;
     for name in names {
-        let bytes = read_whole(alloc, sources, name)?;
+        let bytes = read_whole(memory, sources, name)?;
         found |= tell_errors(kind, sources.host_bits(), name, bytes.as_slice(), err);
-        let Ok(()) = lists.push(Kept { name, bytes }) else {
-            return Err(CommandError::NoMemory);
-        };
+        memory.push(&mut lists, Kept { name, bytes })?;
     }
     Ok((lists, found))
 }

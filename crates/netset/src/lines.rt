@@ -14,8 +14,10 @@ use crate::errors::{LineError, ReadError};
 use cidr::errors::NetworkParseError;
 use cidr::{IpAddr, IpCidr, IpInet, Ipv4Addr, Ipv6Addr};
 use cidr_io::block::Block;
+use cidr_io::lines::LineReader;
 use cidr_io::sink::{OutputFailed, Sink};
-use std::io::{BufRead, BufReader, Read};
+use cidr_io::source::Source;
+use std::io::BufRead;
 
 /// What is done with a set bit after the prefix of a network.
 #[derive(Clone, Copy, Debug, Drop, PartialEq)]
@@ -51,21 +53,9 @@ pub fn next_line<R: BufRead>(reader: &mut R, line: &mut Vec<u8>) -> Result<bool,
     Ok(drop_line_feed(line))
 }
 
-/// A reader that reads ahead.
-pub trait ReadAhead {
-    /// Whether a whole line is read already, so that nothing is read for the next one.
-    fn has_line(&self) -> bool;
-}
-
-impl<R: Read> ReadAhead for BufReader<R> {
-    fn has_line(&self) -> bool {
-        self.buffer().contains(&b'\n')
-    }
-}
-
 /// Writes the lines of a block before more is read, so that they don't wait for it.
-pub fn catch_up<R: ReadAhead, S: Sink>(
-    reader: &R,
+pub fn catch_up<R: Source + Drop, S: Sink>(
+    reader: &LineReader<R>,
     block: &mut Block,
     out: &mut S,
 ) -> Result<(), OutputFailed>

@@ -1,16 +1,19 @@
 //! Reading lists of networks.
-ghost use Rattle.std.specs.Prelude.{◌≡◌, List, [], ◌∷◌, ◌++◌, map, IfSome, OnOk};
+ghost use Rattle.std.specs.Prelude.{◌≡◌, List, [], ◌∷◌, ◌++◌, map, IfErr, IfSome, OnOk};
 ghost use Rattle.cidr_sets.specs.Ranges.{IsBetween};
 ghost use Rattle.cidr_sets.specs.Sets.{IsSetOf};
+ghost use Rattle.netset.specs.Causes.{ReadCause, TextFails};
 ghost use Rattle.netset.specs.Lists.{network_in, text_by};
 ghost use Rattle.netset.specs.Reading.{AddsContent, AddsLine, Grows, ReadsList};
 
 use crate::errors::ReadError;
-use crate::lines::{Content, HostBits, content_of, next_line};
+use crate::lines::{Content, HostBits, content_of};
 use cidr::{IpCidr, Ipv4Cidr, Ipv6Cidr};
+use cidr_io::lines::LineReader;
+use cidr_io::memory::Memory;
+use cidr_io::source::Source;
 use cidr_sets::{Addressed, NetworkSet};
 use std::alloc::{AllocError, Global};
-use std::io::{BufRead, BufReader, Read};
 
 /// The networks of lists, of each family.
 #[derive(Drop)]
@@ -55,17 +58,22 @@ impl Lists {
     }
 
     /// Adds the networks that a line says.
-    fn add_line(
+    fn add_line<M: Memory>(
         &mut self,
-        alloc: Global,
+        memory: &mut M,
         host_bits: HostBits,
         number: u64,
         line: &[u8],
     ) -> Result<(), ReadError>
-        ensures { AddsLine host_bits line.now number self.old self.new result }
+        ensures adds { AddsLine host_bits line.now number self.old self.new result }
+        ensures cause { IfErr result (ReadCause ⊥ (M.refused memory.new)) }
     {
         match content_of(host_bits, line) {
-            Ok(content) => Ok(self.push_content(alloc, &content)?),
+            Ok(content) => {
+                let pushed = self.push_content(memory.alloc(), &content);
+                memory.watch(pushed)?;
+                Ok(())
+            }
             Err(e) => Err(ReadError::Line(number, e)),
         }
     }
@@ -88,19 +96,19 @@ fn push_range<C: Addressed + Copy>(
 }
 
 /// Reads a list to its end or to its first line in error, and adds its networks.
-fn read_lines<R: BufRead>(
-    alloc: Global,
+fn read_lines<M: Memory, S: Source + Drop>(
+    memory: &mut M,
     host_bits: HostBits,
-    reader: &mut R,
+    reader: &mut LineReader<S>,
     lists: &mut Lists,
 ) -> Result<(), ReadError>
-    ensures { IfSome (R.Read.remaining reader.old)
+    ensures reads { IfSome reader.old.left
         (λ bytes. ReadsList (text_by host_bits bytes) lists.old lists.new result) }
+    ensures cause { IfErr result (ReadCause (TextFails reader.old.left) (M.refused memory.new)) }
 {
-    let mut line = Vec::new(alloc);
     for number in 1..u64::MAX {
-        let has_more = next_line(reader, &mut line)?;
-        lists.add_line(alloc, host_bits, number, line.as_slice())?;
+        let has_more = reader.read_line(memory)?;
+        lists.add_line(memory, host_bits, number, reader.line())?;
         if !has_more {
             return Ok(());
         }
@@ -109,14 +117,15 @@ fn read_lines<R: BufRead>(
 }
 
 /// Reads a list in blocks, to its end or to its first line in error, and adds its networks.
-pub fn read_list<R: Read + Drop>(
-    alloc: Global,
+pub fn read_list<M: Memory, S: Source + Drop>(
+    memory: &mut M,
     host_bits: HostBits,
-    reader: R,
+    source: S,
     lists: &mut Lists,
 ) -> Result<(), ReadError>
-    ensures { IfSome (R.remaining reader) (λ bytes. ReadsList (text_by host_bits bytes) lists.old lists.new result) }
+    ensures reads { IfSome (S.left source) (λ bytes. ReadsList (text_by host_bits bytes) lists.old lists.new result) }
+    ensures cause { IfErr result (ReadCause (TextFails (S.left source)) (M.refused memory.new)) }
 {
-    let mut reader = BufReader::new(alloc, reader)?;
-    read_lines(alloc, host_bits, &mut reader, lists)
+    let mut reader = LineReader::new(memory, source)?;
+    read_lines(memory, host_bits, &mut reader, lists)
 }

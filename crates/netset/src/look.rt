@@ -1,5 +1,6 @@
 //! The longest networks of addresses.
-ghost use Rattle.std.specs.Prelude.{◌≡◌};
+ghost use Rattle.std.specs.Prelude.{◌≡◌, IfErr, false};
+ghost use Rattle.netset.specs.Causes.{Cause, LookCause, MayFail, TextFails};
 ghost use Rattle.netset.specs.Commands.{Look};
 ghost use Rattle.netset.specs.LookUps.{LooksAll, LooksLine, LooksLines, kept, verdict_of};
 ghost use Rattle.netset.specs.Program.{AnswersRequest};
@@ -9,12 +10,13 @@ use crate::answers::Verdict;
 use crate::columns::{address_in, split_line};
 use crate::errors::{CommandError, ReadError};
 use crate::files::Sources;
-use crate::lines::{ReadAhead, catch_up, next_line};
+use crate::lines::catch_up;
 use crate::table::{Table, read_table, unread};
 use cidr_io::block::Block;
+use cidr_io::lines::{LineReader, ReadError as NoLine};
+use cidr_io::memory::Memory;
 use cidr_io::sink::{OutputFailed, Sink};
-use std::alloc::Global;
-use std::io::{BufRead, BufReader};
+use cidr_io::source::Source;
 
 /// Why look-ups end early.
 #[derive(Debug, Drop)]
@@ -25,14 +27,15 @@ pub enum LookError {
     Output,
 }
 
-impl From<ReadError> for LookError {
+impl From<NoLine> for LookError {
     ghost use Rattle.std.specs.Prelude.{◌≡◌};
+    ghost use Rattle.netset.specs.Reading.{read_error};
     ghost use Rattle.netset.specs.declared.look.LookError.TheVariants.{Reading};
 
-    ghost from_gives = { λ e look. look ≡ Reading e };
+    ghost from_gives = { λ e look. look ≡ Reading (read_error e) };
 
-    fn from(error: ReadError) -> LookError {
-        LookError::Reading(error)
+    fn from(error: NoLine) -> LookError {
+        LookError::Reading(ReadError::from(error))
     }
 }
 
@@ -55,8 +58,9 @@ fn look_line<S: Sink>(
     block: &mut Block,
     out: &mut S,
 ) -> Result<bool, LookError>
-    ensures { LooksLine (kept table.now) line.now number (S.state out.old) (S.state out.new)
+    ensures looks { LooksLine (kept table.now) line.now number (S.state out.old) (S.state out.new)
         block.old block.new result }
+    ensures cause { IfErr result (LookCause ⊥ false) }
 {
     let Some((first, _)) = split_line(line) else {
         return Ok(false);
@@ -72,22 +76,22 @@ fn look_line<S: Sink>(
 
 /// Looks up the address of each line, to the end or to the first line in error, and appends their lines to a block, which
 /// is written before more is read; tells whether a network has one of them.
-fn look_lines<R: BufRead + ReadAhead, S: Sink>(
-    alloc: Global,
+fn look_lines<M: Memory, R: Source + Drop, S: Sink>(
+    memory: &mut M,
     table: &Table,
-    reader: &mut R,
+    reader: &mut LineReader<R>,
     block: &mut Block,
     out: &mut S,
 ) -> Result<bool, LookError>
-    ensures { LooksLines (kept table.now) (R.Read.remaining reader.old) (S.state out.old) (S.state out.new)
+    ensures looks { LooksLines (kept table.now) reader.old.left (S.state out.old) (S.state out.new)
         block.old block.new result }
+    ensures cause { IfErr result (LookCause (TextFails reader.old.left) (M.refused memory.new)) }
 {
-    let mut line = Vec::new(alloc);
     let mut found = false;
     for number in 1..u64::MAX {
         catch_up(reader, block, out)?;
-        let has_more = next_line(reader, &mut line)?;
-        let hit = look_line(table, number, line.as_slice(), block, out)?;
+        let has_more = reader.read_line(memory)?;
+        let hit = look_line(table, number, reader.line(), block, out)?;
         if hit {
             found = true;
         }
@@ -100,19 +104,20 @@ fn look_lines<R: BufRead + ReadAhead, S: Sink>(
 
 /// Looks up the address of each line and writes their lines in blocks, also those before a line in error; tells whether
 /// a network has one of them. An output that has failed before gets nothing.
-fn look_all<R: BufRead + ReadAhead, S: Sink>(
-    alloc: Global,
+fn look_all<M: Memory, R: Source + Drop, S: Sink>(
+    memory: &mut M,
     table: &Table,
-    reader: &mut R,
+    reader: &mut LineReader<R>,
     out: &mut S,
 ) -> Result<bool, LookError>
-    ensures { LooksAll (kept table.now) (R.Read.remaining reader.old) (S.state out.old) (S.state out.new) result }
+    ensures looks { LooksAll (kept table.now) reader.old.left (S.state out.old) (S.state out.new) result }
+    ensures cause { IfErr result (LookCause (TextFails reader.old.left) (M.refused memory.new)) }
 {
     if out.failed() {
         return Err(LookError::Output);
     }
     let mut block = Block::new();
-    match look_lines(alloc, table, reader, &mut block, out) {
+    match look_lines(memory, table, reader, &mut block, out) {
         Ok(found) => {
             block.flush(out)?;
             Ok(found)
@@ -133,23 +138,24 @@ fn verdict_of(found: bool) -> Verdict
 }
 
 /// The command `look`.
-pub fn look<'a, F: Sources, O: Sink>(
-    alloc: Global,
+pub fn look<'a, M: Memory, F: Sources, O: Sink>(
+    memory: &mut M,
     sources: &F,
     table: &'a str,
     file: &'a str,
     out: &mut O,
 ) -> Result<Verdict, CommandError<'a>>
-    ensures { AnswersRequest (F.told sources.now) (Look table.now file.now) (O.state out.old) (O.state out.new) result }
+    ensures answers { AnswersRequest (F.told sources.now) (Look table.now file.now) (O.state out.old) (O.state out.new) result }
+    ensures cause { IfErr result (Cause (MayFail (F.told sources.now)) (M.refused memory.new)) }
 {
-    let rows = read_table(alloc, sources, table)?;
+    let rows = read_table(memory, sources, table)?;
     let Some(reader) = sources.open(file) else {
         return Err(CommandError::Input(file));
     };
-    let Ok(mut reader) = BufReader::new(alloc, reader) else {
+    let Ok(mut reader) = LineReader::new(memory, reader) else {
         return Err(CommandError::NoMemory);
     };
-    match look_all(alloc, &rows, &mut reader, out) {
+    match look_all(memory, &rows, &mut reader, out) {
         Ok(found) => Ok(verdict_of(found)),
         Err(LookError::Reading(e)) => Err(unread(file, e)),
         Err(LookError::Output) => Err(CommandError::Output),

@@ -33,6 +33,7 @@ mod terminal;
 mod words;
 
 use cidr_io::arguments::Given;
+use cidr_io::memory::Heap;
 use cidr_io::sink::Tracked;
 use files::System;
 use program::program;
@@ -57,5 +58,6 @@ fn main(rt: HostRuntime) -> ExitCode {
         progress: &progress,
     };
     let arguments = Given { system: &rt };
-    ExitCode::from(program(rt.alloc(), &arguments, &sources, &mut out, &mut err))
+    let mut memory = Heap::new(rt.alloc());
+    ExitCode::from(program(&mut memory, &arguments, &sources, &mut out, &mut err))
 }

@@ -1,8 +1,9 @@
 //! The command `match`: the lines of a file whose first field lies in a list, or that have an address of it.
-ghost use Rattle.std.specs.Prelude.{◌≡◌, ◌<◌, ◌++◌, [], ◌∷◌, true, false, not, if◌then◌else◌, map, IfOk, IfErr, IfSome};
+ghost use Rattle.std.specs.Prelude.{◌≡◌, ◌<◌, ◌++◌, [], ◌∷◌, true, false, not, if◌then◌else◌, map, IfOk, IfErr, IfSome, None};
 ghost use Rattle.std.specs.Bool.{Decides};
 ghost use Rattle.cidr_io.specs.Writing.{Writes};
 ghost use Rattle.cidr_io.specs.Collecting.{Collects};
+ghost use Rattle.netset.specs.Causes.{Cause, MayFail, TextFails};
 ghost use Rattle.netset.specs.Commands.{Match};
 ghost use Rattle.netset.specs.Gathering.{Finishes, IsCounted, IsDone, IsUnreadable, Stops, Streams, TakesPart, lines_of_part, rest_written};
 ghost use Rattle.netset.specs.Matching.{IsWithin, LiesIn, Picks, PicksByField, has, line_written, written_of};
@@ -11,18 +12,19 @@ ghost use Rattle.netset.specs.Reading.{IsNextLine};
 ghost use Rattle.netset.specs.Sets.{Held};
 
 use crate::answers::{Verdict, by_output};
-use crate::errors::{CommandError, LineError, ReadError};
+use crate::errors::{CommandError, LineError};
 use crate::fields::said;
 use crate::files::Sources;
-use crate::lines::{ReadAhead, catch_up, next_line};
+use crate::lines::catch_up;
 use crate::sets::Sets;
 use crate::several::read_file;
 use cidr::IpCidr;
 use cidr_io::block::Block;
+use cidr_io::lines::{LineReader, ReadError};
+use cidr_io::memory::Memory;
 use cidr_io::sink::{OutputFailed, Sink};
+use cidr_io::source::Source;
 use itoa::Buffer;
-use std::alloc::Global;
-use std::io::{BufRead, BufReader};
 
 /// What is written of the lines that are picked.
 #[derive(Clone, Copy, Debug, Drop, PartialEq)]
@@ -204,9 +206,9 @@ impl Gathered {
     }
 
     /// Writes what is collected of the lines before more is read.
-    fn catch_up<R: ReadAhead, S: Sink>(
+    fn catch_up<R: Source + Drop, S: Sink>(
         &mut self,
-        reader: &R,
+        reader: &LineReader<R>,
         out: &mut S,
     ) -> Result<(), OutputFailed>
         ensures count { self.new.count ≡ self.old.count }
@@ -270,48 +272,49 @@ impl Gathered {
 }
 
 /// Reads the next part of a file up to a line feed, without it, and tells whether there was one.
-fn next_part<'a, R: BufRead>(
+fn next_part<'a, M: Memory, R: Source + Drop>(
+    memory: &mut M,
     file: &'a str,
-    reader: &mut R,
-    part: &mut Vec<u8>,
+    reader: &mut LineReader<R>,
 ) -> Result<bool, CommandError<'a>>
-    ensures part { IfOk result (λ more. IfSome (R.Read.remaining reader.old)
-        (λ text. IsNextLine text part.new.items more (R.Read.remaining reader.new))) }
+    ensures part { IfOk result (λ more. IfSome reader.old.left
+        (λ text. IsNextLine text reader.new.line more reader.new.left)) }
     ensures stopped { IfErr result (IsUnreadable file.now) }
+    ensures cause { IfErr result (Cause (λ name. (name ≡ file.now) × (reader.old.left ≡ None)) (M.refused memory.new)) }
 {
-    match next_line(reader, part) {
+    match reader.read_line(memory) {
         Ok(has_more) => Ok(has_more),
         Err(ReadError::NoMemory) => Err(CommandError::NoMemory),
-        Err(_) => Err(CommandError::Input(file)),
+        Err(ReadError::Failed) => Err(CommandError::Input(file)),
     }
 }
 
 /// Reads a file line by line, and writes the lines that are picked, also those before a line in error. An output that
 /// has failed before gets nothing.
-fn stream<'a, R: BufRead + ReadAhead, S: Sink>(
-    alloc: Global,
+fn stream<'a, M: Memory, R: Source + Drop, S: Sink>(
+    memory: &mut M,
     matcher: &Matcher<'_>,
     file: &'a str,
-    reader: &mut R,
+    reader: &mut LineReader<R>,
     out: &mut S,
 ) -> Result<Verdict, CommandError<'a>>
-    ensures { Streams (Picks matcher.now.anywhere (Held matcher.now.sets.now) matcher.now.inverted)
-        matcher.now.written file.now (R.Read.remaining reader.old) (S.state out.old) (S.state out.new) result }
+    ensures streams { Streams (Picks matcher.now.anywhere (Held matcher.now.sets.now) matcher.now.inverted)
+        matcher.now.written file.now reader.old.left (S.state out.old) (S.state out.new) result }
+    ensures cause { IfErr result (Cause (λ name. (name ≡ file.now) × TextFails reader.old.left) (M.refused memory.new)) }
 {
     if out.failed() {
         return Err(CommandError::Output);
     }
-    let mut part = Vec::new(alloc);
     let mut gathered = Gathered::new();
     for number in 1..u64::MAX {
         let Ok(()) = gathered.catch_up(reader, out) else {
             return Err(CommandError::Output);
         };
-        let has_more = match next_part(file, reader, &mut part) {
+        let has_more = match next_part(memory, file, reader) {
             Ok(has_more) => has_more,
             Err(e) => return gathered.stop(e, out),
         };
-        match gathered.take(matcher, file, number, part.as_slice(), has_more, out) {
+        match gathered.take(matcher, file, number, reader.line(), has_more, out) {
             Ok(()) => {}
             Err(e) => return gathered.stop(e, out),
         }
@@ -323,18 +326,19 @@ fn stream<'a, R: BufRead + ReadAhead, S: Sink>(
 }
 
 /// The command `match`.
-pub fn matching<'a, F: Sources, O: Sink>(
-    alloc: Global,
+pub fn matching<'a, M: Memory, F: Sources, O: Sink>(
+    memory: &mut M,
     sources: &F,
     options: &[&str],
     list: &'a str,
     file: &'a str,
     out: &mut O,
 ) -> Result<Verdict, CommandError<'a>>
-    ensures { AnswersRequest (F.told sources.now) (Match (map (λ w. w.now) options.now) list.now file.now)
+    ensures answers { AnswersRequest (F.told sources.now) (Match (map (λ w. w.now) options.now) list.now file.now)
         (O.state out.old) (O.state out.new) result }
+    ensures cause { IfErr result (Cause (MayFail (F.told sources.now)) (M.refused memory.new)) }
 {
-    let sets = read_file(alloc, sources, list)?;
+    let sets = read_file(memory, sources, list)?;
     let anywhere = has(options, "--any");
     let inverted = has(options, "-v");
     let written = written_of(options);
@@ -347,8 +351,8 @@ pub fn matching<'a, F: Sources, O: Sink>(
     let Some(reader) = sources.open(file) else {
         return Err(CommandError::Input(file));
     };
-    let Ok(mut reader) = BufReader::new(alloc, reader) else {
+    let Ok(mut reader) = LineReader::new(memory, reader) else {
         return Err(CommandError::NoMemory);
     };
-    stream(alloc, &matcher, file, &mut reader, out)
+    stream(memory, &matcher, file, &mut reader, out)
 }

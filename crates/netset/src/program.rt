@@ -1,11 +1,12 @@
 //! A run of the program, from its arguments to its exit status.
-ghost use Rattle.std.specs.Prelude.{◌≡◌, map, MatchOption};
+ghost use Rattle.std.specs.Prelude.{◌≡◌, map, IfErr, MatchOption};
 ghost use Rattle.std.specs.String.{string_bytes};
+ghost use Rattle.netset.specs.Causes.{Cause, MayFail};
 ghost use Rattle.netset.specs.Combining.{form_of};
 ghost use Rattle.netset.specs.Command.{request_of};
 ghost use Rattle.netset.specs.Commands.{IsRequest, Lists, MayRead};
 ghost use Rattle.netset.specs.Sets.{Prints, held};
-ghost use Rattle.netset.specs.Program.{AnswersRequest, IsReadTwice, IsUsageBy, KeepsGoing, Runs, RunsArguments};
+ghost use Rattle.netset.specs.Program.{AnswersRequest, IsCaused, IsReadTwice, IsUsageBy, KeepsGoing, Runs, RunsArguments};
 
 use crate::answers::{Verdict, by_output};
 use crate::changes::diff;
@@ -25,9 +26,9 @@ use crate::sets::Sets;
 use crate::several::read_several;
 use crate::single::answer_single;
 use cidr_io::arguments::{Arguments, ReadError as Unreadable, borrowed, texts_of};
+use cidr_io::memory::Memory;
 use cidr_io::sink::{Output, OutputFailed, Sink};
 use cidr_io::writing::write_text;
-use std::alloc::Global;
 
 /// The page of the commands.
 const HELP: &str =
@@ -47,17 +48,19 @@ fn write_made<O: Sink>(operation: Operation, sets: &Sets, out: &mut O) -> Result
 }
 
 /// What an operation makes of the lists of some files.
-fn lists<'a, F: Sources, O: Sink>(
-    alloc: Global,
+fn lists<'a, M: Memory, F: Sources, O: Sink>(
+    memory: &mut M,
     sources: &F,
     operation: Operation,
     files: &'a [&'a str],
     out: &mut O,
 ) -> Result<Verdict, CommandError<'a>>
-    ensures { AnswersRequest (F.told sources.now) (Lists operation (map (λ file. file.now) files.now)) (O.state out.old) (O.state out.new) result }
+    ensures answers { AnswersRequest (F.told sources.now) (Lists operation (map (λ file. file.now) files.now)) (O.state out.old) (O.state out.new) result }
+    ensures cause { IfErr result (Cause (MayFail (F.told sources.now)) (M.refused memory.new)) }
 {
-    let several = read_several(alloc, sources, files)?;
-    let sets = made(operation, several)?;
+    let several = read_several(memory, sources, files)?;
+    let sets = made(operation, several);
+    let sets = memory.watch(sets)?;
     by_output(Verdict::Yes, write_made(operation, &sets, out))
 }
 
@@ -74,22 +77,23 @@ fn command_by<'a>(reading: Reading, words: &'a [&'a str]) -> Option<Command<'a>>
 }
 
 /// Answers a command.
-fn answer<'a, F: Sources, O: Sink>(
-    alloc: Global,
+fn answer<'a, M: Memory, F: Sources, O: Sink>(
+    memory: &mut M,
     sources: &F,
     command: Command<'a>,
     out: &mut O,
 ) -> Result<Verdict, CommandError<'a>>
-    ensures { AnswersRequest (F.told sources.now) (request_of command.entry) (O.state out.old) (O.state out.new) result }
+    ensures answers { AnswersRequest (F.told sources.now) (request_of command.entry) (O.state out.old) (O.state out.new) result }
+    ensures cause { IsCaused (F.told sources.now) (M.refused memory.new) (request_of command.entry) result }
 {
     match command {
-        Command::Lists(operation, files) => lists(alloc, sources, operation, files, out),
-        Command::NotIn(net, files) => not_in(alloc, sources, net, files, out),
-        Command::Diff(old, new) => diff(alloc, sources, old, new, out),
-        Command::Free(pool, len, used) => free(alloc, sources, pool, len, used, out),
-        Command::Check(files) => check(alloc, sources, files, out),
-        Command::Match(options, list, file) => matching(alloc, sources, options, list, file, out),
-        Command::Look(table, file) => look(alloc, sources, table, file, out),
+        Command::Lists(operation, files) => lists(memory, sources, operation, files, out),
+        Command::NotIn(net, files) => not_in(memory, sources, net, files, out),
+        Command::Diff(old, new) => diff(memory, sources, old, new, out),
+        Command::Free(pool, len, used) => free(memory, sources, pool, len, used, out),
+        Command::Check(files) => check(memory.alloc(), sources, files, out),
+        Command::Match(options, list, file) => matching(memory, sources, options, list, file, out),
+        Command::Look(table, file) => look(memory, sources, table, file, out),
         Command::Single(single) => answer_single(single, out),
         Command::Help => by_output(Verdict::Yes, write_text(out, HELP)),
         Command::Version => by_output(Verdict::Yes, write_text(out, VERSION)),
@@ -98,27 +102,27 @@ fn answer<'a, F: Sources, O: Sink>(
 
 /// Tells the lines in error of the lists of a command, and answers it if there are none, reports and returns the exit
 /// status. The lists are read whole first.
-fn keep_going<'a, F: Sources, O: Output, E: Sink>(
-    alloc: Global,
+fn keep_going<'a, M: Memory, F: Sources, O: Output, E: Sink>(
+    memory: &mut M,
     sources: &F,
     command: Command<'a>,
     out: &mut O,
     err: &mut E,
 ) -> u8
-    ensures { KeepsGoing (F.told sources.now) (request_of command.entry) (O.closed out.new) (O.Sink.state out.old) (O.Sink.state out.new)
+    ensures { KeepsGoing (F.told sources.now) (M.refused memory.new) (request_of command.entry) (O.closed out.new) (O.Sink.state out.old) (O.Sink.state out.new)
         (E.state err.old) (E.state err.new) result }
 {
-    let Ok(names) = command.lists(alloc) else {
+    let Ok(names) = command.lists(memory) else {
         return report(&Err(CommandError::NoMemory), false, err);
     };
-    match load(alloc, sources, command.kind(), names.as_slice(), err) {
+    match load(memory, sources, command.kind(), names.as_slice(), err) {
         Ok((_, true)) => 2,
         Ok((lists, false)) => {
             let loaded = Loaded {
                 lists: lists.as_slice(),
                 sources,
             };
-            let answered = answer(alloc, &loaded, command, out);
+            let answered = answer(memory, &loaded, command, out);
             report(&answered, out.is_closed(), err)
         }
         Err(e) => report(&Err(e), out.is_closed(), err),
@@ -133,24 +137,24 @@ fn read_twice<'a>() -> CommandError<'a>
 }
 
 /// Answers the arguments as strings, reports and returns the exit status.
-fn answer_texts<F: Files, O: Output, E: Sink>(
-    alloc: Global,
+fn answer_texts<M: Memory, F: Files, O: Output, E: Sink>(
+    memory: &mut M,
     files: &F,
     texts: &[String],
     out: &mut O,
     err: &mut E,
 ) -> u8
-    ensures { RunsArguments (F.told files.now) (map string_bytes texts.now) (O.closed out.new) (O.Sink.state out.old) (O.Sink.state out.new)
+    ensures { RunsArguments (F.told files.now) (M.refused memory.new) (map string_bytes texts.now) (O.closed out.new) (O.Sink.state out.old) (O.Sink.state out.new)
         (E.state err.old) (E.state err.new) result }
 {
-    let Ok(mut words) = borrowed(alloc, texts) else {
+    let Ok(mut words) = borrowed(memory, texts) else {
         return report(&Err(CommandError::NoMemory), false, err);
     };
     let reading = take_options(&mut words);
     let Some(command) = command_by(reading, words.as_slice()) else {
         return report(&Err(CommandError::Usage), false, err);
     };
-    let Ok(names) = command.files(alloc) else {
+    let Ok(names) = command.files(memory) else {
         return report(&Err(CommandError::NoMemory), false, err);
     };
     if name_input_twice(names.as_slice()) {
@@ -161,27 +165,27 @@ fn answer_texts<F: Files, O: Output, E: Sink>(
         host_bits: reading.host_bits,
     };
     if reading.keeps_going {
-        return keep_going(alloc, &sources, command, out, err);
+        return keep_going(memory, &sources, command, out, err);
     }
-    let answered = answer(alloc, &sources, command, out);
+    let answered = answer(memory, &sources, command, out);
     report(&answered, out.is_closed(), err)
 }
 
 /// Answers the arguments on `out`, writes the line that belongs to the answer, if there is one, to `err`, and returns
 /// the exit status: 0 for an answer, 1 for none, no or findings, 2 for usage, a file that can't be read and a line in error, 3 where the output
 /// failed or there is no memory. Where nobody reads the output any more, there is no such line.
-pub fn program<A: Arguments, F: Files, O: Output, E: Sink>(
-    alloc: Global,
+pub fn program<M: Memory, A: Arguments, F: Files, O: Output, E: Sink>(
+    memory: &mut M,
     arguments: &A,
     files: &F,
     out: &mut O,
     err: &mut E,
 ) -> u8
-    ensures { Runs (A.told arguments.now) (F.told files.now) (O.closed out.new) (O.Sink.state out.old) (O.Sink.state out.new)
+    ensures { Runs (A.told arguments.now) (F.told files.now) (M.refused memory.new) (O.closed out.new) (O.Sink.state out.old) (O.Sink.state out.new)
         (E.state err.old) (E.state err.new) result }
 {
-    match texts_of(alloc, arguments) {
-        Ok(texts) => answer_texts(alloc, files, texts.as_slice(), out, err),
+    match texts_of(memory, arguments) {
+        Ok(texts) => answer_texts(memory, files, texts.as_slice(), out, err),
         Err(Unreadable::NotText) => report(&Err(CommandError::Usage), false, err),
         Err(Unreadable::NoMemory) => report(&Err(CommandError::NoMemory), false, err),
     }

@@ -1,14 +1,17 @@
 //! Reading the rows of a table: networks with a value each.
-ghost use Rattle.std.specs.Prelude.{◌≡◌, [], IfSome, OnOk};
+ghost use Rattle.std.specs.Prelude.{◌≡◌, [], IfErr, IfSome, OnOk};
+ghost use Rattle.netset.specs.Causes.{ReadCause, TextFails};
 ghost use Rattle.netset.specs.Lists.{text_by};
 ghost use Rattle.netset.specs.LookUps.{AddsRow, Pushes, ReadsRows, value_at};
 
 use crate::columns::{network_in, split_row};
 use crate::errors::ReadError;
-use crate::lines::{HostBits, next_line};
+use crate::lines::HostBits;
 use cidr::{IpCidr, Ipv4Cidr, Ipv6Cidr};
+use cidr_io::lines::LineReader;
+use cidr_io::memory::Memory;
+use cidr_io::source::Source;
 use std::alloc::{AllocError, Global};
-use std::io::{BufRead, BufReader, Read};
 
 /// Where a value stands among the bytes of all values.
 #[derive(Clone, Copy, Debug, Drop, PartialEq)]
@@ -68,33 +71,43 @@ impl Rows {
     }
 
     /// Adds the network and the value that a line says, if it says them.
-    fn add_line(&mut self, host_bits: HostBits, number: u64, line: &[u8]) -> Result<(), ReadError>
-        ensures { AddsRow host_bits line.now number self.old self.new result }
+    fn add_line<M: Memory>(
+        &mut self,
+        memory: &mut M,
+        host_bits: HostBits,
+        number: u64,
+        line: &[u8],
+    ) -> Result<(), ReadError>
+        ensures adds { AddsRow host_bits line.now number self.old self.new result }
+        ensures cause { IfErr result (ReadCause ⊥ (M.refused memory.new)) }
     {
         let Some((first, value)) = split_row(line) else {
             return Ok(());
         };
         match network_in(host_bits, first) {
-            Ok(network) => self.push(&network, value)?,
-            Err(e) => return Err(ReadError::Line(number, e)),
+            Ok(network) => {
+                let pushed = self.push(&network, value);
+                memory.watch(pushed)?;
+                Ok(())
+            }
+            Err(e) => Err(ReadError::Line(number, e)),
         }
-        Ok(())
     }
 }
 
 /// Reads the rows of a table to its end or to its first line in error.
-fn read_lines<R: BufRead>(
-    alloc: Global,
+fn read_lines<M: Memory, S: Source + Drop>(
+    memory: &mut M,
     host_bits: HostBits,
-    reader: &mut R,
+    reader: &mut LineReader<S>,
 ) -> Result<Rows, ReadError>
-    ensures { IfSome (R.Read.remaining reader.old) (λ bytes. ReadsRows (text_by host_bits bytes) result) }
+    ensures reads { IfSome reader.old.left (λ bytes. ReadsRows (text_by host_bits bytes) result) }
+    ensures cause { IfErr result (ReadCause (TextFails reader.old.left) (M.refused memory.new)) }
 {
-    let mut rows = Rows::new(alloc);
-    let mut line = Vec::new(alloc);
+    let mut rows = Rows::new(memory.alloc());
     for number in 1..u64::MAX {
-        let has_more = next_line(reader, &mut line)?;
-        rows.add_line(host_bits, number, line.as_slice())?;
+        let has_more = reader.read_line(memory)?;
+        rows.add_line(memory, host_bits, number, reader.line())?;
         if !has_more {
             return Ok(rows);
         }
@@ -103,13 +116,14 @@ fn read_lines<R: BufRead>(
 }
 
 /// Reads the rows of a table in blocks, to its end or to its first line in error.
-pub fn read_rows<R: Read + Drop>(
-    alloc: Global,
+pub fn read_rows<M: Memory, S: Source + Drop>(
+    memory: &mut M,
     host_bits: HostBits,
-    reader: R,
+    source: S,
 ) -> Result<Rows, ReadError>
-    ensures { IfSome (R.remaining reader) (λ bytes. ReadsRows (text_by host_bits bytes) result) }
+    ensures reads { IfSome (S.left source) (λ bytes. ReadsRows (text_by host_bits bytes) result) }
+    ensures cause { IfErr result (ReadCause (TextFails (S.left source)) (M.refused memory.new)) }
 {
-    let mut reader = BufReader::new(alloc, reader)?;
-    read_lines(alloc, host_bits, &mut reader)
+    let mut reader = LineReader::new(memory, source)?;
+    read_lines(memory, host_bits, &mut reader)
 }

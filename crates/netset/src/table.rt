@@ -1,8 +1,9 @@
 //! Tables, and the longest network of a table that an address is in.
-ghost use Rattle.std.specs.Prelude.{◌≡◌, Some, map, IfOk, option_copied, option_map};
+ghost use Rattle.std.specs.Prelude.{◌≡◌, Some, map, IfOk, option_copied, option_map, IfErr};
 ghost use Rattle.cidr.specs.declared.family.Family.{Family};
 ghost use Rattle.cidr_table.specs.LastRows.{AreLastRows};
 ghost use Rattle.cidr_io.specs.Collecting.{Collects};
+ghost use Rattle.netset.specs.Causes.{Cause, MayFail};
 ghost use Rattle.netset.specs.Look.{found_line};
 ghost use Rattle.netset.specs.LookUps.{LooksUp, PushesFound, ReadsTable, kept, resolved, stored, unread, value_at};
 
@@ -13,6 +14,7 @@ use crate::rows::{Rows, Span, read_rows, value_of};
 use arrayvec::ArrayString;
 use cidr::{IpAddr, Ipv4Cidr, Ipv6Cidr, NetworkBits};
 use cidr_io::block::Block;
+use cidr_io::memory::Memory;
 use cidr_io::sink::{OutputFailed, Sink};
 use cidr_table::{LpmTable, ReadyTable};
 use std::alloc::{AllocError, Global};
@@ -128,18 +130,23 @@ pub fn unread<'a>(file: &'a str, e: ReadError) -> CommandError<'a>
 }
 
 /// Reads the table of a file.
-pub fn read_table<'a, F: Sources>(
-    alloc: Global,
+pub fn read_table<'a, M: Memory, F: Sources>(
+    memory: &mut M,
     sources: &F,
     file: &'a str,
 ) -> Result<Table, CommandError<'a>>
-    ensures { ReadsTable (F.told sources.now file.now) file.now result }
+    ensures reads { ReadsTable (F.told sources.now file.now) file.now result }
+    ensures cause { IfErr result (Cause (MayFail (F.told sources.now)) (M.refused memory.new)) }
 {
     let Some(reader) = sources.open(file) else {
         return Err(CommandError::Input(file));
     };
-    match read_rows(alloc, sources.host_bits(), reader) {
-        Ok(rows) => Ok(Table::of_rows(alloc, rows)?),
+    match read_rows(memory, sources.host_bits(), reader) {
+        Ok(rows) => {
+            let table = Table::of_rows(memory.alloc(), rows);
+            let table = memory.watch(table)?;
+            Ok(table)
+        }
         Err(e) => Err(unread(file, e)),
     }
 }

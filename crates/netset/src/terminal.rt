@@ -1,5 +1,6 @@
 //! How far reading is, as shown on a terminal while a run takes longer than a second.
 
+use cidr_io::source::{Source, read_uninterrupted};
 use std::cell::Cell;
 use std::io::{Eprint, Read, Result, Write};
 use std::rt::Clock;
@@ -101,6 +102,16 @@ impl<S: Read + Drop, R: Clock + Eprint> Read for Watched<'_, S, R> {
         let read = self.source.read(buf)?;
         self.progress.add(read);
         Ok(read)
+    }
+}
+
+impl<S: Read + Drop, R: Clock + Eprint> Source for Watched<'_, S, R> {
+    ghost use Rattle.std.specs.Prelude.{None};
+
+    ghost left = { λ _. None };
+
+    fn read_some(&mut self, buf: &mut [u8]) -> Option<usize> {
+        read_uninterrupted(self, buf)
     }
 }
 

@@ -1,13 +1,13 @@
 //! Writers that fail.
 use super::fakes::{Trouble, plain, troubled, with_arguments};
 use super::{HOST_PART, SHOWN};
-use crate::arguments::Given;
 use crate::errors::{Fault, ToolError};
-use crate::memory::Heap;
 use crate::program::program;
 use crate::report::report;
 use crate::run::run;
 use cidr::errors::NetworkParseError;
+use cidr_io::arguments::Given;
+use cidr_io::memory::Heap;
 use cidr_io::sink::Sink;
 use std::io::ErrorKind;
 use std::process::Abort;

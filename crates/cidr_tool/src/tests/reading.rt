@@ -1,9 +1,9 @@
 //! Arguments of any bytes and any length.
 use super::fakes::{System, plain, repeated, three, with_arguments};
 use super::{SHOWN, USAGE};
-use crate::arguments::Given;
-use crate::memory::Heap;
 use crate::program::program;
+use cidr_io::arguments::Given;
+use cidr_io::memory::Heap;
 use std::process::Abort;
 use std::test::Fail;
 

@@ -1,17 +1,20 @@
 use Rattle.std.specs.String.{string_bytes}
-use Rattle.std.proofs.Common.{rules, ap}
+use Rattle.std.proofs.Common.{◌≡◌, ◌+◌, Some, length, rules, ap, sym, subst, ◌∙◌}
+use Rattle.cidr_io.specs.Arguments.{IsArgument}
 use Rattle.cidr_io.proofs.Reading.{unreadable, one_more}
 use Rattle.cidr_io.proofs.arguments.texts_of.Goals as goal
 
-pub returns-in_default-from_utf8 : goal.returns-in_default-from_utf8
-returns-in_default-from_utf8 g c _ =
-    unreadable (g.A.Arguments.told c.args.arguments.now) c.loop-place.place c.in-Some.bytes.items (rw c.in-Some.is at c.in_ok-bytes.ensures) (search rules)
+pub returns-in_default-from_utf8-clause-texts : goal.returns-in_default-from_utf8-clause-texts
+returns-in_default-from_utf8-clause-texts g c _ =
+    unreadable (g.A.Arguments.told c.args.arguments.now) c.len.result c.in-Some.bytes.items (rw c.in-Some.is at c.in_ok-bytes.ensures.argument) (search rules)
 
-pub loop-place-preserved : goal.loop-place-preserved
-loop-place-preserved g c =
+pub loop-texts-preserved : goal.loop-texts-preserved
+loop-texts-preserved g c =
     let told = g.A.Arguments.told c.args.arguments.now in
-    let place = c.loop-place.place in
+    let texts = c.loop-texts.texts in
     let bytes = c.in-Some.bytes.items in
-    let given = rw c.in-Some.is at c.in_ok-bytes.ensures in
+    let given = subst (λ place. IsArgument told place (Some bytes)) c.len.ensures (rw c.in-Some.is at c.in_ok-bytes.ensures.argument) in
     let spelled = ap (λ v. v.items) c.in-Ok.ensures.ok in
-    rw c.in-Ok-push.ensures.items (one_more string_bytes told place c.loop-place.texts.items c.in-Ok.text bytes c.loop-place.invariant given spelled)
+    let longer : c.push.new.self.len ≡ texts.len + 1 =
+    c.in-Ok-push.ensures.len ∙ ap (λ n. n + 1) (c.reserve.new.items.ok.0 ∙ ap length c.reserve.ensures.items ∙ sym texts.ok.0) in
+    rw (longer, c.in-Ok-push.ensures.items, c.reserve.ensures.items) (one_more string_bytes told texts.len texts.items c.in-Ok.text bytes c.loop-texts.invariant given spelled)

@@ -1,4 +1,4 @@
-use Rattle.std.proofs.Common.{◌≡◌, sym, ◌∙◌, ap, arith, ◌+◌, ℕ, Bool, Bor, List}
+use Rattle.std.proofs.Common.{sym, ◌∙◌, ap, arith, ◌+◌, ℕ, Bool, Bor, List}
 use Rattle.std.proofs.lemmas.List.Sums.{count_by_more_yes, count_by_more_no}
 use Rattle.netset.specs.Commands.{input_name}
 use Rattle.netset.specs.Matching.{is_word}

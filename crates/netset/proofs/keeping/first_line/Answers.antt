@@ -1,7 +1,7 @@
 use Rattle.std.proofs.Common.{◌∙◌, ap, refl, sym, arith, ℕ, ◌+◌, ◌-◌, List, ◌∷◌, take, drop, length, length-drop}
 use Rattle.std.proofs.lemmas.List.{take_all}
 use Rattle.netset.specs.Lists.{is_line_feed, lines_of}
-use Rattle.netset.proofs.LineFeeds.{line_cut, line_whole}
+use Rattle.cidr_io.proofs.Feeds.{line_cut, line_whole}
 use Rattle.netset.proofs.keeping.first_line.Goals as goal
 
 pub returns-then-byte-eq10-clause-line : goal.returns-then-byte-eq10-clause-line
@@ -16,4 +16,4 @@ returns-then-byte-eq10-clause-line c =
     )
 
 pub returns-clause-line : goal.returns-clause-line
-returns-clause-line c = line_whole c.args.text.now c.loop-place.place c.loop-place.invariant c.loop-place-test.false
+returns-clause-line c = line_whole c.args.text.now (λ k h. c.loop-place.invariant k (omega (arith, h, c.loop-place-test.false)))

@@ -3,4 +3,4 @@ use Rattle.netset.proofs.Progress.{Progress}
 use Rattle.netset.proofs.lists.read_lines.Given as goal
 
 abbrev pub invariant-loop-number : goal.invariant-loop-number
-invariant-loop-number g l = IfSome (g.R.Read.remaining l.fn.reader) (λ text. Progress l.host_bits text (g.R.Read.remaining l.reader) l.fn.lists l.lists l.number)
+invariant-loop-number g l = IfSome l.fn.reader.left (λ text. Progress l.host_bits text l.reader.left l.fn.lists l.lists l.number)

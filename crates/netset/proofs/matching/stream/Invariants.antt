@@ -5,5 +5,5 @@ use Rattle.netset.proofs.matching.stream.Given as goal
 
 abbrev pub invariant-loop-number : goal.invariant-loop-number
 invariant-loop-number g l =
-    Streamed (Picks l.matcher.anywhere (Held l.matcher.sets.now) l.matcher.inverted) l.matcher.written (g.R.Read.remaining l.fn.reader) (g.R.Read.remaining l.reader)
+    Streamed (Picks l.matcher.anywhere (Held l.matcher.sets.now) l.matcher.inverted) l.matcher.written l.fn.reader.left l.reader.left
     (g.S.Sink.state l.fn.out) (g.S.Sink.state l.out) l.number l.gathered.count l.gathered.block

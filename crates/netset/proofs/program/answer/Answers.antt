@@ -1,35 +1,71 @@
 use Rattle.std.proofs.Common.{inr, refl}
+use Rattle.netset.specs.Causes.{MayFail}
+use Rattle.netset.specs.Command.{single_request}
 use Rattle.netset.specs.Commands.{help_text, version_text}
 use Rattle.netset.specs.declared.answers.Verdict.TheVariants.{Yes}
+use Rattle.netset.proofs.Causes.{output_cause, single_cause}
 use Rattle.netset.proofs.program.answer.Goals as goal
 
-pub returns-in-Lists : goal.returns-in-Lists
-returns-in-Lists g c = rw c.in-Lists.is c.lists.ensures
+pub returns-in-Lists-clause-answers : goal.returns-in-Lists-clause-answers
+returns-in-Lists-clause-answers g c = rw c.in-Lists.is c.lists.ensures.answers
 
-pub returns-in-NotIn : goal.returns-in-NotIn
-returns-in-NotIn g c = rw c.in-NotIn.is c.not_in.ensures
+pub returns-in-NotIn-clause-answers : goal.returns-in-NotIn-clause-answers
+returns-in-NotIn-clause-answers g c = rw c.in-NotIn.is c.not_in.ensures.answers
 
-pub returns-in-Diff : goal.returns-in-Diff
-returns-in-Diff g c = rw c.in-Diff.is c.diff.ensures
+pub returns-in-Diff-clause-answers : goal.returns-in-Diff-clause-answers
+returns-in-Diff-clause-answers g c = rw c.in-Diff.is c.diff.ensures.answers
 
-pub returns-in-Free : goal.returns-in-Free
-returns-in-Free g c = rw c.in-Free.is c.free.ensures
+pub returns-in-Free-clause-answers : goal.returns-in-Free-clause-answers
+returns-in-Free-clause-answers g c = rw c.in-Free.is c.free.ensures.answers
 
-pub returns-in-Check : goal.returns-in-Check
-returns-in-Check g c = rw c.in-Check.is c.check.ensures
+pub returns-in-Check-clause-answers : goal.returns-in-Check-clause-answers
+returns-in-Check-clause-answers g c = rw c.in-Check.is c.check.ensures
 
-pub returns-in-Match : goal.returns-in-Match
-returns-in-Match g c = rw c.in-Match.is c.matching.ensures
+pub returns-in-Match-clause-answers : goal.returns-in-Match-clause-answers
+returns-in-Match-clause-answers g c = rw c.in-Match.is c.matching.ensures.answers
 
-pub returns-in-Look : goal.returns-in-Look
-returns-in-Look g c = rw c.in-Look.is c.look.ensures
+pub returns-in-Look-clause-answers : goal.returns-in-Look-clause-answers
+returns-in-Look-clause-answers g c = rw c.in-Look.is c.look.ensures.answers
 
-pub returns-in-Single : goal.returns-in-Single
-returns-in-Single g c = rw c.in-Single.is (c.answer_single.ensures (g.F.Sources.told c.args.sources.now))
+pub returns-in-Single-clause-answers : goal.returns-in-Single-clause-answers
+returns-in-Single-clause-answers g c = rw c.in-Single.is (c.answer_single.ensures (g.F.Sources.told c.args.sources.now))
 
-pub returns-in-Help : goal.returns-in-Help
-returns-in-Help g c = rw c.in-Help.is (inr (help_text, Yes, c.write_text.result, (refl, refl), c.write_text.ensures, c.by_output.ensures))
+pub returns-in-Help-clause-answers : goal.returns-in-Help-clause-answers
+returns-in-Help-clause-answers g c = rw c.in-Help.is (inr (help_text, Yes, c.write_text.result, (refl, refl), c.write_text.ensures, c.by_output.ensures))
 
-pub returns-in-Version : goal.returns-in-Version
-returns-in-Version g c =
+pub returns-in-Version-clause-answers : goal.returns-in-Version-clause-answers
+returns-in-Version-clause-answers g c =
     rw c.in-Version.is (inr (version_text, Yes, c.write_text-in-Version.result, (refl, refl), c.write_text-in-Version.ensures, c.by_output-in-Version.ensures))
+
+pub returns-in-Lists-clause-cause : goal.returns-in-Lists-clause-cause
+returns-in-Lists-clause-cause g c = rw c.in-Lists.is c.lists.ensures.cause
+
+pub returns-in-NotIn-clause-cause : goal.returns-in-NotIn-clause-cause
+returns-in-NotIn-clause-cause g c = rw c.in-NotIn.is c.not_in.ensures.cause
+
+pub returns-in-Diff-clause-cause : goal.returns-in-Diff-clause-cause
+returns-in-Diff-clause-cause g c = rw c.in-Diff.is c.diff.ensures.cause
+
+pub returns-in-Free-clause-cause : goal.returns-in-Free-clause-cause
+returns-in-Free-clause-cause g c = rw c.in-Free.is c.free.ensures.cause
+
+pub returns-in-Match-clause-cause : goal.returns-in-Match-clause-cause
+returns-in-Match-clause-cause g c = rw c.in-Match.is c.matching.ensures.cause
+
+pub returns-in-Look-clause-cause : goal.returns-in-Look-clause-cause
+returns-in-Look-clause-cause g c = rw c.in-Look.is c.look.ensures.cause
+
+pub returns-in-Check-clause-cause : goal.returns-in-Check-clause-cause
+returns-in-Check-clause-cause g c = rw c.in-Check.is tt
+
+pub returns-in-Single-clause-cause : goal.returns-in-Single-clause-cause
+returns-in-Single-clause-cause g c =
+    rw c.in-Single.is (single_cause (MayFail (g.F.Sources.told c.args.sources.now)) (g.M.Memory.refused c.args.memory.now) (g.F.Sources.told c.args.sources.now)
+    (single_request c.in-Single.single) _ _ c.answer_single.result (c.answer_single.ensures (g.F.Sources.told c.args.sources.now)))
+
+pub returns-in-Help-clause-cause : goal.returns-in-Help-clause-cause
+returns-in-Help-clause-cause g c = rw c.in-Help.is (output_cause (MayFail (g.F.Sources.told c.args.sources.now)) _ _ _ c.by_output.result c.by_output.ensures)
+
+pub returns-in-Version-clause-cause : goal.returns-in-Version-clause-cause
+returns-in-Version-clause-cause g c =
+    rw c.in-Version.is (output_cause (MayFail (g.F.Sources.told c.args.sources.now)) _ _ _ c.by_output-in-Version.result c.by_output-in-Version.ensures)

@@ -5,21 +5,22 @@ use Rattle.netset.proofs.program.keep_going.Goals as goal
 
 pub returns-in_default : goal.returns-in_default
 returns-in_default g c =
-    no_names (g.F.Sources.told c.args.sources.now) (request_of c.args.command) (g.O.Output.closed c.args.out.now) (g.O.Sink.state c.args.out.now) (g.E.Sink.state c.args.err.now)
-    (g.E.Sink.state c.report.new.err) c.report.result c.report.ensures.says c.report.ensures.status
+    no_names (g.F.Sources.told c.args.sources.now) (request_of c.args.command) (g.M.Memory.refused c.lists.new.memory) (g.O.Output.closed c.args.out.now)
+    (g.O.Sink.state c.args.out.now) (g.E.Sink.state c.args.err.now) (g.E.Sink.state c.report.new.err) c.report.result c.in_default.ensures.refused c.report.ensures.says c.report.ensures.status
 
 pub returns-in-Ok-default-false : goal.returns-in-Ok-default-false
 returns-in-Ok-default-false g c =
     no_line_in_error (g.F.Sources.told c.args.sources.now) (request_of c.args.command) c.kind.result (bytes_of c.in-Ok.names.items)
-    (g.O.Output.closed c.answer-answered.new.out) (g.O.Sink.state c.args.out.now)
-    (g.E.Sink.state c.args.err.now) (g.E.Sink.state c.load.new.err) c.kind.ensures c.in-Ok.ensures c.in-Ok-default-false.lists.items
+    (g.M.Memory.refused c.answer-answered.new.memory) (g.O.Output.closed c.answer-answered.new.out) (g.O.Sink.state c.args.out.now)
+    (g.E.Sink.state c.args.err.now) (g.E.Sink.state c.load.new.err) c.kind.ensures c.in-Ok.ensures.names c.in-Ok-default-false.lists.items
     (g.O.Sink.state c.answer-answered.new.out) (g.E.Sink.state c.report-in-Ok-default-false.new.err) c.answer-answered.result c.report-in-Ok-default-false.result
-    (rw (c.as_slice.ensures.value, c.in-Ok-default-false.field-0-1-test) at c.in-Ok-default-false.ensures)
-    (rw c.as_slice-in-Ok-default-false.ensures.value at c.answer-answered.ensures) (rw c.is_closed.ensures at c.report-in-Ok-default-false.ensures.says) c.report-in-Ok-default-false.ensures.status
+    (rw (c.as_slice.ensures.value, c.in-Ok-default-false.field-0-1-test) at c.in-Ok-default-false.ensures.loads)
+    (rw c.as_slice-in-Ok-default-false.ensures.value at c.answer-answered.ensures.answers)
+    (rw c.as_slice-in-Ok-default-false.ensures.value at c.answer-answered.ensures.cause) (rw c.is_closed.ensures at c.report-in-Ok-default-false.ensures.says) c.report-in-Ok-default-false.ensures.status
 
 pub returns : goal.returns
 returns g c =
     not_loaded (g.F.Sources.told c.args.sources.now) (request_of c.args.command) c.kind.result (bytes_of c.in-Ok.names.items)
-    (g.O.Output.closed c.args.out.now) (g.O.Sink.state c.args.out.now)
-    (g.E.Sink.state c.args.err.now) (g.E.Sink.state c.load.new.err) c.kind.ensures c.in-Ok.ensures (g.E.Sink.state c.report-in-Err.new.err) c.in-Err.e
-    c.report-in-Err.result (rw c.as_slice.ensures.value at c.in-Err.ensures) (rw c.is_closed-in-Err.ensures at c.report-in-Err.ensures.says) c.report-in-Err.ensures.status
+    (g.M.Memory.refused c.load.new.memory) (g.O.Output.closed c.args.out.now) (g.O.Sink.state c.args.out.now)
+    (g.E.Sink.state c.args.err.now) (g.E.Sink.state c.load.new.err) c.kind.ensures c.in-Ok.ensures.names (g.E.Sink.state c.report-in-Err.new.err) c.in-Err.e
+    c.report-in-Err.result (rw c.as_slice.ensures.value at c.in-Err.ensures.loads) c.in-Err.ensures.cause (rw c.is_closed-in-Err.ensures at c.report-in-Err.ensures.says) c.report-in-Err.ensures.status

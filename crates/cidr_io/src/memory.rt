@@ -1,5 +1,5 @@
 //! The memory of a run.
-ghost use Rattle.std.specs.Prelude.{◌≡◌, ◌+◌, ◌≤◌, Bool, OnErr, OnOk, false, true};
+ghost use Rattle.std.specs.Prelude.{◌≡◌, ◌+◌, ◌≤◌, ◌∷◌, ◌++◌, [], Bool, OnErr, OnOk, false, true};
 ghost use Rattle.std.specs.Vec.{vec_capacity, vec_len};
 
 use std::alloc::{AllocError, Global};
@@ -19,6 +19,24 @@ pub trait Memory {
         ensures room { OnOk result (vec_len items.new + more ≤ vec_capacity items.new) }
         ensures kept { OnOk result (refused self.new ≡ refused self.old) }
         ensures refused { OnErr result (refused self.new ≡ true) };
+
+    /// What a call has made that allocates from `alloc`, and whose only error is an allocation that was refused: it is
+    /// remembered.
+    fn watch<T>(&mut self, made: Result<T, AllocError>) -> Result<T, AllocError>
+        ensures made { result ≡ made }
+        ensures refused { OnErr result (refused self.new ≡ true) };
+
+    /// Appends an item. An error is an allocation that was refused.
+    fn push<T: Drop>(&mut self, items: &mut Vec<T>, item: T) -> Result<(), AllocError>
+        ensures pushed { OnOk result (items.new.items ≡ items.old.items ++ item ∷ []) }
+        ensures refused { OnErr result (refused self.new ≡ true) }
+    {
+        self.reserve(items, 1)?;
+        let Ok(()) = items.push(item) else {
+            unreachable!()
+        };
+        Ok(())
+    }
 }
 
 /// The memory that the system gives.
@@ -57,6 +75,13 @@ impl Memory for Heap {
 
     fn reserve<T>(&mut self, items: &mut Vec<T>, more: usize) -> Result<(), AllocError> {
         let made = items.reserve(more);
+        if made.is_err() {
+            self.refused = true;
+        }
+        made
+    }
+
+    fn watch<T>(&mut self, made: Result<T, AllocError>) -> Result<T, AllocError> {
         if made.is_err() {
             self.refused = true;
         }

@@ -1,0 +1,45 @@
+-- Bytes that are read in blocks, and their lines.
+use Rattle.std.specs.Prelude.{◌≡◌, ℕ, ◌+◌, ◌<◌, ◌≤◌, ◌==◌, Bool, true, false, List, [], ◌∷◌, ◌++◌, length, take, slice_index, Option, Some, None, IfSome, ⊤}
+use Rattle.std.specs.Io.KnownBytes.{Consumes, IsAtEnd}
+use Rattle.std.specs.List.{slice_split}
+
+-- ---- sources
+-- a read of a source that has these bytes left, if they are told: a buffer begins with the next n of them, none only at
+-- the end or where there is no room; or the read has failed, as it does only where the bytes are not told
+abbrev pub Gives : Option (List ℕ) → Option (List ℕ) → Option ℕ → List ℕ → Type 0
+Gives old new (Some n) buf = (n ≤ length buf) × Consumes old new (take n buf) × (n ≡ 0 → 0 < length buf → IsAtEnd new)
+Gives old new None buf = old ≡ None
+
+-- ---- lines
+-- a line feed
+abbrev pub is_line_feed : ℕ → Bool
+is_line_feed byte = byte == 10
+
+-- the bytes between line feeds
+abbrev pub lines_of : List ℕ → List (List ℕ)
+lines_of text = slice_split is_line_feed text
+
+-- the first line of a text; if it is not the last, the others are those of what is left
+abbrev pub IsNextLine : List ℕ → List ℕ → Bool → Option (List ℕ) → Type 0
+IsNextLine text line true left = (rest : List ℕ) × (left ≡ Some rest) × (lines_of text ≡ line ∷ lines_of rest)
+IsNextLine text line false left = lines_of text ≡ line ∷ []
+
+-- what a reader of lines has: the line, and the bytes behind it, if they are told
+pub record Lines : Type 0 where
+  pub line : List ℕ
+  pub left : Option (List ℕ)
+
+-- ---- what private functions promise
+-- the first line feed of a text stands at this index
+pub record IsFirstFeed (text : List ℕ) (place : ℕ) : Type 0 where
+  pub within : place < length text
+  pub here : is_line_feed (slice_index text place) ≡ true
+  pub before : (k : ℕ) → k < place → is_line_feed (slice_index text k) ≡ false
+
+-- a text has none
+abbrev pub HasNoFeed : List ℕ → Type 0
+HasNoFeed text = (k : ℕ) → k < length text → is_line_feed (slice_index text k) ≡ false
+
+-- told bytes stay as they are
+abbrev pub StaysTold : Option (List ℕ) → Option (List ℕ) → Type 0
+StaysTold old new = IfSome old (λ text. new ≡ Some text)

@@ -1,0 +1,266 @@
+//! Reading lines, as slices of the blocks that are read.
+ghost use Rattle.std.specs.Prelude.{◌≡◌, ◌<◌, ◌≤◌, [], Ok, None, true, false, drop, length, vec_len, IfErr, IfOk, IfSome, MatchOption, OnErr, OnOk};
+ghost use Rattle.std.specs.Io.KnownBytes.{IsAtEnd, prepend_known};
+ghost use Rattle.cidr_io.specs.Lines.{HasNoFeed, IsFirstFeed, IsNextLine, StaysTold};
+ghost use Rattle.cidr_io.specs.declared.lines.ReadError.TheVariants.{Failed, NoMemory};
+
+use crate::memory::Memory;
+use crate::source::Source;
+use std::alloc::AllocError;
+use std::marker::Model;
+
+/// How many bytes a source is asked for at once.
+const CHUNK: usize = 65536;
+
+/// Why a line is not read.
+#[derive(Clone, Copy, Debug, Drop, PartialEq)]
+pub enum ReadError {
+    /// A read of the source has failed.
+    Failed,
+    /// An allocation was refused.
+    NoMemory,
+}
+
+impl From<AllocError> for ReadError {
+    ghost use Rattle.std.specs.Prelude.{◌≡◌};
+    ghost use Rattle.cidr_io.specs.declared.lines.ReadError.TheVariants.{NoMemory};
+
+    ghost from_gives = { λ _ e. e ≡ NoMemory };
+
+    fn from(_error: AllocError) -> ReadError {
+        ReadError::NoMemory
+    }
+}
+
+/// Where the first line feed stands.
+fn feed_in(text: &[u8]) -> Option<usize>
+    ensures { MatchOption result (HasNoFeed text.now) (IsFirstFeed text.now) }
+{
+    for (place, byte) in text.iter().enumerate() {
+        if *byte == b'\n' {
+            return Some(place);
+        }
+    }
+    None
+}
+
+/// Drops bytes in front of the others.
+fn drop_front(block: &mut Vec<u8>, count: usize)
+    requires { count ≤ vec_len block.old }
+    ensures { block.new.items ≡ drop count block.old.items }
+{
+    let len = block.len();
+    block.as_mut_slice().copy_within(count..len, 0);
+    block.truncate(len - count);
+}
+
+/// Reads bytes of a source behind those of a block, by way of a chunk; false at its end.
+fn read_more<M: Memory, S: Source>(
+    memory: &mut M,
+    source: &mut S,
+    chunk: &mut [u8],
+    block: &mut Vec<u8>,
+) -> Result<bool, ReadError>
+    requires { 0 < length chunk.old }
+    ensures told { OnOk result (StaysTold (prepend_known block.old.items (S.left source.old))
+        (prepend_known block.new.items (S.left source.new))) }
+    ensures more { result ≡ Ok true → vec_len block.old < vec_len block.new }
+    ensures same { result ≡ Ok false → block.new.items ≡ block.old.items }
+    ensures end { result ≡ Ok false → IsAtEnd (S.left source.new) }
+    ensures failed { IfErr result (λ e. e ≡ Failed → prepend_known block.old.items (S.left source.old) ≡ None) }
+    ensures refused { IfErr result (λ e. e ≡ NoMemory → M.refused memory.new ≡ true) }
+{
+    let Some(count) = source.read_some(chunk) else {
+        return Err(ReadError::Failed);
+    };
+    memory.reserve(block, count)?;
+    let Ok(()) = block.extend_from_slice(&chunk[..count]) else {
+        unreachable!()
+    };
+    Ok(count > 0)
+}
+
+/// Reads bytes of a source behind those of a block, until there is a line feed or to its end, and tells where the first
+/// line feed stands.
+fn fill_line<M: Memory, S: Source>(
+    memory: &mut M,
+    source: &mut S,
+    chunk: &mut [u8],
+    block: &mut Vec<u8>,
+) -> Result<Option<usize>, ReadError>
+    requires { 0 < length chunk.old }
+    ensures told { OnOk result (StaysTold (prepend_known block.old.items (S.left source.old))
+        (prepend_known block.new.items (S.left source.new))) }
+    ensures found { IfOk result (λ found. MatchOption found (HasNoFeed block.new.items × IsAtEnd (S.left source.new))
+        (IsFirstFeed block.new.items)) }
+    ensures failed { IfErr result (λ e. e ≡ Failed → prepend_known block.old.items (S.left source.old) ≡ None) }
+    ensures refused { IfErr result (λ e. e ≡ NoMemory → M.refused memory.new ≡ true) }
+{
+    loop {
+        if let Some(place) = feed_in(block.as_slice()) {
+            return Ok(Some(place));
+        }
+        let has_more = read_more(memory, source, chunk, block)?;
+        if !has_more {
+            return Ok(None);
+        }
+    }
+}
+
+/// Where the next line of a block begins, and its length if a line feed is behind it: where none is known to be, more is
+/// read, and what is in front of the line is dropped. `next` is where the line begins, and `ahead` its length, if that is
+/// known.
+fn find_line<M: Memory, S: Source>(
+    memory: &mut M,
+    source: &mut S,
+    chunk: &mut [u8],
+    block: &mut Vec<u8>,
+    next: usize,
+    ahead: Option<usize>,
+) -> Result<(usize, Option<usize>), ReadError>
+    requires chunk { 0 < length chunk.old }
+    requires within { next ≤ vec_len block.old }
+    requires ahead { IfSome ahead (IsFirstFeed (drop next block.old.items)) }
+    ensures within { IfOk result (λ line. line.0 ≤ vec_len block.new) }
+    ensures told { IfOk result (λ line. StaysTold (prepend_known (drop next block.old.items) (S.left source.old))
+        (prepend_known (drop line.0 block.new.items) (S.left source.new))) }
+    ensures found { IfOk result (λ line. MatchOption line.1 (HasNoFeed (drop line.0 block.new.items) × IsAtEnd (S.left source.new))
+        (IsFirstFeed (drop line.0 block.new.items))) }
+    ensures failed { IfErr result (λ e. e ≡ Failed → prepend_known (drop next block.old.items) (S.left source.old) ≡ None) }
+    ensures refused { IfErr result (λ e. e ≡ NoMemory → M.refused memory.new ≡ true) }
+{
+    if let Some(len) = ahead {
+        return Ok((next, Some(len)));
+    }
+    drop_front(block, next);
+    let found = fill_line(memory, source, chunk, block)?;
+    Ok((0, found))
+}
+
+/// A chunk of zeros.
+fn new_chunk<M: Memory>(memory: &mut M) -> Result<Vec<u8>, AllocError>
+    ensures chunk { IfOk result (λ chunk. 0 < vec_len chunk) }
+    ensures refused { OnErr result (M.refused memory.new ≡ true) }
+{
+    let mut chunk = Vec::new(memory.alloc());
+    memory.reserve(&mut chunk, CHUNK)?;
+    let Ok(()) = chunk.resize(CHUNK, 0) else {
+        unreachable!()
+    };
+    Ok(chunk)
+}
+
+/// The bytes of a source, to its end.
+pub fn read_to_end<M: Memory, S: Source + Drop>(
+    memory: &mut M,
+    source: S,
+) -> Result<Vec<u8>, ReadError>
+    ensures bytes { IfOk result (λ bytes. IfSome (S.left source) (λ text. bytes.items ≡ text)) }
+    ensures failed { IfErr result (λ e. e ≡ Failed → S.left source ≡ None) }
+    ensures refused { IfErr result (λ e. e ≡ NoMemory → M.refused memory.new ≡ true) }
+{
+    let mut source = source;
+    let mut chunk = new_chunk(memory)?;
+    let mut block = Vec::new(memory.alloc());
+    loop {
+        let has_more = read_more(memory, &mut source, chunk.as_mut_slice(), &mut block)?;
+        if !has_more {
+            return Ok(block);
+        }
+    }
+}
+
+/// Reads lines from a source.
+///
+/// A line is a slice of the block that was read, and is copied only where it goes on behind it. It stays until the next
+/// one is read.
+#[derive(Drop)]
+pub struct LineReader<S: Source + Drop> {
+    source: S,
+    chunk: Vec<u8>,
+    block: Vec<u8>,
+    start: usize,
+    stop: usize,
+    next: usize,
+    ahead: Option<usize>,
+}
+
+impl<S: Source + Drop> Model for LineReader<S> {
+    ghost use Rattle.std.specs.Prelude.{◌<◌, ◌≤◌, drop, slice_range, vec_len, IfSome};
+    ghost use Rattle.std.specs.Io.KnownBytes.{prepend_known};
+    ghost use Rattle.cidr_io.specs.Lines.{IsFirstFeed, Lines};
+
+    ghost Value = { Lines };
+
+    ghost view = { λ r. record {
+      line = slice_range r.block.items r.start r.stop;
+      left = prepend_known (drop r.next r.block.items) (S.left r.source);
+    } };
+
+    ghost invariant = { λ r. (0 < vec_len r.chunk) × (r.start ≤ r.stop) × (r.stop ≤ r.next) × (r.next ≤ vec_len r.block)
+        × IfSome r.ahead (IsFirstFeed (drop r.next r.block.items)) };
+}
+
+impl<S: Source + Drop> LineReader<S> {
+    /// Over a source of which nothing is read yet.
+    pub fn new<M: Memory>(memory: &mut M, source: S) -> Result<LineReader<S>, ReadError>
+        ensures left { IfOk result (λ reader. reader.left ≡ S.left source) }
+        ensures refused { IfErr result (λ e. (e ≡ NoMemory) × (M.refused memory.new ≡ true)) }
+    {
+        let chunk = new_chunk(memory)?;
+        let block = Vec::new(memory.alloc());
+        Ok(LineReader {
+            source,
+            chunk,
+            block,
+            start: 0,
+            stop: 0,
+            next: 0,
+            ahead: None,
+        })
+    }
+
+    /// Reads the next line, without its line feed, and tells whether it ends in one, so that another line is behind it.
+    pub fn read_line<M: Memory>(&mut self, memory: &mut M) -> Result<bool, ReadError>
+        ensures line { IfOk result (λ more. IfSome self.old.left
+            (λ text. IsNextLine text self.new.line more self.new.left)) }
+        ensures failed { IfErr result (λ e. e ≡ Failed → self.old.left ≡ None) }
+        ensures refused { IfErr result (λ e. e ≡ NoMemory → M.refused memory.new ≡ true) }
+    {
+        let (next, ahead) = (self.next, self.ahead);
+        self.start = 0;
+        self.stop = 0;
+        self.next = 0;
+        self.ahead = None;
+        let (start, found) = find_line(
+            memory,
+            &mut self.source,
+            self.chunk.as_mut_slice(),
+            &mut self.block,
+            next,
+            ahead,
+        )?;
+        self.start = start;
+        let Some(len) = found else {
+            self.stop = self.block.len();
+            self.next = self.stop;
+            return Ok(false);
+        };
+        self.stop = start + len;
+        self.next = self.stop + 1;
+        self.ahead = feed_in(&self.block[self.next..]);
+        Ok(true)
+    }
+
+    /// The line that was read last.
+    pub fn line(&self) -> &[u8]
+        ensures { result.now ≡ self.now.line }
+    {
+        &self.block[self.start..self.stop]
+    }
+
+    /// Whether a whole line is read already behind this one, so that nothing is read for it.
+    pub fn has_line(&self) -> bool {
+        self.ahead.is_some()
+    }
+}

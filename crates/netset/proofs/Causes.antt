@@ -1,0 +1,181 @@
+-- What a run gives up for.
+use Rattle.std.proofs.Common.{◌≡◌, refl, sym, ap, subst, arith, inl, inr, ℕ, ◌+◌, ◌≤◌, Bor, Bool, true, false, List, ◌++◌, length, length-append, Option, Some, None, Result, Ok, Err, IfErr}
+use Rattle.std.specs.Option.{IfSome}
+use Rattle.cidr_io.specs.declared.lines.ReadError.{ReadError as NoLine}
+use Rattle.cidr_io.specs.declared.lines.ReadError.TheVariants.{Failed}
+use Rattle.cidr_io.specs.declared.lines.ReadError.TheVariants as no_line
+use Rattle.cidr_io.specs.declared.sink.OutputFailed.{OutputFailed}
+use Rattle.cidr_io.specs.Writing.{State}
+use Rattle.netset.specs.Causes.{Cause, HasTooManyLines, LookCause, MayFail, ReadCause, TextFails}
+use Rattle.netset.specs.Commands.{Request, Lists, NotIn, Diff, Free, Check, Match, Look, Single as ASingle, Help, Version}
+use Rattle.netset.specs.Gathering.{IsLost, Stops, ended_by}
+use Rattle.netset.specs.Lists.{Text, lines_of}
+use Rattle.netset.specs.LookUps.{unread}
+use Rattle.netset.specs.Program.{AnswersRequest, IsBadArgument, IsCaused, by_output}
+use Rattle.netset.specs.Reading.{IsStopped, read_error}
+use Rattle.netset.specs.Single.{SingleRequest}
+use Rattle.netset.specs.declared.answers.Verdict.{Verdict}
+use Rattle.netset.specs.declared.errors.ArgumentError.{ArgumentError}
+use Rattle.netset.specs.declared.errors.CommandError.{CommandError}
+use Rattle.netset.specs.declared.errors.CommandError.TheVariants as error
+use Rattle.netset.specs.declared.errors.LineError.{LineError}
+use Rattle.netset.specs.declared.errors.ReadError.{ReadError}
+use Rattle.netset.specs.declared.errors.ReadError.TheVariants.{Line, Input, NoMemory}
+use Rattle.netset.specs.declared.look.LookError.{LookError}
+use Rattle.netset.specs.declared.look.LookError.TheVariants.{Reading, Output}
+use Rattle.netset.specs.declared.matching.Written.{Written}
+
+-- ---- a reader
+pub reading_stopped : (e : NoLine) → IsStopped (read_error e)
+reading_stopped Failed = tt
+reading_stopped no_line.NoMemory = tt
+
+-- where a text is told, so is what is left of it
+abbrev pub KnownOf : Option (List ℕ) → Option (List ℕ) → Type 0
+KnownOf told left = IfSome told (λ _. (rest : List ℕ) × (left ≡ Some rest))
+
+pub known_first : (told : Option (List ℕ)) → KnownOf told told
+known_first None = tt
+known_first (Some text) = (text, refl)
+
+pub told_fails : (told left : Option (List ℕ)) → KnownOf told left → left ≡ None → TextFails told
+told_fails None left known h = tt
+told_fails (Some text) left (rest, is) h = cc
+
+pub no_line_cause : (told left : Option (List ℕ)) (refused : Bool) (e : NoLine) → KnownOf told left → (e ≡ Failed → left ≡ None)
+    → (e ≡ no_line.NoMemory → refused ≡ true) → ReadCause (TextFails told) refused (read_error e)
+no_line_cause told left refused Failed known fails none = told_fails told left known (fails refl)
+no_line_cause told left refused no_line.NoMemory known fails none = none refl
+
+-- a line alone never says that a file can't be read
+pub line_cause : (Fails : Type 0) (refused : Bool) (e : ReadError) → ReadCause ⊥ refused e → ReadCause Fails refused e
+line_cause Fails refused (Line number e) h = tt
+line_cause Fails refused Input h = absurd h
+line_cause Fails refused NoMemory h = h
+
+pub look_line_cause : (Fails : Type 0) (refused : Bool) (e : LookError) → LookCause ⊥ false e → LookCause Fails refused e
+look_line_cause Fails refused (Reading (Line number e)) h = tt
+look_line_cause Fails refused (Reading Input) h = absurd h
+look_line_cause Fails refused (Reading NoMemory) h = cc
+look_line_cause Fails refused Output h = tt
+
+-- more lines than there are numbers for
+pub longer_than : (most : ℕ) (all before after : List (List ℕ)) (number : ℕ) → all ≡ before ++ after → number ≡ length before + 1 → most + 1 ≤ number → most ≤ length all
+longer_than most all before after number lines place many = omega (arith, ap length lines, length-append before after)
+
+pub too_many : (text : List ℕ) (before after : List (List ℕ)) (number : ℕ) → lines_of text ≡ before ++ after → number ≡ length before + 1
+    → 18446744073709551615 ≤ number → HasTooManyLines text
+too_many text before after number lines place most = longer_than 18446744073709551614 (lines_of text) before after number lines place most
+
+-- ---- a file
+fails_there : (told : Option Text) (left : Option (List ℕ)) → ((text : Text) → told ≡ Some text → left ≡ Some text.bytes) → TextFails left
+    → IfSome told (λ text. HasTooManyLines text.bytes)
+fails_there None left opens h = tt
+fails_there (Some text) left opens h = subst TextFails (opens text refl) h
+
+pub file_fails : (told : List ℕ → Option Text) (name : List ℕ) (left : Option (List ℕ)) → ((text : Text) → told name ≡ Some text → left ≡ Some text.bytes)
+    → TextFails left → MayFail told name
+file_fails told name left opens h = fails_there (told name) left opens h
+
+pub whole_fails : (told : List ℕ → Option Text) (name : List ℕ) (left : Option (List ℕ)) → ((text : Text) → told name ≡ Some text → left ≡ Some text.bytes)
+    → left ≡ None → MayFail told name
+whole_fails told name left opens h = file_fails told name left opens (subst TextFails (sym h) tt)
+
+pub whole_read : (left : Option (List ℕ)) (text bytes : List ℕ) → left ≡ Some text → IfSome left (λ text. bytes ≡ text) → bytes ≡ text
+whole_read left text bytes is h = subst (λ (k : Option (List ℕ)). IfSome k (λ text. bytes ≡ text)) is h
+
+pub file_cause : (told : List ℕ → Option Text) (file : Bor (List ℕ)) (left : Option (List ℕ)) (refused : Bool) (e : ReadError)
+    → ((text : Text) → told file.now ≡ Some text → left ≡ Some text.bytes) → ReadCause (TextFails left) refused e → Cause (MayFail told) refused (unread file e)
+file_cause told file left refused (Line number e) opens h = tt
+file_cause told file left refused Input opens h = file_fails told file.now left opens h
+file_cause told file left refused NoMemory opens h = h
+
+pub not_opened : (told : List ℕ → Option Text) (name : List ℕ) → told name ≡ None → MayFail told name
+not_opened told name is = subst (λ (k : Option Text). IfSome k (λ text. HasTooManyLines text.bytes)) (sym is) tt
+
+pub cause_weaker : (F G : List ℕ → Type 0) (refused : Bool) (e : CommandError) → ((name : List ℕ) → F name → G name) → Cause F refused e → Cause G refused e
+cause_weaker F G refused error.Usage f h = tt
+cause_weaker F G refused (error.Argument text e) f h = tt
+cause_weaker F G refused (error.Line name number e) f h = tt
+cause_weaker F G refused (error.Input name) f h = f name.now h
+cause_weaker F G refused error.NoMemory f h = h
+cause_weaker F G refused error.Output f h = tt
+
+pub causes_weaker : (F G : List ℕ → Type 0) (refused : Bool) (r : Result Verdict CommandError) → ((name : List ℕ) → F name → G name) → IfErr r (Cause F refused)
+    → IfErr r (Cause G refused)
+causes_weaker F G refused (Ok verdict) f h = tt
+causes_weaker F G refused (Err e) f h = cause_weaker F G refused e f h
+
+-- a file that is read line by line
+pub file_causes : (told : List ℕ → Option Text) (file : List ℕ) (left : Option (List ℕ)) (refused : Bool) (r : Result Verdict CommandError)
+    → ((text : Text) → told file ≡ Some text → left ≡ Some text.bytes) → IfErr r (Cause (λ name. (name ≡ file) × TextFails left) refused)
+    → IfErr r (Cause (MayFail told) refused)
+file_causes told file left refused r opens h =
+    causes_weaker (λ name. (name ≡ file) × TextFails left) (MayFail told) refused r
+    (λ name k. subst (MayFail told) (sym k.0) (file_fails told file left opens k.1)) h
+
+-- ---- an answer
+pub output_cause : (F : List ℕ → Type 0) (refused : Bool) (verdict : Verdict) (w : Result (Unit {0}) OutputFailed) (r : Result Verdict CommandError)
+    → r ≡ by_output verdict w → IfErr r (Cause F refused)
+output_cause F refused verdict (Ok a) r is = subst (λ (k : Result Verdict CommandError). IfErr k (Cause F refused)) (sym is) tt
+output_cause F refused verdict (Err f) r is = subst (λ (k : Result Verdict CommandError). IfErr k (Cause F refused)) (sym is) tt
+
+pub argument_cause : (F : List ℕ → Type 0) (refused : Bool) (P : List ℕ → ArgumentError → Type 0) (e : CommandError) → IsBadArgument P e → Cause F refused e
+argument_cause F refused P error.Usage h = tt
+argument_cause F refused P (error.Argument text e) h = tt
+argument_cause F refused P (error.Line name number e) h = tt
+argument_cause F refused P (error.Input name) h = absurd h
+argument_cause F refused P error.NoMemory h = absurd h
+argument_cause F refused P error.Output h = tt
+
+pub single_cause : (F : List ℕ → Type 0) (refused : Bool) (told : List ℕ → Option Text) (request : SingleRequest) (s t : State) (r : Result Verdict CommandError)
+    → AnswersRequest told (ASingle request) s t r → IfErr r (Cause F refused)
+single_cause F refused told request s t (Ok verdict) h = tt
+single_cause F refused told request s t (Err e) (inl (same, bad)) = argument_cause F refused _ e bad
+single_cause F refused told request s t (Err e) (inr (answer, verdict, w, is, written, by)) = output_cause F refused verdict w (Err e) by
+
+-- ---- lines that are picked
+ended_cause : (F : List ℕ → Type 0) (refused : Bool) (e : CommandError) (w : Result (Unit {0}) OutputFailed) (r : Result Verdict CommandError)
+    → r ≡ Err (ended_by e w) → Cause F refused e → IfErr r (Cause F refused)
+ended_cause F refused e (Ok a) r is h = subst (λ (k : Result Verdict CommandError). IfErr k (Cause F refused)) (sym is) h
+ended_cause F refused e (Err f) r is h = subst (λ (k : Result Verdict CommandError). IfErr k (Cause F refused)) (sym is) tt
+
+pub stop_cause : (F : List ℕ → Type 0) (refused : Bool) (e : CommandError) (s t : State) (block : List ℕ) (r : Result Verdict CommandError) → Stops e s t block r
+    → Cause F refused e → IfErr r (Cause F refused)
+stop_cause F refused error.Output s t block r (same, is) h = subst (λ (k : Result Verdict CommandError). IfErr k (Cause F refused)) (sym is) tt
+stop_cause F refused error.Usage s t block r (w, wrote, is) h = ended_cause F refused error.Usage w r is h
+stop_cause F refused (error.Argument text e) s t block r (w, wrote, is) h = ended_cause F refused (error.Argument text e) w r is h
+stop_cause F refused (error.Line name number e) s t block r (w, wrote, is) h = ended_cause F refused (error.Line name number e) w r is h
+stop_cause F refused (error.Input name) s t block r (w, wrote, is) h = ended_cause F refused (error.Input name) w r is h
+stop_cause F refused error.NoMemory s t block r (w, wrote, is) h = ended_cause F refused error.NoMemory w r is h
+
+pub take_cause : (F : List ℕ → Type 0) (refused : Bool) (P : List ℕ → Result Bool LineError → Type 0) (what : Written) (file : List ℕ) (number : ℕ) (part : List ℕ)
+    (old new : State) (block rest : List ℕ) (e : CommandError) → IsLost P what file number part old new block rest e → Cause F refused e
+take_cause F refused P what file number part old new block rest error.Usage h = tt
+take_cause F refused P what file number part old new block rest (error.Argument text e) h = tt
+take_cause F refused P what file number part old new block rest (error.Line name n e) h = tt
+take_cause F refused P what file number part old new block rest (error.Input name) h = absurd h
+take_cause F refused P what file number part old new block rest error.NoMemory h = absurd h
+take_cause F refused P what file number part old new block rest error.Output h = tt
+
+-- ---- lists that were read whole
+fails_more : (told more : Option Text) → ((text : Text) → told ≡ Some text → more ≡ Some text) → IfSome more (λ text. HasTooManyLines text.bytes)
+    → IfSome told (λ text. HasTooManyLines text.bytes)
+fails_more None more agree h = tt
+fails_more (Some text) more agree h = subst (λ (k : Option Text). IfSome k (λ text. HasTooManyLines text.bytes)) (agree text refl) h
+
+module _ (told more : List ℕ → Option Text) (agree : (name : List ℕ) (text : Text) → told name ≡ Some text → more name ≡ Some text) (refused : Bool) where
+  causes_more : (r : Result Verdict CommandError) → IfErr r (Cause (MayFail more) refused) → IfErr r (Cause (MayFail told) refused)
+  causes_more r h = causes_weaker (MayFail more) (MayFail told) refused r (λ name k. fails_more (told name) (more name) (agree name) k) h
+
+  pub caused_more : (request : Request) (r : Result Verdict CommandError) → IsCaused more refused request r → IsCaused told refused request r
+  caused_more (Lists operation files) r h = causes_more r h
+  caused_more (NotIn net files) r h = causes_more r h
+  caused_more (Diff old new) r h = causes_more r h
+  caused_more (Free pool len used) r h = causes_more r h
+  caused_more (Check files) r h = tt
+  caused_more (Match options list file) r h = causes_more r h
+  caused_more (Look table file) r h = causes_more r h
+  caused_more (ASingle request) r h = causes_more r h
+  caused_more Help r h = causes_more r h
+  caused_more Version r h = causes_more r h

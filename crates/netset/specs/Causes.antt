@@ -1,0 +1,42 @@
+-- What a run gives up for: an allocation that was refused, or a file that is not told.
+use Rattle.std.specs.Prelude.{◌≡◌, ℕ, ◌≤◌, Bool, true, List, length, Option, IfSome}
+use Rattle.netset.specs.Lists.{Text, lines_of}
+use Rattle.netset.specs.declared.errors.CommandError.{CommandError}
+use Rattle.netset.specs.declared.errors.CommandError.TheVariants as error
+use Rattle.netset.specs.declared.errors.ReadError.{ReadError}
+use Rattle.netset.specs.declared.errors.ReadError.TheVariants.{Line, Input, NoMemory}
+use Rattle.netset.specs.declared.look.LookError.{LookError}
+use Rattle.netset.specs.declared.look.LookError.TheVariants.{Reading, Output}
+
+-- the bytes have more lines than there are numbers for
+abbrev pub HasTooManyLines : List ℕ → Type 0
+HasTooManyLines bytes = 18446744073709551614 ≤ length (lines_of bytes)
+
+-- a file that can't be read is not told, or has too many lines
+abbrev pub MayFail : (List ℕ → Option Text) → List ℕ → Type 0
+MayFail told name = IfSome (told name) (λ text. HasTooManyLines text.bytes)
+
+-- there is no memory only after an allocation was refused, and only some files can't be read
+abbrev pub Cause : (List ℕ → Type 0) → Bool → CommandError → Type 0
+Cause Fails refused error.Usage = Unit {0}
+Cause Fails refused (error.Argument text e) = Unit {0}
+Cause Fails refused (error.Line name number e) = Unit {0}
+Cause Fails refused (error.Input name) = Fails name.now
+Cause Fails refused error.NoMemory = refused ≡ true
+Cause Fails refused error.Output = Unit {0}
+
+-- ---- what private functions promise
+-- the same where one text is read
+abbrev pub ReadCause : Type 0 → Bool → ReadError → Type 0
+ReadCause Fails refused (Line number e) = Unit {0}
+ReadCause Fails refused Input = Fails
+ReadCause Fails refused NoMemory = refused ≡ true
+
+-- the bytes that are read are not told, or have too many lines
+abbrev pub TextFails : Option (List ℕ) → Type 0
+TextFails left = IfSome left HasTooManyLines
+
+-- the same where addresses are looked up
+abbrev pub LookCause : Type 0 → Bool → LookError → Type 0
+LookCause Fails refused (Reading e) = ReadCause Fails refused e
+LookCause Fails refused Output = Unit {0}
