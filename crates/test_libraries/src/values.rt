@@ -1,4 +1,4 @@
-//! What values are to the standard library, and functions that know a type by its trait alone.
+//! What values are to the standard library, and what they print.
 mod copies;
 mod covered;
 mod debug_output;
@@ -6,6 +6,5 @@ mod errors;
 mod hashes;
 mod lengths;
 mod order;
-mod over_bits;
 mod sizes;
 mod std_addresses;

@@ -2,7 +2,7 @@
 use crate::support::next;
 use cidr::{AnyIpCidr, Ipv4Addr, Ipv4Cidr};
 use cidr_table::LpmTable;
-use std::alloc::Global;
+use std::alloc::{AllocError, Global};
 use std::test::Fail;
 
 /// The table of these rows, and whether its rows are the wanted ones, in order, in the memory of the `Vec`.
@@ -62,29 +62,57 @@ fn host(number: u32) -> Ipv4Cidr {
 /// How many rows the lists below have at most.
 const MOST: u32 = 70;
 
+/// The order of a list of rows.
+#[derive(Clone, Copy)]
+enum Order {
+    Ascending,
+    Descending,
+    OneKey,
+}
+
+/// The row at a place of a list of `len` rows in this order.
+fn given(order: Order, len: u32, i: u32) -> (Ipv4Cidr, u32) {
+    match order {
+        Order::Ascending => (host(i), i),
+        Order::Descending => (host(len.saturating_sub(i).saturating_sub(1)), i),
+        Order::OneKey => (host(1), i),
+    }
+}
+
+/// The row at a place of the table of the list, which has no rows but this one where they have one key.
+fn wanted(order: Order, len: u32, i: u32) -> (Ipv4Cidr, u32) {
+    match order {
+        Order::Ascending => (host(i), i),
+        Order::Descending => (host(i), len.saturating_sub(i).saturating_sub(1)),
+        Order::OneKey => (host(1), len.saturating_sub(1)),
+    }
+}
+
+/// Whether the table of such a list has the rows that it should have.
+fn is_made(alloc: Global, order: Order, len: u32) -> Result<bool, Fail> {
+    let mut rows = Vec::new(alloc);
+    for i in 0..len {
+        rows.push(given(order, len, i))?;
+    }
+    let table = LpmTable::from_rows(rows);
+    let many = match order {
+        Order::OneKey => len.min(1),
+        _ => len,
+    };
+    let mut same = table.len() == many as usize;
+    for i in 0..many {
+        same &= table.row(i as usize) == Some(&wanted(order, len, i));
+    }
+    Ok(same)
+}
+
 #[test]
 fn rows_that_ascend_descend_or_have_one_key_are_a_table(rt: HostRuntime) -> Result<(), Fail> {
-    for len in 0_u32..MOST {
-        let mut ascending = Vec::new(rt.alloc());
-        let mut descending = Vec::new(rt.alloc());
-        let mut equal = Vec::new(rt.alloc());
-        for i in 0_u32..len {
-            ascending.push((host(i), i))?;
-            descending.push((host(len - i - 1), i))?;
-            equal.push((host(1), i))?;
-        }
-        let ascending = LpmTable::from_rows(ascending);
-        let descending = LpmTable::from_rows(descending);
-        let equal = LpmTable::from_rows(equal);
-        assert_eq!(rt; ascending.len(), len as usize);
-        assert_eq!(rt; descending.len(), len as usize);
-        for i in 0_u32..len {
-            assert_eq!(rt; ascending.row(i as usize).copied(), Some((host(i), i)));
-            let row = descending.row(i as usize).copied();
-            assert_eq!(rt; row, Some((host(i), len - i - 1)), "{i} of {len}");
-        }
-        assert_eq!(rt; equal.len(), len.min(1) as usize);
-        assert_eq!(rt; equal.get(&host(1)).copied(), len.checked_sub(1));
+    for len in 0..MOST {
+        let made = is_made(rt.alloc(), Order::Ascending, len)?
+            && is_made(rt.alloc(), Order::Descending, len)?
+            && is_made(rt.alloc(), Order::OneKey, len)?;
+        assert!(rt; made, "{len} rows");
     }
     Ok(())
 }
@@ -108,21 +136,29 @@ fn rows_in_random_order_are_as_if_inserted_in_turn(rt: HostRuntime) -> Result<()
     Ok(())
 }
 
-#[test]
-fn values_that_own_memory_stay_with_their_keys(rt: HostRuntime) -> Result<(), Fail> {
-    let mut rows = Vec::new(rt.alloc());
+/// So many rows with a hundred keys, and a string as the value of each.
+fn rows_with_strings(alloc: Global) -> Result<Vec<(Ipv4Cidr, String)>, AllocError> {
+    let mut rows = Vec::new(alloc);
     for i in 0_u32..500 {
         let number = i * 7 % 100;
-        let text = format!(in rt.alloc(); "{number} of {i}")?;
-        rows.push((host(number), text))?;
+        rows.push((host(number), format!(in alloc; "{number} of {i}")?))?;
     }
-    let table = LpmTable::from_rows(rows);
-    assert_eq!(rt; table.len(), 100);
+    Ok(rows)
+}
+
+/// The value of the last row with this key.
+fn last_string(alloc: Global, number: u32) -> Result<String, AllocError> {
+    // 43 is the inverse of 7 modulo 100
+    format!(in alloc; "{number} of {}", 400 + number % 100 * 43 % 100)
+}
+
+#[test]
+fn values_that_own_memory_stay_with_their_keys(rt: HostRuntime) -> Result<(), Fail> {
+    let table = LpmTable::from_rows(rows_with_strings(rt.alloc())?);
+    assert!(rt; table.len() == 100);
     for (key, text) in table.iter() {
-        let number = key.first_address().to_bits();
-        // 43 is the inverse of 7 modulo 100
-        let wanted = format!(in rt.alloc(); "{number} of {}", 400 + number % 100 * 43 % 100)?;
-        assert_eq!(rt; *text, wanted);
+        let wanted = last_string(rt.alloc(), key.first_address().to_bits())?;
+        assert!(rt; *text == wanted);
     }
     Ok(())
 }

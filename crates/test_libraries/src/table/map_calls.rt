@@ -123,35 +123,6 @@ fn a_clone_is_equal_until_a_row_differs(rt: HostRuntime) -> Result<(), Fail> {
     Ok(())
 }
 
-/// Writes a value where there is one.
-fn write(place: Option<&mut u32>, value: u32) -> Result<(), Fail> {
-    match place {
-        Some(place) => {
-            *place = value;
-            Ok(())
-        }
-        None => Err(Fail::new("no value")),
-    }
-}
-
-#[test]
-fn a_value_is_written_in_its_row_alone(rt: HostRuntime) -> Result<(), Fail> {
-    let mut routes = filled(rt.alloc(), INSERTED)?;
-    let capacity = routes.capacity();
-    assert!(rt; routes.get_mut(&network("10.0.0.0/9")?).is_none());
-    write(routes.get_mut(&network("10.0.0.0/8")?), 30)?;
-    // the longest of its keys is that of the IPv4 networks
-    write(routes.lookup_mut(&network("192.0.2.1")?), 10)?;
-    let rows = [("0.0.0.0/0", 10), ("any", 2), ("10.0.0.0/8", 30)];
-    assert!(rt; routes == filled(rt.alloc(), &rows)?);
-    write(routes.value_mut(2), 31)?;
-    assert!(rt; routes.value_mut(3).is_none() && routes.capacity() == capacity);
-    assert!(rt; routes.remove(&network("any")?) == Some(2));
-    assert!(rt; routes.lookup_mut(&network("::1")?).is_none());
-    assert!(rt; routes == filled(rt.alloc(), &[("0.0.0.0/0", 10), ("10.0.0.0/8", 31)])?);
-    Ok(())
-}
-
 #[test]
 fn each_value_is_written_once_in_the_order_of_the_keys(rt: HostRuntime) -> Result<(), Fail> {
     let mut routes = filled(rt.alloc(), INSERTED)?;

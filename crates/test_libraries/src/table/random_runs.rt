@@ -8,6 +8,8 @@ use std::test::Fail;
 /// A network as a number and a prefix length.
 type Prefix = (u32, u8);
 
+type Routes = LpmTable<Ipv4Cidr, u32>;
+
 /// Whether the network of the one begins that of the other.
 fn begins(outer: Prefix, inner: Prefix) -> bool {
     outer.1 <= inner.1 && outer.1 as u32 <= (outer.0 ^ inner.0).leading_zeros()
@@ -90,53 +92,98 @@ fn as_prefix(row: &(Ipv4Cidr, u32)) -> (Prefix, u32) {
     )
 }
 
+/// Whether an insert or a remove of a random row returns what the list has, and leaves as many rows as the list has.
+fn is_changed_alike(
+    routes: &mut Routes,
+    plain: &mut Plain,
+    state: &mut u64,
+    step: u32,
+) -> Result<bool, Fail> {
+    let chosen = prefix(state);
+    let key = network(chosen)?;
+    let before = plain.get(chosen);
+    if routes.get(&key).copied() != before {
+        return Ok(false);
+    }
+    let returned = if next(state) % 5 < 3 {
+        plain.insert(chosen, step)?;
+        inserted(routes, key, step)?
+    } else {
+        plain.remove(chosen);
+        routes.remove(&key)
+    };
+    let sizes = (routes.len(), routes.is_empty());
+    Ok(returned == before && sizes == (plain.rows.len(), plain.rows.is_empty()))
+}
+
+/// What `insert` returns.
+fn inserted(routes: &mut Routes, key: Ipv4Cidr, value: u32) -> Result<Option<u32>, Fail> {
+    routes
+        .insert(key, value)
+        .map_err(|_| Fail::new("no memory"))
+}
+
+/// Whether each way to find the longest match finds that of the list.
+fn is_matched_alike(routes: &Routes, plain: &Plain, asked: Prefix) -> Result<bool, Fail> {
+    let key = network(asked)?;
+    let wanted = plain.longest_match(asked);
+    let place = longest_match(&mut routes.probe(), &key);
+    let matched = place.and_then(|place| routes.row(place));
+    Ok(matched.map(as_prefix) == wanted && routes.lookup(&key).map(as_prefix) == wanted)
+}
+
+/// Whether rows made ready find the longest match of the list.
+fn is_looked_up_alike(
+    alloc: Global,
+    routes: &Routes,
+    plain: &Plain,
+    asked: Prefix,
+) -> Result<bool, Fail> {
+    let ready = routes.lookups(alloc)?;
+    let found = ready.lookup(&network(asked)?);
+    Ok(found.map(as_prefix) == plain.longest_match(asked))
+}
+
+/// Whether the rows that match are those of the list.
+fn has_matches(routes: &Routes, asked: Prefix, wanted: &[(Prefix, u32)]) -> Result<bool, Fail> {
+    let found = routes.matches(&network(asked)?);
+    Ok(found.map(as_prefix).eq(wanted.iter().copied()))
+}
+
+/// Whether the rows inside a network are those of the list.
+fn has_inside(routes: &Routes, asked: Prefix, wanted: &[(Prefix, u32)]) -> Result<bool, Fail> {
+    let found = routes.inside(&network(asked)?);
+    Ok(found.iter().map(as_prefix).eq(wanted.iter().copied()))
+}
+
+/// Whether rows made ready, and the rows that match or are inside, are as in the list.
+fn is_listed_alike(
+    alloc: Global,
+    routes: &Routes,
+    plain: &Plain,
+    asked: Prefix,
+) -> Result<bool, Fail> {
+    let (matches, inside) = (plain.matches(alloc, asked)?, plain.inside(alloc, asked)?);
+    Ok(
+        is_looked_up_alike(alloc, routes, plain, asked)?
+            && has_matches(routes, asked, matches.as_slice())?
+            && has_inside(routes, asked, inside.as_slice())?,
+    )
+}
+
 #[test]
 fn a_long_run_of_calls_returns_what_a_plain_list_does(rt: HostRuntime) -> Result<(), Fail> {
-    let mut routes = LpmTable::new(rt.alloc());
+    let mut routes = Routes::new(rt.alloc());
     let mut plain = Plain {
         rows: Vec::new(rt.alloc()),
     };
-    assert!(rt; routes.is_empty());
     let mut state = 1;
     for step in 0_u32..20_000 {
-        let chosen = prefix(&mut state);
-        let key = network(chosen)?;
-        let before = plain.get(chosen);
-        assert_eq!(rt; routes.get(&key).copied(), before);
-        if next(&mut state) % 5 < 3 {
-            assert_eq!(rt; routes.insert(key, step), Ok(before), "at step {step}");
-            plain.insert(chosen, step)?;
-        } else {
-            assert_eq!(rt; routes.remove(&key), before, "at step {step}");
-            plain.remove(chosen);
-        }
-        assert_eq!(rt; routes.len(), plain.rows.len());
-        assert_eq!(rt; routes.is_empty(), plain.rows.is_empty());
+        let changed = is_changed_alike(&mut routes, &mut plain, &mut state, step)?;
         let asked = prefix(&mut state);
-        let place = longest_match(&mut routes.probe(), &network(asked)?);
-        let matched = place.and_then(|place| routes.row(place)).map(as_prefix);
-        assert_eq!(rt; matched, plain.longest_match(asked), "at step {step}");
-        let looked_up = routes.lookup(&network(asked)?).map(as_prefix);
-        assert_eq!(rt; looked_up, plain.longest_match(asked), "at step {step}");
-        if step % 16 == 0 {
-            let ready = routes.lookups(rt.alloc())?;
-            let looked_up = ready.lookup(&network(asked)?).map(as_prefix);
-            assert_eq!(rt; looked_up, plain.longest_match(asked), "at step {step}");
-            let matches = plain.matches(rt.alloc(), asked)?;
-            assert!(rt;
-                routes
-                    .matches(&network(asked)?)
-                    .map(as_prefix)
-                    .eq(matches.iter().copied()),
-                "at step {step}"
-            );
-            let inside = plain.inside(rt.alloc(), asked)?;
-            let found = routes.inside(&network(asked)?);
-            assert!(rt;
-                found.iter().map(as_prefix).eq(inside.iter().copied()),
-                "at {step}"
-            );
-        }
+        let matched = is_matched_alike(&routes, &plain, asked)?;
+        let listed = step % 16 != 0 || is_listed_alike(rt.alloc(), &routes, &plain, asked)?;
+        assert!(rt; changed && matched && listed, "at step {step}");
     }
     Ok(())
 }
