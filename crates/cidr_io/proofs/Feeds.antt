@@ -1,5 +1,5 @@
 -- Where lines end.
-use Rattle.std.proofs.Common.{◌≡◌, ◌<◌, ◌≤◌, refl, sym, ◌∙◌, ap, subst, ℕ, ◌+◌, ◌-◌, take, drop, add-one, slice_index, Bool, true, false, List, [], ◌∷◌, ◌++◌, length, arith, append_assoc, length-append, length-drop, Option, Some, None, option_map}
+use Rattle.std.proofs.Common.{◌≡◌, ◌<◌, ◌≤◌, refl, sym, ◌∙◌, ap, subst, ℕ, ◌+◌, ◌-◌, take, drop, add-one, slice_index, true, false, List, [], ◌∷◌, ◌++◌, length, arith, append_assoc, length-append, length-drop, Option, Some, None}
 use Rattle.std.specs.List.{All, slice_range, slice_split}
 use Rattle.std.specs.Option.{IfSome}
 use Rattle.std.specs.Io.KnownBytes.{Consumes, IsAtEnd, prepend_known}

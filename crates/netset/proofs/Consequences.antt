@@ -7,6 +7,7 @@ use Rattle.cidr_io.specs.declared.sink.OutputFailed.{OutputFailed}
 use Rattle.netset.specs.Combining.{name_of}
 use Rattle.netset.specs.Commands.{Request, Lists, NotIn, Diff, Free, Check, Match, Look, Single as ASingle, Help, Version, AreTold, IsAnswer, IsMadeOf, IsRequest, read_files, reading_of, reading_options, without_options}
 use Rattle.netset.specs.Lists.{Text}
+use Rattle.netset.specs.Look.{IsLook}
 use Rattle.netset.specs.Program.{AnswersRequest, AnswersWhole, IsLoadError, IsReadTwice, IsRefused, KeepsGoing, Reports, Runs, RunsArguments, RunsRequest, RunsWords, by_output, status_of, told_by}
 use Rattle.netset.specs.Single.{SingleRequest, Show, Split, Nth}
 use Rattle.netset.specs.declared.answers.Verdict.{Verdict}
@@ -206,3 +207,39 @@ merge_prints files texts told refused closed out new err new_err runs none all t
     let same = is_merge files request (rw all at is) in
     let (answer, answers, whole, quiet) = (rw (none, same) at done) in
     (answer, answers.0 texts tells, whole, quiet)
+
+is_look : (table file : List ℕ) (request : Request) → IsRequest (codes "look" ∷ table ∷ file ∷ []) request → request ≡ Look table file
+is_look table file (Look rows lines) (inl is, a, b) =
+    let one : rows ≡ table = cc in
+    let two : lines ≡ file = cc in
+    ap (λ (k : List ℕ). Look k lines) one ∙ ap (λ (k : List ℕ). Look table k) two
+is_look table file (Look rows lines) (inr (is, input), a, b) = cc
+is_look table file (Lists Merge names) h = other_name (codes "look") (table ∷ file ∷ []) (Lists Merge names) h refl refl
+is_look table file (Lists Nets names) h = other_name (codes "look") (table ∷ file ∷ []) (Lists Nets names) h refl refl
+is_look table file (Lists Minus names) h = other_name (codes "look") (table ∷ file ∷ []) (Lists Minus names) h refl refl
+is_look table file (Lists And names) h = other_name (codes "look") (table ∷ file ∷ []) (Lists And names) h refl refl
+is_look table file (Lists Not names) h = other_name (codes "look") (table ∷ file ∷ []) (Lists Not names) h refl refl
+is_look table file (Lists Ranges names) h = other_name (codes "look") (table ∷ file ∷ []) (Lists Ranges names) h refl refl
+is_look table file (Lists Count names) h = other_name (codes "look") (table ∷ file ∷ []) (Lists Count names) h refl refl
+is_look table file (NotIn net names) h = other_name (codes "look") (table ∷ file ∷ []) (NotIn net names) h refl refl
+is_look table file (Diff old new) h = other_name (codes "look") (table ∷ file ∷ []) (Diff old new) h refl refl
+is_look table file (Free pool len used) h = other_name (codes "look") (table ∷ file ∷ []) (Free pool len used) h refl refl
+is_look table file (Check names) h = other_name (codes "look") (table ∷ file ∷ []) (Check names) h refl refl
+is_look table file (Match options list other) h = other_name (codes "look") (table ∷ file ∷ []) (Match options list other) h refl refl
+is_look table file (ASingle (Show host)) h = other_name (codes "look") (table ∷ file ∷ []) (ASingle (Show host)) h refl refl
+is_look table file (ASingle (Split net len)) h = other_name (codes "look") (table ∷ file ∷ []) (ASingle (Split net len)) h refl refl
+is_look table file (ASingle (Nth net place)) h = other_name (codes "look") (table ∷ file ∷ []) (ASingle (Nth net place)) h refl refl
+is_look table file Help h = other_name (codes "look") (table ∷ file ∷ []) Help h refl refl
+is_look table file Version h = other_name (codes "look") (table ∷ file ∷ []) Version h refl refl
+
+-- `netset look TABLE FILE`, where both are told: what is printed are the longest networks of the addresses of FILE
+pub look_prints : (table file : List ℕ) (rows text : Text) (told : List ℕ → Option (List ℕ)) (refused closed : Bool) (out new err new_err : State)
+    → Runs (Some (codes "look" ∷ table ∷ file ∷ [])) told refused closed out new err new_err 0 → reading_options (codes "look" ∷ table ∷ file ∷ []) ≡ []
+    → without_options (codes "look" ∷ table ∷ file ∷ []) ≡ codes "look" ∷ table ∷ file ∷ []
+    → told_by (reading_of []).host_bits told table ≡ Some rows → told_by (reading_of []).host_bits told file ≡ Some text
+    → (answer : List ℕ) × IsLook rows text.bytes answer Yes × Whole out new answer × Tells err new_err []
+look_prints table file rows text told refused closed out new err new_err runs none all first second =
+    let (request, is, done) = status_0 (codes "look" ∷ table ∷ file ∷ []) told refused closed out new err new_err runs in
+    let same = is_look table file request (rw all at is) in
+    let (answer, answers, whole, quiet) = (rw (none, same) at done) in
+    (answer, answers rows text first second, whole, quiet)

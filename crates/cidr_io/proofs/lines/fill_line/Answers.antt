@@ -1,7 +1,5 @@
-use Rattle.std.proofs.lemmas.Result.{err_from_is_err_and}
-use Rattle.cidr_io.specs.Lines.{StaysTold}
 use Rattle.std.specs.Io.KnownBytes.{prepend_known}
-use Rattle.cidr_io.proofs.Feeds.{none_told, stays_on, stays_told}
+use Rattle.cidr_io.proofs.Feeds.{stays_told}
 use Rattle.cidr_io.proofs.lines.fill_line.Goals as goal
 
 pub loop-place-init : goal.loop-place-init

@@ -1,4 +1,4 @@
-use Rattle.std.proofs.Common.{◌-◌, ◌<◌, length, vec_len}
+use Rattle.std.proofs.Common.{◌-◌, vec_len}
 use Rattle.std.specs.Io.KnownBytes.{prepend_known}
 use Rattle.cidr_io.specs.Lines.{StaysTold}
 use Rattle.cidr_io.proofs.lines.fill_line.Given as goal
