@@ -13,6 +13,7 @@ use Rattle.netset.specs.Lists.{Text, ListSays, network_in, networks_in}
 use Rattle.netset.specs.Changes.{AreChanges, AreSame, printed_changes}
 use Rattle.netset.specs.Combining.{form_of, name_of, takes, IsMade}
 use Rattle.netset.specs.Matching.{has, is_match_option, is_word, written_of, IsMatch, Picks}
+use Rattle.netset.specs.declared.program.TheConstants.{HELP}
 use Rattle.netset.specs.declared.commands.Reading.{Reading}
 use Rattle.netset.specs.declared.lines.HostBits.TheVariants.{Refused, Cleared}
 use Rattle.netset.specs.declared.operations.Form.{Form}
@@ -190,43 +191,7 @@ IsMatchOf options networks text answer verdict = (said : List (List IpCidr)) × 
 
 -- what `--help` writes
 abbrev pub help_text : List ℕ
-help_text =
-    codes "netset merge [FILE..]   the shortest list of networks that has the addresses of all the lists\n"
-    ++ codes "netset nets [FILE..]    the same\n"
-    ++ codes "netset minus A B..      the addresses of A that no other list has\n"
-    ++ codes "netset and A B..        the addresses that each of the lists has\n"
-    ++ codes "netset not [FILE..]     the addresses of IPv4 and those of IPv6 that no list has\n"
-    ++ codes "netset not --in NET [FILE..]\n"
-    ++ codes "                        the addresses of a network that no list has\n"
-    ++ codes "netset ranges [FILE..]  the longest ranges of the addresses of all the lists, FIRST-LAST\n"
-    ++ codes "netset count [FILE..]   how many addresses of IPv4 and of IPv6 the lists have\n"
-    ++ codes "netset diff A B         the networks that B adds to A, as +NET, and that it lacks, as -NET\n"
-    ++ codes "netset free POOL LEN USED..\n"
-    ++ codes "                        the first network of this prefix length in the addresses of\n"
-    ++ codes "                        POOL that no list of USED has\n"
-    ++ codes "netset check [FILE..]   what is found in the lists, whose lines may be hosts too: set host\n"
-    ++ codes "                        bits, other forms than the printed one, repeats, networks inside\n"
-    ++ codes "                        others, and halves of one network\n"
-    ++ codes "netset match [--any] [-v] [-c] [-q] LIST [FILE]\n"
-    ++ codes "                        the lines of FILE whose first field lies in LIST, or with --any those\n"
-    ++ codes "                        that have an address of LIST anywhere; -v all the other lines,\n"
-    ++ codes "                        -c only their number, -q only the status\n"
-    ++ codes "netset look TABLE [FILE]\n"
-    ++ codes "                        the longest network of each address of FILE in the lines\n"
-    ++ codes "                        NET VALUE of TABLE, and its value\n"
-    ++ codes "netset show HOST        the network of a host: its ends, mask, length and family\n"
-    ++ codes "netset split NET LEN    the networks of this prefix length inside a network\n"
-    ++ codes "netset nth NET INDEX    the address of a network at an index, from 0 on\n"
-    ++ codes "netset --help           this page\n"
-    ++ codes "netset --version        the version\n"
-    ++ codes "\n"
-    ++ codes "A line of a list is a network, an address or a range FIRST-LAST, and may end in a comment\n"
-    ++ codes "from # or ; on. The file - is the standard input, which is also read where no file is named.\n"
-    ++ codes "With --host-bits behind a command that reads lists, but check, a bit set behind the prefix of\n"
-    ++ codes "a network in a list is taken as unset, and is no error.\n"
-    ++ codes "With -k behind a command that reads lists each line in error is told, and not only the first.\n"
-    ++ codes "Status: 0 done, 1 none, a difference or findings, 2 usage, a wrong argument, a file that\n"
-    ++ codes "cannot be read or a line in error, 3 output or memory.\n"
+help_text = HELP.now
 
 -- what `--version` writes
 abbrev pub version_text : List ℕ
