@@ -5,6 +5,7 @@
 
 mod forwarding;
 mod loading;
+mod ranges;
 mod rules;
 mod sets;
 mod tables;
@@ -45,6 +46,7 @@ fn main(rt: HostRuntime) -> io::Result<()> {
         ("from_range", sets::range(rt.alloc())),
         ("access lists", rules::access_lists(rt.alloc())),
         ("smallest tables", forwarding::smallest(rt.alloc())),
+        ("a forwarding table", ranges::forwarding_table(rt.alloc())),
     ];
     for (call, held) in rows {
         println!(rt; "{call}: {}", outcome(held))?;
