@@ -2,8 +2,9 @@
 use crate::support::{debugs, read};
 use cidr::{
     AddrParseError, Address, AnyIpCidr, Cidr, Inet, InetPair, IpAddr, IpCidr, IpInet, Ipv4Addr,
-    Ipv6Addr,
+    Ipv4Cidr, Ipv6Addr,
 };
+use cidr_table::LpmTable;
 use std::fmt::Debug;
 use std::process::Abort;
 use std::str::FromStr;
@@ -54,4 +55,13 @@ fn a_value_of_either_family_has_its_variant_and_its_length(rt: HostRuntime) {
         debugs(alloc, &read::<IpInet>(&rt, "10.0.0.1"), "V4(10.0.0.1/32)"),
     ];
     assert!(rt; found == [true; 4]);
+}
+
+#[test]
+fn a_table_in_lines_has_each_row(rt: HostRuntime) {
+    let mut table = LpmTable::new(rt.alloc());
+    let _ = table.set(read::<Ipv4Cidr>(&rt, "10.0.0.0/8"), 1_u32);
+    let _ = table.set(read::<Ipv4Cidr>(&rt, "10.1.0.0/16"), 2);
+    let printed = format!(in rt.alloc(); "{table:#?}").expect(&rt, "a table");
+    assert!(rt; printed.as_str() == "{\n    10.0.0.0/8: 1,\n    10.1.0.0/16: 2,\n}");
 }
