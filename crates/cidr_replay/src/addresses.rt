@@ -3,15 +3,18 @@
 use crate::answer::Answer;
 use crate::line_error::{LineError, Outcome};
 use crate::queries;
-use crate::tokens::{Kind, Tokens};
+use crate::tokens::Tokens;
 use crate::values::Value;
 use cidr::{AddrParseError, IpAddr, Ipv4Addr, Ipv6Addr};
 use std::str::FromStr;
 
-/// The calls that all addresses have.
+/// What addresses have beside the calls of `cidr::Address`.
 pub trait Address: Copy + Ord + FromStr<Err = AddrParseError> + Value {
     /// Answers the printed text by the call for texts, by `Display` and by `Debug`.
     fn texts(&self, answer: &mut Answer) -> Outcome;
+
+    /// Answers an operation of this type alone.
+    fn answer_own(name: &str, tokens: &mut Tokens<'_>, answer: &mut Answer) -> Outcome;
 }
 
 impl Address for Ipv4Addr {
@@ -19,6 +22,20 @@ impl Address for Ipv4Addr {
         answer.word(self.to_text().as_str())?;
         answer.display(self)?;
         answer.display(&format_args!("{self:?}"))
+    }
+
+    fn answer_own(name: &str, tokens: &mut Tokens<'_>, answer: &mut Answer) -> Outcome {
+        match name {
+            "new" => {
+                let (a, b) = (tokens.number()?, tokens.number()?);
+                let (c, d) = (tokens.number()?, tokens.number()?);
+                answer.value(&Ipv4Addr::new(a, b, c, d))
+            }
+            "octets" => answer.bytes(&tokens.value::<Ipv4Addr>()?.octets()),
+            "to_bits" => answer.display(&tokens.value::<Ipv4Addr>()?.to_bits()),
+            "from_bits" => answer.value(&Ipv4Addr::from_bits(tokens.number()?)),
+            _ => Err(LineError::Malformed),
+        }
     }
 }
 
@@ -28,6 +45,25 @@ impl Address for Ipv6Addr {
         answer.display(self)?;
         answer.display(&format_args!("{self:?}"))
     }
+
+    fn answer_own(name: &str, tokens: &mut Tokens<'_>, answer: &mut Answer) -> Outcome {
+        match name {
+            "new" => {
+                let [a, b, c, d, e, f, g, h] = tokens.groups()?;
+                answer.value(&Ipv6Addr::new(a, b, c, d, e, f, g, h))
+            }
+            "octets" => answer.bytes(&tokens.value::<Ipv6Addr>()?.octets()),
+            "segments" => {
+                for group in &tokens.value::<Ipv6Addr>()?.segments() {
+                    answer.display(group)?;
+                }
+                Ok(())
+            }
+            "to_bits" => answer.display(&tokens.value::<Ipv6Addr>()?.to_bits()),
+            "from_bits" => answer.value(&Ipv6Addr::from_bits(tokens.number()?)),
+            _ => Err(LineError::Malformed),
+        }
+    }
 }
 
 impl Address for IpAddr {
@@ -36,67 +72,22 @@ impl Address for IpAddr {
         answer.display(self)?;
         answer.display(&format_args!("{self:?}"))
     }
+
+    fn answer_own(name: &str, tokens: &mut Tokens<'_>, answer: &mut Answer) -> Outcome {
+        if name != "is" {
+            return Err(LineError::Malformed);
+        }
+        let address = tokens.value::<IpAddr>()?;
+        answer.value(&(address.is_ipv4(), address.is_ipv6()))
+    }
 }
 
 /// Answers the operation on addresses that has this name.
-pub fn answer(name: &str, tokens: &mut Tokens<'_>, answer: &mut Answer) -> Outcome {
-    match tokens.kind()? {
-        Kind::V4 => answer_ipv4(name, tokens, answer),
-        Kind::V6 => answer_ipv6(name, tokens, answer),
-        Kind::Ip => answer_ip(name, tokens, answer),
-        Kind::Any => Err(LineError::Malformed),
-    }
-}
-
-fn answer_ipv4(name: &str, tokens: &mut Tokens<'_>, answer: &mut Answer) -> Outcome {
-    match name {
-        "new" => {
-            let (a, b) = (tokens.number()?, tokens.number()?);
-            let (c, d) = (tokens.number()?, tokens.number()?);
-            answer.value(&Ipv4Addr::new(a, b, c, d))
-        }
-        "octets" => answer.bytes(&tokens.value::<Ipv4Addr>()?.octets()),
-        "to_bits" => answer.display(&tokens.value::<Ipv4Addr>()?.to_bits()),
-        "from_bits" => answer.value(&Ipv4Addr::from_bits(tokens.number()?)),
-        _ => answer_each::<Ipv4Addr>(name, tokens, answer),
-    }
-}
-
-fn answer_ipv6(name: &str, tokens: &mut Tokens<'_>, answer: &mut Answer) -> Outcome {
-    match name {
-        "new" => {
-            let [a, b, c, d, e, f, g, h] = tokens.groups()?;
-            answer.value(&Ipv6Addr::new(a, b, c, d, e, f, g, h))
-        }
-        "octets" => answer.bytes(&tokens.value::<Ipv6Addr>()?.octets()),
-        "segments" => {
-            for group in &tokens.value::<Ipv6Addr>()?.segments() {
-                answer.display(group)?;
-            }
-            Ok(())
-        }
-        "to_bits" => answer.display(&tokens.value::<Ipv6Addr>()?.to_bits()),
-        "from_bits" => answer.value(&Ipv6Addr::from_bits(tokens.number()?)),
-        _ => answer_each::<Ipv6Addr>(name, tokens, answer),
-    }
-}
-
-fn answer_ip(name: &str, tokens: &mut Tokens<'_>, answer: &mut Answer) -> Outcome {
-    match name {
-        "is" => {
-            let address = tokens.value::<IpAddr>()?;
-            answer.value(&(address.is_ipv4(), address.is_ipv6()))
-        }
-        _ => answer_each::<IpAddr>(name, tokens, answer),
-    }
-}
-
-/// The operations of every type.
-fn answer_each<A: Address>(name: &str, tokens: &mut Tokens<'_>, answer: &mut Answer) -> Outcome {
+pub fn answer<A: Address>(name: &str, tokens: &mut Tokens<'_>, answer: &mut Answer) -> Outcome {
     match name {
         "parse" => queries::parse::<A>(tokens, answer),
         "cmp" => queries::compare::<A>(tokens, answer),
         "text" => tokens.value::<A>()?.texts(answer),
-        _ => Err(LineError::Malformed),
+        _ => A::answer_own(name, tokens, answer),
     }
 }

@@ -3,7 +3,7 @@ ghost use Rattle.std.specs.Prelude.{◌<◌, length, IfOk};
 
 use crate::answer::Answer;
 use crate::line_error::{LineError, Outcome};
-use crate::tokens::{Kind, Tokens};
+use crate::tokens::Tokens;
 use crate::values::Value;
 use cidr::errors::NetworkParseError;
 use cidr::{AnyIpCidr, BitString, Ipv4Cidr, Ipv4Inet, Ipv6Cidr, Ipv6Inet};
@@ -22,27 +22,8 @@ impl Bits for Ipv4Inet {}
 
 impl Bits for Ipv6Inet {}
 
-/// Answers the operation on the bits of networks that has this name.
-pub fn answer(name: &str, tokens: &mut Tokens<'_>, answer: &mut Answer) -> Outcome {
-    match tokens.kind()? {
-        Kind::V4 => answer_each::<Ipv4Cidr>(name, tokens, answer),
-        Kind::V6 => answer_each::<Ipv6Cidr>(name, tokens, answer),
-        Kind::Any => answer_each::<AnyIpCidr>(name, tokens, answer),
-        Kind::Ip => Err(LineError::Malformed),
-    }
-}
-
-/// Answers the operation on the bits of hosts that has this name.
-pub fn answer_hosts(name: &str, tokens: &mut Tokens<'_>, answer: &mut Answer) -> Outcome {
-    match tokens.kind()? {
-        Kind::V4 => answer_each::<Ipv4Inet>(name, tokens, answer),
-        Kind::V6 => answer_each::<Ipv6Inet>(name, tokens, answer),
-        Kind::Ip | Kind::Any => Err(LineError::Malformed),
-    }
-}
-
-/// The operations of every type.
-fn answer_each<B: Bits>(name: &str, tokens: &mut Tokens<'_>, answer: &mut Answer) -> Outcome {
+/// Answers the operation on strings of bits that has this name.
+pub fn answer<B: Bits>(name: &str, tokens: &mut Tokens<'_>, answer: &mut Answer) -> Outcome {
     match name {
         "len" => answer.value(&tokens.value::<B>()?.len()),
         "get" => {

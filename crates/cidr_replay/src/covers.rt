@@ -2,28 +2,12 @@
 
 use crate::answer::Answer;
 use crate::line_error::{LineError, Outcome};
-use crate::tokens::{Kind, Tokens};
-use crate::values::Value;
-use cidr::errors::NetworkParseError;
-use cidr::{AnyIpCidr, Ipv4Cidr, Ipv6Cidr, NetworkBits};
+use crate::tables::Key;
+use crate::tokens::Tokens;
 use cidr_table::LpmTable;
-use std::str::FromStr;
 
-/// Answers the operation.
-pub fn answer(tokens: &mut Tokens<'_>, answer: &mut Answer) -> Outcome {
-    match tokens.kind()? {
-        Kind::V4 => cover::<Ipv4Cidr>(tokens, answer),
-        Kind::V6 => cover::<Ipv6Cidr>(tokens, answer),
-        Kind::Any => cover::<AnyIpCidr>(tokens, answer),
-        Kind::Ip => Err(LineError::Malformed),
-    }
-}
-
-/// The least cover of the networks that are left of the line, or `none` where there is none.
-fn cover<C>(tokens: &mut Tokens<'_>, answer: &mut Answer) -> Outcome
-where
-    C: NetworkBits + Copy + FromStr<Err = NetworkParseError> + Value,
-{
+/// Answers the least cover of the networks that are left of the line, or `none` where there is none.
+pub fn answer<C: Key>(tokens: &mut Tokens<'_>, answer: &mut Answer) -> Outcome {
     let table = keys::<C>(tokens)?;
     let mut networks = vec![in tokens.alloc(); C::null(); table.len()]?;
     let count = table.least_cover(networks.as_mut_slice());
@@ -38,10 +22,7 @@ where
 }
 
 /// A table whose keys are the networks that are left of the line.
-fn keys<C>(tokens: &mut Tokens<'_>) -> Result<LpmTable<C, usize>, LineError>
-where
-    C: NetworkBits + Copy + FromStr<Err = NetworkParseError> + Value,
-{
+fn keys<C: Key>(tokens: &mut Tokens<'_>) -> Result<LpmTable<C, usize>, LineError> {
     let mut table = LpmTable::new(tokens.alloc());
     for place in 0..usize::MAX {
         if tokens.is_empty() {

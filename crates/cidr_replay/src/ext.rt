@@ -2,50 +2,20 @@
 
 use crate::answer::Answer;
 use crate::line_error::{LineError, Outcome};
-use crate::tokens::{Kind, Tokens};
-use cidr::{Address, Cidr, Inet, InetPair, IpAddr, Ipv4Addr, Ipv4Cidr, Ipv6Addr, Ipv6Cidr};
+use crate::tokens::Tokens;
+use cidr::{Address, Cidr, Inet, InetPair, Ipv4Addr, Ipv4Cidr, Ipv6Addr, Ipv6Cidr};
 use cidr_ext::{
     AddressExt, AddressReverseName, CidrMaskText, CidrReverseName, Ipv4AddrExt, Ipv4CidrExt,
     Ipv6AddrExt, Ipv6CidrExt, SpecialAddress,
 };
+use std::alloc::Global;
 use std::fmt::Debug;
 
-mod networks;
-mod tree;
-
-/// Answers the operation of this section that has this name.
-pub fn answer(section: &str, name: &str, tokens: &mut Tokens<'_>, answer: &mut Answer) -> Outcome {
-    match section {
-        "inside" => inside(name, tokens, answer),
-        "tree" => tree::answer(name, tokens, answer),
-        _ => match tokens.kind()? {
-            Kind::V4 => answer_for::<Ipv4Addr>(section, name, tokens, answer),
-            Kind::V6 => answer_for::<Ipv6Addr>(section, name, tokens, answer),
-            Kind::Ip => answer_for::<IpAddr>(section, name, tokens, answer),
-            Kind::Any => Err(LineError::Malformed),
-        },
-    }
-}
-
-/// The operations of every type, which is told by its addresses.
-fn answer_for<A>(section: &str, name: &str, tokens: &mut Tokens<'_>, answer: &mut Answer) -> Outcome
-where
-    A: Address + AddressExt + AddressReverseName + SpecialAddress,
-    A::Cidr: Cidr<Address = A> + CidrReverseName + CidrMaskText + Debug,
-    A::Inet: Inet<Address = A> + Debug,
-    A::InetPair: InetPair<Address = A>,
-{
-    match section {
-        "network" => networks::answer::<A>(name, tokens, answer),
-        "name" => names::<A>(name, tokens, answer),
-        "mask" => masks::<A::Cidr>(name, tokens, answer),
-        "address" => addresses::<A>(name, tokens, answer),
-        _ => special(name, &tokens.value::<A>()?, answer),
-    }
-}
+pub mod networks;
+pub mod tree;
 
 /// IPv4 addresses and networks inside those of IPv6.
-fn inside(name: &str, tokens: &mut Tokens<'_>, answer: &mut Answer) -> Outcome {
+pub fn inside(name: &str, tokens: &mut Tokens<'_>, answer: &mut Answer) -> Outcome {
     match name {
         "address_to_ipv6_mapped" => answer.shown(&tokens.value::<Ipv4Addr>()?.to_ipv6_mapped()),
         "network_to_ipv6_mapped" => answer.shown(&tokens.value::<Ipv4Cidr>()?.to_ipv6_mapped()),
@@ -58,7 +28,7 @@ fn inside(name: &str, tokens: &mut Tokens<'_>, answer: &mut Answer) -> Outcome {
 }
 
 /// Names in reverse DNS that are parsed, and the zones of networks.
-fn names<A>(name: &str, tokens: &mut Tokens<'_>, answer: &mut Answer) -> Outcome
+pub fn names<A>(name: &str, tokens: &mut Tokens<'_>, answer: &mut Answer) -> Outcome
 where
     A: Address + AddressExt + AddressReverseName,
     A::Cidr: Cidr<Address = A> + CidrReverseName + Debug,
@@ -68,19 +38,28 @@ where
     match name {
         "to_network" => answer.shown(&A::Cidr::from_reverse_name(tokens.word()?)),
         "to_address" => answer.shown(&A::from_reverse_name(tokens.word()?)),
-        "zones" => {
-            let mut names = Vec::new(tokens.alloc());
-            for zone in tokens.value::<A::Cidr>()?.reverse_zones() {
-                names.push(zone)?;
-            }
-            answer.shown(&names)
-        }
+        "zones" => zones::<A>(&tokens.value::<A::Cidr>()?, tokens.alloc(), answer),
         _ => Err(LineError::Malformed),
     }
 }
 
+/// The names of the zones that a network falls into.
+fn zones<A>(network: &A::Cidr, alloc: Global, answer: &mut Answer) -> Outcome
+where
+    A: Address + AddressExt,
+    A::Cidr: Cidr<Address = A> + CidrReverseName,
+    A::Inet: Inet<Address = A>,
+    A::InetPair: InetPair<Address = A>,
+{
+    let mut names = Vec::new(alloc);
+    for zone in network.reverse_zones() {
+        names.push(zone)?;
+    }
+    answer.shown(&names)
+}
+
 /// Networks as strings with a mask.
-fn masks<C: CidrMaskText + Debug>(
+pub fn masks<C: CidrMaskText + Debug>(
     name: &str,
     tokens: &mut Tokens<'_>,
     answer: &mut Answer,
@@ -94,7 +73,7 @@ fn masks<C: CidrMaskText + Debug>(
 }
 
 /// The numbers, families, masks and reverse names of addresses.
-fn addresses<A>(name: &str, tokens: &mut Tokens<'_>, answer: &mut Answer) -> Outcome
+pub fn addresses<A>(name: &str, tokens: &mut Tokens<'_>, answer: &mut Answer) -> Outcome
 where
     A: AddressExt + AddressReverseName,
     A::Cidr: Cidr<Address = A> + CidrReverseName,
@@ -111,7 +90,7 @@ where
 }
 
 /// What an address is for.
-fn special<A: SpecialAddress>(name: &str, address: &A, answer: &mut Answer) -> Outcome {
+pub fn special<A: SpecialAddress>(name: &str, address: &A, answer: &mut Answer) -> Outcome {
     match name {
         "special_entry" => answer.shown(&address.special_entry()),
         "is_global" => answer.shown(&address.is_global()),

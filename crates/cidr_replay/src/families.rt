@@ -14,8 +14,8 @@ pub fn answer(name: &str, tokens: &mut Tokens<'_>, answer: &mut Answer) -> Outco
         }
         "show" => {
             let family = family(tokens)?;
-            answer.value(&family.len())?;
-            answer.value(&(family.unspecified_address(), family.loopback_address()))
+            let addresses = (family.unspecified_address(), family.loopback_address());
+            answer.value(&(family.len(), addresses))
         }
         _ => Err(LineError::Malformed),
     }

@@ -1,22 +1,20 @@
 //! Operations on refusals.
 
-use crate::addresses::Address;
 use crate::answer::Answer;
 use crate::line_error::{LineError, Outcome};
 use crate::tokens::{Kind, Tokens};
 use cidr::errors::{InetTupleError, NetworkParseError};
-use cidr::{
-    AnyIpCidr, Inet, IpAddr, IpCidr, IpInet, Ipv4Addr, Ipv4Cidr, Ipv4Inet, Ipv6Addr, Ipv6Cidr,
-    Ipv6Inet,
-};
+use cidr::{Address, AnyIpCidr, Inet, IpCidr, Ipv4Cidr, Ipv6Cidr};
 use std::str::FromStr;
 
-/// Answers the operation on refusals that has this name.
-pub fn answer(name: &str, tokens: &mut Tokens<'_>, answer: &mut Answer) -> Outcome {
+/// Answers the operation that has this name on what refusals are made from, on a type that is told by its addresses.
+pub fn answer<A: Address>(name: &str, tokens: &mut Tokens<'_>, answer: &mut Answer) -> Outcome
+where
+    A::Inet: Inet<Address = A>,
+{
     match name {
-        "eq" => equal(tokens, answer),
-        "from_address" => from_address(tokens, answer),
-        "from_length" => from_length(tokens, answer),
+        "from_address" => from_address::<A>(tokens, answer),
+        "from_length" => from_length::<A::Inet>(tokens, answer),
         _ => Err(LineError::Malformed),
     }
 }
@@ -41,22 +39,14 @@ fn refusal_of<N: FromStr<Err = NetworkParseError> + Drop>(
     }
 }
 
-fn equal(tokens: &mut Tokens<'_>, answer: &mut Answer) -> Outcome {
+/// Answers whether two refusals are equal.
+pub fn equal(tokens: &mut Tokens<'_>, answer: &mut Answer) -> Outcome {
     let one = refusal(tokens)?;
     let other = refusal(tokens)?;
     answer.display(&(one == other))
 }
 
-fn from_address(tokens: &mut Tokens<'_>, answer: &mut Answer) -> Outcome {
-    match tokens.kind()? {
-        Kind::V4 => from_address_of::<Ipv4Addr>(tokens, answer),
-        Kind::V6 => from_address_of::<Ipv6Addr>(tokens, answer),
-        Kind::Ip => from_address_of::<IpAddr>(tokens, answer),
-        Kind::Any => Err(LineError::Malformed),
-    }
-}
-
-fn from_address_of<A: Address>(tokens: &mut Tokens<'_>, answer: &mut Answer) -> Outcome {
+fn from_address<A: Address>(tokens: &mut Tokens<'_>, answer: &mut Answer) -> Outcome {
     let text = tokens.text()?;
     match text.as_str().parse::<A>() {
         Ok(_) => Err(LineError::Malformed),
@@ -64,16 +54,7 @@ fn from_address_of<A: Address>(tokens: &mut Tokens<'_>, answer: &mut Answer) -> 
     }
 }
 
-fn from_length(tokens: &mut Tokens<'_>, answer: &mut Answer) -> Outcome {
-    match tokens.kind()? {
-        Kind::V4 => from_length_of::<Ipv4Inet>(tokens, answer),
-        Kind::V6 => from_length_of::<Ipv6Inet>(tokens, answer),
-        Kind::Ip => from_length_of::<IpInet>(tokens, answer),
-        Kind::Any => Err(LineError::Malformed),
-    }
-}
-
-fn from_length_of<H: Inet>(tokens: &mut Tokens<'_>, answer: &mut Answer) -> Outcome {
+fn from_length<H: Inet>(tokens: &mut Tokens<'_>, answer: &mut Answer) -> Outcome {
     let address = tokens.value::<H::Address>()?;
     let len = tokens.number::<u8>()?;
     match H::new(address, len) {

@@ -1,12 +1,12 @@
 //! Operations on hosts.
 
 use crate::answer::Answer;
-use crate::line_error::{LineError, Outcome};
+use crate::line_error::Outcome;
 use crate::queries;
 use crate::queries::HasTexts;
-use crate::tokens::{Kind, Tokens};
+use crate::tokens::Tokens;
 use crate::values::Value;
-use cidr::{Address, Inet, IpAddr, IpInet, Ipv4Addr, Ipv4Inet, Ipv6Addr, Ipv6Inet};
+use cidr::{Address, Inet};
 
 mod operators;
 mod steps;
@@ -18,47 +18,13 @@ pub trait Host: Copy + HasTexts + Value {
 
     /// The host by the operator `-`, if the step stays in the network.
     fn sub(self, step: u128) -> Option<Self>;
+
+    /// Answers an operation of this type alone.
+    fn answer_own(name: &str, tokens: &mut Tokens<'_>, answer: &mut Answer) -> Outcome;
 }
 
-/// Answers the operation on hosts that has this name.
-pub fn answer(name: &str, tokens: &mut Tokens<'_>, answer: &mut Answer) -> Outcome {
-    match tokens.kind()? {
-        Kind::V4 => answer_ipv4(name, tokens, answer),
-        Kind::V6 => answer_ipv6(name, tokens, answer),
-        Kind::Ip => answer_ip(name, tokens, answer),
-        Kind::Any => Err(LineError::Malformed),
-    }
-}
-
-fn answer_ipv4(name: &str, tokens: &mut Tokens<'_>, answer: &mut Answer) -> Outcome {
-    match name {
-        "address_ref" => answer.value(tokens.value::<Ipv4Inet>()?.address_ref()),
-        "add_u32" | "sub_u32" | "overflowing_add_u32" | "overflowing_sub_u32" => {
-            steps::answer_narrow(name, tokens, answer)
-        }
-        _ => answer_each::<Ipv4Addr>(name, tokens, answer),
-    }
-}
-
-fn answer_ipv6(name: &str, tokens: &mut Tokens<'_>, answer: &mut Answer) -> Outcome {
-    match name {
-        "address_ref" => answer.value(tokens.value::<Ipv6Inet>()?.address_ref()),
-        _ => answer_each::<Ipv6Addr>(name, tokens, answer),
-    }
-}
-
-fn answer_ip(name: &str, tokens: &mut Tokens<'_>, answer: &mut Answer) -> Outcome {
-    match name {
-        "is" => {
-            let host = tokens.value::<IpInet>()?;
-            answer.value(&(host.is_ipv4(), host.is_ipv6()))
-        }
-        _ => answer_each::<IpAddr>(name, tokens, answer),
-    }
-}
-
-/// The operations of every type, which is told by its addresses.
-fn answer_each<A: Address + Value>(
+/// Answers the operation that has this name on hosts, which are told by their addresses.
+pub fn answer<A: Address + Value>(
     name: &str,
     tokens: &mut Tokens<'_>,
     answer: &mut Answer,
@@ -91,7 +57,7 @@ where
         "overflowing_add" | "overflowing_sub" | "add" | "sub" => {
             steps::answer_many::<A::Inet>(name, tokens, answer)
         }
-        _ => Err(LineError::Malformed),
+        _ => A::Inet::answer_own(name, tokens, answer),
     }
 }
 
@@ -102,12 +68,13 @@ where
     A::Inet: Inet<Address = A>,
 {
     let host = tokens.value::<A::Inet>()?;
-    answer.value(&host.address())?;
-    answer.value(&host.network())?;
-    answer.value(&host.first_address())?;
-    answer.value(&host.last_address())?;
-    answer.value(&host.mask())?;
-    answer.value(&host.network_length())?;
-    answer.value(&host.family())?;
-    answer.value(&host.is_host_address())
+    let ends = (host.first_address(), host.last_address());
+    let length = (
+        host.network_length(),
+        (host.family(), host.is_host_address()),
+    );
+    answer.value(&(
+        (host.address(), host.network()),
+        (ends, (host.mask(), length)),
+    ))
 }

@@ -4,22 +4,32 @@ use crate::answer::Answer;
 use crate::line_error::{LineError, Outcome};
 use crate::queries;
 use crate::queries::HasTexts;
-use crate::tokens::{Kind, Tokens};
+use crate::tokens::Tokens;
 use crate::values::Value;
 use cidr::errors::NetworkParseError;
-use cidr::{Address, AnyIpCidr, Cidr, IpAddr, IpCidr, Ipv4Addr, Ipv4Cidr, Ipv6Addr, Ipv6Cidr};
+use cidr::{Address, AnyIpCidr, Cidr, IpCidr, Ipv4Cidr, Ipv6Cidr};
 use std::str::FromStr;
 
-mod any;
+pub mod any;
 
 /// What all networks have.
 pub trait Network: Copy + Ord + FromStr<Err = NetworkParseError> + HasTexts + Value {
     fn contains_cidr(&self, other: &Self) -> bool;
+
+    /// Answers an operation of this type alone.
+    fn answer_own(name: &str, tokens: &mut Tokens<'_>, answer: &mut Answer) -> Outcome;
 }
 
 impl Network for Ipv4Cidr {
     fn contains_cidr(&self, other: &Ipv4Cidr) -> bool {
         Ipv4Cidr::contains_cidr(self, other)
+    }
+
+    fn answer_own(name: &str, tokens: &mut Tokens<'_>, answer: &mut Answer) -> Outcome {
+        match name {
+            "first_address_ref" => answer.value(tokens.value::<Ipv4Cidr>()?.first_address_ref()),
+            _ => Err(LineError::Malformed),
+        }
     }
 }
 
@@ -27,11 +37,28 @@ impl Network for Ipv6Cidr {
     fn contains_cidr(&self, other: &Ipv6Cidr) -> bool {
         Ipv6Cidr::contains_cidr(self, other)
     }
+
+    fn answer_own(name: &str, tokens: &mut Tokens<'_>, answer: &mut Answer) -> Outcome {
+        match name {
+            "first_address_ref" => answer.value(tokens.value::<Ipv6Cidr>()?.first_address_ref()),
+            _ => Err(LineError::Malformed),
+        }
+    }
 }
 
 impl Network for IpCidr {
     fn contains_cidr(&self, other: &IpCidr) -> bool {
         IpCidr::contains_cidr(self, other)
+    }
+
+    fn answer_own(name: &str, tokens: &mut Tokens<'_>, answer: &mut Answer) -> Outcome {
+        match name {
+            "is" => {
+                let network = tokens.value::<IpCidr>()?;
+                answer.value(&(network.is_ipv4(), network.is_ipv6()))
+            }
+            _ => Err(LineError::Malformed),
+        }
     }
 }
 
@@ -39,44 +66,14 @@ impl Network for AnyIpCidr {
     fn contains_cidr(&self, other: &AnyIpCidr) -> bool {
         AnyIpCidr::contains_cidr(self, other)
     }
-}
 
-/// Answers the operation on networks that has this name.
-pub fn answer(name: &str, tokens: &mut Tokens<'_>, answer: &mut Answer) -> Outcome {
-    match tokens.kind()? {
-        Kind::V4 => answer_ipv4(name, tokens, answer),
-        Kind::V6 => answer_ipv6(name, tokens, answer),
-        Kind::Ip => answer_ip(name, tokens, answer),
-        Kind::Any => any::answer(name, tokens, answer),
+    fn answer_own(name: &str, tokens: &mut Tokens<'_>, answer: &mut Answer) -> Outcome {
+        any::answer_own(name, tokens, answer)
     }
 }
 
-fn answer_ipv4(name: &str, tokens: &mut Tokens<'_>, answer: &mut Answer) -> Outcome {
-    match name {
-        "first_address_ref" => answer.value(tokens.value::<Ipv4Cidr>()?.first_address_ref()),
-        _ => answer_family::<Ipv4Addr>(name, tokens, answer),
-    }
-}
-
-fn answer_ipv6(name: &str, tokens: &mut Tokens<'_>, answer: &mut Answer) -> Outcome {
-    match name {
-        "first_address_ref" => answer.value(tokens.value::<Ipv6Cidr>()?.first_address_ref()),
-        _ => answer_family::<Ipv6Addr>(name, tokens, answer),
-    }
-}
-
-fn answer_ip(name: &str, tokens: &mut Tokens<'_>, answer: &mut Answer) -> Outcome {
-    match name {
-        "is" => {
-            let network = tokens.value::<IpCidr>()?;
-            answer.value(&(network.is_ipv4(), network.is_ipv6()))
-        }
-        _ => answer_family::<IpAddr>(name, tokens, answer),
-    }
-}
-
-/// The operations of the types whose networks always have a family, each told by its addresses.
-fn answer_family<A: Address + Value>(
+/// Answers the operation that has this name on networks that always have a family, which are told by their addresses.
+pub fn answer<A: Address + Value>(
     name: &str,
     tokens: &mut Tokens<'_>,
     answer: &mut Answer,
@@ -114,7 +111,7 @@ fn answer_each<N: Network>(name: &str, tokens: &mut Tokens<'_>, answer: &mut Ans
         "parse" => queries::parse::<N>(tokens, answer),
         "cmp" => queries::compare::<N>(tokens, answer),
         "text" => tokens.value::<N>()?.texts(answer),
-        _ => Err(LineError::Malformed),
+        _ => N::answer_own(name, tokens, answer),
     }
 }
 
@@ -124,10 +121,10 @@ where
     A::Cidr: Cidr<Address = A>,
 {
     let network = tokens.value::<A::Cidr>()?;
-    answer.value(&network.first_address())?;
-    answer.value(&network.last_address())?;
-    answer.value(&network.mask())?;
-    answer.value(&network.network_length())?;
-    answer.value(&network.family())?;
-    answer.value(&network.is_host_address())
+    let ends = (network.first_address(), network.last_address());
+    let length = (
+        network.network_length(),
+        (network.family(), network.is_host_address()),
+    );
+    answer.value(&(ends, (network.mask(), length)))
 }

@@ -1,14 +1,28 @@
 //! From a line to its answer.
 
 use crate::answer::Answer;
+use crate::bits::Bits;
+use crate::hosts::Host;
 use crate::line_error::{LineError, Outcome};
-use crate::tokens::Tokens;
+use crate::networks::Network;
+use crate::pairs::PairType;
+use crate::parsers::ShortParsers;
+use crate::tables::Key;
+use crate::tokens::{Kind, Tokens};
 use crate::{
     addresses, bits, compact, conversions, covers, ext, families, faults, hosts, networks, pairs,
     parsers, prefixes, sets, tables, walks,
 };
+use cidr::{
+    AddrParseError, Address, AnyIpCidr, Cidr, Inet, InetPair, IpAddr, Ipv4Addr, Ipv4Cidr, Ipv4Inet,
+    Ipv6Addr, Ipv6Cidr, Ipv6Inet, PrefixBytes,
+};
+use cidr_ext::{AddressReverseName, CidrMaskText, CidrReverseName, SpecialAddress};
+use cidr_sets::{AddressSpace, Addressed, Subnets};
 use std::alloc::{AllocError, Global};
+use std::fmt::Debug;
 use std::str;
+use std::str::FromStr;
 
 /// Replaces what `answer` holds by the answer line to `line`.
 ///
@@ -61,34 +75,121 @@ fn answer_operation(
     answer: &mut Answer,
 ) -> Outcome {
     match section {
-        "addr" => addresses::answer(name, tokens, answer),
         "family" => families::answer(name, tokens, answer),
-        "cidr" => networks::answer(name, tokens, answer),
-        "inet" => hosts::answer(name, tokens, answer),
-        "pair" => pairs::answer(name, tokens, answer),
-        "walk" => walks::answer(name, tokens, answer),
-        "fault" => faults::answer(name, tokens, answer),
-        "parse" => parsers::answer(name, tokens, answer),
-        "bits" => bits::answer(name, tokens, answer),
-        "hostbits" => bits::answer_hosts(name, tokens, answer),
+        "fault" if name == "eq" => faults::equal(tokens, answer),
         "compact" | "hostcompact" | "agree" => compact::answer(section, name, tokens, answer),
-        "prefix" => prefixes::answer(name, tokens, answer),
-        "table" if name.is_empty() => tables::answer(tokens, answer),
-        "load" if name.is_empty() => tables::answer_load(tokens, answer),
-        "cover" if name.is_empty() => covers::answer(tokens, answer),
         "convert" if name.is_empty() => conversions::answer(tokens, answer),
-        "set" => sets::answer(name, tokens, answer),
-        "tree" | "network" | "address" | "inside" | "name" | "mask" | "special" => {
-            ext::answer(section, name, tokens, answer)
-        }
-        _ => Err(other_operation(section)),
+        "inside" => ext::inside(name, tokens, answer),
+        "tool" => Err(LineError::Unsupported),
+        _ => answer_of_type(section, name, tokens, answer),
     }
 }
 
-/// Whether a section that nothing answers is one of the format.
-fn other_operation(section: &str) -> LineError {
+/// The operations on a type, which is told by its networks or by its addresses: each section is asked for once a type.
+fn answer_of_type(
+    section: &str,
+    name: &str,
+    tokens: &mut Tokens<'_>,
+    answer: &mut Answer,
+) -> Outcome {
+    let kind = tokens.kind()?;
     match section {
-        "tool" => LineError::Unsupported,
-        _ => LineError::Malformed,
+        "prefix" | "load" | "hostbits" => of_one_family(kind, section, name, tokens, answer),
+        "set" if sets::is_by_index(name) => of_one_family(kind, section, name, tokens, answer),
+        "bits" | "table" | "cover" | "set" | "tree" => match kind {
+            Kind::V4 => by_network::<Ipv4Cidr>(section, name, tokens, answer),
+            Kind::V6 => by_network::<Ipv6Cidr>(section, name, tokens, answer),
+            Kind::Any => by_network::<AnyIpCidr>(section, name, tokens, answer),
+            Kind::Ip => Err(LineError::Malformed),
+        },
+        _ => match kind {
+            Kind::V4 => by_address::<Ipv4Addr>(section, name, tokens, answer),
+            Kind::V6 => by_address::<Ipv6Addr>(section, name, tokens, answer),
+            Kind::Ip => by_address::<IpAddr>(section, name, tokens, answer),
+            Kind::Any => on_any(section, name, tokens, answer),
+        },
+    }
+}
+
+/// The operations on types of one family alone.
+fn of_one_family(
+    kind: Kind,
+    section: &str,
+    name: &str,
+    tokens: &mut Tokens<'_>,
+    answer: &mut Answer,
+) -> Outcome {
+    match kind {
+        Kind::V4 => by_prefix::<Ipv4Cidr, Ipv4Inet>(section, name, tokens, answer),
+        Kind::V6 => by_prefix::<Ipv6Cidr, Ipv6Inet>(section, name, tokens, answer),
+        Kind::Ip | Kind::Any => Err(LineError::Malformed),
+    }
+}
+
+fn by_prefix<C, H>(
+    section: &str,
+    name: &str,
+    tokens: &mut Tokens<'_>,
+    answer: &mut Answer,
+) -> Outcome
+where
+    C: AddressSpace + Key + Network + PrefixBytes,
+    C::Address: Debug + FromStr<Err = AddrParseError>,
+    H: Bits,
+{
+    match section {
+        "prefix" => prefixes::answer::<C>(name, tokens, answer),
+        "load" if name.is_empty() => tables::answer_load::<C>(tokens, answer),
+        "hostbits" => bits::answer::<H>(name, tokens, answer),
+        "set" => sets::places::indexes::<C>(name, tokens, answer),
+        _ => Err(LineError::Malformed),
+    }
+}
+
+fn by_network<C>(section: &str, name: &str, tokens: &mut Tokens<'_>, answer: &mut Answer) -> Outcome
+where
+    C: Addressed + Bits + Debug + Key + Subnets,
+    C::Address: Debug + FromStr<Err = AddrParseError>,
+{
+    match section {
+        "bits" => bits::answer::<C>(name, tokens, answer),
+        "table" if name.is_empty() => tables::answer::<C>(tokens, answer),
+        "cover" if name.is_empty() => covers::answer::<C>(tokens, answer),
+        "set" => sets::answer::<C>(name, tokens, answer),
+        "tree" => ext::tree::answer::<C>(name, tokens, answer),
+        _ => Err(LineError::Malformed),
+    }
+}
+
+fn by_address<A>(section: &str, name: &str, tokens: &mut Tokens<'_>, answer: &mut Answer) -> Outcome
+where
+    A: addresses::Address + Address + AddressReverseName + ShortParsers + SpecialAddress,
+    A::Cidr: Cidr<Address = A> + CidrMaskText + CidrReverseName + Network,
+    A::Inet: Inet<Address = A> + Host,
+    A::InetPair: InetPair<Address = A> + PairType,
+{
+    match section {
+        "addr" => addresses::answer::<A>(name, tokens, answer),
+        "cidr" => networks::answer::<A>(name, tokens, answer),
+        "inet" => hosts::answer::<A>(name, tokens, answer),
+        "pair" => pairs::answer::<A>(name, tokens, answer),
+        "walk" => walks::answer::<A>(name, tokens, answer),
+        "parse" => parsers::answer::<A>(name, tokens, answer),
+        "fault" => faults::answer::<A>(name, tokens, answer),
+        "network" => ext::networks::answer::<A>(name, tokens, answer),
+        "name" => ext::names::<A>(name, tokens, answer),
+        "mask" => ext::masks::<A::Cidr>(name, tokens, answer),
+        "address" => ext::addresses::<A>(name, tokens, answer),
+        "special" => ext::special(name, &tokens.value::<A>()?, answer),
+        _ => Err(LineError::Malformed),
+    }
+}
+
+/// The operations on the networks of which one holds all addresses, which have no addresses of one type.
+fn on_any(section: &str, name: &str, tokens: &mut Tokens<'_>, answer: &mut Answer) -> Outcome {
+    match section {
+        "cidr" => networks::any::answer(name, tokens, answer),
+        "parse" => parsers::any::answer(name, tokens, answer),
+        _ => Err(LineError::Malformed),
     }
 }

@@ -2,40 +2,27 @@
 
 use crate::answer::Answer;
 use crate::line_error::{LineError, Outcome};
-use crate::tokens::{Kind, Tokens};
+use crate::tokens::Tokens;
 use crate::values::Value;
-use cidr::{Address, Inet, InetPair, IpAddr, IpInetPair, Ipv4Addr, Ipv6Addr};
+use cidr::{Address, Inet, InetPair};
 
 mod texts;
 
-use texts::HasTexts;
+/// What pairs have beside the calls of `InetPair`.
+pub trait PairType: Value {
+    /// Answers the plain and the forced text, each by the call for texts and by `Display`.
+    fn texts(&self, answer: &mut Answer) -> Outcome;
 
-/// Answers the operation on pairs that has this name.
-pub fn answer(name: &str, tokens: &mut Tokens<'_>, answer: &mut Answer) -> Outcome {
-    match tokens.kind()? {
-        Kind::V4 => answer_each::<Ipv4Addr>(name, tokens, answer),
-        Kind::V6 => answer_each::<Ipv6Addr>(name, tokens, answer),
-        Kind::Ip => answer_ip(name, tokens, answer),
-        Kind::Any => Err(LineError::Malformed),
-    }
+    /// Answers an operation of this type alone.
+    fn answer_own(name: &str, tokens: &mut Tokens<'_>, answer: &mut Answer) -> Outcome;
 }
 
-fn answer_ip(name: &str, tokens: &mut Tokens<'_>, answer: &mut Answer) -> Outcome {
-    match name {
-        "is" => {
-            let pair = pair::<IpInetPair>(tokens)?;
-            answer.value(&(pair.is_ipv4(), pair.is_ipv6()))
-        }
-        _ => answer_each::<IpAddr>(name, tokens, answer),
-    }
-}
-
-/// The operations of every type, which is told by its addresses.
-fn answer_each<A: Address>(name: &str, tokens: &mut Tokens<'_>, answer: &mut Answer) -> Outcome
+/// Answers the operation that has this name on pairs, which are told by their addresses.
+pub fn answer<A: Address>(name: &str, tokens: &mut Tokens<'_>, answer: &mut Answer) -> Outcome
 where
     A::Cidr: Value,
     A::Inet: Inet<Address = A> + Value,
-    A::InetPair: InetPair<Address = A> + HasTexts + Value,
+    A::InetPair: InetPair<Address = A> + PairType,
 {
     match name {
         "new" => {
@@ -49,7 +36,7 @@ where
             let one = pair::<A::InetPair>(tokens)?;
             answer.value(&(one == pair::<A::InetPair>(tokens)?))
         }
-        _ => Err(LineError::Malformed),
+        _ => A::InetPair::answer_own(name, tokens, answer),
     }
 }
 
@@ -77,9 +64,6 @@ where
     A::InetPair: InetPair<Address = A>,
 {
     let pair = pair::<A::InetPair>(tokens)?;
-    answer.value(&pair.first())?;
-    answer.value(&pair.second())?;
-    answer.value(&pair.network())?;
-    answer.value(&pair.network_length())?;
-    answer.value(&pair.family())
+    let length = (pair.network_length(), pair.family());
+    answer.value(&((pair.first(), pair.second()), (pair.network(), length)))
 }

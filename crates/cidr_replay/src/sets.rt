@@ -2,49 +2,32 @@
 
 use crate::answer::Answer;
 use crate::line_error::{LineError, Outcome};
-use crate::tokens::{Kind, Tokens};
+use crate::tokens::Tokens;
+use cidr::AddrParseError;
 use cidr::errors::NetworkParseError;
-use cidr::{AnyIpCidr, Ipv4Cidr, Ipv6Cidr};
 use cidr_sets::access::{Action, deciding, permitted, shadowed};
-use cidr_sets::{NetworkSet, Subnets};
+use cidr_sets::{Addressed, NetworkSet, Subnets};
 use std::fmt::Debug;
 use std::str::FromStr;
 
 mod lists;
-mod places;
+pub mod places;
 
 use lists::{rules, set};
 
-/// Answers the operation on sets that has this name.
-pub fn answer(name: &str, tokens: &mut Tokens<'_>, answer: &mut Answer) -> Outcome {
-    let kind = tokens.kind()?;
-    match name {
-        "from_range" | "ranges" => match kind {
-            Kind::V4 => places::ranges::<Ipv4Cidr>(name, tokens, answer),
-            Kind::V6 => places::ranges::<Ipv6Cidr>(name, tokens, answer),
-            Kind::Any => places::ranges::<AnyIpCidr>(name, tokens, answer),
-            Kind::Ip => Err(LineError::Malformed),
-        },
-        "address_count" | "nth" | "position" | "addresses" => match kind {
-            Kind::V4 => places::indexes::<Ipv4Cidr>(name, tokens, answer),
-            Kind::V6 => places::indexes::<Ipv6Cidr>(name, tokens, answer),
-            Kind::Ip | Kind::Any => Err(LineError::Malformed),
-        },
-        _ => match kind {
-            Kind::V4 => answer_for::<Ipv4Cidr>(name, tokens, answer),
-            Kind::V6 => answer_for::<Ipv6Cidr>(name, tokens, answer),
-            Kind::Any => answer_for::<AnyIpCidr>(name, tokens, answer),
-            Kind::Ip => Err(LineError::Malformed),
-        },
-    }
+/// Whether the operation of this name goes by the index of addresses, which the types of one family have.
+pub fn is_by_index(name: &str) -> bool {
+    matches!(name, "address_count" | "nth" | "position" | "addresses")
 }
 
-/// The operations of every type, which begin with rules or with a set.
-fn answer_for<C>(name: &str, tokens: &mut Tokens<'_>, answer: &mut Answer) -> Outcome
+/// Answers the operation on sets that has this name and does not go by the index of addresses.
+pub fn answer<C>(name: &str, tokens: &mut Tokens<'_>, answer: &mut Answer) -> Outcome
 where
-    C: Subnets + Copy + Debug + FromStr<Err = NetworkParseError>,
+    C: Addressed + Copy + Debug + FromStr<Err = NetworkParseError> + Subnets,
+    C::Address: Debug + FromStr<Err = AddrParseError>,
 {
     match name {
+        "from_range" | "ranges" => places::ranges::<C>(name, tokens, answer),
         "run" | "permitted" | "shadowed" | "deciding" => by_rules::<C>(name, tokens, answer),
         _ => one_set::<C>(name, tokens, answer),
     }

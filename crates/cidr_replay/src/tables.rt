@@ -2,7 +2,7 @@
 
 use crate::answer::Answer;
 use crate::line_error::{LineError, Outcome};
-use crate::tokens::{Kind, Tokens};
+use crate::tokens::Tokens;
 use crate::values::Value;
 use cidr::errors::NetworkParseError;
 use cidr::{AnyIpCidr, Ipv4Cidr, Ipv6Cidr, NetworkBits, PrefixBytes};
@@ -34,25 +34,12 @@ impl Key for AnyIpCidr {
 }
 
 /// Answers the steps on an empty table, and then all its rows.
-pub fn answer(tokens: &mut Tokens<'_>, answer: &mut Answer) -> Outcome {
-    match tokens.kind()? {
-        Kind::V4 => answer_steps::<Ipv4Cidr>(LpmTable::new(tokens.alloc()), tokens, answer),
-        Kind::V6 => answer_steps::<Ipv6Cidr>(LpmTable::new(tokens.alloc()), tokens, answer),
-        Kind::Any => answer_steps::<AnyIpCidr>(LpmTable::new(tokens.alloc()), tokens, answer),
-        Kind::Ip => Err(LineError::Malformed),
-    }
+pub fn answer<C: Key>(tokens: &mut Tokens<'_>, answer: &mut Answer) -> Outcome {
+    answer_steps::<C>(LpmTable::new(tokens.alloc()), tokens, answer)
 }
 
 /// Answers the steps on the table that prefix bytes are loaded as, or why they are refused.
-pub fn answer_load(tokens: &mut Tokens<'_>, answer: &mut Answer) -> Outcome {
-    match tokens.kind()? {
-        Kind::V4 => answer_loaded::<Ipv4Cidr>(tokens, answer),
-        Kind::V6 => answer_loaded::<Ipv6Cidr>(tokens, answer),
-        Kind::Ip | Kind::Any => Err(LineError::Malformed),
-    }
-}
-
-fn answer_loaded<C: Key + PrefixBytes>(tokens: &mut Tokens<'_>, answer: &mut Answer) -> Outcome {
+pub fn answer_load<C: Key + PrefixBytes>(tokens: &mut Tokens<'_>, answer: &mut Answer) -> Outcome {
     let bytes = tokens.bytes()?;
     match LpmTable::<C, usize>::load(tokens.alloc(), bytes.as_slice()) {
         Ok(table) => {

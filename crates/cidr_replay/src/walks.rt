@@ -3,26 +3,13 @@
 use crate::answer::Answer;
 use crate::line_error::{LineError, Outcome};
 use crate::pairs::pair;
-use crate::tokens::{Kind, Tokens};
+use crate::tokens::Tokens;
 use crate::values::Value;
-use cidr::{
-    Address, Cidr, End, Inet, InetAddressIterator, InetIterator, InetPair, IpAddr, Ipv4Addr,
-    Ipv6Addr, drive,
-};
+use cidr::{Address, Cidr, End, Inet, InetAddressIterator, InetIterator, InetPair, drive};
 use std::alloc::Global;
 
-/// Answers the operation on walks that has this name.
-pub fn answer(name: &str, tokens: &mut Tokens<'_>, answer: &mut Answer) -> Outcome {
-    match tokens.kind()? {
-        Kind::V4 => answer_each::<Ipv4Addr>(name, tokens, answer),
-        Kind::V6 => answer_each::<Ipv6Addr>(name, tokens, answer),
-        Kind::Ip => answer_each::<IpAddr>(name, tokens, answer),
-        Kind::Any => Err(LineError::Malformed),
-    }
-}
-
-/// The operations of every type, which is told by its addresses.
-fn answer_each<A: Address + Value>(
+/// Answers the operation that has this name on walks, which are told by their addresses.
+pub fn answer<A: Address + Value>(
     name: &str,
     tokens: &mut Tokens<'_>,
     answer: &mut Answer,

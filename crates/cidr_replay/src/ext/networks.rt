@@ -25,14 +25,23 @@ where
         "host_mask" => answer.shown(&network.host_mask()),
         "nth" => answer.shown(&network.nth(tokens.number()?)),
         "position" => answer.shown(&network.position(&tokens.value()?)),
-        "usable_hosts" => {
-            let mut hosts = network.usable_hosts();
-            let ends = (hosts.next(), hosts.next_back());
-            answer.shown(&(ends, hosts.count()))
-        }
+        "usable_hosts" => usable_hosts::<A>(&network, answer),
         "reverse_name" => answer.shown(&network.reverse_name()),
         _ => Err(LineError::Malformed),
     }
+}
+
+/// The first and the last usable host, and how many are left then.
+fn usable_hosts<A>(network: &A::Cidr, answer: &mut Answer) -> Outcome
+where
+    A: Address + AddressExt,
+    A::Cidr: Cidr<Address = A>,
+    A::Inet: Inet<Address = A> + Debug,
+    A::InetPair: InetPair<Address = A>,
+{
+    let mut hosts = network.usable_hosts();
+    let ends = (hosts.next(), hosts.next_back());
+    answer.shown(&(ends, hosts.count()))
 }
 
 /// The size hint of the subnets of a length, and what `next`, `next_back`, `nth`, `next` and `next_back` return then.

@@ -2,24 +2,15 @@
 
 use crate::answer::Answer;
 use crate::line_error::{LineError, Outcome};
-use crate::tokens::{Kind, Tokens};
+use crate::tokens::Tokens;
+use cidr::NetworkBits;
 use cidr::errors::NetworkParseError;
-use cidr::{AnyIpCidr, Ipv4Cidr, Ipv6Cidr, NetworkBits};
 use cidr_ext::NetworkExt;
 use std::fmt::Debug;
 use std::str::FromStr;
 
 /// Answers the operation on nodes that has this name.
-pub fn answer(name: &str, tokens: &mut Tokens<'_>, answer: &mut Answer) -> Outcome {
-    match tokens.kind()? {
-        Kind::V4 => answer_for::<Ipv4Cidr>(name, tokens, answer),
-        Kind::V6 => answer_for::<Ipv6Cidr>(name, tokens, answer),
-        Kind::Any => answer_for::<AnyIpCidr>(name, tokens, answer),
-        Kind::Ip => Err(LineError::Malformed),
-    }
-}
-
-fn answer_for<C>(name: &str, tokens: &mut Tokens<'_>, answer: &mut Answer) -> Outcome
+pub fn answer<C>(name: &str, tokens: &mut Tokens<'_>, answer: &mut Answer) -> Outcome
 where
     C: NetworkBits + Copy + Debug + FromStr<Err = NetworkParseError>,
 {

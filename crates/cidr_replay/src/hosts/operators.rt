@@ -1,6 +1,9 @@
-//! The operators `+` and `-`, where the step stays in the network.
+//! The operators `+` and `-`, where the step stays in the network, and what each type of hosts has alone.
 
-use crate::hosts::Host;
+use crate::answer::Answer;
+use crate::hosts::{Host, steps};
+use crate::line_error::{LineError, Outcome};
+use crate::tokens::Tokens;
 use cidr::{IpInet, Ipv4Inet, Ipv6Inet};
 
 impl Host for Ipv4Inet {
@@ -17,6 +20,16 @@ impl Host for Ipv4Inet {
             None
         } else {
             Some(self - step)
+        }
+    }
+
+    fn answer_own(name: &str, tokens: &mut Tokens<'_>, answer: &mut Answer) -> Outcome {
+        match name {
+            "address_ref" => answer.value(tokens.value::<Ipv4Inet>()?.address_ref()),
+            "add_u32" | "sub_u32" | "overflowing_add_u32" | "overflowing_sub_u32" => {
+                steps::answer_narrow(name, tokens, answer)
+            }
+            _ => Err(LineError::Malformed),
         }
     }
 }
@@ -37,6 +50,13 @@ impl Host for Ipv6Inet {
             Some(self - step)
         }
     }
+
+    fn answer_own(name: &str, tokens: &mut Tokens<'_>, answer: &mut Answer) -> Outcome {
+        match name {
+            "address_ref" => answer.value(tokens.value::<Ipv6Inet>()?.address_ref()),
+            _ => Err(LineError::Malformed),
+        }
+    }
 }
 
 impl Host for IpInet {
@@ -55,6 +75,16 @@ impl Host for IpInet {
             None
         } else {
             Some(host - step)
+        }
+    }
+
+    fn answer_own(name: &str, tokens: &mut Tokens<'_>, answer: &mut Answer) -> Outcome {
+        match name {
+            "is" => {
+                let host = tokens.value::<IpInet>()?;
+                answer.value(&(host.is_ipv4(), host.is_ipv6()))
+            }
+            _ => Err(LineError::Malformed),
         }
     }
 }

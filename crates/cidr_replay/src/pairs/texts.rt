@@ -1,17 +1,13 @@
-//! How pairs are printed.
+//! How pairs are printed, and what each type of pairs has alone.
 
 use crate::answer::Answer;
-use crate::line_error::Outcome;
+use crate::line_error::{LineError, Outcome};
+use crate::pairs::{PairType, pair};
+use crate::tokens::Tokens;
 use crate::values::Value;
 use arrayvec::ArrayString;
 use cidr::{IpInetPair, Ipv4InetPair, Ipv6InetPair};
 use std::fmt::Display;
-
-/// The calls that print pairs.
-pub trait HasTexts {
-    /// Answers the plain and the forced text, each by the call for texts and by `Display`.
-    fn texts(&self, answer: &mut Answer) -> Outcome;
-}
 
 /// Answers the plain and then the forced texts, each by the call for texts and by `Display`.
 fn plain_and_forced<P: Display, F: Display>(
@@ -27,24 +23,40 @@ fn plain_and_forced<P: Display, F: Display>(
     answer.text(forced)
 }
 
-impl HasTexts for Ipv4InetPair {
+impl PairType for Ipv4InetPair {
     fn texts(&self, answer: &mut Answer) -> Outcome {
         let forced = self.with_length();
         plain_and_forced(answer, self, &self.to_text(), &forced, &forced.to_text())
     }
+
+    fn answer_own(_name: &str, _tokens: &mut Tokens<'_>, _answer: &mut Answer) -> Outcome {
+        Err(LineError::Malformed)
+    }
 }
 
-impl HasTexts for Ipv6InetPair {
+impl PairType for Ipv6InetPair {
     fn texts(&self, answer: &mut Answer) -> Outcome {
         let forced = self.with_length();
         plain_and_forced(answer, self, &self.to_text(), &forced, &forced.to_text())
     }
+
+    fn answer_own(_name: &str, _tokens: &mut Tokens<'_>, _answer: &mut Answer) -> Outcome {
+        Err(LineError::Malformed)
+    }
 }
 
-impl HasTexts for IpInetPair {
+impl PairType for IpInetPair {
     fn texts(&self, answer: &mut Answer) -> Outcome {
         let forced = self.with_length();
         plain_and_forced(answer, self, &self.to_text(), &forced, &forced.to_text())
+    }
+
+    fn answer_own(name: &str, tokens: &mut Tokens<'_>, answer: &mut Answer) -> Outcome {
+        if name != "is" {
+            return Err(LineError::Malformed);
+        }
+        let pair = pair::<IpInetPair>(tokens)?;
+        answer.value(&(pair.is_ipv4(), pair.is_ipv6()))
     }
 }
 

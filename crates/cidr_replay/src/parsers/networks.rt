@@ -12,35 +12,35 @@ use cidr::parsers::{
 use cidr::{Address, Cidr, Inet};
 
 /// The operations with a parser of addresses.
-pub fn answer<A, C>(name: &str, tokens: &mut Tokens<'_>, answer: &mut Answer) -> Outcome
+pub fn answer<A>(name: &str, tokens: &mut Tokens<'_>, answer: &mut Answer) -> Outcome
 where
-    A: Address<Cidr = C>,
+    A: Address,
+    A::Cidr: Cidr<Address = A> + Value,
     A::Inet: Inet<Address = A>,
-    C: Cidr<Address = A> + Value,
 {
     let parser = AddressParser::named::<A>(tokens)?;
     let text = tokens.text()?;
     let address = |part: &str| parser.read::<A>(part);
     answer.value(&match name {
-        "parse_cidr" => parse_cidr::<C, _>(text.as_str(), address),
-        _ => parse_cidr_ignore_hostbits::<C, _>(text.as_str(), address),
+        "parse_cidr" => parse_cidr::<A::Cidr, _>(text.as_str(), address),
+        _ => parse_cidr_ignore_hostbits::<A::Cidr, _>(text.as_str(), address),
     })
 }
 
 /// The operations with a parser of addresses and one of texts with no slash.
-pub fn answer_full<A, C>(name: &str, tokens: &mut Tokens<'_>, answer: &mut Answer) -> Outcome
+pub fn answer_full<A>(name: &str, tokens: &mut Tokens<'_>, answer: &mut Answer) -> Outcome
 where
-    A: Address<Cidr = C>,
+    A: Address,
+    A::Cidr: Cidr<Address = A> + Value,
     A::Inet: Inet<Address = A>,
-    C: Cidr<Address = A> + Value,
 {
     let address_parser = AddressParser::named::<A>(tokens)?;
-    let host_parser = HostParser::of_networks::<C>(tokens)?;
+    let host_parser = HostParser::of_networks::<A::Cidr>(tokens)?;
     let text = tokens.text()?;
     let address = |part: &str| address_parser.read::<A>(part);
-    let host = |whole: &str| host_parser.read::<C>(whole);
+    let host = |whole: &str| host_parser.read::<A::Cidr>(whole);
     answer.value(&match name {
-        "parse_cidr_full" => parse_cidr_full::<C, _, _>(text.as_str(), address, host),
-        _ => parse_cidr_full_ignore_hostbits::<C, _, _>(text.as_str(), address, host),
+        "parse_cidr_full" => parse_cidr_full::<A::Cidr, _, _>(text.as_str(), address, host),
+        _ => parse_cidr_full_ignore_hostbits::<A::Cidr, _, _>(text.as_str(), address, host),
     })
 }
