@@ -1,7 +1,6 @@
 """Comments of Rattle as comments of Rust: what they say of the caller, and examples, which are tests of rustdoc.
 
-In the sources a line `EXPR // VALUE` tells what `{}` or `{:?}` prints of an expression, and a program of the repository
-runs it. Here it becomes an assertion. An example that goes on with values of one before it is given them, if they are
+In the sources a line `EXPR // VALUE` tells what `{}` or `{:?}` prints of an expression. Here it becomes an assertion. An example that goes on with values of one before it is given them, if they are
 those of GIVEN, and else is shown and not run.
 
 A call without an example in the sources has that of the file `examples`, and a call of a trait that of a type, by the trait.
@@ -179,6 +178,19 @@ def stands_alone(lines):
     return not free_names(lines) and not re.search(r"\bFailure\b|\broutes\.insert\(.*\)\?;", "\n".join(lines))
 
 
+def in_rust(code, crate):
+    """The lines of an example as Rust has them, behind the values that it is given."""
+    lines = as_rust(code)
+    given = [OTHERS[begun] for begun in OTHERS if code[0].startswith(begun)] or [
+        value for name, value in GIVEN.get(crate, {}).items() if name in free_names(lines)]
+    return [line for value in given if value for line in value.split("\n")] + lines
+
+
+def is_test(code, crate):
+    """Whether the lines of an example become a test of the crate."""
+    return stands_alone(in_rust(code, crate))
+
+
 def as_said(text):
     """The text with its comments as in Rust. What is said may go over the end of a line, and then it does so still."""
     for before, after in SAID:
@@ -207,10 +219,7 @@ def with_tests(text, crate):
             if word:
                 parts[5 * number + 2] = f"```{word}\n"
                 continue
-            lines = as_rust(code)
-            given = [OTHERS[begun] for begun in OTHERS if code[0].startswith(begun)] or [
-                value for name, value in GIVEN.get(crate, {}).items() if name in free_names(lines)]
-            lines = [line for value in given if value for line in value.split("\n")] + lines
+            lines = in_rust(code, crate)
             runs = stands_alone(lines)
             if runs:
                 uses = ["use std::str::FromStr;"] if "from_str" in "".join(code) else []

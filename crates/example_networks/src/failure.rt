@@ -1,7 +1,6 @@
 //! What the examples fail by.
 use cidr::AddrParseError;
 use cidr::errors::{InetTupleError, NetworkLengthTooLongError, NetworkParseError};
-use cidr_table::LoadError;
 use std::alloc::AllocError;
 use std::io;
 
@@ -12,7 +11,6 @@ pub enum Failure {
     Network(NetworkParseError),
     Length(NetworkLengthTooLongError),
     Pair(InetTupleError),
-    Load(LoadError),
     NoMemory,
     Output(io::Error),
 }
@@ -38,12 +36,6 @@ impl From<NetworkLengthTooLongError> for Failure {
 impl From<InetTupleError> for Failure {
     fn from(error: InetTupleError) -> Failure {
         Failure::Pair(error)
-    }
-}
-
-impl From<LoadError> for Failure {
-    fn from(error: LoadError) -> Failure {
-        Failure::Load(error)
     }
 }
 

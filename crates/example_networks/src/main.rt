@@ -1,21 +1,12 @@
-//! A network and the hosts in it, and then each topic in a file of its own, with the example lines of the libraries'
-//! doc comments.
+//! A network and the hosts in it, and then each topic in a file of its own.
 //!
 //! Each line that prints ends with what it prints, and so does each value of an array that is printed; `stdout`, beside
 //! this folder, has these again. In a doc comment the value stands without the call that prints it.
 #![tactic(auto)]
 
 mod access_list;
-mod addresses;
-mod bits;
-mod bytes;
 mod either_family;
-mod errors;
 mod failure;
-mod hosts;
-mod masks;
-mod networks;
-mod pairs;
 mod parsers;
 mod pools;
 mod reverse;
@@ -23,7 +14,6 @@ mod routes;
 mod sets;
 mod show;
 mod special;
-mod table;
 mod tree;
 mod walks;
 mod written_once;
@@ -51,26 +41,17 @@ fn main(rt: HostRuntime) -> Result<(), Failure> {
 
 /// Addresses, networks and hosts.
 fn one_network(rt: &HostRuntime) -> Result<(), Failure> {
-    addresses::all(rt)?;
-    networks::all(rt)?;
-    hosts::all(rt)?;
     either_family::all(rt)?;
-    pairs::all(rt)?;
     walks::all(rt)?;
     written_once::all(rt)?;
-    bits::all(rt)?;
-    bytes::all(rt)?;
     parsers::all(rt)?;
-    errors::all(rt)?;
     tree::all(rt)?;
     special::all(rt)?;
-    masks::all(rt)?;
     reverse::all(rt)
 }
 
 /// Tables and sets of networks.
 fn many_networks(rt: &HostRuntime) -> Result<(), Failure> {
-    table::all(rt)?;
     routes::all(rt)?;
     sets::all(rt)?;
     pools::all(rt)?;

@@ -1,17 +1,14 @@
-//! Names in reverse DNS, and IPv4 addresses and networks inside those of IPv6.
+//! Names in reverse DNS.
 use crate::failure::Failure;
 use crate::show::{show, show_debug};
-use cidr::{Ipv4Addr, Ipv4Cidr, Ipv6Addr, Ipv6Cidr};
-use cidr_ext::{
-    AddressReverseName, CidrReverseName, Ipv4AddrExt, Ipv4CidrExt, Ipv6AddrExt, Ipv6CidrExt,
-};
+use cidr::{Ipv4Addr, Ipv4Cidr, Ipv6Cidr};
+use cidr_ext::{AddressReverseName, CidrReverseName};
 
 /// Prints the examples of this file.
 pub fn all(rt: &HostRuntime) -> Result<(), Failure> {
     names(rt)?;
     zones(rt)?;
-    names_read(rt)?;
-    inside_ipv6(rt)
+    names_read(rt)
 }
 
 fn names(rt: &HostRuntime) -> Result<(), Failure> {
@@ -37,11 +34,6 @@ fn zones(rt: &HostRuntime) -> Result<(), Failure> {
 
 fn names_read(rt: &HostRuntime) -> Result<(), Failure> {
     let values = [
-        Ipv4Addr::from_reverse_name("1.2.0.192.in-addr.arpa"), // Some(192.0.2.1)
-        Ipv4Addr::from_reverse_name("2.0.192.in-addr.arpa"), // None
-    ];
-    show_debug(rt, &values)?;
-    let values = [
         Ipv4Cidr::from_reverse_name("2.0.192.in-addr.arpa"), // Some(192.0.2.0/24)
         Ipv4Cidr::from_reverse_name("02.0.192.in-addr.arpa"), // None
     ];
@@ -51,21 +43,4 @@ fn names_read(rt: &HostRuntime) -> Result<(), Failure> {
         &[Ipv6Cidr::from_reverse_name("8.B.D.0.1.0.0.2.IP6.ARPA.")],
     )?; // Some(2001:db8::/32)
     Ok(())
-}
-
-fn inside_ipv6(rt: &HostRuntime) -> Result<(), Failure> {
-    show(rt, &[Ipv4Addr::new(192, 0, 2, 1).to_ipv6_mapped()])?; // ::ffff:192.0.2.1
-    let values = [
-        "::ffff:192.0.2.1".parse::<Ipv6Addr>()?.to_ipv4_mapped(), // Some(192.0.2.1)
-        "::192.0.2.1".parse::<Ipv6Addr>()?.to_ipv4_mapped(), // None
-        "2002:c000:201::1".parse::<Ipv6Addr>()?.to_ipv4_6to4(), // Some(192.0.2.1)
-        "64:ff9b::192.0.2.33".parse::<Ipv6Addr>()?.to_ipv4_nat64(), // Some(192.0.2.33)
-    ];
-    show_debug(rt, &values)?;
-    show(rt, &["192.0.2.0/24".parse::<Ipv4Cidr>()?.to_ipv6_mapped()])?; // ::ffff:192.0.2.0/120
-    let values = [
-        "::ffff:192.0.2.0/120".parse::<Ipv6Cidr>()?.to_ipv4_mapped(), // Some(192.0.2.0/24)
-        "::/0".parse::<Ipv6Cidr>()?.to_ipv4_mapped(), // None
-    ];
-    show_debug(rt, &values)
 }

@@ -1,7 +1,7 @@
 //! Routes: the longest match with its value, all routes that cover an address, and the calls that every map has.
 use crate::failure::Failure;
 use crate::show::{show, show_debug};
-use cidr::{AnyIpCidr, IpAddr, IpCidr, Ipv4Cidr, Ipv6Addr};
+use cidr::{AnyIpCidr, IpCidr, Ipv4Cidr};
 use cidr_table::LpmTable;
 use std::alloc::AllocError;
 
@@ -24,7 +24,6 @@ fn one_table(rt: &HostRuntime) -> Result<(), Failure> {
     routes.set("10.0.0.0/8".parse()?, 2)?;
     routes.set("10.1.0.0/16".parse()?, 3)?;
     look_up(rt, &routes)?;
-    list(rt, &routes)?;
     write(rt, &mut routes)?;
     change(rt, &mut routes)
 }
@@ -48,44 +47,19 @@ fn look_up(rt: &HostRuntime, routes: &Routes) -> Result<(), Failure> {
     show_debug(rt, &values)
 }
 
-/// The rows in the order of their keys.
-fn list(rt: &HostRuntime, routes: &Routes) -> Result<(), Failure> {
-    show(rt, &[routes.contains_key(&"10.0.0.0/8".parse()?)])?; // true
-    show_debug(rt, &[routes.first_key_value()])?; // Some((0.0.0.0/0, 1))
-    show_debug(rt, &[routes.last_key_value()])?; // Some((10.1.0.0/16, 3))
-    let mut keys = routes.keys();
-    show_debug(rt, &[keys.next_back()])?; // Some(10.1.0.0/16)
-    let mut values = routes.values();
-    show_debug(rt, &[values.next()])?; // Some(1)
-    Ok(())
-}
-
 /// Values that are written in their rows.
 fn write(rt: &HostRuntime, routes: &mut Routes) -> Result<(), Failure> {
-    if let Some(value) = routes.get_mut(&"10.1.0.0/16".parse()?) {
-        *value = 3;
-    }
-    show_debug(rt, &[routes.get(&"10.1.0.0/16".parse()?)])?; // Some(3)
     if let Some(hits) = routes.lookup_mut(&"10.2.0.1".parse()?) {
         *hits = hits.wrapping_add(7);
     }
     show_debug(rt, &[routes.get(&"10.0.0.0/8".parse()?)])?; // Some(9)
-    routes.for_each_mut(|_, hits| *hits = (*hits).min(7));
-    show_debug(rt, &[routes.get(&"10.0.0.0/8".parse()?)])?; // Some(7)
     Ok(())
 }
 
 /// Rows that are set and removed.
 fn change(rt: &HostRuntime, routes: &mut Routes) -> Result<(), Failure> {
     show_debug(rt, &[routes.set("10.1.0.0/16".parse()?, 4)?])?; // Some(3)
-    routes.reserve(1)?;
-    show(rt, &[routes.capacity() > 3])?; // true
     show(rt, &[routes.remove_inside(&"10.0.0.0/8".parse()?)])?; // 2
-    routes.retain(|row| row.1 != 1);
-    show(rt, &[routes.len()])?; // 0
-    routes.set("192.0.2.0/24".parse()?, 5)?;
-    routes.clear();
-    show(rt, &[routes.is_empty()])?; // true
     Ok(())
 }
 
@@ -131,14 +105,12 @@ fn keep_ready(rt: &HostRuntime) -> Result<(), Failure> {
     Ok(())
 }
 
-/// A table of both families has keys of `AnyIpCidr`, which an `IpCidr` and an address become.
+/// A table of both families has keys of `AnyIpCidr`, which an `IpCidr` becomes.
 fn both_families(rt: &HostRuntime) -> Result<(), Failure> {
     let mut routes = LpmTable::<AnyIpCidr, u32>::new(rt.alloc());
     routes.set("10.0.0.0/8".parse()?, 1)?;
     routes.set("2001:db8::/32".parse()?, 2)?;
     let network = "10.1.0.0/16".parse::<IpCidr>()?;
     show_debug(rt, &[routes.lookup(&AnyIpCidr::from(network))])?; // Some((V4(10.0.0.0/8), 1))
-    let address = IpAddr::V6(Ipv6Addr::new(0x2001, 0xdb8, 0, 0, 0, 0, 0, 1));
-    show_debug(rt, &[routes.lookup(&AnyIpCidr::new_host(address))])?; // Some((V6(2001:db8::/32), 2))
     Ok(())
 }
