@@ -19,5 +19,4 @@ pub mod Reading
 pub mod Final
 pub mod Sorted
 pub mod Calls
-pub mod Whole
 pub mod Agreement

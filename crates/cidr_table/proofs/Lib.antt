@@ -13,7 +13,9 @@ pub mod Links
 pub mod Matching
 pub mod PrefixLists
 pub mod Merging
+pub mod StableRows
 pub mod LastRows
+pub mod Whole
 pub mod LastPlaces
 pub mod OneResult
 -- The lemmas of the least cover.

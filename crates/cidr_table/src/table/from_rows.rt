@@ -15,9 +15,9 @@ impl<C: NetworkBits + Copy, V: Drop> LpmTable<C, V> {
     /// The table of rows in any order. Of rows with equal keys the last one in the `Vec` counts, and the others are
     /// dropped.
     ///
-    /// It never fails and allocates nothing: the rows are sorted in the memory of the `Vec`, which the table keeps, so
-    /// that its capacity is that of the `Vec`. O(n log n) comparisons of keys, and O(n log² n) moves of rows; n - 1
-    /// comparisons for keys in ascending order.
+    /// It never fails. The table keeps the `Vec`, so that its capacity is that of the `Vec`. O(n log n) comparisons of
+    /// keys; n - 1 for keys in ascending order, for which it allocates nothing. Else it allocates room for as many rows
+    /// while it sorts; where the allocation fails, it sorts in place, with O(n log² n) moves of rows.
     ///
     /// ```
     /// let (one, other) = ("10.1.0.0/16".parse()?, "10.0.0.0/8".parse()?);
@@ -28,6 +28,7 @@ impl<C: NetworkBits + Copy, V: Drop> LpmTable<C, V> {
     /// ```
     pub fn from_rows(mut rows: Vec<(C, V)>) -> Self
         ensures rows { AreLastRows rows.items result.rows }
+        ensures whole { IsStrictlySortedBy C.cmp (keys_of rows.items) → result.rows ≡ rows.items }
         ensures capacity { result.capacity ≡ vec_capacity rows }
         ensures sorted { IsStrictlySortedBy C.cmp (keys_of result.rows) }
     {
