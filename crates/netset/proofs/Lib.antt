@@ -15,7 +15,7 @@ pub mod Arguments
 pub mod LinesRead
 pub mod EntriesRead
 pub mod FirstLines
-pub mod SortedRows
+pub mod SameKeys
 pub mod Found
 pub mod Noted
 pub mod Checked

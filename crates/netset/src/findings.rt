@@ -7,10 +7,9 @@ ghost use Rattle.cidr_table.specs.LastRows.{AreLastRows};
 ghost use Rattle.netset.specs.Findings.{AreFirsts, AreLookedUp, AreNear, AreNotes, AreNotesBelow, IsAroundAt, IsFirstAt, IsHalfAt, IsNear, IsOnlyNote, IsRowAround, entry_network, kind_rank};
 
 use crate::entries::{Entry, Place};
-use crate::table::table_of;
 use cidr::{IpCidr, IpInet, Ipv4Cidr, Ipv6Cidr, NetworkBits};
 use cidr_ext::{IpCidrExt, NetworkExt};
-use cidr_table::ReadyTable;
+use cidr_table::{LpmTable, ReadyTable};
 use std::alloc::{AllocError, Global};
 
 /// What is found in a line.
@@ -79,7 +78,7 @@ fn ready<C: NetworkBits + Copy>(
 ) -> Result<ReadyTable<C, usize>, AllocError>
     ensures { IfOk result (λ table. AreLastRows rows.items table.rows) }
 {
-    match table_of(rows).into_lookups(alloc) {
+    match LpmTable::from_rows(rows).into_lookups(alloc) {
         Ok(table) => Ok(table),
         Err(_) => Err(AllocError),
     }

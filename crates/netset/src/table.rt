@@ -12,7 +12,7 @@ use crate::files::Sources;
 use crate::printing::Printed;
 use crate::rows::{Rows, Span, read_rows, value_of};
 use arrayvec::ArrayString;
-use cidr::{IpAddr, Ipv4Cidr, Ipv6Cidr, NetworkBits};
+use cidr::{IpAddr, Ipv4Cidr, Ipv6Cidr};
 use cidr_io::block::Block;
 use cidr_io::memory::Memory;
 use cidr_io::sink::{OutputFailed, Sink};
@@ -27,17 +27,6 @@ pub struct Table {
     pub values: Vec<u8>,
 }
 
-/// The table of these rows, of which the last one of each key counts.
-///
-/// They are sorted first by a sort that takes memory, where there is some: that of `from_rows` takes none, but moves rows
-/// that are in no order more often.
-pub fn table_of<C: NetworkBits + Copy, V: Drop>(mut rows: Vec<(C, V)>) -> LpmTable<C, V>
-    ensures { AreLastRows rows.items result.rows }
-{
-    let _ = rows.sort_by_key(|row| row.0);
-    LpmTable::from_rows(rows)
-}
-
 impl Table {
     /// The table of these rows, of which the last one of each network counts.
     fn of_rows(alloc: Global, rows: Rows) -> Result<Table, AllocError>
@@ -45,10 +34,10 @@ impl Table {
             → AreLastRows (map (resolved rows.values.items) (stored rows family)) (kept table family)) }
     {
         let Rows { v4, v6, values } = rows;
-        let Ok(v4) = table_of(v4).into_lookups(alloc) else {
+        let Ok(v4) = LpmTable::from_rows(v4).into_lookups(alloc) else {
             return Err(AllocError);
         };
-        let Ok(v6) = table_of(v6).into_lookups(alloc) else {
+        let Ok(v6) = LpmTable::from_rows(v6).into_lookups(alloc) else {
             return Err(AllocError);
         };
         Ok(Table { v4, v6, values })

@@ -1,6 +1,6 @@
 use Rattle.std.proofs.Common.{◌≡◌, rules, is_eq}
 use Rattle.cidr_table.proofs.Beginnings.{cmp_exact}
-use Rattle.netset.proofs.SortedRows.{same_by}
+use Rattle.netset.proofs.SameKeys.{same_by}
 use Rattle.netset.proofs.findings.is_same.Goals as goal
 
 pub returns : goal.returns
