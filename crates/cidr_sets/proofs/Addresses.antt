@@ -1,6 +1,5 @@
 -- Sets by the addresses of their networks.
-use Rattle.std.proofs.Common.{◌≡◌, ◌↔◌, ◌⊎◌, ℕ, ◌≤◌, Bool, List, [], ◌∷◌, ◌++◌, length, map, refl, sym, subst, inl, inr}
-use Rattle.std.proofs.lemmas.List.Elements.{Contains-append_cases, Contains-append_left, Contains-append_right}
+use Rattle.std.proofs.Common.{◌≡◌, ◌↔◌, ℕ, ◌≤◌, Bool, List, [], ◌∷◌, length, map, refl, sym, subst, inl, inr}
 use Rattle.std.specs.List.{Contains}
 use Rattle.std.specs.List.Sorted.{IsStrictlySortedBy}
 use Rattle.cidr.specs.model.Network.{BeginsWith}
@@ -77,18 +76,3 @@ module _ {C : Type 0} (f : C → List Bool) where
   pub covers_more : (xs ys : List C) → ((x : C) → Contains xs x → Contains ys x) → (a : List Bool)
       → Covers (map f xs) a → Covers (map f ys) a
   covers_more xs ys h a c = let r = covers_by xs a c in covers_to ys r.0 a (h r.0 r.1) r.2
-
-  pub covers_appended : (xs ys : List C) (a : List Bool)
-      → Covers (map f (xs ++ ys)) a ↔ (Covers (map f xs) a ⊎ Covers (map f ys) a)
-  covers_appended xs ys a = (
-    λ c.
-        let r = covers_by (xs ++ ys) a c in
-        elim (Contains-append_cases xs ys r.0 r.1) [
-          | inl d ↦ inl (covers_to xs r.0 a d r.2)
-          | inr d ↦ inr (covers_to ys r.0 a d r.2)
-        ],
-    λ c. elim c [
-      | inl d ↦ covers_more xs (xs ++ ys) (λ x e. Contains-append_left xs ys x e) a d
-      | inr d ↦ covers_more ys (xs ++ ys) (λ x e. Contains-append_right xs ys x e) a d
-    ],
-  )

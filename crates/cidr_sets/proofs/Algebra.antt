@@ -1,5 +1,5 @@
 -- Sets put together from the networks of two.
-use Rattle.std.proofs.Common.{◌≡◌, ◌↔◌, ◌⊎◌, ℕ, ◌+◌, ◌-◌, ◌<◌, ◌≤◌, Bool, false, List, [], ◌∷◌, ◌++◌, length, get_or, take, map, replicate, length-append, refl, sym, ap, ◌∙◌, subst, arith, inl, inr, Option, Some, None}
+use Rattle.std.proofs.Common.{◌≡◌, ◌⊎◌, ℕ, ◌+◌, ◌-◌, ◌<◌, ◌≤◌, Bool, false, List, [], ◌∷◌, ◌++◌, length, get_or, take, map, replicate, length-append, refl, sym, ap, ◌∙◌, subst, arith, inl, inr, Option, Some, None}
 use Rattle.std.proofs.lemmas.Bool.{cases_lt, false≢true}
 use Rattle.std.proofs.lemmas.List.{take_at, take_more, length-replicate}
 use Rattle.std.proofs.lemmas.List.Elements.{Contains-push_cases}
@@ -10,10 +10,9 @@ use Rattle.cidr.specs.model.Network.{BeginsWith}
 use Rattle.cidr_table.specs.Cover.{Covers}
 use Rattle.cidr_table.specs.Cover.{IsReduced}
 use Rattle.cidr_table.proofs.Halves.{begins_begins, begins_both}
-use Rattle.cidr_table.proofs.MapLaws.{contains_nothing}
 use Rattle.cidr_sets.specs.Searches.{IsFirstInside}
-use Rattle.cidr_sets.specs.Sets.{IsSetOf, IsUnion, IsDifference, IsSymmetricDifference, Meets, AreDisjoint}
-use Rattle.cidr_sets.proofs.Addresses.{covers_appended, covers_by, covers_to, set_alike}
+use Rattle.cidr_sets.specs.Sets.{IsUnion, IsDifference, IsSymmetricDifference, Meets, AreDisjoint}
+use Rattle.cidr_sets.proofs.Addresses.{covers_by, covers_to, set_alike}
 
 -- what covers a network covers its addresses
 pub covers_within : (s : List (List Bool)) (a p : List Bool) → BeginsWith a p → Covers s p → Covers s a
@@ -32,12 +31,6 @@ module _ {C : Type 0} (xs : List C) (i : ℕ) (x : C) (here : i < length xs) (is
       → (y : C) → Contains (take (i + 1) xs) y → P y
   each_more P before here' y c = elim (taken_cases y c) [ inl d ↦ before y d | inr e ↦ subst P e here' ]
 
--- ---- whole sets
-module _ {C : Type 0} (f : C → List Bool) (xs ys zs : List C) (s : List (List Bool)) (h : IsSetOf 129 (Covers (map f zs)) s) where
-  pub union_of : zs ≡ xs ++ ys → IsUnion 129 (map f xs) (map f ys) s
-  union_of e = set_alike 129 (Covers (map f zs)) (λ a. Covers (map f xs) a ⊎ Covers (map f ys) a) s
-      (λ a la. subst (λ l. Covers (map f l) a ↔ (Covers (map f xs) a ⊎ Covers (map f ys) a)) (sym e) (covers_appended f xs ys a)) h
-
 -- the union of both differences
 pub symmetric_of : (these those ds es s : List (List Bool)) → IsDifference 129 these those ds
     → IsDifference 129 those these es → IsUnion 129 ds es s → IsSymmetricDifference 129 these those s
@@ -47,16 +40,6 @@ symmetric_of these those ds es s h k u = set_alike 129 (λ a. Covers ds a ⊎ Co
       λ c. elim c [ inl d ↦ inl ((h.exact a la).0 d) | inr d ↦ inr ((k.exact a la).0 d) ],
       λ c. elim c [ inl d ↦ inl ((h.exact a la).1 d) | inr d ↦ inr ((k.exact a la).1 d) ],
     )) u
-
--- less the set of one network
-pub less_one : (these ones s : List (List Bool)) (p : List Bool) → IsUnion 129 [] (p ∷ []) ones
-    → IsDifference 129 these ones s → IsDifference 129 these (p ∷ []) s
-less_one these ones s p one h = set_alike 129 (λ a. Covers these a × ¬ (Covers ones a))
-    (λ a. Covers these a × ¬ (Covers (p ∷ []) a)) s
-    (λ a la. (
-      λ c. (c.0, λ d. c.1 ((one.exact a la).1 (inr d))),
-      λ c. (c.0, λ d. elim ((one.exact a la).0 d) [ inl e ↦ contains_nothing e.0 e.1 | inr e ↦ c.1 e ]),
-    )) h
 
 -- ---- common addresses
 -- an address of a network

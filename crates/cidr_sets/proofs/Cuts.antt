@@ -11,7 +11,7 @@ use Rattle.std.specs.declared.cmp.Ordering.TheVariants.{Less, Equal, Greater}
 use Rattle.cidr.specs.model.Bits.{bit_cmp}
 use Rattle.cidr.specs.model.Network.{BeginsWith}
 use Rattle.cidr.specs.laws.BitLaws.{bit_cmp_total}
-use Rattle.cidr_table.specs.Cover.{AreNetworks, Covers, IsReduced, parent}
+use Rattle.cidr_table.specs.Cover.{AreNetworks, Covers, IsMember, IsReduced, parent}
 use Rattle.cidr_table.proofs.Ascending.{first_less, sorted_push}
 use Rattle.cidr_table.proofs.Beginnings.{begins_between, begins_length, bits_exact, not_before}
 use Rattle.cidr_table.proofs.Halves.{begins_begins, begins_both, begins_itself, either_half, half_begins, length_half, parent_half, same_length}
@@ -389,6 +389,29 @@ module _ (p f : List Bool) (s old mid new rest last : List (List Bool)) (inside 
   pub upper_before : (x : List Bool) → Contains mid x → bit_cmp x (p ++ true ∷ []) ≡ Less
   upper_before = lo.before (p ++ true ∷ []) (upper_behind p (p ++ true ∷ []) (begins_itself (p ++ true ∷ [])))
 
+-- what is left of a network of a set without others is a network of the rest of that set
+pub member_of_rest : (these those : List (List Bool)) (p : List Bool) (left : List (List Bool)) → IsMember 129 these p
+    → ((q : List Bool) → Contains left q → Contains those q × (length q ≤ 129))
+    → ((a : List Bool) → length a ≡ 129 → BeginsWith a p → ¬ (Covers left a) → Covers these a × ¬ (Covers those a))
+    → (x : List Bool) → IsRest p left x → IsMemberOf (λ a. Covers these a × ¬ (Covers those a)) x
+member_of_rest these those p left m short full x r = record {
+  within = elim r.widest [
+    | inl e ↦ omega (arith, ap length e, m.within)
+    | inr k ↦ omega (arith, k.3, (short k.0 k.1).1)
+  ];
+  full = λ a la b. full a la (begins_begins a x p b r.inside) (r.free a la b);
+  widest = elim r.widest [
+    | inl e ↦ elim m.widest [
+      | inl z ↦ inl (e ∙ z)
+      | inr bare ↦ inr (λ f. bare (λ a la b. (f a la (subst (λ y. BeginsWith a (parent y)) (sym e) b)).0))
+    ]
+    | inr k ↦ inr (λ f.
+        let q = short k.0 k.1 in
+        let (a, la, b) = some_address k.0 q.1 in
+        (f a la (begins_begins a k.0 (parent x) b k.2)).1 (k.0, q.0, b))
+  ];
+}
+
 -- ---- what is left of a set
 module _ (these those : List (List Bool)) where
   pub record IsCutting (done todo left : List (List Bool)) : Type 0 where
@@ -427,26 +450,8 @@ module _ (these those : List (List Bool)) where
         (d, ((ht.members q).0 d).within)
 
     rest_member : (x : List Bool) → IsRest p left x → IsMemberOf (λ a. Covers these a × ¬ (Covers those a)) x
-    rest_member x r =
-        let m = (hs.members p).0 (h.kept p (contains_first p ps)) in
-        record {
-          within = elim r.widest [
-            | inl e ↦ omega (arith, ap length e, m.within)
-            | inr k ↦ omega (arith, k.3, (short k.0 k.1).1)
-          ];
-          full = λ a la b. (h.covers a la).1
-              (inr ((first_or_rest p ps a).1 (inl (begins_begins a x p b r.inside)), r.free a la b));
-          widest = elim r.widest [
-            | inl e ↦ elim m.widest [
-              | inl z ↦ inl (e ∙ z)
-              | inr bare ↦ inr (λ f. bare (λ a la b. (f a la (subst (λ y. BeginsWith a (parent y)) (sym e) b)).0))
-            ]
-            | inr k ↦ inr (λ f.
-                let q = short k.0 k.1 in
-                let (a, la, b) = some_address k.0 q.1 in
-                (f a la (begins_begins a k.0 (parent x) b k.2)).1 (k.0, q.0, b))
-          ];
-        }
+    rest_member = member_of_rest these those p left ((hs.members p).0 (h.kept p (contains_first p ps))) short
+        (λ a la b n. (h.covers a la).1 (inr ((first_or_rest p ps a).1 (inl b), n)))
 
   pub cutting_more : IsReduced 129 these → IsReduced 129 those → (p : List Bool) (ps done new left rest : List (List Bool))
       → IsCutting done (p ∷ ps) left → IsCut p done new left rest → IsCutting new ps rest

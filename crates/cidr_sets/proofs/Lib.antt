@@ -19,3 +19,6 @@ pub mod OneRange
 pub mod Steps
 pub mod Cuts
 pub mod Between
+pub mod Parts
+pub mod Edits
+pub mod Moves

@@ -1,4 +1,4 @@
--- What has to be believed: sets of addresses as lists of networks. `Steps` is what private functions promise.
+-- What has to be believed: sets of addresses as lists of networks. `Steps` and `Edits` are what private functions promise.
 pub mod Sets
 pub mod FirstRules
 pub mod Searches
@@ -9,3 +9,4 @@ pub mod AddressLists
 pub mod Ranges
 pub mod RangeLaws
 pub mod Steps
+pub mod Edits

@@ -4,9 +4,11 @@
 pub mod access;
 mod count;
 pub mod laws;
+mod neighbours;
 mod pools;
 mod probe;
 mod ranges;
+mod replacing;
 mod rests;
 mod search;
 mod set;

@@ -1,5 +1,5 @@
 //! Union, intersection and difference.
-ghost use Rattle.std.specs.Prelude.{◌≡◌, ◌↔◌, ◌⊎◌, ℕ, ◌+◌, ◌-◌, ◌*◌, ◌≤◌, ◌<◌, ◌++◌, ◌∷◌, [], Bool, List, length, map, Contains, IfOk, OnOk, OnErr, IsTrue, true, false};
+ghost use Rattle.std.specs.Prelude.{◌≡◌, ◌↔◌, ◌⊎◌, ℕ, ◌+◌, ◌-◌, ◌*◌, ◌≤◌, ◌<◌, ◌++◌, ◌∷◌, [], Bool, List, length, map, Contains, IfOk, OnOk, IsTrue, true, false};
 ghost use Rattle.std.specs.Bool.{Decides};
 ghost use Rattle.cidr.specs.model.Network.{BeginsWith};
 ghost use Rattle.std.specs.declared.cmp.Ordering.TheVariants.{Less};
@@ -13,7 +13,7 @@ ghost use Rattle.cidr_sets.specs.Sets.{IsUnion, IsIntersection, IsDifference, Is
 
 use crate::rests::{half, skip};
 use crate::search::{covers, is_inside, known, upto};
-use crate::set::{NetworkSet, joined, reduced};
+use crate::set::{NetworkSet, joined};
 use crate::slices::{next_of, next_shared};
 use cidr::NetworkBits;
 use std::alloc::{AllocError, Global};
@@ -143,41 +143,6 @@ impl<C: NetworkBits + Copy> NetworkSet<C> {
         Ok(NetworkSet { networks: rest })
     }
 
-    /// Adds the addresses of a network. Where an allocation fails, the set stays as it was.
-    ///
-    /// ```
-    /// let mut pool = NetworkSet::new(rt.alloc());
-    /// pool.insert("10.0.0.0/8".parse::<Ipv4Cidr>()?)?;
-    /// pool.as_slice() // [10.0.0.0/8]
-    /// ```
-    pub fn insert(&mut self, network: C) -> Result<(), AllocError>
-        ensures ok { OnOk result (IsUnion 129 (map C.bits self.old) (C.bits network ∷ []) (map C.bits self.new)) }
-        ensures err { OnErr result (self.new ≡ self.old) }
-    {
-        let mut both = Vec::from_slice(self.networks.allocator().clone()?, self.as_slice())?;
-        both.push(network)?;
-        *self = reduced(both);
-        Ok(())
-    }
-
-    /// Removes the addresses of a network. Where an allocation fails, the set stays as it was.
-    ///
-    /// ```
-    /// pool.remove(&"10.64.0.0/10".parse()?)?;
-    /// pool.as_slice() // [10.0.0.0/10, 10.128.0.0/9]
-    /// ```
-    pub fn remove(&mut self, network: &C) -> Result<(), AllocError>
-        ensures ok { OnOk result
-            (IsDifference 129 (map C.bits self.old) (C.bits network.now ∷ []) (map C.bits self.new)) }
-        ensures err { OnErr result (self.new ≡ self.old) }
-    {
-        let mut single = NetworkSet::new(self.networks.allocator().clone()?);
-        single.insert(*network)?;
-        let rest = self.difference(&single)?;
-        *self = rest;
-        Ok(())
-    }
-
     /// Whether no address is in both sets.
     ///
     /// ```
@@ -267,7 +232,7 @@ fn push_rests<C: NetworkBits + Copy>(
 ///
 /// A network that one of the others contains has none, and one that contains none of the others is pushed itself. Any
 /// other is halved.
-fn push_rest<'a, C: NetworkBits + Copy>(
+pub(super) fn push_rest<'a, C: NetworkBits + Copy>(
     out: &mut Vec<C>,
     network: &C,
     others: &'a [C],

@@ -1,14 +1,26 @@
-use Rattle.std.proofs.Common.{[], ◌∷◌, ◌++◌, map, sym, ap, ◌∙◌, subst}
-use Rattle.cidr_sets.specs.Sets.{IsUnion}
-use Rattle.cidr_sets.proofs.Algebra.{union_of}
+use Rattle.std.proofs.Common.{map, sym, subst}
+use Rattle.std.proofs.lemmas.Bool.Decides.{not_from_Decides}
+use Rattle.cidr_table.specs.Cover.{Covers}
+use Rattle.cidr_sets.proofs.Edits.{union_held}
 use Rattle.cidr_sets.proofs.set.NetworkSet.insert.Goals as goal
 
-pub returns-clause-ok : goal.returns-clause-ok
-returns-clause-ok g c =
+pub returns-then-covers-clause-ok : goal.returns-then-covers-clause-ok
+returns-then-covers-clause-ok g c =
     let f = g.C.BitString.bits in
-    let these = c.as_slice.result.now in
-    let one = c.args.network ∷ [] in
-    subst (λ xs. IsUnion 129 (map f c.args.self.now) (f c.args.network ∷ []) (map f xs)) (sym c.drop.view_is)
-    (rw (← c.as_slice.ensures.networks)
-    (union_of f these one c.push.new.self.items (map f c.reduced.result) c.reduced.ensures.set
-    (c.in_ok-push.ensures.items ∙ ap (λ xs. xs ++ one) c.in_ok-both.ensures.items)))
+    let p = f c.args.network in
+    let same = c.as_slice.ensures.networks in
+    let reduced = c.as_slice.ensures.reduced in
+    union_held (map f c.args.self.now) reduced p c.known.ensures (subst (λ l. Covers (map f l) p) same (c.covers.ensures.0 c.if-covers.true))
+
+pub joined_with-whole-requires-clause-apart : goal.joined_with-whole-requires-clause-apart
+joined_with-whole-requires-clause-apart g c d =
+    let f = g.C.BitString.bits in
+    not_from_Decides c.covers.result c.covers.ensures c.if-covers.false
+    (subst (λ l. Covers (map f l) (f c.args.network)) (sym c.as_slice.ensures.networks)
+    (subst (λ l. Covers (map f l) (f c.args.network)) c.as_slice-2.ensures.networks d))
+
+pub returns-clause-held : goal.returns-clause-held
+returns-clause-held g c d =
+    let f = g.C.BitString.bits in
+    absurd (not_from_Decides c.covers.result c.covers.ensures c.if-covers.false
+    (subst (λ l. Covers (map f l) (f c.args.network)) (sym c.as_slice.ensures.networks) d))

@@ -1,13 +1,35 @@
-use Rattle.std.proofs.Common.{[], ◌∷◌, map, sym, subst}
+use Rattle.std.proofs.Common.{[], ◌∷◌, ◌++◌, map, take, drop, sym, ap, ◌∙◌, subst}
+use Rattle.std.proofs.lemmas.Bool.Decides.{not_from_Decides}
+use Rattle.std.proofs.lemmas.List.{map-append}
+use Rattle.cidr_table.specs.Cover.{Covers, IsReduced}
 use Rattle.cidr_sets.specs.Sets.{IsDifference}
-use Rattle.cidr_sets.proofs.Algebra.{less_one}
+use Rattle.cidr_sets.proofs.Edits.{without_inside}
 use Rattle.cidr_sets.proofs.set.NetworkSet.remove.Goals as goal
+
+pub inside_of-start-requires-clause-apart : goal.inside_of-start-requires-clause-apart
+inside_of-start-requires-clause-apart g c d =
+    let f = g.C.BitString.bits in
+    let p = f c.args.network.now in
+    not_from_Decides c.covers.result c.covers.ensures c.if-covers.false
+    (subst (λ l. Covers (map f l) p) (sym c.as_slice.ensures.networks) (subst (λ l. Covers (map f l) p) c.as_slice-2.ensures.networks d))
 
 pub returns-clause-ok : goal.returns-clause-ok
 returns-clause-ok g c =
     let f = g.C.BitString.bits in
-    let these = map f c.args.self.now in
+    let xs = c.as_slice-2.result.now in
     let p = f c.args.network.now in
-    subst (λ xs. IsDifference 129 these (p ∷ []) (map f xs)) (sym c.drop.view_is)
-    (less_one these (map f c.insert.new.self) (map f c.in_ok-rest.rest) p (rw c.new-single.ensures at c.in_ok-insert.ensures.ok)
-    c.in_ok-rest.ensures.set)
+    let start = c.inside_of-start.result.0 in
+    let end = c.inside_of-start.result.1 in
+    let same = c.as_slice-2.ensures.networks in
+    let reduced : IsReduced 129 (map f xs) = subst (λ l. IsReduced 129 (map f l)) (sym same) c.as_slice-2.ensures.reduced in
+    let rest = without_inside (map f xs) reduced p c.known.ensures (map f (take start xs)) (map f (drop end xs))
+    c.inside_of-start.ensures.parted
+    (λ d. not_from_Decides c.covers.result c.covers.ensures c.if-covers.false
+    (subst (λ l. Covers (map f l) p) (sym c.as_slice.ensures.networks) (subst (λ l. Covers (map f l) p) same d))) in
+    let left = subst (IsDifference 129 (map f xs) (p ∷ [])) (sym (map-append f (take start xs) (drop end xs))) rest in
+    subst (λ l. IsDifference 129 (map f c.args.self.now) (p ∷ []) (map f l))
+    (sym (c.cut.ensures ∙ ap (λ l. take start l ++ drop end l) c.self.view_is))
+    (subst (λ l. IsDifference 129 (map f l) (p ∷ []) (map f (take start l ++ drop end l))) same left)
+
+pub invariant_of-self-2 : goal.invariant_of-self-2
+invariant_of-self-2 g c = (returns-clause-ok g c).reduced
