@@ -84,6 +84,22 @@ pub fn changes(alloc: Global) -> Result<bool, AllocError> {
     Ok(set.is_empty())
 }
 
+/// Whether a network of 64 addresses is taken out of one of 2^24, and a refused call leaves the set.
+pub fn part(alloc: Global) -> Result<bool, AllocError> {
+    let mut set = Set::new(alloc);
+    if set.insert(block(TEN, 8)).is_err() {
+        set.insert(block(TEN, 8))?;
+    }
+    let part = block(TEN + 64, 26);
+    if set.remove(&part).is_err() {
+        if set.as_slice() != [block(TEN, 8)].as_slice() {
+            return Ok(false);
+        }
+        set.remove(&part)?;
+    }
+    Ok(set.len() == 18 && !set.overlaps(&part))
+}
+
 /// Whether a range is a set of four networks.
 pub fn range(alloc: Global) -> Result<bool, AllocError> {
     let (first, last) = (Ipv4Addr::from_bits(TEN + 1), Ipv4Addr::from_bits(TEN + 6));

@@ -125,3 +125,20 @@ pub fn clone(alloc: Global) -> Result<bool, AllocError> {
     };
     Ok(copy == routes && copy.len() == 40)
 }
+
+/// Whether of a hundred rows in no order, two of each key, the last ones are the table, though no room may be left to sort.
+pub fn from_rows(alloc: Global) -> Result<bool, AllocError> {
+    let mut rows = match Vec::with_capacity(alloc, 100) {
+        Ok(rows) => rows,
+        Err(_) => Vec::with_capacity(alloc, 100)?,
+    };
+    for i in 0_u32..100 {
+        rows.push((key(i * 7 % 50), i))?;
+    }
+    let routes = Routes::from_rows(rows);
+    let mut same = routes.len() == 50;
+    for i in 50_u32..100 {
+        same &= routes.get(&key(i * 7 % 50)).copied() == Some(i);
+    }
+    Ok(same)
+}
