@@ -1,25 +1,146 @@
 -- What is written of the findings in lists.
-use Rattle.std.proofs.Common.{◌≡◌, refl, inr, subst, ℕ, List, ◌++◌, codes, Option, Result, append_assoc}
+use Rattle.std.proofs.Common.{◌≡◌, refl, sym, ◌∙◌, ap, inr, subst, arith, false, true, ℕ, ◌+◌, ◌-◌, ◌*◌, ◌<◌, ◌≤◌, List, [], ◌∷◌, ◌++◌, codes, length, map, Option, Some, None, Result, Ok, Err, slice_get, append_assoc}
 use Rattle.std.specs.List.{flat_map}
-use Rattle.cidr_io.specs.Writing.{State, Answered}
+use Rattle.std.proofs.lemmas.List.{append-nil, flat_map_more, length_push}
+use Rattle.std.proofs.lemmas.List.Concat.{flat_map-append}
+use Rattle.std.proofs.lemmas.Option.{slice_get_within}
+use Rattle.cidr_io.specs.Writing.{Answered, Part, State, Whole, Writes}
 use Rattle.cidr_io.specs.declared.sink.OutputFailed.{OutputFailed}
-use Rattle.cidr_io.specs.Collecting.{Collects}
+use Rattle.cidr_io.specs.Collecting.{Collects, Holds}
+use Rattle.cidr_io.proofs.Chains.{answered, part_more, part_none}
+use Rattle.cidr_io.proofs.Collected.{held_lost, held_then}
 use Rattle.netset.specs.Commands.{Check, read_files}
-use Rattle.netset.specs.Findings.{AreNotes, IsClean, note_line}
+use Rattle.netset.specs.Findings.{AnswersNotes, AreLost, AreNoted, AreNotes, AreNotesBelow, IsClean, IsOnlyNote, NotesAll, NotesOn, entry_network, note_line}
 use Rattle.netset.specs.Lists.{Text}
-use Rattle.netset.specs.Program.{AnswersRequest, by_output}
+use Rattle.netset.specs.Nearness.{AreNear}
+use Rattle.netset.specs.Program.{AnswersRequest}
 use Rattle.netset.specs.Unchecked.{AreToldEntries}
 use Rattle.netset.specs.declared.answers.Verdict.{Verdict}
+use Rattle.netset.specs.declared.answers.Verdict.TheVariants.{Yes, No}
 use Rattle.netset.specs.declared.entries.Entry.{Entry}
 use Rattle.netset.specs.declared.errors.CommandError.{CommandError}
+use Rattle.netset.specs.declared.errors.CommandError.TheVariants as error
 use Rattle.netset.specs.declared.findings.Note.{Note}
+use Rattle.netset.specs.declared.near.Near.{Near}
+use Rattle.netset.proofs.Blocks.{last_block, nothing_held}
+use Rattle.netset.proofs.Completed.{completed}
+use Rattle.netset.proofs.Noted.{all_noted, no_notes, none_noted, one_noted}
 
-pub check_written : (told : List ℕ → Option Text) (files : List (List ℕ)) (entries : List Entry) (notes : List Note) (verdict : Verdict) (s t : State)
-    (w : Result (Unit {0}) OutputFailed) (r : Result Verdict CommandError) → AreToldEntries told (read_files files) entries → AreNotes entries notes
-    → IsClean notes verdict → Answered s t (flat_map note_line notes) w → r ≡ by_output verdict w → AnswersRequest told (Check files) s t r
-check_written told files entries notes verdict s t w r are noted clean written is =
-    inr (flat_map note_line notes, verdict, w, λ texts h. (entries, are texts h, notes, noted, refl, clean), written, is)
+-- ---- one finding after another
+-- a beginning of the findings was written
+pub notes_lost : (entries : List Entry) (bound : ℕ) (start now : State) (block : List ℕ) (verdict : Verdict) (r : Result (Unit {0}) OutputFailed) (y : OutputFailed)
+    → r ≡ Err y → AreLost entries start now → NotesOn entries bound start now block verdict r
+notes_lost entries bound start now block verdict r y is h = subst (NotesOn entries bound start now block verdict) (sym is) h
 
+pub none_noted_yet : (entries : List Entry) (s : State) (block : List ℕ) → block ≡ [] → AreNoted entries 0 s s block Yes
+none_noted_yet entries s block none = record {
+  notes = [];
+  below = no_notes entries 0 [] refl refl;
+  held = subst (λ (k : List ℕ). Holds s s k []) (sym none) (nothing_held s);
+  clean = refl;
+}
+
+module _ (entries : List Entry) (near : List Near) (are : AreNear (map entry_network entries) near) where
+  rest_of : (bound : ℕ) (notes : List Note) → bound ≤ length entries * 5 → AreNotesBelow entries bound notes → (more : List Note) × AreNotes entries (notes ++ more)
+  rest_of bound notes fits h =
+      let left : bound + (length entries * 5 - bound) ≡ length entries * 5 = omega (arith, fits) in
+      completed entries near are (length entries * 5 - bound) bound notes left h
+
+  -- there are findings of all lines, or none
+  pub some_notes : (notes : List Note) × AreNotes entries notes
+  some_notes =
+      let (more, all) = rest_of 0 [] (omega arith) (no_notes entries 0 [] refl refl) in
+      (more, all)
+
+  module _ (index : ℕ) (entry : Entry) (here : slice_get entries index ≡ Some entry) (place : ℕ) (low : place < 5) (bound : ℕ)
+      (at : bound ≡ index * 5 + place) (start s t : State) (block next : List ℕ) (verdict : Verdict) (told : AreNoted entries bound start s block verdict) where
+    so_far : AreNotesBelow entries (index * 5 + place) told.notes
+    so_far = subst (λ (n : ℕ). AreNotesBelow entries n told.notes) at told.below
+
+    pub nothing_told : IsOnlyNote entries index entry place None → AreNoted entries (bound + 1) start s block verdict
+    nothing_told only = record {
+      notes = told.notes;
+      below = subst (λ (n : ℕ). AreNotesBelow entries (n + 1) told.notes) (sym at) (none_noted entries index entry here place low told.notes only so_far);
+      held = told.held;
+      clean = told.clean;
+    }
+
+    with_it : (note : Note) → IsOnlyNote entries index entry place (Some note) → AreNotesBelow entries (bound + 1) (told.notes ++ note ∷ [])
+    with_it note only =
+        subst (λ (n : ℕ). AreNotesBelow entries (n + 1) (told.notes ++ note ∷ [])) (sym at)
+        (one_noted entries index entry here place low note told.notes only so_far)
+
+    pub note_told : (note : Note) (r : Result (Unit {0}) OutputFailed) → IsOnlyNote entries index entry place (Some note)
+        → Collects s t block next (note_line note) r → NotesOn entries (bound + 1) start t next No r
+    note_told note (Ok u) only collected = record {
+      notes = told.notes ++ note ∷ [];
+      below = with_it note only;
+      held = subst (Holds start t next) (flat_map_more note_line [] told.notes note)
+          (held_then start s t block next (flat_map note_line told.notes) (note_line note) told.held collected);
+      clean = λ e. omega (arith, ap length e, length_push told.notes note);
+    }
+    note_told note (Err e) only part =
+        let fits : bound + 1 ≤ length entries * 5 = omega (arith, at, low, slice_get_within entries index entry here) in
+        let (more, all) = rest_of (bound + 1) (told.notes ++ note ∷ []) fits (with_it note only) in
+        let whole : (flat_map note_line told.notes ++ note_line note) ++ flat_map note_line more ≡ flat_map note_line ((told.notes ++ note ∷ []) ++ more) =
+        ap (λ (k : List ℕ). k ++ flat_map note_line more) (flat_map_more note_line [] told.notes note)
+        ∙ sym (flat_map-append note_line (told.notes ++ note ∷ []) more) in (
+          (told.notes ++ note ∷ []) ++ more,
+          all,
+          subst (Part start t) whole (part_more start t (flat_map note_line told.notes ++ note_line note) (flat_map note_line more)
+              (held_lost start s t block (flat_map note_line told.notes) (note_line note) told.held part)),
+        )
+
+-- the last block
+pub all_told : (entries : List Entry) (i : ℕ) (start s t : State) (block : List ℕ) (verdict : Verdict) → length entries ≤ i
+    → AreNoted entries (i * 5) start s block verdict → Writes s t block (Ok tt) → NotesAll entries start t (Ok verdict)
+all_told entries i start s t block verdict past told wrote = (
+  told.notes,
+  all_noted entries (i * 5) i told.notes past refl told.below,
+  told.clean,
+  last_block start s t block (flat_map note_line told.notes) (Ok tt) told.held wrote,
+)
+
+pub last_lost : (entries : List Entry) (i : ℕ) (start s t : State) (block : List ℕ) (verdict : Verdict) (e : OutputFailed) → length entries ≤ i
+    → AreNoted entries (i * 5) start s block verdict → Part s t block → AreLost entries start t
+last_lost entries i start s t block verdict e past told part = (
+  told.notes,
+  all_noted entries (i * 5) i told.notes past refl told.below,
+  last_block start s t block (flat_map note_line told.notes) (Err e) told.held part,
+)
+
+pub all_lost : (entries : List Entry) (start now : State) (r : Result Verdict OutputFailed) (y : OutputFailed) → r ≡ Err y → AreLost entries start now
+    → NotesAll entries start now r
+all_lost entries start now r y is h = subst (NotesAll entries start now) (sym is) h
+
+-- ---- the answer
+pub notes_answered : (entries : List Entry) (s t : State) (r : Result Verdict OutputFailed) → s.failed ≡ false → NotesAll entries s t r → AnswersNotes entries s t r
+notes_answered entries s t (Ok verdict) fine (notes, all, clean, whole) =
+    (notes, all, clean, answered s t (flat_map note_line notes) (Ok tt) fine whole)
+notes_answered entries s t (Err e) fine (notes, all, part) = (notes, all, answered s t (flat_map note_line notes) (Err e) fine part)
+
+pub nothing_answered : (entries : List Entry) (near : List Near) → AreNear (map entry_network entries) near → (s : State) (e : OutputFailed) → s.failed ≡ true
+    → AnswersNotes entries s s (Err e)
+nothing_answered entries near are s e failed =
+    let (notes, all) = some_notes entries near are in
+    (notes, all, (part_none s (flat_map note_line notes) failed, λ _. refl))
+
+clean_of : (notes : List Note) → (verdict : Verdict) × IsClean notes verdict
+clean_of [] = (Yes, refl)
+clean_of (note ∷ notes) = (No, λ e. omega (arith, ap length e))
+
+pub check_answered : (told : List ℕ → Option Text) (files : List (List ℕ)) (entries : List Entry) (s t : State) (verdict : Verdict)
+    → AreToldEntries told (read_files files) entries → AnswersNotes entries s t (Ok verdict) → AnswersRequest told (Check files) s t (Ok verdict)
+check_answered told files entries s t verdict are (notes, noted, clean, written) =
+    inr (flat_map note_line notes, verdict, Ok tt, λ texts h. (entries, are texts h, notes, noted, refl, clean), written, refl)
+
+pub check_lost : (told : List ℕ → Option Text) (files : List (List ℕ)) (entries : List Entry) (s t : State) (e : OutputFailed)
+    → AreToldEntries told (read_files files) entries → AnswersNotes entries s t (Err e) → AnswersRequest told (Check files) s t (Err error.Output)
+check_lost told files entries s t e are (notes, noted, written) =
+    let (verdict, clean) = clean_of notes in
+    inr (flat_map note_line notes, verdict, Err e, λ texts h. (entries, are texts h, notes, noted, refl, clean), written, refl)
+
+-- ---- a line
 regroup : (a b c d : List ℕ) → a ++ (b ++ (c ++ d)) ≡ (a ++ (b ++ c)) ++ d
 regroup a b c d = simp append_assoc
 

@@ -1,27 +1,26 @@
 -- What is found in a line, of each kind.
-use Rattle.std.proofs.Common.{◌≡◌, ◌≢◌, refl, sym, ◌∙◌, ap, ap₂, subst, arith, inl, inr, ℕ, ◌+◌, ◌<◌, ◌≤◌, Bool, true, false, not, List, [], ◌∷◌, ◌++◌, length, take, drop, replicate, set, get_or, map, Option, Some, None, slice_get, length-take}
+use Rattle.std.proofs.Common.{◌≡◌, ◌≢◌, refl, sym, ◌∙◌, ap, ap₂, subst, arith, inl, inr, ℕ, ◌+◌, ◌<◌, ◌≤◌, Bool, true, false, not, List, [], ◌∷◌, ◌++◌, length, take, drop, get_or, map, Option, Some, None, slice_get}
 use Rattle.std.specs.Option.{option_map}
-use Rattle.std.specs.List.{Contains}
-use Rattle.std.proofs.lemmas.Bool.{cases_eq, false≢true, true≢false}
-use Rattle.std.proofs.lemmas.List.{get_or-replicate, get_or-set_other, get_or-set_same, length-map, length-replicate, length-set, length_push, same_from_push, take-append-le, take_all}
+use Rattle.std.proofs.lemmas.Bool.{cases_lt, false≢true, true≢false}
+use Rattle.std.proofs.lemmas.List.{length-map}
 use Rattle.std.proofs.lemmas.Option.{none-some, slice_get-get_or, slice_get-map, slice_get_within, same_Some}
 use Rattle.cidr.specs.either.IpHost.{host_parts}
 use Rattle.cidr.specs.either.IpNetwork.{network_bits, network_family, network_prefix}
 use Rattle.cidr.specs.model.Host.{host_part}
-use Rattle.cidr.specs.model.Network.{BeginsWith}
 use Rattle.cidr.specs.declared.cidr.combined.IpCidr.{IpCidr}
 use Rattle.cidr.specs.declared.cidr.combined.IpCidr.TheVariants.{V4, V6}
-use Rattle.cidr_ext.specs.Tree.{IsHalfOf}
-use Rattle.cidr_table.specs.FiniteMap.{IsUnder}
-use Rattle.cidr_table.specs.Prefixes.{IsLookedUp}
-use Rattle.netset.specs.Findings.{AreFirsts, AreHalves, AreInside, AreNear, IsAroundAt, IsFinding, IsFirst, IsFirstAt, IsFirstIndex, IsHalfAt, IsInnermost, IsInside, IsNear, IsOnly, IsRowAround, entry_network, rank}
+use Rattle.cidr.specs.declared.inet.combined.IpInet.{IpInet}
+use Rattle.netset.specs.Findings.{AreHalves, IsFinding, IsFirst, IsInnermost, IsInside, IsOnly, IsOnlyNote, entry_network, kind_rank, rank}
+use Rattle.netset.specs.Nearness.{IsAroundAt, IsFirstIndex, IsHalfAt, IsNear}
 use Rattle.netset.specs.declared.entries.Entry.{Entry}
 use Rattle.netset.specs.declared.entries.Place.{Place}
 use Rattle.netset.specs.declared.findings.Finding.{Finding}
 use Rattle.netset.specs.declared.findings.Finding.TheVariants.{HostBits, NotCanonical, Repeats, Inside, Mergeable}
-use Rattle.netset.specs.declared.findings.Firsts.{Firsts}
-use Rattle.netset.specs.declared.findings.Near.{Near}
-use Rattle.netset.proofs.FirstLines.{around_in, first_under, row_there}
+use Rattle.netset.specs.declared.findings.Kind.{Kind}
+use Rattle.netset.specs.declared.findings.Kind.TheVariants as looked
+use Rattle.netset.specs.declared.findings.Note.{Note}
+use Rattle.netset.specs.declared.near.Near.{Near}
+use Rattle.netset.proofs.Nested.{sibling_same}
 
 -- ---- networks by their bits
 bits_same : (a b : IpCidr) → network_bits a ≡ network_bits b → a ≡ b
@@ -36,106 +35,10 @@ prefix_same (V4 p) (V6 q) f e = cc
 prefix_same (V6 p) (V4 q) f e = cc
 prefix_same (V6 p) (V6 q) f e = ap V6 e
 
-pub v4_apart : (p q : List Bool) → V4 p ≡ V4 q → p ≡ q
-v4_apart p q e = ap (λ (n : IpCidr). network_prefix n) e
-
-pub v6_apart : (p q : List Bool) → V6 p ≡ V6 q → p ≡ q
-v6_apart p q e = ap (λ (n : IpCidr). network_prefix n) e
-
-front_bit : (xs ys : List Bool) → xs ≡ ys → get_or xs 0 false ≡ get_or ys 0 false
-front_bit xs ys e = ap (λ (t : List Bool). get_or t 0 false) e
-
-pub v4_no_v6 : (p q : List Bool) → ¬ (V4 p ≡ V6 q)
-v4_no_v6 p q e = false≢true (front_bit _ _ (ap (λ (n : IpCidr). network_bits n) e))
-
-inside_v4 : (p : List Bool) (other : IpCidr) → IsInside (V4 p) other → (q : List Bool) × (other ≡ V4 q) × AreInside p q
-inside_v4 p (V4 q) (h, short) = (q, refl, (ap (drop 1) h, omega (arith, short)))
-inside_v4 p (V6 q) (h, short) = absurd (false≢true (front_bit _ _ h))
-
-inside_v6 : (p : List Bool) (other : IpCidr) → IsInside (V6 p) other → (q : List Bool) × (other ≡ V6 q) × AreInside p q
-inside_v6 p (V4 q) (h, short) = absurd (true≢false (front_bit _ _ h))
-inside_v6 p (V6 q) (h, short) = (q, refl, (ap (drop 1) h, omega (arith, short)))
-
-is_inside_v4 : (p q : List Bool) → AreInside p q → IsInside (V4 p) (V4 q)
-is_inside_v4 p q (h, short) = (ap (λ (t : List Bool). false ∷ t) h, omega (arith, short))
-
-is_inside_v6 : (p q : List Bool) → AreInside p q → IsInside (V6 p) (V6 q)
-is_inside_v6 p q (h, short) = (ap (λ (t : List Bool). true ∷ t) h, omega (arith, short))
-
-pub around_v4 : (networks : List IpCidr) (firsts : Firsts) → AreFirsts networks firsts → (p : List Bool) (r : Option ℕ)
-    → IsRowAround (λ (q : List Bool). q) firsts.v4.rows p r → IsAroundAt networks (V4 p) r
-around_v4 networks firsts are p r h =
-    around_in V4 networks firsts.v4.rows are.0 inside_v4 is_inside_v4 (λ q. omega arith) p r h
-
-pub around_v6 : (networks : List IpCidr) (firsts : Firsts) → AreFirsts networks firsts → (p : List Bool) (r : Option ℕ)
-    → IsRowAround (λ (q : List Bool). q) firsts.v6.rows p r → IsAroundAt networks (V6 p) r
-around_v6 networks firsts are p r h =
-    around_in V6 networks firsts.v6.rows are.1 inside_v6 is_inside_v6 (λ q. omega arith) p r h
-
-pub first_v4 : (networks : List IpCidr) (firsts : Firsts) → AreFirsts networks firsts → (p : List Bool) (r : Option ℕ)
-    → IsUnder firsts.v4.rows p r → IsFirstAt networks (V4 p) r
-first_v4 networks firsts are p r h = first_under V4 networks firsts.v4.rows are.0 p r h
-
-pub first_v6 : (networks : List IpCidr) (firsts : Firsts) → AreFirsts networks firsts → (p : List Bool) (r : Option ℕ)
-    → IsUnder firsts.v6.rows p r → IsFirstAt networks (V6 p) r
-first_v6 networks firsts are p r h = first_under V6 networks firsts.v6.rows are.1 p r h
-
 -- ---- the other half
 half_same : (network a b : IpCidr) → AreHalves network a → AreHalves network b → a ≡ b
 half_same network a b (f, one) (g, other) =
-    let (p, x, n, m) = one in
-    let (q, y, s, t) = other in
-    let (parents, bits) = same_from_push p q x y (sym n ∙ s) in
-    prefix_same a b (f ∙ sym g) (m ∙ (ap₂ (λ (k : List Bool) (z : Bool). k ++ not z ∷ []) parents bits ∙ sym t))
-
-pub no_half : (networks : List IpCidr) (network : IpCidr) → network_prefix network ≡ [] → IsHalfAt networks network None
-no_half networks network whole other halves =
-    let (parent, b, one, two) = halves.1 in
-    let size : length (network_prefix network) ≡ length parent + 1 = ap length one ∙ length_push parent b in
-    absurd (omega (arith, size, ap length whole))
-
-pub half_at : (networks : List IpCidr) (network other : IpCidr) (r : Option ℕ) → AreHalves network other → IsFirstAt networks other r
-    → IsHalfAt networks network r
-half_at networks network other None halves h = λ two same. subst (λ (n : IpCidr). IsFirstAt networks n None) (half_same network other two halves same) h
-half_at networks network other (Some i) halves h = (other, halves, h)
-
--- ---- what is kept by the index of a line
-pub near_kept : (networks : List IpCidr) (near : List (Option Near)) (i : ℕ) (one : Near) (network : IpCidr) → AreNear networks near
-    → slice_get near i ≡ Some (Some one) → slice_get networks i ≡ Some network → IsFirstIndex networks network i × IsNear networks network one
-near_kept networks near i one network h kept there =
-    let (same, first, is) = h.each i one kept in
-    subst (λ (n : IpCidr). IsFirstIndex networks n i × IsNear networks n one) (same_Some same network (sym first.0 ∙ there)) (first, is)
-
-pub none_near : (networks : List IpCidr) (near : List (Option Near)) (n : ℕ) → n ≡ length networks → near ≡ replicate n None → AreNear networks near
-none_near networks near n size none = record {
-  size = ap length none ∙ (length-replicate n None ∙ size);
-  each = λ i one h.
-      let nothing_yet : Option Near = None in
-      let within : i < n = omega (arith, slice_get_within near i (Some one) h, ap length none, length-replicate n nothing_yet) in
-      let nothing : get_or near i None ≡ None = ap (λ (l : List (Option Near)). get_or l i None) none ∙ get_or-replicate n i None None within in
-      absurd (none-some one (sym nothing ∙ same_Some (get_or near i None) (Some one) (sym (slice_get-get_or near i None (slice_get_within near i (Some one) h)) ∙ h)));
-}
-
-pub one_near : (networks : List IpCidr) (near : List (Option Near)) (j : ℕ) (one : Near) (network : IpCidr) → AreNear networks near
-    → IsFirstIndex networks network j → IsNear networks network one → AreNear networks (set near j (Some one))
-one_near networks near j one network h first is = record {
-  size = length-set near j (Some one) ∙ h.size;
-  each = λ i two kept.
-      let past : i < length (set near j (Some one)) = slice_get_within (set near j (Some one)) i (Some two) kept in
-      let within : i < length near = omega (arith, past, length-set near j (Some one)) in
-      let at : get_or (set near j (Some one)) i None ≡ Some two =
-      same_Some (get_or (set near j (Some one)) i None) (Some two) (sym (slice_get-get_or (set near j (Some one)) i None past) ∙ kept) in
-      elim (cases_eq i j) [
-        | inl same ↦
-            let new : get_or (set near j (Some one)) i None ≡ Some one =
-            subst (λ (k : ℕ). get_or (set near j (Some one)) k None ≡ Some one) (sym same)
-            (get_or-set_same near j (Some one) None (subst (λ (k : ℕ). k < length near) same within)) in
-            let is_new : one ≡ two = same_Some one two (sym new ∙ at) in
-            subst (λ (k : ℕ). (n : IpCidr) × IsFirstIndex networks n k × IsNear networks n two) (sym same)
-            (network, first, subst (λ (n : Near). IsNear networks network n) is_new is)
-        | inr other ↦ h.each i two (slice_get-get_or near i None within ∙ ap Some (sym (get_or-set_other near j i (Some one) None other) ∙ at))
-      ];
-}
+    prefix_same a b (f ∙ sym g) (sibling_same (network_prefix network) (network_prefix a) (network_prefix b) one other)
 
 -- ---- findings by their rank
 is_host_bits : (f : Finding) → rank f ≡ 0 → f ≡ HostBits
@@ -144,6 +47,13 @@ is_host_bits (NotCanonical host) e = absurd (omega (arith, e))
 is_host_bits (Repeats place) e = absurd (omega (arith, e))
 is_host_bits (Inside outer place) e = absurd (omega (arith, e))
 is_host_bits (Mergeable place) e = absurd (omega (arith, e))
+
+is_canonical : (f : Finding) → rank f ≡ 1 → (host : IpInet) × (f ≡ NotCanonical host)
+is_canonical HostBits e = absurd (omega (arith, e))
+is_canonical (NotCanonical host) e = (host, refl)
+is_canonical (Repeats place) e = absurd (omega (arith, e))
+is_canonical (Inside outer place) e = absurd (omega (arith, e))
+is_canonical (Mergeable place) e = absurd (omega (arith, e))
 
 is_repeats : (f : Finding) → rank f ≡ 2 → (place : Place) × (f ≡ Repeats place)
 is_repeats HostBits e = absurd (omega (arith, e))
@@ -176,6 +86,24 @@ module _ (entries : List Entry) (i : ℕ) (entry : Entry) where
   some_host_bits some = (
     refl,
     λ f kind. (λ holds. is_host_bits f kind, λ same. subst (IsFinding entries i entry) (sym same) (λ none. some (omega (arith, none)))),
+  )
+
+  canonical : entry.is_canonical ≡ true → IsOnly (IsFinding entries i entry) 1 None
+  canonical is f kind holds =
+      let (host, same) = is_canonical f kind in
+      let found = subst (IsFinding entries i entry) same holds in
+      true≢false (sym is ∙ found.1)
+
+  not_canonical : entry.is_canonical ≡ false → IsOnly (IsFinding entries i entry) 1 (Some (NotCanonical entry.host))
+  not_canonical is = (
+    refl,
+    λ f kind.
+        let (host, same) = is_canonical f kind in (
+          λ holds.
+              let found = subst (IsFinding entries i entry) same holds in
+              same ∙ ap NotCanonical found.0,
+          λ there. subst (IsFinding entries i entry) (sym there) (refl, is),
+        ),
   )
 
 -- ---- the first line of a network
@@ -230,13 +158,10 @@ module _ (entries : List Entry) where
         let (k, below, first) = subst (IsFinding entries i entry) is holds in
         none k place below first
 
-    pub nothing_repeats : IsFirstAt networks (entry_network entry) None → IsOnly (IsFinding entries i entry) 2 None
-    nothing_repeats none = no_repeat (λ k place below first. none k (network_there (entry_network entry) k place first))
-
-    pub first_repeats : (j : ℕ) → IsFirstAt networks (entry_network entry) (Some j) → i ≤ j → IsOnly (IsFinding entries i entry) 2 None
+    pub first_repeats : (j : ℕ) → IsFirstIndex networks (entry_network entry) j → i ≤ j → IsOnly (IsFinding entries i entry) 2 None
     first_repeats j here past = no_repeat (not_earlier (entry_network entry) i j here past)
 
-    pub repeats_first : (j : ℕ) (other : Entry) → IsFirstAt networks (entry_network entry) (Some j) → j < i → slice_get entries j ≡ Some other
+    pub repeats_first : (j : ℕ) (other : Entry) → IsFirstIndex networks (entry_network entry) j → j < i → slice_get entries j ≡ Some other
         → IsOnly (IsFinding entries i entry) 2 (Some (Repeats other.place))
     repeats_first j other here below there =
         let first = first_of_index (entry_network entry) j other here there in (
@@ -255,7 +180,7 @@ module _ (entries : List Entry) where
     nothing_merges none f kind holds =
         let (place, is) = is_mergeable f kind in
         let (other, k, halves, below, first) = subst (IsFinding entries i entry) is holds in
-        none other halves k (network_there other k place first)
+        none k other (network_there other k place first) halves
 
     pub later_merges : (j : ℕ) → IsHalfAt networks (entry_network entry) (Some j) → i ≤ j → IsOnly (IsFinding entries i entry) 4 None
     later_merges j (other, half, here) past f kind holds =
@@ -323,54 +248,49 @@ module _ (entries : List Entry) where
               ),
         )
 
--- ---- what is under a key, by the longest key that begins it
-begins_same : (a p : List Bool) → a ≡ p → BeginsWith a p
-begins_same a p e = ap (take (length p)) e ∙ take_all (length p) p (omega arith)
+-- ---- one finding of each kind, or none
+module _ (entries : List Entry) (i : ℕ) (entry : Entry) where
+  -- the first line has a place
+  entry_of : (network : IpCidr) (j : ℕ) → IsFirstIndex (map entry_network entries) network j → (other : Entry) × (slice_get entries j ≡ Some other)
+  entry_of network j first = (get_or entries j entry, slice_get-get_or entries j entry (index_within entries network j first))
 
-whole_begins : (a p : List Bool) → BeginsWith a p → length a ≤ length p → a ≡ p
-whole_begins a p h fits = sym (take_all (length p) a fits) ∙ h
+  abbrev noted : Finding → Note
+  noted found = record { index = i; place = entry.place; finding = found }
 
-module _ {C : Type 0} (bits : C → List Bool) (determined : (a b : C) → bits a ≡ bits b → a ≡ b) (rows : List (C × ℕ)) (key : C) where
-  pub key_missed : IsLookedUp bits (bits key) rows None → IsUnder rows key None
-  key_missed none c =
-      let (row, here, same) = row_there rows key c in
-      none row here (begins_same (bits key) (bits row.0) (ap bits (sym same)))
+  same_found : (j : ℕ) → IsFirstIndex (map entry_network entries) (entry_network entry) j → (note : Option Note) × IsOnlyNote entries i entry 2 note
+  same_found j first = elim (cases_lt j i) [
+    | inr ge ↦ (None, first_repeats entries i entry j first ge)
+    | inl lt ↦
+        let (other, there) = entry_of (entry_network entry) j first in
+        (Some (noted (Repeats other.place)), (refl, refl, repeats_first entries i entry j other first lt there))
+  ]
 
-  pub key_found : (found : C × ℕ) → found.0 ≡ key → IsLookedUp bits (bits key) rows (Some found) → IsUnder rows key (Some found.1)
-  key_found found is h = subst (λ (k : C). Contains rows (k, found.1)) is h.here
+  outer_found : (r : Option ℕ) → IsAroundAt (map entry_network entries) (entry_network entry) r → (note : Option Note) × IsOnlyNote entries i entry 3 note
+  outer_found None none = (None, none_around entries i entry none)
+  outer_found (Some j) around =
+      let (other, there) = entry_of around.0 j around.1 in
+      (Some (noted (Inside (entry_network other) other.place)), (refl, refl, some_around entries i entry j other there around))
 
-  pub key_unmatched : (found : C × ℕ) → found.0 ≢ key → IsLookedUp bits (bits key) rows (Some found) → IsUnder rows key None
-  key_unmatched found not h c =
-      let (row, here, same) = row_there rows key c in
-      let whole : bits key ≡ bits row.0 = ap bits (sym same) in
-      let most : length (bits row.0) ≤ length (bits found.0) = h.longest row here (begins_same (bits key) (bits row.0) whole) in
-      not (sym (determined key found.0 (whole_begins (bits key) (bits found.0) h.begins (omega (arith, most, ap length whole)))))
+  half_found : (r : Option ℕ) → IsHalfAt (map entry_network entries) (entry_network entry) r → (note : Option Note) × IsOnlyNote entries i entry 4 note
+  half_found None none = (None, nothing_merges entries i entry none)
+  half_found (Some j) half = elim (cases_lt j i) [
+    | inr ge ↦ (None, later_merges entries i entry j half ge)
+    | inl lt ↦
+        let (other, there) = entry_of half.0 j half.2 in
+        (Some (noted (Mergeable other.place)), (refl, refl, earlier_merges entries i entry j other half lt there))
+  ]
 
--- ---- the longest key around a key is that of the key one bit shorter
-begins_parent : (n p q : List Bool) (b : Bool) → n ≡ p ++ b ∷ [] → BeginsWith p q → AreInside n q
-begins_parent n p q b is h =
-    let size : length n ≡ length p + 1 = ap length is ∙ length_push p b in
-    let fits : length q ≤ length p = omega (arith, ap length h, length-take (length q) p) in
-    (ap (take (length q)) is ∙ (take-append-le (length q) p (b ∷ []) fits ∙ h), omega (arith, size, fits))
+  form_found : (b : Bool) → entry.is_canonical ≡ b → (note : Option Note) × IsOnlyNote entries i entry 1 note
+  form_found true is = (None, canonical entries i entry is)
+  form_found false is = (Some (noted (NotCanonical entry.host)), (refl, refl, not_canonical entries i entry is))
 
-parent_begins : (n p q : List Bool) (b : Bool) → n ≡ p ++ b ∷ [] → AreInside n q → BeginsWith p q
-parent_begins n p q b is (h, short) =
-    let size : length n ≡ length p + 1 = ap length is ∙ length_push p b in
-    let fits : length q ≤ length p = omega (arith, size, short) in
-    sym (take-append-le (length q) p (b ∷ []) fits) ∙ (sym (ap (take (length q)) is) ∙ h)
-
-module _ {C : Type 0} (bits : C → List Bool) (rows : List (C × ℕ)) (key : C) where
-  pub none_above : (parent : C) → IsHalfOf (bits key) (bits parent) → IsLookedUp bits (bits parent) rows None → IsRowAround bits rows key None
-  none_above parent (b, is) none row c h = none row c (parent_begins (bits key) (bits parent) (bits row.0) b is h)
-
-  pub one_above : (parent : C) (found : C × ℕ) → IsHalfOf (bits key) (bits parent) → IsLookedUp bits (bits parent) rows (Some found)
-      → IsRowAround bits rows key (Some found.1)
-  one_above parent found (b, is) h = (
-    found.0,
-    h.here,
-    begins_parent (bits key) (bits parent) (bits found.0) b is h.begins,
-    λ row c within. h.longest row c (parent_begins (bits key) (bits parent) (bits row.0) b is within),
-  )
-
-  pub no_parent : bits key ≡ [] → IsRowAround bits rows key None
-  no_parent none row c h = absurd (omega (arith, h.1, ap length none))
+  pub some_found : (near : Near) → IsNear (map entry_network entries) (entry_network entry) near → (k : Kind)
+      → (note : Option Note) × IsOnlyNote entries i entry (kind_rank k) note
+  some_found near h looked.HostBits = elim (cases_lt (host_part (host_parts entry.host)) 1) [
+    | inl none ↦ (None, no_host_bits entries i entry none)
+    | inr some ↦ (Some (noted HostBits), (refl, refl, some_host_bits entries i entry (λ lt. omega (arith, some, lt))))
+  ]
+  some_found near h looked.Form = form_found entry.is_canonical refl
+  some_found near h looked.Same = same_found near.first h.0
+  some_found near h looked.Outer = outer_found near.outer h.1
+  some_found near h looked.Half = half_found near.half h.2

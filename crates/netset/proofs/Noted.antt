@@ -1,5 +1,5 @@
 -- The findings of lines, one after another.
-use Rattle.std.proofs.Common.{◌≡◌, refl, sym, ◌∙◌, ap, subst, arith, inl, inr, ℕ, ◌+◌, ◌*◌, ◌<◌, ◌≤◌, List, [], ◌∷◌, ◌++◌, length, map, get_or, Some, None, slice_get}
+use Rattle.std.proofs.Common.{◌≡◌, refl, sym, ◌∙◌, ap, subst, arith, inl, inr, ℕ, zero, suc, ◌+◌, ◌*◌, ◌<◌, ◌≤◌, List, [], ◌∷◌, ◌++◌, length, map, get_or, Some, None, slice_get}
 use Rattle.std.specs.List.{Contains}
 use Rattle.std.specs.List.Sorted.{IsStrictlyIncreasing}
 use Rattle.std.proofs.lemmas.Bool.{cases_lt}
@@ -131,3 +131,12 @@ kind_below kind.Form = omega arith
 kind_below kind.Same = omega arith
 kind_below kind.Outer = omega arith
 kind_below kind.Half = omega arith
+
+-- each rank is that of a kind
+pub kind_at : (r : ℕ) → r < 5 → (k : Kind) × (kind_rank k ≡ r)
+kind_at zero low = (kind.HostBits, omega arith)
+kind_at (suc zero) low = (kind.Form, omega arith)
+kind_at (suc (suc zero)) low = (kind.Same, omega arith)
+kind_at (suc (suc (suc zero))) low = (kind.Outer, omega arith)
+kind_at (suc (suc (suc (suc zero)))) low = (kind.Half, omega arith)
+kind_at (suc (suc (suc (suc (suc r))))) low = absurd (omega (arith, low))

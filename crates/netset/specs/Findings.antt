@@ -1,5 +1,5 @@
 -- What `check` finds in the entries of lists.
-use Rattle.std.specs.Prelude.{◌≡◌, ◌≢◌, ◌↔◌, ℕ, ◌+◌, ◌*◌, ◌<◌, ◌≤◌, Bool, false, List, [], ◌++◌, length, map, Contains, slice_get, codes, decimal, Option, Some, None}
+use Rattle.std.specs.Prelude.{◌≡◌, ◌≢◌, ◌↔◌, ℕ, ◌+◌, ◌*◌, ◌<◌, ◌≤◌, Bool, false, List, [], ◌++◌, length, map, Contains, slice_get, codes, decimal, Option, Some, None, Result, Ok, Err}
 use Rattle.std.specs.List.{flat_map}
 use Rattle.std.specs.List.Sorted.{IsStrictlyIncreasing}
 use Rattle.cidr.specs.either.IpHost.{host_network, host_parts}
@@ -12,6 +12,9 @@ use Rattle.cidr.specs.declared.cidr.combined.IpCidr.{IpCidr}
 use Rattle.cidr.specs.declared.cidr.combined.IpCidr.TheVariants.{V4, V6}
 use Rattle.cidr.specs.declared.inet.combined.IpInet.{IpInet}
 use Rattle.cidr_ext.specs.Tree.{AreSiblings}
+use Rattle.cidr_io.specs.Collecting.{Holds}
+use Rattle.cidr_io.specs.Writing.{Answered, Part, State, Whole}
+use Rattle.cidr_io.specs.declared.sink.OutputFailed.{OutputFailed}
 use Rattle.netset.specs.Entries.{AreAllEntries}
 use Rattle.netset.specs.Lists.{Text}
 use Rattle.netset.specs.Printing.{line}
@@ -21,11 +24,8 @@ use Rattle.netset.specs.declared.entries.Entry.{Entry}
 use Rattle.netset.specs.declared.entries.Place.{Place}
 use Rattle.netset.specs.declared.findings.Finding.{Finding}
 use Rattle.netset.specs.declared.findings.Finding.TheVariants.{HostBits, NotCanonical, Repeats, Inside, Mergeable}
-use Rattle.netset.specs.declared.findings.Firsts.{Firsts}
 use Rattle.netset.specs.declared.findings.Kind.{Kind}
 use Rattle.netset.specs.declared.findings.Kind.TheVariants as kind
-use Rattle.netset.specs.declared.findings.LookedUp.{LookedUp}
-use Rattle.netset.specs.declared.findings.Near.{Near}
 use Rattle.netset.specs.declared.findings.Note.{Note}
 
 -- the network of an entry
@@ -121,55 +121,6 @@ IsCheck names texts answer verdict = (entries : List Entry) × AreAllEntries nam
     × (notes : List Note) × AreNotes entries notes × (answer ≡ flat_map note_line notes) × IsClean notes verdict
 
 -- ---- what private functions promise
--- this is the first index of the network
-abbrev pub IsFirstIndex : List IpCidr → IpCidr → ℕ → Type 0
-IsFirstIndex networks network i = (slice_get networks i ≡ Some network) × ((j : ℕ) → slice_get networks j ≡ Some network → i ≤ j)
-
--- the same, or none where the network is not among them
-abbrev pub IsFirstAt : List IpCidr → IpCidr → Option ℕ → Type 0
-IsFirstAt networks network None = (j : ℕ) → ¬ (slice_get networks j ≡ Some network)
-IsFirstAt networks network (Some i) = IsFirstIndex networks network i
-
--- each network of a family with its first index
-abbrev pub AreFirstsOf : (List Bool → IpCidr) → List IpCidr → List (List Bool × ℕ) → Type 0
-AreFirstsOf of networks rows = (row : List Bool × ℕ) → Contains rows row ↔ IsFirstIndex networks (of row.0) row.1
-
--- the same of both families
-abbrev pub AreFirsts : List IpCidr → Firsts → Type 0
-AreFirsts networks firsts = AreFirstsOf V4 networks firsts.v4.rows × AreFirstsOf V6 networks firsts.v6.rows
-
--- the row of the longest key that this one is inside, or none
-abbrev pub IsRowAround : {C : Type 0} → (C → List Bool) → List (C × ℕ) → C → Option ℕ → Type 0
-IsRowAround {C} bits rows key None = (row : C × ℕ) → Contains rows row → ¬ (AreInside (bits key) (bits row.0))
-IsRowAround {C} bits rows key (Some i) = (outer : C) × Contains rows (outer, i) × AreInside (bits key) (bits outer)
-    × ((row : C × ℕ) → Contains rows row → AreInside (bits key) (bits row.0) → length (bits row.0) ≤ length (bits outer))
-
--- the first index of the longest network that this one is inside, or none
-abbrev pub IsAroundAt : List IpCidr → IpCidr → Option ℕ → Type 0
-IsAroundAt networks network None = (j : ℕ) (other : IpCidr) → slice_get networks j ≡ Some other → ¬ (IsInside network other)
-IsAroundAt networks network (Some i) = (outer : IpCidr) × IsFirstIndex networks outer i × IsInside network outer
-    × ((j : ℕ) (other : IpCidr) → slice_get networks j ≡ Some other → IsInside network other
-    → length (network_bits other) ≤ length (network_bits outer))
-
--- the first index of the other half, or none
-abbrev pub IsHalfAt : List IpCidr → IpCidr → Option ℕ → Type 0
-IsHalfAt networks network None = (other : IpCidr) → AreHalves network other → IsFirstAt networks other None
-IsHalfAt networks network (Some i) = (other : IpCidr) × AreHalves network other × IsFirstIndex networks other i
-
--- what stands near a network
-abbrev pub IsNear : List IpCidr → IpCidr → Near → Type 0
-IsNear networks network near = IsAroundAt networks network near.outer × IsHalfAt networks network near.half
-
--- what is kept at an index is near the network there, which stands at no earlier one
-pub record AreNear (networks : List IpCidr) (near : List (Option Near)) : Type 0 where
-  pub size : length near ≡ length networks
-  pub each : (i : ℕ) (one : Near) → slice_get near i ≡ Some (Some one)
-      → (network : IpCidr) × IsFirstIndex networks network i × IsNear networks network one
-
--- what was looked up of networks
-abbrev pub AreLookedUp : List IpCidr → LookedUp → Type 0
-AreLookedUp networks found = AreFirsts networks found.firsts × AreNear networks found.near.items
-
 -- of the findings of this rank none holds, or only this one
 abbrev pub IsOnly : (Finding → Type 0) → ℕ → Option Finding → Type 0
 IsOnly Holds place None = (f : Finding) → rank f ≡ place → ¬ (Holds f)
@@ -193,3 +144,32 @@ kind_rank kind.Half = 4
 pub record AreNotesBelow (entries : List Entry) (bound : ℕ) (notes : List Note) : Type 0 where
   pub all : (note : Note) → Contains notes note ↔ (IsNote entries note × (order note < bound))
   pub ordered : IsStrictlyIncreasing (map order notes)
+
+-- these are written, or collected in the block, and the verdict is of them
+pub record AreNoted (entries : List Entry) (bound : ℕ) (old new : State) (block : List ℕ) (verdict : Verdict) : Type 0 where
+  pub notes : List Note
+  pub below : AreNotesBelow entries bound notes
+  pub held : Holds old new block (flat_map note_line notes)
+  pub clean : IsClean notes verdict
+
+-- a beginning of all findings was written
+abbrev pub AreLost : List Entry → State → State → Type 0
+AreLost entries old new = (notes : List Note) × AreNotes entries notes × Part old new (flat_map note_line notes)
+
+-- the findings before some order, or a beginning of all
+abbrev pub NotesOn : List Entry → ℕ → State → State → List ℕ → Verdict → Result (Unit {0}) OutputFailed → Type 0
+NotesOn entries bound old new block verdict (Ok _) = AreNoted entries bound old new block verdict
+NotesOn entries bound old new block verdict (Err e) = AreLost entries old new
+
+-- all findings, or a beginning of them
+abbrev pub NotesAll : List Entry → State → State → Result Verdict OutputFailed → Type 0
+NotesAll entries old new (Ok verdict) =
+    (notes : List Note) × AreNotes entries notes × IsClean notes verdict × Whole old new (flat_map note_line notes)
+NotesAll entries old new (Err e) = AreLost entries old new
+
+-- all findings are the answer to a sink, which gets nothing if it had failed before
+abbrev pub AnswersNotes : List Entry → State → State → Result Verdict OutputFailed → Type 0
+AnswersNotes entries old new (Ok verdict) = (notes : List Note) × AreNotes entries notes × IsClean notes verdict
+    × Answered old new (flat_map note_line notes) (Ok tt)
+AnswersNotes entries old new (Err e) =
+    (notes : List Note) × AreNotes entries notes × Answered old new (flat_map note_line notes) (Err e)

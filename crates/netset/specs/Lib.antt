@@ -1,5 +1,5 @@
 -- What has to be believed: what lists say, what commands answer, and a run of the program. `Reading`, `Command`,
--- `Gathering`, `Loading`, `Answering` and `LookUps` are what private functions promise.
+-- `Gathering`, `Loading`, `Answering`, `LookUps` and `Nearness` are what private functions promise.
 pub mod Lists
 pub mod Causes
 pub mod Reading
@@ -10,6 +10,7 @@ pub mod Changes
 pub mod Free
 pub mod Entries
 pub mod Findings
+pub mod Nearness
 pub mod Words
 pub mod Matching
 pub mod Look

@@ -1,20 +1,20 @@
 //! The command `check`.
-ghost use Rattle.std.specs.Prelude.{◌≡◌, map};
-ghost use Rattle.std.specs.List.{flat_map};
-ghost use Rattle.cidr_io.specs.Writing.{Answered, Writes};
+ghost use Rattle.std.specs.Prelude.{◌≡◌, ◌<◌, ◌+◌, ◌*◌, length, map, ℕ};
+ghost use Rattle.cidr_io.specs.Writing.{State};
 ghost use Rattle.cidr_io.specs.Collecting.{Collects};
 ghost use Rattle.netset.specs.Commands.{Check};
-ghost use Rattle.netset.specs.Findings.{IsClean, note_line};
+ghost use Rattle.netset.specs.Findings.{AnswersNotes, AreNoted, NotesAll, NotesOn, entry_network, kind_rank, note_line};
+ghost use Rattle.netset.specs.Nearness.{AreNear};
 ghost use Rattle.netset.specs.Program.{AnswersRequest};
 
-use crate::answers::{Verdict, by_output};
-use crate::entries::read_entries;
+use crate::answers::Verdict;
+use crate::entries::{Entry, entry_at, read_entries};
 use crate::errors::CommandError;
 use crate::files::Sources;
-use crate::findings::{Finding, Note, findings_of};
+use crate::findings::{Finding, Kind, Note, find};
+use crate::near::{Near, near_at, near_lines};
 use cidr_io::block::Block;
 use cidr_io::sink::{OutputFailed, Sink};
-use cidr_io::writing::flush;
 use itoa::Buffer;
 use std::alloc::Global;
 
@@ -26,17 +26,14 @@ fn push_note<S: Sink>(block: &mut Block, out: &mut S, note: &Note<'_>) -> Result
     let mut buffer = Buffer::new();
     let number = buffer.format(note.place.number).as_bytes();
     match &note.finding {
-        Finding::HostBits => {
-            block.push_line(out, &[file, b":", number, b": ", b"host bits set", b"\n"])
-        }
+        Finding::HostBits => { block.push_line(out, &[file, b":", number, b": host bits set\n"]) }
         Finding::NotCanonical(host) => block.push_line(
             out,
             &[
                 file,
                 b":",
                 number,
-                b": ",
-                b"not in canonical form: ",
+                b": not in canonical form: ",
                 host.to_text().as_str().as_bytes(),
                 b"\n",
             ],
@@ -47,8 +44,7 @@ fn push_note<S: Sink>(block: &mut Block, out: &mut S, note: &Note<'_>) -> Result
                 file,
                 b":",
                 number,
-                b": ",
-                b"repeats ",
+                b": repeats ",
                 place.file.as_bytes(),
                 b":",
                 Buffer::new().format(place.number).as_bytes(),
@@ -61,8 +57,7 @@ fn push_note<S: Sink>(block: &mut Block, out: &mut S, note: &Note<'_>) -> Result
                 file,
                 b":",
                 number,
-                b": ",
-                b"inside ",
+                b": inside ",
                 outer.to_text().as_str().as_bytes(),
                 b" at ",
                 place.file.as_bytes(),
@@ -77,8 +72,7 @@ fn push_note<S: Sink>(block: &mut Block, out: &mut S, note: &Note<'_>) -> Result
                 file,
                 b":",
                 number,
-                b": ",
-                b"mergeable with ",
+                b": mergeable with ",
                 place.file.as_bytes(),
                 b":",
                 Buffer::new().format(place.number).as_bytes(),
@@ -88,37 +82,93 @@ fn push_note<S: Sink>(block: &mut Block, out: &mut S, note: &Note<'_>) -> Result
     }
 }
 
-/// Writes findings in blocks, one a line.
-fn write_notes<S: Sink>(out: &mut S, notes: &[Note<'_>]) -> Result<(), OutputFailed>
-    ensures { Writes (S.state out.old) (S.state out.new) (flat_map note_line notes.now) result }
-{
-    let mut block = Block::new();
-    for note in notes {
-        push_note(&mut block, out, note)?;
-    }
-    block.write(out)
+/// The findings that are told so far.
+#[derive(Drop)]
+struct Told {
+    /// The lines that are not written yet.
+    block: Block,
+    /// Yes where nothing is found.
+    verdict: Verdict,
 }
 
-/// Writes findings in blocks, one a line, and flushes. An output that has failed before gets nothing.
-fn answer_notes<S: Sink>(out: &mut S, notes: &[Note<'_>]) -> Result<(), OutputFailed>
-    ensures { Answered (S.state out.old) (S.state out.new) (flat_map note_line notes.now) result }
+/// Tells the finding of a kind in a line, if there is one.
+fn tell<S: Sink>(
+    told: &mut Told,
+    out: &mut S,
+    entries: &[Entry<'_>],
+    near: &[Near],
+    index: usize,
+    kind: Kind,
+) -> Result<(), OutputFailed>
+    requires near { AreNear (map entry_network entries.now) near.now }
+    requires within { index < length entries.now }
+    ensures { (start : State) (bound : ℕ) → bound ≡ index * 5 + kind_rank kind
+        → AreNoted entries.now bound start (S.state out.old) told.old.block told.old.verdict
+        → NotesOn entries.now (bound + 1) start (S.state out.new) told.new.block told.new.verdict result }
+{
+    let entry = entry_at(entries, index);
+    let Some(note) = find(kind, entries, near_at(near, entries, index), index, entry) else {
+        return Ok(());
+    };
+    told.verdict = Verdict::No;
+    push_note(&mut told.block, out, &note)
+}
+
+/// Tells the findings of a line.
+fn tell_line<S: Sink>(
+    told: &mut Told,
+    out: &mut S,
+    entries: &[Entry<'_>],
+    near: &[Near],
+    index: usize,
+) -> Result<(), OutputFailed>
+    requires near { AreNear (map entry_network entries.now) near.now }
+    requires within { index < length entries.now }
+    ensures { (start : State)
+        → AreNoted entries.now (index * 5) start (S.state out.old) told.old.block told.old.verdict
+        → NotesOn entries.now (index * 5 + 5) start (S.state out.new) told.new.block told.new.verdict result }
+{
+    tell(told, out, entries, near, index, Kind::HostBits)?;
+    tell(told, out, entries, near, index, Kind::Form)?;
+    tell(told, out, entries, near, index, Kind::Same)?;
+    tell(told, out, entries, near, index, Kind::Outer)?;
+    tell(told, out, entries, near, index, Kind::Half)?;
+    Ok(())
+}
+
+/// Writes the findings of all lines in blocks, one a line, and flushes.
+fn tell_all<S: Sink>(
+    out: &mut S,
+    entries: &[Entry<'_>],
+    near: &[Near],
+) -> Result<Verdict, OutputFailed>
+    requires { AreNear (map entry_network entries.now) near.now }
+    ensures { NotesAll entries.now (S.state out.old) (S.state out.new) result }
+{
+    let mut told = Told {
+        block: Block::new(),
+        verdict: Verdict::Yes,
+    };
+    for index in 0..entries.len() {
+        tell_line(&mut told, out, entries, near, index)?;
+    }
+    told.block.flush(out)?;
+    Ok(told.verdict)
+}
+
+/// Writes the findings of all lines. An output that has failed before gets nothing.
+fn answer<S: Sink>(
+    out: &mut S,
+    entries: &[Entry<'_>],
+    near: &[Near],
+) -> Result<Verdict, OutputFailed>
+    requires { AreNear (map entry_network entries.now) near.now }
+    ensures { AnswersNotes entries.now (S.state out.old) (S.state out.new) result }
 {
     if out.failed() {
         return Err(OutputFailed);
     }
-    write_notes(out, notes)?;
-    flush(out)
-}
-
-/// Yes where nothing is found.
-fn verdict_of(notes: &[Note<'_>]) -> Verdict
-    ensures { IsClean notes.now result }
-{
-    if notes.is_empty() {
-        Verdict::Yes
-    } else {
-        Verdict::No
-    }
+    tell_all(out, entries, near)
 }
 
 /// The command `check`.
@@ -132,9 +182,9 @@ pub fn check<'a, F: Sources, O: Sink>(
         (O.state out.old) (O.state out.new) result }
 {
     let entries = read_entries(alloc, sources, files)?;
-    let notes = findings_of(alloc, entries.as_slice())?;
-    by_output(
-        verdict_of(notes.as_slice()),
-        answer_notes(out, notes.as_slice()),
-    )
+    let near = near_lines(alloc, entries.as_slice())?;
+    match answer(out, entries.as_slice(), near.as_slice()) {
+        Ok(verdict) => Ok(verdict),
+        Err(_) => Err(CommandError::Output),
+    }
 }

@@ -19,6 +19,7 @@ mod lines;
 mod lists;
 mod look;
 mod matching;
+mod near;
 mod operations;
 mod printing;
 mod program;

@@ -1,4 +1,0 @@
-use Rattle.netset.proofs.findings.ready.Goals as goal
-
-pub returns-in-Ok : goal.returns-in-Ok
-returns-in-Ok g c = rw c.in-Ok.ensures.ok c.from_rows.ensures.rows
