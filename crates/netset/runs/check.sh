@@ -182,6 +182,13 @@ rows_of_findings() {
     run 1 $'-:2: inside 10.0.0.0/8 at -:1\n-:3: inside 10.1.0.0/16 at -:2\n-:4: repeats -:2\n-:4: inside 10.0.0.0/8 at -:1\n' \
         '' '10.0.0.0/8\n10.1.0.0/16\n10.1.2.3\n10.1.0.0/16' check
     run 1 $'-:2: mergeable with -:1\n' '' '10.128.0.0/9\n10.0.0.0/9' check
+    # forms in which a prefix length is read, and is not printed
+    run 1 $'-:2: not in canonical form: 20.0.0.0/8\n-:3: not in canonical form: 30.0.0.0/8\n-:4: not in canonical form: 40.0.0.0/16\n-:5: not in canonical form: 50.0.0.0/16\n-:6: not in canonical form: 60.0.0.1\n-:7: not in canonical form: 70.0.0.1\n' \
+        '' '10.0.0.0/8\n20.0.0.0/08\n30.0.0.0/+8\n40.0.0.0/+16\n50.0.0.0/016\n60.0.0.1/032\n70.0.0.1/+32\n80.0.0.0/16\n90.0.0.1' check
+    run 1 $'-:1: not in canonical form: 0.0.0.0/0\n' '' '0.0.0.0/00' check
+    # halves and what is around them, each behind and in front of others
+    run 1 $'-:1: inside 10.0.0.0/8 at -:7\n-:2: inside 10.0.0.0/9 at -:4\n-:3: inside 10.0.0.0/10 at -:2\n-:4: inside 10.0.0.0/8 at -:7\n-:4: mergeable with -:1\n-:5: inside 10.0.0.0/9 at -:4\n-:5: mergeable with -:2\n-:7: mergeable with -:6\n' \
+        '' '10.128.0.0/9\n10.0.0.0/10\n10.0.0.0/12\n10.0.0.0/9\n10.64.0.0/10\n11.0.0.0/8\n10.0.0.0/8' check
     run 1 $'-:1: mergeable with ten:1\n' '' '11.0.0.0/8' check ten -
     run 1 $'ten:1: repeats ten:1\n' '' '' check ten ten
     run 1 $'-:2: inside 2001:db8::/32 at -:1\n-:3: inside 2001:db8::/32 at -:1\n-:3: mergeable with -:2\n-:4: host bits set\n-:4: not in canonical form: 2001:db8:8000::5/33\n-:4: repeats -:3\n-:4: inside 2001:db8::/32 at -:1\n-:4: mergeable with -:2\n' \
