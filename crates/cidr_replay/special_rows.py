@@ -1,66 +1,67 @@
-"""Rows of what addresses are for. The registries of IANA stand here once more, by network, as of May 2025: RFC, purpose,
-and the columns source, destination, forwardable, globally reachable and reserved by protocol, with - for N/A."""
+"""Rows of what addresses are for, by the registries of IANA, which `registries.txt` has a second time."""
+import re
 from ipaddress import ip_address, ip_network
+from pathlib import Path
 from random import Random
 
 from network_rows import address_of
 from shown import boolean, option, printed
 
-REGISTRIES = """
-0.0.0.0/8           791 ThisNetwork                TFFFT
-0.0.0.0/32         1122 Unspecified                TFFFT
-10.0.0.0/8         1918 PrivateUse                 TTTFF
-100.64.0.0/10      6598 SharedAddressSpace         TTTFF
-127.0.0.0/8        1122 Loopback                   FFFFT
-169.254.0.0/16     3927 LinkLocal                  TTFFT
-172.16.0.0/12      1918 PrivateUse                 TTTFF
-192.0.0.0/24       6890 ProtocolAssignments        FFFFF
-192.0.0.0/29       7335 ServiceContinuity          TTTFF
-192.0.0.8/32       7600 Dummy                      TFFFF
-192.0.0.9/32       7723 PortControlAnycast         TTTTF
-192.0.0.10/32      8155 TurnAnycast                TTTTF
-192.0.0.170/32     7050 Nat64Discovery             FFFFT
-192.0.0.171/32     7050 Nat64Discovery             FFFFT
-192.0.2.0/24       5737 Documentation              FFFFF
-192.31.196.0/24    7535 As112                      TTTTF
-192.52.193.0/24    7450 MulticastTunneling         TTTTF
-192.88.99.0/24     7526 SixToFourRelay             -----
-192.88.99.2/32     6751 SixA44Relay                TTTFF
-192.168.0.0/16     1918 PrivateUse                 TTTFF
-192.175.48.0/24    7534 DirectAs112                TTTTF
-198.18.0.0/15      2544 Benchmarking               TTTFF
-198.51.100.0/24    5737 Documentation              FFFFF
-203.0.113.0/24     5737 Documentation              FFFFF
-240.0.0.0/4        1112 Reserved                   FFFFT
-255.255.255.255/32  919 LimitedBroadcast           FTFFT
-::1/128            4291 Loopback                   FFFFT
-::/128             4291 Unspecified                TFFFT
-::ffff:0:0/96      4291 Ipv4Mapped                 FFFFT
-64:ff9b::/96       6052 Translation                TTTTF
-64:ff9b:1::/48     8215 Translation                TTTFF
-100::/64           6666 DiscardOnly                TTTFF
-100:0:0:1::/64     9780 Dummy                      TFFFF
-2001::/23          2928 ProtocolAssignments        FFFFF
-2001::/32          4380 Teredo                     TTT-F
-2001:1::1/128      7723 PortControlAnycast         TTTTF
-2001:1::2/128      8155 TurnAnycast                TTTTF
-2001:1::3/128      9665 ServiceRegistrationAnycast TTTTF
-2001:2::/48        5180 Benchmarking               TTTFF
-2001:3::/32        7450 MulticastTunneling         TTTTF
-2001:4:112::/48    7535 As112                      TTTTF
-2001:10::/28       4843 DeprecatedOrchid           -----
-2001:20::/28       7343 OrchidV2                   TTTTF
-2001:30::/28       9374 DroneRemoteId              TTTTF
-2001:db8::/32      3849 Documentation              FFFFF
-2002::/16          3056 SixToFour                  TTT-F
-2620:4f:8000::/48  7534 DirectAs112                TTTTF
-3fff::/20          9637 Documentation              FFFFF
-5f00::/16          9602 SegmentRouting             TTTFF
-fc00::/7           4193 UniqueLocal                TTTFF
-fe80::/10          4291 LinkLocal                  TTFFT
-"""
-LINES = map(str.split, REGISTRIES.strip().split("\n"))
-ENTRIES = [(ip_network(net), int(rfc), purpose, columns) for net, rfc, purpose, columns in LINES]
+# The name of an entry in the registries, and its purpose.
+NAMES = {
+    '"This network"': "ThisNetwork",
+    '"This host on this network"': "Unspecified",
+    "Unspecified Address": "Unspecified",
+    "Private-Use": "PrivateUse",
+    "Unique-Local": "UniqueLocal",
+    "Shared Address Space": "SharedAddressSpace",
+    "Loopback": "Loopback",
+    "Loopback Address": "Loopback",
+    "Link Local": "LinkLocal",
+    "Link-Local Unicast": "LinkLocal",
+    "IETF Protocol Assignments": "ProtocolAssignments",
+    "IPv4 Service Continuity Prefix": "ServiceContinuity",
+    "IPv4 dummy address": "Dummy",
+    "Dummy IPv6 Prefix": "Dummy",
+    "Port Control Protocol Anycast": "PortControlAnycast",
+    "Traversal Using Relays around NAT Anycast": "TurnAnycast",
+    "DNS-SD Service Registration Protocol Anycast": "ServiceRegistrationAnycast",
+    "NAT64/DNS64 Discovery": "Nat64Discovery",
+    "Documentation": "Documentation",
+    "Documentation (TEST-NET-1)": "Documentation",
+    "Documentation (TEST-NET-2)": "Documentation",
+    "Documentation (TEST-NET-3)": "Documentation",
+    "AS112-v4": "As112",
+    "AS112-v6": "As112",
+    "Direct Delegation AS112 Service": "DirectAs112",
+    "AMT": "MulticastTunneling",
+    "Deprecated (6to4 Relay Anycast)": "SixToFourRelay",
+    "6a44-relay anycast address": "SixA44Relay",
+    "6to4": "SixToFour",
+    "Benchmarking": "Benchmarking",
+    "Reserved": "Reserved",
+    "Limited Broadcast": "LimitedBroadcast",
+    "IPv4-mapped Address": "Ipv4Mapped",
+    "IPv4-IPv6 Translat.": "Translation",
+    "Discard-Only Address Block": "DiscardOnly",
+    "TEREDO": "Teredo",
+    "Deprecated (previously ORCHID)": "DeprecatedOrchid",
+    "ORCHIDv2": "OrchidV2",
+    "Drone Remote ID Protocol Entity Tags (DETs) Prefix": "DroneRemoteId",
+    "Segment Routing (SRv6) SIDs": "SegmentRouting",
+}
+LINE = re.compile(r"(\S+) +\d{4}-\d\d(?: \d{4}-\d\d)? +([TF-](?: [TF-]){4})  ([\d,]+) +(\S.*)")
+
+
+def entries():
+    """The entries, each with the first of its RFCs to be published, its purpose and its columns."""
+    for line in (Path(__file__).parent / "registries.txt").read_text().splitlines():
+        if line and not line.startswith("#"):
+            net, columns, rfcs, name = LINE.fullmatch(line).groups()
+            yield ip_network(net), min(map(int, rfcs.split(","))), NAMES[name], columns.replace(" ", "")
+
+
+ENTRIES = list(entries())
 COLUMNS = ["source", "destination", "forwardable", "globally_reachable", "reserved_by_protocol"]
 SAID = {"T": "Some(true)", "F": "Some(false)", "-": "None"}
 PURPOSES = {
