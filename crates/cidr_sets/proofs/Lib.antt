@@ -8,6 +8,7 @@ pub mod Equality
 pub mod Algebra
 pub mod Members
 pub mod FirstRules
+pub mod Widths
 pub mod Free
 pub mod AddressWalks
 pub mod AddressIndexes

@@ -3,11 +3,14 @@
 ghost use Rattle.std.specs.Prelude.{◌≡◌, ◌↔◌, ◌≤◌, [], ℕ, Bool, List, length, map};
 ghost use Rattle.std.specs.Cmp.Lexicographic.{pointwise};
 ghost use Rattle.cidr.specs.either.IpAddress.{TellsEqual};
-ghost use Rattle.cidr_table.specs.Cover.{Covers, CoverSame, IsFull};
+ghost use Rattle.cidr_table.specs.Cover.{AreNetworks, Covers, CoverSame, IsFull};
 ghost use Rattle.cidr_table.specs.Cover.{IsReduced};
+ghost use Rattle.cidr_table.specs.CoverAddresses.{AreIpNetworks, IsIpAddress};
 ghost use Rattle.cidr_sets.specs.Counts.{AreAddresses};
+ghost use Rattle.cidr_sets.specs.FirstRules.{IsPermitted};
 ghost use Rattle.cidr_sets.specs.Ranges.{AreRanges, IsInSome};
 ghost use Rattle.cidr_sets.specs.Sets.{IsSetOf};
+ghost use Rattle.cidr_sets.specs.declared.access.Action.{Action};
 
 use cidr::NetworkBits;
 
@@ -46,4 +49,16 @@ pub fn sets_are_their_ranges()
 pub fn addresses_are_one_list()
     ensures { (w : ℕ) (networks these those : List (List Bool)) → AreAddresses w networks these
         → AreAddresses w networks those → these ≡ those }
+{}
+
+/// The set of what an access list permits, as [`permitted`](crate::access::permitted) gives it by lists of 129 bits,
+/// has an address exactly if the first rule whose network contains the address permits it: an address of `v` bits, as
+/// 32 in IPv4 and 128 in IPv6, by `width`, and one of either family by `ip`.
+pub fn permitted_sets_decide_addresses()
+    ensures width { (w v : ℕ) (networks set : List (List Bool)) (actions : List Action) → v ≤ w
+        → AreNetworks v networks → IsSetOf w (IsPermitted networks actions) set
+        → IsSetOf v (IsPermitted networks actions) set }
+    ensures ip { (networks set : List (List Bool)) (actions : List Action) → AreIpNetworks networks
+        → IsSetOf 129 (IsPermitted networks actions) set
+        → (a : List Bool) → IsIpAddress a → Covers set a ↔ IsPermitted networks actions a }
 {}
