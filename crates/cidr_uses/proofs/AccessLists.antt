@@ -1,6 +1,10 @@
--- The rules that decide the addresses of a rule that none reaches.
-use Rattle.std.proofs.Common.{◌≡◌, ◌↔◌, ℕ, ◌<◌, Bool, List, [], ◌∷◌, length, get_or, map, sym, ap, ◌∙◌, subst, arith, Some, None}
+-- The rules that decide the addresses of a rule that none reaches, and what holds of the network of each rule.
+use Rattle.std.proofs.Common.{◌≡◌, ◌↔◌, ℕ, ◌+◌, ◌<◌, Bool, true, false, List, [], ◌∷◌, ◌++◌, length, get_or, map, take, refl, sym, ap, ◌∙◌, subst, arith, inl, inr, Some, None}
+use Rattle.std.proofs.lemmas.Bool.{false≢true}
+use Rattle.std.proofs.lemmas.List.{map-append, take_more}
+use Rattle.std.proofs.lemmas.List.Elements.{Contains-push_cases}
 use Rattle.std.proofs.lemmas.Option.{none-some, same_Some, slice_get-get_or, slice_get-map}
+use Rattle.std.specs.Bool.{Decides, beq}
 use Rattle.std.specs.List.{Contains, slice_get}
 use Rattle.std.specs.Option.{option_map}
 use Rattle.cidr.specs.model.Network.{BeginsWith}
@@ -34,3 +38,22 @@ module _ {R : Type 0} (f : R → List Bool) (xs : List R) (i : ℕ) (d : R) (her
         let k = some (map f xs) i p a e b in
         (k.0, (h k.0).1 (a, la, subst (BeginsWith a) (same_Some p network (sym e ∙ there)) b, k.1), k.1);
   }
+
+-- ---- what holds of the network of each rule
+module _ {R : Type 0} (f : R → List Bool) (Holds : List Bool → Type 0) (xs : List R) (i : ℕ) (r : R) where
+  pub one_more : i < length xs → r ≡ get_or xs i r → ((p : List Bool) → Contains (map f (take i xs)) p → Holds p) → Holds (f r)
+      → (p : List Bool) → Contains (map f (take (i + 1) xs)) p → Holds p
+  one_more here is old holds p c =
+      let split : map f (take (i + 1) xs) ≡ map f (take i xs) ++ f r ∷ [] =
+      ap (map f) (take_more xs i r here) ∙ map-append f (take i xs) (get_or xs i r ∷ []) ∙ ap (λ x. map f (take i xs) ++ f x ∷ []) (sym is) in
+      elim (Contains-push_cases (map f (take i xs)) (f r) p (subst (λ l. Contains l p) split c)) [
+        | inl d ↦ old p d
+        | inr e ↦ subst Holds e holds
+      ]
+
+-- two answers to one question are the same
+pub same_answer : (Holds : Type 0) (one other : Bool) → Decides one Holds → Decides other Holds → beq one other ≡ true
+same_answer Holds true true h k = refl
+same_answer Holds true false h k = absurd (false≢true (k.1 (h.0 refl)))
+same_answer Holds false true h k = absurd (false≢true (h.1 (k.0 refl)))
+same_answer Holds false false h k = refl

@@ -1,15 +1,17 @@
 //! An access list: which addresses may connect.
 ghost use Rattle.std.specs.Prelude.{◌≡◌, ◌↔◌, Bool, List, ℕ, IfOk, IsTrue, MatchOption, length, map};
+ghost use Rattle.std.specs.Bool.{Decides};
 ghost use Rattle.std.specs.List.{All, Any};
+ghost use Rattle.cidr_table.specs.Cover.{AreNetworks};
 ghost use Rattle.cidr_sets.specs.FirstRules.{IsPermitted, IsShadowed};
 ghost use Rattle.cidr_uses.specs.AccessList.{Matches, IsFirstMatch, AreDeciders};
 
-use cidr::{AnyIpCidr, IpAddr, NetworkBits};
+use cidr::{AnyIpCidr, IpAddr, Ipv4Addr, Ipv4Cidr, NetworkBits};
 use cidr_sets::access::{
-    Rule, deciding, equal_sets_permit_the_same, permitted, shadowed,
+    Rule, deciding, equal_sets_permit_the_same, permits, permitted, shadowed,
     shadowed_rules_are_decided_earlier,
 };
-use cidr_sets::laws::equal_sets_are_the_same;
+use cidr_sets::laws::{equal_sets_are_the_same, permitted_sets_decide_addresses};
 use std::alloc::{AllocError, Global};
 
 /// Whether some entry of the list matches the address. An empty list allows none, and the entry `any` allows every
@@ -66,5 +68,44 @@ pub fn first_shadowed<C: NetworkBits + Copy>(
             Ok(Some((*index, earlier)))
         }
         None => Ok(None),
+    }
+}
+
+/// Whether the rules permit an IPv4 address, asked of the set of all that they permit: exactly if the first rule whose
+/// network contains the address permits it.
+pub fn may_connect(
+    alloc: Global,
+    rules: &[Rule<Ipv4Cidr>],
+    address: Ipv4Addr,
+) -> Result<bool, AllocError>
+    ensures { IfOk result (λ may.
+        Decides may (IsPermitted (map (λ r. r.network) rules.now) (map (λ r. r.action) rules.now) address)) }
+{
+    // the calls tell the proof what the set says of one address, and how long the networks are
+    permitted_sets_decide_addresses();
+    have_32_bits(rules);
+    let set = permitted(alloc, rules)?;
+    Ok(set.contains(&Ipv4Cidr::new_host(address)))
+}
+
+/// Whether the set of all that the rules permit and the rules themselves say the same of an IPv4 address, which they
+/// do.
+pub fn set_and_rules_agree(
+    alloc: Global,
+    rules: &[Rule<Ipv4Cidr>],
+    address: Ipv4Addr,
+) -> Result<bool, AllocError>
+    ensures { IfOk result (λ same. IsTrue same) }
+{
+    let may = may_connect(alloc, rules, address)?;
+    Ok(may == permits(rules, &Ipv4Cidr::new_host(address)))
+}
+
+/// The networks of the rules have at most 32 bits each, which a proof gets from the call.
+fn have_32_bits(rules: &[Rule<Ipv4Cidr>])
+    ensures { AreNetworks 32 (map (λ r. r.network) rules.now) }
+{
+    for rule in rules {
+        rule.network.network_length();
     }
 }
