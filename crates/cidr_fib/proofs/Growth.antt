@@ -15,7 +15,7 @@ none_past (x ∷ xs) zero l = absurd (omega arith)
 none_past (x ∷ xs) (suc i) l = none_past xs i (omega arith)
 
 -- the last of a list with one more
-last_of_more : (xs : List ℕ) (x i : ℕ) → i ≡ length xs → get_or (xs ++ x ∷ []) i 0 ≡ x
+pub last_of_more : (xs : List ℕ) (x i : ℕ) → i ≡ length xs → get_or (xs ++ x ∷ []) i 0 ≡ x
 last_of_more xs x i e =
     let none : i - length xs ≡ 0 = omega arith in
     get_or-append_right xs (x ∷ []) (length xs) i 0 refl (omega arith) ∙ ap (λ k. get_or (x ∷ []) k 0) none

@@ -1,5 +1,6 @@
--- The lemmas: first bits as numbers, keys in order, ranges as they grow, and what a range says.
+-- The lemmas: first bits as numbers, keys in order, ranges as they grow, what a range says, and ranges by parts.
 pub mod Leadings
 pub mod Order
 pub mod Growth
 pub mod Found
+pub mod Lows

@@ -1,7 +1,9 @@
 -- Ranges of the numbers that the first 64 bits of a look-up key can be. A range begins with its start, and ends before
 -- the next one's start, or before 2 ^ 64.
-use Rattle.std.specs.Prelude.{◌≡◌, ℕ, ◌+◌, ◌-◌, ◌*◌, ◌^◌, ◌<◌, ◌≤◌, ◌⊎◌, Bool, List, Some, None, length, map, slice_get, slice_index_or}
+use Rattle.std.specs.Prelude.{◌≡◌, ℕ, ◌+◌, ◌-◌, ◌*◌, ◌%◌, ◌^◌, ◌<◌, ◌≤◌, ◌⊎◌, Bool, List, Some, None, length, map, slice_get, slice_index_or}
 use Rattle.cidr.specs.model.BitString.{leading}
+use Rattle.cidr_fib.specs.declared.find.Ranges.{Ranges}
+use Rattle.cidr_fib.specs.declared.find.Ranges.TheVariants.{Whole, Parted}
 use Rattle.cidr_fib.specs.declared.starts.Starts.{Starts}
 use Rattle.cidr_fib.specs.declared.starts.Starts.TheVariants.{Narrow, Wide}
 use Rattle.cidr_table.specs.Prefixes.{IsValueLookedUp}
@@ -21,6 +23,23 @@ pub record IsRangeOf (starts : List ℕ) (first last k : ℕ) : Type 0 where
   pub from : slice_index_or starts k 0 ≤ first
   pub to : last < slice_index_or starts (k + 1) (2 ^ 64)
 
+-- for each first 16 bits, how many of the starts of 32 bits come before all that have them
+pub record AreFirsts (starts firsts : List ℕ) : Type 0 where
+  pub before : (p i : ℕ) → p < length firsts → i < slice_index_or firsts p 0 → slice_index_or starts i 0 < p * 2 ^ 16
+  pub behind : (p i : ℕ) → p < length firsts → slice_index_or firsts p 0 ≤ i → i < length starts
+      → p * 2 ^ 16 ≤ slice_index_or starts i 0
+
+-- and the last 16 bits of each
+pub record AreParted (starts firsts lows : List ℕ) : Type 0 where
+  pub front : AreFirsts starts firsts
+  pub back : lows ≡ map (λ start. start % 2 ^ 16) starts
+
+-- ranges with these starts and codes
+abbrev pub AreCoded : (starts codes : List ℕ) → Ranges → Type 0
+AreCoded starts codes (Whole ranges) = (numbers ranges.starts ≡ starts) × (ranges.codes.items ≡ codes)
+AreCoded starts codes (Parted ranges) = (ranges.codes.items ≡ codes)
+    × ((narrow : List ℕ) × (map (λ start. start * 2 ^ 32) narrow ≡ starts) × AreParted narrow ranges.firsts.items ranges.lows.items)
+
 -- the code of a range of these numbers, or the one that says nothing
 abbrev pub IsFound : (starts codes : List ℕ) (first last code : ℕ) → Type 0
 IsFound starts codes first last code =
@@ -36,6 +55,10 @@ module _ {C : Type 0} (bits : C → List Bool) (rows : List (C × ℕ)) where
   abbrev pub AreAnswers : (starts codes : List ℕ) → Type 0
   AreAnswers starts codes = (asked : List Bool) (k : ℕ) → IsRangeOf starts (leading asked) (last_leading asked) k
       → IsAnswer asked (slice_index_or codes k 0)
+
+  -- ranges whose codes are such answers
+  abbrev pub HaveAnswers : Ranges → Type 0
+  HaveAnswers ranges = (starts : List ℕ) × (codes : List ℕ) × AreCoded starts codes ranges × AreAnswers starts codes
 
   -- the code of a range by how many rows there are up to that of its longest match, or 0 where there is none: the value
   -- of that row only where its key has at most 64 bits

@@ -1,14 +1,16 @@
 //! The value of the longest match, by ranges.
-ghost use Rattle.std.specs.Prelude.{◌≡◌, ◌+◌, ◌-◌, ◌*◌, ◌^◌, ◌<◌, ◌≤◌, ◌⊎◌, length, map, position, IfOk, IfErr, IsTrue};
+ghost use Rattle.std.specs.Prelude.{◌≡◌, ℕ, ◌+◌, ◌-◌, ◌*◌, ◌^◌, ◌<◌, ◌≤◌, ◌⊎◌, List, length, map, position, IfOk, IfErr, IsTrue};
 ghost use Rattle.std.specs.List.Sorted.{IsStrictlySortedBy};
 ghost use Rattle.std.specs.Map.{keys_of};
 ghost use Rattle.cidr_table.specs.Prefixes.{IsValueLookedUp};
 ghost use Rattle.cidr_fib.specs.Errors.{is_too_large, IsRefused};
-ghost use Rattle.cidr_fib.specs.Ranges.{numbers, AreAnswers, IsFound, IsRangeOf};
+ghost use Rattle.cidr_fib.specs.Growth.{IsAscending};
+ghost use Rattle.cidr_fib.specs.Ranges.{numbers, AreCoded, HaveAnswers, IsFound, IsRangeOf};
 
 use crate::codes::{NOTHING, SEARCH, put_codes};
 use crate::error::ForwardingError;
 use crate::level::FirstLevel;
+use crate::parts::PartedRanges;
 use crate::ranges::{Ends, last_bits, ranges_of};
 use crate::starts::{Start, Starts};
 use cidr::NetworkBits;
@@ -17,10 +19,17 @@ use std::alloc::{AllocError, Global};
 
 /// The ranges of a table, each with a code.
 #[derive(Drop)]
-pub(crate) struct Ranges {
+pub(crate) enum Ranges {
+    Whole(WholeRanges),
+    Parted(PartedRanges),
+}
+
+/// Ranges whose starts are kept whole, each with a code.
+#[derive(Drop)]
+pub(crate) struct WholeRanges {
     /// The number that each range begins with.
-    pub(crate) starts: Starts,
-    pub(crate) codes: Vec<u32>,
+    starts: Starts,
+    codes: Vec<u32>,
     /// About where to search. A look-up tests what it finds.
     level: FirstLevel,
 }
@@ -30,7 +39,7 @@ pub(crate) fn answers_of<C: NetworkBits + Copy>(
     alloc: Global,
     table: &LpmTable<C, u32>,
 ) -> Result<Ranges, ForwardingError>
-    ensures answers { IfOk result (λ ranges. AreAnswers C.bits table.now.rows (numbers ranges.starts) ranges.codes.items) }
+    ensures answers { IfOk result (λ ranges. HaveAnswers C.bits table.now.rows ranges) }
     ensures refused { IfErr result (IsRefused table.now.rows) }
 {
     let rows = table.iter().as_slice();
@@ -60,7 +69,7 @@ pub(crate) fn found<C: NetworkBits + Copy>(
     ranges: &Ranges,
     asked: &C,
 ) -> Option<u32>
-    requires { AreAnswers C.bits table.now.rows (numbers ranges.now.starts) ranges.now.codes.items }
+    requires { HaveAnswers C.bits table.now.rows ranges.now }
     ensures { IsValueLookedUp C.bits (C.bits asked.now) table.now.rows result }
 {
     let code = ranges.code(asked.first_bits(), last_bits(asked));
@@ -89,19 +98,47 @@ impl Ranges {
     fn of<C: NetworkBits + Copy>(alloc: Global, rows: &[(C, u32)]) -> Result<Ranges, AllocError>
         requires sorted { IsStrictlySortedBy C.cmp (keys_of rows.now) }
         requires few { length rows.now < 2 ^ 32 - 1 }
-        ensures { IfOk result (λ ranges. AreAnswers C.bits rows.now (numbers ranges.starts) ranges.codes.items) }
+        ensures { IfOk result (λ ranges. HaveAnswers C.bits rows.now ranges) }
     {
         let Ends { starts, ends } = ranges_of(alloc, rows)?;
         let mut codes = ends;
         put_codes(rows, codes.as_mut_slice());
+        let ranges = Ranges::with_codes(alloc, starts, codes)?;
+        Ok(ranges)
+    }
+
+    /// The ranges with these starts and codes, in the form that takes less memory.
+    fn with_codes(alloc: Global, starts: Starts, codes: Vec<u32>) -> Result<Ranges, AllocError>
+        requires { IsAscending (numbers starts) }
+        ensures { IfOk result (λ ranges. AreCoded (numbers starts) codes.items ranges) }
+    {
+        if let Starts::Narrow(narrow) = &starts {
+            if PartedRanges::fits(narrow.len()) {
+                let ranges = PartedRanges::of(alloc, narrow.as_slice(), codes)?;
+                return Ok(Ranges::Parted(ranges));
+            }
+        }
         let level = FirstLevel::of(alloc, &starts)?;
-        Ok(Ranges {
+        Ok(Ranges::Whole(WholeRanges {
             starts,
             codes,
             level,
-        })
+        }))
     }
 
+    /// The code of the range that has all numbers from the first to the last, or `SEARCH` where none is found.
+    #[inline(always)]
+    fn code(&self, first: u64, last: u64) -> u32
+        ensures { (starts codes : List ℕ) → AreCoded starts codes self.now → IsFound starts codes first last result }
+    {
+        match self {
+            Ranges::Whole(ranges) => ranges.code(first, last),
+            Ranges::Parted(ranges) => ranges.code(first, last),
+        }
+    }
+}
+
+impl WholeRanges {
     /// The code of the range that has all numbers from the first to the last, or `SEARCH` where none is found.
     #[inline(always)]
     fn code(&self, first: u64, last: u64) -> u32

@@ -107,22 +107,27 @@ impl FirstLevel {
     /// About which range the number is in.
     #[inline(always)]
     pub(crate) fn find<N: Start>(&self, starts: &[N], number: u64) -> usize {
-        let (mut at, last) = match self.around(number) {
+        let (from, to) = match self.around(number) {
             Some(both) => both,
             None => (0, starts.len().saturating_sub(1)),
         };
-        if at > last || last >= starts.len() {
+        if from > to || to >= starts.len() {
             return starts.len();
         }
-        let mut left = last - at + 1;
-        while left > 1 {
+        let mut at = from;
+        let mut left = to - from + 1;
+        while left > 8 {
             let half = left / 2;
-            if starts[at + half].is_upto(number) {
-                at += half;
-            }
+            let next = at + half;
+            let is_upto = starts[next].is_upto(number);
+            at = if is_upto { next } else { at };
             left -= half;
         }
-        at
+        // Of eight ranges three steps find one. They are taken for fewer too: a branch on how many there are left, or on
+        // what a step finds, would cost more, since no processor could foresee it.
+        at = later(starts, at, at.wrapping_add(4).min(to), number);
+        at = later(starts, at, at.wrapping_add(2).min(to), number);
+        later(starts, at, at.wrapping_add(1).min(to), number)
     }
 
     /// About between which ranges it is.
@@ -150,6 +155,15 @@ impl FirstLevel {
         let entry = (behind_part >> 1).wrapping_shr(63u32.wrapping_sub(bits));
         Some((begin as usize).wrapping_add(entry as usize))
     }
+}
+
+/// The later range of two, if it begins at most with the number, and else the other.
+#[inline(always)]
+fn later<N: Start>(starts: &[N], at: usize, next: usize, number: u64) -> usize
+    requires { next < length starts.now }
+{
+    let is_upto = starts[next].is_upto(number);
+    if is_upto { next } else { at }
 }
 
 /// The number, which is less than 2^32.

@@ -14,14 +14,15 @@
 //! The rows are those of an `LpmTable` whose values are next hops or indices of a list of yours, from 0 to 4,294,967,293.
 //! They are changed in that table, which [`into_table`](ForwardingTable::into_table) gives back.
 //!
-//! Only `new` allocates. `lookups` of `LpmTable` returns rows in place of values, and takes half the
-//! memory.
+//! Only `new` allocates. Who wants rows in place of values takes `lookups` of `LpmTable`, and who changes rows between
+//! look-ups its `lookup`.
 #![tactic(auto)]
 
 mod codes;
 mod error;
 mod find;
 mod level;
+mod parts;
 mod ranges;
 mod starts;
 mod table;

@@ -3,7 +3,7 @@ ghost use Rattle.std.specs.Prelude.{◌≡◌, ℕ, ◌+◌, ◌-◌, ◌^◌, �
 ghost use Rattle.std.specs.List.Sorted.{IsStrictlySortedBy};
 ghost use Rattle.std.specs.Map.{keys_of};
 ghost use Rattle.cidr.specs.model.BitString.{leading};
-ghost use Rattle.cidr_fib.specs.Growth.{AreRanges, AreFilled, AreGrowing, IsBegun, last_of};
+ghost use Rattle.cidr_fib.specs.Growth.{AreRanges, AreFilled, AreGrowing, IsAscending, IsBegun, last_of};
 ghost use Rattle.cidr_fib.specs.Ranges.{last_leading, numbers};
 
 use crate::starts::Starts;
@@ -40,6 +40,7 @@ pub(crate) fn ranges_of<C: NetworkBits + Copy>(
     requires sorted { IsStrictlySortedBy C.cmp (keys_of rows.now) }
     requires few { length rows.now < 2 ^ 32 - 1 }
     ensures both { IfOk result (λ ranges. length ranges.ends.items ≡ length (numbers ranges.starts)) }
+    ensures ascending { IfOk result (λ ranges. IsAscending (numbers ranges.starts)) }
     ensures ranges { IfOk result (λ ranges. AreRanges C.bits (keys_of rows.now) (length rows.now) (numbers ranges.starts) ranges.ends.items) }
     ensures filled { IfOk result (λ ranges. AreFilled C.bits (keys_of rows.now) (length rows.now) (numbers ranges.starts) ranges.ends.items) }
 {

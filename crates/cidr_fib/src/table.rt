@@ -10,8 +10,8 @@ use cidr_table::LpmTable;
 use std::alloc::Global;
 use std::marker::Model;
 
-/// A table made ready for look-ups of values, which it owns: its ranges, at most two for each row and one more, with
-/// eight bytes each where no key has more than 32 bits, and else twelve, and an index of their first bits.
+/// A table made ready for look-ups of values, which it owns: its ranges, at most two for each row and one more, with six
+/// or eight bytes each where no key has more than 32 bits, and else twelve, and an index of their first bits.
 #[derive(Drop)]
 pub struct ForwardingTable<C: NetworkBits + Copy> {
     table: LpmTable<C, u32>,
@@ -21,19 +21,19 @@ pub struct ForwardingTable<C: NetworkBits + Copy> {
 impl<C: NetworkBits + Copy> Model for ForwardingTable<C> {
     ghost use Rattle.std.specs.Prelude.{ℕ};
     ghost use Rattle.cidr_table.specs.FiniteMap.{StoredRows};
-    ghost use Rattle.cidr_fib.specs.Ranges.{numbers, AreAnswers};
+    ghost use Rattle.cidr_fib.specs.Ranges.{HaveAnswers};
 
     ghost Value = { StoredRows C ℕ };
 
     ghost view = { λ t. t.table };
 
-    ghost invariant = { λ t. AreAnswers C.bits t.table.rows (numbers t.ranges.starts) t.ranges.codes.items };
+    ghost invariant = { λ t. HaveAnswers C.bits t.table.rows t.ranges };
 }
 
 impl<C: NetworkBits + Copy> ForwardingTable<C> {
     /// The table, made ready: O(n) for n rows, which are gone through a few times. It allocates 16 bytes a row, or 24
-    /// where a key has more than 32 bits, gives back what the ranges don't take, and allocates an index of at most 8
-    /// bytes a range.
+    /// where a key has more than 32 bits, gives back what the ranges don't take, and allocates at most 8 bytes a range
+    /// more. Many ranges of keys of at most 32 bits take six bytes each in the end.
     ///
     /// The error comes with the table as it was: first where there are more than 4,294,967,294 rows, then for the first
     /// value above 4,294,967,293, and then where an allocation fails.
@@ -60,8 +60,8 @@ impl<C: NetworkBits + Copy> ForwardingTable<C> {
     /// forwarding table (RFC 1812, 5.2.4.3). An address is looked up as the network of full prefix length.
     ///
     /// It is one search among the starts of ranges, O(log n) at most and a few steps for most addresses. Where the
-    /// longest match has more than 64 bits, and for a network whose parts have different matches, it is a `lookup` in
-    /// the table.
+    /// longest match has more than 64 bits, for a network whose parts have different matches, and for some of fewer than
+    /// 16 bits, it is a `lookup` in the table.
     ///
     /// ```
     /// ready.find(&"10.0.0.0/15".parse()?) // Some(2)

@@ -33,6 +33,9 @@ close-requires g c =
 pub returns-clause-both : goal.returns-clause-both
 returns-clause-both g c = rw (c.shrink_to_fit.ensures, c.shrink_to_fit-2.ensures.items) c.in_ok-close.ensures.growing.both
 
+pub returns-clause-ascending : goal.returns-clause-ascending
+returns-clause-ascending g c = rw c.shrink_to_fit.ensures c.in_ok-close.ensures.growing.ascending
+
 pub returns-clause-ranges : goal.returns-clause-ranges
 returns-clause-ranges g c = rw (c.shrink_to_fit.ensures, c.shrink_to_fit-2.ensures.items) c.in_ok-close.ensures.growing.ranges
 
