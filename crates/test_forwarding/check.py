@@ -1,5 +1,5 @@
 #!/usr/bin/env python3
-"""Judges smallest tables with the same forwarding that a program writes.
+"""Judges smallest tables with the same forwarding that a program writes, and what forwarding tables find.
 
     check.py PROGRAM            a part of the tables, within seconds
     check.py PROGRAM whole      all of them, also beside crates/cidr_bench/beside/smallest.rs, which needs `rustc`
@@ -140,6 +140,33 @@ def random_tables(count, every):
         yield rows, wanted
 
 
+def tables_of_many_rows(count):
+    """Networks of few bits, many in others and at their ends, and such of all bits, which are spread evenly."""
+    numbers = random.Random(20261127)
+    for index in range(count):
+        kind = ("ipv4", "ipv6", "any")[index % 3]
+        few = 0xC0008003C0008003C0008003C0008003 if numbers.randrange(3) else (1 << 128) - 1
+        rows = {}
+        for _ in range(numbers.choice((3, 30, 100, 400))):
+            family = numbers.randrange(2) if kind == "any" else kind == "ipv6"
+            length = numbers.randrange(129 if family else 33)
+            address = (numbers.getrandbits(128) & few) >> 128 - length << 128 - length
+            rows[family << 128 | address, 1 + length] = numbers.randrange((1 << 32) - 2)
+        if kind == "any" and numbers.randrange(2):
+            rows[0, 0] = numbers.randrange(4)
+        yield kind, rows
+
+
+def table_of_parts(count):
+    """Networks of IPv4, so many that their ranges are kept by parts, and short ones among them."""
+    numbers = random.Random(20261128)
+    rows = {}
+    for index in range(count):
+        length = index % 25 if index < 1000 else numbers.randrange(14, 33)
+        rows[numbers.getrandbits(128) >> 128 - length << 128 - length, 1 + length] = index
+    yield "ipv4", rows
+
+
 def different_values(count):
     yield [((at << 104, 25), at) for at in range(count)], [count, None]
 
@@ -155,6 +182,51 @@ def answers(lines):
         else:
             yield rows, line
             rows = []
+
+
+def asked_of(kind, rows):
+    """For each network itself, the next shorter one, and the addresses at both ends and beyond them."""
+    for start, bits in rows:
+        yield start, bits
+        if bits > (kind != "any"):
+            yield start >> BITS - bits + 1 << BITS - bits + 1, bits - 1
+        for at in (start - 1, start, start + (1 << BITS - bits) - 1, start + (1 << BITS - bits)):
+            family = at >> 128
+            if at in range(1 << BITS) and kind in ("any", ("ipv4", "ipv6")[family]):
+                yield (at, BITS) if family else (at >> 96 << 96, 33)
+
+
+def longest(rows, network):
+    """The value of the longest network that contains it."""
+    start, bits = network
+    for length in range(bits, -1, -1):
+        value = rows.get((start >> BITS - length << BITS - length, length))
+        if value is not None:
+            return str(value)
+    return "none"
+
+
+def judge_found(program, name, tables):
+    given, wanted, count = {}, {}, 0
+    for kind, rows in tables:
+        asked = list(asked_of(kind, list(rows)[:5000]))
+        lines = [f"{text_of(network)} {value}" for network, value in rows.items()]
+        lines += [f"ask {text_of(network)}" for network in asked]
+        given.setdefault(kind, []).extend([*lines, "find"])
+        wanted.setdefault(kind, []).extend((len(rows), network, longest(rows, network)) for network in asked)
+        count += 1
+    differ, sum_asked = 0, 0
+    for kind, lines in given.items():
+        written = subprocess.run([program, kind], input="\n".join(lines) + "\n", capture_output=True, text=True, check=True)
+        found = written.stdout.splitlines()
+        differ += int(len(found) != len(wanted[kind]))
+        sum_asked += len(found)
+        for value, (size, network, right) in zip(found, wanted[kind]):
+            if value != right:
+                differ += 1
+                print(f"{name}, {kind}, {size} rows: {text_of(network)} has {value}, not {right}", file=sys.stderr)
+    print(f"{name}: {count} tables, asked {sum_asked} times; {differ} differ")
+    return differ
 
 
 def bits_of(network):
@@ -210,6 +282,8 @@ def main():
         subprocess.run(["rustc", "-O", "--edition", "2021", "-o", beside, source], check=True)
     differ = judge(program, "forwardings of three bits", forwardings_of_three_bits(1 if whole else 29), beside)
     differ += judge(program, "random nested tables", random_tables(*((100_000, 50) if whole else (1_000, 10))), beside)
+    differ += judge_found(program, "forwarding tables", tables_of_many_rows(3_000 if whole else 90))
+    differ += judge_found(program, "a forwarding table by parts", table_of_parts(900_000 if whole else 50_000))
     if whole:
         differ += judge(program, "different values", different_values(900_000), beside)
     sys.exit(differ > 0)
