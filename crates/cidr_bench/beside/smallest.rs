@@ -296,6 +296,7 @@ fn values(count: u32) -> Vec<Row> {
     (0..count).map(|value| Row { bits: (value as u128) << 104, len: 24, value }).collect()
 }
 
+/// The tables that are measured. Two more, `a million routes` and `more routes of IPv6`, are for `forwarding.rs`.
 const NAMES: [&str; 8] = [
     "routes, 4 next hops",
     "routes, 16 next hops",
@@ -317,6 +318,8 @@ fn table(name: &str) -> Vec<Row> {
         "routes with a default" => routes(880_000, 16, 80, true, &mut numbers),
         "countries" => countries(450_000, 240, &mut numbers),
         "routes of IPv6" => routes_of_ipv6(200_000, 16, &mut numbers),
+        "a million routes" => routes(1_000_000, 64, 80, false, &mut numbers),
+        "more routes of IPv6" => routes_of_ipv6(220_000, 16, &mut numbers),
         _ => values(900_000),
     }
 }
