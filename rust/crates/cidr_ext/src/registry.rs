@@ -142,63 +142,65 @@ macro_rules! ipv6 {
 
 /// The IANA IPv4 Special-Purpose Address Registry, as of May 2025.
 ///
-/// The columns are source, destination, forwardable, globally reachable and reserved by protocol.
+/// The columns are source, destination, forwardable, globally reachable and reserved by protocol. Behind each entry
+/// stands the month of its allocation, and if it has ended, of its end.
 pub static IPV4_ENTRIES: [SpecialEntry; 26] = [
-    ipv4!([0, 0, 0, 0] / 8, ThisNetwork, 791, [T, F, F, F, T]),
-    ipv4!([0, 0, 0, 0] / 32, Unspecified, 1122, [T, F, F, F, T]),
-    ipv4!([10, 0, 0, 0] / 8, PrivateUse, 1918, [T, T, T, F, F]),
-    ipv4!([100, 64, 0, 0] / 10, SharedAddressSpace, 6598, [T, T, T, F, F]),
-    ipv4!([127, 0, 0, 0] / 8, Loopback, 1122, [F, F, F, F, T]),
-    ipv4!([169, 254, 0, 0] / 16, LinkLocal, 3927, [T, T, F, F, T]),
-    ipv4!([172, 16, 0, 0] / 12, PrivateUse, 1918, [T, T, T, F, F]),
-    ipv4!([192, 0, 0, 0] / 24, ProtocolAssignments, 6890, [F, F, F, F, F]),
-    ipv4!([192, 0, 0, 0] / 29, ServiceContinuity, 7335, [T, T, T, F, F]),
-    ipv4!([192, 0, 0, 8] / 32, Dummy, 7600, [T, F, F, F, F]),
-    ipv4!([192, 0, 0, 9] / 32, PortControlAnycast, 7723, [T, T, T, T, F]),
-    ipv4!([192, 0, 0, 10] / 32, TurnAnycast, 8155, [T, T, T, T, F]),
-    ipv4!([192, 0, 0, 170] / 32, Nat64Discovery, 7050, [F, F, F, F, T]),
-    ipv4!([192, 0, 0, 171] / 32, Nat64Discovery, 7050, [F, F, F, F, T]),
-    ipv4!([192, 0, 2, 0] / 24, Documentation, 5737, [F, F, F, F, F]),
-    ipv4!([192, 31, 196, 0] / 24, As112, 7535, [T, T, T, T, F]),
-    ipv4!([192, 52, 193, 0] / 24, MulticastTunneling, 7450, [T, T, T, T, F]),
-    ipv4!([192, 88, 99, 0] / 24, SixToFourRelay, 7526, [N, N, N, N, N]),
-    ipv4!([192, 88, 99, 2] / 32, SixA44Relay, 6751, [T, T, T, F, F]),
-    ipv4!([192, 168, 0, 0] / 16, PrivateUse, 1918, [T, T, T, F, F]),
-    ipv4!([192, 175, 48, 0] / 24, DirectAs112, 7534, [T, T, T, T, F]),
-    ipv4!([198, 18, 0, 0] / 15, Benchmarking, 2544, [T, T, T, F, F]),
-    ipv4!([198, 51, 100, 0] / 24, Documentation, 5737, [F, F, F, F, F]),
-    ipv4!([203, 0, 113, 0] / 24, Documentation, 5737, [F, F, F, F, F]),
-    ipv4!([240, 0, 0, 0] / 4, Reserved, 1112, [F, F, F, F, T]),
-    ipv4!([255, 255, 255, 255] / 32, LimitedBroadcast, 919, [F, T, F, F, T]),
+    ipv4!([0, 0, 0, 0] / 8, ThisNetwork, 791, [T, F, F, F, T]), // 1981-09
+    ipv4!([0, 0, 0, 0] / 32, Unspecified, 1122, [T, F, F, F, T]), // 1981-09
+    ipv4!([10, 0, 0, 0] / 8, PrivateUse, 1918, [T, T, T, F, F]), // 1996-02
+    ipv4!([100, 64, 0, 0] / 10, SharedAddressSpace, 6598, [T, T, T, F, F]), // 2012-04
+    ipv4!([127, 0, 0, 0] / 8, Loopback, 1122, [F, F, F, F, T]), // 1981-09
+    ipv4!([169, 254, 0, 0] / 16, LinkLocal, 3927, [T, T, F, F, T]), // 2005-05
+    ipv4!([172, 16, 0, 0] / 12, PrivateUse, 1918, [T, T, T, F, F]), // 1996-02
+    ipv4!([192, 0, 0, 0] / 24, ProtocolAssignments, 6890, [F, F, F, F, F]), // 2010-01
+    ipv4!([192, 0, 0, 0] / 29, ServiceContinuity, 7335, [T, T, T, F, F]), // 2011-06
+    ipv4!([192, 0, 0, 8] / 32, Dummy, 7600, [T, F, F, F, F]), // 2015-03
+    ipv4!([192, 0, 0, 9] / 32, PortControlAnycast, 7723, [T, T, T, T, F]), // 2015-10
+    ipv4!([192, 0, 0, 10] / 32, TurnAnycast, 8155, [T, T, T, T, F]), // 2017-02
+    ipv4!([192, 0, 0, 170] / 32, Nat64Discovery, 7050, [F, F, F, F, T]), // 2013-02
+    ipv4!([192, 0, 0, 171] / 32, Nat64Discovery, 7050, [F, F, F, F, T]), // 2013-02
+    ipv4!([192, 0, 2, 0] / 24, Documentation, 5737, [F, F, F, F, F]), // 2010-01
+    ipv4!([192, 31, 196, 0] / 24, As112, 7535, [T, T, T, T, F]), // 2014-12
+    ipv4!([192, 52, 193, 0] / 24, MulticastTunneling, 7450, [T, T, T, T, F]), // 2014-12
+    ipv4!([192, 88, 99, 0] / 24, SixToFourRelay, 7526, [N, N, N, N, N]), // 2001-06 to 2015-03
+    ipv4!([192, 88, 99, 2] / 32, SixA44Relay, 6751, [T, T, T, F, F]), // 2012-10
+    ipv4!([192, 168, 0, 0] / 16, PrivateUse, 1918, [T, T, T, F, F]), // 1996-02
+    ipv4!([192, 175, 48, 0] / 24, DirectAs112, 7534, [T, T, T, T, F]), // 1996-01
+    ipv4!([198, 18, 0, 0] / 15, Benchmarking, 2544, [T, T, T, F, F]), // 1999-03
+    ipv4!([198, 51, 100, 0] / 24, Documentation, 5737, [F, F, F, F, F]), // 2010-01
+    ipv4!([203, 0, 113, 0] / 24, Documentation, 5737, [F, F, F, F, F]), // 2010-01
+    ipv4!([240, 0, 0, 0] / 4, Reserved, 1112, [F, F, F, F, T]), // 1989-08
+    ipv4!([255, 255, 255, 255] / 32, LimitedBroadcast, 919, [F, T, F, F, T]), // 1984-10
 ];
 
 /// The IANA IPv6 Special-Purpose Address Registry, as of May 2025.
 ///
-/// The columns are source, destination, forwardable, globally reachable and reserved by protocol.
+/// The columns are source, destination, forwardable, globally reachable and reserved by protocol. Behind each entry
+/// stands the month of its allocation, and if it has ended, of its end.
 pub static IPV6_ENTRIES: [SpecialEntry; 25] = [
-    ipv6!([0, 0, 0, 0, 0, 0, 0, 0x1] / 128, Loopback, 4291, [F, F, F, F, T]),
-    ipv6!([0, 0, 0, 0, 0, 0, 0, 0] / 128, Unspecified, 4291, [T, F, F, F, T]),
-    ipv6!([0, 0, 0, 0, 0, 0xffff, 0, 0] / 96, Ipv4Mapped, 4291, [F, F, F, F, T]),
-    ipv6!([0x64, 0xff9b, 0, 0, 0, 0, 0, 0] / 96, Translation, 6052, [T, T, T, T, F]),
-    ipv6!([0x64, 0xff9b, 0x1, 0, 0, 0, 0, 0] / 48, Translation, 8215, [T, T, T, F, F]),
-    ipv6!([0x100, 0, 0, 0, 0, 0, 0, 0] / 64, DiscardOnly, 6666, [T, T, T, F, F]),
-    ipv6!([0x100, 0, 0, 0x1, 0, 0, 0, 0] / 64, Dummy, 9780, [T, F, F, F, F]),
-    ipv6!([0x2001, 0, 0, 0, 0, 0, 0, 0] / 23, ProtocolAssignments, 2928, [F, F, F, F, F]),
-    ipv6!([0x2001, 0, 0, 0, 0, 0, 0, 0] / 32, Teredo, 4380, [T, T, T, N, F]),
-    ipv6!([0x2001, 0x1, 0, 0, 0, 0, 0, 0x1] / 128, PortControlAnycast, 7723, [T, T, T, T, F]),
-    ipv6!([0x2001, 0x1, 0, 0, 0, 0, 0, 0x2] / 128, TurnAnycast, 8155, [T, T, T, T, F]),
-    ipv6!([0x2001, 0x1, 0, 0, 0, 0, 0, 0x3] / 128, ServiceRegistrationAnycast, 9665, [T, T, T, T, F]),
-    ipv6!([0x2001, 0x2, 0, 0, 0, 0, 0, 0] / 48, Benchmarking, 5180, [T, T, T, F, F]),
-    ipv6!([0x2001, 0x3, 0, 0, 0, 0, 0, 0] / 32, MulticastTunneling, 7450, [T, T, T, T, F]),
-    ipv6!([0x2001, 0x4, 0x112, 0, 0, 0, 0, 0] / 48, As112, 7535, [T, T, T, T, F]),
-    ipv6!([0x2001, 0x10, 0, 0, 0, 0, 0, 0] / 28, DeprecatedOrchid, 4843, [N, N, N, N, N]),
-    ipv6!([0x2001, 0x20, 0, 0, 0, 0, 0, 0] / 28, OrchidV2, 7343, [T, T, T, T, F]),
-    ipv6!([0x2001, 0x30, 0, 0, 0, 0, 0, 0] / 28, DroneRemoteId, 9374, [T, T, T, T, F]),
-    ipv6!([0x2001, 0xdb8, 0, 0, 0, 0, 0, 0] / 32, Documentation, 3849, [F, F, F, F, F]),
-    ipv6!([0x2002, 0, 0, 0, 0, 0, 0, 0] / 16, SixToFour, 3056, [T, T, T, N, F]),
-    ipv6!([0x2620, 0x4f, 0x8000, 0, 0, 0, 0, 0] / 48, DirectAs112, 7534, [T, T, T, T, F]),
-    ipv6!([0x3fff, 0, 0, 0, 0, 0, 0, 0] / 20, Documentation, 9637, [F, F, F, F, F]),
-    ipv6!([0x5f00, 0, 0, 0, 0, 0, 0, 0] / 16, SegmentRouting, 9602, [T, T, T, F, F]),
-    ipv6!([0xfc00, 0, 0, 0, 0, 0, 0, 0] / 7, UniqueLocal, 4193, [T, T, T, F, F]),
-    ipv6!([0xfe80, 0, 0, 0, 0, 0, 0, 0] / 10, LinkLocal, 4291, [T, T, F, F, T]),
+    ipv6!([0, 0, 0, 0, 0, 0, 0, 0x1] / 128, Loopback, 4291, [F, F, F, F, T]), // 2006-02
+    ipv6!([0, 0, 0, 0, 0, 0, 0, 0] / 128, Unspecified, 4291, [T, F, F, F, T]), // 2006-02
+    ipv6!([0, 0, 0, 0, 0, 0xffff, 0, 0] / 96, Ipv4Mapped, 4291, [F, F, F, F, T]), // 2006-02
+    ipv6!([0x64, 0xff9b, 0, 0, 0, 0, 0, 0] / 96, Translation, 6052, [T, T, T, T, F]), // 2010-10
+    ipv6!([0x64, 0xff9b, 0x1, 0, 0, 0, 0, 0] / 48, Translation, 8215, [T, T, T, F, F]), // 2017-06
+    ipv6!([0x100, 0, 0, 0, 0, 0, 0, 0] / 64, DiscardOnly, 6666, [T, T, T, F, F]), // 2012-06
+    ipv6!([0x100, 0, 0, 0x1, 0, 0, 0, 0] / 64, Dummy, 9780, [T, F, F, F, F]), // 2025-04
+    ipv6!([0x2001, 0, 0, 0, 0, 0, 0, 0] / 23, ProtocolAssignments, 2928, [F, F, F, F, F]), // 2000-09
+    ipv6!([0x2001, 0, 0, 0, 0, 0, 0, 0] / 32, Teredo, 4380, [T, T, T, N, F]), // 2006-01
+    ipv6!([0x2001, 0x1, 0, 0, 0, 0, 0, 0x1] / 128, PortControlAnycast, 7723, [T, T, T, T, F]), // 2015-10
+    ipv6!([0x2001, 0x1, 0, 0, 0, 0, 0, 0x2] / 128, TurnAnycast, 8155, [T, T, T, T, F]), // 2017-02
+    ipv6!([0x2001, 0x1, 0, 0, 0, 0, 0, 0x3] / 128, ServiceRegistrationAnycast, 9665, [T, T, T, T, F]), // 2024-04
+    ipv6!([0x2001, 0x2, 0, 0, 0, 0, 0, 0] / 48, Benchmarking, 5180, [T, T, T, F, F]), // 2008-04
+    ipv6!([0x2001, 0x3, 0, 0, 0, 0, 0, 0] / 32, MulticastTunneling, 7450, [T, T, T, T, F]), // 2014-12
+    ipv6!([0x2001, 0x4, 0x112, 0, 0, 0, 0, 0] / 48, As112, 7535, [T, T, T, T, F]), // 2014-12
+    ipv6!([0x2001, 0x10, 0, 0, 0, 0, 0, 0] / 28, DeprecatedOrchid, 4843, [N, N, N, N, N]), // 2007-03 to 2014-03
+    ipv6!([0x2001, 0x20, 0, 0, 0, 0, 0, 0] / 28, OrchidV2, 7343, [T, T, T, T, F]), // 2014-07
+    ipv6!([0x2001, 0x30, 0, 0, 0, 0, 0, 0] / 28, DroneRemoteId, 9374, [T, T, T, T, F]), // 2022-12
+    ipv6!([0x2001, 0xdb8, 0, 0, 0, 0, 0, 0] / 32, Documentation, 3849, [F, F, F, F, F]), // 2004-07
+    ipv6!([0x2002, 0, 0, 0, 0, 0, 0, 0] / 16, SixToFour, 3056, [T, T, T, N, F]), // 2001-02
+    ipv6!([0x2620, 0x4f, 0x8000, 0, 0, 0, 0, 0] / 48, DirectAs112, 7534, [T, T, T, T, F]), // 2011-05
+    ipv6!([0x3fff, 0, 0, 0, 0, 0, 0, 0] / 20, Documentation, 9637, [F, F, F, F, F]), // 2024-07
+    ipv6!([0x5f00, 0, 0, 0, 0, 0, 0, 0] / 16, SegmentRouting, 9602, [T, T, T, F, F]), // 2024-04
+    ipv6!([0xfc00, 0, 0, 0, 0, 0, 0, 0] / 7, UniqueLocal, 4193, [T, T, T, F, F]), // 2005-10
+    ipv6!([0xfe80, 0, 0, 0, 0, 0, 0, 0] / 10, LinkLocal, 4291, [T, T, F, F, T]), // 2006-02
 ];

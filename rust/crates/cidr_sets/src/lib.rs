@@ -22,9 +22,11 @@ mod checks;
 
 pub mod access;
 mod count;
+mod neighbours;
 mod pools;
 mod probe;
 mod ranges;
+mod replacing;
 mod rests;
 mod search;
 mod set;

@@ -12,6 +12,7 @@ mod algebra;
 mod compared;
 mod counted;
 mod debug;
+mod edits;
 
 /// A set of addresses: the shortest list of networks that has exactly these, ascending.
 ///

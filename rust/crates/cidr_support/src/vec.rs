@@ -2,6 +2,7 @@
 
 use crate::alloc::{AllocError, AllocFailed, Global};
 use core::fmt;
+use core::hint::black_box;
 use core::iter::FusedIterator;
 use core::marker::PhantomData;
 use core::ops::{Deref, DerefMut};
@@ -237,6 +238,22 @@ impl<T> Vec<T> {
         T: Ord,
     {
         self.0.sort();
+        Ok(())
+    }
+
+    /// Sorts the items by a key, and leaves those of equal keys in their order. Where there is no room for as many items, it
+    /// is an error, and they stay as they were.
+    ///
+    /// ```
+    /// # use cidr_support::{alloc::*, vec::Vec};
+    /// let mut list = Vec::from_array(Global, [(3, 1), (1, 2), (3, 0)])?;
+    /// list.sort_by_key(|item| item.0)?;
+    /// assert_eq!(list.as_slice(), [(1, 2), (3, 1), (3, 0)]);
+    /// # Ok::<(), AllocError>(())
+    /// ```
+    pub fn sort_by_key<K: Ord>(&mut self, key: impl FnMut(&T) -> K) -> Result<(), AllocError> {
+        drop(black_box(Vec::<T>::with_capacity(Global, self.0.len())?));
+        self.0.sort_by_key(key);
         Ok(())
     }
 

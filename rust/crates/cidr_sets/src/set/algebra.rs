@@ -3,7 +3,7 @@
 use cidr_support::vec::Vec;
 use crate::rests::{half, skip};
 use crate::search::{covers, is_inside, known, upto};
-use crate::set::{NetworkSet, joined, reduced};
+use crate::set::{NetworkSet, joined};
 use crate::slices::{next_of, next_shared};
 use cidr::NetworkBits;
 use cidr_support::alloc::{AllocError, Global};
@@ -160,45 +160,6 @@ impl<C: NetworkBits + Copy> NetworkSet<C> {
         Ok(NetworkSet { networks: rest })
     }
 
-    /// Adds the addresses of a network. Where an allocation fails, the set stays as it was.
-    ///
-    /// ```
-    /// # use cidr::*;
-    /// # use cidr_table::Probe;
-    /// # use cidr_sets::{access::*, alloc::*, *};
-    /// let mut pool = NetworkSet::new(Global);
-    /// pool.insert("10.0.0.0/8".parse::<Ipv4Cidr>()?)?;
-    /// assert_eq!(format!("{:?}", pool.as_slice()), "[10.0.0.0/8]");
-    /// # Ok::<(), Box<dyn std::error::Error>>(())
-    /// ```
-    #[inline]
-    pub fn insert(&mut self, network: C) -> Result<(), AllocError> {
-        let mut both = Vec::from_slice(self.networks.allocator().clone(), self.as_slice())?;
-        both.push(network)?;
-        *self = reduced(both);
-        Ok(())
-    }
-
-    /// Removes the addresses of a network. Where an allocation fails, the set stays as it was.
-    ///
-    /// ```
-    /// # use cidr::*;
-    /// # use cidr_table::Probe;
-    /// # use cidr_sets::{access::*, alloc::*, *};
-    /// let mut pool: NetworkSet<Ipv4Cidr> = ["10.0.0.0/8".parse()?].into_iter().collect();
-    /// pool.remove(&"10.64.0.0/10".parse()?)?;
-    /// assert_eq!(format!("{:?}", pool.as_slice()), "[10.0.0.0/10, 10.128.0.0/9]");
-    /// # Ok::<(), Box<dyn std::error::Error>>(())
-    /// ```
-    #[inline]
-    pub fn remove(&mut self, network: &C) -> Result<(), AllocError> {
-        let mut single = NetworkSet::new(self.networks.allocator().clone());
-        single.insert(*network)?;
-        let rest = self.difference(&single)?;
-        *self = rest;
-        Ok(())
-    }
-
     /// Whether no address is in both sets.
     ///
     /// ```
@@ -269,7 +230,7 @@ fn push_rests<C: NetworkBits + Copy>(
 ///
 /// A network that one of the others contains has none, and one that contains none of the others is pushed itself. Any
 /// other is halved.
-fn push_rest<'a, C: NetworkBits + Copy>(
+pub(super) fn push_rest<'a, C: NetworkBits + Copy>(
     out: &mut Vec<C>,
     network: &C,
     others: &'a [C],

@@ -10,9 +10,9 @@ impl<C: NetworkBits + Copy, V> LpmTable<C, V> {
     /// The table of rows in any order. Of rows with equal keys the last one in the `Vec` counts, and the others are
     /// dropped.
     ///
-    /// It never fails and allocates nothing: the rows are sorted in the memory of the `Vec`, which the table keeps, so
-    /// that its capacity is that of the `Vec`. O(n log n) comparisons of keys, and O(n log² n) moves of rows; n - 1
-    /// comparisons for keys in ascending order.
+    /// It never fails. The table keeps the `Vec`, so that its capacity is that of the `Vec`. O(n log n) comparisons of
+    /// keys; n - 1 for keys in ascending order, for which it allocates nothing. Else it allocates room for as many rows
+    /// while it sorts; where the allocation fails, it sorts in place, with O(n log² n) moves of rows.
     ///
     /// ```
     /// # use cidr::{errors::*, *};
