@@ -4,3 +4,4 @@ pub mod Order
 pub mod Growth
 pub mod Found
 pub mod Lows
+pub mod SetRows

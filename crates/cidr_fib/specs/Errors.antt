@@ -12,3 +12,9 @@ module _ {C : Type 0} where
   IsRefused rows TooManyRows = 2 ^ 32 - 1 ≤ length rows
   IsRefused rows (TooLarge place) = (length rows < 2 ^ 32 - 1) × (position is_too_large rows ≡ Some place)
   IsRefused rows NoMemory = (length rows < 2 ^ 32 - 1) × (position is_too_large rows ≡ None)
+
+-- of a set: too many networks, or no memory
+abbrev pub IsSetRefused : {C : Type 0} → List C → ForwardingError → Type 0
+IsSetRefused networks TooManyRows = 2 ^ 32 - 1 ≤ length networks
+IsSetRefused networks (TooLarge place) = ⊥
+IsSetRefused networks NoMemory = Unit {0}

@@ -24,8 +24,10 @@ mod find;
 mod level;
 mod parts;
 mod ranges;
+mod sets;
 mod starts;
 mod table;
 
 pub use error::ForwardingError;
+pub use sets::ReadySet;
 pub use table::ForwardingTable;
