@@ -49,6 +49,7 @@ pub trait Address: Ord + Copy {
     /// The last address of the network of this length.
     fn last(self, len: u32) -> Self;
     fn bit(self, index: u32) -> usize;
+    fn wide(self) -> u128;
     fn longer_route(index: usize, more: u32) -> (Self, u32);
     /// An address in the network of this length.
     fn inside(self, len: u32, random: u64) -> Self;
@@ -76,6 +77,10 @@ impl Address for u32 {
 
     fn bit(self, index: u32) -> usize {
         (self >> (31 - index) & 1) as usize
+    }
+
+    fn wide(self) -> u128 {
+        u128::from(self)
     }
 
     fn longer_route(index: usize, more: u32) -> (u32, u32) {
@@ -111,6 +116,10 @@ impl Address for u128 {
 
     fn bit(self, index: u32) -> usize {
         (self >> (127 - index) & 1) as usize
+    }
+
+    fn wide(self) -> u128 {
+        self
     }
 
     fn longer_route(index: usize, more: u32) -> (u128, u32) {

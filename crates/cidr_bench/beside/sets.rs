@@ -2,9 +2,10 @@
 //! sorted lists of ranges of numbers, of which no two overlap or touch, and a tree of prefixes with a node for each
 //! bit, as the crate `iprange` has it.
 //!
-//! `sets ROUNDS` prints a line for each row with tabs between: its name, and the nanoseconds by ranges and by the tree,
-//! for each network of both sets, or for each address. The row of a binary search has the nanoseconds of one in the
-//! networks of a set instead. Each time is the least of five turns. It fails where the two ways differ.
+//! `sets ROUNDS` prints a line for each row with tabs between: its name, a number that hangs on all results, and the
+//! nanoseconds by ranges and by the tree, for each network of both sets, or for each address. The row of a binary search
+//! has the nanoseconds of one in the networks of a set instead. Each time is the least of five turns. It fails where the
+//! two ways differ.
 
 mod routes;
 
@@ -198,6 +199,29 @@ fn least<T>(rounds: u32, parts: usize, work: impl Fn() -> T) -> (f64, T) {
     (time, result)
 }
 
+fn folded(number: u128) -> u32 {
+    let half = number ^ number >> 64;
+    (half ^ half >> 32) as u32
+}
+
+fn mixed(sum: u32, next: u32) -> u32 {
+    sum.wrapping_mul(5) ^ next
+}
+
+/// A number that hangs on so many equal results: on the last address of each, and in the first round on the number of
+/// addresses.
+fn number_of<A: Address>(rounds: u32, ranges: &Ranges<A>) -> u32 {
+    let last = ranges.last().map_or(0, |range| range.1.wide());
+    let size = |range: &(A, A)| range.1.wide().wrapping_sub(range.0.wide()).wrapping_add(1);
+    let count = ranges.iter().fold(0u128, |count, range| count.wrapping_add(size(range)));
+    (1..rounds).fold(folded(last ^ count), |sum, _| mixed(sum, folded(last)))
+}
+
+/// A number that hangs on the answers to some questions, which are asked in so many rounds.
+fn number_of_all(rounds: u32, answers: &[u32]) -> u32 {
+    (0..rounds).fold(0, |sum, _| answers.iter().fold(sum, |sum, it| mixed(sum, *it)))
+}
+
 /// What makes a set of two others.
 type OfTwo<T> = fn(&T, &T) -> T;
 
@@ -234,12 +258,11 @@ fn compare<A: Address>(rounds: u32, of: &str, part: usize, more: u32) {
     let parts = these.len() + those.len();
     let operation = |name: &str, by_ranges: OfTwo<Ranges<A>>, by_tree: OfTwo<Tree>| {
         let (time, wanted) = least(rounds, parts, || by_ranges(black_box(&ranges[0]), &ranges[1]));
-        let rounds = rounds.div_ceil(10);
-        let (tree_time, tree) = least(rounds, parts, || by_tree(black_box(&trees[0]), &trees[1]));
+        let (tree_time, tree) = least(rounds.div_ceil(10), parts, || by_tree(black_box(&trees[0]), &trees[1]));
         let mut found = Vec::new();
         push_ranges(&tree, A::ZERO, 0, &mut found);
         assert!(found == wanted, "{name} {of}: the results differ");
-        println!("{name} {of}\t{time:.1}\t{tree_time:.1}");
+        println!("{name} {of}\t{}\t{time:.1}\t{tree_time:.1}", number_of(rounds, &wanted));
     };
     operation("set union", union, tree_union);
     operation("set intersection", intersection, tree_intersection);
@@ -255,30 +278,34 @@ fn compare<A: Address>(rounds: u32, of: &str, part: usize, more: u32) {
             first.inside(len, random(index ^ 0x0400_0000))
         })
         .collect();
+    let is_in = |ranges: &Ranges<A>, it: A| {
+        let place: usize = ranges.partition_point(|range| range.0 <= it);
+        place > 0 && it <= ranges[place - 1].1
+    };
     let (time, wanted) = least(rounds, ASKED, || {
-        let ranges: &Ranges<A> = black_box(&ranges[0]);
-        let is_in = |it: &&A| {
-            let place: usize = ranges.partition_point(|range| range.0 <= **it);
-            place > 0 && **it <= ranges[place - 1].1
-        };
-        asked.iter().filter(is_in).count()
+        let ranges = black_box(&ranges[0]);
+        asked.iter().filter(|it| is_in(ranges, **it)).count()
     });
+    let answers: Vec<u32> = asked.iter().map(|it| u32::from(is_in(&ranges[0], *it))).collect();
     let (tree_time, found) = least(rounds.div_ceil(10), ASKED, || {
         let tree = black_box(&trees[0]);
         asked.iter().filter(|it| tree_contains(tree, **it)).count()
     });
     assert_eq!(found, wanted, "set contains {of}: the results differ");
-    println!("set contains {of}\t{time:.1}\t{tree_time:.1}");
+    println!("set contains {of}\t{}\t{time:.1}\t{tree_time:.1}", number_of_all(rounds, &answers));
+    let place = |networks: &[(A, u32)], it: A| networks.binary_search(&(it, A::WIDTH)).unwrap_or_else(|at| at) as u32;
     let (time, _) = least(rounds, ASKED, || {
         let networks = black_box(&these);
-        let place = |it: &A| networks.binary_search(&(*it, A::WIDTH)).unwrap_or_else(|place| place);
-        asked.iter().fold(0, |sum: usize, it| sum.wrapping_mul(5) ^ place(it))
+        asked.iter().fold(0, |sum, it| mixed(sum, place(networks, *it)))
     });
-    println!("set binary search {of}\t{time:.1}\t-");
+    let places: Vec<u32> = asked.iter().map(|it| place(&these, *it)).collect();
+    println!("set binary search {of}\t{}\t{time:.1}\t-", number_of_all(rounds, &places));
 }
 
 fn main() {
     let rounds = std::env::args().nth(1).and_then(|word| word.parse().ok()).unwrap_or(1);
+    compare::<u32>(rounds, "IPv4, small", 100, 0);
+    compare::<u128>(rounds, "IPv6, small", 100, 0);
     compare::<u32>(rounds, "IPv4, routes", 100_000, 0);
     compare::<u128>(rounds, "IPv6, routes", 100_000, 0);
     compare::<u32>(rounds, "IPv4", 100_000, 8);

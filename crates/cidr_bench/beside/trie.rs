@@ -1,10 +1,11 @@
-//! Longest matches in two ways that people use, over the rows and the addresses of the tables in `cidr_bench`: a trie
-//! with a stride of eight bits, whose nodes have a bit for each prefix and each child and no room for those that are not
-//! there, and a walk down the `BTreeMap` of Rust's library.
+//! What tables of `cidr_bench` do, in other ways that people use, over the same rows and addresses. Longest matches go
+//! by a trie with a stride of eight bits, whose nodes have a bit for each prefix and each child and no room for those that
+//! are not there, by a walk down the `BTreeMap` of Rust's library, and by a binary search for each length. Single rows are
+//! found by a binary search, and are inserted into a `BTreeMap` and removed; beside loading stands a sort.
 //!
-//! `trie ROUNDS` prints a line for each table with tabs between: its name, the nanoseconds of a look-up in the trie, those
-//! of the walk, the first as a fraction of the second, and the bytes of the trie for each row. Each time is the least of
-//! five turns. It fails where the two ways differ.
+//! `trie ROUNDS` prints a line for each row with tabs between: its name, a number that hangs on all results, and the
+//! nanoseconds of a call; of a longest match those in the trie, of the walk and of the searches, of which there is one
+//! round, and the bytes of the trie for each row. Each time is the least of five turns. It fails where two ways differ.
 
 #[allow(dead_code)] // what only sets ask for
 mod routes;
@@ -150,7 +151,8 @@ fn mixed(sum: u32, next: u32) -> u32 {
     sum.wrapping_mul(5) ^ next
 }
 
-/// The longest match by a walk down a `BTreeMap`, as `cidr_bench` has it.
+/// The longest match by a walk down a `BTreeMap`: the last key that is not after the asked one, then the last that is not
+/// after what both begin with, until the asked one begins with the key.
 fn walk<A: Key>(map: &BTreeMap<(A, u32), u32>, asked: A) -> Option<u32> {
     let mut end = (asked, A::WIDTH);
     loop {
@@ -163,31 +165,45 @@ fn walk<A: Key>(map: &BTreeMap<(A, u32), u32>, asked: A) -> Option<u32> {
     }
 }
 
-/// The least nanoseconds of a call in five turns, and a number that hangs on all results.
-fn least<A: Copy>(rounds: u32, asked: &[A], call: impl Fn(A) -> Option<u32>) -> (f64, u32) {
-    let (mut time, mut sum) = (f64::MAX, 0);
+/// The longest match by a binary search for each length from the longest down.
+fn search<A: Key>(rows: &[Row<A>], asked: A) -> Option<u32> {
+    (0..=A::WIDTH).rev().find_map(|len| get(rows, (asked.masked(len), len)))
+}
+
+/// The value of a network, by a binary search.
+fn get<A: Key>(rows: &[Row<A>], key: (A, u32)) -> Option<u32> {
+    rows.binary_search_by(|row| row.0.cmp(&key)).ok().map(|place| rows[place].1)
+}
+
+/// A network and its value.
+type Row<A> = ((A, u32), u32);
+
+/// The least nanoseconds of one of so many calls a round in five turns, and a number that hangs on all results.
+fn least(rounds: u32, calls: usize, mut round: impl FnMut(u32, u32) -> u32) -> (f64, u32) {
+    let (mut time, mut number) = (f64::MAX, 0);
     for _ in 0..5 {
         let start = Instant::now();
-        sum = 0;
-        for _ in 0..rounds {
-            for it in black_box(asked) {
-                sum = mixed(sum, call(*it).unwrap_or(u32::MAX));
-            }
-        }
-        let calls = f64::from(rounds) * asked.len() as f64;
-        time = time.min(start.elapsed().as_nanos() as f64 / calls);
+        number = black_box((0..rounds).fold(0, |sum, at| round(at, sum)));
+        time = time.min(start.elapsed().as_nanos() as f64 / (f64::from(rounds) * calls as f64));
     }
-    (time, black_box(sum))
+    (time, number)
+}
+
+/// The same of a call with each value.
+fn each<T: Copy>(rounds: u32, values: &[T], call: impl Fn(T) -> Option<u32>) -> (f64, u32) {
+    let one = |sum, it: &T| mixed(sum, call(*it).unwrap_or(u32::MAX));
+    least(rounds, values.len(), |_, sum| black_box(values).iter().fold(sum, one))
 }
 
 fn compare<A: Key>(rounds: u32, of: &str, size: usize) {
-    let mut rows: Vec<_> = (0..size).map(|index| (A::longer_route(index, 0), random_ipv4(index))).collect();
+    // of rows with the same network the last one counts
+    let mut rows: Vec<Row<A>> = (0..size).rev().map(|index| (A::longer_route(index, 0), random_ipv4(index))).collect();
     rows.sort_by_key(|row| row.0);
     rows.dedup_by_key(|row| row.0);
-    let chosen = |index: usize| rows[(random(index ^ 0x0800_0000) >> 32) as usize % rows.len()].0;
+    let chosen = |index: usize| rows[(random(index) >> 32) as usize % rows.len()].0;
     let hits: Vec<A> = (0..ASKED)
         .map(|index| {
-            let (first, len) = chosen(index);
+            let (first, len) = chosen(index ^ 0x0800_0000);
             first.inside(len, random(index ^ 0x0400_0000))
         })
         .collect();
@@ -200,13 +216,42 @@ fn compare<A: Key>(rounds: u32, of: &str, size: usize) {
     }
     trie.shrink();
     let octets = A::WIDTH as usize / 8;
+    let bytes = trie.bytes() as f64 / rows.len() as f64;
     for (name, asked) in [("match", &hits), ("no match", &misses)] {
-        let (ours, found) = least(rounds, asked, |it| trie.lookup(&it.octets()[..octets]));
-        let (plain, wanted) = least(rounds, asked, |it| walk(&map, it));
-        assert_eq!(found, wanted, "{name} {of}: the results differ");
-        let bytes = trie.bytes() as f64 / rows.len() as f64;
-        println!("{name} {of}\t{ours:.1}\t{plain:.1}\t{:.2}\t{bytes:.0}", ours / plain);
+        let (by_trie, number) = each(rounds, asked, |it| trie.lookup(&it.octets()[..octets]));
+        let (by_walk, found) = each(rounds, asked, |it| walk(&map, it));
+        assert_eq!(found, number, "{name} {of}: the results differ");
+        let (by_searches, found) = each(1, asked, |it| search(&rows, it));
+        assert_eq!(found, each(1, asked, |it| walk(&map, it)).1, "{name} {of}: the results differ");
+        println!("{name} {of}\t{number}\t{by_trie:.1}\t{by_walk:.1}\t{by_searches:.1}\t{bytes:.0}");
     }
+    let keys: Vec<(A, u32)> = (0..ASKED).map(|index| chosen(index ^ 0x0100_0000)).collect();
+    let (time, number) = each(rounds, &keys, |it| get(&rows, it));
+    println!("get {of}\t{number}\t{time:.1}");
+    let keys: Vec<(A, u32)> = misses[..64].iter().map(|it| (*it, A::WIDTH)).collect();
+    let (time, number) = least(rounds, keys.len(), |round, sum| {
+        keys.iter().fold(sum, |sum, key| {
+            let sum = mixed(sum, map.insert(*key, round).unwrap_or(u32::MAX));
+            mixed(sum, map.remove(key).unwrap_or(u32::MAX))
+        })
+    });
+    println!("insert and remove {of}\t{number}\t{time:.1}");
+}
+
+/// Sorts as many prefixes as the library loads, and counts those that differ from the next.
+fn sort(rounds: u32) {
+    let prefix = |index: usize| {
+        let len = 8 + (random(index ^ 0x2000_0000) % 17) as u32;
+        (random_ipv4(index).masked(len), len as u8)
+    };
+    let prefixes: Vec<(u32, u8)> = (0..900_000).map(prefix).collect();
+    let (time, number) = least(rounds, prefixes.len(), |_, sum| {
+        let mut pairs = prefixes.clone();
+        pairs.sort_unstable();
+        pairs.dedup();
+        mixed(sum, pairs.len() as u32)
+    });
+    println!("load a table\t{number}\t{time:.1}");
 }
 
 fn main() {
@@ -215,4 +260,5 @@ fn main() {
         compare::<u32>(rounds, &format!("IPv4 in {said}"), size);
         compare::<u128>(rounds, &format!("IPv6 in {said}"), size);
     }
+    sort(rounds);
 }

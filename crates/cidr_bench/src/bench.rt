@@ -1,16 +1,15 @@
 //! Rows of the benchmark, and how they are timed.
 
 use crate::values::{mixed, partner};
+use arrayvec::ArrayString;
+use std::fmt::Write;
 use std::io;
 use std::time::Instant;
 
 /// Work that is done in rounds.
 pub trait Work: Drop {
-    /// How many calls a round makes.
-    fn calls(&self) -> usize;
-
-    /// Does the work, and returns a number that hangs on each result.
-    fn run(&mut self, rounds: u32) -> u32;
+    /// Does the work of one round, and takes each result into the sum.
+    fn round(&mut self, round: u32, sum: u32) -> u32;
 }
 
 /// A call with one input.
@@ -27,61 +26,70 @@ pub trait Call2<T, U>: Drop {
 
 /// A call with each of the inputs in a round.
 #[derive(Drop)]
-pub struct Each<'a, C, T>(pub C, pub &'a [T]);
+struct Each<'a, C, T>(C, &'a [T]);
 
 impl<C: Call<T>, T> Work for Each<'_, C, T> {
-    fn calls(&self) -> usize {
-        self.1.len()
-    }
-
-    #[inline(never)]
-    fn run(&mut self, rounds: u32) -> u32 {
-        let mut sum = 0;
-        for _ in 0..rounds {
-            for input in self.1 {
-                sum = mixed(sum, self.0.number(input));
-            }
-        }
-        sum
+    fn round(&mut self, _round: u32, sum: u32) -> u32 {
+        called(sum, &self.0, self.1)
     }
 }
 
-/// How often the library and the plain way have their turn. The least time of each counts.
+/// Makes a call with each of the inputs, and takes each result into the sum.
+#[inline(never)]
+pub fn called<C: Call<T>, T>(sum: u32, call: &C, inputs: &[T]) -> u32 {
+    let mut sum = sum;
+    for input in inputs {
+        sum = mixed(sum, call.number(input));
+    }
+    sum
+}
+
+/// How often the work has its turn. The least time counts.
 const TURNS: u32 = 5;
 
 /// How often two lists are gone over in a round, since their calls are short.
 const PASSES: u32 = 16;
 
-/// A call with each value of a list and one of another list, which differs from round to round.
+/// A call with each value of a list and one of another list, which differs from pass to pass.
 #[derive(Drop)]
-pub struct Pairs<'a, C, T, U>(pub C, pub &'a [T], pub &'a [U]);
+struct Pairs<'a, C, T, U>(C, &'a [T], &'a [U]);
 
-impl<C: Call2<T, U>, T, U> Work for Pairs<'_, C, T, U> {
-    fn calls(&self) -> usize {
-        self.1.len().saturating_mul(PASSES as usize)
-    }
-
+impl<C: Call2<T, U>, T, U> Pairs<'_, C, T, U> {
+    /// Goes over the lists once.
     #[inline(never)]
-    fn run(&mut self, rounds: u32) -> u32 {
-        let mut sum = 0;
-        for round in 0..rounds.saturating_mul(PASSES) {
-            for (index, one) in self.1.iter().enumerate() {
-                if let Some(other) = self.2.get(partner(round, index)) {
-                    sum = mixed(sum, self.0.number(one, other));
-                }
+    fn pass(&self, pass: u32, sum: u32) -> u32 {
+        let mut sum = sum;
+        for (index, one) in self.1.iter().enumerate() {
+            if let Some(other) = self.2.get(partner(pass, index)) {
+                sum = mixed(sum, self.0.number(one, other));
             }
         }
         sum
     }
 }
 
-/// Which rows are done.
-#[derive(Clone, Copy)]
-pub enum Rows<'a> {
-    /// Those whose names contain this.
-    Like(&'a str),
-    /// The one of this name, by the library and not in the plain way.
-    OfLibrary(&'a str),
+impl<C: Call2<T, U>, T, U> Work for Pairs<'_, C, T, U> {
+    fn round(&mut self, round: u32, sum: u32) -> u32 {
+        let mut sum = sum;
+        for pass in 0..PASSES {
+            sum = self.pass(round.wrapping_mul(PASSES).wrapping_add(pass), sum);
+        }
+        sum
+    }
+}
+
+/// A row's name.
+pub type Name = ArrayString<96>;
+
+/// A row's name in two parts.
+pub fn named(work: &str, of: &str) -> Name {
+    let mut name = Name::new();
+    let _ = name.try_push_str(work);
+    if !of.is_empty() {
+        let _ = name.try_push_str(" ");
+        let _ = name.try_push_str(of);
+    }
+    name
 }
 
 /// What the program is asked to do.
@@ -90,9 +98,13 @@ pub struct Bench<'a> {
     pub rt: &'a HostRuntime,
     /// How many rounds a turn has.
     pub rounds: u32,
-    /// Which rows are to be done.
-    pub rows: Rows<'a>,
-    /// Whether only rows whose results differ are printed.
+    /// What the names of the rows that are to be done contain.
+    pub row: &'a str,
+    /// Whether that is a whole name.
+    pub is_whole: bool,
+    /// What the names of the rows end with, behind a space.
+    pub of: &'a str,
+    /// Whether each row is done once and not printed.
     pub quiet: bool,
 }
 
@@ -102,85 +114,90 @@ impl Bench<'_> {
         Bench {
             rt: self.rt,
             rounds: (self.rounds / times.max(1)).max(1),
-            rows: self.rows,
+            row: self.row,
+            is_whole: self.is_whole,
+            of: self.of,
+            quiet: self.quiet,
+        }
+    }
+
+    /// The same, for rows whose names end with this.
+    pub fn of<'b>(&'b self, of: &'b str) -> Bench<'b> {
+        Bench {
+            rt: self.rt,
+            rounds: self.rounds,
+            row: self.row,
+            is_whole: self.is_whole,
+            of,
+            quiet: self.quiet,
+        }
+    }
+
+    /// The same, for all rows.
+    pub fn all(&self) -> Bench<'_> {
+        Bench {
+            rt: self.rt,
+            rounds: self.rounds,
+            row: "",
+            is_whole: false,
+            of: self.of,
             quiet: self.quiet,
         }
     }
 
     /// Whether the row with this name is to be done.
     pub fn wants(&self, name: &str) -> bool {
-        match self.rows {
-            Rows::Like(part) => name.contains(part),
-            Rows::OfLibrary(row) => name == row,
+        if self.is_whole {
+            name == self.row
+        } else {
+            name.contains(self.row)
         }
     }
 
-    /// Does the work by the library and in a plain way by turns, and prints its line.
-    pub fn compare<L: Work, P: Work>(
+    /// Makes a call with each value in a round, and prints its line.
+    pub fn each<T, C: Call<T>>(&self, work: &str, call: C, values: &[T]) -> io::Result<()> {
+        self.time(work, values.len(), Each(call, values))
+    }
+
+    /// Makes a call with pairs of values of two lists, and prints its line.
+    pub fn pairs<T, U, C: Call2<T, U>>(
         &self,
-        name: &str,
-        mut library: L,
-        mut plain: P,
+        work: &str,
+        call: C,
+        ones: &[T],
+        others: &[U],
     ) -> io::Result<()> {
-        if let Rows::OfLibrary(_) = self.rows {
-            return self.alone(name, library);
-        }
-        if !self.wants(name) {
-            return Ok(());
-        }
-        let (mut library_time, mut plain_time) = (u128::MAX, u128::MAX);
-        let mut same = true;
-        for _ in 0..TURNS {
-            let (time, sum) = self.time(&mut library)?;
-            let (plain_turn, plain_sum) = self.time(&mut plain)?;
-            library_time = library_time.min(time);
-            plain_time = plain_time.min(plain_turn);
-            same = same && sum == plain_sum;
-        }
-        if self.quiet && same {
-            return Ok(());
-        }
-        let note = if same { "" } else { "\tthe results differ" };
-        let percent = library_time.saturating_mul(100) / plain_time.max(1);
-        println!(self.rt;
-            "{name}\t{}.{:03}\t{}.{:03}\t{}.{:02}{note}",
-            library_time / 1000,
-            library_time % 1000,
-            plain_time / 1000,
-            plain_time % 1000,
-            percent / 100,
-            percent % 100
-        )
+        let calls = ones.len().saturating_mul(PASSES as usize);
+        self.time(work, calls, Pairs(call, ones, others))
     }
 
-    /// Does the work of the library that has no plain way, and prints its line.
-    pub fn alone<L: Work>(&self, name: &str, mut library: L) -> io::Result<()> {
-        if self.quiet || !self.wants(name) {
+    /// Does work of so many calls a round, and prints its line with the number of all rounds of a turn.
+    pub fn time<W: Work>(&self, work_name: &str, calls: usize, mut work: W) -> io::Result<()> {
+        let name = named(work_name, self.of);
+        if !self.wants(name.as_str()) {
             return Ok(());
         }
-        let mut time = u128::MAX;
-        for _ in 0..TURNS {
-            time = self.time(&mut library)?.0.min(time);
+        if self.quiet {
+            let _ = turn(&mut work, 1);
+            return Ok(());
         }
-        println!(self.rt; "{name}\t{}.{:03}\t-\t-", time / 1000, time % 1000)
-    }
-
-    /// Does the work of the library, and prints its line with the number of all rounds, which another program has too.
-    pub fn counted<L: Work>(&self, name: &str, mut library: L) -> io::Result<()> {
         let (mut least, mut sum) = (u128::MAX, 0);
         for _ in 0..TURNS {
-            let (time, turn) = self.time(&mut library)?;
-            (least, sum) = (least.min(time), turn);
+            let start = Instant::now(self.rt)?;
+            sum = turn(&mut work, self.rounds);
+            least = least.min(start.elapsed(self.rt)?.as_nanos());
         }
-        println!(self.rt; "{name}\t{}.{:03}\t{sum}", least / 1000, least % 1000)
+        let all = u128::from(self.rounds) * calls as u128;
+        let time = least.saturating_mul(1000) / all.max(1);
+        println!(self.rt; "{name}\t{}.{:03}\t{sum}", time / 1000, time % 1000)
     }
+}
 
-    /// The picoseconds of a call, and the number of all rounds.
-    fn time<W: Work>(&self, work: &mut W) -> io::Result<(u128, u32)> {
-        let start = Instant::now(self.rt)?;
-        let sum = work.run(self.rounds);
-        let taken = start.elapsed(self.rt)?.as_nanos();
-        let calls = u128::from(self.rounds) * work.calls() as u128;
-        Ok((taken.saturating_mul(1000) / calls.max(1), sum))
+/// Does so many rounds of some work.
+fn turn<W: Work>(work: &mut W, rounds: u32) -> u32 {
+    let mut sum = 0;
+    for round in 0..rounds {
+        sum = work.round(round, sum);
     }
+    sum
 }

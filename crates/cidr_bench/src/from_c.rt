@@ -1,15 +1,15 @@
 //! The calls that the library for C makes, on the values that crates/cidr_c/beside/calls.c has.
 
-use crate::bench::{Bench, Call2, Work};
+use crate::bench::{Bench, Call, Work, called};
 use crate::numbers::{Number, folded};
-use crate::values::mixed;
-use arrayvec::ArrayString;
+use crate::reading::{Read, Text};
 use cidr::{AnyIpCidr, IpInet};
 use cidr_sets::NetworkSet;
-use cidr_table::LpmTable;
+use cidr_table::{Lookups, LpmTable};
 use std::alloc::{AllocError, Global};
 use std::cmp::Ordering;
 use std::io;
+use std::marker::PhantomData;
 
 /// How many values a single call is made with in a round, and networks beside them.
 const MANY: usize = 1_024;
@@ -17,53 +17,14 @@ const MANY: usize = 1_024;
 /// How many networks a set or a table has.
 const NETWORKS: usize = 100_000;
 
-/// A call with each value of a list and the one beside it in another.
-#[derive(Drop)]
-struct Beside<'a, C, T>(C, &'a [T], &'a [T]);
-
-impl<C: Call2<T, T>, T> Work for Beside<'_, C, T> {
-    fn calls(&self) -> usize {
-        self.1.len()
-    }
-
-    #[inline(never)]
-    fn run(&mut self, rounds: u32) -> u32 {
-        let mut sum = 0;
-        for _ in 0..rounds {
-            for (one, other) in self.1.iter().zip(self.2) {
-                sum = mixed(sum, self.0.number(one, other));
-            }
-        }
-        sum
-    }
-}
-
-/// Reads each string as a network.
-#[derive(Drop)]
-struct Read(Vec<ArrayString<43>>);
-
-impl Work for Read {
-    fn calls(&self) -> usize {
-        self.0.len()
-    }
-
-    #[inline(never)]
-    fn run(&mut self, rounds: u32) -> u32 {
-        let mut sum = 0;
-        for _ in 0..rounds {
-            for text in &self.0 {
-                sum = mixed(sum, text.as_str().parse::<AnyIpCidr>().ok().number());
-            }
-        }
-        sum
-    }
-}
+/// Two networks of which something is asked.
+type Two = (AnyIpCidr, AnyIpCidr);
 
 #[derive(Drop)]
 struct Print;
 
-impl Call2<AnyIpCidr, AnyIpCidr> for Print {
-    fn number(&self, network: &AnyIpCidr, _other: &AnyIpCidr) -> u32 {
+impl Call<AnyIpCidr> for Print {
+    fn number(&self, network: &AnyIpCidr) -> u32 {
         text_number(network.to_text().as_str())
     }
 }
@@ -71,8 +32,8 @@ impl Call2<AnyIpCidr, AnyIpCidr> for Print {
 #[derive(Drop)]
 struct First;
 
-impl Call2<IpInet, IpInet> for First {
-    fn number(&self, host: &IpInet, _other: &IpInet) -> u32 {
+impl Call<IpInet> for First {
+    fn number(&self, host: &IpInet) -> u32 {
         host.first_address().number()
     }
 }
@@ -80,8 +41,8 @@ impl Call2<IpInet, IpInet> for First {
 #[derive(Drop)]
 struct Last;
 
-impl Call2<IpInet, IpInet> for Last {
-    fn number(&self, host: &IpInet, _other: &IpInet) -> u32 {
+impl Call<IpInet> for Last {
+    fn number(&self, host: &IpInet) -> u32 {
         host.last_address().number()
     }
 }
@@ -89,18 +50,18 @@ impl Call2<IpInet, IpInet> for Last {
 #[derive(Drop)]
 struct Contains;
 
-impl Call2<AnyIpCidr, AnyIpCidr> for Contains {
-    fn number(&self, outer: &AnyIpCidr, inner: &AnyIpCidr) -> u32 {
-        u32::from(outer.contains_cidr(inner))
+impl Call<Two> for Contains {
+    fn number(&self, two: &Two) -> u32 {
+        u32::from(two.0.contains_cidr(&two.1))
     }
 }
 
 #[derive(Drop)]
 struct Compare;
 
-impl Call2<AnyIpCidr, AnyIpCidr> for Compare {
-    fn number(&self, one: &AnyIpCidr, other: &AnyIpCidr) -> u32 {
-        match one.cmp(other) {
+impl Call<Two> for Compare {
+    fn number(&self, two: &Two) -> u32 {
+        match two.0.cmp(&two.1) {
             Ordering::Less => 0,
             Ordering::Equal => 1,
             Ordering::Greater => 2,
@@ -124,82 +85,74 @@ fn text_number(text: &str) -> u32 {
     folded(u128::from(sum))
 }
 
-/// Which of some addresses networks have.
+/// Whether a set has an address.
+#[derive(Drop)]
+struct IsIn<'a>(&'a NetworkSet<AnyIpCidr>);
+
+impl Call<AnyIpCidr> for IsIn<'_> {
+    fn number(&self, asked: &AnyIpCidr) -> u32 {
+        u32::from(self.0.contains(asked))
+    }
+}
+
+/// Which of some addresses networks have, by a set that is made of them.
 #[derive(Drop)]
 struct ContainsEach<'a> {
     alloc: Global,
     networks: &'a [AnyIpCidr],
     asked: &'a [AnyIpCidr],
-    answers: Vec<u8>,
-}
-
-impl ContainsEach<'_> {
-    fn look_up(&mut self) -> Result<(), AllocError> {
-        let set = NetworkSet::from_networks(self.alloc, self.networks)?;
-        for (answer, asked) in self.answers.iter_mut().zip(self.asked) {
-            *answer = u8::from(set.contains(asked));
-        }
-        Ok(())
-    }
 }
 
 impl Work for ContainsEach<'_> {
-    fn calls(&self) -> usize {
-        self.asked.len()
-    }
-
-    #[inline(never)]
-    fn run(&mut self, rounds: u32) -> u32 {
-        let mut sum = 0;
-        for _ in 0..rounds {
-            let _ = self.look_up();
-            for answer in &self.answers {
-                sum = mixed(sum, u32::from(*answer));
-            }
+    fn round(&mut self, _round: u32, sum: u32) -> u32 {
+        match NetworkSet::from_networks(self.alloc, self.networks) {
+            Ok(set) => called(sum, &IsIn(&set), self.asked),
+            Err(_) => sum,
         }
-        sum
     }
 }
 
-/// The longest match of each of some addresses, as an index.
+/// The longest match of an address, as an index.
+#[derive(Drop)]
+struct MatchIn<'a>(&'a Lookups<'a, AnyIpCidr, usize>);
+
+impl Call<AnyIpCidr> for MatchIn<'_> {
+    fn number(&self, asked: &AnyIpCidr) -> u32 {
+        match self.0.lookup(asked) {
+            Some(row) => (row.1 % 4_294_967_296) as u32,
+            None => u32::MAX,
+        }
+    }
+}
+
+/// The longest match of each of some addresses, by a table that is made of networks.
 #[derive(Drop)]
 struct MatchEach<'a> {
     alloc: Global,
     networks: &'a [AnyIpCidr],
     asked: &'a [AnyIpCidr],
-    answers: Vec<usize>,
 }
 
 impl MatchEach<'_> {
-    fn look_up(&mut self) -> Result<(), AllocError> {
+    /// The rows of the table: the networks with their indices.
+    fn rows(&self) -> Result<Vec<(AnyIpCidr, usize)>, AllocError> {
         let mut rows = Vec::with_capacity(self.alloc, self.networks.len())?;
         for (index, network) in self.networks.iter().enumerate() {
             rows.push((*network, index))?;
         }
-        let table = LpmTable::from_rows(rows);
+        Ok(rows)
+    }
+
+    fn look_up(&self, sum: u32) -> Result<u32, AllocError> {
+        let table = LpmTable::from_rows(self.rows()?);
         let ready = table.lookups(self.alloc)?;
-        for (answer, asked) in self.answers.iter_mut().zip(self.asked) {
-            *answer = ready.lookup(asked).map_or(usize::MAX, |row| row.1);
-        }
-        Ok(())
+        Ok(called(sum, &MatchIn(&ready), self.asked))
     }
 }
 
 impl Work for MatchEach<'_> {
-    fn calls(&self) -> usize {
-        self.asked.len()
-    }
-
-    #[inline(never)]
-    fn run(&mut self, rounds: u32) -> u32 {
-        let mut sum = 0;
-        for _ in 0..rounds {
-            let _ = self.look_up();
-            for answer in &self.answers {
-                sum = mixed(sum, (*answer % 4_294_967_296) as u32);
-            }
-        }
-        sum
+    fn round(&mut self, _round: u32, sum: u32) -> u32 {
+        self.look_up(sum).unwrap_or(sum)
     }
 }
 
@@ -209,22 +162,39 @@ pub fn time_all(bench: &Bench<'_>, text: &str) -> io::Result<()> {
     let (hosts, rest) = split(hosts.as_slice(), MANY);
     let (others, rest) = split(rest, MANY);
     let (many, asked) = split(rest, NETWORKS);
-    time_single(bench, hosts, others)?;
+    time_single(bench, hosts)?;
+    time_pairs(bench, hosts, others)?;
     time_many(&bench.slower(1_000), many, asked)
 }
 
-/// Times the calls with one value or two.
-fn time_single(bench: &Bench<'_>, hosts: &[IpInet], others: &[IpInet]) -> io::Result<()> {
+/// Times the calls with one value.
+fn time_single(bench: &Bench<'_>, hosts: &[IpInet]) -> io::Result<()> {
     let alloc = bench.rt.alloc();
     let networks = networks_of(alloc, hosts)?;
-    let around = networks_of(alloc, others)?;
-    let (networks, around) = (networks.as_slice(), around.as_slice());
-    bench.counted("read a network", Read(texts_of(alloc, networks)?))?;
-    bench.counted("print a network", Beside(Print, networks, networks))?;
-    bench.counted("first address", Beside(First, hosts, hosts))?;
-    bench.counted("last address", Beside(Last, hosts, hosts))?;
-    bench.counted("contains", Beside(Contains, around, networks))?;
-    bench.counted("compare", Beside(Compare, around, networks))
+    let networks = networks.as_slice();
+    let texts = texts_of(alloc, networks)?;
+    let read = Read::<AnyIpCidr>(PhantomData);
+    bench.each("read a network", read, texts.as_slice())?;
+    bench.each("print a network", Print, networks)?;
+    bench.each("first address", First, hosts)?;
+    bench.each("last address", Last, hosts)
+}
+
+/// The networks of hosts, each behind the network of another host.
+fn pairs_of(alloc: Global, hosts: &[IpInet], others: &[IpInet]) -> Result<Vec<Two>, AllocError> {
+    let mut pairs = Vec::new(alloc);
+    for (host, other) in hosts.iter().zip(others) {
+        let outer = AnyIpCidr::from(other.network());
+        pairs.push((outer, AnyIpCidr::from(host.network())))?;
+    }
+    Ok(pairs)
+}
+
+/// Times the calls with two values.
+fn time_pairs(bench: &Bench<'_>, hosts: &[IpInet], others: &[IpInet]) -> io::Result<()> {
+    let pairs = pairs_of(bench.rt.alloc(), hosts, others)?;
+    bench.each("contains", Contains, pairs.as_slice())?;
+    bench.each("compare", Compare, pairs.as_slice())
 }
 
 /// Times the calls with many values.
@@ -233,24 +203,18 @@ fn time_many(bench: &Bench<'_>, many: &[IpInet], asked: &[IpInet]) -> io::Result
     let networks = networks_of(alloc, many)?;
     let asked = networks_of(alloc, asked)?;
     let (networks, asked) = (networks.as_slice(), asked.as_slice());
-    bench.counted(
-        "contains each",
-        ContainsEach {
-            alloc,
-            networks,
-            asked,
-            answers: vec![in alloc; 0; asked.len()]?,
-        },
-    )?;
-    bench.counted(
-        "longest match each",
-        MatchEach {
-            alloc,
-            networks,
-            asked,
-            answers: vec![in alloc; 0; asked.len()]?,
-        },
-    )
+    let work = ContainsEach {
+        alloc,
+        networks,
+        asked,
+    };
+    bench.time("contains each", asked.len(), work)?;
+    let work = MatchEach {
+        alloc,
+        networks,
+        asked,
+    };
+    bench.time("longest match each", asked.len(), work)
 }
 
 /// The first values, and those behind them.
@@ -279,7 +243,7 @@ fn networks_of(alloc: Global, hosts: &[IpInet]) -> Result<Vec<AnyIpCidr>, AllocE
 }
 
 /// The strings of networks.
-fn texts_of(alloc: Global, networks: &[AnyIpCidr]) -> Result<Vec<ArrayString<43>>, AllocError> {
+fn texts_of(alloc: Global, networks: &[AnyIpCidr]) -> Result<Vec<Text>, AllocError> {
     let mut texts = Vec::new(alloc);
     for network in networks {
         texts.push(network.with_length().to_text())?;

@@ -1,8 +1,7 @@
 //! The loop alone, without a call: what it takes is part of each row of `contains`, `contains_cidr` and `cmp`.
 
-use crate::bench::{Bench, Call2, Pairs};
-use crate::values::{COUNT, ipv4_address};
-use std::array::from_fn;
+use crate::bench::{Bench, Call2};
+use crate::samples::fixed_values;
 use std::io;
 
 /// Takes both numbers together.
@@ -16,11 +15,7 @@ impl Call2<u32, u32> for NoCall {
 }
 
 /// Times the loop of a row alone, without a call.
-pub fn compare_all(bench: &Bench<'_>) -> io::Result<()> {
-    let values: [u32; COUNT] = from_fn(ipv4_address);
-    bench.compare(
-        "no call",
-        Pairs(NoCall, &values, &values),
-        Pairs(NoCall, &values, &values),
-    )
+pub fn time_all(bench: &Bench<'_>) -> io::Result<()> {
+    let values = fixed_values::<u32>();
+    bench.pairs("no call", NoCall, &values, &values)
 }

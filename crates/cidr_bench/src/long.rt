@@ -9,9 +9,6 @@ use std::alloc::{AllocError, Global};
 use std::fmt::Write;
 use std::io;
 
-/// How many characters the texts have.
-const LENGTHS: [usize; 3] = [1_000, 10_000, 100_000];
-
 /// What a text is read as.
 #[derive(Clone, Copy)]
 enum Kind {
@@ -108,18 +105,10 @@ struct ReadLong<'a> {
 }
 
 impl Work for ReadLong<'_> {
-    fn calls(&self) -> usize {
-        self.texts[0].len()
-    }
-
     #[inline(never)]
-    fn run(&mut self, rounds: u32) -> u32 {
-        let mut sum = 0;
-        for round in 0..rounds {
-            let is_read = is_read(self.kind, self.texts[round as usize % 2]);
-            sum = mixed(sum, u32::from(is_read));
-        }
-        sum
+    fn round(&mut self, round: u32, sum: u32) -> u32 {
+        let is_read = is_read(self.kind, self.texts[round as usize % 2]);
+        mixed(sum, u32::from(is_read))
     }
 }
 
@@ -135,32 +124,35 @@ fn text_of(alloc: Global, row: Row, len: usize) -> Result<String, AllocError> {
     Ok(text)
 }
 
-/// Reads the text at each length, and prints its lines.
-fn time(bench: &Bench<'_>, row: Row) -> io::Result<()> {
+/// Reads the text at one length, and prints its line.
+fn time_len(bench: &Bench<'_>, row: Row, len: usize) -> io::Result<()> {
     let (name, kind, _, _, _) = row;
-    if !bench.wants(name) {
-        return Ok(());
-    }
-    for len in LENGTHS {
-        let one = text_of(bench.rt.alloc(), row, len)?;
-        let other = text_of(bench.rt.alloc(), row, len)?;
-        let outcome = if is_read(kind, one.as_str()) {
-            "read"
-        } else {
-            "refused"
-        };
-        let mut line = ArrayString::<96>::new();
-        let _ = write!(line, "{name}, {outcome}, a character of {len}");
-        let texts = [one.as_str(), other.as_str()];
-        bench.alone(line.as_str(), ReadLong { kind, texts })?;
-    }
-    Ok(())
+    let one = text_of(bench.rt.alloc(), row, len)?;
+    let other = text_of(bench.rt.alloc(), row, len)?;
+    let texts = [one.as_str(), other.as_str()];
+    let outcome = if is_read(kind, texts[0]) {
+        "read"
+    } else {
+        "refused"
+    };
+    let mut line = ArrayString::<96>::new();
+    let _ = write!(line, "{name}, {outcome}, a character of {len}");
+    bench.time(line.as_str(), len, ReadLong { kind, texts })
+}
+
+/// Reads the text at each length.
+fn time(bench: &Bench<'_>, row: Row) -> io::Result<()> {
+    time_len(bench, row, 1_000)?;
+    time_len(bench, row, 10_000)?;
+    time_len(bench, row, 100_000)
 }
 
 /// Times reading of long texts.
 pub fn time_all(bench: &Bench<'_>) -> io::Result<()> {
-    for row in ROWS {
-        time(bench, row)?;
+    for row in &ROWS {
+        if bench.wants(row.0) {
+            time(bench, *row)?;
+        }
     }
     Ok(())
 }

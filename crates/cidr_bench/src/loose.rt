@@ -1,7 +1,7 @@
 //! Reading loose and short IPv4 texts.
 
-use crate::bench::{Bench, Call, Each};
-use crate::numbers::{Number, folded};
+use crate::bench::{Bench, Call};
+use crate::numbers::Number;
 use cidr::parsers::{inet_addr, parse_short_ipv4_cidr};
 use std::io;
 
@@ -47,55 +47,8 @@ impl Call<&str> for Short {
     }
 }
 
-/// Reads a loose IPv4 address, each number by the standard library.
-#[derive(Drop)]
-struct PlainLoose;
-
-impl Call<&str> for PlainLoose {
-    fn number(&self, text: &&str) -> u32 {
-        plain_address(text).unwrap_or(1)
-    }
-}
-
-/// A number by the standard library, which is handed its digits.
-fn plain_number(part: &str) -> Option<u32> {
-    match part.strip_prefix("0x") {
-        Some(digits) => u32::from_str_radix(digits, 16).ok(),
-        None if part.starts_with('0') => u32::from_str_radix(part, 8).ok(),
-        None => part.parse::<u32>().ok(),
-    }
-}
-
-/// The address of numbers that are cut at their dots one by one.
-fn plain_address(text: &str) -> Option<u32> {
-    let mut rest = text;
-    let mut front = 0u32;
-    for count in 0..4u32 {
-        let Some((octet, after)) = rest.split_once('.') else {
-            let last = u128::from(plain_number(rest)?);
-            let free = 32 - 8 * count;
-            return if last >> free == 0 {
-                Some(folded(u128::from(front) << free | last))
-            } else {
-                None
-            };
-        };
-        let octet = plain_number(octet)?;
-        if octet > 255 {
-            return None;
-        }
-        front = front << 8 | octet;
-        rest = after;
-    }
-    None
-}
-
 /// Times reading.
-pub fn compare_all(bench: &Bench<'_>) -> io::Result<()> {
-    bench.compare(
-        "read loose IPv4 address",
-        Each(Loose, &LOOSE_ADDRESSES),
-        Each(PlainLoose, &LOOSE_ADDRESSES),
-    )?;
-    bench.alone("read short IPv4 network", Each(Short, &SHORT_NETWORKS))
+pub fn time_all(bench: &Bench<'_>) -> io::Result<()> {
+    bench.each("read loose IPv4 address", Loose, &LOOSE_ADDRESSES)?;
+    bench.each("read short IPv4 network", Short, &SHORT_NETWORKS)
 }

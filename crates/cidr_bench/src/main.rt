@@ -1,14 +1,13 @@
-//! Times calls of the library beside plain ways to do the same work, in one run.
+//! Times calls of the libraries, each alone.
 //!
 //! The first argument is the number of rounds of a turn, and a second one, if given, is a part of the names of the rows
-//! to be done; with a third one it is the name of one row, of no table and no set, which the library does alone. Each
-//! line has the row's name, the nanoseconds that one call takes here and in the plain way, each the least of five
-//! turns, and the first as a fraction of the second, with a tab between each two; where there is no plain way, `-`
-//! stands for it. Without an argument nothing is timed: each row but those of large tables is done, and printed where
-//! the library and the plain way have different results.
+//! to be done; with a third one it is the name of one row, of no table and no set. Each line has the row's name, the
+//! nanoseconds that one call takes, the least of five turns, and a number that hangs on all results of a turn, with a
+//! tab between each two. The programs beside have the same number where they do the same work in another way. Without
+//! an argument each row but those of large tables is done once, and nothing is printed.
 //!
 //! With `from C` as the second argument the calls are those that the library for C makes, on values from standard
-//! input, one a line. Each line has a number that hangs on all results in place of the plain way.
+//! input, one a line.
 #![tactic(auto)]
 
 mod bench;
@@ -21,12 +20,9 @@ mod idle;
 mod loading;
 mod long;
 mod loose;
-mod masked;
-mod networks;
 mod numbers;
 mod ordering;
 mod printing;
-mod ranges;
 mod reading;
 mod routes;
 mod samples;
@@ -36,55 +32,74 @@ mod tables;
 mod values;
 mod walking;
 
-use bench::{Bench, Rows};
+use bench::Bench;
 use std::{env, io};
 
 fn main(rt: HostRuntime) -> io::Result<()> {
     let mut words = env::args(&rt)?.skip(1);
-    let rounds = words
-        .next()
-        .and_then(|word| word.as_str().parse::<u32>().ok())
-        .unwrap_or(0);
+    let rounds = words.next();
+    let rounds = text_of(&rounds).parse::<u32>().unwrap_or(0);
     let row = words.next();
-    let row = row.as_ref().map_or("", |word| word.as_str());
-    let bench = Bench {
+    run(&Bench {
         rt: &rt,
         rounds: rounds.max(1),
-        rows: if words.next().is_some() {
-            Rows::OfLibrary(row)
-        } else {
-            Rows::Like(row)
-        },
+        row: text_of(&row),
+        is_whole: words.next().is_some(),
+        of: "",
         quiet: rounds == 0,
-    };
-    if row == "from C" {
-        let values = io::read_to_string(rt.alloc(), rt.reader())?;
-        return from_c::time_all(&bench, values.as_str());
-    }
-    if !bench.quiet {
-        println!(rt; "row\tns\tplain ns\tratio")?;
-    }
-    time_calls(&bench)?;
-    if let Rows::OfLibrary(_) = bench.rows {
-        return Ok(());
-    }
-    tables::compare_all(&bench.slower(500))?;
-    loading::compare_all(&bench.slower(1_000))?;
-    covering::compare_all(&bench.slower(100))?;
-    sets::compare_all(&bench.slower(1_000))
+    })
 }
 
-/// Does the rows of no table and no set.
-fn time_calls(bench: &Bench<'_>) -> io::Result<()> {
-    reading::compare_all(&bench.slower(16))?;
-    loose::compare_all(bench)?;
+/// The text of a word, or nothing where there is none.
+fn text_of(word: &Option<String>) -> &str {
+    match word {
+        Some(word) => word.as_str(),
+        None => "",
+    }
+}
+
+/// Does the rows that are asked for.
+fn run(bench: &Bench<'_>) -> io::Result<()> {
+    if bench.row == "from C" {
+        return time_from_c(bench);
+    }
+    time_texts(bench)?;
+    time_numbers(bench)?;
+    if bench.is_whole {
+        return Ok(());
+    }
+    time_many(bench)
+}
+
+/// Does the calls of the library for C on the values from standard input.
+fn time_from_c(bench: &Bench<'_>) -> io::Result<()> {
+    let values = io::read_to_string(bench.rt.alloc(), bench.rt.reader())?;
+    from_c::time_all(&bench.all(), values.as_str())
+}
+
+/// Does the rows of texts and bytes.
+fn time_texts(bench: &Bench<'_>) -> io::Result<()> {
+    reading::time_all(&bench.slower(16))?;
+    loose::time_all(bench)?;
     long::time_all(bench)?;
-    printing::compare_all(&bench.slower(16))?;
-    bytes::compare_all(&bench.slower(16))?;
-    idle::compare_all(bench)?;
-    containing::compare_all(bench)?;
-    ordering::compare_all(bench)?;
-    bits::compare_all(bench)?;
-    stepping::compare_all(bench)?;
-    walking::compare_all(bench)
+    printing::time_all(&bench.slower(16))?;
+    bytes::time_all(&bench.slower(16))
+}
+
+/// Does the rows of single addresses and networks.
+fn time_numbers(bench: &Bench<'_>) -> io::Result<()> {
+    idle::time_all(bench)?;
+    containing::time_all(bench)?;
+    ordering::time_all(bench)?;
+    bits::time_all(bench)?;
+    stepping::time_all(bench)?;
+    walking::time_all(bench)
+}
+
+/// Does the rows of tables and sets.
+fn time_many(bench: &Bench<'_>) -> io::Result<()> {
+    tables::time_all(&bench.slower(500))?;
+    loading::time_all(&bench.slower(1_000))?;
+    covering::time_all(&bench.slower(100))?;
+    sets::time_all(&bench.slower(1_000))
 }

@@ -4,7 +4,6 @@ use arrayvec::{ArrayString, ArrayVec};
 use cidr::{
     AnyIpCidr, IpAddr, IpCidr, IpInet, Ipv4Addr, Ipv4Cidr, Ipv4Inet, Ipv6Addr, Ipv6Cidr, Ipv6Inet,
 };
-use std::net;
 
 /// A result of a call.
 pub trait Number {
@@ -22,24 +21,6 @@ pub fn folded(number: u128) -> u32 {
 /// A network's or a host's number: its address and its prefix length.
 pub fn with_length(address: u32, len: u8) -> u32 {
     address ^ u32::from(len) << 16
-}
-
-impl Number for bool {
-    fn number(&self) -> u32 {
-        u32::from(*self)
-    }
-}
-
-impl Number for u32 {
-    fn number(&self) -> u32 {
-        *self
-    }
-}
-
-impl Number for u128 {
-    fn number(&self) -> u32 {
-        folded(*self)
-    }
 }
 
 /// One number out of bytes, eight at a time and then the last eight, and where there are fewer, one by one.
@@ -77,7 +58,10 @@ impl<const N: usize> Number for ArrayString<N> {
 /// Another number than most values have, where there is none.
 impl<T: Number> Number for Option<T> {
     fn number(&self) -> u32 {
-        self.as_ref().map_or(1, |value| value.number())
+        match self {
+            Some(value) => value.number(),
+            None => 1,
+        }
     }
 }
 
@@ -98,27 +82,6 @@ impl Number for IpAddr {
         match self {
             IpAddr::V4(address) => address.number(),
             IpAddr::V6(address) => address.number(),
-        }
-    }
-}
-
-impl Number for net::Ipv4Addr {
-    fn number(&self) -> u32 {
-        self.to_bits()
-    }
-}
-
-impl Number for net::Ipv6Addr {
-    fn number(&self) -> u32 {
-        folded(self.to_bits())
-    }
-}
-
-impl Number for net::IpAddr {
-    fn number(&self) -> u32 {
-        match self {
-            net::IpAddr::V4(address) => address.number(),
-            net::IpAddr::V6(address) => address.number(),
         }
     }
 }

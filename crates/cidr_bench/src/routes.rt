@@ -2,6 +2,7 @@
 
 use crate::values::{random, random_ipv4, random_ipv4_len, random_ipv6_len};
 use cidr::{Ipv4Addr, Ipv4Cidr, Ipv4Inet, Ipv6Addr, Ipv6Cidr, Ipv6Inet, NetworkBits};
+use cidr_table::LpmTable;
 use std::alloc::{AllocError, Global};
 
 /// How many different addresses are asked for in a round.
@@ -84,23 +85,33 @@ impl Route for Ipv6Cidr {
     }
 }
 
-/// So many random routes with a value each, in ascending order, each once.
+/// So many random routes with a value each, in no order. Some come twice.
 pub fn rows_like_routes<C: Route>(alloc: Global, size: usize) -> Result<Vec<(C, u32)>, AllocError> {
     let mut rows = Vec::new(alloc);
     for index in 0..size {
         rows.push((C::route(index), random_ipv4(index)))?;
     }
-    rows.sort_by_key(|row| row.0)?;
-    rows.dedup_by_key(|row| row.0);
     Ok(rows)
 }
 
+/// A random row of a table.
+fn random_row<C: Route>(table: &LpmTable<C, u32>, index: usize) -> Option<&(C, u32)> {
+    let place = (random(index) >> 32) as usize % table.len().max(1);
+    if place < table.len() {
+        table.row(place)
+    } else {
+        None
+    }
+}
+
 /// An address in each of some rows.
-pub fn asked_inside<C: Route>(alloc: Global, rows: &[(C, u32)]) -> Result<Vec<C>, AllocError> {
+pub fn asked_inside<C: Route>(
+    alloc: Global,
+    table: &LpmTable<C, u32>,
+) -> Result<Vec<C>, AllocError> {
     let mut asked = Vec::new(alloc);
     for index in 0..ASKED {
-        let chosen = random(index ^ 0x0800_0000);
-        if let Some(row) = rows.get((chosen >> 32) as usize % rows.len().max(1)) {
+        if let Some(row) = random_row(table, index ^ 0x0800_0000) {
             asked.push(row.0.inside(random(index ^ 0x0400_0000)))?;
         }
     }
@@ -117,11 +128,10 @@ pub fn asked_outside<C: Route>(alloc: Global) -> Result<Vec<C>, AllocError> {
 }
 
 /// Keys of some rows.
-pub fn some_keys<C: Route>(alloc: Global, rows: &[(C, u32)]) -> Result<Vec<C>, AllocError> {
+pub fn some_keys<C: Route>(alloc: Global, table: &LpmTable<C, u32>) -> Result<Vec<C>, AllocError> {
     let mut keys = Vec::new(alloc);
     for index in 0..ASKED {
-        let chosen = random(index ^ 0x0100_0000);
-        if let Some(row) = rows.get((chosen >> 32) as usize % rows.len().max(1)) {
+        if let Some(row) = random_row(table, index ^ 0x0100_0000) {
             keys.push(row.0)?;
         }
     }

@@ -1,10 +1,13 @@
-//! Random addresses, networks and hosts, for the rows that take one after the other.
+//! The values that the work is done on: random ones for the rows that take one after the other, and fixed ones for
+//! those that take pairs.
 
-use crate::bench::{Bench, Call, Each};
-use crate::values::{MANY, random, random_ipv4, random_ipv4_len, random_ipv6, random_ipv6_len};
-use cidr::{IpAddr, IpCidr, Ipv4Addr, Ipv4Cidr, Ipv4Inet, Ipv6Addr, Ipv6Cidr, Ipv6Inet};
+use crate::values::{
+    COUNT, MANY, ipv4_address, ipv4_network, ipv6_address, ipv6_network, is_ipv4, random,
+    random_ipv4, random_ipv4_len, random_ipv6, random_ipv6_len,
+};
+use cidr::{AnyIpCidr, IpAddr, IpCidr, Ipv4Addr, Ipv4Cidr, Ipv4Inet, Ipv6Addr, Ipv6Cidr, Ipv6Inet};
 use std::alloc::{AllocError, Global};
-use std::io;
+use std::array::from_fn;
 
 /// A value of which there are random ones.
 pub trait Sample {
@@ -26,28 +29,6 @@ pub fn made<T: Drop, F: Fn(usize) -> T>(alloc: Global, value: F) -> Result<Vec<T
         values.push(value(index))?;
     }
     Ok(values)
-}
-
-/// Times a call with random values of a type beside another call with those of another type.
-pub fn compare_samples<T, U, C, P>(
-    bench: &Bench<'_>,
-    name: &str,
-    call: C,
-    plain: P,
-) -> io::Result<()>
-where
-    T: Sample + Drop,
-    U: Sample + Drop,
-    C: Call<T>,
-    P: Call<U>,
-{
-    let values = samples::<T>(bench.rt.alloc())?;
-    let plain_values = samples::<U>(bench.rt.alloc())?;
-    bench.compare(
-        name,
-        Each(call, values.as_slice()),
-        Each(plain, plain_values.as_slice()),
-    )
 }
 
 impl Sample for Ipv4Inet {
@@ -108,18 +89,98 @@ impl Sample for IpCidr {
     }
 }
 
-/// The first address and the prefix length.
-impl Sample for (u32, u8) {
-    fn sample(index: usize) -> (u32, u8) {
-        let network = Ipv4Cidr::sample(index);
-        (network.first_address().to_bits(), network.network_length())
+/// A value of which there are 64 fixed ones.
+pub trait Fixed: Sized {
+    /// The one with this index.
+    fn fixed(index: usize) -> Self;
+}
+
+/// All fixed values of a type.
+pub fn fixed_values<T: Fixed>() -> [T; COUNT] {
+    from_fn(|index| T::fixed(index))
+}
+
+/// The number of a round, by which values are sorted from another order.
+#[derive(Clone, Copy)]
+pub struct Order(pub u32);
+
+impl Fixed for Order {
+    fn fixed(index: usize) -> Order {
+        Order(random_ipv4(index))
     }
 }
 
-/// The first address and the prefix length.
-impl Sample for (u128, u8) {
-    fn sample(index: usize) -> (u128, u8) {
-        let network = Ipv6Cidr::sample(index);
-        (network.first_address().to_bits(), network.network_length())
+impl Fixed for u32 {
+    fn fixed(index: usize) -> u32 {
+        ipv4_address(index)
+    }
+}
+
+/// Small and large steps.
+impl Fixed for u128 {
+    fn fixed(index: usize) -> u128 {
+        u128::from(random(index) >> (index % 64))
+    }
+}
+
+impl Fixed for Ipv4Addr {
+    fn fixed(index: usize) -> Ipv4Addr {
+        Ipv4Addr::from_bits(ipv4_address(index))
+    }
+}
+
+impl Fixed for Ipv6Addr {
+    fn fixed(index: usize) -> Ipv6Addr {
+        Ipv6Addr::from_bits(ipv6_address(index))
+    }
+}
+
+/// Addresses of both families by turns.
+impl Fixed for IpAddr {
+    fn fixed(index: usize) -> IpAddr {
+        if is_ipv4(index) {
+            IpAddr::V4(Ipv4Addr::fixed(index))
+        } else {
+            IpAddr::V6(Ipv6Addr::fixed(index))
+        }
+    }
+}
+
+impl Fixed for Ipv4Inet {
+    fn fixed(index: usize) -> Ipv4Inet {
+        let (first, len) = ipv4_network(index);
+        let first = Ipv4Addr::from_bits(first);
+        Ipv4Inet::new(first, len).unwrap_or(Ipv4Inet::new_host(first))
+    }
+}
+
+impl Fixed for Ipv6Inet {
+    fn fixed(index: usize) -> Ipv6Inet {
+        let (first, len) = ipv6_network(index);
+        let first = Ipv6Addr::from_bits(first);
+        Ipv6Inet::new(first, len).unwrap_or(Ipv6Inet::new_host(first))
+    }
+}
+
+impl Fixed for Ipv4Cidr {
+    fn fixed(index: usize) -> Ipv4Cidr {
+        Ipv4Inet::fixed(index).network()
+    }
+}
+
+impl Fixed for Ipv6Cidr {
+    fn fixed(index: usize) -> Ipv6Cidr {
+        Ipv6Inet::fixed(index).network()
+    }
+}
+
+/// `Any`, and then the networks of both families.
+impl Fixed for AnyIpCidr {
+    fn fixed(index: usize) -> AnyIpCidr {
+        match index {
+            0 => AnyIpCidr::Any,
+            at if is_ipv4(at) => AnyIpCidr::V4(Ipv4Cidr::fixed(at)),
+            at => AnyIpCidr::V6(Ipv6Cidr::fixed(at)),
+        }
     }
 }

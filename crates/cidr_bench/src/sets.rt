@@ -1,48 +1,15 @@
 //! Sets of addresses: union, intersection and difference of two, and which addresses a set contains.
 //!
-//! The plain way has lists of ranges of numbers, and looks an address up by a binary search in the networks of the set.
-//! The last address of each result is used, and after the last round the number of its addresses.
+//! The last address of each result is used, and of the first round the number of its addresses.
 
-use crate::bench::{Bench, Call, Each, Work};
+use crate::bench::{Bench, Call, Work};
 use crate::numbers::folded;
-use crate::ranges::{Bound, count, difference, intersection, push_joined, union};
 use crate::routes::{ASKED, Route};
-use crate::tables::named;
 use crate::values::{mixed, random};
 use cidr::{Ipv4Cidr, Ipv6Cidr, NetworkBits};
 use cidr_sets::{AddressSpace, NetworkSet};
 use std::alloc::{AllocError, Global};
 use std::io;
-
-/// Networks of one family, whose addresses are numbers.
-trait Spanned: Route + AddressSpace {
-    type Number: Bound;
-
-    /// The first and the last number of the network.
-    fn range(&self) -> (Self::Number, Self::Number);
-}
-
-impl Spanned for Ipv4Cidr {
-    type Number = u32;
-
-    fn range(&self) -> (u32, u32) {
-        (
-            self.first_address().to_bits(),
-            self.last_address().to_bits(),
-        )
-    }
-}
-
-impl Spanned for Ipv6Cidr {
-    type Number = u128;
-
-    fn range(&self) -> (u128, u128) {
-        (
-            self.first_address().to_bits(),
-            self.last_address().to_bits(),
-        )
-    }
-}
 
 /// What is done with two sets.
 #[derive(Clone, Copy, Drop)]
@@ -62,69 +29,31 @@ const OPERATIONS: [(Operation, &str); 3] = [
 #[derive(Drop)]
 struct OfSets<'a, C: AddressSpace + Copy>(Operation, &'a NetworkSet<C>, &'a NetworkSet<C>);
 
+/// The last address of a set, and where it is asked for, the number of its addresses.
+fn set_number<C: AddressSpace + Copy>(set: &NetworkSet<C>, is_counted: bool) -> u32 {
+    let last = match set.as_slice().last() {
+        Some(network) => network.ends().1,
+        None => 0,
+    };
+    if is_counted {
+        folded(last ^ set.address_count().unwrap_or(0))
+    } else {
+        folded(last)
+    }
+}
+
 impl<C: AddressSpace + Copy> Work for OfSets<'_, C> {
-    fn calls(&self) -> usize {
-        self.1.len().saturating_add(self.2.len())
-    }
-
     #[inline(never)]
-    fn run(&mut self, rounds: u32) -> u32 {
-        let mut sum = 0;
-        for round in 1..=rounds {
-            let result = match self.0 {
-                Operation::Union => self.1.union(self.2),
-                Operation::Intersection => self.1.intersection(self.2),
-                Operation::Difference => self.1.difference(self.2),
-            };
-            if let Ok(set) = result {
-                let last = set.as_slice().last().map_or(0, |network| network.ends().1);
-                let count = if round == rounds {
-                    set.address_count()
-                } else {
-                    None
-                };
-                sum = mixed(sum, folded(last ^ count.unwrap_or(0)));
-            }
+    fn round(&mut self, round: u32, sum: u32) -> u32 {
+        let result = match self.0 {
+            Operation::Union => self.1.union(self.2),
+            Operation::Intersection => self.1.intersection(self.2),
+            Operation::Difference => self.1.difference(self.2),
+        };
+        match result {
+            Ok(set) => mixed(sum, set_number(&set, round == 0)),
+            Err(_) => sum,
         }
-        sum
-    }
-}
-
-/// Makes a list of ranges of two others, for sets of so many networks.
-#[derive(Drop)]
-struct OfRanges<'a, N> {
-    operation: Operation,
-    alloc: Global,
-    these: &'a [(N, N)],
-    those: &'a [(N, N)],
-    networks: usize,
-}
-
-impl<N: Bound> Work for OfRanges<'_, N> {
-    fn calls(&self) -> usize {
-        self.networks
-    }
-
-    #[inline(never)]
-    fn run(&mut self, rounds: u32) -> u32 {
-        let mut sum = 0;
-        for round in 1..=rounds {
-            let result = match self.operation {
-                Operation::Union => union(self.alloc, self.these, self.those),
-                Operation::Intersection => intersection(self.alloc, self.these, self.those),
-                Operation::Difference => difference(self.alloc, self.these, self.those),
-            };
-            if let Ok(ranges) = result {
-                let last = ranges.last().map_or(0, |range| range.1.wide());
-                let count = if round == rounds {
-                    count(ranges.as_slice())
-                } else {
-                    0
-                };
-                sum = mixed(sum, folded(last ^ count));
-            }
-        }
-        sum
     }
 }
 
@@ -138,29 +67,13 @@ impl<C: NetworkBits + Copy> Call<C> for Contains<'_, C> {
     }
 }
 
-/// The same, by a binary search for the last network that does not come after the address.
-#[derive(Drop)]
-struct Search<'a, C>(&'a [C]);
-
-impl<C: Spanned> Call<C> for Search<'_, C> {
-    fn number(&self, asked: &C) -> u32 {
-        match self.0.binary_search_by(|network| network.cmp(asked)) {
-            Ok(_) => 1,
-            Err(place) => {
-                let before = place.checked_sub(1).and_then(|place| self.0.get(place));
-                u32::from(before.map_or(false, |network| asked.range().1 <= network.range().1))
-            }
-        }
-    }
-}
-
 /// The place in the networks alone, by a binary search.
 #[derive(Drop)]
 struct Place<'a, C>(&'a [C]);
 
 impl<C: Ord> Call<C> for Place<'_, C> {
     fn number(&self, asked: &C) -> u32 {
-        let (Ok(place) | Err(place)) = self.0.binary_search_by(|network| network.cmp(asked));
+        let (Ok(place) | Err(place)) = self.0.binary_search(asked);
         (place % 4_294_967_296) as u32
     }
 }
@@ -179,18 +92,6 @@ fn set_like_routes<C: Route>(
     NetworkSet::from_networks(alloc, networks.as_slice())
 }
 
-/// The ranges of some networks that ascend.
-fn ranges_of<C: Spanned>(
-    alloc: Global,
-    networks: &[C],
-) -> Result<Vec<(C::Number, C::Number)>, AllocError> {
-    let mut ranges = Vec::new(alloc);
-    for network in networks {
-        push_joined(&mut ranges, network.range())?;
-    }
-    Ok(ranges)
-}
-
 /// Addresses of which about half are in some of the networks, and the others anywhere.
 fn asked<C: Route>(alloc: Global, networks: &[C], more: u8) -> Result<Vec<C>, AllocError> {
     let mut asked = Vec::new(alloc);
@@ -205,50 +106,53 @@ fn asked<C: Route>(alloc: Global, networks: &[C], more: u8) -> Result<Vec<C>, Al
     Ok(asked)
 }
 
-/// Times a set of ten parts by one of one part, half of whose networks are the last ones of the other. The networks have
-/// so many bits more than those of routing tables, so that fewer of them overlap.
-fn compare_size<C: Spanned>(bench: &Bench<'_>, of: &str, part: usize, more: u8) -> io::Result<()> {
+/// Times operations on two sets.
+fn time_operations<C: AddressSpace + Copy>(
+    bench: &Bench<'_>,
+    these: &NetworkSet<C>,
+    those: &NetworkSet<C>,
+) -> io::Result<()> {
+    let networks = these.len().saturating_add(those.len());
+    for (operation, name) in OPERATIONS {
+        bench.time(name, networks, OfSets(operation, these, those))?;
+    }
+    Ok(())
+}
+
+/// Times questions of a set.
+fn time_questions<C: AddressSpace + Copy>(
+    bench: &Bench<'_>,
+    set: &NetworkSet<C>,
+    asked: &[C],
+) -> io::Result<()> {
+    bench.each("set contains", Contains(set), asked)?;
+    bench.each("set binary search", Place(set.as_slice()), asked)
+}
+
+/// Times a set of ten parts by one of one part, half of whose networks are the last ones of the other. The networks
+/// have so many bits more than those of routing tables, so that fewer of them overlap.
+fn time<C: Route + AddressSpace>(bench: &Bench<'_>, part: usize, more: u8) -> io::Result<()> {
     let alloc = bench.rt.alloc();
     let most = part.saturating_mul(9);
     let these = set_like_routes::<C>(alloc, 0, most, more)?;
     let those = set_like_routes::<C>(alloc, most.saturating_sub(part / 2), part, more)?;
-    let ranges = ranges_of(alloc, these.as_slice())?;
-    let other_ranges = ranges_of(alloc, those.as_slice())?;
-    for (operation, name) in OPERATIONS {
-        bench.compare(
-            named(name, of).as_str(),
-            OfSets(operation, &these, &those),
-            OfRanges {
-                operation,
-                alloc,
-                these: ranges.as_slice(),
-                those: other_ranges.as_slice(),
-                networks: these.len().saturating_add(those.len()),
-            },
-        )?;
-    }
-    let networks = these.as_slice();
-    let asked = asked(alloc, networks, more)?;
-    bench.compare(
-        named("set contains", of).as_str(),
-        Each(Contains(&these), asked.as_slice()),
-        Each(Search(networks), asked.as_slice()),
-    )?;
-    bench.alone(
-        named("set binary search", of).as_str(),
-        Each(Place(networks), asked.as_slice()),
-    )
+    let asked = asked(alloc, these.as_slice(), more)?;
+    time_operations(bench, &these, &those)?;
+    time_questions(bench, &these, asked.as_slice())
 }
 
-/// Times sets of both families, of routes as they are and of longer networks.
-pub fn compare_all(bench: &Bench<'_>) -> io::Result<()> {
-    compare_size::<Ipv4Cidr>(bench, "IPv4, small", 100, 0)?;
-    compare_size::<Ipv6Cidr>(bench, "IPv6, small", 100, 0)?;
+/// Times sets of both families, with the ends of the names of their rows.
+fn time_size(bench: &Bench<'_>, of: [&str; 2], part: usize, more: u8) -> io::Result<()> {
+    time::<Ipv4Cidr>(&bench.of(of[0]), part, more)?;
+    time::<Ipv6Cidr>(&bench.of(of[1]), part, more)
+}
+
+/// Times sets of routes as they are and of longer networks.
+pub fn time_all(bench: &Bench<'_>) -> io::Result<()> {
+    time_size(bench, ["IPv4, small", "IPv6, small"], 100, 0)?;
     if bench.quiet {
         return Ok(());
     }
-    compare_size::<Ipv4Cidr>(bench, "IPv4, routes", 100_000, 0)?;
-    compare_size::<Ipv6Cidr>(bench, "IPv6, routes", 100_000, 0)?;
-    compare_size::<Ipv4Cidr>(bench, "IPv4", 100_000, 8)?;
-    compare_size::<Ipv6Cidr>(bench, "IPv6", 100_000, 8)
+    time_size(bench, ["IPv4, routes", "IPv6, routes"], 100_000, 0)?;
+    time_size(bench, ["IPv4", "IPv6"], 100_000, 8)
 }
