@@ -64,7 +64,7 @@ fn read_rows<C: PrefixBytes + Copy>(
 
 /// The table of the rows, where of those of one key the one with the greatest index counts.
 ///
-/// They are sorted by key and index first, which takes fewer moves than the stable sort of `from_rows`.
+/// They are sorted by key and index first, in place: the stable sort of `from_rows` would take memory.
 #[inline]
 fn of_last_places<C: NetworkBits + Copy>(mut rows: Vec<(C, usize)>) -> LpmTable<C, usize> {
     rows.sort_unstable();
