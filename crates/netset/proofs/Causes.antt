@@ -7,11 +7,11 @@ use Rattle.cidr_io.specs.declared.lines.ReadError.TheVariants as no_line
 use Rattle.cidr_io.specs.declared.sink.OutputFailed.{OutputFailed}
 use Rattle.cidr_io.specs.Writing.{State}
 use Rattle.netset.specs.Causes.{Cause, HasTooManyLines, LookCause, MayFail, ReadCause, TextFails}
-use Rattle.netset.specs.Commands.{Request, Lists, NotIn, Diff, Free, Check, Match, Look, Single as ASingle, Help, Version}
+use Rattle.netset.specs.Commands.{Single as ASingle}
 use Rattle.netset.specs.Gathering.{IsLost, Stops, ended_by}
 use Rattle.netset.specs.Lists.{Text, lines_of}
 use Rattle.netset.specs.LookUps.{unread}
-use Rattle.netset.specs.Program.{AnswersRequest, IsBadArgument, IsCaused, by_output}
+use Rattle.netset.specs.Program.{AnswersRequest, IsBadArgument, by_output}
 use Rattle.netset.specs.Reading.{IsStopped, read_error}
 use Rattle.netset.specs.Single.{SingleRequest}
 use Rattle.netset.specs.declared.answers.Verdict.{Verdict}
@@ -157,25 +157,3 @@ take_cause F refused P what file number part old new block rest (error.Line name
 take_cause F refused P what file number part old new block rest (error.Input name) h = absurd h
 take_cause F refused P what file number part old new block rest error.NoMemory h = absurd h
 take_cause F refused P what file number part old new block rest error.Output h = tt
-
--- ---- lists that were read whole
-fails_more : (told more : Option Text) → ((text : Text) → told ≡ Some text → more ≡ Some text) → IfSome more (λ text. HasTooManyLines text.bytes)
-    → IfSome told (λ text. HasTooManyLines text.bytes)
-fails_more None more agree h = tt
-fails_more (Some text) more agree h = subst (λ (k : Option Text). IfSome k (λ text. HasTooManyLines text.bytes)) (agree text refl) h
-
-module _ (told more : List ℕ → Option Text) (agree : (name : List ℕ) (text : Text) → told name ≡ Some text → more name ≡ Some text) (refused : Bool) where
-  causes_more : (r : Result Verdict CommandError) → IfErr r (Cause (MayFail more) refused) → IfErr r (Cause (MayFail told) refused)
-  causes_more r h = causes_weaker (MayFail more) (MayFail told) refused r (λ name k. fails_more (told name) (more name) (agree name) k) h
-
-  pub caused_more : (request : Request) (r : Result Verdict CommandError) → IsCaused more refused request r → IsCaused told refused request r
-  caused_more (Lists operation files) r h = causes_more r h
-  caused_more (NotIn net files) r h = causes_more r h
-  caused_more (Diff old new) r h = causes_more r h
-  caused_more (Free pool len used) r h = causes_more r h
-  caused_more (Check files) r h = tt
-  caused_more (Match options list file) r h = causes_more r h
-  caused_more (Look table file) r h = causes_more r h
-  caused_more (ASingle request) r h = causes_more r h
-  caused_more Help r h = causes_more r h
-  caused_more Version r h = causes_more r h

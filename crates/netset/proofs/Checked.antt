@@ -1,10 +1,10 @@
 -- What is written of the findings in lists.
 use Rattle.std.proofs.Common.{◌≡◌, refl, sym, ◌∙◌, ap, inr, subst, arith, false, true, ℕ, ◌+◌, ◌-◌, ◌*◌, ◌<◌, ◌≤◌, List, [], ◌∷◌, ◌++◌, codes, length, map, Option, Some, None, Result, Ok, Err, slice_get, append_assoc}
 use Rattle.std.specs.List.{flat_map}
-use Rattle.std.proofs.lemmas.List.{append-nil, flat_map_more, length_push}
+use Rattle.std.proofs.lemmas.List.{flat_map_more, length_push}
 use Rattle.std.proofs.lemmas.List.Concat.{flat_map-append}
 use Rattle.std.proofs.lemmas.Option.{slice_get_within}
-use Rattle.cidr_io.specs.Writing.{Answered, Part, State, Whole, Writes}
+use Rattle.cidr_io.specs.Writing.{Part, State, Writes}
 use Rattle.cidr_io.specs.declared.sink.OutputFailed.{OutputFailed}
 use Rattle.cidr_io.specs.Collecting.{Collects, Holds}
 use Rattle.cidr_io.proofs.Chains.{answered, part_more, part_none}
@@ -18,7 +18,6 @@ use Rattle.netset.specs.Unchecked.{AreToldEntries}
 use Rattle.netset.specs.declared.answers.Verdict.{Verdict}
 use Rattle.netset.specs.declared.answers.Verdict.TheVariants.{Yes, No}
 use Rattle.netset.specs.declared.entries.Entry.{Entry}
-use Rattle.netset.specs.declared.errors.CommandError.{CommandError}
 use Rattle.netset.specs.declared.errors.CommandError.TheVariants as error
 use Rattle.netset.specs.declared.findings.Note.{Note}
 use Rattle.netset.specs.declared.near.Near.{Near}

@@ -1,8 +1,8 @@
 -- The findings behind some of them.
-use Rattle.std.proofs.Common.{◌≡◌, refl, sym, ◌∙◌, ap, subst, arith, ℕ, zero, suc, ◌+◌, ◌-◌, ◌*◌, ◌/◌, ◌%◌, ◌<◌, ◌≤◌, List, [], ◌∷◌, ◌++◌, length, map, Option, Some, None, slice_get, append_assoc}
+use Rattle.std.proofs.Common.{◌≡◌, sym, subst, arith, ℕ, zero, suc, ◌+◌, ◌*◌, ◌/◌, ◌%◌, ◌<◌, List, [], ◌∷◌, ◌++◌, length, map, Option, Some, None, slice_get, append_assoc}
 use Rattle.std.proofs.lemmas.List.{append-nil}
 use Rattle.std.proofs.lemmas.Option.{slice_get_within}
-use Rattle.netset.specs.Findings.{AreNotes, AreNotesBelow, IsOnlyNote, entry_network, kind_rank}
+use Rattle.netset.specs.Findings.{AreNotes, AreNotesBelow, IsOnlyNote, entry_network}
 use Rattle.netset.specs.Nearness.{AreNear, IsNear}
 use Rattle.netset.specs.declared.entries.Entry.{Entry}
 use Rattle.netset.specs.declared.findings.Note.{Note}

@@ -8,7 +8,7 @@ use Rattle.netset.specs.Combining.{name_of}
 use Rattle.netset.specs.Commands.{Request, Lists, NotIn, Diff, Free, Check, Match, Look, Single as ASingle, Help, Version, AreTold, IsAnswer, IsMadeOf, IsRequest, read_files, reading_of, reading_options, without_options}
 use Rattle.netset.specs.Lists.{Text}
 use Rattle.netset.specs.Look.{IsLook}
-use Rattle.netset.specs.Program.{AnswersRequest, AnswersWhole, IsLoadError, IsReadTwice, IsRefused, KeepsGoing, Reports, Runs, RunsArguments, RunsRequest, RunsWords, by_output, status_of, told_by}
+use Rattle.netset.specs.Program.{AnswersRequest, AnswersWhole, IsRefused, KeepsGoing, Reports, Runs, RunsArguments, RunsRequest, RunsWords, by_output, status_of, told_by}
 use Rattle.netset.specs.Single.{SingleRequest, Show, Split, Nth}
 use Rattle.netset.specs.declared.answers.Verdict.{Verdict}
 use Rattle.netset.specs.declared.answers.Verdict.TheVariants.{Yes, No}
@@ -74,21 +74,23 @@ request_done told request closed out new err mid new_err r zero answers says tol
     let same : new_err ≡ mid = (rw yes at says) in
     (answer, is, whole, subst (λ (k : State). Tells err k []) (sym same) told_nothing)
 
-not_loaded : (names : List (List ℕ)) (e : CommandError) → IsLoadError names e → 0 ≡ status_of (Err e) → ⊥
-not_loaded names error.Usage h zero = cc
-not_loaded names (error.Argument text e) h zero = cc
-not_loaded names (error.Line name number e) h zero = cc
-not_loaded names (error.Input name) h zero = cc
-not_loaded names error.NoMemory h zero = cc
-not_loaded names error.Output h zero = absurd h
+never_zero : (e : CommandError) → 0 ≡ status_of (Err e) → ⊥
+never_zero error.Usage zero = cc
+never_zero (error.Argument text e) zero = cc
+never_zero (error.Line name number e) zero = cc
+never_zero (error.Input name) zero = cc
+never_zero error.NoMemory zero = cc
+never_zero error.Output zero = cc
 
 keeps_done : (told : List ℕ → Option Text) (refused : Bool) (request : Request) (closed : Bool) (out new err new_err : State)
     → KeepsGoing told refused request closed out new err new_err 0 → Done told request out new err new_err
-keeps_done told refused request closed out new err new_err (lines, mid, tells, inl (fine, inl (any, same, quiet, zero))) = cc
-keeps_done told refused request closed out new err new_err (lines, mid, tells, inl (fine, inr (none, r, answers, caused, says, zero))) =
+keeps_done told refused request closed out new err new_err (inl (e, wrong, (same, says, zero))) = absurd (never_zero e zero)
+keeps_done told refused request closed out new err new_err (inr (right, (lines, mid, tells, inl (fine, inl (any, same, quiet, zero))))) = cc
+keeps_done told refused request closed out new err new_err (inr (right, (lines, mid, tells, inl (fine, inr (none, r, answers, caused, says, zero))))) =
     request_done told request closed out new err mid new_err r zero answers says (subst (λ (k : List ℕ). Tells err mid k) none tells)
-keeps_done told refused request closed out new err new_err (lines, mid, tells, inr (before, after, split, fine, e, why, cause, same, says, zero)) =
-    absurd (not_loaded after e why zero)
+keeps_done told refused request closed out new err new_err
+    (inr (right, (lines, mid, tells, inr (before, after, split, front, rest, is, fine, begun, e, why, cause, same, says, zero)))) =
+    absurd (never_zero e zero)
 
 run_done : (reading : Reading) (told : List ℕ → Option Text) (refused : Bool) (request : Request) (closed : Bool) (out new err new_err : State)
     → RunsRequest reading told refused request closed out new err new_err 0 → Done told request out new err new_err
@@ -96,19 +98,11 @@ run_done reading told refused request closed out new err new_err (inl (keeps, go
 run_done reading told refused request closed out new err new_err (inr (plain, r, answers, caused, says, zero)) =
     request_done told request closed out new err err new_err r zero answers says (tells_nothing err)
 
-read_twice : (e : CommandError) → IsReadTwice e → 0 ≡ status_of (Err e) → ⊥
-read_twice error.Usage h zero = cc
-read_twice (error.Argument text e) h zero = cc
-read_twice (error.Line name number e) h zero = cc
-read_twice (error.Input name) h zero = cc
-read_twice error.NoMemory h zero = absurd h
-read_twice error.Output h zero = absurd h
-
 words_done : (reading : Reading) (told : List ℕ → Option (List ℕ)) (refused : Bool) (words : List (List ℕ)) (closed : Bool) (out new err new_err : State)
     → RunsWords reading told refused words closed out new err new_err 0
     → (request : Request) × IsRequest words request × Done (told_by reading.host_bits told) request out new err new_err
 words_done reading told refused words closed out new err new_err (inl (usage, (same, says, zero))) = cc
-words_done reading told refused words closed out new err new_err (inr (request, is, may, inl (twice, e, why, (same, says, zero)))) = absurd (read_twice e why zero)
+words_done reading told refused words closed out new err new_err (inr (request, is, may, inl (twice, e, why, (same, says, zero)))) = absurd (never_zero e zero)
 words_done reading told refused words closed out new err new_err (inr (request, is, may, inr (once, h))) =
     (request, is, run_done reading (told_by reading.host_bits told) refused request closed out new err new_err h)
 

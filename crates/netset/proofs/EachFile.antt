@@ -8,8 +8,9 @@ use Rattle.cidr.specs.declared.family.Family.{Family}
 use Rattle.cidr.specs.declared.family.Family.TheVariants.{Ipv4, Ipv6}
 use Rattle.cidr_table.specs.Cover.{Covers}
 use Rattle.cidr_sets.specs.Sets.{IsSetOf}
-use Rattle.netset.specs.Lists.{Text, text_by, ListSays, networks_in}
-use Rattle.netset.specs.Reading.{ReadsList, listed}
+use Rattle.netset.specs.Keeping.{AllSaid}
+use Rattle.netset.specs.Lists.{Text, lines_of, text_by, ListSays, networks_in}
+use Rattle.netset.specs.Reading.{Grows, ReadsList, listed}
 use Rattle.netset.specs.Commands.{AreTold}
 use Rattle.netset.specs.Program.{IsUnread, StopsAt}
 use Rattle.netset.specs.Sets.{held}
@@ -21,6 +22,7 @@ use Rattle.netset.specs.declared.errors.CommandError.{CommandError}
 use Rattle.netset.specs.declared.errors.CommandError.TheVariants as error
 use Rattle.netset.specs.declared.errors.ReadError.{ReadError}
 use Rattle.netset.specs.declared.lines.HostBits.{HostBits}
+use Rattle.netset.specs.declared.keeping.Said.TheVariants.{Networks}
 use Rattle.netset.specs.declared.lists.Lists.{Lists}
 use Rattle.netset.specs.declared.sets.Sets.{Sets}
 
@@ -30,6 +32,14 @@ pub list_read : (told : Option Text) (left : Option (List ℕ)) (bits : HostBits
     → IfSome left (λ bytes. ReadsList (text_by bits bytes) old new r) → (text : Text) → told ≡ Some text → ReadsList text old new r
 list_read told left bits old new r opens by h text is =
     rw (text_same bits text (by text is)) at (bytes_read (λ bytes. ReadsList (text_by bits bytes) old new r) left text.bytes (opens text is) h)
+
+-- the list of a file, as it was kept
+pub networks_copied : (told : Option Text) (name : List ℕ) (old new kept : Lists)
+    → ((text : Text) → told ≡ Some text → AllSaid text.host_bits (lines_of text.bytes) (Networks kept)) → Grows old new (listed kept)
+    → AddsFile told name old new (Ok tt)
+networks_copied told name old new kept is grows text at =
+    let (said, says, same) = is text at in
+    (said, says, λ family. grows family ∙ ap (λ (k : List (List Bool)). listed old family ++ k) (same family))
 
 -- the list of one file as a set
 pub file_set : (told : Option Text) (name : List ℕ) (old new : Lists) (sets : Sets) → old.v4.items ≡ [] → old.v6.items ≡ [] → AddsFile told name old new (Ok tt)

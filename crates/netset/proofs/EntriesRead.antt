@@ -1,12 +1,15 @@
 -- The entries of lists, read line by line and list by list.
-use Rattle.std.proofs.Common.{◌≡◌, refl, sym, ◌∙◌, ap, subst, arith, Bor, ℕ, ◌+◌, ◌<◌, ◌≤◌, List, [], ◌∷◌, ◌++◌, length, take, drop, get_or, Option, Some, None, Result, Ok, Err, append_assoc}
+use Rattle.std.proofs.Common.{◌≡◌, refl, sym, ◌∙◌, ap, subst, arith, Bor, Bool, ℕ, ◌+◌, ◌<◌, ◌≤◌, List, [], ◌∷◌, ◌++◌, length, take, drop, get_or, Option, Some, None, Result, Ok, Err, append_assoc}
 use Rattle.std.specs.Option.{IfSome}
-use Rattle.std.specs.Prelude.{option_to_list}
-use Rattle.std.proofs.lemmas.List.{append-nil, take_all, take-append-drop, at_drop_more, get_or-map}
+use Rattle.std.specs.Prelude.{option_to_list, IsTrue, ◌↔◌}
+use Rattle.cidr.specs.either.IpText.{IsIpHostText, ip_host_text}
+use Rattle.cidr.specs.texts.Printed.{plain_host_text}
+use Rattle.cidr.specs.declared.inet.combined.IpInet.{IpInet}
+use Rattle.std.proofs.lemmas.List.{append-nil, take_all, take_more, take-append-drop, at_drop_more, get_or-map}
 use Rattle.std.proofs.lemmas.List.Elements.{Contains-append_right}
-use Rattle.std.specs.List.{Contains}
+use Rattle.std.specs.List.{AllZip, Contains}
 use Rattle.cidr_table.proofs.MapLaws.{contains_first}
-use Rattle.netset.specs.Entries.{AddsEntries, AddsEntry, AreAllEntries, AreEntries, HasAdded, IsFirstFault, IsLineFault, IsTextFault, LineHas}
+use Rattle.netset.specs.Entries.{AddsEntries, AddsEntry, AreAllEntries, AreEntries, HasAdded, IsFirstFault, IsLineFault, IsTextFault, LineHas, CopiesEntries, IsCopyIn}
 use Rattle.netset.specs.Lists.{Text, lines_of}
 use Rattle.netset.specs.Reading.{IsStopped}
 use Rattle.netset.specs.Unchecked.{AddsFileEntries, AreToldEntries, IsFileFault, IsUnchecked}
@@ -18,9 +21,10 @@ use Rattle.netset.specs.declared.errors.ReadError.TheVariants.{Line, Input, NoMe
 use Rattle.netset.proofs.Arguments.{bytes_of, same_length, within_bytes}
 use Rattle.netset.proofs.EachFile.{last_told, next_taken}
 use Rattle.netset.proofs.LinesRead.{LineAt}
+use Rattle.netset.proofs.Zips.{zip_behind}
 
 -- ---- the lines of a file
-line_behind : (file : List ℕ) (number n : ℕ) (lines : List (List ℕ)) (line : List ℕ) (entries : List Entry) (one : Option Entry) → n ≡ number + length lines
+pub line_behind : (file : List ℕ) (number n : ℕ) (lines : List (List ℕ)) (line : List ℕ) (entries : List Entry) (one : Option Entry) → n ≡ number + length lines
     → AreEntries file number lines entries → LineHas file n line one → AreEntries file number (lines ++ line ∷ []) (entries ++ option_to_list one)
 line_behind file number n [] line entries one at are has =
     let here : n ≡ number = omega (arith, at) in (
@@ -173,3 +177,57 @@ pub all_files_at : (told : List ℕ → Option Text) (first : List ℕ) (files :
     → AreToldEntries told (first ∷ take i (bytes_of files)) entries → AreToldEntries told (first ∷ bytes_of files) entries
 all_files_at told first files i entries past h =
     subst (λ (k : List (List ℕ)). AreToldEntries told (first ∷ k) entries) (take_all i (bytes_of files) (omega (arith, same_length files))) h
+
+-- ---- entries that were kept in a file of no name
+line_in : (file : List ℕ) (number : ℕ) (line : List ℕ) (entry copy : Entry) → IsCopyIn file entry copy → LineHas [] number line (Some entry)
+    → LineHas file number line (Some copy)
+line_in file number line entry copy (in_file, same_number, same_host, same_form) (no_name, at, field, is_field, is_host, canonical) = (
+  in_file,
+  same_number ∙ at,
+  field,
+  is_field,
+  subst (IsIpHostText field) (sym same_host) is_host,
+  subst (λ (h : IpInet). IsTrue copy.is_canonical ↔ (field ≡ ip_host_text plain_host_text h)) (sym same_host)
+      (subst (λ (b : Bool). IsTrue b ↔ (field ≡ ip_host_text plain_host_text entry.host)) (sym same_form) canonical),
+)
+
+-- one line and those behind it
+entries_by : (file : List ℕ) (number : ℕ) (line : List ℕ) (lines : List (List ℕ)) (one : Option Entry) (rest copies : List Entry) → LineHas [] number line one
+    → ((others : List Entry) → AllZip (IsCopyIn file) rest others → AreEntries file (number + 1) lines others)
+    → AllZip (IsCopyIn file) (option_to_list one ++ rest) copies → AreEntries file number (line ∷ lines) copies
+entries_by file number line lines None rest copies has more zip = (None, copies, has, more copies zip, refl)
+entries_by file number line lines (Some entry) rest [] has more zip = absurd zip
+entries_by file number line lines (Some entry) rest (copy ∷ copies) has more zip =
+    (Some copy, copies, line_in file number line entry copy zip.0 has, more copies zip.1, refl)
+
+none_zipped : (file : List ℕ) (copies : List Entry) → AllZip (IsCopyIn file) [] copies → copies ≡ []
+none_zipped file [] zip = refl
+none_zipped file (copy ∷ copies) zip = absurd zip
+
+entries_in : (file : List ℕ) (number : ℕ) (lines : List (List ℕ)) (entries copies : List Entry) → AreEntries [] number lines entries
+    → AllZip (IsCopyIn file) entries copies → AreEntries file number lines copies
+entries_in file number [] entries copies are zip = none_zipped file copies (subst (λ (k : List Entry). AllZip (IsCopyIn file) k copies) are zip)
+entries_in file number (line ∷ lines) entries copies (one, rest, has, more, is) zip =
+    entries_by file number line lines one rest copies has (λ others h. entries_in file (number + 1) lines rest others more h)
+    (subst (λ (k : List Entry). AllZip (IsCopyIn file) k copies) is zip)
+
+pub entries_copied : (told : Option Text) (file : List ℕ) (old new kept : List Entry)
+    → ((text : Text) → told ≡ Some text → AreEntries [] 1 (lines_of text.bytes) kept) → CopiesEntries file kept old new
+    → AddsFileEntries told file old new (Ok tt)
+entries_copied told file old new kept is (copies, zip, added) text at = (copies, entries_in file 1 (lines_of text.bytes) kept copies (is text at) zip, added)
+
+pub none_copied : (file : List ℕ) (old : List Entry) → CopiesEntries file [] old old
+none_copied file old = ([], tt, sym (append-nil old))
+
+pub one_copied : (file : List ℕ) (old now new kept : List Entry) (i : ℕ) (item copy : Entry) → i < length kept → CopiesEntries file (take i kept) old now
+    → item ≡ get_or kept i item → IsCopyIn file item copy → new ≡ now ++ copy ∷ [] → CopiesEntries file (take (i + 1) kept) old new
+one_copied file old now new kept i item copy within (copies, zip, added) here is pushed = (
+  copies ++ copy ∷ [],
+  subst (λ (k : List Entry). AllZip (IsCopyIn file) k (copies ++ copy ∷ [])) (sym (take_more kept i item within))
+      (zip_behind (IsCopyIn file) (take i kept) copies (get_or kept i item) copy zip (subst (λ (k : Entry). IsCopyIn file k copy) here is)),
+  pushed ∙ (ap (λ (k : List Entry). k ++ copy ∷ []) added ∙ append_assoc old copies (copy ∷ [])),
+)
+
+pub all_copied : (file : List ℕ) (old new kept : List Entry) (i : ℕ) → length kept ≤ i → CopiesEntries file (take i kept) old new
+    → CopiesEntries file kept old new
+all_copied file old new kept i past h = subst (λ (k : List Entry). CopiesEntries file k old new) (take_all i kept past) h

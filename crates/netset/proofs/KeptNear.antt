@@ -1,18 +1,15 @@
 -- What is kept of the rows passed, and what a row more adds.
-use Rattle.std.proofs.Common.{◌≡◌, ◌≢◌, ◌⊎◌, refl, sym, ◌∙◌, ap, subst, arith, inl, inr, ℕ, ◌+◌, ◌<◌, ◌≤◌, Bool, List, [], ◌∷◌, ◌++◌, length, set, get_or, Option, Some, None, slice_get}
+use Rattle.std.proofs.Common.{◌≡◌, ◌≢◌, refl, sym, ◌∙◌, ap, subst, arith, inl, inr, ℕ, ◌<◌, ◌≤◌, Bool, List, [], ◌∷◌, ◌++◌, length, set, Option, Some, None, slice_get}
 use Rattle.std.specs.List.{Contains}
 use Rattle.std.specs.Option.{option_map}
-use Rattle.std.specs.Prelude.{option_to_list}
-use Rattle.std.specs.declared.cmp.Ordering.TheVariants.{Greater}
 use Rattle.std.proofs.lemmas.Bool.{cases_eq, cases_lt}
 use Rattle.std.proofs.lemmas.List.{get_or-set_other, get_or-set_same, length-set}
 use Rattle.std.proofs.lemmas.List.Elements.{Contains-append_left, Contains-push, Contains-push_cases}
-use Rattle.std.proofs.lemmas.Option.{get_or_from_slice_get, none-some, same_Some, slice_get-get_or, slice_get_past, slice_get_within}
-use Rattle.cidr.specs.model.Bits.{bit_cmp}
+use Rattle.std.proofs.lemmas.Option.{none-some, same_Some, slice_get-get_or, slice_get_past, slice_get_within}
 use Rattle.cidr_ext.specs.Tree.{AreSiblings}
 use Rattle.cidr_table.proofs.MapLaws.{contains_nothing}
 use Rattle.netset.specs.Findings.{AreInside}
-use Rattle.netset.specs.Nearness.{AreKept, AreOthersSame, AreRows, HasRow, IsChain, IsClosed, IsClosedHalf, IsLast, IsLeast, IsRowAround, IsRowHalf, IsRowNear, IsSameRow, PutsFirst, PutsHalf}
+use Rattle.netset.specs.Nearness.{AreKept, AreOthersSame, HasRow, IsChain, IsClosed, IsClosedHalf, IsLast, IsLeast, IsRowAround, IsRowHalf, IsRowNear, IsSameRow, PutsFirst, PutsHalf}
 use Rattle.netset.specs.declared.near.Near.{Near}
 use Rattle.netset.proofs.Nested.{begins_same, not_inside_behind, sibling_same, siblings_apart, siblings_back}
 use Rattle.netset.proofs.OpenNetworks.{AreBefore, chain_last, closed_least, half_closed, least_more, least_new, least_same, open_chain, open_least, row_inside, same_index, same_network}

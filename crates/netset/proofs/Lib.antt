@@ -1,6 +1,7 @@
 pub mod Zips
 pub mod Causes
 pub mod LineFeeds
+pub mod PlainTexts
 pub mod Contents
 pub mod Progress
 pub mod Blocks
@@ -33,7 +34,6 @@ pub mod Stored
 pub mod Looked
 pub mod Options
 pub mod Anywhere
-pub mod Agreeing
 pub mod Telling
 pub mod Loading
 pub mod Running

@@ -1,22 +1,20 @@
--- Lists that are read whole, one after another.
-use Rattle.std.proofs.Common.{◌≡◌, refl, sym, ◌∙◌, ap, subst, arith, Bor, ℕ, ◌+◌, ◌<◌, ◌≤◌, Bool, true, false, ◌||◌, List, [], ◌∷◌, ◌++◌, length, take, drop, get_or, Option, Some}
-use Rattle.std.specs.List.{flat_map}
-use Rattle.std.proofs.lemmas.List.{take_all, take-append-drop, at_drop_more, get_or-map}
-use Rattle.cidr_io.specs.Writing.{State}
+-- Lists that are read and told, one after another.
+use Rattle.std.proofs.Common.{◌≡◌, refl, sym, ◌∙◌, ap, subst, arith, Bor, ℕ, ◌+◌, ◌<◌, ◌≤◌, zero, suc, Bool, true, false, ◌||◌, List, [], ◌∷◌, ◌++◌, length, take, drop, get_or, Option, Some, None, Ok, Err}
+use Rattle.std.specs.Option.{IfSome}
+use Rattle.std.proofs.lemmas.List.{append-nil, take_all, take-append-drop, at_drop_more, get_or-map}
+use Rattle.cidr_io.specs.Writing.{State, Says as Tells}
 use Rattle.netset.specs.Commands.{AreTold}
-use Rattle.netset.specs.Keeping.{AreErrors, AreKept, AreTellings, HasTold, IsAny, TellsErrors, fault_line}
+use Rattle.netset.specs.Keeping.{AllSaid, AreKept, AreTellings, HasTold, IsAny, IsBegun, IsLoadError, KeepsList}
 use Rattle.netset.specs.Lists.{Text, lines_of}
 use Rattle.netset.specs.Loading.{IsLoaded, IsUnloaded}
-use Rattle.netset.specs.Program.{IsLoadError}
 use Rattle.netset.specs.declared.errors.CommandError.{CommandError}
 use Rattle.netset.specs.declared.errors.CommandError.TheVariants as error
 use Rattle.netset.specs.declared.keeping.Kept.{Kept}
 use Rattle.netset.specs.declared.keeping.Kind.{Kind}
-use Rattle.netset.specs.declared.lines.HostBits.{HostBits}
-use Rattle.netset.proofs.Agreeing.{one_kept}
+use Rattle.netset.specs.declared.keeping.Said.{Said}
 use Rattle.netset.proofs.Arguments.{bytes_of, same_length, within_bytes}
 use Rattle.netset.proofs.EachFile.{last_told, next_taken}
-use Rattle.netset.proofs.Telling.{tellings_behind, tells_more, tells_nothing}
+use Rattle.netset.proofs.Telling.{none_of, tellings_behind, tells_more, tells_nothing}
 
 nothing_to_tell : (told : List ℕ → Option Text) (kind : Kind) (texts : List Text) → AreTold told [] texts → AreTellings kind [] texts []
 nothing_to_tell told kind [] h = refl
@@ -25,8 +23,12 @@ nothing_to_tell told kind (text ∷ texts) h = absurd h
 pub none_told : (told : List ℕ → Option Text) (kind : Kind) (s : State) → HasTold told kind [] s s []
 none_told told kind s = (tells_nothing s, nothing_to_tell told kind)
 
+pub none_begun : (told : List ℕ → Option Text) (kind : Kind) (names : List (List ℕ)) → IsBegun told kind names []
+none_begun told kind [] = refl
+none_begun told kind (name ∷ names) = λ text is. ([], lines_of text.bytes, refl, [], refl, refl)
+
 pub none_loaded : (told : List ℕ → Option Text) (kind : Kind) (s : State) (lists : List Kept) → lists ≡ [] → IsLoaded told kind [] s s lists false
-none_loaded told kind s lists none = (subst (AreKept told) (sym none) tt, [], none_told told kind s, refl)
+none_loaded told kind s lists none = ([], none_told told kind s, refl, λ _. subst (AreKept told) (sym none) tt)
 
 any_more : (a b : Bool) (xs ys : List ℕ) → IsAny a xs → IsAny b ys → IsAny (a || b) (xs ++ ys)
 any_more true b [] ys h k = absurd (h refl)
@@ -34,29 +36,52 @@ any_more true b (x ∷ xs) ys h k = λ e. cc
 any_more false true xs ys h k = λ e. k (sym (ap (λ (l : List ℕ). l ++ ys) h) ∙ e)
 any_more false false xs ys h k = ap (λ (l : List ℕ). l ++ ys) h ∙ k
 
--- one more list
-module _ (told : List ℕ → Option Text) (kind : Kind) (names : List (List ℕ)) (name : List ℕ) (s t u : State) (lists : List Kept) (found any : Bool) (bits : HostBits)
-    (last : Kept) (loaded : IsLoaded told kind names s t lists found) (named : last.name.now ≡ name)
-    (bytes : (text : Text) → told name ≡ Some text → last.bytes.items ≡ text.bytes) (by : (text : Text) → told name ≡ Some text → text.host_bits ≡ bits)
-    (tells : TellsErrors kind bits name last.bytes.items t u any) where
-  errors_of : (text : Text) → told name ≡ Some text → AreErrors kind text.host_bits 1 (lines_of text.bytes) tells.0
-  errors_of text is =
-      subst (λ (k : HostBits). AreErrors kind k 1 (lines_of text.bytes) tells.0) (sym (by text is))
-      (subst (λ (k : List ℕ). AreErrors kind bits 1 (lines_of k) tells.0) (bytes text is) tells.1)
+-- what is kept of one list more
+one_kept : (told : List ℕ → Option Text) (lists : List Kept) (last : Kept) → AreKept told lists
+    → ((text : Text) → told last.name.now ≡ Some text → AllSaid text.host_bits (lines_of text.bytes) last.said) → AreKept told (lists ++ last ∷ [])
+one_kept told [] last h here = (here, tt)
+one_kept told (first ∷ lists) last h here = (h.0, one_kept told lists last h.1 here)
 
-  told_behind : (texts : List Text) → AreTold told (names ++ name ∷ []) texts
-      → AreTellings kind (names ++ name ∷ []) texts (loaded.1 ++ flat_map (fault_line name) tells.0)
+-- that of a list by its index
+kept_at : (told : List ℕ → Option Text) (lists : List Kept) (i : ℕ) (d : Kept) (name : List ℕ) → i < length lists → AreKept told lists
+    → (get_or lists i d).name.now ≡ name → (text : Text) → told name ≡ Some text → AllSaid text.host_bits (lines_of text.bytes) (get_or lists i d).said
+kept_at told [] i d name within h named text is = absurd (omega (arith, within))
+kept_at told (list ∷ lists) zero d name within h named text is = h.0 text (ap told named ∙ is)
+kept_at told (list ∷ lists) (suc i) d name within h named text is = kept_at told lists i d name (omega (arith, within)) h.1 named text is
+
+pub kept_item : (told : List ℕ → Option Text) (lists : List Kept) (i : ℕ) (item : Kept) (name : List ℕ) → i < length lists → item ≡ get_or lists i item
+    → AreKept told lists → item.name.now ≡ name → (text : Text) → told name ≡ Some text → AllSaid text.host_bits (lines_of text.bytes) item.said
+kept_item told lists i item name within here h named text is =
+    let P : Kept → Type 0 = λ k. k.name.now ≡ name → AllSaid text.host_bits (lines_of text.bytes) k.said in
+    subst P (sym here) (λ same. kept_at told lists i item name within h same text is) named
+
+pub said_told : (told : List ℕ → Option Text) (lists : List Kept) (name : List ℕ) (found : Option (Bor Said)) → AreKept told lists
+    → IfSome found (λ said. (told : List ℕ → Option Text) → AreKept told lists → (text : Text) → told name ≡ Some text
+    → AllSaid text.host_bits (lines_of text.bytes) said.now)
+    → IfSome found (λ said. (text : Text) → told name ≡ Some text → AllSaid text.host_bits (lines_of text.bytes) said.now)
+said_told told lists name None kept h = tt
+said_told told lists name (Some said) kept h = h told kept
+
+-- one list more
+module _ (told : List ℕ → Option Text) (kind : Kind) (names : List (List ℕ)) (name : List ℕ) (s t u : State) (lists : List Kept) (found bad : Bool)
+    (last : Kept) (loaded : IsLoaded told kind names s t lists found) (named : last.name.now ≡ name)
+    (kept : KeepsList (told name) kind name t u (Ok (last.said, bad))) where
+  told_behind : (texts : List Text) → AreTold told (names ++ name ∷ []) texts → AreTellings kind (names ++ name ∷ []) texts (loaded.0 ++ kept.0)
   told_behind texts h =
       let (front, text, is, are, here) = last_told told names name texts h in
-      subst (λ (k : List Text). AreTellings kind (names ++ name ∷ []) k (loaded.1 ++ flat_map (fault_line name) tells.0)) (sym is)
-      (tellings_behind kind names front name text loaded.1 tells.0 (loaded.2.1 front are) (errors_of text here))
+      let (errors, are_errors, same, fine) = kept.3 text here in
+      subst (λ (k : List Text). AreTellings kind (names ++ name ∷ []) k (loaded.0 ++ kept.0)) (sym is)
+      (subst (λ (k : List ℕ). AreTellings kind (names ++ name ∷ []) (front ++ text ∷ []) (loaded.0 ++ k)) (sym same)
+      (tellings_behind kind names front name text loaded.0 errors (loaded.1.1 front are) are_errors))
 
-  list_loaded : IsLoaded told kind (names ++ name ∷ []) s u (lists ++ last ∷ []) (found || any)
+  list_loaded : IsLoaded told kind (names ++ name ∷ []) s u (lists ++ last ∷ []) (found || bad)
   list_loaded = (
-    one_kept told lists last loaded.0 (λ text is. bytes text (ap told (sym named) ∙ is)),
-    loaded.1 ++ flat_map (fault_line name) tells.0,
-    (tells_more s t u loaded.1 (flat_map (fault_line name) tells.0) loaded.2.0 tells.2, told_behind),
-    any_more found any loaded.1 (flat_map (fault_line name) tells.0) loaded.3 tells.3,
+    loaded.0 ++ kept.0,
+    (tells_more s t u loaded.0 kept.0 loaded.1.0 kept.1, told_behind),
+    any_more found bad loaded.0 kept.0 loaded.2 kept.2,
+    λ none.
+        let both = none_of found bad none in
+        one_kept told lists last (loaded.3 both.0) (λ text is. (kept.3 text (ap told (sym named) ∙ is)).3 both.1),
   )
 
 -- the same of files by their names
@@ -71,13 +96,12 @@ module _ (told : List ℕ → Option Text) (kind : Kind) (files : List (Bor (Lis
   is_named : get_or names i name ≡ name
   is_named = get_or-map (λ (w : Bor (List ℕ)). w.now) files i d name within
 
-  pub file_loaded : (u : State) (any : Bool) (bits : HostBits) (last : Kept) → last.name ≡ get_or files i d
-      → ((text : Text) → told name ≡ Some text → last.bytes.items ≡ text.bytes) → ((text : Text) → told name ≡ Some text → text.host_bits ≡ bits)
-      → TellsErrors kind bits name last.bytes.items t u any → IsLoaded told kind (take (i + 1) names) s u (lists ++ last ∷ []) (found || any)
-  file_loaded u any bits last named bytes by tells =
-      subst (λ (k : List (List ℕ)). IsLoaded told kind k s u (lists ++ last ∷ []) (found || any))
+  pub file_loaded : (u : State) (bad : Bool) (last : Kept) → last.name ≡ get_or files i d → KeepsList (told name) kind name t u (Ok (last.said, bad))
+      → IsLoaded told kind (take (i + 1) names) s u (lists ++ last ∷ []) (found || bad)
+  file_loaded u bad last named kept =
+      subst (λ (k : List (List ℕ)). IsLoaded told kind k s u (lists ++ last ∷ []) (found || bad))
       (sym (next_taken names i name (within_bytes files i within) is_named))
-      (list_loaded told kind (take i names) name s t u lists found any bits last loaded (ap (λ (k : Bor (List ℕ)). k.now) named) bytes by tells)
+      (list_loaded told kind (take i names) name s t u lists found bad last loaded (ap (λ (k : Bor (List ℕ)). k.now) named) kept)
 
   next_name : drop i names ≡ name ∷ drop (i + 1) names
   next_name =
@@ -93,14 +117,33 @@ module _ (told : List ℕ → Option Text) (kind : Kind) (files : List (Bor (Lis
   error_at error.NoMemory h = h
   error_at error.Output h = h
 
-  pub file_unread : (e : CommandError) → IsLoadError (name ∷ []) e → IsUnloaded told kind names s t e
-  file_unread e h = (take i names, drop i names, sym (take-append-drop i names), error_at e h, loaded.1, loaded.2)
+  pub file_unread : (u : State) (e : CommandError) → KeepsList (told name) kind name t u (Err e) → IsUnloaded told kind names s u e
+  file_unread u e (lines, tells, why, part) = (
+    take i names,
+    drop i names,
+    sym (take-append-drop i names),
+    error_at e why,
+    loaded.0,
+    lines,
+    tells_more s t u loaded.0 lines loaded.1.0 tells,
+    loaded.1.1,
+    subst (λ (k : List (List ℕ)). IsBegun told kind k lines) (sym next_name) part,
+  )
 
 -- there is no memory for a list that was read
 pub not_kept : (told : List ℕ → Option Text) (kind : Kind) (files : List (Bor (List ℕ))) (i : ℕ) (s t : State) (lists : List Kept) (found : Bool)
     → IsLoaded told kind (take i (bytes_of files)) s t lists found → IsUnloaded told kind (bytes_of files) s t error.NoMemory
-not_kept told kind files i s t lists found loaded =
-    (take i (bytes_of files), drop i (bytes_of files), sym (take-append-drop i (bytes_of files)), tt, loaded.1, loaded.2)
+not_kept told kind files i s t lists found loaded = (
+  take i (bytes_of files),
+  drop i (bytes_of files),
+  sym (take-append-drop i (bytes_of files)),
+  tt,
+  loaded.0,
+  [],
+  subst (Tells s t) (sym (append-nil loaded.0)) loaded.1.0,
+  loaded.1.1,
+  none_begun told kind (drop i (bytes_of files)),
+)
 
 pub all_loaded : (told : List ℕ → Option Text) (kind : Kind) (files : List (Bor (List ℕ))) (i : ℕ) (s t : State) (lists : List Kept) (found : Bool)
     → length files ≤ i → IsLoaded told kind (take i (bytes_of files)) s t lists found → IsLoaded told kind (bytes_of files) s t lists found

@@ -1,11 +1,11 @@
 -- A row is passed: what is kept, and what is open behind it.
-use Rattle.std.proofs.Common.{◌≡◌, ◌≢◌, refl, sym, ◌∙◌, ap, subst, arith, ℕ, ◌+◌, ◌<◌, ◌≤◌, Bool, List, [], ◌∷◌, ◌++◌, length, set, take, Option, Some, None, slice_get}
+use Rattle.std.proofs.Common.{◌≡◌, refl, sym, ap, subst, arith, ℕ, ◌+◌, ◌<◌, ◌≤◌, Bool, List, [], ◌∷◌, ◌++◌, length, set, take, Option, Some, None, slice_get}
 use Rattle.std.specs.List.{Contains}
 use Rattle.std.specs.Option.{IfSome, option_map}
 use Rattle.std.proofs.lemmas.List.{length-set, take_all}
 use Rattle.std.proofs.lemmas.Option.{none-some, same_Some}
 use Rattle.cidr_table.proofs.MapLaws.{contains_nothing}
-use Rattle.netset.specs.Nearness.{AreAscending, AreKept, AreOpen, AreOthersSame, AreRows, ClosesAll, HasRow, IsClosed, IsClosedHalf, IsClosing, IsLast, IsPassed, IsSameRow, PutsFirst, PutsHalf}
+use Rattle.netset.specs.Nearness.{AreAscending, AreKept, AreOpen, AreOthersSame, AreRows, ClosesAll, HasRow, IsClosed, IsClosedHalf, IsLast, IsPassed, IsSameRow, PutsFirst, PutsHalf}
 use Rattle.netset.specs.declared.near.Near.{Near}
 use Rattle.netset.proofs.KeptNear.{changed_more, kept_again, kept_new, none_changed, one_changed, open_again}
 use Rattle.netset.proofs.NumberedRows.{before_row, one_more_taken, one_taken, row_here, taken}

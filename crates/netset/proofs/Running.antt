@@ -6,22 +6,20 @@ use Rattle.std.specs.List.{count_by}
 use Rattle.cidr_io.specs.Writing.{State}
 use Rattle.netset.specs.Causes.{Cause, MayFail}
 use Rattle.netset.specs.Commands.{Request, IsRequest, MayRead, input_name, lists_of, others_of, reading_of, reading_options, without_options}
-use Rattle.netset.specs.Keeping.{kept_or, kind_of}
+use Rattle.netset.specs.Keeping.{kind_of}
 use Rattle.netset.specs.Lists.{Text}
 use Rattle.netset.specs.Matching.{is_word}
 use Rattle.netset.specs.Loading.{IsLoaded, IsUnloaded}
-use Rattle.netset.specs.Program.{AnswersRequest, IsCaused, IsReadTwice, KeepsGoing, Reports, RunsArguments, RunsOnce, RunsRequest, RunsWords, status_of, told_by}
+use Rattle.netset.specs.Program.{AnswersRequest, IsCaused, IsReadTwice, IsWrong, KeepsGoing, Reports, RunsArguments, RunsOnce, RunsRequest, RunsWords, TellsFaults, status_of, told_by}
 use Rattle.netset.specs.declared.answers.Verdict.{Verdict}
 use Rattle.netset.specs.declared.commands.Reading.{Reading}
 use Rattle.netset.specs.declared.errors.CommandError.{CommandError}
 use Rattle.netset.specs.declared.errors.CommandError.TheVariants as error
 use Rattle.netset.specs.declared.keeping.Kept.{Kept}
 use Rattle.netset.specs.declared.keeping.Kind.{Kind}
-use Rattle.netset.proofs.Agreeing.{kept_agree, request_more}
-use Rattle.netset.proofs.Causes.{caused_more}
-use Rattle.netset.proofs.Loading.{none_told}
+use Rattle.netset.proofs.Loading.{none_begun, none_told}
 
--- ---- with lists that are read whole first
+-- ---- with lists whose lines in error are told
 module _ (told : List ℕ → Option Text) (request : Request) (kind : Kind) (names : List (List ℕ)) (refused closed : Bool) (out s t : State) (is_kind : kind ≡ kind_of request)
     (are : names ≡ lists_of request) where
   loaded_of : (lists : List Kept) (found : Bool) → IsLoaded told kind names s t lists found → IsLoaded told (kind_of request) (lists_of request) s t lists found
@@ -32,42 +30,33 @@ module _ (told : List ℕ → Option Text) (request : Request) (kind : Kind) (na
   unloaded_of e h =
       subst (λ (k : List (List ℕ)). IsUnloaded told (kind_of request) k s t e) are (subst (λ (k : Kind). IsUnloaded told k names s t e) is_kind h)
 
-  pub lines_in_error : (lists : List Kept) → IsLoaded told kind names s t lists true → KeepsGoing told refused request closed out out s t 2
+  pub lines_in_error : (lists : List Kept) → IsLoaded told kind names s t lists true → TellsFaults told refused request closed out out s t 2
   lines_in_error lists h =
-      let (kept, lines, (tells, fine), any) = loaded_of lists true h in
+      let (lines, (tells, fine), any, kept) = loaded_of lists true h in
       (lines, t, tells, inl (fine, inl (any, refl, refl, refl)))
 
   pub no_line_in_error : (lists : List Kept) (new u : State) (r : Result Verdict CommandError) (status : ℕ) → IsLoaded told kind names s t lists false
-      → AnswersRequest (kept_or lists told) request out new r → IsCaused (kept_or lists told) refused request r → Reports closed r t u → status ≡ status_of r → KeepsGoing told refused request closed out new s u status
+      → AnswersRequest told request out new r → IsCaused told refused r → Reports closed r t u → status ≡ status_of r → TellsFaults told refused request closed out new s u status
   no_line_in_error lists new u r status h answers caused says is =
-      let (kept, lines, (tells, fine), any) = loaded_of lists false h in (
-        lines,
-        t,
-        tells,
-        inl (
-          fine,
-          inr (
-            any,
-            r,
-            request_more told (kept_or lists told) (kept_agree told lists kept) request out new r answers,
-            caused_more told (kept_or lists told) (kept_agree told lists kept) refused request r caused,
-            says,
-            is,
-          ),
-        ),
-      )
+      let (lines, (tells, fine), any, kept) = loaded_of lists false h in
+      (lines, t, tells, inl (fine, inr (any, r, answers, caused, says, is)))
 
   pub not_loaded : (u : State) (e : CommandError) (status : ℕ) → IsUnloaded told kind names s t e → Cause (MayFail told) refused e → Reports closed (Err e) t u → status ≡ status_of (Err e)
-      → KeepsGoing told refused request closed out out s u status
+      → TellsFaults told refused request closed out out s u status
   not_loaded u e status h cause says is =
-      let (before, after, split, why, lines, (tells, fine)) = unloaded_of e h in
-      (lines, t, tells, inr (before, after, split, fine, e, why, cause, refl, says, is))
+      let (before, after, split, why, front, rest, tells, fine, begun) = unloaded_of e h in
+      (front ++ rest, t, tells, inr (before, after, split, front, rest, refl, fine, begun, e, why, cause, refl, says, is))
 
 pub no_names : (told : List ℕ → Option Text) (request : Request) (refused closed : Bool) (out s u : State) (status : ℕ) → refused ≡ true → Reports closed (Err error.NoMemory) s u → status ≡ status_of (Err error.NoMemory)
-    → KeepsGoing told refused request closed out out s u status
+    → TellsFaults told refused request closed out out s u status
 no_names told request refused closed out s u status none_left says is =
     let none = none_told told (kind_of request) s in
-    ([], s, none.0, inr ([], lists_of request, refl, none.1, error.NoMemory, tt, none_left, refl, says, is))
+    ([], s, none.0, inr ([], lists_of request, refl, [], [], refl, none.1, none_begun told (kind_of request) (lists_of request), error.NoMemory, tt, none_left, refl, says, is))
+
+-- the first argument that is wrong
+pub argument_first : (told : List ℕ → Option Text) (request : Request) (refused closed : Bool) (out s u : State) (e : CommandError) (status : ℕ) → IsWrong request e
+    → Reports closed (Err e) s u → status ≡ status_of (Err e) → KeepsGoing told refused request closed out out s u status
+argument_first told request refused closed out s u e status wrong says is = inl (e, wrong, (refl, says, is))
 
 -- ---- arguments
 pub run_words : (reading : Reading) (told : List ℕ → Option (List ℕ)) (refused : Bool) (words rest : List (List ℕ)) (closed : Bool) (out new s t : State) (status : ℕ)

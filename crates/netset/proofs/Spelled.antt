@@ -1,7 +1,6 @@
 -- Whether an IPv4 host is spelled as it is printed.
-use Rattle.std.proofs.Common.{◌≡◌, ◌≢◌, ◌∙◌, refl, sym, ap, subst, arith, inl, inr, ℕ, ◌+◌, ◌-◌, ◌/◌, ◌%◌, ◌<◌, ◌≤◌, ◌==◌, if◌then◌else◌, Bool, true, false, List, [], ◌∷◌, ◌++◌, length, take, decimal, eq-eqb, ne_eqb}
+use Rattle.std.proofs.Common.{◌≡◌, ◌≢◌, ◌∙◌, sym, ap, subst, arith, inl, inr, ℕ, ◌+◌, ◌-◌, ◌/◌, ◌%◌, ◌<◌, ◌≤◌, ◌==◌, if◌then◌else◌, Bool, true, false, List, [], ◌∷◌, ◌++◌, length, take, decimal, eq-eqb, ne_eqb}
 use Rattle.std.specs.Bool.{Decides}
-use Rattle.std.specs.Cmp.Lexicographic.{pointwise}
 use Rattle.std.specs.List.{ends_with}
 use Rattle.std.specs.Prelude.{◌↔◌, nat_eq}
 use Rattle.std.proofs.lemmas.Bool.Decides.{Decides-eqb}
@@ -10,7 +9,6 @@ use Rattle.std.proofs.lemmas.List.{append-nil}
 use Rattle.std.proofs.lemmas.Slice.Eq.{ends_is}
 use Rattle.cidr.specs.model.Host.{Host}
 use Rattle.cidr.specs.texts.HostText.{IsHostText}
-use Rattle.cidr.specs.texts.Ipv4Text.{IsIpv4Text}
 use Rattle.cidr.specs.texts.NetworkText.{slash}
 use Rattle.cidr.specs.texts.Printed.{length_text, plain_host_text}
 use Rattle.cidr.specs.texts.PrintedAddress.{ipv4_text}

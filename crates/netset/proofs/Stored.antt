@@ -11,10 +11,12 @@ use Rattle.cidr_table.specs.LastRows.{AreLastRows}
 use Rattle.netset.specs.Causes.{TextFails}
 use Rattle.netset.specs.Lists.{Text, lines_of, text_by}
 use Rattle.netset.specs.Look.{IsBadRow, IsUnreadTable, RowSays, row_in, rows_in, said_in}
-use Rattle.netset.specs.LookUps.{Adds, AreWithin, IsErrorAt, ReadsRows, ReadsTable, Stores, kept, resolved, stored, unread, value_at}
+use Rattle.netset.specs.Keeping.{AllSaid}
+use Rattle.netset.specs.LookUps.{Adds, AreCopies, AreWithin, IsErrorAt, ReadsFileRows, ReadsRows, ReadsTable, Stores, kept, resolved, stored, unread, value_at}
 use Rattle.netset.specs.Reading.{IsNextLine, IsStopped}
 use Rattle.netset.specs.declared.errors.ReadError.{ReadError}
 use Rattle.netset.specs.declared.errors.ReadError.TheVariants.{Line, Input, NoMemory}
+use Rattle.netset.specs.declared.keeping.Said.TheVariants.{Rows as AsRows}
 use Rattle.netset.specs.declared.lines.HostBits.{HostBits}
 use Rattle.netset.specs.declared.rows.Rows.{Rows}
 use Rattle.netset.specs.declared.rows.Span.{Span}
@@ -87,7 +89,7 @@ none_stored rows four six =
       within = λ family. subst (AreWithin rows.values.items) (sym (none family)) tt;
     }
 
-stored_more : (old new : Rows) (said : List (Option (IpCidr × List ℕ))) (one : Option (IpCidr × List ℕ)) → Stores old said → Adds old new one
+pub stored_more : (old new : Rows) (said : List (Option (IpCidr × List ℕ))) (one : Option (IpCidr × List ℕ)) → Stores old said → Adds old new one
     → Stores new (said ++ one ∷ [])
 stored_more old new said None s same = subst (λ (k : Rows). Stores k (said ++ None ∷ [])) (sym same) (record {
   same = λ family. s.same family ∙ (sym (append-nil (rows_in family said)) ∙ flat_map_more (said_in family) [] said None);
@@ -180,12 +182,36 @@ table_rows values rows made ready last same =
     subst (λ (k : StoredRows (List Bool) Span). AreLastRows (map (resolved values) rows) (map (resolved values) k.rows)) (sym same)
     (last_rows_mapped (value_at values) rows made.rows last)
 
-pub table_read : (told : Option Text) (left : Option (List ℕ)) (bits : HostBits) (name : List ℕ) (rows : Rows) (table : Table)
+pub rows_read : (told : Option Text) (left : Option (List ℕ)) (bits : HostBits) (name : List ℕ) (rows : Rows)
     → ((text : Text) → told ≡ Some text → left ≡ Some text.bytes) → ((text : Text) → told ≡ Some text → text.host_bits ≡ bits)
-    → IfSome left (λ bytes. ReadsRows (text_by bits bytes) (Ok rows))
+    → IfSome left (λ bytes. ReadsRows (text_by bits bytes) (Ok rows)) → ReadsFileRows told name (Ok rows)
+rows_read told left bits name rows opens by reads text is = told_rows bits left text (Ok rows) (opens text is) (by text is) reads
+
+-- the rows of a file, as they were kept
+same_rows : (rows others : Rows) → AreCopies rows others → (family : Family) → stored others family ≡ stored rows family
+same_rows rows others same Ipv4 = same.v4
+same_rows rows others same Ipv6 = same.v6
+
+stored_same : (rows others : Rows) (said : List (Option (IpCidr × List ℕ))) → AreCopies rows others → Stores rows said → Stores others said
+stored_same rows others said same s = record {
+  same = λ family.
+      ap₂ (λ (vs : List ℕ) (rs : List (List Bool × Span)). map (resolved vs) rs) same.values (same_rows rows others same family) ∙ s.same family;
+  within = λ family.
+      subst (λ (vs : List ℕ). AreWithin vs (stored others family)) (sym same.values)
+      (subst (AreWithin rows.values.items) (sym (same_rows rows others same family)) (s.within family));
+}
+
+pub rows_copied : (told : Option Text) (name : List ℕ) (kept rows : Rows)
+    → ((text : Text) → told ≡ Some text → AllSaid text.host_bits (lines_of text.bytes) (AsRows kept)) → AreCopies kept rows
+    → ReadsFileRows told name (Ok rows)
+rows_copied told name kept rows is same text at =
+    let (said, says, stores) = is text at in
+    (said, says, stored_same kept rows said same stores)
+
+pub table_read : (told : Option Text) (name : List ℕ) (rows : Rows) (table : Table) → ReadsFileRows told name (Ok rows)
     → ((family : Family) → AreLastRows (map (resolved rows.values.items) (stored rows family)) (kept table family)) → ReadsTable told name (Ok table)
-table_read told left bits name rows table opens by reads last = λ text is.
-    let (said, says, s) = told_rows bits left text (Ok rows) (opens text is) (by text is) reads in
+table_read told name rows table reads last = λ text is.
+    let (said, says, s) = reads text is in
     (said, says, λ family. subst (λ (k : List (List Bool × List ℕ)). AreLastRows k (kept table family)) (s.same family) (last family))
 
 pub table_unread : (told : Option Text) (left : Option (List ℕ)) (bits : HostBits) (file : Bor (List ℕ)) (e : ReadError)

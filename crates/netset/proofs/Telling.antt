@@ -1,5 +1,5 @@
 -- Lines in error that are told, one after another.
-use Rattle.std.proofs.Common.{◌≡◌, ◌≢◌, refl, sym, ◌∙◌, ap, subst, arith, inl, inr, ℕ, ◌+◌, ◌<◌, ◌≤◌, Bool, true, false, List, [], ◌∷◌, ◌++◌, length, Bor, is_some, option_map, Option, Some, None, Ok, Err, append_assoc}
+use Rattle.std.proofs.Common.{◌≡◌, ◌≢◌, refl, sym, ◌∙◌, ap, subst, arith, inl, inr, ℕ, ◌+◌, Bor, Bool, true, false, ◌||◌, List, [], ◌∷◌, ◌++◌, length, Option, Some, None, Result, Ok, Err, append_assoc}
 use Rattle.std.specs.Option.{IfSome}
 use Rattle.std.specs.List.{flat_map}
 use Rattle.std.proofs.lemmas.Bool.{true≢false}
@@ -8,12 +8,24 @@ use Rattle.cidr_io.specs.Collecting.{HasSaid}
 use Rattle.cidr_io.specs.Writing.{State, Part, Says as Tells}
 use Rattle.cidr_io.proofs.Collected.{nothing_said}
 use Rattle.cidr_io.proofs.Chains.{part_more, part_none, whole_none, whole_part, whole_whole}
-use Rattle.netset.specs.Keeping.{AreErrors, AreTellings, FindsError, IsAny, IsFaulty, IsSound, TellsErrors, fault_line}
-use Rattle.netset.specs.Lists.{Text, lines_of}
-use Rattle.netset.specs.Reading.{IsNextLine}
+use Rattle.netset.specs.Entries.{AreEntries}
+use Rattle.netset.specs.Keeping.{AddsBy, AllSaid, AreErrors, AreTellings, IsAny, IsFaulty, IsKept, IsLoadError, IsNone, IsPartTold, IsSound, KeepsLine, KeepsLines, KeepsList, SaysMore, fault_line, kind_in}
+use Rattle.netset.specs.Lists.{LineSays, Text, lines_of, network_in, text_by}
+use Rattle.netset.specs.Look.{RowSays}
+use Rattle.netset.specs.LookUps.{unread}
+use Rattle.netset.specs.Reading.{IsNextLine, IsStopped}
+use Rattle.netset.proofs.EntriesRead.{line_behind}
 use Rattle.netset.proofs.LinesRead.{LinesRead, last_read, line_read, none_read}
+use Rattle.netset.proofs.ReadBy.{bytes_read, text_same}
+use Rattle.netset.proofs.Stored.{stored_more}
+use Rattle.netset.proofs.Zips.{zip_behind}
+use Rattle.netset.specs.declared.errors.CommandError.{CommandError}
 use Rattle.netset.specs.declared.errors.LineError.{LineError}
+use Rattle.netset.specs.declared.errors.ReadError.{ReadError}
+use Rattle.netset.specs.declared.errors.ReadError.TheVariants.{Line, Input, NoMemory}
 use Rattle.netset.specs.declared.keeping.Kind.{Kind}
+use Rattle.netset.specs.declared.keeping.Said.{Said}
+use Rattle.netset.specs.declared.keeping.Said.TheVariants.{Networks, Hosts, Rows}
 use Rattle.netset.specs.declared.lines.HostBits.{HostBits}
 
 -- ---- lines that are written one after another, as far as the sink takes them
@@ -58,102 +70,210 @@ faulty_behind kind bits first n (other ∷ lines) line errors e at (inr (d, rest
   ap (λ (k : List (ℕ × LineError)). k ++ (n, e) ∷ []) is,
 )
 
--- what was told of the first lines of a list, from a state to another
-abbrev pub HasTelled : Kind → HostBits → List ℕ → State → List (List ℕ) → State × List ℕ × Bool → Type 0
-HasTelled kind bits file old lines (new, block, found) = (errors : List (ℕ × LineError)) × AreErrors kind bits 1 lines errors
-    × HasSaid old new block (flat_map (fault_line file) errors) × IsAny found (flat_map (fault_line file) errors)
+-- ---- what a line says
+module _ (bits : HostBits) (line : List ℕ) (number : ℕ) where
+  pub same_kind : (was now : Said) (r : Result (Unit {0}) ReadError) → AddsBy bits line number was now r → kind_in now ≡ kind_in was
+  same_kind (Networks old) (Networks new) r h = refl
+  same_kind (Hosts old) (Hosts new) r h = refl
+  same_kind (Rows old) (Rows new) r h = refl
+  same_kind (Networks old) (Hosts new) r h = absurd h
+  same_kind (Networks old) (Rows new) r h = absurd h
+  same_kind (Hosts old) (Networks new) r h = absurd h
+  same_kind (Hosts old) (Rows new) r h = absurd h
+  same_kind (Rows old) (Networks new) r h = absurd h
+  same_kind (Rows old) (Hosts new) r h = absurd h
 
--- one line more is said, where this was said before
-abbrev pub SaysMore : State → List ℕ → State → List ℕ → List ℕ → Type 0
-SaysMore old block new rest line = (start : State) (text : List ℕ) → HasSaid start old block text → HasSaid start new rest (text ++ line)
+  line_sound : (was now : Said) → AddsBy bits line number was now (Ok tt) → IsSound (kind_in was) bits line
+  line_sound (Networks old) (Networks new) (said, (field, content, is_field, is_content, are), grows) = (field, content, is_field, is_content)
+  line_sound (Hosts old) (Hosts new) (one, has, is) = ([], number, one, has)
+  line_sound (Rows old) (Rows new) (said, says, adds) = (said, says)
+  line_sound (Networks old) (Hosts new) h = absurd h
+  line_sound (Networks old) (Rows new) h = absurd h
+  line_sound (Hosts old) (Networks new) h = absurd h
+  line_sound (Hosts old) (Rows new) h = absurd h
+  line_sound (Rows old) (Networks new) h = absurd h
+  line_sound (Rows old) (Hosts new) h = absurd h
 
--- all that was said is written
-abbrev pub EndsSaying : State → List ℕ → State → Type 0
-EndsSaying old block new = (start : State) (text : List ℕ) → HasSaid start old block text → Tells start new text
+  pub line_faulty : (was now : Said) (n : ℕ) (e : LineError) → AddsBy bits line number was now (Err (Line n e)) → IsFaulty (kind_in was) bits line e
+  line_faulty (Networks old) (Networks new) n e h = h.1
+  line_faulty (Hosts old) (Hosts new) n e h = h.1
+  line_faulty (Rows old) (Rows new) n e h = h.1
+  line_faulty (Networks old) (Hosts new) n e h = absurd h
+  line_faulty (Networks old) (Rows new) n e h = absurd h
+  line_faulty (Hosts old) (Networks new) n e h = absurd h
+  line_faulty (Hosts old) (Rows new) n e h = absurd h
+  line_faulty (Rows old) (Networks new) n e h = absurd h
+  line_faulty (Rows old) (Hosts new) n e h = absurd h
 
-pub none_telled : (kind : Kind) (bits : HostBits) (file : List ℕ) (s : State) (block : List ℕ) → block ≡ [] → HasTelled kind bits file s [] (s, block, false)
-none_telled kind bits file s block none = ([], refl, nothing_said s block none, refl)
+  said_behind : (was now : Said) → AddsBy bits line number was now (Ok tt) → (before : List (List ℕ)) → number ≡ length before + 1 → AllSaid bits before was
+      → AllSaid bits (before ++ line ∷ []) now
+  said_behind (Networks old) (Networks new) (one, says, grows) before at (said, zip, same) = (
+    said ++ one ∷ [],
+    zip_behind (LineSays bits) before said line one zip says,
+    λ family. grows family ∙ (ap (λ (k : List (List Bool)). k ++ network_in family one) (same family) ∙ flat_map_more (network_in family) [] said one),
+  )
+  said_behind (Hosts old) (Hosts new) (one, has, is) before at are =
+      subst (AreEntries [] 1 (before ++ line ∷ [])) (sym is) (line_behind [] 1 number before line old.items one (omega (arith, at)) are has)
+  said_behind (Rows old) (Rows new) (one, says, adds) before at (said, zip, stores) =
+      (said ++ one ∷ [], zip_behind (RowSays bits) before said line one zip says, stored_more old new said one stores adds)
+  said_behind (Networks old) (Hosts new) h before at are = absurd h
+  said_behind (Networks old) (Rows new) h before at are = absurd h
+  said_behind (Hosts old) (Networks new) h before at are = absurd h
+  said_behind (Hosts old) (Rows new) h before at are = absurd h
+  said_behind (Rows old) (Networks new) h before at are = absurd h
+  said_behind (Rows old) (Hosts new) h before at are = absurd h
 
-pub sound_telled : (kind : Kind) (bits : HostBits) (file : List ℕ) (s t : State) (block : List ℕ) (found : Bool) (line : List ℕ) → FindsError kind bits line None
-    → (before : List (List ℕ)) → HasTelled kind bits file s before (t, block, found) → HasTelled kind bits file s (before ++ line ∷ []) (t, block, found)
-sound_telled kind bits file s t block found line sound before (errors, are, told, any) =
-    (errors, sound_behind kind bits 1 before line errors are sound, told, any)
+-- ---- whether there is an error
+pub none_of : (a b : Bool) → (a || b) ≡ false → (a ≡ false) × (b ≡ false)
+none_of false false h = (refl, refl)
+none_of false true h = cc
+none_of true b h = cc
+
+any_same : (found : Bool) (xs : List ℕ) → IsAny found xs → IsAny (found || false) xs
+any_same true xs h = h
+any_same false xs h = h
+
+any_true : (found : Bool) (xs : List ℕ) → xs ≢ [] → IsAny (found || true) xs
+any_true true xs h = h
+any_true false xs h = h
 
 some_text : (xs file ys : List ℕ) (b : ℕ) → xs ++ (file ++ b ∷ ys) ≢ []
 some_text [] [] ys b is = cc
 some_text [] (c ∷ file) ys b is = cc
 some_text (x ∷ xs) file ys b is = cc
 
-pub fault_telled : (kind : Kind) (bits : HostBits) (file : List ℕ) (s t u : State) (block rest : List ℕ) (found : Bool) (number : ℕ) (line : List ℕ) (e : LineError)
-    → FindsError kind bits line (Some e) → SaysMore t block u rest (fault_line file (number, e)) → (before : List (List ℕ)) → number ≡ length before + 1
-    → HasTelled kind bits file s before (t, block, found) → HasTelled kind bits file s (before ++ line ∷ []) (u, rest, true)
-fault_telled kind bits file s t u block rest found number line e bad says before at (errors, are, told, any) =
-    let fault : ℕ × LineError = (number, e) in
-    let text : flat_map (fault_line file) errors ++ fault_line file fault ≡ flat_map (fault_line file) (errors ++ fault ∷ []) =
-    flat_map_more (fault_line file) [] errors fault in (
-      errors ++ fault ∷ [],
-      faulty_behind kind bits 1 number before line errors e (omega (arith, at)) are bad,
-      subst (λ (k : List ℕ). HasSaid s u rest k) text (says s (flat_map (fault_line file) errors) told),
-      λ none. some_text (flat_map (fault_line file) errors) file _ 58 (text ∙ none),
+-- ---- one line after another
+same_says : (old t u : State) (block now rest lines : List ℕ) → u ≡ t → rest ≡ now → SaysMore old block t now lines → SaysMore old block u rest lines
+same_says old t u block now rest lines same kept says start text h =
+    subst (λ (k : State). HasSaid start k rest (text ++ lines)) (sym same)
+    (subst (λ (k : List ℕ). HasSaid start t k (text ++ lines)) (sym kept) (says start text h))
+
+module _ (kind : Kind) (bits : HostBits) (file : List ℕ) (s : State) (b : List ℕ) where
+  -- how far the lines of a list were told and kept
+  abbrev pub IsKeeping : Option (List ℕ) → Option (List ℕ) → State → List ℕ → Bool → Said → ℕ → Type 0
+  IsKeeping told left t block found said number = (lines : List ℕ) × SaysMore s b t block lines × IsAny found lines × (kind_in said ≡ kind)
+      × IfSome told (λ text. LinesRead (IsKept kind bits file) text left (lines, found, said) number)
+
+  pub keeping_started : (told : Option (List ℕ)) (said : Said) → IsNone kind said → IsKeeping told told s b false said 1
+  keeping_started told said none = (
+    [],
+    λ start text h. subst (HasSaid start s b) (sym (append-nil text)) h,
+    refl,
+    none.0,
+    none_read (IsKept kind bits file) told ([], false, said) ([], refl, refl, λ _. none.1 bits),
+  )
+
+  -- what a further line adds
+  abbrev Adds : List ℕ → ℕ → State → List ℕ → Bool → Said → List ℕ × Bool × Said → Type 0
+  Adds line number u rest found now kept = (more : List ℕ) × SaysMore s b u rest more × IsAny found more × (kind_in now ≡ kind)
+      × ((before : List (List ℕ)) → number ≡ length before + 1 → IsKept kind bits file before kept → IsKept kind bits file (before ++ line ∷ []) (more, found, now))
+
+  line_kept : (was now : Said) (t u : State) (block rest : List ℕ) (found bad : Bool) (number : ℕ) (line lines : List ℕ) → SaysMore s b t block lines
+      → IsAny found lines → kind_in was ≡ kind → KeepsLine bits file number line was now t block u rest (Ok bad)
+      → Adds line number u rest (found || bad) now (lines, found, was)
+  line_kept was now t u block rest found false number line lines says any is (adds, same, kept) = (
+    lines,
+    same_says s t u b block rest lines same kept says,
+    any_same found lines any,
+    same_kind bits line number was now (Ok tt) adds ∙ is,
+    λ before at (errors, are, told, fine). (
+      errors,
+      sound_behind kind bits 1 before line errors are (subst (λ (k : Kind). IsSound k bits line) is (line_sound bits line number was now adds)),
+      told,
+      λ none. said_behind bits line number was now adds before at (fine (none_of found false none).0),
+    ),
+  )
+  line_kept was now t u block rest found true number line lines says any is (e, same, bad, more) =
+      let fault : ℕ × LineError = (number, e) in (
+        lines ++ fault_line file fault,
+        λ start text h. subst (HasSaid start u rest) (append_assoc text lines (fault_line file fault)) (more start (text ++ lines) (says start text h)),
+        any_true found (lines ++ fault_line file fault) (some_text lines file _ 58),
+        same ∙ is,
+        λ before at (errors, are, told, fine). (
+          errors ++ fault ∷ [],
+          faulty_behind kind bits 1 number before line errors e (omega (arith, at)) are (subst (λ (k : Kind). IsFaulty k bits line e) is bad),
+          ap (λ (k : List ℕ). k ++ fault_line file fault) told ∙ flat_map_more (fault_line file) [] errors fault,
+          λ none. absurd (true≢false (none_of found true none).1),
+        ),
+      )
+
+  module _ (told left next : Option (List ℕ)) (t u : State) (block rest : List ℕ) (found bad : Bool) (was now : Said) (number : ℕ) (line given : List ℕ) (more : Bool)
+      (h : IsKeeping told left t block found was number) (n : IfSome left (λ text. IsNextLine text line more next)) (same : given ≡ line)
+      (keeps : KeepsLine bits file number given was now t block u rest (Ok bad)) where
+    added : Adds line number u rest (found || bad) now (h.0, found, was)
+    added =
+        line_kept was now t u block rest found bad number line h.0 h.1 h.2 h.3
+        (subst (λ (k : List ℕ). KeepsLine bits file number k was now t block u rest (Ok bad)) same keeps)
+
+    pub keeping_more : more ≡ true → IsKeeping told next u rest (found || bad) now (number + 1)
+    keeping_more is = (
+      added.0,
+      added.1,
+      added.2,
+      added.3,
+      line_read (IsKept kind bits file) told left next (h.0, found, was) (added.0, found || bad, now) number line more is h.4 n added.4,
     )
 
--- how far the lines of a list were told
-abbrev pub left_len : Option (Bor (List ℕ)) → ℕ
-left_len None = 0
-left_len (Some text) = 1 + length text.now
+    pub keeping_done : more ≡ false → KeepsLines kind bits file told s b u rest (Ok (now, found || bad))
+    keeping_done is = (
+      added.0,
+      added.1,
+      added.2,
+      last_read (IsKept kind bits file) told left next (h.0, found, was) (added.0, found || bad, now) number line more is h.4 n added.4,
+    )
 
-pub left_less : (all : Option (Bor (List ℕ))) (left : Bor (List ℕ)) (rest : Option (Bor (List ℕ))) (number len : ℕ) → all ≡ Some left
-    → IfSome rest (λ r. length r.now < length left.now) → number + left_len all ≤ len → number + 1 + left_len rest ≤ len
-left_less all left None number len is less within =
-    let here : number + (1 + length left.now) ≤ len = subst (λ k. number + left_len k ≤ len) is within in
-    omega (arith, here)
-left_less all left (Some r) number len is less within =
-    let here : number + (1 + length left.now) ≤ len = subst (λ k. number + left_len k ≤ len) is within in
-    omega (arith, here, less)
+  part_told : (told left : Option (List ℕ)) (lines : List ℕ) (found : Bool) (said : Said) (number : ℕ)
+      → IfSome told (λ text. LinesRead (IsKept kind bits file) text left (lines, found, said) number)
+      → IfSome told (λ text. IsPartTold kind file (text_by bits text) lines)
+  part_told None left lines found said number p = tt
+  part_told (Some text) left lines found said number p =
+      let (errors, are, is, fine) = p.done in
+      (p.before, lines_of p.rest, p.lines, errors, are, is)
 
-module _ (kind : Kind) (bits : HostBits) (file text : List ℕ) (s : State) where
-  abbrev pub IsTelling : Option (Bor (List ℕ)) → ℕ → State × List ℕ × Bool → Type 0
-  IsTelling None number now = HasTelled kind bits file s (lines_of text) now
-  IsTelling (Some left) number now = LinesRead (HasTelled kind bits file s) text (Some left.now) now (number + 1)
+  pub keeping_stopped : (told left : Option (List ℕ)) (t u : State) (block rest : List ℕ) (found : Bool) (said : Said) (number : ℕ) (e : ReadError)
+      → IsKeeping told left t block found said number → IsStopped e → u ≡ t → rest ≡ block → KeepsLines kind bits file told s b u rest (Err e)
+  keeping_stopped told left t u block rest found said number e (lines, says, any, is, p) stopped same kept =
+      (lines, same_says s t u b block rest lines same kept says, stopped, part_told told left lines found said number p)
 
-  pub telling_started : (all : Bor (List ℕ)) (block : List ℕ) → all.now ≡ text → block ≡ [] → IsTelling (Some all) 0 (s, block, false)
-  telling_started all block is none =
-      subst (λ (k : List ℕ). LinesRead (HasTelled kind bits file s) text (Some k) (s, block, false) 1) (sym is)
-      (none_read (HasTelled kind bits file s) (Some text) (s, block, false) (none_telled kind bits file s block none))
+-- ---- the list of a file
+pub nothing_kept : (told : Option Text) (kind : Kind) (file : List ℕ) (s : State) (e : CommandError) → IsLoadError (file ∷ []) e
+    → KeepsList told kind file s s (Err e)
+nothing_kept told kind file s e why = ([], tells_nothing s, why, λ text is. ([], lines_of text.bytes, refl, [], refl, refl))
 
-  line_told : (left : Bor (List ℕ)) (rest : Option (Bor (List ℕ))) (number : ℕ) (now new : State × List ℕ × Bool) (line : List ℕ) → IsTelling (Some left) number now
-      → IsNextLine left.now line (is_some rest) (option_map (λ (r : Bor (List ℕ)). r.now) rest)
-      → ((before : List (List ℕ)) → number + 1 ≡ length before + 1 → HasTelled kind bits file s before now → HasTelled kind bits file s (before ++ line ∷ []) new)
-      → IsTelling rest (number + 1) new
-  line_told left None number now new line h n step = last_read (HasTelled kind bits file s) (Some text) (Some left.now) None now new (number + 1) line false refl h n step
-  line_told left (Some r) number now new line h n step =
-      line_read (HasTelled kind bits file s) (Some text) (Some left.now) (Some r.now) now new (number + 1) line true refl h n step
+abbrev pub EndsSaying : State → List ℕ → State → Type 0
+EndsSaying old block new = (start : State) (text : List ℕ) → HasSaid start old block text → Tells start new text
 
-  pub sound_line : (all : Option (Bor (List ℕ))) (left : Bor (List ℕ)) (rest : Option (Bor (List ℕ))) (number : ℕ) (t : State) (block : List ℕ) (found : Bool)
-      (line : List ℕ) (o : Option LineError) → all ≡ Some left → IsTelling all number (t, block, found)
-      → IsNextLine left.now line (is_some rest) (option_map (λ (r : Bor (List ℕ)). r.now) rest) → o ≡ None → FindsError kind bits line o
-      → IsTelling rest (number + 1) (t, block, found)
-  sound_line all left rest number t block found line o is h n none sound =
-      let here : FindsError kind bits line None = subst (FindsError kind bits line) none sound in
-      let at : IsTelling (Some left) number (t, block, found) = subst (λ k. IsTelling k number (t, block, found)) is h in
-      line_told left rest number (t, block, found) (t, block, found) line at n
-      (λ before place done. sound_telled kind bits file s t block found line here before done)
+all_told : (s t u : State) (block rest lines : List ℕ) → block ≡ [] → SaysMore s block t rest lines → EndsSaying t rest u → Tells s u lines
+all_told s t u block rest lines none says ends = ends s lines (says s [] (nothing_said s block none))
 
-  pub faulty_line : (all : Option (Bor (List ℕ))) (left : Bor (List ℕ)) (rest : Option (Bor (List ℕ))) (number : ℕ) (t u : State) (block next : List ℕ)
-      (found : Bool) (line : List ℕ) (o : Option LineError) (e : LineError) → all ≡ Some left → IsTelling all number (t, block, found)
-      → IsNextLine left.now line (is_some rest) (option_map (λ (r : Bor (List ℕ)). r.now) rest) → o ≡ Some e → FindsError kind bits line o
-      → SaysMore t block u next (fault_line file (number + 1, e)) → IsTelling rest (number + 1) (u, next, true)
-  faulty_line all left rest number t u block next found line o e is h n some bad says =
-      let here : FindsError kind bits line (Some e) = subst (FindsError kind bits line) some bad in
-      let at : IsTelling (Some left) number (t, block, found) = subst (λ k. IsTelling k number (t, block, found)) is h in
-      line_told left rest number (t, block, found) (u, next, true) line at n
-      (λ before place done. fault_telled kind bits file s t u block next found (number + 1) line e here says before place done)
+module _ (told : Option Text) (left : Option (List ℕ)) (kind : Kind) (bits : HostBits) (s t u : State) (block rest : List ℕ)
+    (opens : (text : Text) → told ≡ Some text → left ≡ Some text.bytes) (by : (text : Text) → told ≡ Some text → text.host_bits ≡ bits)
+    (none : block ≡ []) (ends : EndsSaying t rest u) where
+  pub list_kept : (file : List ℕ) (kept : Said × Bool) → KeepsLines kind bits file left s block t rest (Ok kept) → KeepsList told kind file s u (Ok kept)
+  list_kept file kept (lines, says, any, is) = (
+    lines,
+    all_told s t u block rest lines none says ends,
+    any,
+    λ text at.
+        subst (λ (k : HostBits). IsKept kind k file (lines_of text.bytes) (lines, kept.1, kept.0)) (sym (by text at))
+        (bytes_read (λ bytes. IsKept kind bits file (lines_of bytes) (lines, kept.1, kept.0)) left text.bytes (opens text at) is),
+  )
 
-  pub all_told : (all : Option (Bor (List ℕ))) (number : ℕ) (t u : State) (block : List ℕ) (found : Bool) → all ≡ None → IsTelling all number (t, block, found)
-      → EndsSaying t block u → TellsErrors kind bits file text s u found
-  all_told all number t u block found is h ends =
-      let (errors, are, said, any) = subst (λ k. IsTelling k number (t, block, found)) is h in
-      (errors, are, ends s (flat_map (fault_line file) errors) said, any)
+  load_error : (file : Bor (List ℕ)) (e : ReadError) → IsStopped e → IsLoadError (file.now ∷ []) (unread file e)
+  load_error file (Line number e) h = absurd h
+  load_error file Input h = ([], refl)
+  load_error file NoMemory h = tt
+
+  pub list_cut : (file : Bor (List ℕ)) (e : ReadError) → KeepsLines kind bits file.now left s block t rest (Err e)
+      → KeepsList told kind file.now s u (Err (unread file e))
+  list_cut file e (lines, says, stopped, is) = (
+    lines,
+    all_told s t u block rest lines none says ends,
+    load_error file e stopped,
+    λ text at.
+        subst (λ (k : Text). IsPartTold kind file.now k lines) (text_same bits text (by text at))
+        (bytes_read (λ bytes. IsPartTold kind file.now (text_by bits bytes) lines) left text.bytes (opens text at) is),
+  )
 
 -- ---- one list after another
 pub tellings_behind : (kind : Kind) (names : List (List ℕ)) (texts : List Text) (name : List ℕ) (text : Text) (lines : List ℕ) (errors : List (ℕ × LineError))

@@ -362,7 +362,7 @@ rows_of_all_errors() {
     run 2 '' "-:3: $none-:4: not UTF-8"$'\n' '10.0.0.1/8\n10.0.0.1\nx\n\xff' merge --host-bits -k
     run 2 '' "hosts:1: ${host}-:1: ${none}hosts:1: $host" 'ten\n' minus -k hosts - hosts
     run 2 '' "hosts:1: ${host}missing: cannot be read"$'\n' '' and -k hosts missing hosts
-    run 2 '' "hosts:1: $host" '' not -k --in 10.0.0.1/8 hosts
+    run 2 '' "10.0.0.1/8: $host" '' not -k --in 10.0.0.1/8 hosts
     run 2 '' "10.0.0.1/8: $host" '' not -k --in 10.0.0.1/8 ten
     run 1 $'-10.0.0.0/8\n' '' '' diff -k ten -
     run 2 '' "hosts:1: ${host}hosts:1: $host" '' diff -k hosts hosts

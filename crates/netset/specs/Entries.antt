@@ -1,5 +1,6 @@
 -- The lines of lists that have a network or a host, each with its file and its number: what `check` looks at.
 use Rattle.std.specs.Prelude.{◌≡◌, ◌≢◌, ◌↔◌, ℕ, ◌+◌, List, [], ◌∷◌, ◌++◌, length, Option, Some, None, option_to_list, Result, Ok, Err, IsTrue, IsUtf8}
+use Rattle.std.specs.List.{AllZip}
 use Rattle.cidr.specs.either.IpText.{IsIpHostText, IsIpHostRefused, ip_host_text}
 use Rattle.cidr.specs.texts.Printed.{plain_host_text}
 use Rattle.cidr.specs.declared.inet.combined.IpInet.{IpInet}
@@ -53,6 +54,15 @@ pub record IsFirstFault (file text : List ℕ) (number : ℕ) (e : LineError) : 
   pub fault : HasNoHost line e
 
 -- ---- what private functions promise
+-- an entry is another one in this file
+abbrev pub IsCopyIn : List ℕ → Entry → Entry → Type 0
+IsCopyIn file entry copy = (copy.place.file.now ≡ file) × (copy.place.number ≡ entry.place.number) × (copy.host ≡ entry.host)
+    × (copy.is_canonical ≡ entry.is_canonical)
+
+-- entries come behind those before as entries of this file
+abbrev pub CopiesEntries : List ℕ → List Entry → List Entry → List Entry → Type 0
+CopiesEntries file kept old new = (copies : List Entry) × AllZip (IsCopyIn file) kept copies × (new ≡ old ++ copies)
+
 -- the entry that a line has, if it has one, or its error
 abbrev pub ReadsEntry : List ℕ → ℕ → List ℕ → Result (Option Entry) LineError → Type 0
 ReadsEntry file number line (Ok one) = LineHas file number line one

@@ -9,7 +9,6 @@ use Rattle.cidr.specs.model.Host.{host_part}
 use Rattle.cidr.specs.model.Network.{BeginsWith}
 use Rattle.cidr.specs.texts.Printed.{plain_host_text, plain_text}
 use Rattle.cidr.specs.declared.cidr.combined.IpCidr.{IpCidr}
-use Rattle.cidr.specs.declared.cidr.combined.IpCidr.TheVariants.{V4, V6}
 use Rattle.cidr.specs.declared.inet.combined.IpInet.{IpInet}
 use Rattle.cidr_ext.specs.Tree.{AreSiblings}
 use Rattle.cidr_io.specs.Collecting.{Holds}

@@ -1,20 +1,28 @@
 -- Every line in error of the lists of a request, as `-k` tells them.
-use Rattle.std.specs.Prelude.{◌≡◌, ◌≢◌, ◌⊎◌, ℕ, ◌+◌, Bool, true, false, List, [], ◌∷◌, ◌++◌, codes, decimal, Option, Some, None, option_map, if◌then◌else◌}
-use Rattle.std.specs.Str.{bytes_eq}
-use Rattle.std.specs.List.{flat_map}
+use Rattle.std.specs.Prelude.{◌≡◌, ◌≢◌, ◌⊎◌, ℕ, ◌+◌, Bool, true, false, List, [], ◌∷◌, ◌++◌, codes, decimal, Option, Some, IfSome, Result, Ok, Err}
+use Rattle.std.specs.List.{AllZip, flat_map}
 use Rattle.cidr.specs.texts.Messages.{address_message, parse_message}
 use Rattle.cidr.specs.declared.cidr.combined.IpCidr.{IpCidr}
+use Rattle.cidr.specs.declared.family.Family.{Family}
+use Rattle.cidr_io.specs.Collecting.{HasSaid}
 use Rattle.cidr_io.specs.Writing.{State, Says as Tells}
 use Rattle.netset.specs.Commands.{Request, Check, Look, AreTold}
-use Rattle.netset.specs.Entries.{HasNoHost, LineHas}
-use Rattle.netset.specs.Lists.{Text, IsContent, IsField, IsInError, lines_of, text_by}
+use Rattle.netset.specs.Entries.{AddsEntry, AreEntries, HasNoHost, LineHas}
+use Rattle.netset.specs.Lists.{Text, IsContent, IsField, IsInError, LineSays, lines_of, networks_in, text_by}
 use Rattle.netset.specs.Look.{IsBadRow, RowSays}
+use Rattle.netset.specs.LookUps.{AddsRow, Stores}
+use Rattle.netset.specs.Reading.{AddsLine, IsStopped, listed}
 use Rattle.netset.specs.declared.entries.Entry.{Entry}
+use Rattle.netset.specs.declared.errors.CommandError.{CommandError}
+use Rattle.netset.specs.declared.errors.CommandError.TheVariants as error
 use Rattle.netset.specs.declared.errors.LineError.{LineError}
 use Rattle.netset.specs.declared.errors.LineError.TheVariants.{NotUtf8, NoNetwork, NoAddress, TwoFamilies, Reversed}
+use Rattle.netset.specs.declared.errors.ReadError.{ReadError}
 use Rattle.netset.specs.declared.keeping.Kept.{Kept}
 use Rattle.netset.specs.declared.keeping.Kind.{Kind}
 use Rattle.netset.specs.declared.keeping.Kind.TheVariants as kind
+use Rattle.netset.specs.declared.keeping.Said.{Said}
+use Rattle.netset.specs.declared.keeping.Said.TheVariants.{Networks, Hosts, Rows}
 use Rattle.netset.specs.declared.lines.Content.{Content}
 use Rattle.netset.specs.declared.lines.HostBits.{HostBits}
 
@@ -65,33 +73,92 @@ AreTellings kind (file ∷ files) (text ∷ texts) told = (errors : List (ℕ ×
     × AreErrors kind text.host_bits 1 (lines_of text.bytes) errors × AreTellings kind files texts rest
     × (told ≡ flat_map (fault_line file) errors ++ rest)
 
+-- the lines in error are told of some first lines of a list
+abbrev pub IsPartTold : Kind → List ℕ → Text → List ℕ → Type 0
+IsPartTold kind file text lines = (before after : List (List ℕ)) × (lines_of text.bytes ≡ before ++ after)
+    × (errors : List (ℕ × LineError)) × AreErrors kind text.host_bits 1 before errors × (lines ≡ flat_map (fault_line file) errors)
+
+-- why no more lists are read: the first of these can't be read, or memory
+abbrev pub IsLoadError : List (List ℕ) → CommandError → Type 0
+IsLoadError names (error.Input file) = (after : List (List ℕ)) × (names ≡ file.now ∷ after)
+IsLoadError names error.NoMemory = Unit {0}
+IsLoadError names e = ⊥
+
 -- whether a line is in error
 abbrev pub IsAny : Bool → List ℕ → Type 0
 IsAny true told = told ≢ []
 IsAny false told = told ≡ []
 
+-- the lines in error are told of a beginning of the first of these lists, if its bytes are told
+abbrev pub IsBegun : (List ℕ → Option Text) → Kind → List (List ℕ) → List ℕ → Type 0
+IsBegun told kind [] lines = lines ≡ []
+IsBegun told kind (name ∷ names) lines = (text : Text) → told name ≡ Some text → IsPartTold kind name text lines
+
 -- ---- what private functions promise
--- the error of a line, if it is in error
-abbrev pub FindsError : Kind → HostBits → List ℕ → Option LineError → Type 0
-FindsError kind bits line None = IsSound kind bits line
-FindsError kind bits line (Some e) = IsFaulty kind bits line e
+-- what the lines are
+abbrev pub kind_in : Said → Kind
+kind_in (Networks lists) = kind.Networks
+kind_in (Hosts entries) = kind.Hosts
+kind_in (Rows rows) = kind.Rows
 
--- the lines in error of a list are told
-abbrev pub TellsErrors : Kind → HostBits → List ℕ → List ℕ → State → State → Bool → Type 0
-TellsErrors kind bits file text old new found = (errors : List (ℕ × LineError)) × AreErrors kind bits 1 (lines_of text) errors
-    × Tells old new (flat_map (fault_line file) errors) × IsAny found (flat_map (fault_line file) errors)
+-- this is what the lines say, each entry in a file of no name
+abbrev pub AllSaid : HostBits → List (List ℕ) → Said → Type 0
+AllSaid bits lines (Networks lists) = (said : List (List IpCidr)) × AllZip (LineSays bits) lines said
+    × ((family : Family) → listed lists family ≡ networks_in family said)
+AllSaid bits lines (Hosts entries) = AreEntries [] 1 lines entries.items
+AllSaid bits lines (Rows rows) = (said : List (Option (IpCidr × List ℕ))) × AllZip (RowSays bits) lines said × Stores rows said
 
--- the bytes of the first list of this name, or what else is told of a file of this name
-abbrev pub kept_or : List Kept → (List ℕ → Option Text) → List ℕ → Option Text
-kept_or [] told name = told name
-kept_or (list ∷ lists) told name =
-    if bytes_eq list.name.now name then option_map (λ text. text_by text.host_bits list.bytes.items) (told name) else kept_or lists told name
+-- nothing is said yet
+abbrev pub IsNone : Kind → Said → Type 0
+IsNone kind said = (kind_in said ≡ kind) × ((bits : HostBits) → AllSaid bits [] said)
 
--- the lists have the bytes that are told of their files
+-- what a line says comes behind what the lines before say
+abbrev pub AddsBy : HostBits → List ℕ → ℕ → Said → Said → Result (Unit {0}) ReadError → Type 0
+AddsBy bits line number (Networks old) (Networks new) r = AddsLine bits line number old new r
+AddsBy bits line number (Hosts old) (Hosts new) r = AddsEntry [] number line old.items new.items r
+AddsBy bits line number (Rows old) (Rows new) r = AddsRow bits line number old new r
+AddsBy bits line number (Networks old) (Hosts new) r = ⊥
+AddsBy bits line number (Networks old) (Rows new) r = ⊥
+AddsBy bits line number (Hosts old) (Networks new) r = ⊥
+AddsBy bits line number (Hosts old) (Rows new) r = ⊥
+AddsBy bits line number (Rows old) (Networks new) r = ⊥
+AddsBy bits line number (Rows old) (Hosts new) r = ⊥
+
+-- lines more are said, where these were said before
+abbrev pub SaysMore : State → List ℕ → State → List ℕ → List ℕ → Type 0
+SaysMore old block new rest lines = (start : State) (text : List ℕ) → HasSaid start old block text → HasSaid start new rest (text ++ lines)
+
+-- what a line says was added, or its error was told, or it is not known
+abbrev pub KeepsLine : HostBits → List ℕ → ℕ → List ℕ → Said → Said → State → List ℕ → State → List ℕ → Result Bool ReadError → Type 0
+KeepsLine bits file number line was now old block new rest (Ok false) = AddsBy bits line number was now (Ok tt) × (new ≡ old) × (rest ≡ block)
+KeepsLine bits file number line was now old block new rest (Ok true) = (e : LineError) × (kind_in now ≡ kind_in was)
+    × IsFaulty (kind_in was) bits line e × SaysMore old block new rest (fault_line file (number, e))
+KeepsLine bits file number line was now old block new rest (Err e) = IsStopped e × (new ≡ old) × (rest ≡ block)
+
+-- what was told of lines, whether one is in error, and else what they say
+abbrev pub IsKept : Kind → HostBits → List ℕ → List (List ℕ) → List ℕ × Bool × Said → Type 0
+IsKept kind bits file lines kept = (errors : List (ℕ × LineError)) × AreErrors kind bits 1 lines errors
+    × (kept.0 ≡ flat_map (fault_line file) errors) × (kept.1 ≡ false → AllSaid bits lines kept.2)
+
+-- the lines of a list were read, and those in error told
+abbrev pub KeepsLines : Kind → HostBits → List ℕ → Option (List ℕ) → State → List ℕ → State → List ℕ → Result (Said × Bool) ReadError → Type 0
+KeepsLines kind bits file left old block new rest (Ok kept) = (lines : List ℕ) × SaysMore old block new rest lines
+    × IsAny kept.1 lines × IfSome left (λ text. IsKept kind bits file (lines_of text) (lines, kept.1, kept.0))
+KeepsLines kind bits file left old block new rest (Err e) = (lines : List ℕ) × SaysMore old block new rest lines × IsStopped e
+    × IfSome left (λ text. IsPartTold kind file (text_by bits text) lines)
+
+-- the same of the list of a file
+abbrev pub KeepsList : Option Text → Kind → List ℕ → State → State → Result (Said × Bool) CommandError → Type 0
+KeepsList told kind file old new (Ok kept) = (lines : List ℕ) × Tells old new lines × IsAny kept.1 lines
+    × ((text : Text) → told ≡ Some text → IsKept kind text.host_bits file (lines_of text.bytes) (lines, kept.1, kept.0))
+KeepsList told kind file old new (Err e) = (lines : List ℕ) × Tells old new lines × IsLoadError (file ∷ []) e
+    × ((text : Text) → told ≡ Some text → IsPartTold kind file text lines)
+
+-- the lists say what is kept of them
 abbrev pub AreKept : (List ℕ → Option Text) → List Kept → Type 0
 AreKept told [] = Unit {0}
 AreKept told (list ∷ lists) =
-    ((text : Text) → told list.name.now ≡ Some text → list.bytes.items ≡ text.bytes) × AreKept told lists
+    ((text : Text) → told list.name.now ≡ Some text → AllSaid text.host_bits (lines_of text.bytes) list.said) × AreKept told lists
 
 -- what was told of lists, if their bytes are told
 abbrev pub HasTold : (List ℕ → Option Text) → Kind → List (List ℕ) → State → State → List ℕ → Type 0

@@ -98,6 +98,17 @@ ReadsRows text (Err (Line number e)) = (said : List (Option (IpCidr × List ℕ)
 ReadsRows text (Err Input) = Unit {0}
 ReadsRows text (Err NoMemory) = Unit {0}
 
+-- rows with the same networks and values
+pub record AreCopies (rows others : Rows) : Type 0 where
+  pub v4 : others.v4.items ≡ rows.v4.items
+  pub v6 : others.v6.items ≡ rows.v6.items
+  pub values : others.values.items ≡ rows.values.items
+
+-- the rows of a file, or why it is not read
+abbrev pub ReadsFileRows : Option Text → List ℕ → Result Rows CommandError → Type 0
+ReadsFileRows told name (Ok rows) = (text : Text) → told ≡ Some text → ReadsRows text (Ok rows)
+ReadsFileRows told name (Err e) = IsUnreadTable told name e
+
 -- the rows of a table, of each key one
 abbrev pub kept : Table → Family → List (List Bool × List ℕ)
 kept table Ipv4 = map (resolved table.values.items) table.v4.rows

@@ -11,7 +11,7 @@ use Rattle.netset.specs.Lists.{Text, text_by, ListSays, IsFirstError}
 use Rattle.netset.specs.Commands.{Request, Lists, NotIn, Diff, Free, Check, Match, Look, Single, Help, Version, IsRequest, IsUsage, MayRead, ReadsInputTwice, input_name, lists_of, reading_of, reading_options, without_options, read_files, AreTold, IsAnswer, Says}
 use Rattle.netset.specs.Causes.{Cause, MayFail}
 use Rattle.netset.specs.Free.{IsBadLength}
-use Rattle.netset.specs.Keeping.{AreTellings, fault_line, kind_of}
+use Rattle.netset.specs.Keeping.{AreTellings, IsBegun, IsLoadError, fault_line, kind_of}
 use Rattle.netset.specs.Look.{IsLookCut, IsUnreadTable}
 use Rattle.netset.specs.Matching.{has, written_of, IsCutAt, Picks}
 use Rattle.netset.specs.Streaming.{IsCutShort}
@@ -103,10 +103,9 @@ AnswersRequest told (Look table file) old new r =
     AnswersWhole told (Look table file) old new r ⊎ IsCutShort (IsLookUntil told table file) file old new r
 AnswersRequest told request old new r = AnswersWhole told request old new r
 
--- a request is given up only for its cause; why `check` is given up is not told yet
-abbrev pub IsCaused : (List ℕ → Option Text) → Bool → Request → Result Verdict CommandError → Type 0
-IsCaused told refused (Check files) r = Unit {0}
-IsCaused told refused request r = IfErr r (Cause (MayFail told) refused)
+-- a request is given up only for its cause
+abbrev pub IsCaused : (List ℕ → Option Text) → Bool → Result Verdict CommandError → Type 0
+IsCaused told refused r = IfErr r (Cause (MayFail told) refused)
 
 -- the lists of the files, read this way
 abbrev pub told_by : HostBits → (List ℕ → Option (List ℕ)) → List ℕ → Option Text
@@ -158,34 +157,40 @@ status_of (Err (error.Input name)) = 2
 status_of (Err error.NoMemory) = 3
 status_of (Err error.Output) = 3
 
--- why no more lists are read whole: the first of these can't be read, or memory
-abbrev pub IsLoadError : List (List ℕ) → CommandError → Type 0
-IsLoadError names (error.Input file) = (after : List (List ℕ)) × (names ≡ file.now ∷ after)
-IsLoadError names error.NoMemory = Unit {0}
-IsLoadError names e = ⊥
+-- an argument that is wrong whatever the lists say
+abbrev pub IsWrong : Request → CommandError → Type 0
+IsWrong (NotIn net files) e = IsBadArgument (λ text bad. (text ≡ net) × IsNoNetwork net bad) e
+IsWrong (Free pool len used) e = IsBadArgument (IsBadLength len) e
+IsWrong request e = ⊥
 
--- a request whose lists are read whole first: each line in error is told, and then nothing is written; where there is
--- none, the request is answered
-abbrev pub KeepsGoing : (List ℕ → Option Text) → Bool → Request → Bool → State → State → State → State → ℕ → Type 0
-KeepsGoing told refused request closed out new_out err new_err status = (lines : List ℕ) × (mid : State) × Tells err mid lines
+-- the run ends with this error, and nothing is written to standard output
+abbrev pub EndsWith : CommandError → Bool → State → State → State → State → ℕ → Type 0
+EndsWith e closed out new_out err new_err status = (new_out ≡ out) × Reports closed (Err e) err new_err × (status ≡ status_of (Err e))
+
+-- a request of whose lists each line in error is told, up to a list that can't be read, and then nothing is written; where
+-- there is none, the request is answered
+abbrev pub TellsFaults : (List ℕ → Option Text) → Bool → Request → Bool → State → State → State → State → ℕ → Type 0
+TellsFaults told refused request closed out new_out err new_err status = (lines : List ℕ) × (mid : State) × Tells err mid lines
     × ((((texts : List Text) → AreTold told (lists_of request) texts → AreTellings (kind_of request) (lists_of request) texts lines)
     × (((lines ≢ []) × (new_out ≡ out) × (new_err ≡ mid) × (status ≡ 2))
-    ⊎ ((lines ≡ []) × (r : Result Verdict CommandError) × AnswersRequest told request out new_out r × IsCaused told refused request r
+    ⊎ ((lines ≡ []) × (r : Result Verdict CommandError) × AnswersRequest told request out new_out r × IsCaused told refused r
     × Reports closed r mid new_err × (status ≡ status_of r))))
-    ⊎ ((before after : List (List ℕ)) × (lists_of request ≡ before ++ after)
-    × ((texts : List Text) → AreTold told before texts → AreTellings (kind_of request) before texts lines)
-    × (e : CommandError) × IsLoadError after e × Cause (MayFail told) refused e × (new_out ≡ out) × Reports closed (Err e) mid new_err × (status ≡ status_of (Err e))))
+    ⊎ ((before after : List (List ℕ)) × (lists_of request ≡ before ++ after) × (front rest : List ℕ) × (lines ≡ front ++ rest)
+    × ((texts : List Text) → AreTold told before texts → AreTellings (kind_of request) before texts front)
+    × IsBegun told (kind_of request) after rest × (e : CommandError) × IsLoadError after e × Cause (MayFail told) refused e × (new_out ≡ out) × Reports closed (Err e) mid new_err × (status ≡ status_of (Err e))))
+
+-- the same, where no argument is wrong
+abbrev pub KeepsGoing : (List ℕ → Option Text) → Bool → Request → Bool → State → State → State → State → ℕ → Type 0
+KeepsGoing told refused request closed out new_out err new_err status =
+    ((e : CommandError) × IsWrong request e × EndsWith e closed out new_out err new_err status)
+    ⊎ (((e : CommandError) → ¬ (IsWrong request e)) × TellsFaults told refused request closed out new_out err new_err status)
 
 -- what becomes of a request, its lists read this way
 abbrev pub RunsRequest : Reading → (List ℕ → Option Text) → Bool → Request → Bool → State → State → State → State → ℕ → Type 0
 RunsRequest reading told refused request closed out new_out err new_err status =
     ((reading.keeps_going ≡ true) × KeepsGoing told refused request closed out new_out err new_err status)
     ⊎ ((reading.keeps_going ≡ false) × (r : Result Verdict CommandError) × AnswersRequest told request out new_out r
-    × IsCaused told refused request r × Reports closed r err new_err × (status ≡ status_of r))
-
--- the run ends with this error, and nothing is written to standard output
-abbrev pub EndsWith : CommandError → Bool → State → State → State → State → ℕ → Type 0
-EndsWith e closed out new_out err new_err status = (new_out ≡ out) × Reports closed (Err e) err new_err × (status ≡ status_of (Err e))
+    × IsCaused told refused r × Reports closed r err new_err × (status ≡ status_of r))
 
 -- the error is that the standard input is read already
 abbrev pub IsReadTwice : CommandError → Type 0

@@ -1,5 +1,5 @@
 -- What functions that read a list promise, about bytes that are known.
-use Rattle.std.specs.Prelude.{◌≡◌, ◌≢◌, ℕ, Bool, true, false, List, [], ◌∷◌, ◌++◌, Result, Ok, Err, MatchResult}
+use Rattle.std.specs.Prelude.{◌≡◌, ℕ, Bool, List, ◌++◌, Result, Ok, Err, MatchResult}
 use Rattle.cidr.specs.declared.cidr.combined.IpCidr.{IpCidr}
 use Rattle.cidr.specs.declared.family.Family.{Family}
 use Rattle.cidr.specs.declared.family.Family.TheVariants.{Ipv4, Ipv6}
@@ -14,11 +14,6 @@ use Rattle.netset.specs.declared.errors.ReadError.TheVariants.{Line, Input, NoMe
 use Rattle.netset.specs.declared.lines.Content.{Content}
 use Rattle.netset.specs.declared.lines.HostBits.{HostBits}
 use Rattle.netset.specs.declared.lists.Lists.{Lists}
-
--- a line feed at the end is dropped, if there is one
-abbrev pub DropsLineFeed : List ℕ → List ℕ → Bool → Type 0
-DropsLineFeed old new true = old ≡ new ++ 10 ∷ []
-DropsLineFeed old new false = (new ≡ old) × ((line : List ℕ) → old ≢ line ++ 10 ∷ [])
 
 -- what a field says, or its error
 abbrev pub ReadsField : HostBits → List ℕ → Result Content LineError → Type 0

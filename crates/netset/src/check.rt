@@ -1,7 +1,8 @@
 //! The command `check`.
-ghost use Rattle.std.specs.Prelude.{◌≡◌, ◌<◌, ◌+◌, ◌*◌, length, map, ℕ};
+ghost use Rattle.std.specs.Prelude.{◌≡◌, ◌<◌, ◌+◌, ◌*◌, IfErr, length, map, ℕ};
 ghost use Rattle.cidr_io.specs.Writing.{State};
 ghost use Rattle.cidr_io.specs.Collecting.{Collects};
+ghost use Rattle.netset.specs.Causes.{Cause, MayFail};
 ghost use Rattle.netset.specs.Commands.{Check};
 ghost use Rattle.netset.specs.Findings.{AnswersNotes, AreNoted, NotesAll, NotesOn, entry_network, kind_rank, note_line};
 ghost use Rattle.netset.specs.Nearness.{AreNear};
@@ -14,9 +15,9 @@ use crate::files::Sources;
 use crate::findings::{Finding, Kind, Note, find};
 use crate::near::{Near, near_at, near_lines};
 use cidr_io::block::Block;
+use cidr_io::memory::Memory;
 use cidr_io::sink::{OutputFailed, Sink};
 use itoa::Buffer;
-use std::alloc::Global;
 
 /// Appends a finding to a block, as a line.
 fn push_note<S: Sink>(block: &mut Block, out: &mut S, note: &Note<'_>) -> Result<(), OutputFailed>
@@ -172,17 +173,19 @@ fn answer<S: Sink>(
 }
 
 /// The command `check`.
-pub fn check<'a, F: Sources, O: Sink>(
-    alloc: Global,
+pub fn check<'a, M: Memory, F: Sources, O: Sink>(
+    memory: &mut M,
     sources: &F,
     files: &'a [&'a str],
     out: &mut O,
 ) -> Result<Verdict, CommandError<'a>>
-    ensures { AnswersRequest (F.told sources.now) (Check (map (λ file. file.now) files.now))
+    ensures answers { AnswersRequest (F.told sources.now) (Check (map (λ file. file.now) files.now))
         (O.state out.old) (O.state out.new) result }
+    ensures cause { IfErr result (Cause (MayFail (F.told sources.now)) (M.refused memory.new)) }
 {
-    let entries = read_entries(alloc, sources, files)?;
-    let near = near_lines(alloc, entries.as_slice())?;
+    let entries = read_entries(memory, sources, files)?;
+    let near = near_lines(memory.alloc(), entries.as_slice());
+    let near = memory.watch(near)?;
     match answer(out, entries.as_slice(), near.as_slice()) {
         Ok(verdict) => Ok(verdict),
         Err(_) => Err(CommandError::Output),

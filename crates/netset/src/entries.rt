@@ -1,20 +1,24 @@
 //! The lines of lists that have a network or a host.
-ghost use Rattle.std.specs.Prelude.{◌≡◌, ◌<◌, ◌∷◌, ◌++◌, ◌↔◌, IfSome, IsTrue, List, MatchResult, Some, length, map, slice_get, ℕ};
+ghost use Rattle.std.specs.Prelude.{◌≡◌, ◌<◌, ◌∷◌, ◌++◌, ◌↔◌, true, IfErr, IfSome, IsTrue, List, MatchResult, OnErr, OnOk, Some, length, map, slice_get, ℕ};
 ghost use Rattle.std.specs.Bool.{Decides};
 ghost use Rattle.cidr.specs.either.IpText.{IsIpHostText, ip_host_text};
 ghost use Rattle.cidr.specs.texts.HostText.{IsHostText};
 ghost use Rattle.cidr.specs.texts.Printed.{length_text, plain_host_text};
 ghost use Rattle.cidr.specs.declared.family.Family.TheVariants.{Ipv4};
+ghost use Rattle.netset.specs.Causes.{Cause, MayFail, ReadCause, TextFails};
 ghost use Rattle.netset.specs.Commands.{read_files};
-ghost use Rattle.netset.specs.Entries.{AddsEntries, AddsEntry, ReadsEntry};
+ghost use Rattle.netset.specs.Entries.{AddsEntries, AddsEntry, CopiesEntries, ReadsEntry};
 ghost use Rattle.netset.specs.Unchecked.{AddsFileEntries, AreToldEntries, IsUnchecked};
 
 use crate::errors::{CommandError, LineError, ReadError};
 use crate::files::Sources;
-use crate::lines::{next_line, without_comment};
+use crate::keeping::Said;
+use crate::lines::without_comment;
 use cidr::{IpInet, Ipv4Inet};
-use std::alloc::Global;
-use std::io::{BufRead, BufReader, Read};
+use cidr_io::lines::LineReader;
+use cidr_io::memory::Memory;
+use cidr_io::source::Source;
+use std::alloc::AllocError;
 
 /// Where a line stands.
 #[derive(Clone, Copy, Debug)]
@@ -103,37 +107,39 @@ pub fn entry_of<'a>(place: Place<'a>, line: &[u8]) -> Result<Option<Entry<'a>>, 
 }
 
 /// Adds the entry that a line has, if it has one.
-fn add_line<'a>(
+pub fn add_line<'a, M: Memory>(
+    memory: &mut M,
     place: Place<'a>,
     line: &[u8],
     entries: &mut Vec<Entry<'a>>,
 ) -> Result<(), ReadError>
-    ensures { AddsEntry place.entry.file.now place.entry.number line.now entries.old.items entries.new.items result }
+    ensures adds { AddsEntry place.entry.file.now place.entry.number line.now entries.old.items entries.new.items result }
+    ensures cause { IfErr result (ReadCause ⊥ (M.refused memory.new)) }
 {
     match entry_of(place, line) {
-        Ok(Some(entry)) => match entries.push(entry) {
-            Ok(()) => Ok(()),
-            Err(_) => Err(ReadError::NoMemory),
-        },
+        Ok(Some(entry)) => {
+            memory.push(entries, entry)?;
+            Ok(())
+        }
         Ok(None) => Ok(()),
         Err(e) => Err(ReadError::Line(place.number, e)),
     }
 }
 
 /// Reads a list to its end or to its first line in error, and adds its entries.
-fn add_lines<'a, R: BufRead>(
-    alloc: Global,
-    reader: &mut R,
+fn add_lines<'a, M: Memory, S: Source + Drop>(
+    memory: &mut M,
+    reader: &mut LineReader<S>,
     file: &'a str,
     entries: &mut Vec<Entry<'a>>,
 ) -> Result<(), ReadError>
-    ensures { IfSome (R.Read.remaining reader.old)
+    ensures adds { IfSome reader.old.left
         (λ text. AddsEntries file.now text entries.old.items entries.new.items result) }
+    ensures cause { IfErr result (ReadCause (TextFails reader.old.left) (M.refused memory.new)) }
 {
-    let mut line = Vec::new(alloc);
     for number in 1..u64::MAX {
-        let has_more = next_line(reader, &mut line)?;
-        add_line(Place { file, number }, line.as_slice(), entries)?;
+        let has_more = reader.read_line(memory)?;
+        add_line(memory, Place { file, number }, reader.line(), entries)?;
         if !has_more {
             return Ok(());
         }
@@ -142,32 +148,34 @@ fn add_lines<'a, R: BufRead>(
 }
 
 /// Reads a list in blocks, to its end or to its first line in error, and adds its entries.
-fn add_list<'a, R: Read + Drop>(
-    alloc: Global,
-    reader: R,
+fn add_list<'a, M: Memory, S: Source + Drop>(
+    memory: &mut M,
+    source: S,
     file: &'a str,
     entries: &mut Vec<Entry<'a>>,
 ) -> Result<(), ReadError>
-    ensures { IfSome (R.remaining reader)
+    ensures adds { IfSome (S.left source)
         (λ text. AddsEntries file.now text entries.old.items entries.new.items result) }
+    ensures cause { IfErr result (ReadCause (TextFails (S.left source)) (M.refused memory.new)) }
 {
-    let mut reader = BufReader::new(alloc, reader)?;
-    add_lines(alloc, &mut reader, file, entries)
+    let mut reader = LineReader::new(memory, source)?;
+    add_lines(memory, &mut reader, file, entries)
 }
 
 /// Reads the list of a file, and adds its entries.
-fn add_file<'a, F: Sources>(
-    alloc: Global,
+fn add_opened<'a, M: Memory, F: Sources>(
+    memory: &mut M,
     sources: &F,
     file: &'a str,
     entries: &mut Vec<Entry<'a>>,
 ) -> Result<(), CommandError<'a>>
-    ensures { AddsFileEntries (F.told sources.now file.now) file.now entries.old.items entries.new.items result }
+    ensures adds { AddsFileEntries (F.told sources.now file.now) file.now entries.old.items entries.new.items result }
+    ensures cause { IfErr result (Cause (MayFail (F.told sources.now)) (M.refused memory.new)) }
 {
     let Some(reader) = sources.open(file) else {
         return Err(CommandError::Input(file));
     };
-    match add_list(alloc, reader, file, entries) {
+    match add_list(memory, reader, file, entries) {
         Ok(()) => Ok(()),
         Err(ReadError::Line(number, e)) => Err(CommandError::Line(file, number, e)),
         Err(ReadError::Input) => Err(CommandError::Input(file)),
@@ -175,37 +183,85 @@ fn add_file<'a, F: Sources>(
     }
 }
 
+/// Adds entries of a file of no name as those of a file.
+fn add_kept<'a, M: Memory>(
+    memory: &mut M,
+    file: &'a str,
+    kept: &[Entry<'_>],
+    entries: &mut Vec<Entry<'a>>,
+) -> Result<(), AllocError>
+    ensures added { OnOk result (CopiesEntries file.now kept.now entries.old.items entries.new.items) }
+    ensures refused { OnErr result (M.refused memory.new ≡ true) }
+{
+    for entry in kept {
+        let place = Place {
+            file,
+            number: entry.place.number,
+        };
+        memory.push(
+            entries,
+            Entry {
+                place,
+                host: entry.host,
+                is_canonical: entry.is_canonical,
+            },
+        )?;
+    }
+    Ok(())
+}
+
+/// Adds the entries of the list of a file, which is read unless it is read already.
+fn add_file<'a, M: Memory, F: Sources>(
+    memory: &mut M,
+    sources: &F,
+    file: &'a str,
+    entries: &mut Vec<Entry<'a>>,
+) -> Result<(), CommandError<'a>>
+    ensures adds { AddsFileEntries (F.told sources.now file.now) file.now entries.old.items entries.new.items result }
+    ensures cause { IfErr result (Cause (MayFail (F.told sources.now)) (M.refused memory.new)) }
+{
+    match sources.kept(file) {
+        Some(Said::Hosts(kept)) => {
+            add_kept(memory, file, kept.as_slice(), entries)?;
+            Ok(())
+        }
+        _ => add_opened(memory, sources, file, entries),
+    }
+}
+
 /// The entries of the lists of a file and of others.
-fn read_named<'a, F: Sources>(
-    alloc: Global,
+fn read_named<'a, M: Memory, F: Sources>(
+    memory: &mut M,
     sources: &F,
     file: &'a str,
     files: &[&'a str],
 ) -> Result<Vec<Entry<'a>>, CommandError<'a>>
-    ensures { MatchResult result
+    ensures reads { MatchResult result
         (λ entries. AreToldEntries (F.told sources.now) (file.now ∷ map (λ file. file.now) files.now) entries.items)
         (IsUnchecked (F.told sources.now) (file.now ∷ map (λ file. file.now) files.now)) }
+    ensures cause { IfErr result (Cause (MayFail (F.told sources.now)) (M.refused memory.new)) }
 {
-    let mut entries = Vec::new(alloc);
-    add_file(alloc, sources, file, &mut entries)?;
+    let mut entries = Vec::new(memory.alloc());
+    add_file(memory, sources, file, &mut entries)?;
     for other in files {
-        add_file(alloc, sources, other, &mut entries)?;
+        add_file(memory, sources, other, &mut entries)?;
     }
     Ok(entries)
 }
 
 /// The entries of the lists of a command's files: of the standard input, if none is named.
-pub fn read_entries<'a, F: Sources>(
-    alloc: Global,
+pub fn read_entries<'a, M: Memory, F: Sources>(
+    memory: &mut M,
     sources: &F,
     files: &[&'a str],
 ) -> Result<Vec<Entry<'a>>, CommandError<'a>>
-    ensures { MatchResult result
+    ensures reads { MatchResult result
         (λ entries. AreToldEntries (F.told sources.now) (read_files (map (λ file. file.now) files.now)) entries.items)
         (IsUnchecked (F.told sources.now) (read_files (map (λ file. file.now) files.now))) }
+    ensures cause { IfErr result (Cause (MayFail (F.told sources.now)) (M.refused memory.new)) }
 {
     match files.split_first() {
-        Some((file, files)) => read_named(alloc, sources, file, files),
-        None => read_named(alloc, sources, "-", &[]),
+        Some((file, files)) => read_named(memory, sources, file, files),
+        None => read_named(memory, sources, "-", &[]),
     }
 }

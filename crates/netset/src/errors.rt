@@ -2,8 +2,7 @@
 use cidr::AddrParseError;
 use cidr::errors::NetworkParseError;
 use cidr_io::lines;
-use std::alloc::{AllocError, AllocFailed};
-use std::io;
+use std::alloc::AllocError;
 
 /// Why a line is in error.
 #[derive(Debug, Drop)]
@@ -72,19 +71,6 @@ impl From<AllocError> for CommandError<'_> {
     }
 }
 
-impl From<io::Error> for ReadError {
-    ghost use Rattle.netset.specs.Reading.{IsStopped};
-
-    ghost from_gives = { λ _ e. IsStopped e };
-
-    fn from(error: io::Error) -> ReadError {
-        match error.kind() {
-            io::ErrorKind::OutOfMemory => ReadError::NoMemory,
-            _ => ReadError::Input,
-        }
-    }
-}
-
 impl From<lines::ReadError> for ReadError {
     ghost use Rattle.netset.specs.Reading.{read_error};
     ghost use Rattle.std.specs.Prelude.{◌≡◌};
@@ -106,17 +92,6 @@ impl From<AllocError> for ReadError {
     ghost from_gives = { λ _ e. e ≡ NoMemory };
 
     fn from(_error: AllocError) -> ReadError {
-        ReadError::NoMemory
-    }
-}
-
-impl<T: Drop> From<AllocFailed<T>> for ReadError {
-    ghost use Rattle.std.specs.Prelude.{◌≡◌};
-    ghost use Rattle.netset.specs.declared.errors.ReadError.TheVariants.{NoMemory};
-
-    ghost from_gives = { λ _ e. e ≡ NoMemory };
-
-    fn from(_error: AllocFailed<T>) -> ReadError {
         ReadError::NoMemory
     }
 }

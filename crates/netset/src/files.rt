@@ -1,8 +1,10 @@
 //! The files of a run and its standard input.
 ghost use Rattle.std.specs.Prelude.{◌≡◌, ℕ, List, Option, Some, None, IfSome};
-ghost use Rattle.netset.specs.Lists.{Text};
+ghost use Rattle.netset.specs.Keeping.{AllSaid};
+ghost use Rattle.netset.specs.Lists.{Text, lines_of};
 ghost use Rattle.netset.specs.Program.{told_by};
 
+use crate::keeping::Said;
 use crate::lines::HostBits;
 use crate::terminal::{Progress, Watched};
 use cidr_io::source::Source;
@@ -12,7 +14,7 @@ use std::{fs, io, rt};
 
 /// What a run reads: its files and its standard input.
 pub trait Files {
-    type Reader: Read + Source + Drop;
+    type Reader: Source + Drop;
 
     /// The bytes of the file of a name, if they are told: it can be read then. The name `-` is that of the standard
     /// input.
@@ -20,31 +22,32 @@ pub trait Files {
 
     /// Opens the file of this name; `None` where it can't be opened.
     fn open(&self, name: &str) -> Option<Self::Reader>
-        ensures bytes { IfSome result (λ reader. (text : List ℕ) → told self.now name.now ≡ Some text
-            → Self.Reader.Read.remaining reader ≡ Some text) }
         ensures left { IfSome result (λ reader. (text : List ℕ) → told self.now name.now ≡ Some text
-            → Self.Reader.Source.left reader ≡ Some text) }
+            → Self.Reader.left reader ≡ Some text) }
         ensures none { result ≡ None → told self.now name.now ≡ None };
 }
 
 /// What lists are read from, and how.
 pub trait Sources {
-    type Reader: Read + Source + Drop;
+    type Reader: Source + Drop;
 
     /// The list of the file of a name, if it is told. The name `-` is that of the standard input.
     ghost told: { Self → List ℕ → Option Text };
 
     /// Opens the file of this name; `None` where it can't be opened.
     fn open(&self, name: &str) -> Option<Self::Reader>
-        ensures bytes { IfSome result (λ reader. (text : Text) → told self.now name.now ≡ Some text
-            → Self.Reader.Read.remaining reader ≡ Some text.bytes) }
         ensures left { IfSome result (λ reader. (text : Text) → told self.now name.now ≡ Some text
-            → Self.Reader.Source.left reader ≡ Some text.bytes) }
+            → Self.Reader.left reader ≡ Some text.bytes) }
         ensures none { result ≡ None → told self.now name.now ≡ None };
 
     /// What is done with a set bit after the prefix of a network.
     fn host_bits(&self) -> HostBits
         ensures { (name : List ℕ) (text : Text) → told self.now name ≡ Some text → text.host_bits ≡ result };
+
+    /// What the lines of the file of this name say, if they are read already and none is in error.
+    fn kept(&self, name: &str) -> Option<&Said>
+        ensures { IfSome result (λ said. (text : Text) → told self.now name.now ≡ Some text
+            → AllSaid text.host_bits (lines_of text.bytes) said.now) };
 }
 
 /// The files of a run, and how their lists are read.
@@ -66,6 +69,10 @@ impl<F: Files> Sources for ReadBy<'_, F> {
     fn host_bits(&self) -> HostBits {
         self.host_bits
     }
+
+    fn kept(&self, _name: &str) -> Option<&Said> {
+        None
+    }
 }
 
 /// A file or the standard input.
@@ -84,19 +91,6 @@ impl<F: Read + Drop, I: Read + Drop> Read for Opened<F, I> {
         match self {
             Opened::File(file) => file.read(buf),
             Opened::Input(input) => input.read(buf),
-        }
-    }
-}
-
-impl<F: Read + Source + Drop, I: Read + Source + Drop> Source for Opened<F, I> {
-    ghost use Rattle.netset.specs.Opened.{opened_remaining};
-
-    ghost left = { opened_remaining F.Source.left I.Source.left };
-
-    fn read_some(&mut self, buf: &mut [u8]) -> Option<usize> {
-        match self {
-            Opened::File(file) => file.read_some(buf),
-            Opened::Input(input) => input.read_some(buf),
         }
     }
 }

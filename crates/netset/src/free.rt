@@ -24,7 +24,7 @@ use cidr_io::writing::write_text;
 const LONGEST: u8 = 128;
 
 /// The prefix length that an argument is.
-fn length_of(text: &str) -> Option<u8>
+pub fn length_of(text: &str) -> Option<u8>
     ensures { MatchOption result ((n : ℕ) → IsNumber text.now n → 128 < n) (λ n. IsNumber text.now n × (n ≤ 128)) }
 {
     let Ok(len) = text.parse::<u8>() else {

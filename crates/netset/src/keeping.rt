@@ -1,27 +1,28 @@
-//! Telling every line in error of the lists of a command.
-ghost use Rattle.std.specs.Prelude.{◌≡◌, ◌<◌, ◌∷◌, ◌++◌, [], Some, length, map, is_some, option_map, IfSome, MatchResult, IfErr, IfOk, OnErr, true};
-ghost use Rattle.netset.specs.Causes.{Cause, MayFail};
+//! Telling every line in error of the lists of a command, in the pass that reads them.
+ghost use Rattle.std.specs.Prelude.{◌≡◌, ◌++◌, ℕ, List, Option, Some, map, MatchResult, IfErr, IfOk, IfSome, OnErr, true};
+ghost use Rattle.netset.specs.Causes.{Cause, MayFail, ReadCause, TextFails};
 ghost use Rattle.netset.specs.Command.{request_of};
 ghost use Rattle.netset.specs.Commands.{lists_of, others_of};
-ghost use Rattle.netset.specs.Keeping.{FindsError, TellsErrors, kind_of, kept_or};
-ghost use Rattle.netset.specs.Lists.{Text};
+ghost use Rattle.netset.specs.Keeping.{AddsBy, AllSaid, AreKept, IsNone, KeepsLine, KeepsLines, KeepsList, kind_of};
+ghost use Rattle.netset.specs.Lists.{Text, lines_of};
 ghost use Rattle.netset.specs.Loading.{IsLoaded, IsUnloaded};
-ghost use Rattle.netset.specs.Program.{IsLoadError};
-ghost use Rattle.netset.specs.Reading.{IsNextLine};
-ghost use Rattle.netset.specs.declared.keeping.Kind.TheVariants.{Rows as AsRows};
 
-use crate::columns::{network_in, split_row};
 use crate::commands::Command;
-use crate::entries::{Place, entry_of};
-use crate::errors::{CommandError, LineError};
-use crate::files::{Opened, Sources};
-use crate::lines::{HostBits, content_of};
+use crate::entries::{self, Entry, Place};
+use crate::errors::{CommandError, ReadError};
+use crate::files::Sources;
+use crate::lines::HostBits;
+use crate::lists::Lists;
 use crate::report::say_fault;
+use crate::rows::Rows;
+use crate::table::unread;
 use cidr_io::block::Block;
-use cidr_io::lines::{ReadError, read_to_end};
+use cidr_io::lines::LineReader;
 use cidr_io::memory::Memory;
 use cidr_io::sink::Sink;
+use cidr_io::source::Source;
 use std::alloc::{AllocError, Global};
+use std::marker::Model;
 
 /// What the lines of a list are.
 #[derive(Clone, Copy, Debug, Drop, PartialEq)]
@@ -34,75 +35,141 @@ pub enum Kind {
     Rows,
 }
 
-/// The error of the first field of a row of a table, if it is in error.
-fn row_error(host_bits: HostBits, line: &[u8]) -> Option<LineError>
-    ensures { FindsError AsRows host_bits line.now result }
-{
-    let Some((first, _)) = split_row(line) else {
-        return None;
-    };
-    match network_in(host_bits, first) {
-        Ok(_) => None,
-        Err(e) => Some(e),
-    }
+/// What the lines of a list say, those in error left out.
+#[derive(Drop)]
+pub enum Said {
+    Networks(Lists),
+    /// Each entry stands in a file of no name.
+    Hosts(Vec<Entry<'static>>),
+    Rows(Rows),
 }
 
-/// The error of a line, if it is in error.
-fn error_of(kind: Kind, host_bits: HostBits, line: &[u8]) -> Option<LineError>
-    ensures { FindsError kind host_bits line.now result }
-{
-    match kind {
-        Kind::Networks => content_of(host_bits, line).err(),
-        Kind::Hosts => entry_of(
-            Place {
-                file: "",
-                number: 0,
-            },
-            line,
-        )
-        .err(),
-        Kind::Rows => row_error(host_bits, line),
-    }
-}
-
-/// The first line of a text, and what stands behind its line feed, if it has one.
-fn first_line(text: &[u8]) -> (&[u8], Option<&[u8]>)
-    ensures shorter { IfSome result.1 (λ rest. length rest.now < length text.now) }
-    ensures line { IsNextLine text.now result.0.now (is_some result.1) (option_map (λ rest. rest.now) result.1) }
-{
-    for (place, byte) in text.iter().enumerate() {
-        if *byte == b'\n' {
-            return (&text[..place], Some(&text[place + 1..]));
+impl Said {
+    /// What no lines say.
+    fn new(alloc: Global, kind: Kind) -> Said
+        ensures { IsNone kind result }
+    {
+        match kind {
+            Kind::Networks => Said::Networks(Lists::new(alloc)),
+            Kind::Hosts => Said::Hosts(Vec::new(alloc)),
+            Kind::Rows => Said::Rows(Rows::new(alloc)),
         }
     }
-    (text, None)
+
+    /// Adds what a line says.
+    fn add_line<M: Memory>(
+        &mut self,
+        memory: &mut M,
+        host_bits: HostBits,
+        number: u64,
+        line: &[u8],
+    ) -> Result<(), ReadError>
+        ensures adds { AddsBy host_bits line.now number self.old self.new result }
+        ensures cause { IfErr result (ReadCause ⊥ (M.refused memory.new)) }
+    {
+        match self {
+            Said::Networks(lists) => lists.add_line(memory, host_bits, number, line),
+            Said::Hosts(hosts) => {
+                entries::add_line(memory, Place { file: "", number }, line, hosts)
+            }
+            Said::Rows(rows) => rows.add_line(memory, host_bits, number, line),
+        }
+    }
 }
 
-/// Tells the lines in error of a list, and whether there is one.
-fn tell_errors<E: Sink>(
+/// Adds what a line says, or tells its error; tells whether it is in error.
+fn keep_line<M: Memory, E: Sink>(
+    memory: &mut M,
+    host_bits: HostBits,
+    place: Place<'_>,
+    line: &[u8],
+    said: &mut Said,
+    block: &mut Block,
+    err: &mut E,
+) -> Result<bool, ReadError>
+    ensures keeps { KeepsLine host_bits place.entry.file.now place.entry.number line.now said.old said.new
+        (E.state err.old) block.old (E.state err.new) block.new result }
+    ensures cause { IfErr result (ReadCause ⊥ (M.refused memory.new)) }
+{
+    match said.add_line(memory, host_bits, place.number, line) {
+        Ok(()) => Ok(false),
+        Err(ReadError::Line(_, e)) => {
+            say_fault(block, err, place.file, place.number, &e);
+            Ok(true)
+        }
+        Err(ReadError::Input) => Err(ReadError::Input),
+        Err(ReadError::NoMemory) => Err(ReadError::NoMemory),
+    }
+}
+
+/// Reads the lines of a list to its end, and tells those in error: what the others say, and whether one is in error.
+fn keep_lines<M: Memory, S: Source + Drop, E: Sink>(
+    memory: &mut M,
     kind: Kind,
     host_bits: HostBits,
     file: &str,
-    text: &[u8],
+    reader: &mut LineReader<S>,
+    block: &mut Block,
     err: &mut E,
-) -> bool
-    ensures { TellsErrors kind host_bits file.now text.now (E.state err.old) (E.state err.new) result }
+) -> Result<(Said, bool), ReadError>
+    ensures keeps { KeepsLines kind host_bits file.now reader.old.left
+        (E.state err.old) block.old (E.state err.new) block.new result }
+    ensures cause { IfErr result (ReadCause (TextFails reader.old.left) (M.refused memory.new)) }
 {
-    let mut block = Block::new();
+    let mut said = Said::new(memory.alloc(), kind);
     let mut found = false;
-    let mut number = 0;
-    let mut left = Some(text);
-    while let Some(text) = left {
-        let (line, rest) = first_line(text);
-        number += 1;
-        if let Some(e) = error_of(kind, host_bits, line) {
-            say_fault(&mut block, err, file, number, &e);
-            found = true;
+    for number in 1..u64::MAX {
+        let has_more = reader.read_line(memory)?;
+        let place = Place { file, number };
+        let is_bad = keep_line(
+            memory,
+            host_bits,
+            place,
+            reader.line(),
+            &mut said,
+            block,
+            err,
+        )?;
+        found |= is_bad;
+        if !has_more {
+            return Ok((said, found));
         }
-        left = rest;
     }
+    Err(ReadError::Input)
+}
+
+/// Reads a list to its end, and tells its lines in error: what the others say, and whether one is in error.
+fn keep_list<'a, M: Memory, F: Sources, E: Sink>(
+    memory: &mut M,
+    sources: &F,
+    kind: Kind,
+    file: &'a str,
+    err: &mut E,
+) -> Result<(Said, bool), CommandError<'a>>
+    ensures keeps { KeepsList (F.told sources.now file.now) kind file.now (E.state err.old) (E.state err.new) result }
+    ensures cause { IfErr result (Cause (MayFail (F.told sources.now)) (M.refused memory.new)) }
+{
+    let Some(source) = sources.open(file) else {
+        return Err(CommandError::Input(file));
+    };
+    let Ok(mut reader) = LineReader::new(memory, source) else {
+        return Err(CommandError::NoMemory);
+    };
+    let mut block = Block::new();
+    let kept = keep_lines(
+        memory,
+        kind,
+        sources.host_bits(),
+        file,
+        &mut reader,
+        &mut block,
+        err,
+    );
     block.end(err);
-    found
+    match kept {
+        Ok(kept) => Ok(kept),
+        Err(e) => Err(unread(file, e)),
+    }
 }
 
 impl<'a> Command<'a> {
@@ -167,62 +234,69 @@ impl<'a> Command<'a> {
     }
 }
 
-/// A list that was read whole.
+/// A list that was read whole, and has no line in error.
 #[derive(Drop)]
 pub struct Kept<'a> {
     pub name: &'a str,
-    pub bytes: Vec<u8>,
+    pub said: Said,
 }
 
-/// Lists that were read whole, and other files.
-#[derive(Clone, Copy)]
+/// What the first list of this name says.
+fn said_of<'l>(lists: &'l [Kept<'_>], name: &str) -> Option<&'l Said>
+    ensures { IfSome result (λ said. (told : List ℕ → Option Text) → AreKept told lists.now → (text : Text)
+        → told name.now ≡ Some text → AllSaid text.host_bits (lines_of text.bytes) said.now) }
+{
+    for list in lists {
+        if list.name == name {
+            return Some(&list.said);
+        }
+    }
+    None
+}
+
+/// Lists that were read whole, and where files are read from.
+#[derive(Drop)]
 pub struct Loaded<'a, F: Sources> {
-    pub lists: &'a [Kept<'a>],
-    pub sources: &'a F,
+    lists: &'a [Kept<'a>],
+    sources: &'a F,
 }
 
-impl<'a, F: Sources> Sources for Loaded<'a, F> {
-    ghost use Rattle.netset.specs.Keeping.{kept_or};
+impl<'a, F: Sources> Model for Loaded<'a, F> {
+    ghost use Rattle.netset.specs.Keeping.{AreKept};
 
-    type Reader = Opened<F::Reader, &'a [u8]>;
+    ghost Value = { F };
 
-    ghost told = { λ s. kept_or s.lists.now (F.told s.sources.now) };
+    ghost view = { λ l. l.sources.now };
 
-    fn open(&self, name: &str) -> Option<Opened<F::Reader, &'a [u8]>> {
-        for list in self.lists {
-            if list.name == name {
-                return Some(Opened::Input(list.bytes.as_slice()));
-            }
-        }
-        match self.sources.open(name) {
-            Some(reader) => Some(Opened::File(reader)),
-            None => None,
-        }
+    ghost invariant = { λ l. AreKept (F.told l.sources.now) l.lists.now };
+}
+
+impl<'a, F: Sources> Loaded<'a, F> {
+    /// These lists of these sources.
+    pub fn new(sources: &'a F, lists: &'a [Kept<'a>]) -> Loaded<'a, F>
+        requires { AreKept (F.told sources.now) lists.now }
+        ensures { result ≡ sources.now }
+    {
+        Loaded { lists, sources }
+    }
+}
+
+impl<F: Sources> Sources for Loaded<'_, F> {
+    type Reader = F::Reader;
+
+    ghost told = { λ s. F.told s };
+
+    fn open(&self, name: &str) -> Option<F::Reader> {
+        self.sources.open(name)
     }
 
     fn host_bits(&self) -> HostBits {
         self.sources.host_bits()
     }
-}
 
-/// The bytes of a file.
-fn read_whole<'a, M: Memory, F: Sources>(
-    memory: &mut M,
-    sources: &F,
-    file: &'a str,
-) -> Result<Vec<u8>, CommandError<'a>>
-    ensures bytes { MatchResult result
-        (λ bytes. (text : Text) → F.told sources.now file.now ≡ Some text → bytes.items ≡ text.bytes)
-        (IsLoadError (file.now ∷ [])) }
-    ensures cause { IfErr result (Cause (MayFail (F.told sources.now)) (M.refused memory.new)) }
-{
-    let Some(reader) = sources.open(file) else {
-        return Err(CommandError::Input(file));
-    };
-    match read_to_end(memory, reader) {
-        Ok(bytes) => Ok(bytes),
-        Err(ReadError::NoMemory) => Err(CommandError::NoMemory),
-        Err(ReadError::Failed) => Err(CommandError::Input(file)),
+    fn kept(&self, name: &str) -> Option<&Said> {
+        let lists = self.lists;
+        said_of(lists, name)
     }
 }
 
@@ -243,9 +317,9 @@ pub fn load<'a, M: Memory, F: Sources, E: Sink>(
     let mut lists = Vec::new(memory.alloc());
     let mut found = false;
     for name in names {
-        let bytes = read_whole(memory, sources, name)?;
-        found |= tell_errors(kind, sources.host_bits(), name, bytes.as_slice(), err);
-        memory.push(&mut lists, Kept { name, bytes })?;
+        let (said, has_fault) = keep_list(memory, sources, kind, name, err)?;
+        found |= has_fault;
+        memory.push(&mut lists, Kept { name, said })?;
     }
     Ok((lists, found))
 }

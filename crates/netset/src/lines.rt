@@ -1,23 +1,22 @@
 //! The lines of a list.
-ghost use Rattle.std.specs.Prelude.{◌≡◌, [], ℕ, List, IfOk, IfErr, IfSome, MatchResult};
+ghost use Rattle.std.specs.Prelude.{◌≡◌, [], ℕ, List, IfSome, MatchResult};
 ghost use Rattle.std.specs.List.{before_first};
 ghost use Rattle.cidr.specs.either.IpAddress.{IsIpText};
 ghost use Rattle.cidr.specs.texts.Messages.{ip_error};
 ghost use Rattle.cidr.specs.declared.addr.ip.IpAddr.TheVariants.{V4, V6};
 ghost use Rattle.cidr_io.specs.Collecting.{Collects};
 ghost use Rattle.netset.specs.Lists.{AreEnds, IsNetworkBy, IsNoAddress, IsNoNetworkBy, is_comment_sign};
-ghost use Rattle.netset.specs.Reading.{IsNextLine, DropsLineFeed, IsStopped, ReadsField, ReadsLine};
+ghost use Rattle.netset.specs.Reading.{ReadsField, ReadsLine};
 ghost use Rattle.netset.specs.declared.lines.HostBits.{HostBits as Bits};
 ghost use Rattle.netset.specs.declared.errors.LineError.TheVariants.{NoAddress};
 
-use crate::errors::{LineError, ReadError};
+use crate::errors::LineError;
 use cidr::errors::NetworkParseError;
 use cidr::{IpAddr, IpCidr, IpInet, Ipv4Addr, Ipv6Addr};
 use cidr_io::block::Block;
 use cidr_io::lines::LineReader;
 use cidr_io::sink::{OutputFailed, Sink};
 use cidr_io::source::Source;
-use std::io::BufRead;
 
 /// What is done with a set bit after the prefix of a network.
 #[derive(Clone, Copy, Debug, Drop, PartialEq)]
@@ -41,18 +40,6 @@ pub enum Content {
     Ipv6Range(Ipv6Addr, Ipv6Addr),
 }
 
-/// Reads the next line, without its line feed, in place of what `line` has, and tells whether it ends in a line feed,
-/// so that another line stands behind it.
-pub fn next_line<R: BufRead>(reader: &mut R, line: &mut Vec<u8>) -> Result<bool, ReadError>
-    ensures line { IfOk result (λ more. IfSome (R.Read.remaining reader.old)
-        (λ text. IsNextLine text line.new.items more (R.Read.remaining reader.new))) }
-    ensures stopped { IfErr result IsStopped }
-{
-    line.clear();
-    reader.read_until(b'\n', line)?;
-    Ok(drop_line_feed(line))
-}
-
 /// Writes the lines of a block before more is read, so that they don't wait for it.
 pub fn catch_up<R: Source + Drop, S: Sink>(
     reader: &LineReader<R>,
@@ -65,18 +52,6 @@ pub fn catch_up<R: Source + Drop, S: Sink>(
         return Ok(());
     }
     block.flush(out)
-}
-
-/// Drops a line feed at the end of the line, and tells whether there was one.
-fn drop_line_feed(line: &mut Vec<u8>) -> bool
-    ensures { DropsLineFeed line.old.items line.new.items result }
-{
-    let len = line.len();
-    if len > 0 && line[len - 1] == b'\n' {
-        line.truncate(len - 1);
-        return true;
-    }
-    false
 }
 
 /// Whether a byte begins a comment.
@@ -175,10 +150,27 @@ fn content_of_field(host_bits: HostBits, field: &str) -> Result<Content, LineErr
     range_of(first, last)
 }
 
+/// The network that a whole line is, without white space and comments.
+fn whole_network(host_bits: HostBits, line: &[u8]) -> Option<IpCidr>
+    ensures { IfSome result (IsNetworkBy host_bits line.now) }
+{
+    let Ok(text) = str::from_utf8(line) else {
+        return None;
+    };
+    match network_of(host_bits, text) {
+        Ok(network) => Some(network),
+        Err(_) => None,
+    }
+}
+
 /// What a line says.
 pub fn content_of(host_bits: HostBits, line: &[u8]) -> Result<Content, LineError>
     ensures { ReadsLine host_bits line.now result }
 {
+    // most lines are a network and nothing else, and this is the shortest way to it
+    if let Some(network) = whole_network(host_bits, line) {
+        return Ok(Content::Network(network));
+    }
     let field = without_comment(line).trim_ascii();
     match str::from_utf8(field) {
         Ok(text) => content_of_field(host_bits, text),

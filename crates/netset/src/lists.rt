@@ -4,7 +4,7 @@ ghost use Rattle.cidr_sets.specs.Ranges.{IsBetween};
 ghost use Rattle.cidr_sets.specs.Sets.{IsSetOf};
 ghost use Rattle.netset.specs.Causes.{ReadCause, TextFails};
 ghost use Rattle.netset.specs.Lists.{network_in, text_by};
-ghost use Rattle.netset.specs.Reading.{AddsContent, AddsLine, Grows, ReadsList};
+ghost use Rattle.netset.specs.Reading.{AddsContent, AddsLine, Grows, ReadsList, listed};
 
 use crate::errors::ReadError;
 use crate::lines::{Content, HostBits, content_of};
@@ -57,8 +57,17 @@ impl Lists {
         }
     }
 
+    /// Adds the networks of other lists.
+    pub fn extend(&mut self, other: &Lists) -> Result<(), AllocError>
+        ensures { OnOk result (Grows self.old self.new (listed other.now)) }
+    {
+        self.v4.extend_from_slice(other.v4.as_slice())?;
+        self.v6.extend_from_slice(other.v6.as_slice())?;
+        Ok(())
+    }
+
     /// Adds the networks that a line says.
-    fn add_line<M: Memory>(
+    pub fn add_line<M: Memory>(
         &mut self,
         memory: &mut M,
         host_bits: HostBits,

@@ -6,7 +6,8 @@ ghost use Rattle.netset.specs.Combining.{form_of};
 ghost use Rattle.netset.specs.Command.{request_of};
 ghost use Rattle.netset.specs.Commands.{IsRequest, Lists, MayRead};
 ghost use Rattle.netset.specs.Sets.{Prints, held};
-ghost use Rattle.netset.specs.Program.{AnswersRequest, IsCaused, IsReadTwice, IsUsageBy, KeepsGoing, Runs, RunsArguments};
+ghost use Rattle.netset.specs.declared.errors.CommandError.{CommandError};
+ghost use Rattle.netset.specs.Program.{AnswersRequest, IsCaused, IsReadTwice, IsUsageBy, IsWrong, KeepsGoing, Runs, RunsArguments};
 
 use crate::answers::{Verdict, by_output};
 use crate::changes::diff;
@@ -15,7 +16,7 @@ use crate::combine::made;
 use crate::commands::{Command, Reading, command_of, name_input_twice, take_options};
 use crate::errors::{ArgumentError, CommandError};
 use crate::files::{Files, ReadBy, Sources};
-use crate::free::free;
+use crate::free::{free, length_of};
 use crate::inside::not_in;
 use crate::keeping::{Loaded, load};
 use crate::look::look;
@@ -24,7 +25,7 @@ use crate::operations::{Form, Operation, form_of};
 use crate::report::report;
 use crate::sets::Sets;
 use crate::several::read_several;
-use crate::single::answer_single;
+use crate::single::{answer_single, network_of};
 use cidr_io::arguments::{Arguments, ReadError as Unreadable, borrowed, texts_of};
 use cidr_io::memory::Memory;
 use cidr_io::sink::{Output, OutputFailed, Sink};
@@ -84,14 +85,14 @@ fn answer<'a, M: Memory, F: Sources, O: Sink>(
     out: &mut O,
 ) -> Result<Verdict, CommandError<'a>>
     ensures answers { AnswersRequest (F.told sources.now) (request_of command.entry) (O.state out.old) (O.state out.new) result }
-    ensures cause { IsCaused (F.told sources.now) (M.refused memory.new) (request_of command.entry) result }
+    ensures cause { IsCaused (F.told sources.now) (M.refused memory.new) result }
 {
     match command {
         Command::Lists(operation, files) => lists(memory, sources, operation, files, out),
         Command::NotIn(net, files) => not_in(memory, sources, net, files, out),
         Command::Diff(old, new) => diff(memory, sources, old, new, out),
         Command::Free(pool, len, used) => free(memory, sources, pool, len, used, out),
-        Command::Check(files) => check(memory.alloc(), sources, files, out),
+        Command::Check(files) => check(memory, sources, files, out),
         Command::Match(options, list, file) => matching(memory, sources, options, list, file, out),
         Command::Look(table, file) => look(memory, sources, table, file, out),
         Command::Single(single) => answer_single(single, out),
@@ -100,8 +101,33 @@ fn answer<'a, M: Memory, F: Sources, O: Sink>(
     }
 }
 
-/// Tells the lines in error of the lists of a command, and answers it if there are none, reports and returns the exit
-/// status. The lists are read whole first.
+/// The error of the first argument that is wrong whatever the lists say.
+fn wrong_argument<'a>(command: Command<'a>) -> Option<CommandError<'a>>
+    ensures { MatchOption result ((e : CommandError) → ¬ (IsWrong (request_of command.entry) e))
+        (IsWrong (request_of command.entry)) }
+{
+    match command {
+        Command::NotIn(net, _) => match network_of(net) {
+            Ok(_) => None,
+            Err(e) => Some(e),
+        },
+        Command::Free(_, len, _) => match length_of(len) {
+            Some(_) => None,
+            None => Some(CommandError::Argument(len, ArgumentError::Length)),
+        },
+        Command::Lists(_, _)
+        | Command::Diff(_, _)
+        | Command::Check(_)
+        | Command::Match(_, _, _)
+        | Command::Look(_, _)
+        | Command::Single(_)
+        | Command::Help
+        | Command::Version => None,
+    }
+}
+
+/// Tells the lines in error of the lists of a command while they are read, and answers it if there are none, reports and
+/// returns the exit status.
 fn keep_going<'a, M: Memory, F: Sources, O: Output, E: Sink>(
     memory: &mut M,
     sources: &F,
@@ -112,16 +138,16 @@ fn keep_going<'a, M: Memory, F: Sources, O: Output, E: Sink>(
     ensures { KeepsGoing (F.told sources.now) (M.refused memory.new) (request_of command.entry) (O.closed out.new) (O.Sink.state out.old) (O.Sink.state out.new)
         (E.state err.old) (E.state err.new) result }
 {
+    if let Some(e) = wrong_argument(command) {
+        return report(&Err(e), out.is_closed(), err);
+    }
     let Ok(names) = command.lists(memory) else {
         return report(&Err(CommandError::NoMemory), false, err);
     };
     match load(memory, sources, command.kind(), names.as_slice(), err) {
         Ok((_, true)) => 2,
         Ok((lists, false)) => {
-            let loaded = Loaded {
-                lists: lists.as_slice(),
-                sources,
-            };
+            let loaded = Loaded::new(sources, lists.as_slice());
             let answered = answer(memory, &loaded, command, out);
             report(&answered, out.is_closed(), err)
         }

@@ -1,8 +1,8 @@
 //! Reading the rows of a table: networks with a value each.
-ghost use Rattle.std.specs.Prelude.{◌≡◌, [], IfErr, IfSome, OnOk};
+ghost use Rattle.std.specs.Prelude.{◌≡◌, [], IfErr, IfOk, IfSome, OnOk};
 ghost use Rattle.netset.specs.Causes.{ReadCause, TextFails};
 ghost use Rattle.netset.specs.Lists.{text_by};
-ghost use Rattle.netset.specs.LookUps.{AddsRow, Pushes, ReadsRows, value_at};
+ghost use Rattle.netset.specs.LookUps.{AddsRow, AreCopies, Pushes, ReadsRows, value_at};
 
 use crate::columns::{network_in, split_row};
 use crate::errors::ReadError;
@@ -43,9 +43,10 @@ pub struct Rows {
 
 impl Rows {
     /// No rows.
-    fn new(alloc: Global) -> Rows
+    pub fn new(alloc: Global) -> Rows
         ensures v4 { result.v4.items ≡ [] }
         ensures v6 { result.v6.items ≡ [] }
+        ensures values { result.values.items ≡ [] }
     {
         Rows {
             v4: Vec::new(alloc),
@@ -70,8 +71,19 @@ impl Rows {
         Ok(())
     }
 
+    /// The same rows.
+    pub fn copy(&self, alloc: Global) -> Result<Rows, AllocError>
+        ensures { IfOk result (λ rows. AreCopies self.now rows) }
+    {
+        let mut rows = Rows::new(alloc);
+        rows.v4.extend_from_slice(self.v4.as_slice())?;
+        rows.v6.extend_from_slice(self.v6.as_slice())?;
+        rows.values.extend_from_slice(self.values.as_slice())?;
+        Ok(rows)
+    }
+
     /// Adds the network and the value that a line says, if it says them.
-    fn add_line<M: Memory>(
+    pub fn add_line<M: Memory>(
         &mut self,
         memory: &mut M,
         host_bits: HostBits,

@@ -7,6 +7,7 @@ ghost use Rattle.netset.specs.Program.{IsUnread};
 
 use crate::errors::{CommandError, ReadError};
 use crate::files::Sources;
+use crate::keeping::Said;
 use crate::lists::{Lists, read_list};
 use crate::sets::Sets;
 use cidr_io::memory::Memory;
@@ -19,7 +20,7 @@ pub struct Several {
 }
 
 /// Reads the list of a file, and adds its networks.
-fn add_file<'a, M: Memory, F: Sources>(
+fn add_opened<'a, M: Memory, F: Sources>(
     memory: &mut M,
     sources: &F,
     file: &'a str,
@@ -36,6 +37,26 @@ fn add_file<'a, M: Memory, F: Sources>(
         Err(ReadError::Line(number, e)) => Err(CommandError::Line(file, number, e)),
         Err(ReadError::Input) => Err(CommandError::Input(file)),
         Err(ReadError::NoMemory) => Err(CommandError::NoMemory),
+    }
+}
+
+/// Adds the networks of the list of a file, which is read unless it is read already.
+fn add_file<'a, M: Memory, F: Sources>(
+    memory: &mut M,
+    sources: &F,
+    file: &'a str,
+    lists: &mut Lists,
+) -> Result<(), CommandError<'a>>
+    ensures adds { AddsFile (F.told sources.now file.now) file.now lists.old lists.new result }
+    ensures cause { IfErr result (Cause (MayFail (F.told sources.now)) (M.refused memory.new)) }
+{
+    match sources.kept(file) {
+        Some(Said::Networks(kept)) => {
+            let added = lists.extend(kept);
+            memory.watch(added)?;
+            Ok(())
+        }
+        _ => add_opened(memory, sources, file, lists),
     }
 }
 

@@ -5,10 +5,11 @@ ghost use Rattle.cidr_table.specs.LastRows.{AreLastRows};
 ghost use Rattle.cidr_io.specs.Collecting.{Collects};
 ghost use Rattle.netset.specs.Causes.{Cause, MayFail};
 ghost use Rattle.netset.specs.Look.{found_line};
-ghost use Rattle.netset.specs.LookUps.{LooksUp, PushesFound, ReadsTable, kept, resolved, stored, unread, value_at};
+ghost use Rattle.netset.specs.LookUps.{LooksUp, PushesFound, ReadsFileRows, ReadsTable, kept, resolved, stored, unread, value_at};
 
 use crate::errors::{CommandError, ReadError};
 use crate::files::Sources;
+use crate::keeping::Said;
 use crate::printing::Printed;
 use crate::rows::{Rows, Span, read_rows, value_of};
 use arrayvec::ArrayString;
@@ -118,7 +119,44 @@ pub fn unread<'a>(file: &'a str, e: ReadError) -> CommandError<'a>
     }
 }
 
-/// Reads the table of a file.
+/// Reads the rows of a file.
+fn read_opened<'a, M: Memory, F: Sources>(
+    memory: &mut M,
+    sources: &F,
+    file: &'a str,
+) -> Result<Rows, CommandError<'a>>
+    ensures reads { ReadsFileRows (F.told sources.now file.now) file.now result }
+    ensures cause { IfErr result (Cause (MayFail (F.told sources.now)) (M.refused memory.new)) }
+{
+    let Some(reader) = sources.open(file) else {
+        return Err(CommandError::Input(file));
+    };
+    match read_rows(memory, sources.host_bits(), reader) {
+        Ok(rows) => Ok(rows),
+        Err(e) => Err(unread(file, e)),
+    }
+}
+
+/// The rows of a file, which is read unless it is read already.
+fn rows_of<'a, M: Memory, F: Sources>(
+    memory: &mut M,
+    sources: &F,
+    file: &'a str,
+) -> Result<Rows, CommandError<'a>>
+    ensures reads { ReadsFileRows (F.told sources.now file.now) file.now result }
+    ensures cause { IfErr result (Cause (MayFail (F.told sources.now)) (M.refused memory.new)) }
+{
+    match sources.kept(file) {
+        Some(Said::Rows(kept)) => {
+            let rows = kept.copy(memory.alloc());
+            let rows = memory.watch(rows)?;
+            Ok(rows)
+        }
+        _ => read_opened(memory, sources, file),
+    }
+}
+
+/// The table of a file.
 pub fn read_table<'a, M: Memory, F: Sources>(
     memory: &mut M,
     sources: &F,
@@ -127,15 +165,8 @@ pub fn read_table<'a, M: Memory, F: Sources>(
     ensures reads { ReadsTable (F.told sources.now file.now) file.now result }
     ensures cause { IfErr result (Cause (MayFail (F.told sources.now)) (M.refused memory.new)) }
 {
-    let Some(reader) = sources.open(file) else {
-        return Err(CommandError::Input(file));
-    };
-    match read_rows(memory, sources.host_bits(), reader) {
-        Ok(rows) => {
-            let table = Table::of_rows(memory.alloc(), rows);
-            let table = memory.watch(table)?;
-            Ok(table)
-        }
-        Err(e) => Err(unread(file, e)),
-    }
+    let rows = rows_of(memory, sources, file)?;
+    let table = Table::of_rows(memory.alloc(), rows);
+    let table = memory.watch(table)?;
+    Ok(table)
 }

@@ -1,4 +1,4 @@
-use Rattle.std.proofs.Common.{sym, ◌∙◌}
+use Rattle.std.proofs.Common.{sym}
 use Rattle.netset.proofs.Checked.{notes_answered, nothing_answered}
 use Rattle.netset.proofs.check.answer.Goals as goal
 

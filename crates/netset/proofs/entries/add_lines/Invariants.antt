@@ -5,5 +5,4 @@ use Rattle.netset.proofs.entries.add_lines.Given as goal
 
 abbrev pub invariant-loop-number : goal.invariant-loop-number
 invariant-loop-number g l =
-    IfSome (g.R.Read.remaining l.fn.reader)
-    (λ text. LinesRead (HasAdded l.file l.fn.entries.items) text (g.R.Read.remaining l.reader) l.entries.items l.number)
+    IfSome l.fn.reader.left (λ text. LinesRead (HasAdded l.file l.fn.entries.items) text l.reader.left l.entries.items l.number)

@@ -1,4 +1,4 @@
-use Rattle.std.proofs.Common.{◌≡◌, ◌<◌, arith, sym, refl, true, false, Some, None}
+use Rattle.std.proofs.Common.{◌≡◌, ◌<◌, arith, refl, Some, None}
 use Rattle.std.proofs.lemmas.Bool.{false≢true}
 use Rattle.std.proofs.lemmas.Str.Pattern.{split_parts}
 use Rattle.netset.proofs.Spelled.{alone_plain, full_not_plain, shorter_plain}

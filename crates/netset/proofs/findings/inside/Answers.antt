@@ -1,4 +1,4 @@
-use Rattle.std.proofs.Common.{map, refl, subst, ℕ, Option}
+use Rattle.std.proofs.Common.{map, refl, subst}
 use Rattle.netset.specs.Findings.{entry_network}
 use Rattle.netset.specs.Nearness.{IsAroundAt}
 use Rattle.netset.proofs.Found.{index_within, none_around, some_around}

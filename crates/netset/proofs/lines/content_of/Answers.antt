@@ -1,5 +1,9 @@
 use Rattle.std.proofs.Common.{◌≡◌}
+use Rattle.netset.proofs.PlainTexts.{is_field}
 use Rattle.netset.proofs.lines.content_of.Goals as goal
+
+pub returns-in-Some : goal.returns-in-Some
+returns-in-Some c = (c.args.line.now, is_field c.args.host_bits c.args.line.now c.in-Some.network c.in-Some.ensures, c.in-Some.ensures)
 
 pub returns-in-Ok : goal.returns-in-Ok
 returns-in-Ok c =

@@ -1,4 +1,3 @@
-use Rattle.std.proofs.Common.{ap, subst, sym}
 use Rattle.netset.proofs.KeptNear.{changed_more, none_changed}
 use Rattle.netset.proofs.Passing.{all_passed, none_passed, rows_still}
 use Rattle.netset.proofs.near.keep.Goals as goal

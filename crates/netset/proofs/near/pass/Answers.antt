@@ -1,4 +1,3 @@
-use Rattle.std.proofs.Common.{◌∙◌, ap, refl, sym}
 use Rattle.netset.proofs.KeptNear.{none_changed}
 use Rattle.netset.proofs.NumberedRows.{row_here}
 use Rattle.netset.proofs.Passing.{again_others, again_passed, half_within, new_others, new_passed}

@@ -1,6 +1,5 @@
-use Rattle.std.proofs.Common.{◌∙◌, ap, sym, ap₂}
+use Rattle.std.proofs.Common.{◌∙◌, sym}
 use Rattle.std.proofs.lemmas.Bool.{true≢false}
-use Rattle.std.proofs.lemmas.Option.{none-some, same_Some}
 use Rattle.netset.proofs.KeptNear.{no_row_same, row_same, row_differs}
 use Rattle.netset.proofs.near.same_of.Goals as goal
 

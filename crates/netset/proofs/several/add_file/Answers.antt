@@ -1,23 +1,14 @@
-use Rattle.std.proofs.Common.{refl, Err}
-use Rattle.netset.specs.declared.errors.ReadError.TheVariants.{Line}
-use Rattle.netset.proofs.Causes.{file_fails, not_opened}
-use Rattle.netset.proofs.EachFile.{list_read}
+use Rattle.std.proofs.Common.{sym}
+use Rattle.std.proofs.lemmas.Result.{err_from_is_err_and}
+use Rattle.netset.proofs.EachFile.{networks_copied}
 use Rattle.netset.proofs.several.add_file.Goals as goal
 
-pub returns-in_default-clause-cause : goal.returns-in_default-clause-cause
-returns-in_default-clause-cause g c = not_opened (g.F.Sources.told c.args.sources.now) c.args.file.now (c.in_default.ensures.none refl)
+pub returns-in_ok-watch-in-Some-Networks-clause-adds : goal.returns-in_ok-watch-in-Some-Networks-clause-adds
+returns-in_ok-watch-in-Some-Networks-clause-adds g c =
+    networks_copied (g.F.Sources.told c.args.sources.now c.args.file.now) c.args.file.now c.args.lists.now c.extend-added.new.self c.in-Some-Networks.kept
+    (rw c.in-Some-Networks.field-0-is at c.in-Some-Networks.ensures) (rw (sym c.in_ok-watch-in-Some-Networks.ensures.made) at c.extend-added.ensures)
 
-pub returns-in-Err-Line-clause-adds : goal.returns-in-Err-Line-clause-adds
-returns-in-Err-Line-clause-adds g c = (
-  refl,
-  list_read (g.F.Sources.told c.args.sources.now c.args.file.now) _ c.host_bits.result c.args.lists.now c.read_list.new.lists
-      (Err (Line c.in-Err-Line.number c.in-Err-Line.e)) c.in-Some.ensures.left (c.host_bits.ensures c.args.file.now)
-      (rw c.in-Err-Line.field-0-is at c.in-Err-Line.ensures.reads),
-)
-
-pub returns-in-Err-Input-clause-cause : goal.returns-in-Err-Input-clause-cause
-returns-in-Err-Input-clause-cause g c =
-    file_fails (g.F.Sources.told c.args.sources.now) c.args.file.now _ c.in-Some.ensures.left (rw c.in-Err-Input.field-0-is at c.in-Err-Input.ensures.cause)
-
-pub returns-in-Err-NoMemory-clause-cause : goal.returns-in-Err-NoMemory-clause-cause
-returns-in-Err-NoMemory-clause-cause g c = rw c.in-Err-NoMemory.field-0-is at c.in-Err-NoMemory.ensures.cause
+pub returns-in_err-watch-in-Some-Networks-clause-cause : goal.returns-in_err-watch-in-Some-Networks-clause-cause
+returns-in_err-watch-in-Some-Networks-clause-cause g c =
+    let (y, is, same) = err_from_is_err_and c.from_residual.result c.from_residual.ensures.1 in
+    rw (is, same) c.in_err-watch-in-Some-Networks.ensures.refused
