@@ -1,6 +1,6 @@
 //! What the examples fail by.
 use cidr::AddrParseError;
-use cidr::errors::{InetTupleError, NetworkLengthTooLongError, NetworkParseError};
+use cidr::errors::{InetTupleError, NetworkParseError};
 use std::alloc::AllocError;
 use std::io;
 
@@ -9,7 +9,6 @@ use std::io;
 pub enum Failure {
     Address(AddrParseError),
     Network(NetworkParseError),
-    Length(NetworkLengthTooLongError),
     Pair(InetTupleError),
     NoMemory,
     Output(io::Error),
@@ -24,12 +23,6 @@ impl From<AddrParseError> for Failure {
 impl From<NetworkParseError> for Failure {
     fn from(error: NetworkParseError) -> Failure {
         Failure::Network(error)
-    }
-}
-
-impl From<NetworkLengthTooLongError> for Failure {
-    fn from(error: NetworkLengthTooLongError) -> Failure {
-        Failure::Length(error)
     }
 }
 

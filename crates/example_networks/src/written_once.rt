@@ -1,21 +1,15 @@
 //! Functions that are written once over all families, by the traits.
 use crate::failure::Failure;
-use crate::show::show;
 use cidr::{Address, Cidr, Inet, InetPair, IpAddr, IpInet, Ipv4Cidr, Ipv4Inet, Ipv4InetPair};
 
-/// Prints the examples of this file.
-pub fn all(rt: &HostRuntime) -> Result<(), Failure> {
-    traits(rt)
-}
-
 /// Such functions at types of one family and of either.
-fn traits(rt: &HostRuntime) -> Result<(), Failure> {
-    show(rt, &[lower("10.0.0.2".parse::<IpAddr>()?, "::1".parse()?)])?; // 10.0.0.2
-    show(rt, &[is_at_end("192.0.2.63/28".parse::<IpInet>()?)])?; // true
+pub fn traits(rt: &HostRuntime) -> Result<(), Failure> {
+    println!(rt; "{}", lower("10.0.0.2".parse::<IpAddr>()?, "::1".parse()?))?; // 10.0.0.2
+    println!(rt; "{}", is_at_end("192.0.2.63/28".parse::<IpInet>()?))?; // true
     let network = "10.0.0.0/8".parse::<Ipv4Cidr>()?;
-    show(rt, &[is_last(&network, "10.255.255.255".parse()?)])?; // true
+    println!(rt; "{}", is_last(&network, "10.255.255.255".parse()?))?; // true
     let host = "192.0.2.49/28".parse::<Ipv4Inet>()?;
-    show(rt, &[host_bits(&Ipv4InetPair::new(host, host)?)])?; // 4
+    println!(rt; "{}", host_bits(&Ipv4InetPair::new(host, host)?))?; // 4
     Ok(())
 }
 
