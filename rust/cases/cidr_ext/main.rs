@@ -1,0 +1,3 @@
+//! Further calls on networks: zones of reverse DNS.
+
+mod zones;
