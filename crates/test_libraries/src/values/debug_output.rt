@@ -1,13 +1,13 @@
-//! What `Debug` prints of values: a derived one names the variant, or begins with the name of the type.
+//! What `Debug` prints of values: an error its message; a derived one names the variant, or begins with the name of the
+//! type.
 use crate::support::{debugs, read};
+use cidr::errors::{CompactError, InetTupleError, NetworkParseError, PrefixBytesError};
 use cidr::{
-    AddrParseError, Address, AnyIpCidr, Cidr, Inet, InetPair, IpAddr, IpCidr, IpInet, Ipv4Addr,
-    Ipv4Cidr, Ipv6Addr,
+    AnyIpCidr, Family, IpCidr, IpInet, IpInetPair, Ipv4Addr, Ipv4Cidr, Ipv4Inet, Ipv6InetPair,
 };
 use cidr_table::LpmTable;
 use std::fmt::Debug;
 use std::process::Abort;
-use std::str::FromStr;
 
 /// Asserts that what `Debug` prints begins so.
 fn begins<D: Debug>(rt: &(impl Abort + AllocGlobal), value: &D, beginning: &str) {
@@ -15,34 +15,27 @@ fn begins<D: Debug>(rt: &(impl Abort + AllocGlobal), value: &D, beginning: &str)
     assert!(rt; printed.as_str().starts_with(beginning), "{printed}");
 }
 
-/// Asserts that the pair of these addresses begins so, and its walks with their types.
-fn pair_begins<A>(
+/// Asserts that a pair begins so.
+fn pair_begins<P: Debug>(
     rt: &(impl Abort + AllocGlobal),
-    (first, second): (&str, &str),
-    len: u8,
+    pair: Result<P, InetTupleError>,
     beginning: &str,
-)
-where
-    A: Address + FromStr<Err = AddrParseError> + Debug,
-    A::Cidr: Cidr<Address = A>,
-    A::Inet: Inet<Address = A>,
-    A::InetPair: InetPair<Address = A> + Debug,
-{
-    let (first, second) = (read::<A>(rt, first), read::<A>(rt, second));
-    let pair = A::InetPair::new_from_addresses(first, second, len).ok();
-    let pair = pair.expect(rt, beginning);
+) -> P {
+    let pair = pair.ok().expect(rt, beginning);
     begins(rt, &pair, beginning);
-    begins(rt, &pair.iter(), "InetIterator");
-    begins(rt, &pair.iter().addresses(), "InetAddressIterator");
+    pair
 }
 
 #[test]
 fn a_pair_or_a_walk_begins_with_its_variant_or_its_type(rt: HostRuntime) {
-    let (six, four) = (("2001:db8::1", "2001:db8::3"), ("10.0.0.1", "10.0.0.3"));
-    pair_begins::<Ipv6Addr>(&rt, six, 64, "Ipv6InetPair");
-    pair_begins::<IpAddr>(&rt, six, 64, "V6(");
-    pair_begins::<Ipv4Addr>(&rt, four, 8, "Ipv4InetPair");
-    pair_begins::<IpAddr>(&rt, four, 8, "V4(");
+    let (first, second) = (read(&rt, "2001:db8::1"), read(&rt, "2001:db8::3"));
+    let pair = Ipv6InetPair::new_from_addresses(first, second, 64);
+    let pair = pair_begins(&rt, pair, "Ipv6InetPair");
+    begins(&rt, &pair.iter(), "InetIterator");
+    begins(&rt, &pair.iter().addresses(), "InetAddressIterator");
+    let (first, second) = (read(&rt, "10.0.0.1"), read(&rt, "10.0.0.3"));
+    let pair = IpInetPair::new_from_addresses(first, second, 8);
+    pair_begins(&rt, pair, "V4(");
 }
 
 #[test]
@@ -55,6 +48,40 @@ fn a_value_of_either_family_has_its_variant_and_its_length(rt: HostRuntime) {
         debugs(alloc, &read::<IpInet>(&rt, "10.0.0.1"), "V4(10.0.0.1/32)"),
     ];
     assert!(rt; found == [true; 4]);
+}
+
+#[test]
+fn an_error_is_its_message(rt: HostRuntime) {
+    let alloc = rt.alloc();
+    let found = [
+        debugs(
+            alloc,
+            &"x".parse::<Ipv4Addr>().err(),
+            "Some(invalid IPv4 address syntax)",
+        ),
+        debugs(
+            alloc,
+            &Ipv4Inet::new(Ipv4Addr::new(1, 2, 3, 4), 200).err(),
+            "Some(Network length 200 is too long for Ipv4 (maximum: 32))",
+        ),
+        debugs(
+            alloc,
+            &CompactError::InvalidFamily(Family::Ipv4),
+            "invalid type: `Ipv4Addr`",
+        ),
+        debugs(
+            alloc,
+            &PrefixBytesError::Truncated,
+            "prefix bytes end too early",
+        ),
+    ];
+    assert!(rt; found == [true; 4]);
+    match "10.0.0.0/x".parse::<Ipv4Cidr>() {
+        Err(NetworkParseError::NetworkLengthParseError(error)) => {
+            assert!(rt; debugs(alloc, &error, "invalid length text"))
+        }
+        _ => assert!(rt; false, "a length is rejected"),
+    }
 }
 
 #[test]

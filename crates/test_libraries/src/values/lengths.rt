@@ -61,15 +61,27 @@ fn ipv6_ends() -> (Ipv6Addr, Ipv6Addr) {
 
 #[test]
 fn a_pair_has_each_length_that_its_addresses_share(rt: HostRuntime) {
-    let (zeros, ones) = ipv4_ends();
-    for (first, second, shared) in [(zeros, zeros, 32), (ones, ones, 32), (zeros, ones, 0)] {
+    let (zeros4, ones4) = ipv4_ends();
+    for (first, second, shared) in [(zeros4, zeros4, 32), (ones4, ones4, 32), (zeros4, ones4, 0)] {
         try_pair::<Ipv4InetPair>(&rt, first, second, shared, IPV4);
-        try_pair::<IpInetPair>(&rt, IpAddr::V4(first), IpAddr::V4(second), shared, IPV4);
     }
-    let (zeros, ones) = ipv6_ends();
-    for (first, second, shared) in [(zeros, zeros, 128), (ones, ones, 128), (ones, zeros, 0)] {
+    let (zeros6, ones6) = ipv6_ends();
+    for (first, second, shared) in [
+        (zeros6, zeros6, 128),
+        (ones6, ones6, 128),
+        (ones6, zeros6, 0),
+    ] {
         try_pair::<Ipv6InetPair>(&rt, first, second, shared, IPV6);
-        try_pair::<IpInetPair>(&rt, IpAddr::V6(first), IpAddr::V6(second), shared, IPV6);
+    }
+    for (first, second, shared, family) in [
+        (IpAddr::V4(zeros4), IpAddr::V4(zeros4), 32, IPV4),
+        (IpAddr::V4(ones4), IpAddr::V4(ones4), 32, IPV4),
+        (IpAddr::V4(zeros4), IpAddr::V4(ones4), 0, IPV4),
+        (IpAddr::V6(zeros6), IpAddr::V6(zeros6), 128, IPV6),
+        (IpAddr::V6(ones6), IpAddr::V6(ones6), 128, IPV6),
+        (IpAddr::V6(ones6), IpAddr::V6(zeros6), 0, IPV6),
+    ] {
+        try_pair::<IpInetPair>(&rt, first, second, shared, family);
     }
 }
 
