@@ -14,6 +14,9 @@ no_length=$'couldn\'t parse length in network: invalid length text\n'
 too_long_ipv4=$'invalid length for network: Network length 33 is too long for Ipv4 (maximum: 32)\n'
 too_long_ipv6=$'invalid length for network: Network length 129 is too long for Ipv6 (maximum: 128)\n'
 
+# What runs the program, if it is not run by itself.
+named=()
+
 room=$(mktemp -d)
 trap 'rm -rf "$room"' EXIT
 differs=0
@@ -27,7 +30,7 @@ has() {
 run() {
     local wanted=$1 output=$2 error=$3 status=0 wrong=() part
     shift 3
-    timeout 60 "$program" "$@" </dev/null >"$output_file" 2>"$error_file" || status=$?
+    timeout 60 "${named[@]}" "$program" "$@" </dev/null >"$output_file" 2>"$error_file" || status=$?
     ((status == wanted)) || wrong+=("exit status $status, not $wanted")
     has "$output_file" "$output" || wrong+=("standard output")
     has "$error_file" "$error" || wrong+=("standard error")
@@ -140,6 +143,46 @@ rows_of_loose() {
     run 1 '' "$no_address" loose ''
 }
 
+# repeated TEXT NUMBER: the text so many times, without a line feed at its end.
+repeated() {
+    local n
+    for ((n = 0; n < $2; n++)); do
+        printf '%s' "$1"
+    done
+}
+
+# Long arguments are read whole: 127 in octal digits with zeros before it, 300 bytes in all; a prefix length with 1,000
+# zeros before it; and 256 letters, but not one more. More arguments than any command has are all read.
+rows_of_long_arguments() {
+    local zeros letters lines='' tens ones digits='0 1 2 3 4 5 6 7 8 9 a b c d e f'
+    zeros=$(repeated 0 295)
+    run 0 $'127.0.0.1\n' '' loose "${zeros}177.1"
+    zeros=$(repeated 0 1000)
+    run 0 $'equal\n' '' cmp 10.0.0.0/8 "10.0.0.0/${zeros}8"
+    letters=$(repeated f 256)
+    run 0 $'0.0.0.0\n'"$(repeated $'none\n' 255)"$'\n' '' walk 0.0.0.0/32 "$letters"
+    run 2 '' "$usage" walk ::/0 "${letters}f"
+    # 256 lines of 40 bytes
+    for tens in $digits; do
+        for ones in $digits; do
+            lines+=ffff:ffff:ffff:ffff:ffff:ffff:ffff:ff$tens$ones$'\n'
+        done
+    done
+    run 0 "$lines" '' walk ffff:ffff:ffff:ffff:ffff:ffff:ffff:ff00/120 "$letters"
+    run 2 '' "$usage" $(repeated 'show ' 20)
+    run 2 '' "$usage" $(repeated '192.0.2.48/28 ' 300)
+}
+
+# Its own name is not read: one that is no text, none, and a long one.
+rows_of_names() {
+    local name named
+    for name in $'\xff' '' "$(repeated x 300)"; do
+        # a shell that runs the program under this name
+        named=(bash -c 'exec -a "$0" "$@"' "$name")
+        run 0 "$shown" '' show 192.0.2.48/28
+    done
+}
+
 # Other arguments, and one too many, even if it is empty or no text.
 rows_of_usage() {
     run 2 '' "$usage"
@@ -162,8 +205,10 @@ rows_of_usage() {
     run 2 '' "$usage" loose 127.1 127.1
     run 2 '' "$usage" cmp 10.0.0.0/8 ::/0 x y
     run 2 '' "$usage" walk 10.0.0.0/8 x
+    run 2 '' "$usage" $'\xff'
     run 2 '' "$usage" show $'\xff'
     run 2 '' "$usage" show 10.0.0.0/8 $'\xff'
+    run 2 '' "$usage" cmp x y $'\xff'
 }
 
 # Each command that README.md shows, as a line after `$`, prints the lines that stand below it there, on one stream.
@@ -216,7 +261,7 @@ for build in cidr_tool cidr_tool.by-rattle; do
     program=$room/$build
     cp "out/$build" "$program"
     chmod 755 "$program"
-    for command in show in cmp walk bytes loose usage; do
+    for command in show in cmp walk bytes loose long_arguments names usage; do
         rows_of_$command
     done
     rows_of_the_page
