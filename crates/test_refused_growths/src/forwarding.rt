@@ -1,37 +1,30 @@
 //! Smallest tables with the same forwarding whose allocations are refused.
-use crate::block;
-use cidr::Ipv4Cidr;
+use crate::tables::{Routes, hosts};
 use cidr_forwarding::{SmallestTable, forwards_same};
-use cidr_table::LpmTable;
 use std::alloc::{AllocError, Global};
 
-/// The table of so many addresses, one behind the other, each with a value of its own.
-fn different_values(alloc: Global, rows: u32) -> Result<LpmTable<Ipv4Cidr, u32>, AllocError> {
-    let mut routes = match LpmTable::with_capacity(alloc, rows as usize) {
-        Ok(routes) => routes,
-        Err(_) => LpmTable::with_capacity(alloc, rows as usize)?,
-    };
-    for i in 0..rows {
-        routes.set(block(i, 32), i)?;
+/// How many rows there are.
+const ROWS: u32 = 34;
+
+/// Whether the smallest table, which may have holes or has the same forwarding, has all rows.
+fn is_smallest(alloc: Global, routes: &Routes, has_holes: bool) -> Result<bool, AllocError> {
+    if has_holes {
+        return Ok(routes.smallest_with_holes(alloc)?.len() == ROWS as usize);
     }
-    Ok(routes)
+    let smallest = routes.smallest(alloc)?;
+    Ok(smallest.len() == ROWS as usize && forwards_same(routes, &smallest))
 }
 
-/// Whether both smallest tables are made of a table that has no smaller one, and it stays.
+/// Whether both smallest tables are made of a table that has no smaller one, and it stays: addresses one behind the
+/// other, each with a value of its own.
 pub fn smallest(alloc: Global) -> Result<bool, AllocError> {
-    let routes = different_values(alloc, 34)?;
-    let smallest = match routes.smallest(alloc) {
-        Ok(smallest) => smallest,
-        Err(_) => routes.smallest(alloc)?,
-    };
-    let holed = match routes.smallest_with_holes(alloc) {
-        Ok(holed) => holed,
-        Err(_) => routes.smallest_with_holes(alloc)?,
-    };
-    Ok(
-        routes.len() == 34
-            && smallest.len() == 34
-            && holed.len() == 34
-            && forwards_same(&routes, &smallest),
-    )
+    let routes = hosts(alloc, ROWS, 1)?;
+    let mut held = true;
+    for has_holes in [false, true] {
+        held &= match is_smallest(alloc, &routes, has_holes) {
+            Ok(same) => same,
+            Err(_) => is_smallest(alloc, &routes, has_holes)?,
+        };
+    }
+    Ok(held && routes.len() == ROWS as usize)
 }

@@ -14,22 +14,26 @@ fn loaded(alloc: Global, bytes: &[u8]) -> Result<Places, LoadError> {
     }
 }
 
+/// Whether a list is refused for the prefix at this place.
+fn is_refused(loaded: Result<Places, LoadError>, place: usize) -> bool {
+    match loaded {
+        Err(LoadError::Prefix(at, _)) => at == place,
+        _ => false,
+    }
+}
+
 /// Whether lists are loaded as they are to be, and one with a prefix that is too long is refused for that; at once where
 /// it is the first one, before any memory is asked for.
 pub fn load(alloc: Global) -> Result<bool, AllocError> {
     let (Ok(none), Ok(two)) = (loaded(alloc, &[]), loaded(alloc, &[8, 10, 16, 10, 1, 0])) else {
         return Err(AllocError);
     };
-    let third = two.row(2).copied() == Some((crate::block(0x0a01_0000, 16), 1));
-    let wrong = match loaded(alloc, &[8, 10, 33]) {
-        Err(LoadError::Prefix(at, _)) => at == 1,
-        Err(LoadError::NoMemory) => return Err(AllocError),
-        Ok(_) => false,
+    let third = match two.row(2) {
+        Some((network, place)) => *network == crate::block(0x0a01_0000, 16) && *place == 1,
+        None => false,
     };
-    let at_once = match Places::load(alloc, &[33]) {
-        Err(LoadError::Prefix(at, _)) => at == 0,
-        _ => false,
-    };
+    let wrong = is_refused(loaded(alloc, &[8, 10, 33]), 1);
+    let at_once = is_refused(Places::load(alloc, &[33]), 0);
     Ok(none.is_empty() && two.len() == 3 && third && wrong && at_once)
 }
 

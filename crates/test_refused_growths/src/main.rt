@@ -23,6 +23,18 @@ fn block(first: u32, len: u8) -> Ipv4Cidr {
     }
 }
 
+/// Numbers of first addresses, and prefix lengths.
+type Blocks = &'static [(u32, u8)];
+
+/// Whether these are the blocks.
+fn are_blocks(networks: &[Ipv4Cidr], wanted: Blocks) -> bool {
+    let mut same = networks.len() == wanted.len();
+    for (network, (first, len)) in networks.iter().zip(wanted) {
+        same &= *network == block(*first, *len);
+    }
+    same
+}
+
 /// What is printed of calls of which each is to succeed in the end, and to return what is wanted.
 fn outcome(held: Result<bool, AllocError>) -> &'static str {
     match held {

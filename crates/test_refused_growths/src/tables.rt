@@ -1,27 +1,46 @@
 //! Tables whose allocations are refused.
 use crate::block;
 use cidr::Ipv4Cidr;
-use cidr_table::LpmTable;
+use cidr_table::{LpmTable, ReadyTable};
 use std::alloc::{AllocError, Global};
 
 /// A table of networks with a number each.
-type Routes = LpmTable<Ipv4Cidr, u32>;
+pub type Routes = LpmTable<Ipv4Cidr, u32>;
 
-/// The first address of a block, by its number.
+/// How far the keys of a table are from each other.
+const APART: u32 = 256;
+
+/// The address with this number of those that are so far from each other.
 fn key(i: u32) -> Ipv4Cidr {
-    block(i << 8, 32)
+    block(i.wrapping_mul(APART), 32)
 }
 
-/// The table of the first addresses of so many blocks, each with the number of its block.
-fn first_addresses(alloc: Global, rows: u32) -> Result<Routes, AllocError> {
+/// The table of so many addresses that are so far from each other, each with its number.
+pub fn hosts(alloc: Global, rows: u32, apart: u32) -> Result<Routes, AllocError> {
     let mut routes = match Routes::with_capacity(alloc, rows as usize) {
         Ok(routes) => routes,
         Err(_) => Routes::with_capacity(alloc, rows as usize)?,
     };
     for i in 0..rows {
-        routes.set(key(i), i)?;
+        routes.set(block(i.wrapping_mul(apart), 32), i)?;
     }
     Ok(routes)
+}
+
+/// Whether a table has this value under a key.
+fn has(routes: &Routes, key: &Ipv4Cidr, value: u32) -> bool {
+    match routes.get(key) {
+        Some(found) => *found == value,
+        None => false,
+    }
+}
+
+/// Whether a look-up found the row with this number.
+fn is_row(found: Option<&(Ipv4Cidr, u32)>, i: u32) -> bool {
+    match found {
+        Some((network, value)) => *network == key(i) && *value == i,
+        None => false,
+    }
 }
 
 /// Inserts a row, once more where it is refused. Whether key and value came back then, and the table was as before.
@@ -30,7 +49,8 @@ fn insert_twice(routes: &mut Routes, key: Ipv4Cidr, value: u32) -> Result<bool, 
     let Err(pair) = routes.insert(key, value) else {
         return Ok(true);
     };
-    let same = pair == (key, value) && routes.len() == rows && routes.get(&key).is_none();
+    let same = pair.0 == key && pair.1 == value;
+    let same = same && routes.len() == rows && !routes.contains_key(&key);
     routes.set(pair.0, pair.1)?;
     Ok(same)
 }
@@ -38,87 +58,99 @@ fn insert_twice(routes: &mut Routes, key: Ipv4Cidr, value: u32) -> Result<bool, 
 /// Whether 40 rows are inserted in no order, and each is there.
 pub fn insert(alloc: Global) -> Result<bool, AllocError> {
     let mut routes = Routes::new(alloc);
+    let mut held = true;
     for i in 0_u32..40 {
         let at = i * 7 % 40;
-        if !insert_twice(&mut routes, key(at), i)? || routes.get(&key(at)).copied() != Some(i) {
-            return Ok(false);
-        }
+        held &= insert_twice(&mut routes, key(at), i)?;
+        held &= has(&routes, &key(at), i);
     }
     // a key that is there needs no memory
-    let replaced = routes.insert(key(0), 40) == Ok(Some(0));
-    Ok(replaced && routes.len() == 40)
+    let replaced = matches!(routes.insert(key(0), 40), Ok(Some(0)));
+    Ok(held && replaced && routes.len() == 40)
+}
+
+/// Makes room for two more rows, once more where that is refused; whether it left three rows and their room then.
+fn reserve_twice(routes: &mut Routes) -> Result<bool, AllocError> {
+    if routes.reserve(2).is_ok() {
+        return Ok(true);
+    }
+    let same = routes.capacity() == 3 && routes.len() == 3;
+    routes.reserve(2)?;
+    Ok(same)
 }
 
 /// Whether room that was made is enough, and a refused growth leaves it.
 pub fn reserve(alloc: Global) -> Result<bool, AllocError> {
-    let mut routes = first_addresses(alloc, 3)?;
-    if routes.reserve(2).is_err() {
-        if routes.capacity() != 3 || routes.len() != 3 {
-            return Ok(false);
-        }
-        routes.reserve(2)?;
-    }
+    let mut routes = hosts(alloc, 3, APART)?;
+    let mut held = reserve_twice(&mut routes)?;
     for i in 3_u32..5 {
-        if routes.insert(key(i), i) != Ok(None) {
-            return Ok(false);
-        }
+        held &= matches!(routes.insert(key(i), i), Ok(None));
     }
-    Ok(routes.len() == 5)
+    Ok(held && routes.len() == 5)
 }
 
 /// Whether each key is looked up in the rows made ready.
 fn are_found(alloc: Global, routes: &Routes, rows: u32) -> Result<bool, AllocError> {
     let ready = routes.lookups(alloc)?;
+    let mut held = true;
     for i in 0..rows {
-        if ready.lookup(&key(i)).copied() != Some((key(i), i)) {
-            return Ok(false);
-        }
+        held &= is_row(ready.lookup(&key(i)), i);
     }
-    Ok(true)
+    Ok(held)
+}
+
+/// Whether so many rows are made ready for look-ups.
+fn are_ready(alloc: Global, rows: u32) -> Result<bool, AllocError> {
+    let routes = hosts(alloc, rows, APART)?;
+    match are_found(alloc, &routes, rows) {
+        Ok(found) => Ok(found),
+        Err(_) => are_found(alloc, &routes, rows),
+    }
 }
 
 /// Whether rows are made ready for look-ups, few and many.
 pub fn lookups(alloc: Global) -> Result<bool, AllocError> {
+    let mut held = true;
     for rows in [0_u32, 3, 16_384] {
-        let routes = first_addresses(alloc, rows)?;
-        let found = match are_found(alloc, &routes, rows) {
-            Ok(found) => found,
-            Err(_) => are_found(alloc, &routes, rows)?,
-        };
-        if !found {
-            return Ok(false);
+        held &= are_ready(alloc, rows)?;
+    }
+    Ok(held)
+}
+
+/// A table made ready, once more where it comes back, and whether all rows came back then.
+fn made_ready(
+    alloc: Global,
+    routes: Routes,
+) -> Result<(ReadyTable<Ipv4Cidr, u32>, bool), AllocError> {
+    let rows = routes.len();
+    match routes.into_lookups(alloc) {
+        Ok(ready) => Ok((ready, true)),
+        Err(same) => {
+            let came_back = same.len() == rows;
+            match same.into_lookups(alloc) {
+                Ok(ready) => Ok((ready, came_back)),
+                Err(_) => Err(AllocError),
+            }
         }
     }
-    Ok(true)
 }
 
 /// Whether a table is made ready, and comes back as it was where that is refused.
 pub fn into_lookups(alloc: Global) -> Result<bool, AllocError> {
+    let mut held = true;
     for rows in [3_u32, 16_384] {
-        let ready = match first_addresses(alloc, rows)?.into_lookups(alloc) {
-            Ok(ready) => ready,
-            Err(same) => {
-                if same.len() != rows as usize {
-                    return Ok(false);
-                }
-                match same.into_lookups(alloc) {
-                    Ok(ready) => ready,
-                    Err(_) => return Err(AllocError),
-                }
-            }
-        };
+        let (ready, came_back) = made_ready(alloc, hosts(alloc, rows, APART)?)?;
+        held &= came_back && ready.table().len() == rows as usize;
         for i in 0..rows {
-            if ready.lookup(&key(i)).copied() != Some((key(i), i)) {
-                return Ok(false);
-            }
+            held &= is_row(ready.lookup(&key(i)), i);
         }
     }
-    Ok(true)
+    Ok(held)
 }
 
 /// Whether a table is cloned.
 pub fn clone(alloc: Global) -> Result<bool, AllocError> {
-    let routes = first_addresses(alloc, 40)?;
+    let routes = hosts(alloc, 40, APART)?;
     let copy = match routes.clone() {
         Ok(copy) => copy,
         Err(_) => routes.clone()?,
@@ -138,7 +170,7 @@ pub fn from_rows(alloc: Global) -> Result<bool, AllocError> {
     let routes = Routes::from_rows(rows);
     let mut same = routes.len() == 50;
     for i in 50_u32..100 {
-        same &= routes.get(&key(i * 7 % 50)).copied() == Some(i);
+        same &= has(&routes, &key(i * 7 % 50), i);
     }
     Ok(same)
 }
