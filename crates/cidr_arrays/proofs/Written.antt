@@ -1,0 +1,95 @@
+-- Ranges in arrays, one more at a time.
+use Rattle.std.proofs.Common.{◌≡◌, refl, sym, ◌∙◌, ap, subst, arith, inl, inr, ℕ, ◌+◌, ◌^◌, ◌<◌, ◌≤◌, List, length, get_or, take, take_all}
+use Rattle.std.proofs.lemmas.Bool.{cases_eq}
+use Rattle.std.proofs.lemmas.List.{length-take-le, get_or-take}
+use Rattle.cidr_arrays.specs.Arrays.{AreNetworks, AreRanges}
+use Rattle.cidr_arrays.specs.Passing.{IsLast, AreSoFar, IsPut}
+use Rattle.cidr_arrays.proofs.Longest.{longest}
+
+module _ (w : ℕ) (networks : List (ℕ × ℕ)) where
+  -- none yet
+  pub none_yet : (starts answers : List ℕ) (start : ℕ) → start ≡ 0 → AreSoFar w networks starts answers 0 start
+  none_yet starts answers start z = record {
+    none = λ _. z;
+    first = λ l. absurd (omega arith);
+    below = λ k l. absurd (omega arith);
+    ascending = λ i k lt l. absurd (omega arith);
+    known = λ k address l from to last. absurd (omega arith);
+  }
+
+  -- the pass goes on to where no new range begins
+  pub same_start : (starts answers : List ℕ) (count start start' : ℕ) → start' ≡ start
+      → AreSoFar w networks starts answers count start → AreSoFar w networks starts answers count start'
+  same_start starts answers count start start' e h = subst (λ s. AreSoFar w networks starts answers count s) (sym e) h
+
+  -- the arrays have one range more
+  pub one_more : (starts answers starts' answers' : List ℕ) (count start start' answer : ℕ)
+      → AreSoFar w networks starts answers count start → IsPut starts starts' count start → IsPut answers answers' count answer → start < start'
+      → ((address : ℕ) → start ≤ address → address < start' → IsLast w networks (length networks) address answer)
+      → AreSoFar w networks starts' answers' (count + 1) start'
+  one_more starts answers starts' answers' count start start' answer h put_start put_answer lt range =
+      let old = λ (k : ℕ) (l : k < count). put_start.others k (λ e. absurd (omega arith)) in
+      let new = λ (k : ℕ) (e : k ≡ count). ap (λ i. get_or starts' i 0) e ∙ put_start.put in
+      record {
+        none = λ z. absurd (omega arith);
+        first = λ _. elim (cases_eq count 0) [
+          | inl e ↦ new 0 (sym e) ∙ h.none e
+          | inr n ↦ old 0 (omega arith) ∙ h.first (omega arith)
+        ];
+        below = λ k l. elim (cases_eq k count) [
+          | inl e ↦ omega (arith, new k e)
+          | inr n ↦ omega (arith, old k (omega arith), h.below k (omega arith))
+        ];
+        ascending = λ i k less l. elim (cases_eq k count) [
+          | inl e ↦ omega (arith, new k e, old i (omega arith), h.below i (omega arith))
+          | inr n ↦ omega (arith, old k (omega arith), old i (omega arith), h.ascending i k less (omega arith))
+        ];
+        known = λ k address l from to last. elim (cases_eq k count) [
+          | inl e ↦ subst (λ a. IsLast w networks (length networks) address a) (sym (ap (λ i. get_or answers' i 0) e ∙ put_answer.put)) (range address (omega (arith, new k e)) to)
+          | inr n ↦
+              let known' = h.known k address (omega arith) (omega (arith, old k (omega arith)))
+              (omega (arith, last count (omega arith) (omega arith), put_start.put))
+              (λ i lt' l'. omega (arith, old i l', last i lt' (omega arith))) in
+              subst (λ a. IsLast w networks (length networks) address a) (sym (put_answer.others k n)) known'
+        ];
+      }
+
+  -- the arrays as they were, where they have the range already
+  pub one_more_there : (starts answers : List ℕ) (count start start' answer : ℕ)
+      → AreSoFar w networks starts answers count start → get_or starts count 0 ≡ start → get_or answers count 0 ≡ answer → start < start'
+      → ((address : ℕ) → start ≤ address → address < start' → IsLast w networks (length networks) address answer)
+      → AreSoFar w networks starts answers (count + 1) start'
+  one_more_there starts answers count start start' answer h is_start is_answer lt range =
+      one_more starts answers starts answers count start start' answer h
+      (record { put = is_start; others = λ k n. refl; same = refl }) (record { put = is_answer; others = λ k n. refl; same = refl }) lt range
+
+-- all ranges are in the arrays
+pub are_ranges : (w : ℕ) (networks : List (ℕ × ℕ)) (starts answers : List ℕ) (count : ℕ) → AreNetworks w networks → 0 < count
+    → count ≤ length starts → count ≤ length answers → AreSoFar w networks starts answers count (2 ^ w)
+    → AreRanges w networks (take count starts) (take count answers)
+are_ranges w networks starts answers count good some fits_starts fits_answers h =
+    let size : length (take count starts) ≡ count = length-take-le count starts fits_starts in
+    let size_answers : length (take count answers) ≡ count = length-take-le count answers fits_answers in
+    let same = λ (k : ℕ) (l : k < count). get_or-take count starts k 0 l in
+    record {
+      ordered = record {
+        some = omega arith;
+        first = same 0 some ∙ h.first some;
+        ascending = λ i k lt l. omega (arith, same i (omega arith), same k (omega arith), h.ascending i k lt (omega arith));
+      };
+      both = size_answers ∙ sym size;
+      matches = λ address k fits r.
+          let l : k < count = omega (arith, r.within) in
+          let known = h.known k address l (omega (arith, same k l, r.from)) fits (λ i lt l'. omega (arith, same i l', r.last i lt (omega arith))) in
+          longest w networks good address fits (get_or (take count answers) k 0)
+          (subst (λ a. IsLast w networks (length networks) address a) (sym (get_or-take count answers k 0 l)) known);
+    }
+
+-- and no others are
+pub whole_ranges : (w : ℕ) (networks : List (ℕ × ℕ)) (starts answers : List ℕ) (count : ℕ) → AreNetworks w networks → 0 < count
+    → count ≡ length starts → length answers ≡ length starts → AreSoFar w networks starts answers count (2 ^ w)
+    → AreRanges w networks starts answers
+whole_ranges w networks starts answers count good some all both h =
+    let part = are_ranges w networks starts answers count good some (omega arith) (omega arith) h in
+    subst (λ xs. AreRanges w networks xs answers) (take_all count starts (omega arith))
+    (subst (λ xs. AreRanges w networks (take count starts) xs) (take_all count answers (omega arith)) part)

@@ -1,0 +1,3 @@
+-- What has to be believed: which arrays represent which rows.
+pub mod Arrays
+pub mod Passing

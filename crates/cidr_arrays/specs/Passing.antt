@@ -1,0 +1,58 @@
+-- What the pass over networks keeps: the last network that has an address, among the first `bound`.
+use Rattle.std.specs.Prelude.{◌≡◌, ◌≢◌, ℕ, ◌+◌, ◌-◌, ◌^◌, ◌<◌, ◌≤◌, List, length, slice_index_or}
+use Rattle.cidr_arrays.specs.Arrays.{AreStarts, IsFirstLevel, last_of}
+
+module _ (w : ℕ) (networks : List (ℕ × ℕ)) where
+  abbrev pub at : ℕ → ℕ × ℕ
+  at j = slice_index_or networks j (0, 0)
+
+  -- the network has the address
+  abbrev pub IsIn : ℕ × ℕ → ℕ → Type 0
+  IsIn network address = (network.0 ≤ address) × (address ≤ last_of w network)
+
+  -- of the first `bound` networks, those that have the address stand before `end`, and the one before `end` has it
+  pub record IsLast (bound address end : ℕ) : Type 0 where
+    pub before : (j : ℕ) → j < bound → IsIn (at j) address → j < end
+    pub here : 0 < end → (end ≤ bound) × IsIn (at (end - 1)) address
+
+  -- the network before `end` is open at place p
+  pub record IsOpen (bound p last end : ℕ) : Type 0 where
+    pub some : 0 < end
+    pub upto : end ≤ bound
+    pub last_is : last ≡ last_of w (at (end - 1))
+    pub deep : p ≤ (at (end - 1)).1 + 1
+
+  -- the range that begins with `start`, behind which no address but those of networks from `bound` on has another end than
+  -- that of the last open network that it is in
+  pub record IsPassing (bound start : ℕ) (lasts ends : List ℕ) (depth : ℕ) : Type 0 where
+    pub wide : w ≤ 128
+    pub places : bound ≤ length networks
+    pub fits : start < 2 ^ w
+    pub some : 0 < depth
+    pub widest : slice_index_or lasts 0 0 ≡ 2 ^ w - 1
+    pub nested : (p q : ℕ) → p ≤ q → q < depth → slice_index_or lasts q 0 ≤ slice_index_or lasts p 0
+    pub opened : (p : ℕ) → 0 < p → p < depth → IsOpen bound p (slice_index_or lasts p 0) (slice_index_or ends p 0)
+    pub answers : (p address : ℕ) → p < depth → start ≤ address → address ≤ slice_index_or lasts p 0
+        → (p + 1 < depth → slice_index_or lasts (p + 1) 0 < address) → IsLast bound address (slice_index_or ends p 0)
+    pub reaching : start ≤ slice_index_or lasts (depth - 1) 0 + 1
+    pub ahead : (j : ℕ) → bound ≤ j → j < length networks → start ≤ (at j).0
+
+  -- the first `count` ranges of the arrays end before `start`, and each has the answer of its addresses
+  pub record AreSoFar (starts answers : List ℕ) (count start : ℕ) : Type 0 where
+    pub none : count ≡ 0 → start ≡ 0
+    pub first : 0 < count → slice_index_or starts 0 0 ≡ 0
+    pub below : (k : ℕ) → k < count → slice_index_or starts k 0 < start
+    pub ascending : (i k : ℕ) → i < k → k < count → slice_index_or starts i 0 < slice_index_or starts k 0
+    pub known : (k address : ℕ) → k < count → slice_index_or starts k 0 ≤ address → address < start
+        → ((i : ℕ) → k < i → i < count → address < slice_index_or starts i 0) → IsLast (length networks) address (slice_index_or answers k 0)
+
+-- the list has the value in place of one, and else what it had
+pub record IsPut (old new : List ℕ) (place value : ℕ) : Type 0 where
+  pub put : slice_index_or new place 0 ≡ value
+  pub others : (k : ℕ) → k ≢ place → slice_index_or new k 0 ≡ slice_index_or old k 0
+  pub same : length new ≡ length old
+
+-- starts among which a number can be searched
+pub record IsSearchable (starts level : List ℕ) (shift : ℕ) : Type 0 where
+  pub ordered : AreStarts starts
+  pub entries : IsFirstLevel starts level shift

@@ -1,0 +1,122 @@
+//! The ranges of networks, written into arrays of the caller.
+ghost use Rattle.std.specs.Prelude.{◌≡◌, ℕ, ◌+◌, ◌*◌, ◌^◌, ◌<◌, ◌≤◌, List, length, map, take, IfOk, IfErr};
+ghost use Rattle.cidr_arrays.specs.Arrays.{AreNetworks, AreRanges, IsFirstRefused, IsBuildRefused, networks_of};
+ghost use Rattle.cidr_arrays.specs.Passing.{AreSoFar, IsLast, IsPut};
+
+use crate::key::Key;
+use crate::pass::{goes_on, started};
+use crate::word::Word;
+
+/// Why no table was built.
+#[derive(Debug, Drop, PartialEq)]
+pub enum BuildError {
+    /// There are more than 2,147,483,647 keys.
+    TooMany,
+    /// The key at this index is no network, or doesn't come after the one before it: the first such key.
+    Refused(usize),
+    /// An array has no room for twice as many ranges as keys, and one more.
+    NoRoom,
+}
+
+/// Writes the ranges of keys that ascend, and returns how many there are: at most twice as many as keys, and one more.
+/// So long the arrays have to be, whatever the keys are; what is behind the ranges is left as it was or written over.
+pub fn build<W: Word>(
+    keys: &[Key<W>],
+    starts: &mut [W],
+    answers: &mut [u32],
+) -> Result<usize, BuildError>
+    ensures room { IfOk result (λ count. count ≤ 2 * length keys.now + 1) }
+    ensures starts { IfOk result (λ count. count ≤ length starts.new) }
+    ensures answers { IfOk result (λ count. count ≤ length answers.new) }
+    ensures keys { IfOk result (λ _. AreNetworks W.width (networks_of W.value keys.now)) }
+    ensures ranges { IfOk result (λ count. AreRanges W.width (networks_of W.value keys.now) (map W.value (take count starts.new)) (take count answers.new)) }
+    ensures refused { IfErr result (IsBuildRefused W.width (networks_of W.value keys.now) (length starts.old) (length answers.old)) }
+{
+    if keys.len() >= 1 << 31 {
+        return Err(BuildError::TooMany);
+    }
+    match first_refused(keys) {
+        Some(place) => Err(BuildError::Refused(place)),
+        None => {
+            let most = 2 * keys.len() + 1;
+            if starts.len() < most || answers.len() < most {
+                return Err(BuildError::NoRoom);
+            }
+            Ok(written(keys, starts, answers))
+        }
+    }
+}
+
+/// The index of the first key that is no network, or doesn't come after the one before it.
+pub fn first_refused<W: Word>(keys: &[Key<W>]) -> Option<usize>
+    ensures { IsFirstRefused W.width (networks_of W.value keys.now) result }
+{
+    for place in 0..keys.len() {
+        if !keys[place].is_network() {
+            return Some(place);
+        }
+        if place > 0 && !keys[place - 1].precedes(&keys[place]) {
+            return Some(place);
+        }
+    }
+    None
+}
+
+/// Writes the ranges, and returns how many there are.
+fn written<W: Word>(keys: &[Key<W>], starts: &mut [W], answers: &mut [u32]) -> usize
+    requires keys { AreNetworks W.width (networks_of W.value keys.now) }
+    requires few { length keys.now < 2 ^ 31 }
+    requires starts { 2 * length keys.now + 1 ≤ length starts.old }
+    requires answers { 2 * length keys.now + 1 ≤ length answers.old }
+    ensures some { 0 < result }
+    ensures room { result ≤ 2 * length keys.now + 1 }
+    ensures ranges { AreSoFar W.width (networks_of W.value keys.now) (map W.value starts.new) answers.new result (2 ^ W.width) }
+{
+    let mut pass = started(keys);
+    let mut count = 0;
+    loop {
+        let start = pass.start;
+        let answer = pass.ends[pass.depth - 1];
+        if !goes_on(keys, &mut pass) {
+            put(starts, answers, count, start, answer);
+            return count + 1;
+        }
+        count = put_range(starts, answers, count, start, answer, pass.start);
+    }
+}
+
+/// Writes a range, unless it is empty, and returns how many ranges there are then.
+fn put_range<W: Word>(
+    starts: &mut [W],
+    answers: &mut [u32],
+    count: usize,
+    start: u128,
+    answer: u32,
+    end: u128,
+) -> usize
+    requires start { start < 2 ^ W.width }
+    requires starts { count < length starts.old }
+    requires answers { count < length answers.old }
+    ensures room { result ≤ count + 1 }
+    ensures ranges { (networks : List (ℕ × ℕ)) → AreSoFar W.width networks (map W.value starts.old) answers.old count start → start ≤ end
+        → ((address : ℕ) → start ≤ address → address < end → IsLast W.width networks (length networks) address answer)
+        → AreSoFar W.width networks (map W.value starts.new) answers.new result end }
+{
+    if end <= start {
+        return count;
+    }
+    put(starts, answers, count, start, answer);
+    count + 1
+}
+
+/// Writes a range.
+fn put<W: Word>(starts: &mut [W], answers: &mut [u32], place: usize, start: u128, answer: u32)
+    requires start { start < 2 ^ W.width }
+    requires starts { place < length starts.old }
+    requires answers { place < length answers.old }
+    ensures starts { IsPut (map W.value starts.old) (map W.value starts.new) place start }
+    ensures answers { IsPut answers.old answers.new place answer }
+{
+    starts[place] = W::of(start);
+    answers[place] = answer;
+}

@@ -1,0 +1,56 @@
+//! Networks, as arrays have them.
+ghost use Rattle.std.specs.Prelude.{◌≡◌, ◌↔◌, ◌-◌, ◌^◌, ◌≤◌, IsTrue, length};
+ghost use Rattle.cidr_arrays.specs.Arrays.{IsNetwork, Precedes, last_of};
+
+use crate::word::Word;
+
+/// A network, as it lies in an array: its first address and its prefix length.
+#[derive(Clone, Copy)]
+#[repr(C)]
+pub struct Key<W> {
+    /// The first address.
+    pub address: W,
+    /// The prefix length.
+    pub len: u32,
+}
+
+impl<W: Word> Key<W> {
+    /// Whether it is a network: its length is at most the width, and no bit after the prefix is set.
+    pub fn is_network(&self) -> bool
+        ensures { IsTrue result ↔ IsNetwork W.width (W.value self.now.address, self.now.len) }
+    {
+        let width = W::width();
+        if self.len > width {
+            return false;
+        }
+        self.address.number() & ones(width - self.len) == 0
+    }
+
+    /// Whether it comes before the other: its first address is less, or that is the same and its length is.
+    pub fn precedes(&self, other: &Key<W>) -> bool
+        ensures { IsTrue result ↔ Precedes (W.value self.now.address, self.now.len) (W.value other.now.address, other.now.len) }
+    {
+        let first = self.address.number();
+        let next = other.address.number();
+        first < next || first == next && self.len < other.len
+    }
+
+    /// The number of its last address.
+    pub(crate) fn last(&self) -> u128
+        requires { IsNetwork W.width (W.value self.now.address, self.now.len) }
+        ensures { result ≡ last_of W.width (W.value self.now.address, self.now.len) }
+    {
+        self.address.number() + ones(W::width() - self.len)
+    }
+}
+
+/// The number whose last bits, so many, are set and no other.
+pub(crate) fn ones(bits: u32) -> u128
+    requires { bits ≤ 128 }
+    ensures { result ≡ 2 ^ bits - 1 }
+{
+    if bits == 0 {
+        return 0;
+    }
+    u128::MAX >> (128 - bits)
+}

@@ -1,0 +1,55 @@
+//! The first level: between which ranges to search.
+ghost use Rattle.std.specs.Prelude.{◌≡◌, ℕ, ◌+◌, ◌*◌, ◌^◌, ◌<◌, ◌≤◌, length, map, None, IfSome};
+ghost use Rattle.cidr_arrays.specs.Arrays.{AreStarts, IsFirstLevel, IsRangeOf};
+
+use crate::key::ones;
+use crate::search::range_of;
+use crate::word::Word;
+
+/// Writes a first level: entry i is the index of the last range that begins at most with the number i * 2^shift.
+pub fn fill_level<W: Word>(starts: &[W], shift: u32, level: &mut [u32])
+    requires ordered { AreStarts (map W.value starts.now) }
+    requires few { length starts.now ≤ 2 ^ 32 }
+    requires shift { shift < W.width }
+    ensures { IsFirstLevel (map W.value starts.now) level.new shift }
+{
+    for i in 0..level.len() {
+        level[i] = entry_of(starts, shift, i) as u32;
+    }
+}
+
+/// The index of the last range that begins at most with the number i * 2^shift.
+pub(crate) fn entry_of<W: Word>(starts: &[W], shift: u32, i: usize) -> usize
+    requires ordered { AreStarts (map W.value starts.now) }
+    requires shift { shift < W.width }
+    ensures { IsRangeOf (map W.value starts.now) (i * 2 ^ shift) result }
+{
+    let most = ones(W::width());
+    match number_upto(i, shift, most) {
+        Some(number) => range_of(starts, &[], 0, W::of(number)),
+        None => last_range(starts),
+    }
+}
+
+/// The number i * 2^shift, or `None` where it is above the greatest.
+fn number_upto(i: usize, shift: u32, most: u128) -> Option<u128>
+    requires { shift < 128 }
+    ensures some { IfSome result (λ number. (number ≡ i * 2 ^ shift) × (number ≤ most)) }
+    ensures none { result ≡ None → most < i * 2 ^ shift }
+{
+    let number = (i as u128).checked_mul(1 << shift)?;
+    if number > most {
+        return None;
+    }
+    Some(number)
+}
+
+/// The index of the last range.
+fn last_range<W: Word>(starts: &[W]) -> usize
+    requires { AreStarts (map W.value starts.now) }
+    ensures { (number : ℕ) → 2 ^ W.width ≤ number → IsRangeOf (map W.value starts.now) number result }
+{
+    let last = starts.len() - 1;
+    starts[last].number();
+    last
+}

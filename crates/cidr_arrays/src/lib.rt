@@ -1,0 +1,27 @@
+//! A look-up table that lies in plain arrays of the caller: the longest match of an address, without a pointer and without
+//! an allocation.
+//!
+//! The keys are networks of one family, in the order of their first addresses and then of their lengths. [`build`] writes
+//! the ranges of addresses between which the longest match changes into two arrays, [`fill_level`] where to search among
+//! them into a third, and [`lookup`] reads these. [`check`] says whether arrays from elsewhere are those of keys.
+//!
+//! ```
+//! let count = build(&keys, &mut starts, &mut answers)?;
+//! lookup(&starts[..count], &answers[..count], &[], 0, keys.len(), address.to_bits()) // Some(1)
+//! ```
+#![tactic(auto)]
+
+mod building;
+mod checking;
+mod key;
+mod level;
+mod pass;
+mod search;
+mod word;
+
+pub use building::{BuildError, build, first_refused};
+pub use checking::{Fault, check};
+pub use key::Key;
+pub use level::fill_level;
+pub use search::lookup;
+pub use word::{Halves, Word};

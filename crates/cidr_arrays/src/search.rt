@@ -1,0 +1,118 @@
+//! The longest match of an address, by arrays.
+ghost use Rattle.std.specs.Prelude.{◌≡◌, ℕ, ◌+◌, ◌-◌, ◌<◌, ◌≤◌, ◌⊎◌, List, length, map, slice_index_or, IfSome};
+ghost use Rattle.cidr.specs.model.Bits.{bits};
+ghost use Rattle.cidr_table.specs.Prefixes.{IsLongestMatch};
+ghost use Rattle.cidr_arrays.specs.Arrays.{IsRangeOf, Represents, network_bits, row_of};
+ghost use Rattle.cidr_arrays.specs.Passing.{IsSearchable};
+
+use crate::word::Word;
+
+/// The index of the longest of the keys that have an address, or `None` where none has it: the longest match of a
+/// forwarding table (RFC 1812, 5.2.4.3). The keys are not read: `rows` says how many there are.
+///
+/// Whatever the arrays hold, it reads nothing outside of them, and the index is below `rows`. It is the longest match in
+/// arrays that represent the keys: those that `build` and `fill_level` filled, or that `check` accepted.
+pub fn lookup<W: Word>(
+    starts: &[W],
+    answers: &[u32],
+    level: &[u32],
+    shift: u32,
+    rows: usize,
+    address: W,
+) -> Option<usize>
+    ensures within { IfSome result (λ row. row < rows) }
+    ensures longest { (networks : List (ℕ × ℕ)) → length networks ≡ rows
+        → Represents W.width networks (map W.value starts.now) answers.now level.now shift
+        → IsLongestMatch (network_bits W.width) (bits W.width (W.value address)) networks result }
+{
+    address.number();
+    if starts.is_empty() {
+        return None;
+    }
+    let at = range_of(starts, level, shift, address);
+    if at >= answers.len() {
+        return None;
+    }
+    row_below(answers[at], rows)
+}
+
+/// The row of an answer, if it is one of so many.
+#[inline(always)]
+fn row_below(answer: u32, rows: usize) -> Option<usize>
+    ensures within { IfSome result (λ row. row < rows) }
+    ensures row { answer ≤ rows → result ≡ row_of answer }
+{
+    let end = answer as usize;
+    if end == 0 {
+        return None;
+    }
+    if end > rows {
+        return None;
+    }
+    Some(end - 1)
+}
+
+/// The index of the last range that begins at most with a number.
+#[inline(always)]
+pub(crate) fn range_of<W: Word>(starts: &[W], level: &[u32], shift: u32, number: W) -> usize
+    requires { 0 < length starts.now }
+    ensures within { result < length starts.now }
+    ensures found { IsSearchable (map W.value starts.now) level.now shift → IsRangeOf (map W.value starts.now) (W.value number) result }
+{
+    let (from, to) = around(starts, level, shift, number);
+    let mut at = from;
+    let mut left = to - from + 1;
+    while left > 8 {
+        let half = left / 2;
+        at = later(starts, at, at + half, number);
+        left -= half;
+    }
+    at = later(starts, at, ahead(at, to, 4), number);
+    at = later(starts, at, ahead(at, to, 2), number);
+    later(starts, at, ahead(at, to, 1), number)
+}
+
+/// Between which ranges it is, the two included.
+#[inline(always)]
+fn around<W: Word>(starts: &[W], level: &[u32], shift: u32, number: W) -> (usize, usize)
+    requires { 0 < length starts.now }
+    ensures from { result.0 ≤ result.1 }
+    ensures to { result.1 < length starts.now }
+    ensures upto { IsSearchable (map W.value starts.now) level.now shift → slice_index_or (map W.value starts.now) result.0 0 ≤ W.value number }
+    ensures behind { IsSearchable (map W.value starts.now) level.now shift → (i : ℕ) → result.1 < i → i < length starts.now
+        → W.value number < slice_index_or (map W.value starts.now) i 0 }
+{
+    if let Some(part) = number.part(shift) {
+        if part < level.len() && part + 1 < level.len() {
+            let from = level[part] as usize;
+            let to = level[part + 1] as usize;
+            if from <= to && to < starts.len() {
+                return (from, to);
+            }
+        }
+    }
+    (0, starts.len() - 1)
+}
+
+/// The later range of two, if it begins at most with the number, and else the other.
+#[inline(always)]
+fn later<W: Word>(starts: &[W], at: usize, next: usize, number: W) -> usize
+    requires { next < length starts.now }
+    ensures { ((result ≡ next) × (slice_index_or (map W.value starts.now) next 0 ≤ W.value number))
+        ⊎ ((result ≡ at) × (W.value number < slice_index_or (map W.value starts.now) next 0)) }
+{
+    let is_upto = starts[next].is_upto(number);
+    if is_upto { next } else { at }
+}
+
+/// Some ranges further, but no further than the last.
+#[inline(always)]
+fn ahead(at: usize, last: usize, step: usize) -> usize
+    requires { at ≤ last }
+    ensures within { result ≤ last }
+    ensures far { (result ≡ at + step) ⊎ (result ≡ last) }
+    ensures near { result ≤ at + step }
+    ensures from { at ≤ result }
+{
+    if last - at < step { last } else { at + step }
+}
