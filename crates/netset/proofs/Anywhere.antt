@@ -27,7 +27,7 @@ use Rattle.cidr.proofs.ShortGrammar.{length-octet_bits}
 use Rattle.netset.specs.Matching.{AreWithin, HasOneIn, IsOneIn, LineHasOneIn, WordIsOneIn}
 use Rattle.netset.specs.Sets.{Held, held}
 use Rattle.netset.specs.Words.{IsBare, ends_word, is_dot, words_of}
-use Rattle.netset.specs.declared.sets.Sets.{Sets}
+use Rattle.netset.specs.declared.output.sets.Sets.{Sets}
 
 -- ---- words are ASCII
 in_ascii : (family : Family) (byte : ℕ) → ends_word family byte ≡ false → byte < 128

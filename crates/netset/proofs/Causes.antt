@@ -14,16 +14,16 @@ use Rattle.netset.specs.LookUps.{unread}
 use Rattle.netset.specs.Program.{AnswersRequest, IsBadArgument, by_output}
 use Rattle.netset.specs.Reading.{IsStopped, read_error}
 use Rattle.netset.specs.Single.{SingleRequest}
-use Rattle.netset.specs.declared.answers.Verdict.{Verdict}
+use Rattle.netset.specs.declared.output.answers.Verdict.{Verdict}
 use Rattle.netset.specs.declared.errors.ArgumentError.{ArgumentError}
 use Rattle.netset.specs.declared.errors.CommandError.{CommandError}
 use Rattle.netset.specs.declared.errors.CommandError.TheVariants as error
 use Rattle.netset.specs.declared.errors.LineError.{LineError}
 use Rattle.netset.specs.declared.errors.ReadError.{ReadError}
 use Rattle.netset.specs.declared.errors.ReadError.TheVariants.{Line, Input, NoMemory}
-use Rattle.netset.specs.declared.look.LookError.{LookError}
-use Rattle.netset.specs.declared.look.LookError.TheVariants.{Reading, Output}
-use Rattle.netset.specs.declared.matching.Written.{Written}
+use Rattle.netset.specs.declared.commands.look.LookError.{LookError}
+use Rattle.netset.specs.declared.commands.look.LookError.TheVariants.{Reading, Output}
+use Rattle.netset.specs.declared.commands.matching.Written.{Written}
 
 -- ---- a reader
 pub reading_stopped : (e : NoLine) → IsStopped (read_error e)

@@ -22,13 +22,13 @@ use Rattle.netset.specs.Commands.{Diff}
 use Rattle.netset.specs.Lists.{Text, networks_in}
 use Rattle.netset.specs.Program.{AnswersRequest, by_output}
 use Rattle.netset.specs.Sets.{Held, held}
-use Rattle.netset.specs.declared.answers.Verdict.{Verdict}
-use Rattle.netset.specs.declared.answers.Verdict.TheVariants.{Yes, No}
-use Rattle.netset.specs.declared.changes.Sign.{Sign}
-use Rattle.netset.specs.declared.changes.Sign.TheVariants.{Plus, Minus}
+use Rattle.netset.specs.declared.output.answers.Verdict.{Verdict}
+use Rattle.netset.specs.declared.output.answers.Verdict.TheVariants.{Yes, No}
+use Rattle.netset.specs.declared.commands.changes.Sign.{Sign}
+use Rattle.netset.specs.declared.commands.changes.Sign.TheVariants.{Plus, Minus}
 use Rattle.netset.specs.declared.errors.CommandError.{CommandError}
-use Rattle.netset.specs.declared.operations.Step.TheVariants.{Difference}
-use Rattle.netset.specs.declared.sets.Sets.{Sets}
+use Rattle.netset.specs.declared.commands.operations.Step.TheVariants.{Difference}
+use Rattle.netset.specs.declared.output.sets.Sets.{Sets}
 use Rattle.netset.proofs.Combining.{set_same, steps_same}
 
 -- ---- the first of both lists

@@ -15,12 +15,12 @@ use Rattle.netset.specs.Lists.{Text}
 use Rattle.netset.specs.Nearness.{AreNear}
 use Rattle.netset.specs.Program.{AnswersRequest}
 use Rattle.netset.specs.Unchecked.{AreToldEntries}
-use Rattle.netset.specs.declared.answers.Verdict.{Verdict}
-use Rattle.netset.specs.declared.answers.Verdict.TheVariants.{Yes, No}
-use Rattle.netset.specs.declared.entries.Entry.{Entry}
+use Rattle.netset.specs.declared.output.answers.Verdict.{Verdict}
+use Rattle.netset.specs.declared.output.answers.Verdict.TheVariants.{Yes, No}
+use Rattle.netset.specs.declared.input.entries.Entry.{Entry}
 use Rattle.netset.specs.declared.errors.CommandError.TheVariants as error
-use Rattle.netset.specs.declared.findings.Note.{Note}
-use Rattle.netset.specs.declared.near.Near.{Near}
+use Rattle.netset.specs.declared.commands.findings.Note.{Note}
+use Rattle.netset.specs.declared.commands.near.Near.{Near}
 use Rattle.netset.proofs.Blocks.{last_block, nothing_held}
 use Rattle.netset.proofs.Completed.{completed}
 use Rattle.netset.proofs.Noted.{all_noted, no_notes, none_noted, one_noted}

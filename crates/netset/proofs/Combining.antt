@@ -20,15 +20,15 @@ use Rattle.netset.specs.Program.{AnswersRequest, by_output}
 use Rattle.netset.specs.Lists.{Text, network_in}
 use Rattle.netset.specs.Reading.{Grows, listed}
 use Rattle.netset.specs.Sets.{Held, Prints, count_of, held, printed_sets}
-use Rattle.netset.specs.declared.lists.Lists.{Lists as Networks}
-use Rattle.netset.specs.declared.answers.Verdict.{Verdict}
-use Rattle.netset.specs.declared.answers.Verdict.TheVariants.{Yes}
+use Rattle.netset.specs.declared.input.lists.Lists.{Lists as Networks}
+use Rattle.netset.specs.declared.output.answers.Verdict.{Verdict}
+use Rattle.netset.specs.declared.output.answers.Verdict.TheVariants.{Yes}
 use Rattle.netset.specs.declared.errors.CommandError.{CommandError}
-use Rattle.netset.specs.declared.operations.Operation.{Operation}
-use Rattle.netset.specs.declared.operations.Operation.TheVariants.{Merge, Nets, Minus, And, Not, Ranges, Count}
-use Rattle.netset.specs.declared.operations.Step.{Step}
-use Rattle.netset.specs.declared.operations.Step.TheVariants.{Union, Difference, Intersection}
-use Rattle.netset.specs.declared.sets.Sets.{Sets}
+use Rattle.netset.specs.declared.commands.operations.Operation.{Operation}
+use Rattle.netset.specs.declared.commands.operations.Operation.TheVariants.{Merge, Nets, Minus, And, Not, Ranges, Count}
+use Rattle.netset.specs.declared.commands.operations.Step.{Step}
+use Rattle.netset.specs.declared.commands.operations.Step.TheVariants.{Union, Difference, Intersection}
+use Rattle.netset.specs.declared.output.sets.Sets.{Sets}
 
 -- ---- either way
 same : (P : Type 0) → P ↔ P

@@ -4,9 +4,9 @@ use Rattle.std.proofs.lemmas.List.{append-nil}
 use Rattle.std.proofs.lemmas.Option.{slice_get_within}
 use Rattle.netset.specs.Findings.{AreNotes, AreNotesBelow, IsOnlyNote, entry_network}
 use Rattle.netset.specs.Nearness.{AreNear, IsNear}
-use Rattle.netset.specs.declared.entries.Entry.{Entry}
-use Rattle.netset.specs.declared.findings.Note.{Note}
-use Rattle.netset.specs.declared.near.Near.{Near}
+use Rattle.netset.specs.declared.input.entries.Entry.{Entry}
+use Rattle.netset.specs.declared.commands.findings.Note.{Note}
+use Rattle.netset.specs.declared.commands.near.Near.{Near}
 use Rattle.netset.proofs.Found.{network_of, some_found}
 use Rattle.netset.proofs.Noted.{all_noted, kind_at, none_noted, one_noted}
 use Rattle.netset.proofs.NumberedRows.{element, first_within, near_line}

@@ -10,12 +10,12 @@ use Rattle.netset.specs.Lists.{Text}
 use Rattle.netset.specs.Look.{IsLook}
 use Rattle.netset.specs.Program.{AnswersRequest, AnswersWhole, IsRefused, KeepsGoing, Reports, Runs, RunsArguments, RunsRequest, RunsWords, by_output, status_of, told_by}
 use Rattle.netset.specs.Single.{SingleRequest, Show, Split, Nth}
-use Rattle.netset.specs.declared.answers.Verdict.{Verdict}
-use Rattle.netset.specs.declared.answers.Verdict.TheVariants.{Yes, No}
+use Rattle.netset.specs.declared.output.answers.Verdict.{Verdict}
+use Rattle.netset.specs.declared.output.answers.Verdict.TheVariants.{Yes, No}
 use Rattle.netset.specs.declared.commands.Reading.{Reading}
 use Rattle.netset.specs.declared.errors.CommandError.{CommandError}
 use Rattle.netset.specs.declared.errors.CommandError.TheVariants as error
-use Rattle.netset.specs.declared.operations.Operation.TheVariants.{Merge, Nets, Minus, And, Not, Ranges, Count}
+use Rattle.netset.specs.declared.commands.operations.Operation.TheVariants.{Merge, Nets, Minus, And, Not, Ranges, Count}
 use Rattle.netset.proofs.Telling.{tells_nothing}
 
 -- the answer of a request was written whole, and nothing was told of an error

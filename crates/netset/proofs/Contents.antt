@@ -17,10 +17,10 @@ use Rattle.netset.specs.Lists.{IsNoAddress, hyphen, network_in}
 use Rattle.netset.specs.Reading.{AddsContent, Grows, ReadsField}
 use Rattle.netset.specs.declared.errors.LineError.{LineError}
 use Rattle.netset.specs.declared.errors.LineError.TheVariants.{NoAddress}
-use Rattle.netset.specs.declared.lines.HostBits.{HostBits}
-use Rattle.netset.specs.declared.lines.Content.{Content}
-use Rattle.netset.specs.declared.lines.Content.TheVariants.{Blank, Network, Ipv4Range, Ipv6Range}
-use Rattle.netset.specs.declared.lists.Lists.{Lists}
+use Rattle.netset.specs.declared.input.lines.HostBits.{HostBits}
+use Rattle.netset.specs.declared.input.lines.Content.{Content}
+use Rattle.netset.specs.declared.input.lines.Content.TheVariants.{Blank, Network, Ipv4Range, Ipv6Range}
+use Rattle.netset.specs.declared.input.lists.Lists.{Lists}
 
 -- ---- the order of two addresses
 pub above : (o : Ordering) (b : Bool) → b ≡ is_gt o → b ≡ true → o ≡ Greater

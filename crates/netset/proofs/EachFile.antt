@@ -21,10 +21,10 @@ use Rattle.netset.proofs.Zips.{zip_behind}
 use Rattle.netset.specs.declared.errors.CommandError.{CommandError}
 use Rattle.netset.specs.declared.errors.CommandError.TheVariants as error
 use Rattle.netset.specs.declared.errors.ReadError.{ReadError}
-use Rattle.netset.specs.declared.lines.HostBits.{HostBits}
-use Rattle.netset.specs.declared.keeping.Said.TheVariants.{Networks}
-use Rattle.netset.specs.declared.lists.Lists.{Lists}
-use Rattle.netset.specs.declared.sets.Sets.{Sets}
+use Rattle.netset.specs.declared.input.lines.HostBits.{HostBits}
+use Rattle.netset.specs.declared.input.keeping.Said.TheVariants.{Networks}
+use Rattle.netset.specs.declared.input.lists.Lists.{Lists}
+use Rattle.netset.specs.declared.output.sets.Sets.{Sets}
 
 -- the list of a file, as it is read
 pub list_read : (told : Option Text) (left : Option (List ℕ)) (bits : HostBits) (old new : Lists) (r : Result (Unit {0}) ReadError)

@@ -13,7 +13,7 @@ use Rattle.netset.specs.Entries.{AddsEntries, AddsEntry, AreAllEntries, AreEntri
 use Rattle.netset.specs.Lists.{Text, lines_of}
 use Rattle.netset.specs.Reading.{IsStopped}
 use Rattle.netset.specs.Unchecked.{AddsFileEntries, AreToldEntries, IsFileFault, IsUnchecked}
-use Rattle.netset.specs.declared.entries.Entry.{Entry}
+use Rattle.netset.specs.declared.input.entries.Entry.{Entry}
 use Rattle.netset.specs.declared.errors.CommandError.{CommandError}
 use Rattle.netset.specs.declared.errors.CommandError.TheVariants as error
 use Rattle.netset.specs.declared.errors.ReadError.{ReadError}

@@ -12,14 +12,14 @@ use Rattle.cidr.specs.declared.cidr.combined.IpCidr.TheVariants.{V4, V6}
 use Rattle.cidr.specs.declared.inet.combined.IpInet.{IpInet}
 use Rattle.netset.specs.Findings.{AreHalves, IsFinding, IsFirst, IsInnermost, IsInside, IsOnly, IsOnlyNote, entry_network, kind_rank, rank}
 use Rattle.netset.specs.Nearness.{IsAroundAt, IsFirstIndex, IsHalfAt, IsNear}
-use Rattle.netset.specs.declared.entries.Entry.{Entry}
-use Rattle.netset.specs.declared.entries.Place.{Place}
-use Rattle.netset.specs.declared.findings.Finding.{Finding}
-use Rattle.netset.specs.declared.findings.Finding.TheVariants.{HostBits, NotCanonical, Repeats, Inside, Mergeable}
-use Rattle.netset.specs.declared.findings.Kind.{Kind}
-use Rattle.netset.specs.declared.findings.Kind.TheVariants as looked
-use Rattle.netset.specs.declared.findings.Note.{Note}
-use Rattle.netset.specs.declared.near.Near.{Near}
+use Rattle.netset.specs.declared.input.entries.Entry.{Entry}
+use Rattle.netset.specs.declared.input.entries.Place.{Place}
+use Rattle.netset.specs.declared.commands.findings.Finding.{Finding}
+use Rattle.netset.specs.declared.commands.findings.Finding.TheVariants.{HostBits, NotCanonical, Repeats, Inside, Mergeable}
+use Rattle.netset.specs.declared.commands.findings.Kind.{Kind}
+use Rattle.netset.specs.declared.commands.findings.Kind.TheVariants as looked
+use Rattle.netset.specs.declared.commands.findings.Note.{Note}
+use Rattle.netset.specs.declared.commands.near.Near.{Near}
 use Rattle.netset.proofs.Nested.{sibling_same}
 
 -- ---- networks by their bits

@@ -10,7 +10,7 @@ use Rattle.cidr_ext.specs.Tree.{AreSiblings}
 use Rattle.cidr_table.proofs.MapLaws.{contains_nothing}
 use Rattle.netset.specs.Findings.{AreInside}
 use Rattle.netset.specs.Nearness.{AreKept, AreOthersSame, HasRow, IsChain, IsClosed, IsClosedHalf, IsLast, IsLeast, IsRowAround, IsRowHalf, IsRowNear, IsSameRow, PutsFirst, PutsHalf}
-use Rattle.netset.specs.declared.near.Near.{Near}
+use Rattle.netset.specs.declared.commands.near.Near.{Near}
 use Rattle.netset.proofs.Nested.{begins_same, not_inside_behind, sibling_same, siblings_apart, siblings_back}
 use Rattle.netset.proofs.OpenNetworks.{AreBefore, chain_last, closed_least, half_closed, least_more, least_new, least_same, open_chain, open_least, row_inside, same_index, same_network}
 

@@ -9,9 +9,9 @@ use Rattle.netset.specs.Lists.{Text, lines_of}
 use Rattle.netset.specs.Loading.{IsLoaded, IsUnloaded}
 use Rattle.netset.specs.declared.errors.CommandError.{CommandError}
 use Rattle.netset.specs.declared.errors.CommandError.TheVariants as error
-use Rattle.netset.specs.declared.keeping.Kept.{Kept}
-use Rattle.netset.specs.declared.keeping.Kind.{Kind}
-use Rattle.netset.specs.declared.keeping.Said.{Said}
+use Rattle.netset.specs.declared.input.keeping.Kept.{Kept}
+use Rattle.netset.specs.declared.input.keeping.Kind.{Kind}
+use Rattle.netset.specs.declared.input.keeping.Said.{Said}
 use Rattle.netset.proofs.Arguments.{bytes_of, same_length, within_bytes}
 use Rattle.netset.proofs.EachFile.{last_told, next_taken}
 use Rattle.netset.proofs.Telling.{none_of, tellings_behind, tells_more, tells_nothing}

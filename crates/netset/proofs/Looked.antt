@@ -26,10 +26,10 @@ use Rattle.netset.specs.Streaming.{IsCut, IsOfFile, IsWritten}
 use Rattle.netset.specs.declared.errors.CommandError.TheVariants as error
 use Rattle.netset.specs.declared.errors.ReadError.{ReadError}
 use Rattle.netset.specs.declared.errors.ReadError.TheVariants.{Line, Input, NoMemory}
-use Rattle.netset.specs.declared.look.LookError.{LookError}
-use Rattle.netset.specs.declared.look.LookError.TheVariants.{Reading, Output}
-use Rattle.netset.specs.declared.rows.Span.{Span}
-use Rattle.netset.specs.declared.table.Table.{Table}
+use Rattle.netset.specs.declared.commands.look.LookError.{LookError}
+use Rattle.netset.specs.declared.commands.look.LookError.TheVariants.{Reading, Output}
+use Rattle.netset.specs.declared.input.rows.Span.{Span}
+use Rattle.netset.specs.declared.input.table.Table.{Table}
 use Rattle.cidr_io.proofs.Collected.{collected_more, none_collected}
 use Rattle.netset.proofs.ReadBy.{bytes_read}
 use Rattle.netset.proofs.Resolved.{looked_up_mapped}

@@ -26,15 +26,15 @@ use Rattle.netset.specs.Program.{AnswersRequest}
 use Rattle.netset.specs.Reading.{IsNextLine}
 use Rattle.netset.specs.Sets.{Held}
 use Rattle.netset.specs.Streaming.{IsOfFile, IsStop, IsWritten, ReadTo}
-use Rattle.netset.specs.declared.answers.Verdict.{Verdict}
-use Rattle.netset.specs.declared.answers.Verdict.TheVariants.{Yes, No}
+use Rattle.netset.specs.declared.output.answers.Verdict.{Verdict}
+use Rattle.netset.specs.declared.output.answers.Verdict.TheVariants.{Yes, No}
 use Rattle.netset.specs.declared.errors.CommandError.{CommandError}
 use Rattle.netset.specs.declared.errors.CommandError.TheVariants as error
 use Rattle.netset.specs.declared.errors.LineError.{LineError}
-use Rattle.netset.specs.declared.matching.Gathered.{Gathered}
-use Rattle.netset.specs.declared.matching.Written.{Written}
-use Rattle.netset.specs.declared.matching.Written.TheVariants as written
-use Rattle.netset.specs.declared.sets.Sets.{Sets}
+use Rattle.netset.specs.declared.commands.matching.Gathered.{Gathered}
+use Rattle.netset.specs.declared.commands.matching.Written.{Written}
+use Rattle.netset.specs.declared.commands.matching.Written.TheVariants as written
+use Rattle.netset.specs.declared.output.sets.Sets.{Sets}
 use Rattle.netset.proofs.Blocks.{last_block, nothing_held}
 use Rattle.cidr_io.proofs.Collected.{held_lost, held_then, none_collected}
 use Rattle.netset.proofs.Causes.{KnownOf, longer_than}

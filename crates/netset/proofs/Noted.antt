@@ -9,13 +9,13 @@ use Rattle.std.proofs.lemmas.Option.{same_Some, slice_get_within}
 use Rattle.cidr_sets.proofs.FirstRules.{increasing_push}
 use Rattle.cidr_table.proofs.MapLaws.{contains_nothing}
 use Rattle.netset.specs.Findings.{AreNotes, AreNotesBelow, IsFinding, IsNote, IsOnlyNote, kind_rank, order, rank}
-use Rattle.netset.specs.declared.entries.Entry.{Entry}
-use Rattle.netset.specs.declared.entries.Place.{Place}
-use Rattle.netset.specs.declared.findings.Finding.{Finding}
-use Rattle.netset.specs.declared.findings.Finding.TheVariants.{HostBits, NotCanonical, Repeats, Inside, Mergeable}
-use Rattle.netset.specs.declared.findings.Kind.{Kind}
-use Rattle.netset.specs.declared.findings.Kind.TheVariants as kind
-use Rattle.netset.specs.declared.findings.Note.{Note}
+use Rattle.netset.specs.declared.input.entries.Entry.{Entry}
+use Rattle.netset.specs.declared.input.entries.Place.{Place}
+use Rattle.netset.specs.declared.commands.findings.Finding.{Finding}
+use Rattle.netset.specs.declared.commands.findings.Finding.TheVariants.{HostBits, NotCanonical, Repeats, Inside, Mergeable}
+use Rattle.netset.specs.declared.commands.findings.Kind.{Kind}
+use Rattle.netset.specs.declared.commands.findings.Kind.TheVariants as kind
+use Rattle.netset.specs.declared.commands.findings.Note.{Note}
 
 rank_below : (f : Finding) → rank f < 5
 rank_below HostBits = omega arith

@@ -21,7 +21,7 @@ use Rattle.cidr_ext.specs.Tree.{AreSiblings}
 use Rattle.cidr_table.proofs.MapLaws.{contains_nothing}
 use Rattle.netset.specs.Findings.{AreHalves, AreInside, IsInside}
 use Rattle.netset.specs.Nearness.{AreAscending, AreKept, AreNear, AreOthersSame, AreRows, AreRowsOf, IsAroundAt, IsFirstIndex, IsHalfAt, IsLast, IsLeast, IsNear, IsRowAround, IsRowHalf, IsRowNear}
-use Rattle.netset.specs.declared.near.Near.{Near}
+use Rattle.netset.specs.declared.commands.near.Near.{Near}
 use Rattle.netset.proofs.Nested.{not_greater_back}
 use Rattle.netset.proofs.OpenNetworks.{AreBefore}
 

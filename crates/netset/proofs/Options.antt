@@ -8,8 +8,8 @@ use Rattle.netset.specs.Commands.{is_reading_option, reading_of, reading_options
 use Rattle.netset.specs.Matching.{is_word}
 use Rattle.netset.proofs.Arguments.{bytes_of}
 use Rattle.netset.specs.declared.commands.Reading.{Reading}
-use Rattle.netset.specs.declared.lines.HostBits.{HostBits}
-use Rattle.netset.specs.declared.lines.HostBits.TheVariants.{Refused, Cleared}
+use Rattle.netset.specs.declared.input.lines.HostBits.{HostBits}
+use Rattle.netset.specs.declared.input.lines.HostBits.TheVariants.{Refused, Cleared}
 
 abbrev either : HostBits → HostBits → HostBits
 either Cleared bits = Cleared

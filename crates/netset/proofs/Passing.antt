@@ -6,7 +6,7 @@ use Rattle.std.proofs.lemmas.List.{length-set, take_all}
 use Rattle.std.proofs.lemmas.Option.{none-some, same_Some}
 use Rattle.cidr_table.proofs.MapLaws.{contains_nothing}
 use Rattle.netset.specs.Nearness.{AreAscending, AreKept, AreOpen, AreOthersSame, AreRows, ClosesAll, HasRow, IsClosed, IsClosedHalf, IsLast, IsPassed, IsSameRow, PutsFirst, PutsHalf}
-use Rattle.netset.specs.declared.near.Near.{Near}
+use Rattle.netset.specs.declared.commands.near.Near.{Near}
 use Rattle.netset.proofs.KeptNear.{changed_more, kept_again, kept_new, none_changed, one_changed, open_again}
 use Rattle.netset.proofs.NumberedRows.{before_row, one_more_taken, one_taken, row_here, taken}
 use Rattle.netset.proofs.OpenNetworks.{AreBefore, closed_least, closing_started, left_open, new_network, none_open, opened}

@@ -21,8 +21,8 @@ use Rattle.cidr.specs.declared.inet.combined.IpInet.TheVariants as host
 use Rattle.cidr.proofs.Cuts.{Lacks-append, Lacks-cons, Lacks-digits, Lacks-length}
 use Rattle.cidr.proofs.Ipv4Grammar.{Lacks-joined, Lacks-octet}
 use Rattle.netset.specs.Lists.{IsField, IsNetworkBy, is_comment_sign}
-use Rattle.netset.specs.declared.lines.HostBits.{HostBits}
-use Rattle.netset.specs.declared.lines.HostBits.TheVariants.{Refused, Cleared}
+use Rattle.netset.specs.declared.input.lines.HostBits.{HostBits}
+use Rattle.netset.specs.declared.input.lines.HostBits.TheVariants.{Refused, Cleared}
 use Rattle.netset.proofs.LineFeeds.{uncut}
 
 -- a byte that is no digit, dot, colon, slash or plus

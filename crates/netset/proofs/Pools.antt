@@ -16,11 +16,11 @@ use Rattle.netset.specs.Lists.{Text}
 use Rattle.netset.specs.Program.{AnswersRequest, by_output}
 use Rattle.netset.specs.Sets.{Held, held}
 use Rattle.netset.specs.Single.{IsNumber, IsSingle, SingleRequest}
-use Rattle.netset.specs.declared.answers.Verdict.{Verdict}
+use Rattle.netset.specs.declared.output.answers.Verdict.{Verdict}
 use Rattle.netset.specs.declared.errors.CommandError.{CommandError}
-use Rattle.netset.specs.declared.operations.Operation.{Operation}
-use Rattle.netset.specs.declared.operations.Operation.TheVariants.{Minus}
-use Rattle.netset.specs.declared.sets.Sets.{Sets}
+use Rattle.netset.specs.declared.commands.operations.Operation.{Operation}
+use Rattle.netset.specs.declared.commands.operations.Operation.TheVariants.{Minus}
+use Rattle.netset.specs.declared.output.sets.Sets.{Sets}
 use Rattle.netset.proofs.Combining.{has_same, made_same, set_same}
 
 -- networks whose bits are themselves

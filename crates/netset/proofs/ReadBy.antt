@@ -2,7 +2,7 @@
 use Rattle.std.proofs.Common.{◌≡◌, sym, ap, subst, ℕ, List, Option, Some, None, option_map}
 use Rattle.std.specs.Option.{IfSome}
 use Rattle.netset.specs.Lists.{Text, text_by}
-use Rattle.netset.specs.declared.lines.HostBits.{HostBits}
+use Rattle.netset.specs.declared.input.lines.HostBits.{HostBits}
 
 pub text_same : (bits : HostBits) (text : Text) → text.host_bits ≡ bits → text_by bits text.bytes ≡ text
 text_same bits text is = ap (λ (k : HostBits). text_by k text.bytes) (sym is)

@@ -11,12 +11,12 @@ use Rattle.netset.specs.Lists.{Text}
 use Rattle.netset.specs.Matching.{is_word}
 use Rattle.netset.specs.Loading.{IsLoaded, IsUnloaded}
 use Rattle.netset.specs.Program.{AnswersRequest, IsCaused, IsReadTwice, IsWrong, KeepsGoing, Reports, RunsArguments, RunsOnce, RunsRequest, RunsWords, TellsFaults, status_of, told_by}
-use Rattle.netset.specs.declared.answers.Verdict.{Verdict}
+use Rattle.netset.specs.declared.output.answers.Verdict.{Verdict}
 use Rattle.netset.specs.declared.commands.Reading.{Reading}
 use Rattle.netset.specs.declared.errors.CommandError.{CommandError}
 use Rattle.netset.specs.declared.errors.CommandError.TheVariants as error
-use Rattle.netset.specs.declared.keeping.Kept.{Kept}
-use Rattle.netset.specs.declared.keeping.Kind.{Kind}
+use Rattle.netset.specs.declared.input.keeping.Kept.{Kept}
+use Rattle.netset.specs.declared.input.keeping.Kind.{Kind}
 use Rattle.netset.proofs.Loading.{none_begun, none_told}
 
 -- ---- with lists whose lines in error are told

@@ -11,8 +11,8 @@ use Rattle.cidr_io.proofs.Chains.{part_none}
 use Rattle.cidr_sets.specs.Ranges.{AreRanges}
 use Rattle.cidr_table.specs.Cover.{Covers}
 use Rattle.netset.specs.Sets.{Prints, held, printed_ranges, range_line}
-use Rattle.netset.specs.declared.operations.Form.TheVariants.{Ranges}
-use Rattle.netset.specs.declared.sets.Sets.{Sets}
+use Rattle.netset.specs.declared.commands.operations.Form.TheVariants.{Ranges}
+use Rattle.netset.specs.declared.output.sets.Sets.{Sets}
 
 plain_ranges : (networks : List (List Bool)) (ranges : List (List Bool × List Bool)) → AreRanges 129 (Covers (map (λ (x : List Bool). x) networks)) ranges
     → AreRanges 129 (Covers networks) ranges

@@ -16,11 +16,11 @@ use Rattle.netset.specs.LookUps.{Adds, AreCopies, AreWithin, IsErrorAt, ReadsFil
 use Rattle.netset.specs.Reading.{IsNextLine, IsStopped}
 use Rattle.netset.specs.declared.errors.ReadError.{ReadError}
 use Rattle.netset.specs.declared.errors.ReadError.TheVariants.{Line, Input, NoMemory}
-use Rattle.netset.specs.declared.keeping.Said.TheVariants.{Rows as AsRows}
-use Rattle.netset.specs.declared.lines.HostBits.{HostBits}
-use Rattle.netset.specs.declared.rows.Rows.{Rows}
-use Rattle.netset.specs.declared.rows.Span.{Span}
-use Rattle.netset.specs.declared.table.Table.{Table}
+use Rattle.netset.specs.declared.input.keeping.Said.TheVariants.{Rows as AsRows}
+use Rattle.netset.specs.declared.input.lines.HostBits.{HostBits}
+use Rattle.netset.specs.declared.input.rows.Rows.{Rows}
+use Rattle.netset.specs.declared.input.rows.Span.{Span}
+use Rattle.netset.specs.declared.input.table.Table.{Table}
 use Rattle.netset.proofs.Causes.{KnownOf, too_many}
 use Rattle.netset.proofs.ReadBy.{bytes_read, text_same}
 use Rattle.netset.proofs.Resolved.{last_rows_mapped}

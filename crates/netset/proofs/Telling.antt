@@ -23,10 +23,10 @@ use Rattle.netset.specs.declared.errors.CommandError.{CommandError}
 use Rattle.netset.specs.declared.errors.LineError.{LineError}
 use Rattle.netset.specs.declared.errors.ReadError.{ReadError}
 use Rattle.netset.specs.declared.errors.ReadError.TheVariants.{Line, Input, NoMemory}
-use Rattle.netset.specs.declared.keeping.Kind.{Kind}
-use Rattle.netset.specs.declared.keeping.Said.{Said}
-use Rattle.netset.specs.declared.keeping.Said.TheVariants.{Networks, Hosts, Rows}
-use Rattle.netset.specs.declared.lines.HostBits.{HostBits}
+use Rattle.netset.specs.declared.input.keeping.Kind.{Kind}
+use Rattle.netset.specs.declared.input.keeping.Said.{Said}
+use Rattle.netset.specs.declared.input.keeping.Said.TheVariants.{Networks, Hosts, Rows}
+use Rattle.netset.specs.declared.input.lines.HostBits.{HostBits}
 
 -- ---- lines that are written one after another, as far as the sink takes them
 nothing_by : (s : State) (b : Bool) → s.failed ≡ b → Tells s s []

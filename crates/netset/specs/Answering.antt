@@ -10,12 +10,12 @@ use Rattle.netset.specs.Reading.{Grows}
 use Rattle.netset.specs.Sets.{held}
 use Rattle.netset.specs.Commands.{AreTold, Says}
 use Rattle.netset.specs.Program.{IsUnread}
-use Rattle.netset.specs.declared.changes.Sign.{Sign}
+use Rattle.netset.specs.declared.commands.changes.Sign.{Sign}
 use Rattle.netset.specs.declared.errors.CommandError.{CommandError}
 use Rattle.netset.specs.declared.errors.CommandError.TheVariants as error
-use Rattle.netset.specs.declared.lists.Lists.{Lists}
-use Rattle.netset.specs.declared.sets.Sets.{Sets}
-use Rattle.netset.specs.declared.several.Several.{Several}
+use Rattle.netset.specs.declared.input.lists.Lists.{Lists}
+use Rattle.netset.specs.declared.output.sets.Sets.{Sets}
+use Rattle.netset.specs.declared.input.several.Several.{Several}
 
 -- why the file of this name is not read
 abbrev pub IsFileError : Option Text → List ℕ → CommandError → Type 0

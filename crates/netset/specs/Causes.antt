@@ -5,8 +5,8 @@ use Rattle.netset.specs.declared.errors.CommandError.{CommandError}
 use Rattle.netset.specs.declared.errors.CommandError.TheVariants as error
 use Rattle.netset.specs.declared.errors.ReadError.{ReadError}
 use Rattle.netset.specs.declared.errors.ReadError.TheVariants.{Line, Input, NoMemory}
-use Rattle.netset.specs.declared.look.LookError.{LookError}
-use Rattle.netset.specs.declared.look.LookError.TheVariants.{Reading, Output}
+use Rattle.netset.specs.declared.commands.look.LookError.{LookError}
+use Rattle.netset.specs.declared.commands.look.LookError.TheVariants.{Reading, Output}
 
 -- the bytes have more lines than there are numbers for
 abbrev pub HasTooManyLines : List ℕ → Type 0

@@ -9,10 +9,10 @@ use Rattle.cidr.specs.declared.family.Family.{Family}
 use Rattle.cidr.specs.declared.family.Family.TheVariants.{Ipv4, Ipv6}
 use Rattle.cidr_sets.specs.Sets.{IsDifference}
 use Rattle.netset.specs.Printing.{line}
-use Rattle.netset.specs.declared.answers.Verdict.{Verdict}
-use Rattle.netset.specs.declared.answers.Verdict.TheVariants.{Yes, No}
-use Rattle.netset.specs.declared.changes.Sign.{Sign}
-use Rattle.netset.specs.declared.changes.Sign.TheVariants.{Plus, Minus}
+use Rattle.netset.specs.declared.output.answers.Verdict.{Verdict}
+use Rattle.netset.specs.declared.output.answers.Verdict.TheVariants.{Yes, No}
+use Rattle.netset.specs.declared.commands.changes.Sign.{Sign}
+use Rattle.netset.specs.declared.commands.changes.Sign.TheVariants.{Plus, Minus}
 
 -- the network of a change, if it has this sign
 abbrev pub network_with : Sign → Sign × List Bool → List (List Bool)

@@ -1,12 +1,12 @@
 -- Several lists put together. `In` tells which addresses a list has.
 use Rattle.std.specs.Prelude.{ℕ, Bool, true, false, nat_lt, List, [], ◌∷◌, ◌⊎◌, codes}
 use Rattle.cidr.specs.declared.family.Family.{Family}
-use Rattle.netset.specs.declared.operations.Operation.{Operation}
-use Rattle.netset.specs.declared.operations.Operation.TheVariants.{Merge, Nets, Minus, And, Not, Ranges, Count}
-use Rattle.netset.specs.declared.operations.Form.{Form}
-use Rattle.netset.specs.declared.operations.Form.TheVariants as form
-use Rattle.netset.specs.declared.operations.Step.{Step}
-use Rattle.netset.specs.declared.operations.Step.TheVariants.{Union, Difference, Intersection}
+use Rattle.netset.specs.declared.commands.operations.Operation.{Operation}
+use Rattle.netset.specs.declared.commands.operations.Operation.TheVariants.{Merge, Nets, Minus, And, Not, Ranges, Count}
+use Rattle.netset.specs.declared.commands.operations.Form.{Form}
+use Rattle.netset.specs.declared.commands.operations.Form.TheVariants as form
+use Rattle.netset.specs.declared.commands.operations.Step.{Step}
+use Rattle.netset.specs.declared.commands.operations.Step.TheVariants.{Union, Difference, Intersection}
 
 -- the word that asks for it
 abbrev pub name_of : Operation → List ℕ

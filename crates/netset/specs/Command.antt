@@ -3,12 +3,12 @@ use Rattle.std.specs.Prelude.{◌≡◌, ◌≢◌, ◌⊎◌, ℕ, Bool, true, 
 use Rattle.std.specs.List.{list_any}
 use Rattle.netset.specs.Commands.{Request, Lists, NotIn, Diff, Free, Check, Match, Look, Single as ASingle, Help, Version, is_option, is_reading_option}
 use Rattle.netset.specs.Combining.{takes}
-use Rattle.netset.specs.declared.operations.Operation.{Operation}
+use Rattle.netset.specs.declared.commands.operations.Operation.{Operation}
 use Rattle.netset.specs.Single.{SingleRequest, Show, Split, Nth}
 use Rattle.netset.specs.declared.commands.Command.{Command}
 use Rattle.netset.specs.declared.commands.Command.TheVariants as command
-use Rattle.netset.specs.declared.single.Single.{Single}
-use Rattle.netset.specs.declared.single.Single.TheVariants as single
+use Rattle.netset.specs.declared.commands.single.Single.{Single}
+use Rattle.netset.specs.declared.commands.single.Single.TheVariants as single
 
 -- the same command on one host or network with the bytes of its arguments
 abbrev pub single_request : Single → SingleRequest

@@ -15,16 +15,16 @@ use Rattle.netset.specs.Combining.{form_of, name_of, takes, IsMade}
 use Rattle.netset.specs.Matching.{has, is_match_option, is_word, written_of, IsMatch, Picks}
 use Rattle.netset.specs.declared.program.TheConstants.{HELP}
 use Rattle.netset.specs.declared.commands.Reading.{Reading}
-use Rattle.netset.specs.declared.lines.HostBits.TheVariants.{Refused, Cleared}
-use Rattle.netset.specs.declared.operations.Form.{Form}
-use Rattle.netset.specs.declared.operations.Form.TheVariants.{Networks}
-use Rattle.netset.specs.declared.operations.Operation.{Operation}
-use Rattle.netset.specs.declared.operations.Operation.TheVariants.{Minus, Not}
+use Rattle.netset.specs.declared.input.lines.HostBits.TheVariants.{Refused, Cleared}
+use Rattle.netset.specs.declared.commands.operations.Form.{Form}
+use Rattle.netset.specs.declared.commands.operations.Form.TheVariants.{Networks}
+use Rattle.netset.specs.declared.commands.operations.Operation.{Operation}
+use Rattle.netset.specs.declared.commands.operations.Operation.TheVariants.{Minus, Not}
 use Rattle.netset.specs.Sets.{IsPrinted}
 use Rattle.netset.specs.Single.{SingleRequest, IsNumber, IsSingle, IsSingleAnswer}
-use Rattle.netset.specs.declared.answers.Verdict.{Verdict}
-use Rattle.netset.specs.declared.answers.Verdict.TheVariants.{Yes}
-use Rattle.netset.specs.declared.changes.Sign.{Sign}
+use Rattle.netset.specs.declared.output.answers.Verdict.{Verdict}
+use Rattle.netset.specs.declared.output.answers.Verdict.TheVariants.{Yes}
+use Rattle.netset.specs.declared.commands.changes.Sign.{Sign}
 
 -- a command and its arguments
 pub data Request : Type 0 where

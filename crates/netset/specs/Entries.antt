@@ -5,7 +5,7 @@ use Rattle.cidr.specs.either.IpText.{IsIpHostText, IsIpHostRefused, ip_host_text
 use Rattle.cidr.specs.texts.Printed.{plain_host_text}
 use Rattle.cidr.specs.declared.inet.combined.IpInet.{IpInet}
 use Rattle.netset.specs.Lists.{Text, lines_of, IsField}
-use Rattle.netset.specs.declared.entries.Entry.{Entry}
+use Rattle.netset.specs.declared.input.entries.Entry.{Entry}
 use Rattle.netset.specs.declared.errors.LineError.{LineError}
 use Rattle.netset.specs.declared.errors.LineError.TheVariants.{NotUtf8, NoNetwork, NoAddress, TwoFamilies, Reversed}
 use Rattle.netset.specs.declared.errors.ReadError.{ReadError}

@@ -17,15 +17,15 @@ use Rattle.cidr_io.specs.declared.sink.OutputFailed.{OutputFailed}
 use Rattle.netset.specs.Entries.{AreAllEntries}
 use Rattle.netset.specs.Lists.{Text}
 use Rattle.netset.specs.Printing.{line}
-use Rattle.netset.specs.declared.answers.Verdict.{Verdict}
-use Rattle.netset.specs.declared.answers.Verdict.TheVariants.{Yes, No}
-use Rattle.netset.specs.declared.entries.Entry.{Entry}
-use Rattle.netset.specs.declared.entries.Place.{Place}
-use Rattle.netset.specs.declared.findings.Finding.{Finding}
-use Rattle.netset.specs.declared.findings.Finding.TheVariants.{HostBits, NotCanonical, Repeats, Inside, Mergeable}
-use Rattle.netset.specs.declared.findings.Kind.{Kind}
-use Rattle.netset.specs.declared.findings.Kind.TheVariants as kind
-use Rattle.netset.specs.declared.findings.Note.{Note}
+use Rattle.netset.specs.declared.output.answers.Verdict.{Verdict}
+use Rattle.netset.specs.declared.output.answers.Verdict.TheVariants.{Yes, No}
+use Rattle.netset.specs.declared.input.entries.Entry.{Entry}
+use Rattle.netset.specs.declared.input.entries.Place.{Place}
+use Rattle.netset.specs.declared.commands.findings.Finding.{Finding}
+use Rattle.netset.specs.declared.commands.findings.Finding.TheVariants.{HostBits, NotCanonical, Repeats, Inside, Mergeable}
+use Rattle.netset.specs.declared.commands.findings.Kind.{Kind}
+use Rattle.netset.specs.declared.commands.findings.Kind.TheVariants as kind
+use Rattle.netset.specs.declared.commands.findings.Note.{Note}
 
 -- the network of an entry
 abbrev pub entry_network : Entry → IpCidr

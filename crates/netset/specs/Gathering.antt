@@ -9,14 +9,14 @@ use Rattle.netset.specs.Matching.{ArePicked, FieldSays, IsBadField, IsCutAt, IsM
 use Rattle.netset.specs.Printing.{line}
 use Rattle.netset.specs.Program.{by_output}
 use Rattle.netset.specs.Streaming.{IsCutShort}
-use Rattle.netset.specs.declared.answers.Verdict.{Verdict}
-use Rattle.netset.specs.declared.answers.Verdict.TheVariants.{Yes, No}
+use Rattle.netset.specs.declared.output.answers.Verdict.{Verdict}
+use Rattle.netset.specs.declared.output.answers.Verdict.TheVariants.{Yes, No}
 use Rattle.netset.specs.declared.errors.CommandError.{CommandError}
 use Rattle.netset.specs.declared.errors.CommandError.TheVariants as error
 use Rattle.netset.specs.declared.errors.LineError.{LineError}
-use Rattle.netset.specs.declared.matching.Gathered.{Gathered}
-use Rattle.netset.specs.declared.matching.Written.{Written}
-use Rattle.netset.specs.declared.matching.Written.TheVariants as written
+use Rattle.netset.specs.declared.commands.matching.Gathered.{Gathered}
+use Rattle.netset.specs.declared.commands.matching.Written.{Written}
+use Rattle.netset.specs.declared.commands.matching.Written.TheVariants as written
 
 -- what the first field of a line says, or its error
 abbrev pub ReadsField : List ℕ → Result (Option IpCidr) LineError → Type 0

@@ -12,19 +12,19 @@ use Rattle.netset.specs.Lists.{Text, IsContent, IsField, IsInError, LineSays, li
 use Rattle.netset.specs.Look.{IsBadRow, RowSays}
 use Rattle.netset.specs.LookUps.{AddsRow, Stores}
 use Rattle.netset.specs.Reading.{AddsLine, IsStopped, listed}
-use Rattle.netset.specs.declared.entries.Entry.{Entry}
+use Rattle.netset.specs.declared.input.entries.Entry.{Entry}
 use Rattle.netset.specs.declared.errors.CommandError.{CommandError}
 use Rattle.netset.specs.declared.errors.CommandError.TheVariants as error
 use Rattle.netset.specs.declared.errors.LineError.{LineError}
 use Rattle.netset.specs.declared.errors.LineError.TheVariants.{NotUtf8, NoNetwork, NoAddress, TwoFamilies, Reversed}
 use Rattle.netset.specs.declared.errors.ReadError.{ReadError}
-use Rattle.netset.specs.declared.keeping.Kept.{Kept}
-use Rattle.netset.specs.declared.keeping.Kind.{Kind}
-use Rattle.netset.specs.declared.keeping.Kind.TheVariants as kind
-use Rattle.netset.specs.declared.keeping.Said.{Said}
-use Rattle.netset.specs.declared.keeping.Said.TheVariants.{Networks, Hosts, Rows}
-use Rattle.netset.specs.declared.lines.Content.{Content}
-use Rattle.netset.specs.declared.lines.HostBits.{HostBits}
+use Rattle.netset.specs.declared.input.keeping.Kept.{Kept}
+use Rattle.netset.specs.declared.input.keeping.Kind.{Kind}
+use Rattle.netset.specs.declared.input.keeping.Kind.TheVariants as kind
+use Rattle.netset.specs.declared.input.keeping.Said.{Said}
+use Rattle.netset.specs.declared.input.keeping.Said.TheVariants.{Networks, Hosts, Rows}
+use Rattle.netset.specs.declared.input.lines.Content.{Content}
+use Rattle.netset.specs.declared.input.lines.HostBits.{HostBits}
 
 -- what the lines of the lists of a request are
 abbrev pub kind_of : Request → Kind

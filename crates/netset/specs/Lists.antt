@@ -25,10 +25,10 @@ use Rattle.cidr_sets.specs.Ranges.{IsBetween}
 use Rattle.cidr_sets.specs.Sets.{IsSetOf}
 use Rattle.netset.specs.declared.errors.LineError.{LineError}
 use Rattle.netset.specs.declared.errors.LineError.TheVariants.{NotUtf8, NoNetwork, NoAddress, TwoFamilies, Reversed}
-use Rattle.netset.specs.declared.lines.HostBits.{HostBits}
-use Rattle.netset.specs.declared.lines.HostBits.TheVariants.{Refused, Cleared}
-use Rattle.netset.specs.declared.lines.Content.{Content}
-use Rattle.netset.specs.declared.lines.Content.TheVariants.{Blank, Network, Ipv4Range, Ipv6Range}
+use Rattle.netset.specs.declared.input.lines.HostBits.{HostBits}
+use Rattle.netset.specs.declared.input.lines.HostBits.TheVariants.{Refused, Cleared}
+use Rattle.netset.specs.declared.input.lines.Content.{Content}
+use Rattle.netset.specs.declared.input.lines.Content.TheVariants.{Blank, Network, Ipv4Range, Ipv6Range}
 
 -- # or ;
 abbrev pub is_comment_sign : ℕ → Bool

@@ -5,8 +5,8 @@ use Rattle.netset.specs.Commands.{AreTold}
 use Rattle.netset.specs.Keeping.{AreKept, AreTellings, HasTold, IsAny, IsBegun, IsLoadError}
 use Rattle.netset.specs.Lists.{Text}
 use Rattle.netset.specs.declared.errors.CommandError.{CommandError}
-use Rattle.netset.specs.declared.keeping.Kept.{Kept}
-use Rattle.netset.specs.declared.keeping.Kind.{Kind}
+use Rattle.netset.specs.declared.input.keeping.Kept.{Kept}
+use Rattle.netset.specs.declared.input.keeping.Kind.{Kind}
 
 -- lists were read, and their lines in error told; where there is none, this is what they say
 abbrev pub IsLoaded : (List ℕ → Option Text) → Kind → List (List ℕ) → State → State → List Kept → Bool → Type 0

@@ -16,13 +16,13 @@ use Rattle.cidr_table.specs.LastRows.{AreLastRows}
 use Rattle.cidr_table.specs.Prefixes.{IsLookedUp}
 use Rattle.netset.specs.Lists.{Text, IsField, IsFirstField, SaysNothing, IsNetworkBy, IsNoAddress, IsNoNetworkBy, lines_of}
 use Rattle.netset.specs.Streaming.{IsCut}
-use Rattle.netset.specs.declared.answers.Verdict.{Verdict}
-use Rattle.netset.specs.declared.answers.Verdict.TheVariants.{Yes, No}
+use Rattle.netset.specs.declared.output.answers.Verdict.{Verdict}
+use Rattle.netset.specs.declared.output.answers.Verdict.TheVariants.{Yes, No}
 use Rattle.netset.specs.declared.errors.CommandError.{CommandError}
 use Rattle.netset.specs.declared.errors.CommandError.TheVariants as error
 use Rattle.netset.specs.declared.errors.LineError.{LineError}
 use Rattle.netset.specs.declared.errors.LineError.TheVariants.{NotUtf8, NoNetwork, NoAddress}
-use Rattle.netset.specs.declared.lines.HostBits.{HostBits}
+use Rattle.netset.specs.declared.input.lines.HostBits.{HostBits}
 
 -- ---- lines
 -- the first field of a string, up to white space, and the rest without white space at both ends

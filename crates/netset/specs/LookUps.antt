@@ -13,19 +13,19 @@ use Rattle.cidr_table.specs.Prefixes.{IsLookedUp}
 use Rattle.cidr_io.specs.Collecting.{Collects}
 use Rattle.netset.specs.Lists.{Text, lines_of}
 use Rattle.netset.specs.Look.{IsBadLine, IsBadRow, IsTable, IsUnreadTable, LineLooks, LookUp, RowSays, found_line, is_found, look_line, row_in, rows_in}
-use Rattle.netset.specs.declared.answers.Verdict.{Verdict}
-use Rattle.netset.specs.declared.answers.Verdict.TheVariants.{Yes, No}
+use Rattle.netset.specs.declared.output.answers.Verdict.{Verdict}
+use Rattle.netset.specs.declared.output.answers.Verdict.TheVariants.{Yes, No}
 use Rattle.netset.specs.declared.errors.CommandError.{CommandError}
 use Rattle.netset.specs.declared.errors.CommandError.TheVariants as error
 use Rattle.netset.specs.declared.errors.LineError.{LineError}
-use Rattle.netset.specs.declared.lines.HostBits.{HostBits}
+use Rattle.netset.specs.declared.input.lines.HostBits.{HostBits}
 use Rattle.netset.specs.declared.errors.ReadError.{ReadError}
 use Rattle.netset.specs.declared.errors.ReadError.TheVariants.{Line, Input, NoMemory}
-use Rattle.netset.specs.declared.look.LookError.{LookError}
-use Rattle.netset.specs.declared.look.LookError.TheVariants.{Reading, Output}
-use Rattle.netset.specs.declared.rows.Rows.{Rows}
-use Rattle.netset.specs.declared.rows.Span.{Span}
-use Rattle.netset.specs.declared.table.Table.{Table}
+use Rattle.netset.specs.declared.commands.look.LookError.{LookError}
+use Rattle.netset.specs.declared.commands.look.LookError.TheVariants.{Reading, Output}
+use Rattle.netset.specs.declared.input.rows.Rows.{Rows}
+use Rattle.netset.specs.declared.input.rows.Span.{Span}
+use Rattle.netset.specs.declared.input.table.Table.{Table}
 
 -- the bytes of a value among those of all values
 abbrev pub value_at : List ℕ → Span → List ℕ

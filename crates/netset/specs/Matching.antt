@@ -15,13 +15,13 @@ use Rattle.netset.specs.Look.{IsNoNetworkField}
 use Rattle.netset.specs.Printing.{line}
 use Rattle.netset.specs.Streaming.{IsCut, ReadTo}
 use Rattle.netset.specs.Words.{words_of, IsBare}
-use Rattle.netset.specs.declared.answers.Verdict.{Verdict}
-use Rattle.netset.specs.declared.answers.Verdict.TheVariants.{Yes, No}
+use Rattle.netset.specs.declared.output.answers.Verdict.{Verdict}
+use Rattle.netset.specs.declared.output.answers.Verdict.TheVariants.{Yes, No}
 use Rattle.netset.specs.declared.errors.CommandError.{CommandError}
 use Rattle.netset.specs.declared.errors.LineError.{LineError}
-use Rattle.netset.specs.declared.lines.HostBits.TheVariants.{Refused}
-use Rattle.netset.specs.declared.matching.Written.{Written}
-use Rattle.netset.specs.declared.matching.Written.TheVariants as written
+use Rattle.netset.specs.declared.input.lines.HostBits.TheVariants.{Refused}
+use Rattle.netset.specs.declared.commands.matching.Written.{Written}
+use Rattle.netset.specs.declared.commands.matching.Written.TheVariants as written
 
 -- ---- options
 -- the word is this one

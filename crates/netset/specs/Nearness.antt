@@ -9,8 +9,8 @@ use Rattle.cidr.specs.declared.cidr.combined.IpCidr.{IpCidr}
 use Rattle.cidr.specs.declared.cidr.combined.IpCidr.TheVariants.{V4, V6}
 use Rattle.cidr_ext.specs.Tree.{AreSiblings}
 use Rattle.netset.specs.Findings.{AreHalves, AreInside, IsInside}
-use Rattle.netset.specs.declared.near.Near.{Near}
-use Rattle.netset.specs.declared.near.Numbered.{Numbered}
+use Rattle.netset.specs.declared.commands.near.Near.{Near}
+use Rattle.netset.specs.declared.commands.near.Numbered.{Numbered}
 
 -- ---- of networks
 -- this is the first index of the network

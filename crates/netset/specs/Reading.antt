@@ -11,9 +11,9 @@ use Rattle.netset.specs.Lists.{Text, IsField, IsContent, IsFieldError, AreNetwor
 use Rattle.netset.specs.declared.errors.LineError.{LineError}
 use Rattle.netset.specs.declared.errors.ReadError.{ReadError}
 use Rattle.netset.specs.declared.errors.ReadError.TheVariants.{Line, Input, NoMemory}
-use Rattle.netset.specs.declared.lines.Content.{Content}
-use Rattle.netset.specs.declared.lines.HostBits.{HostBits}
-use Rattle.netset.specs.declared.lists.Lists.{Lists}
+use Rattle.netset.specs.declared.input.lines.Content.{Content}
+use Rattle.netset.specs.declared.input.lines.HostBits.{HostBits}
+use Rattle.netset.specs.declared.input.lists.Lists.{Lists}
 
 -- what a field says, or its error
 abbrev pub ReadsField : HostBits → List ℕ → Result Content LineError → Type 0

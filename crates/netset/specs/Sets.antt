@@ -13,9 +13,9 @@ use Rattle.cidr_io.specs.Writing.{State, Answered}
 use Rattle.cidr_io.specs.declared.sink.OutputFailed.{OutputFailed}
 use Rattle.cidr_sets.specs.Counts.{HaveCount}
 use Rattle.cidr_sets.specs.Ranges.{AreRanges}
-use Rattle.netset.specs.declared.operations.Form.{Form}
-use Rattle.netset.specs.declared.operations.Form.TheVariants.{Networks, Ranges, Counts}
-use Rattle.netset.specs.declared.sets.Sets.{Sets}
+use Rattle.netset.specs.declared.commands.operations.Form.{Form}
+use Rattle.netset.specs.declared.commands.operations.Form.TheVariants.{Networks, Ranges, Counts}
+use Rattle.netset.specs.declared.output.sets.Sets.{Sets}
 
 -- the networks of a family, one a line, in their order
 abbrev pub printed_networks : Family → List (List Bool) → List ℕ

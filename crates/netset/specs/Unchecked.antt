@@ -3,7 +3,7 @@ use Rattle.std.specs.Prelude.{◌≡◌, ℕ, List, ◌∷◌, ◌++◌, Option,
 use Rattle.netset.specs.Commands.{AreTold}
 use Rattle.netset.specs.Entries.{AreAllEntries, HasAdded, IsFirstFault}
 use Rattle.netset.specs.Lists.{Text, lines_of}
-use Rattle.netset.specs.declared.entries.Entry.{Entry}
+use Rattle.netset.specs.declared.input.entries.Entry.{Entry}
 use Rattle.netset.specs.declared.errors.CommandError.{CommandError}
 use Rattle.netset.specs.declared.errors.CommandError.TheVariants as error
 

@@ -7,9 +7,22 @@ ghost use Rattle.netset.specs.Command.{AreMisfits, IsNoLoneWord, has_reading_opt
 ghost use Rattle.netset.specs.Combining.{name_of};
 ghost use Rattle.netset.specs.Matching.{is_match_option, is_word};
 
-use crate::lines::HostBits;
-use crate::operations::{Operation, operation_of, takes};
-use crate::single::{Single, single_of};
+pub mod changes;
+pub mod check;
+pub mod combine;
+pub mod findings;
+pub mod free;
+pub mod inside;
+pub mod look;
+pub mod matching;
+pub mod near;
+pub mod operations;
+pub mod single;
+pub mod words;
+
+use crate::commands::operations::{Operation, operation_of, takes};
+use crate::commands::single::{Single, single_of};
+use crate::input::lines::HostBits;
 
 /// A command and its arguments.
 #[derive(Clone, Copy)]

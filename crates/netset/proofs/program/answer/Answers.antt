@@ -2,7 +2,7 @@ use Rattle.std.proofs.Common.{inr, refl}
 use Rattle.netset.specs.Causes.{MayFail}
 use Rattle.netset.specs.Command.{single_request}
 use Rattle.netset.specs.Commands.{help_text, version_text}
-use Rattle.netset.specs.declared.answers.Verdict.TheVariants.{Yes}
+use Rattle.netset.specs.declared.output.answers.Verdict.TheVariants.{Yes}
 use Rattle.netset.proofs.Causes.{output_cause, single_cause}
 use Rattle.netset.proofs.program.answer.Goals as goal
 

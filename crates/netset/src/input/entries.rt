@@ -1,0 +1,267 @@
+//! The lines of lists that have a network or a host.
+ghost use Rattle.std.specs.Prelude.{◌≡◌, ◌<◌, ◌∷◌, ◌++◌, ◌↔◌, true, IfErr, IfSome, IsTrue, List, MatchResult, OnErr, OnOk, Some, length, map, slice_get, ℕ};
+ghost use Rattle.std.specs.Bool.{Decides};
+ghost use Rattle.cidr.specs.either.IpText.{IsIpHostText, ip_host_text};
+ghost use Rattle.cidr.specs.texts.HostText.{IsHostText};
+ghost use Rattle.cidr.specs.texts.Printed.{length_text, plain_host_text};
+ghost use Rattle.cidr.specs.declared.family.Family.TheVariants.{Ipv4};
+ghost use Rattle.netset.specs.Causes.{Cause, MayFail, ReadCause, TextFails};
+ghost use Rattle.netset.specs.Commands.{read_files};
+ghost use Rattle.netset.specs.Entries.{AddsEntries, AddsEntry, CopiesEntries, ReadsEntry};
+ghost use Rattle.netset.specs.Unchecked.{AddsFileEntries, AreToldEntries, IsUnchecked};
+
+use crate::errors::{CommandError, LineError, ReadError};
+use crate::input::files::Sources;
+use crate::input::keeping::Said;
+use crate::input::lines::without_comment;
+use cidr::{IpInet, Ipv4Inet};
+use cidr_io::lines::LineReader;
+use cidr_io::memory::Memory;
+use cidr_io::source::Source;
+use std::alloc::AllocError;
+
+/// Where a line stands.
+#[derive(Clone, Copy, Debug)]
+pub struct Place<'a> {
+    /// The name of the file.
+    pub file: &'a str,
+    /// The number of the line, from 1 on.
+    pub number: u64,
+}
+
+/// A line that has a network or a host.
+#[derive(Clone, Copy, Debug)]
+pub struct Entry<'a> {
+    pub place: Place<'a>,
+    /// The host; a network is the host at its first address.
+    pub host: IpInet,
+    /// Whether the field is what is printed of the host.
+    pub is_canonical: bool,
+}
+
+/// The line at an index.
+pub fn entry_at<'e, 'a>(entries: &'e [Entry<'a>], index: usize) -> &'e Entry<'a>
+    requires { index < length entries.now }
+    ensures { slice_get entries.now index ≡ Some result.now }
+{
+    &entries[index]
+}
+
+/// Whether a string ends in a slash and this prefix length.
+fn ends_in_length(text: &[u8], len: u8) -> bool
+    requires { len < 100 }
+    ensures { Decides result ((front : List ℕ) × (text.now ≡ front ++ length_text len)) }
+{
+    if len < 10 {
+        return text.ends_with(&[b'/', b'0' + len]);
+    }
+    text.ends_with(&[b'/', b'0' + len / 10, b'0' + len % 10])
+}
+
+/// Whether a string that represents the host is what is printed of it. An IPv4 address has one string, so that the
+/// prefix length decides.
+fn is_plain_ipv4(text: &str, host: &Ipv4Inet) -> bool
+    requires { IsHostText Ipv4 text.now host.now }
+    ensures { IsTrue result ↔ (text.now ≡ plain_host_text Ipv4 host.now) }
+{
+    let len = host.network_length();
+    if len < 32 {
+        return ends_in_length(text.as_bytes(), len);
+    }
+    let Some((_front, _back)) = text.split_once('/') else {
+        return true;
+    };
+    false
+}
+
+/// Whether a string that represents the host is what is printed of it.
+fn is_plain(text: &str, host: &IpInet) -> bool
+    requires { IsIpHostText text.now host.now }
+    ensures { IsTrue result ↔ (text.now ≡ ip_host_text plain_host_text host.now) }
+{
+    match host {
+        IpInet::V4(host) => is_plain_ipv4(text, host),
+        IpInet::V6(_) => text == host.to_text().as_str(),
+    }
+}
+
+/// The entry that a line has; `None` for a line that says nothing.
+pub fn entry_of<'a>(place: Place<'a>, line: &[u8]) -> Result<Option<Entry<'a>>, LineError>
+    ensures { ReadsEntry place.entry.file.now place.entry.number line.now result }
+{
+    let field = without_comment(line).trim_ascii();
+    if field.is_empty() {
+        return Ok(None);
+    }
+    let Ok(text) = str::from_utf8(field) else {
+        return Err(LineError::NotUtf8);
+    };
+    match text.parse::<IpInet>() {
+        Ok(host) => Ok(Some(Entry {
+            place,
+            host,
+            is_canonical: is_plain(text, &host),
+        })),
+        Err(e) => Err(LineError::NoNetwork(e)),
+    }
+}
+
+/// Adds the entry that a line has, if it has one.
+pub fn add_line<'a, M: Memory>(
+    memory: &mut M,
+    place: Place<'a>,
+    line: &[u8],
+    entries: &mut Vec<Entry<'a>>,
+) -> Result<(), ReadError>
+    ensures adds { AddsEntry place.entry.file.now place.entry.number line.now entries.old.items entries.new.items result }
+    ensures cause { IfErr result (ReadCause ⊥ (M.refused memory.new)) }
+{
+    match entry_of(place, line) {
+        Ok(Some(entry)) => {
+            memory.push(entries, entry)?;
+            Ok(())
+        }
+        Ok(None) => Ok(()),
+        Err(e) => Err(ReadError::Line(place.number, e)),
+    }
+}
+
+/// Reads a list to its end or to its first line in error, and adds its entries.
+fn add_lines<'a, M: Memory, S: Source + Drop>(
+    memory: &mut M,
+    reader: &mut LineReader<S>,
+    file: &'a str,
+    entries: &mut Vec<Entry<'a>>,
+) -> Result<(), ReadError>
+    ensures adds { IfSome reader.old.left
+        (λ text. AddsEntries file.now text entries.old.items entries.new.items result) }
+    ensures cause { IfErr result (ReadCause (TextFails reader.old.left) (M.refused memory.new)) }
+{
+    for number in 1..u64::MAX {
+        let has_more = reader.read_line(memory)?;
+        add_line(memory, Place { file, number }, reader.line(), entries)?;
+        if !has_more {
+            return Ok(());
+        }
+    }
+    Err(ReadError::Input)
+}
+
+/// Reads a list in blocks, to its end or to its first line in error, and adds its entries.
+fn add_list<'a, M: Memory, S: Source + Drop>(
+    memory: &mut M,
+    source: S,
+    file: &'a str,
+    entries: &mut Vec<Entry<'a>>,
+) -> Result<(), ReadError>
+    ensures adds { IfSome (S.left source)
+        (λ text. AddsEntries file.now text entries.old.items entries.new.items result) }
+    ensures cause { IfErr result (ReadCause (TextFails (S.left source)) (M.refused memory.new)) }
+{
+    let mut reader = LineReader::new(memory, source)?;
+    add_lines(memory, &mut reader, file, entries)
+}
+
+/// Reads the list of a file, and adds its entries.
+fn add_opened<'a, M: Memory, F: Sources>(
+    memory: &mut M,
+    sources: &F,
+    file: &'a str,
+    entries: &mut Vec<Entry<'a>>,
+) -> Result<(), CommandError<'a>>
+    ensures adds { AddsFileEntries (F.told sources.now file.now) file.now entries.old.items entries.new.items result }
+    ensures cause { IfErr result (Cause (MayFail (F.told sources.now)) (M.refused memory.new)) }
+{
+    let Some(reader) = sources.open(file) else {
+        return Err(CommandError::Input(file));
+    };
+    match add_list(memory, reader, file, entries) {
+        Ok(()) => Ok(()),
+        Err(ReadError::Line(number, e)) => Err(CommandError::Line(file, number, e)),
+        Err(ReadError::Input) => Err(CommandError::Input(file)),
+        Err(ReadError::NoMemory) => Err(CommandError::NoMemory),
+    }
+}
+
+/// Adds entries of a file of no name as those of a file.
+fn add_kept<'a, M: Memory>(
+    memory: &mut M,
+    file: &'a str,
+    kept: &[Entry<'_>],
+    entries: &mut Vec<Entry<'a>>,
+) -> Result<(), AllocError>
+    ensures added { OnOk result (CopiesEntries file.now kept.now entries.old.items entries.new.items) }
+    ensures refused { OnErr result (M.refused memory.new ≡ true) }
+{
+    for entry in kept {
+        let place = Place {
+            file,
+            number: entry.place.number,
+        };
+        memory.push(
+            entries,
+            Entry {
+                place,
+                host: entry.host,
+                is_canonical: entry.is_canonical,
+            },
+        )?;
+    }
+    Ok(())
+}
+
+/// Adds the entries of the list of a file, which is read unless it is read already.
+fn add_file<'a, M: Memory, F: Sources>(
+    memory: &mut M,
+    sources: &F,
+    file: &'a str,
+    entries: &mut Vec<Entry<'a>>,
+) -> Result<(), CommandError<'a>>
+    ensures adds { AddsFileEntries (F.told sources.now file.now) file.now entries.old.items entries.new.items result }
+    ensures cause { IfErr result (Cause (MayFail (F.told sources.now)) (M.refused memory.new)) }
+{
+    match sources.kept(file) {
+        Some(Said::Hosts(kept)) => {
+            add_kept(memory, file, kept.as_slice(), entries)?;
+            Ok(())
+        }
+        _ => add_opened(memory, sources, file, entries),
+    }
+}
+
+/// The entries of the lists of a file and of others.
+fn read_named<'a, M: Memory, F: Sources>(
+    memory: &mut M,
+    sources: &F,
+    file: &'a str,
+    files: &[&'a str],
+) -> Result<Vec<Entry<'a>>, CommandError<'a>>
+    ensures reads { MatchResult result
+        (λ entries. AreToldEntries (F.told sources.now) (file.now ∷ map (λ file. file.now) files.now) entries.items)
+        (IsUnchecked (F.told sources.now) (file.now ∷ map (λ file. file.now) files.now)) }
+    ensures cause { IfErr result (Cause (MayFail (F.told sources.now)) (M.refused memory.new)) }
+{
+    let mut entries = Vec::new(memory.alloc());
+    add_file(memory, sources, file, &mut entries)?;
+    for other in files {
+        add_file(memory, sources, other, &mut entries)?;
+    }
+    Ok(entries)
+}
+
+/// The entries of the lists of a command's files: of the standard input, if none is named.
+pub fn read_entries<'a, M: Memory, F: Sources>(
+    memory: &mut M,
+    sources: &F,
+    files: &[&'a str],
+) -> Result<Vec<Entry<'a>>, CommandError<'a>>
+    ensures reads { MatchResult result
+        (λ entries. AreToldEntries (F.told sources.now) (read_files (map (λ file. file.now) files.now)) entries.items)
+        (IsUnchecked (F.told sources.now) (read_files (map (λ file. file.now) files.now))) }
+    ensures cause { IfErr result (Cause (MayFail (F.told sources.now)) (M.refused memory.new)) }
+{
+    match files.split_first() {
+        Some((file, files)) => read_named(memory, sources, file, files),
+        None => read_named(memory, sources, "-", &[]),
+    }
+}

@@ -1,0 +1,325 @@
+//! Telling every line in error of the lists of a command, in the pass that reads them.
+ghost use Rattle.std.specs.Prelude.{◌≡◌, ◌++◌, ℕ, List, Option, Some, map, MatchResult, IfErr, IfOk, IfSome, OnErr, true};
+ghost use Rattle.netset.specs.Causes.{Cause, MayFail, ReadCause, TextFails};
+ghost use Rattle.netset.specs.Command.{request_of};
+ghost use Rattle.netset.specs.Commands.{lists_of, others_of};
+ghost use Rattle.netset.specs.Keeping.{AddsBy, AllSaid, AreKept, IsNone, KeepsLine, KeepsLines, KeepsList, kind_of};
+ghost use Rattle.netset.specs.Lists.{Text, lines_of};
+ghost use Rattle.netset.specs.Loading.{IsLoaded, IsUnloaded};
+
+use crate::commands::Command;
+use crate::errors::{CommandError, ReadError};
+use crate::input::entries::{self, Entry, Place};
+use crate::input::files::Sources;
+use crate::input::lines::HostBits;
+use crate::input::lists::Lists;
+use crate::input::rows::Rows;
+use crate::input::table::unread;
+use crate::output::report::say_fault;
+use cidr_io::block::Block;
+use cidr_io::lines::LineReader;
+use cidr_io::memory::Memory;
+use cidr_io::sink::Sink;
+use cidr_io::source::Source;
+use std::alloc::{AllocError, Global};
+use std::marker::Model;
+
+/// What the lines of a list are.
+#[derive(Clone, Copy, Debug, Drop, PartialEq)]
+pub enum Kind {
+    /// Networks, addresses and ranges.
+    Networks,
+    /// Networks and hosts.
+    Hosts,
+    /// Networks, each with a value.
+    Rows,
+}
+
+/// What the lines of a list say, those in error left out.
+#[derive(Drop)]
+pub enum Said {
+    Networks(Lists),
+    /// Each entry stands in a file of no name.
+    Hosts(Vec<Entry<'static>>),
+    Rows(Rows),
+}
+
+impl Said {
+    /// What no lines say.
+    fn new(alloc: Global, kind: Kind) -> Said
+        ensures { IsNone kind result }
+    {
+        match kind {
+            Kind::Networks => Said::Networks(Lists::new(alloc)),
+            Kind::Hosts => Said::Hosts(Vec::new(alloc)),
+            Kind::Rows => Said::Rows(Rows::new(alloc)),
+        }
+    }
+
+    /// Adds what a line says.
+    fn add_line<M: Memory>(
+        &mut self,
+        memory: &mut M,
+        host_bits: HostBits,
+        number: u64,
+        line: &[u8],
+    ) -> Result<(), ReadError>
+        ensures adds { AddsBy host_bits line.now number self.old self.new result }
+        ensures cause { IfErr result (ReadCause ⊥ (M.refused memory.new)) }
+    {
+        match self {
+            Said::Networks(lists) => lists.add_line(memory, host_bits, number, line),
+            Said::Hosts(hosts) => {
+                entries::add_line(memory, Place { file: "", number }, line, hosts)
+            }
+            Said::Rows(rows) => rows.add_line(memory, host_bits, number, line),
+        }
+    }
+}
+
+/// Adds what a line says, or tells its error; tells whether it is in error.
+fn keep_line<M: Memory, E: Sink>(
+    memory: &mut M,
+    host_bits: HostBits,
+    place: Place<'_>,
+    line: &[u8],
+    said: &mut Said,
+    block: &mut Block,
+    err: &mut E,
+) -> Result<bool, ReadError>
+    ensures keeps { KeepsLine host_bits place.entry.file.now place.entry.number line.now said.old said.new
+        (E.state err.old) block.old (E.state err.new) block.new result }
+    ensures cause { IfErr result (ReadCause ⊥ (M.refused memory.new)) }
+{
+    match said.add_line(memory, host_bits, place.number, line) {
+        Ok(()) => Ok(false),
+        Err(ReadError::Line(_, e)) => {
+            say_fault(block, err, place.file, place.number, &e);
+            Ok(true)
+        }
+        Err(ReadError::Input) => Err(ReadError::Input),
+        Err(ReadError::NoMemory) => Err(ReadError::NoMemory),
+    }
+}
+
+/// Reads the lines of a list to its end, and tells those in error: what the others say, and whether one is in error.
+fn keep_lines<M: Memory, S: Source + Drop, E: Sink>(
+    memory: &mut M,
+    kind: Kind,
+    host_bits: HostBits,
+    file: &str,
+    reader: &mut LineReader<S>,
+    block: &mut Block,
+    err: &mut E,
+) -> Result<(Said, bool), ReadError>
+    ensures keeps { KeepsLines kind host_bits file.now reader.old.left
+        (E.state err.old) block.old (E.state err.new) block.new result }
+    ensures cause { IfErr result (ReadCause (TextFails reader.old.left) (M.refused memory.new)) }
+{
+    let mut said = Said::new(memory.alloc(), kind);
+    let mut found = false;
+    for number in 1..u64::MAX {
+        let has_more = reader.read_line(memory)?;
+        let place = Place { file, number };
+        let is_bad = keep_line(
+            memory,
+            host_bits,
+            place,
+            reader.line(),
+            &mut said,
+            block,
+            err,
+        )?;
+        found |= is_bad;
+        if !has_more {
+            return Ok((said, found));
+        }
+    }
+    Err(ReadError::Input)
+}
+
+/// Reads a list to its end, and tells its lines in error: what the others say, and whether one is in error.
+fn keep_list<'a, M: Memory, F: Sources, E: Sink>(
+    memory: &mut M,
+    sources: &F,
+    kind: Kind,
+    file: &'a str,
+    err: &mut E,
+) -> Result<(Said, bool), CommandError<'a>>
+    ensures keeps { KeepsList (F.told sources.now file.now) kind file.now (E.state err.old) (E.state err.new) result }
+    ensures cause { IfErr result (Cause (MayFail (F.told sources.now)) (M.refused memory.new)) }
+{
+    let Some(source) = sources.open(file) else {
+        return Err(CommandError::Input(file));
+    };
+    let Ok(mut reader) = LineReader::new(memory, source) else {
+        return Err(CommandError::NoMemory);
+    };
+    let mut block = Block::new();
+    let kept = keep_lines(
+        memory,
+        kind,
+        sources.host_bits(),
+        file,
+        &mut reader,
+        &mut block,
+        err,
+    );
+    block.end(err);
+    match kept {
+        Ok(kept) => Ok(kept),
+        Err(e) => Err(unread(file, e)),
+    }
+}
+
+impl<'a> Command<'a> {
+    /// The lists that are read.
+    pub fn lists<M: Memory>(&self, memory: &mut M) -> Result<Vec<&'a str>, AllocError>
+        ensures names { IfOk result (λ names. map (λ name. name.now) names.items ≡ lists_of (request_of self.now)) }
+        ensures refused { OnErr result (M.refused memory.new ≡ true) }
+    {
+        let listed = self.list_names(memory.alloc());
+        memory.watch(listed)
+    }
+
+    /// The lists that are read.
+    fn list_names(&self, alloc: Global) -> Result<Vec<&'a str>, AllocError>
+        ensures { IfOk result (λ names. map (λ name. name.now) names.items ≡ lists_of (request_of self.now)) }
+    {
+        let mut names = Vec::new(alloc);
+        match self {
+            Command::Lists(_, files) | Command::NotIn(_, files) | Command::Check(files) => {
+                if files.is_empty() {
+                    names.push("-")?;
+                }
+                names.extend_from_slice(files)?;
+            }
+            Command::Diff(old, new) => {
+                names.push(*old)?;
+                names.push(*new)?;
+            }
+            Command::Free(pool, _, used) => {
+                names.push(*pool)?;
+                names.extend_from_slice(used)?;
+            }
+            Command::Match(_, list, _) | Command::Look(list, _) => names.push(*list)?,
+            Command::Single(_) | Command::Help | Command::Version => {}
+        }
+        Ok(names)
+    }
+
+    /// The files that are read: the lists, and another one behind them.
+    pub fn files<M: Memory>(&self, memory: &mut M) -> Result<Vec<&'a str>, AllocError>
+        ensures names { IfOk result (λ names. map (λ name. name.now) names.items
+            ≡ lists_of (request_of self.now) ++ others_of (request_of self.now)) }
+        ensures refused { OnErr result (M.refused memory.new ≡ true) }
+    {
+        let mut names = self.lists(memory)?;
+        match self {
+            Command::Match(_, _, file) | Command::Look(_, file) => memory.push(&mut names, *file)?,
+            _ => {}
+        }
+        Ok(names)
+    }
+
+    /// What the lines of the lists are.
+    pub fn kind(&self) -> Kind
+        ensures { result ≡ kind_of (request_of self.now) }
+    {
+        match self {
+            Command::Check(_) => Kind::Hosts,
+            Command::Look(_, _) => Kind::Rows,
+            _ => Kind::Networks,
+        }
+    }
+}
+
+/// A list that was read whole, and has no line in error.
+#[derive(Drop)]
+pub struct Kept<'a> {
+    pub name: &'a str,
+    pub said: Said,
+}
+
+/// What the first list of this name says.
+fn said_of<'l>(lists: &'l [Kept<'_>], name: &str) -> Option<&'l Said>
+    ensures { IfSome result (λ said. (told : List ℕ → Option Text) → AreKept told lists.now → (text : Text)
+        → told name.now ≡ Some text → AllSaid text.host_bits (lines_of text.bytes) said.now) }
+{
+    for list in lists {
+        if list.name == name {
+            return Some(&list.said);
+        }
+    }
+    None
+}
+
+/// Lists that were read whole, and where files are read from.
+#[derive(Drop)]
+pub struct Loaded<'a, F: Sources> {
+    lists: &'a [Kept<'a>],
+    sources: &'a F,
+}
+
+impl<'a, F: Sources> Model for Loaded<'a, F> {
+    ghost use Rattle.netset.specs.Keeping.{AreKept};
+
+    ghost Value = { F };
+
+    ghost view = { λ l. l.sources.now };
+
+    ghost invariant = { λ l. AreKept (F.told l.sources.now) l.lists.now };
+}
+
+impl<'a, F: Sources> Loaded<'a, F> {
+    /// These lists of these sources.
+    pub fn new(sources: &'a F, lists: &'a [Kept<'a>]) -> Loaded<'a, F>
+        requires { AreKept (F.told sources.now) lists.now }
+        ensures { result ≡ sources.now }
+    {
+        Loaded { lists, sources }
+    }
+}
+
+impl<F: Sources> Sources for Loaded<'_, F> {
+    type Reader = F::Reader;
+
+    ghost told = { λ s. F.told s };
+
+    fn open(&self, name: &str) -> Option<F::Reader> {
+        self.sources.open(name)
+    }
+
+    fn host_bits(&self) -> HostBits {
+        self.sources.host_bits()
+    }
+
+    fn kept(&self, name: &str) -> Option<&Said> {
+        let lists = self.lists;
+        said_of(lists, name)
+    }
+}
+
+/// Reads lists whole, and tells their lines in error, up to the first list that can't be read.
+pub fn load<'a, M: Memory, F: Sources, E: Sink>(
+    memory: &mut M,
+    sources: &F,
+    kind: Kind,
+    names: &[&'a str],
+    err: &mut E,
+) -> Result<(Vec<Kept<'a>>, bool), CommandError<'a>>
+    ensures loads { MatchResult result
+        (λ loaded. IsLoaded (F.told sources.now) kind (map (λ name. name.now) names.now)
+        (E.state err.old) (E.state err.new) loaded.0.items loaded.1)
+        (IsUnloaded (F.told sources.now) kind (map (λ name. name.now) names.now) (E.state err.old) (E.state err.new)) }
+    ensures cause { IfErr result (Cause (MayFail (F.told sources.now)) (M.refused memory.new)) }
+{
+    let mut lists = Vec::new(memory.alloc());
+    let mut found = false;
+    for name in names {
+        let (said, has_fault) = keep_list(memory, sources, kind, name, err)?;
+        found |= has_fault;
+        memory.push(&mut lists, Kept { name, said })?;
+    }
+    Ok((lists, found))
+}

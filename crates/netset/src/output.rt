@@ -1,0 +1,8 @@
+//! What is written: answers, and errors.
+
+pub mod answers;
+pub mod printing;
+pub mod ranges;
+pub mod report;
+pub mod sets;
+pub mod terminal;

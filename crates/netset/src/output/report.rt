@@ -1,0 +1,172 @@
+//! The exit status, and what is written to standard error.
+ghost use Rattle.std.specs.Prelude.{◌≡◌, ◌++◌, Err, List, ℕ};
+ghost use Rattle.std.specs.List.{flat_map};
+ghost use Rattle.cidr_io.specs.Collecting.{Collects, HasSaid};
+ghost use Rattle.cidr_io.specs.Writing.{Answered, Says, State};
+ghost use Rattle.netset.specs.Keeping.{fault_line, line_message};
+ghost use Rattle.netset.specs.Program.{Reports, ReportsUnless, argument_message, error_line, is_closed_pipe, status_of};
+
+use crate::errors::{ArgumentError, CommandError, LineError};
+use crate::output::answers::Verdict;
+use arrayvec::ArrayString;
+use cidr_io::block::Block;
+use cidr_io::sink::{OutputFailed, Sink};
+use itoa::Buffer;
+
+const USAGE: &str =
+    "usage: netset merge|nets|not|ranges|count|check [FILE..] | not --in NET [FILE..] | minus|and A B.. | diff A B | free POOL LEN USED.. | match [--any] [-v] [-c] [-q] LIST [FILE] | look TABLE [FILE] | show HOST | split NET LEN | nth NET INDEX | --help | --version; --host-bits behind a command for lists of networks, -k behind one for lists\n";
+
+/// The longest message of an error.
+const MOST_MESSAGE: usize = 99;
+
+/// The message of a line in error.
+fn message_of(error: &LineError) -> ArrayString<MOST_MESSAGE>
+    ensures { result.bytes ≡ line_message error.now }
+{
+    let mut text = ArrayString::new();
+    match error {
+        LineError::NotUtf8 => text.push_str("not UTF-8"),
+        LineError::NoNetwork(e) => return e.to_text(),
+        LineError::NoAddress(e) => text.push_str(e.to_text().as_str()),
+        LineError::TwoFamilies => text.push_str("the ends of the range are of two families"),
+        LineError::Reversed => text.push_str(
+            "the first address of the range is above the last one",
+        ),
+    }
+    text
+}
+
+/// The message of an argument that is wrong.
+fn argument_message(error: &ArgumentError) -> ArrayString<MOST_MESSAGE>
+    ensures { result.bytes ≡ argument_message error.now }
+{
+    let mut text = ArrayString::new();
+    match error {
+        ArgumentError::Network(e) => return e.to_text(),
+        ArgumentError::Length => text.push_str("no prefix length inside the network"),
+        ArgumentError::Index => text.push_str("no index below 2^128"),
+        ArgumentError::ReadTwice => text.push_str("standard input can be read only once"),
+    }
+    text
+}
+
+/// Appends strings to a block, behind one another.
+fn push_texts<S: Sink>(block: &mut Block, out: &mut S, texts: &[&str]) -> Result<(), OutputFailed>
+    ensures { Collects (S.state out.old) (S.state out.new) block.old block.new (flat_map (λ text. text.now) texts.now) result }
+{
+    for text in texts {
+        block.push(out, text.as_bytes())?;
+    }
+    Ok(())
+}
+
+/// Writes a line of several parts, and flushes. A sink that has failed before gets nothing.
+pub fn write_line<S: Sink>(out: &mut S, parts: &[&str]) -> Result<(), OutputFailed>
+    ensures { Answered (S.state out.old) (S.state out.new) (flat_map (λ part. part.now) parts.now) result }
+{
+    if out.failed() {
+        return Err(OutputFailed);
+    }
+    let mut block = Block::new();
+    push_texts(&mut block, out, parts)?;
+    block.flush(out)
+}
+
+/// Appends the line of a line in error to a block, as far as the sink takes lines.
+pub fn say_fault<E: Sink>(
+    block: &mut Block,
+    err: &mut E,
+    file: &str,
+    number: u64,
+    error: &LineError,
+)
+    ensures { (start : State) (text : List ℕ) → HasSaid start (E.state err.old) block.old text
+        → HasSaid start (E.state err.new) block.new (text ++ fault_line file.now (number, error.now)) }
+{
+    block.say(
+        err,
+        &[
+            file.as_bytes(),
+            b":",
+            Buffer::new().format(number).as_bytes(),
+            b": ",
+            message_of(error).as_str().as_bytes(),
+            b"\n",
+        ],
+    );
+}
+
+/// Writes the line of an error, as far as the sink takes it.
+fn say<E: Sink>(error: &CommandError<'_>, err: &mut E)
+    ensures { Says (E.state err.old) (E.state err.new) (error_line error.now) }
+{
+    let _ = match error {
+        CommandError::Usage => write_line(err, &[USAGE]),
+        CommandError::Argument(text, e) => {
+            write_line(err, &[text, ": ", argument_message(e).as_str(), "\n"])
+        }
+        CommandError::Line(name, number, e) => write_line(
+            err,
+            &[
+                name,
+                ":",
+                Buffer::new().format(*number),
+                ": ",
+                message_of(e).as_str(),
+                "\n",
+            ],
+        ),
+        CommandError::Input(name) => write_line(err, &[name, ": cannot be read\n"]),
+        CommandError::NoMemory => write_line(err, &["no memory\n"]),
+        CommandError::Output => write_line(err, &["output failed\n"]),
+    };
+}
+
+/// Whether the error is that nobody reads the output any more.
+fn is_closed_pipe(closed: bool, error: &CommandError<'_>) -> bool
+    ensures { result ≡ is_closed_pipe closed error.now }
+{
+    match error {
+        CommandError::Output => closed,
+        _ => false,
+    }
+}
+
+/// Writes the line of an error, as far as the sink takes it, unless it is to be silent.
+fn say_unless<E: Sink>(silent: bool, error: &CommandError<'_>, err: &mut E)
+    ensures { ReportsUnless silent error.now (E.state err.old) (E.state err.new) }
+{
+    if !silent {
+        say(error, err);
+    }
+}
+
+/// The exit status of an error.
+fn status_of(error: &CommandError<'_>) -> u8
+    ensures { result ≡ status_of (Err error.now) }
+{
+    match error {
+        CommandError::Usage
+        | CommandError::Argument(_, _)
+        | CommandError::Line(_, _, _)
+        | CommandError::Input(_) => 2,
+        CommandError::NoMemory | CommandError::Output => 3,
+    }
+}
+
+/// Writes the line that belongs to an answer, if there is one, and returns the exit status whatever the sink does: 0
+/// for an answer, 1 for none, no or findings, 2 for usage, a file that can't be read and a line in error, 3 where the output failed or there is no
+/// memory. An output that failed is told unless it is closed: nobody reads it any more.
+pub fn report<E: Sink>(answer: &Result<Verdict, CommandError<'_>>, closed: bool, err: &mut E) -> u8
+    ensures status { result ≡ status_of answer.now }
+    ensures says { Reports closed answer.now (E.state err.old) (E.state err.new) }
+{
+    match answer {
+        Ok(Verdict::Yes) => 0,
+        Ok(Verdict::No) => 1,
+        Err(error) => {
+            say_unless(is_closed_pipe(closed, error), error, err);
+            status_of(error)
+        }
+    }
+}
