@@ -1,5 +1,5 @@
 -- The arguments as commands.
-use Rattle.std.proofs.Common.{◌≡◌, refl, sym, ◌∙◌, ap, ℕ, ◌+◌, ◌<◌, ◌≤◌, suc, cond, Bool, true, false, ◌||◌, List, [], ◌∷◌, length, take, get_or, map, Bor, nat_eq, arith}
+use Rattle.std.proofs.Common.{◌≡◌, refl, sym, ◌∙◌, ap, ℕ, ◌+◌, ◌<◌, ◌≤◌, suc, cond, Bool, true, false, List, [], ◌∷◌, length, take, get_or, map, Bor, nat_eq, arith, ◌||◌}
 use Rattle.std.specs.List.{count_by, list_any}
 use Rattle.std.proofs.lemmas.List.{get_or-map, take_all}
 use Rattle.std.proofs.lemmas.List.Folds.{list_any_at, list_any_more}

@@ -9,7 +9,7 @@ use Rattle.cidr_io.specs.Writing.{State}
 use Rattle.netset.specs.Causes.{Cause, HasTooManyLines, LookCause, MayFail, ReadCause, TextFails}
 use Rattle.netset.specs.Commands.{Single as ASingle}
 use Rattle.netset.specs.Gathering.{IsLost, Stops, ended_by}
-use Rattle.netset.specs.Lists.{Text, lines_of}
+use Rattle.cidr_lists.specs.Lists.{Text, lines_of}
 use Rattle.netset.specs.LookUps.{unread}
 use Rattle.netset.specs.Program.{AnswersRequest, IsBadArgument, by_output}
 use Rattle.netset.specs.Reading.{IsStopped, read_error}
@@ -18,7 +18,7 @@ use Rattle.netset.specs.declared.output.answers.Verdict.{Verdict}
 use Rattle.netset.specs.declared.errors.ArgumentError.{ArgumentError}
 use Rattle.netset.specs.declared.errors.CommandError.{CommandError}
 use Rattle.netset.specs.declared.errors.CommandError.TheVariants as error
-use Rattle.netset.specs.declared.errors.LineError.{LineError}
+use Rattle.cidr_lists.specs.declared.errors.LineError.{LineError}
 use Rattle.netset.specs.declared.errors.ReadError.{ReadError}
 use Rattle.netset.specs.declared.errors.ReadError.TheVariants.{Line, Input, NoMemory}
 use Rattle.netset.specs.declared.commands.look.LookError.{LookError}
@@ -32,20 +32,20 @@ reading_stopped no_line.NoMemory = tt
 
 -- where a text is told, so is what is left of it
 abbrev pub KnownOf : Option (List ℕ) → Option (List ℕ) → Type 0
-KnownOf told left = IfSome told (λ _. (rest : List ℕ) × (left ≡ Some rest))
+KnownOf contents left = IfSome contents (λ _. (rest : List ℕ) × (left ≡ Some rest))
 
-pub known_first : (told : Option (List ℕ)) → KnownOf told told
+pub known_first : (contents : Option (List ℕ)) → KnownOf contents contents
 known_first None = tt
 known_first (Some text) = (text, refl)
 
-pub told_fails : (told left : Option (List ℕ)) → KnownOf told left → left ≡ None → TextFails told
+pub told_fails : (contents left : Option (List ℕ)) → KnownOf contents left → left ≡ None → TextFails contents
 told_fails None left known h = tt
 told_fails (Some text) left (rest, is) h = cc
 
-pub no_line_cause : (told left : Option (List ℕ)) (refused : Bool) (e : NoLine) → KnownOf told left → (e ≡ Failed → left ≡ None)
-    → (e ≡ no_line.NoMemory → refused ≡ true) → ReadCause (TextFails told) refused (read_error e)
-no_line_cause told left refused Failed known fails none = told_fails told left known (fails refl)
-no_line_cause told left refused no_line.NoMemory known fails none = none refl
+pub no_line_cause : (contents left : Option (List ℕ)) (refused : Bool) (e : NoLine) → KnownOf contents left → (e ≡ Failed → left ≡ None)
+    → (e ≡ no_line.NoMemory → refused ≡ true) → ReadCause (TextFails contents) refused (read_error e)
+no_line_cause contents left refused Failed known fails none = told_fails contents left known (fails refl)
+no_line_cause contents left refused no_line.NoMemory known fails none = none refl
 
 -- a line alone never says that a file can't be read
 pub line_cause : (Fails : Type 0) (refused : Bool) (e : ReadError) → ReadCause ⊥ refused e → ReadCause Fails refused e
@@ -68,30 +68,30 @@ pub too_many : (text : List ℕ) (before after : List (List ℕ)) (number : ℕ)
 too_many text before after number lines place most = longer_than 18446744073709551614 (lines_of text) before after number lines place most
 
 -- ---- a file
-fails_there : (told : Option Text) (left : Option (List ℕ)) → ((text : Text) → told ≡ Some text → left ≡ Some text.bytes) → TextFails left
-    → IfSome told (λ text. HasTooManyLines text.bytes)
+fails_there : (contents : Option Text) (left : Option (List ℕ)) → ((text : Text) → contents ≡ Some text → left ≡ Some text.bytes) → TextFails left
+    → IfSome contents (λ text. HasTooManyLines text.bytes)
 fails_there None left opens h = tt
 fails_there (Some text) left opens h = subst TextFails (opens text refl) h
 
-pub file_fails : (told : List ℕ → Option Text) (name : List ℕ) (left : Option (List ℕ)) → ((text : Text) → told name ≡ Some text → left ≡ Some text.bytes)
-    → TextFails left → MayFail told name
-file_fails told name left opens h = fails_there (told name) left opens h
+pub file_fails : (contents : List ℕ → Option Text) (name : List ℕ) (left : Option (List ℕ)) → ((text : Text) → contents name ≡ Some text → left ≡ Some text.bytes)
+    → TextFails left → MayFail contents name
+file_fails contents name left opens h = fails_there (contents name) left opens h
 
-pub whole_fails : (told : List ℕ → Option Text) (name : List ℕ) (left : Option (List ℕ)) → ((text : Text) → told name ≡ Some text → left ≡ Some text.bytes)
-    → left ≡ None → MayFail told name
-whole_fails told name left opens h = file_fails told name left opens (subst TextFails (sym h) tt)
+pub whole_fails : (contents : List ℕ → Option Text) (name : List ℕ) (left : Option (List ℕ)) → ((text : Text) → contents name ≡ Some text → left ≡ Some text.bytes)
+    → left ≡ None → MayFail contents name
+whole_fails contents name left opens h = file_fails contents name left opens (subst TextFails (sym h) tt)
 
 pub whole_read : (left : Option (List ℕ)) (text bytes : List ℕ) → left ≡ Some text → IfSome left (λ text. bytes ≡ text) → bytes ≡ text
 whole_read left text bytes is h = subst (λ (k : Option (List ℕ)). IfSome k (λ text. bytes ≡ text)) is h
 
-pub file_cause : (told : List ℕ → Option Text) (file : Bor (List ℕ)) (left : Option (List ℕ)) (refused : Bool) (e : ReadError)
-    → ((text : Text) → told file.now ≡ Some text → left ≡ Some text.bytes) → ReadCause (TextFails left) refused e → Cause (MayFail told) refused (unread file e)
-file_cause told file left refused (Line number e) opens h = tt
-file_cause told file left refused Input opens h = file_fails told file.now left opens h
-file_cause told file left refused NoMemory opens h = h
+pub file_cause : (contents : List ℕ → Option Text) (file : Bor (List ℕ)) (left : Option (List ℕ)) (refused : Bool) (e : ReadError)
+    → ((text : Text) → contents file.now ≡ Some text → left ≡ Some text.bytes) → ReadCause (TextFails left) refused e → Cause (MayFail contents) refused (unread file e)
+file_cause contents file left refused (Line number e) opens h = tt
+file_cause contents file left refused Input opens h = file_fails contents file.now left opens h
+file_cause contents file left refused NoMemory opens h = h
 
-pub not_opened : (told : List ℕ → Option Text) (name : List ℕ) → told name ≡ None → MayFail told name
-not_opened told name is = subst (λ (k : Option Text). IfSome k (λ text. HasTooManyLines text.bytes)) (sym is) tt
+pub not_opened : (contents : List ℕ → Option Text) (name : List ℕ) → contents name ≡ None → MayFail contents name
+not_opened contents name is = subst (λ (k : Option Text). IfSome k (λ text. HasTooManyLines text.bytes)) (sym is) tt
 
 pub cause_weaker : (F G : List ℕ → Type 0) (refused : Bool) (e : CommandError) → ((name : List ℕ) → F name → G name) → Cause F refused e → Cause G refused e
 cause_weaker F G refused error.Usage f h = tt
@@ -107,12 +107,12 @@ causes_weaker F G refused (Ok verdict) f h = tt
 causes_weaker F G refused (Err e) f h = cause_weaker F G refused e f h
 
 -- a file that is read line by line
-pub file_causes : (told : List ℕ → Option Text) (file : List ℕ) (left : Option (List ℕ)) (refused : Bool) (r : Result Verdict CommandError)
-    → ((text : Text) → told file ≡ Some text → left ≡ Some text.bytes) → IfErr r (Cause (λ name. (name ≡ file) × TextFails left) refused)
-    → IfErr r (Cause (MayFail told) refused)
-file_causes told file left refused r opens h =
-    causes_weaker (λ name. (name ≡ file) × TextFails left) (MayFail told) refused r
-    (λ name k. subst (MayFail told) (sym k.0) (file_fails told file left opens k.1)) h
+pub file_causes : (contents : List ℕ → Option Text) (file : List ℕ) (left : Option (List ℕ)) (refused : Bool) (r : Result Verdict CommandError)
+    → ((text : Text) → contents file ≡ Some text → left ≡ Some text.bytes) → IfErr r (Cause (λ name. (name ≡ file) × TextFails left) refused)
+    → IfErr r (Cause (MayFail contents) refused)
+file_causes contents file left refused r opens h =
+    causes_weaker (λ name. (name ≡ file) × TextFails left) (MayFail contents) refused r
+    (λ name k. subst (MayFail contents) (sym k.0) (file_fails contents file left opens k.1)) h
 
 -- ---- an answer
 pub output_cause : (F : List ℕ → Type 0) (refused : Bool) (verdict : Verdict) (w : Result (Unit {0}) OutputFailed) (r : Result Verdict CommandError)
@@ -128,11 +128,11 @@ argument_cause F refused P (error.Input name) h = absurd h
 argument_cause F refused P error.NoMemory h = absurd h
 argument_cause F refused P error.Output h = tt
 
-pub single_cause : (F : List ℕ → Type 0) (refused : Bool) (told : List ℕ → Option Text) (request : SingleRequest) (s t : State) (r : Result Verdict CommandError)
-    → AnswersRequest told (ASingle request) s t r → IfErr r (Cause F refused)
-single_cause F refused told request s t (Ok verdict) h = tt
-single_cause F refused told request s t (Err e) (inl (same, bad)) = argument_cause F refused _ e bad
-single_cause F refused told request s t (Err e) (inr (answer, verdict, w, is, written, by)) = output_cause F refused verdict w (Err e) by
+pub single_cause : (F : List ℕ → Type 0) (refused : Bool) (contents : List ℕ → Option Text) (request : SingleRequest) (s t : State) (r : Result Verdict CommandError)
+    → AnswersRequest contents (ASingle request) s t r → IfErr r (Cause F refused)
+single_cause F refused contents request s t (Ok verdict) h = tt
+single_cause F refused contents request s t (Err e) (inl (same, bad)) = argument_cause F refused _ e bad
+single_cause F refused contents request s t (Err e) (inr (answer, verdict, w, is, written, by)) = output_cause F refused verdict w (Err e) by
 
 -- ---- lines that are picked
 ended_cause : (F : List ℕ → Type 0) (refused : Bool) (e : CommandError) (w : Result (Unit {0}) OutputFailed) (r : Result Verdict CommandError)

@@ -16,44 +16,20 @@ use Rattle.cidr_sets.proofs.Algebra.{some_address}
 use Rattle.cidr_table.proofs.Beginnings.{bits_exact}
 use Rattle.cidr_table.proofs.MapLaws.{contains_first, contains_later}
 use Rattle.netset.specs.Answering.{ReadsFile, changed}
-use Rattle.netset.specs.Changes.{AreMerged, AreSame, adds_first, merged, network_with, printed_changes, signed}
-use Rattle.netset.specs.Combining.{Steps}
+use Rattle.cidr_lists.specs.Changes.{AreMerged, adds_first, merged, network_with, printed_changes, signed}
+use Rattle.netset.specs.Changes.{AreSame}
+use Rattle.cidr_lists.specs.Sets.{Steps, HasAddress, networks_of}
 use Rattle.netset.specs.Commands.{Diff}
-use Rattle.netset.specs.Lists.{Text, networks_in}
+use Rattle.cidr_lists.specs.Lists.{Text, networks_in}
 use Rattle.netset.specs.Program.{AnswersRequest, by_output}
-use Rattle.netset.specs.Sets.{Held, held}
 use Rattle.netset.specs.declared.output.answers.Verdict.{Verdict}
 use Rattle.netset.specs.declared.output.answers.Verdict.TheVariants.{Yes, No}
-use Rattle.netset.specs.declared.commands.changes.Sign.{Sign}
-use Rattle.netset.specs.declared.commands.changes.Sign.TheVariants.{Plus, Minus}
+use Rattle.cidr_lists.specs.declared.changes.Sign.{Sign}
+use Rattle.cidr_lists.specs.declared.changes.Sign.TheVariants.{Plus, Minus}
 use Rattle.netset.specs.declared.errors.CommandError.{CommandError}
-use Rattle.netset.specs.declared.commands.operations.Step.TheVariants.{Difference}
-use Rattle.netset.specs.declared.output.sets.Sets.{Sets}
-use Rattle.netset.proofs.Combining.{set_same, steps_same}
-
--- ---- the first of both lists
-pub plus_first : {X : Type 0} (bits : X → List Bool) (added lacking rest : List X) (p : X) → adds_first bits added lacking ≡ true → added ≡ p ∷ rest
-    → merged bits added lacking ≡ (Plus, p) ∷ merged bits rest lacking
-plus_first bits [] lacking rest p first is = cc
-plus_first bits (q ∷ added) [] [] p first is = unfold merged in ap (signed Plus) is
-plus_first bits (q ∷ added) [] (r ∷ rest) p first is = unfold merged in ap (signed Plus) is
-plus_first bits (q ∷ added) (r ∷ lacking) rest p first is =
-    subst (λ k. merged bits k (r ∷ lacking) ≡ (Plus, p) ∷ merged bits rest (r ∷ lacking)) (sym is)
-    (unfold merged in rw (subst (λ k. adds_first bits k (r ∷ lacking) ≡ true) is first) refl)
-
-pub minus_first : {X : Type 0} (bits : X → List Bool) (added lacking rest : List X) (q : X) → adds_first bits added lacking ≡ false → lacking ≡ q ∷ rest
-    → merged bits added lacking ≡ (Minus, q) ∷ merged bits added rest
-minus_first bits [] lacking rest q first is = unfold merged in ap (signed Minus) is
-minus_first bits (p ∷ added) [] rest q first is = cc
-minus_first bits (p ∷ added) (r ∷ lacking) rest q first is =
-    subst (λ k. merged bits (p ∷ added) k ≡ (Minus, q) ∷ merged bits (p ∷ added) rest) (sym is)
-    (unfold merged in rw (subst (λ k. adds_first bits (p ∷ added) k ≡ false) is first) refl)
-
-pub none_first : {X : Type 0} (bits : X → List Bool) (added lacking : List X) → adds_first bits added lacking ≡ false → lacking ≡ [] → merged bits added lacking ≡ []
-none_first bits [] [] first none = unfold merged in refl
-none_first bits [] (q ∷ lacking) first none = cc
-none_first bits (p ∷ added) [] first none = cc
-none_first bits (p ∷ added) (q ∷ lacking) first none = cc
+use Rattle.cidr_lists.specs.declared.sets.Step.TheVariants.{Difference}
+use Rattle.cidr_lists.specs.declared.sets.Sets.{Sets}
+use Rattle.cidr_lists.proofs.SetSteps.{set_same, steps_same}
 
 pub some_first : {X : Type 0} (bits : X → List Bool) (added lacking : List X) → adds_first bits added lacking ≡ true → ¬ (added ≡ [])
 some_first bits [] lacking first none = cc
@@ -161,35 +137,35 @@ both_none [] (q ∷ lacking) e = cc
 both_none (p ∷ added) [] e = cc
 both_none (p ∷ added) (q ∷ lacking) e = absurd (one_there (is_lt (bit_cmp p q)) _ _ _ _ e)
 
-pub nothing_changed : (added lacking : Sets) → ((family : Family) → held added family ≡ []) → ((family : Family) → held lacking family ≡ [])
+pub nothing_changed : (added lacking : Sets) → ((family : Family) → networks_of added family ≡ []) → ((family : Family) → networks_of lacking family ≡ [])
     → AreSame (changed added lacking) Yes
-nothing_changed added lacking h k family = none_of_both (held added family) (held lacking family) (h family) (k family)
+nothing_changed added lacking h k family = none_of_both (networks_of added family) (networks_of lacking family) (h family) (k family)
 
 none_or_some : (xs : List (Sign × List Bool)) → (xs ≡ []) ⊎ (xs ≢ [])
 none_or_some [] = inl refl
 none_or_some (x ∷ xs) = inr (λ e. cc)
 
-pub something_changed : (added lacking : Sets) → ¬ (((family : Family) → held added family ≡ []) × ((family : Family) → held lacking family ≡ []))
+pub something_changed : (added lacking : Sets) → ¬ (((family : Family) → networks_of added family ≡ []) × ((family : Family) → networks_of lacking family ≡ []))
     → AreSame (changed added lacking) No
 something_changed added lacking h = elim (none_or_some (changed added lacking Ipv4)) [
   | inr some ↦ (Ipv4, some)
   | inl four ↦ elim (none_or_some (changed added lacking Ipv6)) [
     | inr some ↦ (Ipv6, some)
     | inl six ↦
-        let (a, b) = both_none (held added Ipv4) (held lacking Ipv4) four in
-        let (c, d) = both_none (held added Ipv6) (held lacking Ipv6) six in
+        let (a, b) = both_none (networks_of added Ipv4) (networks_of lacking Ipv4) four in
+        let (c, d) = both_none (networks_of added Ipv6) (networks_of lacking Ipv6) six in
         absurd (h (elim [ Ipv4 ↦ a | Ipv6 ↦ c ], elim [ Ipv4 ↦ b | Ipv6 ↦ d ]))
   ]
 ]
 
 -- ---- what is written is what has changed from one list to the other
-pub diff_written : (told : List ℕ → Option Text) (a b : List ℕ) (old new added lacking : Sets) (s t : State) (verdict : Verdict)
-    (w : Result (Unit {0}) OutputFailed) (r : Result Verdict CommandError) → ReadsFile (told a) a (Ok old) → ReadsFile (told b) b (Ok new)
-    → ((family : Family) → IsSetOf 129 (λ p. Steps Difference (Held new family p) (Held old family p)) (held added family))
-    → ((family : Family) → IsSetOf 129 (λ p. Steps Difference (Held old family p) (Held new family p)) (held lacking family))
+pub diff_written : (contents : List ℕ → Option Text) (a b : List ℕ) (old new added lacking : Sets) (s t : State) (verdict : Verdict)
+    (w : Result (Unit {0}) OutputFailed) (r : Result Verdict CommandError) → ReadsFile (contents a) a (Ok old) → ReadsFile (contents b) b (Ok new)
+    → ((family : Family) → IsSetOf 129 (λ p. Steps Difference (HasAddress new family p) (HasAddress old family p)) (networks_of added family))
+    → ((family : Family) → IsSetOf 129 (λ p. Steps Difference (HasAddress old family p) (HasAddress new family p)) (networks_of lacking family))
     → AreSame (changed added lacking) verdict → Answered s t (printed_changes (changed added lacking)) w → r ≡ by_output verdict w
-    → AnswersRequest told (Diff a b) s t r
-diff_written told a b old new added lacking s t verdict w r first second more less same written is =
+    → AnswersRequest contents (Diff a b) s t r
+diff_written contents a b old new added lacking s t verdict w r first second more less same written is =
     inr (
       printed_changes (changed added lacking),
       verdict,
@@ -197,11 +173,11 @@ diff_written told a b old new added lacking s t verdict w r first second more le
       λ x y p q.
           let (before, says, has) = first x p in
           let (after, says_too, has_too) = second y q in
-          let plus : (family : Family) → IsDifference 129 (networks_in family after) (networks_in family before) (held added family) = λ family.
-          set_same _ _ (held added family) (more family) (λ k wide.
+          let plus : (family : Family) → IsDifference 129 (networks_in family after) (networks_in family before) (networks_of added family) = λ family.
+          set_same _ _ (networks_of added family) (more family) (λ k wide.
           steps_same Difference _ _ _ _ ((has_too family).exact k wide) ((has family).exact k wide)) in
-          let minus : (family : Family) → IsDifference 129 (networks_in family before) (networks_in family after) (held lacking family) = λ family.
-          set_same _ _ (held lacking family) (less family) (λ k wide.
+          let minus : (family : Family) → IsDifference 129 (networks_in family before) (networks_in family after) (networks_of lacking family) = λ family.
+          set_same _ _ (networks_of lacking family) (less family) (λ k wide.
           steps_same Difference _ _ _ _ ((has family).exact k wide) ((has_too family).exact k wide)) in (
             before,
             after,
@@ -209,12 +185,12 @@ diff_written told a b old new added lacking s t verdict w r first second more le
             says_too,
             changed added lacking,
             λ family. (
-              held added family,
-              held lacking family,
+              networks_of added family,
+              networks_of lacking family,
               plus family,
               minus family,
-              are_merged (held added family) (held lacking family) (plus family).reduced.ascending (minus family).reduced.ascending
-                  (differ (networks_in family before) (networks_in family after) (held added family) (held lacking family) (plus family) (minus family)),
+              are_merged (networks_of added family) (networks_of lacking family) (plus family).reduced.ascending (minus family).reduced.ascending
+                  (differ (networks_in family before) (networks_in family after) (networks_of added family) (networks_of lacking family) (plus family) (minus family)),
             ),
             refl,
             same,

@@ -10,17 +10,18 @@ use Rattle.cidr_io.specs.Collecting.{Collects, Holds}
 use Rattle.cidr_io.proofs.Chains.{answered, part_more, part_none}
 use Rattle.cidr_io.proofs.Collected.{held_lost, held_then}
 use Rattle.netset.specs.Commands.{Check, read_files}
-use Rattle.netset.specs.Findings.{AnswersNotes, AreLost, AreNoted, AreNotes, AreNotesBelow, IsClean, IsOnlyNote, NotesAll, NotesOn, entry_network, note_line}
-use Rattle.netset.specs.Lists.{Text}
-use Rattle.netset.specs.Nearness.{AreNear}
+use Rattle.netset.specs.Findings.{AnswersNotes, AreLost, AreNoted, AreNotesBelow, IsClean, NotesAll, NotesOn}
+use Rattle.cidr_lists.specs.Findings.{AreNotes, IsOnlyNote, entry_network, note_line}
+use Rattle.cidr_lists.specs.Lists.{Text}
+use Rattle.cidr_lists.specs.Nearness.{AreNear}
 use Rattle.netset.specs.Program.{AnswersRequest}
 use Rattle.netset.specs.Unchecked.{AreToldEntries}
 use Rattle.netset.specs.declared.output.answers.Verdict.{Verdict}
 use Rattle.netset.specs.declared.output.answers.Verdict.TheVariants.{Yes, No}
-use Rattle.netset.specs.declared.input.entries.Entry.{Entry}
+use Rattle.cidr_lists.specs.declared.entries.Entry.{Entry}
 use Rattle.netset.specs.declared.errors.CommandError.TheVariants as error
-use Rattle.netset.specs.declared.commands.findings.Note.{Note}
-use Rattle.netset.specs.declared.commands.near.Near.{Near}
+use Rattle.cidr_lists.specs.declared.findings.Note.{Note}
+use Rattle.cidr_lists.specs.declared.near.Near.{Near}
 use Rattle.netset.proofs.Blocks.{last_block, nothing_held}
 use Rattle.netset.proofs.Completed.{completed}
 use Rattle.netset.proofs.Noted.{all_noted, no_notes, none_noted, one_noted}
@@ -35,7 +36,7 @@ pub none_noted_yet : (entries : List Entry) (s : State) (block : List ℕ) → b
 none_noted_yet entries s block none = record {
   notes = [];
   below = no_notes entries 0 [] refl refl;
-  held = subst (λ (k : List ℕ). Holds s s k []) (sym none) (nothing_held s);
+  collected = subst (λ (k : List ℕ). Holds s s k []) (sym none) (nothing_held s);
   clean = refl;
 }
 
@@ -52,60 +53,60 @@ module _ (entries : List Entry) (near : List Near) (are : AreNear (map entry_net
       (more, all)
 
   module _ (index : ℕ) (entry : Entry) (here : slice_get entries index ≡ Some entry) (place : ℕ) (low : place < 5) (bound : ℕ)
-      (at : bound ≡ index * 5 + place) (start s t : State) (block next : List ℕ) (verdict : Verdict) (told : AreNoted entries bound start s block verdict) where
-    so_far : AreNotesBelow entries (index * 5 + place) told.notes
-    so_far = subst (λ (n : ℕ). AreNotesBelow entries n told.notes) at told.below
+      (at : bound ≡ index * 5 + place) (start s t : State) (block next : List ℕ) (verdict : Verdict) (messages : AreNoted entries bound start s block verdict) where
+    so_far : AreNotesBelow entries (index * 5 + place) messages.notes
+    so_far = subst (λ (n : ℕ). AreNotesBelow entries n messages.notes) at messages.below
 
     pub nothing_told : IsOnlyNote entries index entry place None → AreNoted entries (bound + 1) start s block verdict
     nothing_told only = record {
-      notes = told.notes;
-      below = subst (λ (n : ℕ). AreNotesBelow entries (n + 1) told.notes) (sym at) (none_noted entries index entry here place low told.notes only so_far);
-      held = told.held;
-      clean = told.clean;
+      notes = messages.notes;
+      below = subst (λ (n : ℕ). AreNotesBelow entries (n + 1) messages.notes) (sym at) (none_noted entries index entry here place low messages.notes only so_far);
+      collected = messages.collected;
+      clean = messages.clean;
     }
 
-    with_it : (note : Note) → IsOnlyNote entries index entry place (Some note) → AreNotesBelow entries (bound + 1) (told.notes ++ note ∷ [])
+    with_it : (note : Note) → IsOnlyNote entries index entry place (Some note) → AreNotesBelow entries (bound + 1) (messages.notes ++ note ∷ [])
     with_it note only =
-        subst (λ (n : ℕ). AreNotesBelow entries (n + 1) (told.notes ++ note ∷ [])) (sym at)
-        (one_noted entries index entry here place low note told.notes only so_far)
+        subst (λ (n : ℕ). AreNotesBelow entries (n + 1) (messages.notes ++ note ∷ [])) (sym at)
+        (one_noted entries index entry here place low note messages.notes only so_far)
 
     pub note_told : (note : Note) (r : Result (Unit {0}) OutputFailed) → IsOnlyNote entries index entry place (Some note)
         → Collects s t block next (note_line note) r → NotesOn entries (bound + 1) start t next No r
     note_told note (Ok u) only collected = record {
-      notes = told.notes ++ note ∷ [];
+      notes = messages.notes ++ note ∷ [];
       below = with_it note only;
-      held = subst (Holds start t next) (flat_map_more note_line [] told.notes note)
-          (held_then start s t block next (flat_map note_line told.notes) (note_line note) told.held collected);
-      clean = λ e. omega (arith, ap length e, length_push told.notes note);
+      collected = subst (Holds start t next) (flat_map_more note_line [] messages.notes note)
+          (held_then start s t block next (flat_map note_line messages.notes) (note_line note) messages.collected collected);
+      clean = λ e. omega (arith, ap length e, length_push messages.notes note);
     }
     note_told note (Err e) only part =
         let fits : bound + 1 ≤ length entries * 5 = omega (arith, at, low, slice_get_within entries index entry here) in
-        let (more, all) = rest_of (bound + 1) (told.notes ++ note ∷ []) fits (with_it note only) in
-        let whole : (flat_map note_line told.notes ++ note_line note) ++ flat_map note_line more ≡ flat_map note_line ((told.notes ++ note ∷ []) ++ more) =
-        ap (λ (k : List ℕ). k ++ flat_map note_line more) (flat_map_more note_line [] told.notes note)
-        ∙ sym (flat_map-append note_line (told.notes ++ note ∷ []) more) in (
-          (told.notes ++ note ∷ []) ++ more,
+        let (more, all) = rest_of (bound + 1) (messages.notes ++ note ∷ []) fits (with_it note only) in
+        let whole : (flat_map note_line messages.notes ++ note_line note) ++ flat_map note_line more ≡ flat_map note_line ((messages.notes ++ note ∷ []) ++ more) =
+        ap (λ (k : List ℕ). k ++ flat_map note_line more) (flat_map_more note_line [] messages.notes note)
+        ∙ sym (flat_map-append note_line (messages.notes ++ note ∷ []) more) in (
+          (messages.notes ++ note ∷ []) ++ more,
           all,
-          subst (Part start t) whole (part_more start t (flat_map note_line told.notes ++ note_line note) (flat_map note_line more)
-              (held_lost start s t block (flat_map note_line told.notes) (note_line note) told.held part)),
+          subst (Part start t) whole (part_more start t (flat_map note_line messages.notes ++ note_line note) (flat_map note_line more)
+              (held_lost start s t block (flat_map note_line messages.notes) (note_line note) messages.collected part)),
         )
 
 -- the last block
 pub all_told : (entries : List Entry) (i : ℕ) (start s t : State) (block : List ℕ) (verdict : Verdict) → length entries ≤ i
     → AreNoted entries (i * 5) start s block verdict → Writes s t block (Ok tt) → NotesAll entries start t (Ok verdict)
-all_told entries i start s t block verdict past told wrote = (
-  told.notes,
-  all_noted entries (i * 5) i told.notes past refl told.below,
-  told.clean,
-  last_block start s t block (flat_map note_line told.notes) (Ok tt) told.held wrote,
+all_told entries i start s t block verdict past messages wrote = (
+  messages.notes,
+  all_noted entries (i * 5) i messages.notes past refl messages.below,
+  messages.clean,
+  last_block start s t block (flat_map note_line messages.notes) (Ok tt) messages.collected wrote,
 )
 
 pub last_lost : (entries : List Entry) (i : ℕ) (start s t : State) (block : List ℕ) (verdict : Verdict) (e : OutputFailed) → length entries ≤ i
     → AreNoted entries (i * 5) start s block verdict → Part s t block → AreLost entries start t
-last_lost entries i start s t block verdict e past told part = (
-  told.notes,
-  all_noted entries (i * 5) i told.notes past refl told.below,
-  last_block start s t block (flat_map note_line told.notes) (Err e) told.held part,
+last_lost entries i start s t block verdict e past messages part = (
+  messages.notes,
+  all_noted entries (i * 5) i messages.notes past refl messages.below,
+  last_block start s t block (flat_map note_line messages.notes) (Err e) messages.collected part,
 )
 
 pub all_lost : (entries : List Entry) (start now : State) (r : Result Verdict OutputFailed) (y : OutputFailed) → r ≡ Err y → AreLost entries start now
@@ -128,14 +129,14 @@ clean_of : (notes : List Note) → (verdict : Verdict) × IsClean notes verdict
 clean_of [] = (Yes, refl)
 clean_of (note ∷ notes) = (No, λ e. omega (arith, ap length e))
 
-pub check_answered : (told : List ℕ → Option Text) (files : List (List ℕ)) (entries : List Entry) (s t : State) (verdict : Verdict)
-    → AreToldEntries told (read_files files) entries → AnswersNotes entries s t (Ok verdict) → AnswersRequest told (Check files) s t (Ok verdict)
-check_answered told files entries s t verdict are (notes, noted, clean, written) =
+pub check_answered : (messages : List ℕ → Option Text) (files : List (List ℕ)) (entries : List Entry) (s t : State) (verdict : Verdict)
+    → AreToldEntries messages (read_files files) entries → AnswersNotes entries s t (Ok verdict) → AnswersRequest messages (Check files) s t (Ok verdict)
+check_answered messages files entries s t verdict are (notes, noted, clean, written) =
     inr (flat_map note_line notes, verdict, Ok tt, λ texts h. (entries, are texts h, notes, noted, refl, clean), written, refl)
 
-pub check_lost : (told : List ℕ → Option Text) (files : List (List ℕ)) (entries : List Entry) (s t : State) (e : OutputFailed)
-    → AreToldEntries told (read_files files) entries → AnswersNotes entries s t (Err e) → AnswersRequest told (Check files) s t (Err error.Output)
-check_lost told files entries s t e are (notes, noted, written) =
+pub check_lost : (messages : List ℕ → Option Text) (files : List (List ℕ)) (entries : List Entry) (s t : State) (e : OutputFailed)
+    → AreToldEntries messages (read_files files) entries → AnswersNotes entries s t (Err e) → AnswersRequest messages (Check files) s t (Err error.Output)
+check_lost messages files entries s t e are (notes, noted, written) =
     let (verdict, clean) = clean_of notes in
     inr (flat_map note_line notes, verdict, Err e, λ texts h. (entries, are texts h, notes, noted, refl, clean), written, refl)
 

@@ -2,14 +2,15 @@
 use Rattle.std.proofs.Common.{◌≡◌, sym, subst, arith, ℕ, zero, suc, ◌+◌, ◌*◌, ◌/◌, ◌%◌, ◌<◌, List, [], ◌∷◌, ◌++◌, length, map, Option, Some, None, slice_get, append_assoc}
 use Rattle.std.proofs.lemmas.List.{append-nil}
 use Rattle.std.proofs.lemmas.Option.{slice_get_within}
-use Rattle.netset.specs.Findings.{AreNotes, AreNotesBelow, IsOnlyNote, entry_network}
-use Rattle.netset.specs.Nearness.{AreNear, IsNear}
-use Rattle.netset.specs.declared.input.entries.Entry.{Entry}
-use Rattle.netset.specs.declared.commands.findings.Note.{Note}
-use Rattle.netset.specs.declared.commands.near.Near.{Near}
-use Rattle.netset.proofs.Found.{network_of, some_found}
+use Rattle.cidr_lists.specs.Findings.{AreNotes, IsOnlyNote, entry_network}
+use Rattle.netset.specs.Findings.{AreNotesBelow}
+use Rattle.cidr_lists.specs.Nearness.{AreNear, IsNear}
+use Rattle.cidr_lists.specs.declared.entries.Entry.{Entry}
+use Rattle.cidr_lists.specs.declared.findings.Note.{Note}
+use Rattle.cidr_lists.specs.declared.near.Near.{Near}
+use Rattle.cidr_lists.proofs.Found.{network_of, some_found}
 use Rattle.netset.proofs.Noted.{all_noted, kind_at, none_noted, one_noted}
-use Rattle.netset.proofs.NumberedRows.{element, first_within, near_line}
+use Rattle.cidr_lists.proofs.NumberedRows.{element, first_within, near_line}
 
 module _ (entries : List Entry) (near : List Near) (are : AreNear (map entry_network entries) near) where
   near_entry : (i : ℕ) (entry : Entry) → slice_get entries i ≡ Some entry → (one : Near) × IsNear (map entry_network entries) (entry_network entry) one

@@ -6,9 +6,9 @@ use Rattle.cidr_io.specs.Writing.{State, Whole, Answered, Says as Tells}
 use Rattle.cidr_io.specs.declared.sink.OutputFailed.{OutputFailed}
 use Rattle.netset.specs.Combining.{name_of}
 use Rattle.netset.specs.Commands.{Request, Lists, NotIn, Diff, Free, Check, Match, Look, Single as ASingle, Help, Version, AreTold, IsAnswer, IsMadeOf, IsRequest, read_files, reading_of, reading_options, without_options}
-use Rattle.netset.specs.Lists.{Text}
+use Rattle.cidr_lists.specs.Lists.{Text}
 use Rattle.netset.specs.Look.{IsLook}
-use Rattle.netset.specs.Program.{AnswersRequest, AnswersWhole, IsRefused, KeepsGoing, Reports, Runs, RunsArguments, RunsRequest, RunsWords, by_output, status_of, told_by}
+use Rattle.netset.specs.Program.{AnswersRequest, AnswersWhole, IsRefused, KeepsGoing, Reports, Runs, RunsArguments, RunsRequest, RunsWords, by_output, status_of, contents_by}
 use Rattle.netset.specs.Single.{SingleRequest, Show, Split, Nth}
 use Rattle.netset.specs.declared.output.answers.Verdict.{Verdict}
 use Rattle.netset.specs.declared.output.answers.Verdict.TheVariants.{Yes, No}
@@ -20,7 +20,7 @@ use Rattle.netset.proofs.Telling.{tells_nothing}
 
 -- the answer of a request was written whole, and nothing was told of an error
 abbrev pub Done : (List ℕ → Option Text) → Request → State → State → State → State → Type 0
-Done told request out new err new_err = (answer : List ℕ) × IsAnswer told request answer Yes × Whole out new answer × Tells err new_err []
+Done contents request out new err new_err = (answer : List ℕ) × IsAnswer contents request answer Yes × Whole out new answer × Tells err new_err []
 
 -- ---- an answer
 yes_done : (r : Result Verdict CommandError) → 0 ≡ status_of r → r ≡ Ok Yes
@@ -33,8 +33,8 @@ yes_done (Err (error.Input name)) h = cc
 yes_done (Err error.NoMemory) h = cc
 yes_done (Err error.Output) h = cc
 
-never_refused : (told : List ℕ → Option Text) (request : Request) → ¬ (IsRefused told request (Ok Yes))
-never_refused told request h = h
+never_refused : (contents : List ℕ → Option Text) (request : Request) → ¬ (IsRefused contents request (Ok Yes))
+never_refused contents request h = h
 
 written_whole : (out new : State) (answer : List ℕ) (verdict : Verdict) (w : Result (Unit {0}) OutputFailed) → Ok Yes ≡ by_output verdict w → Answered out new answer w
     → (verdict ≡ Yes) × Whole out new answer
@@ -43,34 +43,34 @@ written_whole out new answer verdict (Ok a) by h =
     (same, h.0)
 written_whole out new answer verdict (Err f) by h = cc
 
-whole_done : (told : List ℕ → Option Text) (request : Request) (out new : State) → AnswersWhole told request out new (Ok Yes)
-    → (answer : List ℕ) × IsAnswer told request answer Yes × Whole out new answer
-whole_done told request out new (inl (same, refused)) = absurd (never_refused told request refused)
-whole_done told request out new (inr (answer, verdict, w, is, written, by)) =
+whole_done : (contents : List ℕ → Option Text) (request : Request) (out new : State) → AnswersWhole contents request out new (Ok Yes)
+    → (answer : List ℕ) × IsAnswer contents request answer Yes × Whole out new answer
+whole_done contents request out new (inl (same, refused)) = absurd (never_refused contents request refused)
+whole_done contents request out new (inr (answer, verdict, w, is, written, by)) =
     let (is_yes, whole) = written_whole out new answer verdict w by written in
-    (answer, subst (λ (k : Verdict). IsAnswer told request answer k) is_yes is, whole)
+    (answer, subst (λ (k : Verdict). IsAnswer contents request answer k) is_yes is, whole)
 
-answer_done : (told : List ℕ → Option Text) (request : Request) (out new : State) → AnswersRequest told request out new (Ok Yes)
-    → (answer : List ℕ) × IsAnswer told request answer Yes × Whole out new answer
-answer_done told (Lists operation files) out new h = whole_done told (Lists operation files) out new h
-answer_done told (NotIn net files) out new h = whole_done told (NotIn net files) out new h
-answer_done told (Diff old lists) out new h = whole_done told (Diff old lists) out new h
-answer_done told (Free pool len used) out new h = whole_done told (Free pool len used) out new h
-answer_done told (Check files) out new h = whole_done told (Check files) out new h
-answer_done told (Match options list file) out new (inl h) = whole_done told (Match options list file) out new h
-answer_done told (Match options list file) out new (inr (e, is, of, answer, written, belongs)) = cc
-answer_done told (Look table file) out new (inl h) = whole_done told (Look table file) out new h
-answer_done told (Look table file) out new (inr (e, is, of, answer, written, belongs)) = cc
-answer_done told (ASingle request) out new h = whole_done told (ASingle request) out new h
-answer_done told Help out new h = whole_done told Help out new h
-answer_done told Version out new h = whole_done told Version out new h
+answer_done : (contents : List ℕ → Option Text) (request : Request) (out new : State) → AnswersRequest contents request out new (Ok Yes)
+    → (answer : List ℕ) × IsAnswer contents request answer Yes × Whole out new answer
+answer_done contents (Lists operation files) out new h = whole_done contents (Lists operation files) out new h
+answer_done contents (NotIn net files) out new h = whole_done contents (NotIn net files) out new h
+answer_done contents (Diff old lists) out new h = whole_done contents (Diff old lists) out new h
+answer_done contents (Free pool len used) out new h = whole_done contents (Free pool len used) out new h
+answer_done contents (Check files) out new h = whole_done contents (Check files) out new h
+answer_done contents (Match options list file) out new (inl h) = whole_done contents (Match options list file) out new h
+answer_done contents (Match options list file) out new (inr (e, is, of, answer, written, belongs)) = cc
+answer_done contents (Look table file) out new (inl h) = whole_done contents (Look table file) out new h
+answer_done contents (Look table file) out new (inr (e, is, of, answer, written, belongs)) = cc
+answer_done contents (ASingle request) out new h = whole_done contents (ASingle request) out new h
+answer_done contents Help out new h = whole_done contents Help out new h
+answer_done contents Version out new h = whole_done contents Version out new h
 
 -- ---- a run
-request_done : (told : List ℕ → Option Text) (request : Request) (closed : Bool) (out new err mid new_err : State) (r : Result Verdict CommandError) → 0 ≡ status_of r
-    → AnswersRequest told request out new r → Reports closed r mid new_err → Tells err mid [] → Done told request out new err new_err
-request_done told request closed out new err mid new_err r zero answers says told_nothing =
+request_done : (contents : List ℕ → Option Text) (request : Request) (closed : Bool) (out new err mid new_err : State) (r : Result Verdict CommandError) → 0 ≡ status_of r
+    → AnswersRequest contents request out new r → Reports closed r mid new_err → Tells err mid [] → Done contents request out new err new_err
+request_done contents request closed out new err mid new_err r zero answers says told_nothing =
     let yes = yes_done r zero in
-    let (answer, is, whole) = answer_done told request out new (rw yes at answers) in
+    let (answer, is, whole) = answer_done contents request out new (rw yes at answers) in
     let same : new_err ≡ mid = (rw yes at says) in
     (answer, is, whole, subst (λ (k : State). Tells err k []) (sym same) told_nothing)
 
@@ -82,48 +82,48 @@ never_zero (error.Input name) zero = cc
 never_zero error.NoMemory zero = cc
 never_zero error.Output zero = cc
 
-keeps_done : (told : List ℕ → Option Text) (refused : Bool) (request : Request) (closed : Bool) (out new err new_err : State)
-    → KeepsGoing told refused request closed out new err new_err 0 → Done told request out new err new_err
-keeps_done told refused request closed out new err new_err (inl (e, wrong, (same, says, zero))) = absurd (never_zero e zero)
-keeps_done told refused request closed out new err new_err (inr (right, (lines, mid, tells, inl (fine, inl (any, same, quiet, zero))))) = cc
-keeps_done told refused request closed out new err new_err (inr (right, (lines, mid, tells, inl (fine, inr (none, r, answers, caused, says, zero))))) =
-    request_done told request closed out new err mid new_err r zero answers says (subst (λ (k : List ℕ). Tells err mid k) none tells)
-keeps_done told refused request closed out new err new_err
+keeps_done : (contents : List ℕ → Option Text) (refused : Bool) (request : Request) (closed : Bool) (out new err new_err : State)
+    → KeepsGoing contents refused request closed out new err new_err 0 → Done contents request out new err new_err
+keeps_done contents refused request closed out new err new_err (inl (e, wrong, (same, says, zero))) = absurd (never_zero e zero)
+keeps_done contents refused request closed out new err new_err (inr (right, (lines, mid, tells, inl (fine, inl (any, same, quiet, zero))))) = cc
+keeps_done contents refused request closed out new err new_err (inr (right, (lines, mid, tells, inl (fine, inr (none, r, answers, caused, says, zero))))) =
+    request_done contents request closed out new err mid new_err r zero answers says (subst (λ (k : List ℕ). Tells err mid k) none tells)
+keeps_done contents refused request closed out new err new_err
     (inr (right, (lines, mid, tells, inr (before, after, split, front, rest, is, fine, begun, e, why, cause, same, says, zero)))) =
     absurd (never_zero e zero)
 
-run_done : (reading : Reading) (told : List ℕ → Option Text) (refused : Bool) (request : Request) (closed : Bool) (out new err new_err : State)
-    → RunsRequest reading told refused request closed out new err new_err 0 → Done told request out new err new_err
-run_done reading told refused request closed out new err new_err (inl (keeps, goes)) = keeps_done told refused request closed out new err new_err goes
-run_done reading told refused request closed out new err new_err (inr (plain, r, answers, caused, says, zero)) =
-    request_done told request closed out new err err new_err r zero answers says (tells_nothing err)
+run_done : (reading : Reading) (contents : List ℕ → Option Text) (refused : Bool) (request : Request) (closed : Bool) (out new err new_err : State)
+    → RunsRequest reading contents refused request closed out new err new_err 0 → Done contents request out new err new_err
+run_done reading contents refused request closed out new err new_err (inl (keeps, goes)) = keeps_done contents refused request closed out new err new_err goes
+run_done reading contents refused request closed out new err new_err (inr (plain, r, answers, caused, says, zero)) =
+    request_done contents request closed out new err err new_err r zero answers says (tells_nothing err)
 
-words_done : (reading : Reading) (told : List ℕ → Option (List ℕ)) (refused : Bool) (words : List (List ℕ)) (closed : Bool) (out new err new_err : State)
-    → RunsWords reading told refused words closed out new err new_err 0
-    → (request : Request) × IsRequest words request × Done (told_by reading.host_bits told) request out new err new_err
-words_done reading told refused words closed out new err new_err (inl (usage, (same, says, zero))) = cc
-words_done reading told refused words closed out new err new_err (inr (request, is, may, inl (twice, e, why, (same, says, zero)))) = absurd (never_zero e zero)
-words_done reading told refused words closed out new err new_err (inr (request, is, may, inr (once, h))) =
-    (request, is, run_done reading (told_by reading.host_bits told) refused request closed out new err new_err h)
+words_done : (reading : Reading) (contents : List ℕ → Option (List ℕ)) (refused : Bool) (words : List (List ℕ)) (closed : Bool) (out new err new_err : State)
+    → RunsWords reading contents refused words closed out new err new_err 0
+    → (request : Request) × IsRequest words request × Done (contents_by reading.host_bits contents) request out new err new_err
+words_done reading contents refused words closed out new err new_err (inl (usage, (same, says, zero))) = cc
+words_done reading contents refused words closed out new err new_err (inr (request, is, may, inl (twice, e, why, (same, says, zero)))) = absurd (never_zero e zero)
+words_done reading contents refused words closed out new err new_err (inr (request, is, may, inr (once, h))) =
+    (request, is, run_done reading (contents_by reading.host_bits contents) refused request closed out new err new_err h)
 
-arguments_done : (told : List ℕ → Option (List ℕ)) (refused : Bool) (words : List (List ℕ)) (closed : Bool) (out new err new_err : State)
-    → RunsArguments told refused words closed out new err new_err 0
+arguments_done : (contents : List ℕ → Option (List ℕ)) (refused : Bool) (words : List (List ℕ)) (closed : Bool) (out new err new_err : State)
+    → RunsArguments contents refused words closed out new err new_err 0
     → (request : Request) × IsRequest (without_options words) request
-    × Done (told_by (reading_of (reading_options words)).host_bits told) request out new err new_err
-arguments_done told refused words closed out new err new_err (inl h) =
-    words_done (reading_of (reading_options words)) told refused (without_options words) closed out new err new_err h
-arguments_done told refused words closed out new err new_err (inr (left, (same, says, zero))) = cc
+    × Done (contents_by (reading_of (reading_options words)).host_bits contents) request out new err new_err
+arguments_done contents refused words closed out new err new_err (inl h) =
+    words_done (reading_of (reading_options words)) contents refused (without_options words) closed out new err new_err h
+arguments_done contents refused words closed out new err new_err (inr (left, (same, says, zero))) = cc
 
 -- A run that ends with status 0 has read its arguments as a request, and has written its answer whole.
-pub status_0 : (words : List (List ℕ)) (told : List ℕ → Option (List ℕ)) (refused closed : Bool) (out new err new_err : State)
-    → Runs (Some words) told refused closed out new err new_err 0
+pub status_0 : (words : List (List ℕ)) (contents : List ℕ → Option (List ℕ)) (refused closed : Bool) (out new err new_err : State)
+    → Runs (Some words) contents refused closed out new err new_err 0
     → (request : Request) × IsRequest (without_options words) request
-    × Done (told_by (reading_of (reading_options words)).host_bits told) request out new err new_err
-status_0 words told refused closed out new err new_err (inl (given, are, h)) =
-    arguments_done told refused words closed out new err new_err
-    (subst (λ (k : List (List ℕ)). RunsArguments told refused k closed out new err new_err 0) are h)
-status_0 words told refused closed out new err new_err (inr (inl (unread, (same, says, zero)))) = cc
-status_0 words told refused closed out new err new_err (inr (inr (left, (same, says, zero)))) = cc
+    × Done (contents_by (reading_of (reading_options words)).host_bits contents) request out new err new_err
+status_0 words contents refused closed out new err new_err (inl (given, are, h)) =
+    arguments_done contents refused words closed out new err new_err
+    (subst (λ (k : List (List ℕ)). RunsArguments contents refused k closed out new err new_err 0) are h)
+status_0 words contents refused closed out new err new_err (inr (inl (unread, (same, says, zero)))) = cc
+status_0 words contents refused closed out new err new_err (inr (inr (left, (same, says, zero)))) = cc
 
 -- ---- which command the arguments are
 abbrev single_name : SingleRequest → List ℕ
@@ -191,13 +191,13 @@ is_merge files Help h = other_name (codes "merge") files Help h refl refl
 is_merge files Version h = other_name (codes "merge") files Version h refl refl
 
 -- `netset merge FILE..`, where the lists of the files are told: what is printed is what the lists have together
-pub merge_prints : (files : List (List ℕ)) (texts : List Text) (told : List ℕ → Option (List ℕ)) (refused closed : Bool) (out new err new_err : State)
-    → Runs (Some (codes "merge" ∷ files)) told refused closed out new err new_err 0 → reading_options (codes "merge" ∷ files) ≡ []
+pub merge_prints : (files : List (List ℕ)) (texts : List Text) (contents : List ℕ → Option (List ℕ)) (refused closed : Bool) (out new err new_err : State)
+    → Runs (Some (codes "merge" ∷ files)) contents refused closed out new err new_err 0 → reading_options (codes "merge" ∷ files) ≡ []
     → without_options (codes "merge" ∷ files) ≡ codes "merge" ∷ files
-    → AreTold (told_by (reading_of []).host_bits told) (read_files files) texts
+    → AreTold (contents_by (reading_of []).host_bits contents) (read_files files) texts
     → (answer : List ℕ) × IsMadeOf Merge texts answer × Whole out new answer × Tells err new_err []
-merge_prints files texts told refused closed out new err new_err runs none all tells =
-    let (request, is, done) = status_0 (codes "merge" ∷ files) told refused closed out new err new_err runs in
+merge_prints files texts contents refused closed out new err new_err runs none all tells =
+    let (request, is, done) = status_0 (codes "merge" ∷ files) contents refused closed out new err new_err runs in
     let same = is_merge files request (rw all at is) in
     let (answer, answers, whole, quiet) = (rw (none, same) at done) in
     (answer, answers.0 texts tells, whole, quiet)
@@ -227,13 +227,13 @@ is_look table file Help h = other_name (codes "look") (table ∷ file ∷ []) He
 is_look table file Version h = other_name (codes "look") (table ∷ file ∷ []) Version h refl refl
 
 -- `netset look TABLE FILE`, where both are told: what is printed are the longest networks of the addresses of FILE
-pub look_prints : (table file : List ℕ) (rows text : Text) (told : List ℕ → Option (List ℕ)) (refused closed : Bool) (out new err new_err : State)
-    → Runs (Some (codes "look" ∷ table ∷ file ∷ [])) told refused closed out new err new_err 0 → reading_options (codes "look" ∷ table ∷ file ∷ []) ≡ []
+pub look_prints : (table file : List ℕ) (rows text : Text) (contents : List ℕ → Option (List ℕ)) (refused closed : Bool) (out new err new_err : State)
+    → Runs (Some (codes "look" ∷ table ∷ file ∷ [])) contents refused closed out new err new_err 0 → reading_options (codes "look" ∷ table ∷ file ∷ []) ≡ []
     → without_options (codes "look" ∷ table ∷ file ∷ []) ≡ codes "look" ∷ table ∷ file ∷ []
-    → told_by (reading_of []).host_bits told table ≡ Some rows → told_by (reading_of []).host_bits told file ≡ Some text
+    → contents_by (reading_of []).host_bits contents table ≡ Some rows → contents_by (reading_of []).host_bits contents file ≡ Some text
     → (answer : List ℕ) × IsLook rows text.bytes answer Yes × Whole out new answer × Tells err new_err []
-look_prints table file rows text told refused closed out new err new_err runs none all first second =
-    let (request, is, done) = status_0 (codes "look" ∷ table ∷ file ∷ []) told refused closed out new err new_err runs in
+look_prints table file rows text contents refused closed out new err new_err runs none all first second =
+    let (request, is, done) = status_0 (codes "look" ∷ table ∷ file ∷ []) contents refused closed out new err new_err runs in
     let same = is_look table file request (rw all at is) in
     let (answer, answers, whole, quiet) = (rw (none, same) at done) in
     (answer, answers rows text first second, whole, quiet)

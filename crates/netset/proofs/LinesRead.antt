@@ -2,7 +2,7 @@
 use Rattle.std.proofs.Common.{◌≡◌, refl, sym, ◌∙◌, ap, subst, ℕ, ◌+◌, ◌≤◌, Bool, true, false, List, [], ◌∷◌, ◌++◌, length, arith, Option, Some, None, append_assoc, length-append}
 use Rattle.std.specs.Option.{IfSome}
 use Rattle.netset.specs.Causes.{TextFails}
-use Rattle.netset.specs.Lists.{lines_of}
+use Rattle.cidr_lists.specs.Lists.{lines_of}
 use Rattle.netset.proofs.Causes.{KnownOf, too_many}
 use Rattle.netset.specs.Reading.{IsNextLine}
 
@@ -24,15 +24,15 @@ module _ {S : Type 0} (Done : List (List ℕ) → S → Type 0) where
     pub place : number ≡ length before + 1
     pub done : Done before state
 
-  pub none_read : (told : Option (List ℕ)) (state : S) → Done [] state → IfSome told (λ text. LinesRead text told state 1)
+  pub none_read : (contents : Option (List ℕ)) (state : S) → Done [] state → IfSome contents (λ text. LinesRead text contents state 1)
   none_read None state d = tt
   none_read (Some text) state d = record { rest = text; known = refl; before = []; lines = refl; place = refl; done = d }
 
   -- a line that has another behind it
-  pub line_read : (told left next : Option (List ℕ)) (state new : S) (number : ℕ) (line : List ℕ) (more : Bool) → more ≡ true
-      → IfSome told (λ text. LinesRead text left state number) → IfSome left (λ text. IsNextLine text line more next)
+  pub line_read : (contents left next : Option (List ℕ)) (state new : S) (number : ℕ) (line : List ℕ) (more : Bool) → more ≡ true
+      → IfSome contents (λ text. LinesRead text left state number) → IfSome left (λ text. IsNextLine text line more next)
       → ((before : List (List ℕ)) → number ≡ length before + 1 → Done before state → Done (before ++ line ∷ []) new)
-      → IfSome told (λ text. LinesRead text next new (number + 1))
+      → IfSome contents (λ text. LinesRead text next new (number + 1))
   line_read None left next state new number line more is p n step = tt
   line_read (Some text) left next state new number line false is p n step = cc
   line_read (Some text) left next state new number line true is p n step =
@@ -47,10 +47,10 @@ module _ {S : Type 0} (Done : List (List ℕ) → S → Type 0) where
       }
 
   -- the last line
-  pub last_read : (told left next : Option (List ℕ)) (state new : S) (number : ℕ) (line : List ℕ) (more : Bool) → more ≡ false
-      → IfSome told (λ text. LinesRead text left state number) → IfSome left (λ text. IsNextLine text line more next)
+  pub last_read : (contents left next : Option (List ℕ)) (state new : S) (number : ℕ) (line : List ℕ) (more : Bool) → more ≡ false
+      → IfSome contents (λ text. LinesRead text left state number) → IfSome left (λ text. IsNextLine text line more next)
       → ((before : List (List ℕ)) → number ≡ length before + 1 → Done before state → Done (before ++ line ∷ []) new)
-      → IfSome told (λ text. Done (lines_of text) new)
+      → IfSome contents (λ text. Done (lines_of text) new)
   last_read None left next state new number line more is p n step = tt
   last_read (Some text) left next state new number line true is p n step = cc
   last_read (Some text) left next state new number line false is p n step =
@@ -63,21 +63,21 @@ module _ {S : Type 0} (Done : List (List ℕ) → S → Type 0) where
   first_of_more text line false next n = ([], n)
 
   -- a line where reading stops
-  pub stops_at : (told left next : Option (List ℕ)) (state : S) (number : ℕ) (line : List ℕ) (more : Bool)
-      → IfSome told (λ text. LinesRead text left state number) → IfSome left (λ text. IsNextLine text line more next)
-      → IfSome told (λ text. LineAt text state number line)
+  pub stops_at : (contents left next : Option (List ℕ)) (state : S) (number : ℕ) (line : List ℕ) (more : Bool)
+      → IfSome contents (λ text. LinesRead text left state number) → IfSome left (λ text. IsNextLine text line more next)
+      → IfSome contents (λ text. LineAt text state number line)
   stops_at None left next state number line more p n = tt
   stops_at (Some text) left next state number line more p n =
       let (after, lines) = first_of_more p.rest line more next (rw p.known at n) in
       record { before = p.before; after = after; lines = p.lines ∙ ap (λ k. p.before ++ k) lines; place = p.place; done = p.done }
 
   -- what is left is told too
-  pub left_known : (told left : Option (List ℕ)) (state : S) (number : ℕ) → IfSome told (λ text. LinesRead text left state number) → KnownOf told left
+  pub left_known : (contents left : Option (List ℕ)) (state : S) (number : ℕ) → IfSome contents (λ text. LinesRead text left state number) → KnownOf contents left
   left_known None left state number p = tt
   left_known (Some text) left state number p = (p.rest, p.known)
 
   -- there are more lines than numbers
-  pub numbers_used : (told left : Option (List ℕ)) (state : S) (number : ℕ) → IfSome told (λ text. LinesRead text left state number)
-      → 18446744073709551615 ≤ number → TextFails told
+  pub numbers_used : (contents left : Option (List ℕ)) (state : S) (number : ℕ) → IfSome contents (λ text. LinesRead text left state number)
+      → 18446744073709551615 ≤ number → TextFails contents
   numbers_used None left state number p most = tt
   numbers_used (Some text) left state number p most = too_many text p.before (lines_of p.rest) number p.lines p.place most

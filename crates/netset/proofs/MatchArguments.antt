@@ -1,11 +1,11 @@
 -- The arguments of the command `match`.
-use Rattle.std.proofs.Common.{◌≡◌, ◌≢◌, refl, get_or, ◌≤◌, sym, ◌∙◌, ap, ℕ, ◌+◌, ◌<◌, suc, Bool, true, false, cond, ◌&&◌, ◌||◌, List, [], ◌∷◌, ◌++◌, length, take, drop, codes, Bor, arith}
+use Rattle.std.proofs.Common.{◌≡◌, ◌≢◌, refl, get_or, ◌≤◌, sym, ◌∙◌, ap, ℕ, ◌+◌, ◌<◌, suc, Bool, true, false, cond, ◌&&◌, List, [], ◌∷◌, ◌++◌, length, take, drop, codes, Bor, arith, ◌||◌}
 use Rattle.std.specs.List.{drop-map, list_all, list_any, prefix_len, take-map, take_while}
 use Rattle.std.specs.Str.{bytes_eq}
 use Rattle.std.proofs.lemmas.Bool.{true≢false}
 use Rattle.std.proofs.lemmas.List.{get_or-map, take-append-drop, map-append}
-use borrow.Author.Count.{below_more}
 use Rattle.std.proofs.lemmas.List.Sums.{prefix_len_is, take_while-cons}
+use borrow.Author.Count.{below_more}
 use Rattle.netset.specs.Commands.{IsRequest, Match, is_option, read_files}
 use Rattle.netset.specs.Matching.{is_match_option, is_word}
 use Rattle.netset.proofs.Arguments.{bytes_of, same_length, same_text}

@@ -1,16 +1,14 @@
 -- Lines that are picked of a file.
-use Rattle.std.proofs.Common.{◌≡◌, ◌≢◌, ◌↔◌, refl, sym, ◌∙◌, ap, subst, inl, inr, ℕ, ◌+◌, ◌<◌, ◌≤◌, Bool, true, false, not, if◌then◌else◌, List, [], ◌∷◌, ◌++◌, length, map, arith, codes, Option, Some, None, Result, Ok, Err, IsTrue, Decides, append_assoc, length-append}
+use Rattle.std.proofs.Common.{◌≡◌, ◌≢◌, ◌↔◌, refl, sym, ◌∙◌, ap, subst, inl, inr, ℕ, ◌+◌, ◌<◌, ◌≤◌, Bool, true, false, not, if◌then◌else◌, List, [], ◌∷◌, ◌++◌, length, arith, codes, Option, Some, None, Result, Ok, Err, Decides, append_assoc, length-append}
 use Rattle.std.specs.Option.{IfSome}
 use Rattle.std.specs.List.{AllZip, flat_map, items_where_true}
 use Rattle.std.proofs.lemmas.Bool.{true≢false}
-use Rattle.std.proofs.lemmas.List.{append-nil, flat_map_more, map-id}
+use Rattle.std.proofs.lemmas.List.{append-nil, flat_map_more}
 use Rattle.std.proofs.lemmas.List.Concat.{flat_map-append}
 use Rattle.std.proofs.lemmas.List.Splits.{length-slice_split}
-use Rattle.cidr.specs.model.Network.{BeginsWith}
 use Rattle.cidr.specs.either.IpNetwork.{network_family, network_prefix}
 use Rattle.cidr.specs.declared.cidr.combined.IpCidr.{IpCidr}
 use Rattle.cidr.specs.declared.family.Family.{Family}
-use Rattle.cidr_table.specs.Cover.{Covers, IsFull}
 use Rattle.cidr_io.specs.Writing.{State, Whole, Part, Writes}
 use Rattle.cidr_io.specs.declared.sink.OutputFailed.{OutputFailed}
 use Rattle.cidr_io.proofs.Chains.{answered, part_none, then_writes}
@@ -20,21 +18,24 @@ use Rattle.netset.specs.Causes.{TextFails}
 use Rattle.netset.specs.Combining.{Turned}
 use Rattle.netset.specs.Commands.{Match, Says}
 use Rattle.netset.specs.Gathering.{Finishes, IsCounted, IsDone, IsLost, IsUnreadable, Stops, Streams, TakesPart, ended_by, lines_of_part, rest_written}
-use Rattle.netset.specs.Lists.{Text, is_line_feed, lines_of}
-use Rattle.netset.specs.Matching.{AreWithin, ArePicked, ArePickedBy, FieldSays, HasOneIn, IsCutAt, IsEnough, IsErrorBy, IsMatch, LiesIn, Picks, PicksAnywhere, PicksByField, all_written, has, last_line, line_written, lines_among, lines_in, written_of}
+use Rattle.cidr_lists.specs.Lists.{Text, is_line_feed, lines_of}
+use Rattle.cidr_lists.specs.Within.{AreWithin, HasOneIn, LiesIn}
+use Rattle.netset.specs.Matching.{ArePicked, ArePickedBy, IsCutAt, IsEnough, IsErrorBy, IsMatch, Picks, PicksAnywhere, PicksByField, all_written, has, line_written, written_of}
+use Rattle.cidr_lists.specs.Lines.{last_line, lines_among, lines_in}
+use Rattle.cidr_lists.specs.Fields.{FieldSays}
 use Rattle.netset.specs.Program.{AnswersRequest}
 use Rattle.netset.specs.Reading.{IsNextLine}
-use Rattle.netset.specs.Sets.{Held}
+use Rattle.cidr_lists.specs.Sets.{HasAddress}
 use Rattle.netset.specs.Streaming.{IsOfFile, IsStop, IsWritten, ReadTo}
 use Rattle.netset.specs.declared.output.answers.Verdict.{Verdict}
 use Rattle.netset.specs.declared.output.answers.Verdict.TheVariants.{Yes, No}
 use Rattle.netset.specs.declared.errors.CommandError.{CommandError}
 use Rattle.netset.specs.declared.errors.CommandError.TheVariants as error
-use Rattle.netset.specs.declared.errors.LineError.{LineError}
+use Rattle.cidr_lists.specs.declared.errors.LineError.{LineError}
 use Rattle.netset.specs.declared.commands.matching.Gathered.{Gathered}
 use Rattle.netset.specs.declared.commands.matching.Written.{Written}
 use Rattle.netset.specs.declared.commands.matching.Written.TheVariants as written
-use Rattle.netset.specs.declared.output.sets.Sets.{Sets}
+use Rattle.cidr_lists.specs.declared.sets.Sets.{Sets}
 use Rattle.netset.proofs.Blocks.{last_block, nothing_held}
 use Rattle.cidr_io.proofs.Collected.{held_lost, held_then, none_collected}
 use Rattle.netset.proofs.Causes.{KnownOf, longer_than}
@@ -116,11 +117,6 @@ picked_same P Q f xs ps (ms, are, is) = (
   is,
 )
 
--- ---- which lines are picked
-pub within_is : (networks : List (List Bool)) (p : List Bool) (b : Bool) → (IsTrue b ↔ IsFull 129 (map (λ (x : List Bool). x) networks) p)
-    → Decides b ((a : List Bool) → length a ≡ 129 → BeginsWith a p → Covers networks a)
-within_is networks p b h = rw (map-id networks) at h
-
 decides_not : (P : Type 0) (b : Bool) → Decides b P → Decides (not b) (¬ P)
 decides_not P true d = (λ e. absurd (true≢false (sym e)), λ h. absurd (h (d.0 refl)))
 decides_not P false d = (λ e p. absurd (true≢false (sym (d.1 p))), λ h. refl)
@@ -142,17 +138,17 @@ picks_anywhere IsIn inverted line found picked e d = turned_by (HasOneIn IsIn li
 
 -- by the list as by its set
 module _ (said : List (List IpCidr)) (sets : Sets) (h : HasAddresses said sets) where
-  within_same : (family : Family) (prefix : List Bool) → AreWithin (Held sets) family prefix ↔ AreWithin (Says said) family prefix
+  within_same : (family : Family) (prefix : List Bool) → AreWithin (HasAddress sets) family prefix ↔ AreWithin (Says said) family prefix
   within_same family prefix = (
     λ k a wide begins. ((h family).exact a wide).0 (k a wide begins),
     λ k a wide begins. ((h family).exact a wide).1 (k a wide begins),
   )
 
-  lies_same : (what : Option IpCidr) → LiesIn (Held sets) what ↔ LiesIn (Says said) what
+  lies_same : (what : Option IpCidr) → LiesIn (HasAddress sets) what ↔ LiesIn (Says said) what
   lies_same None = (λ e. e, λ e. e)
   lies_same (Some network) = within_same (network_family network) (network_prefix network)
 
-  one_same : (line : List ℕ) → HasOneIn (Held sets) line ↔ HasOneIn (Says said) line
+  one_same : (line : List ℕ) → HasOneIn (HasAddress sets) line ↔ HasOneIn (Says said) line
   one_same line = (
     λ (family, (word, among, (text, bare, (address, spells, within)))).
         (family, (word, among, (text, bare, (address, spells, (within_same family address).0 within)))),
@@ -160,17 +156,17 @@ module _ (said : List (List IpCidr)) (sets : Sets) (h : HasAddresses said sets) 
         (family, (word, among, (text, bare, (address, spells, (within_same family address).1 within)))),
   )
 
-  picks_same : (anywhere inverted : Bool) (line : List ℕ) (r : Result Bool LineError) → Picks anywhere (Held sets) inverted line r
+  picks_same : (anywhere inverted : Bool) (line : List ℕ) (r : Result Bool LineError) → Picks anywhere (HasAddress sets) inverted line r
       → Picks anywhere (Says said) inverted line r
   picks_same true inverted line (Ok picked) d =
-      decides_same (Turned inverted (HasOneIn (Held sets) line)) (Turned inverted (HasOneIn (Says said) line)) picked
-      (turned_same inverted (HasOneIn (Held sets) line) (HasOneIn (Says said) line) (one_same line)) d
+      decides_same (Turned inverted (HasOneIn (HasAddress sets) line)) (Turned inverted (HasOneIn (Says said) line)) picked
+      (turned_same inverted (HasOneIn (HasAddress sets) line) (HasOneIn (Says said) line) (one_same line)) d
   picks_same true inverted line (Err e) bad = absurd bad
   picks_same false inverted line (Ok picked) (what, says, d) = (
     what,
     says,
-    decides_same (Turned inverted (LiesIn (Held sets) what)) (Turned inverted (LiesIn (Says said) what)) picked
-        (turned_same inverted (LiesIn (Held sets) what) (LiesIn (Says said) what) (lies_same what)) d,
+    decides_same (Turned inverted (LiesIn (HasAddress sets) what)) (Turned inverted (LiesIn (Says said) what)) picked
+        (turned_same inverted (LiesIn (HasAddress sets) what) (LiesIn (Says said) what) (lies_same what)) d,
   )
   picks_same false inverted line (Err e) bad = bad
 
@@ -238,7 +234,7 @@ module _ (P : List ℕ → Result Bool LineError → Type 0) (what : Written) wh
 
   pub record Streamed (known left : Option (List ℕ)) (s t : State) (number count : ℕ) (block : List ℕ) : Type 0 where
     pub picked : List (List ℕ)
-    pub held : Holds s t block (flat_map (line_written what) picked)
+    pub collected : Holds s t block (flat_map (line_written what) picked)
     pub counted : count ≡ length picked
     pub few : count < number
     pub passed : IfSome known (λ text. Passed text left number picked)
@@ -253,7 +249,7 @@ module _ (P : List ℕ → Result Bool LineError → Type 0) (what : Written) wh
 
   pub record Taken (known next : Option (List ℕ)) (s t : State) (number count : ℕ) (block : List ℕ) (more : Bool) : Type 0 where
     pub picked : List (List ℕ)
-    pub held : Holds s t block (flat_map (line_written what) picked)
+    pub collected : Holds s t block (flat_map (line_written what) picked)
     pub counted : count ≡ length picked
     pub few : count < number + 1
     pub reached : IfSome known (λ text. Reached text next number more picked)
@@ -265,7 +261,7 @@ module _ (P : List ℕ → Result Bool LineError → Type 0) (what : Written) wh
   pub started : (known : Option (List ℕ)) (s : State) (count : ℕ) (block : List ℕ) → count ≡ 0 → block ≡ [] → Streamed known known s s 1 count block
   started known s count block zero none = record {
     picked = [];
-    held = subst (λ (k : List ℕ). Holds s s k []) (sym none) (nothing_held s);
+    collected = subst (λ (k : List ℕ). Holds s s k []) (sym none) (nothing_held s);
     counted = zero;
     few = omega (arith, zero);
     passed = nothing_passed known;
@@ -302,8 +298,8 @@ module _ (P : List ℕ → Result Bool LineError → Type 0) (what : Written) wh
       → TakesPart P what file number part more t u before after (Ok tt) → Taken known next s u number after.count after.block more
   take_on file known left next s t u number part more before after st n (one, are, count, few, collects) = record {
     picked = st.picked ++ one;
-    held = subst (Holds s u after.block) (sym (flat_map-append (line_written what) st.picked one))
-        (held_then s t u before.block after.block (flat_map (line_written what) st.picked) (flat_map (line_written what) one) st.held collects);
+    collected = subst (Holds s u after.block) (sym (flat_map-append (line_written what) st.picked one))
+        (held_then s t u before.block after.block (flat_map (line_written what) st.picked) (flat_map (line_written what) one) st.collected collects);
     counted = omega (arith, count, st.counted, length-append st.picked one);
     few = omega (arith, count, few, st.few);
     reached = reached_by known left next number part more st.picked one st.passed n are;
@@ -318,7 +314,7 @@ module _ (P : List ℕ → Result Bool LineError → Type 0) (what : Written) wh
       → done ≡ false → Taken known next s t number count block more → Streamed known next s t (number + 1) count block
   go_on known next s t number count block true done d e k = record {
     picked = k.picked;
-    held = k.held;
+    collected = k.collected;
     counted = k.counted;
     few = k.few;
     passed = passed_on known next number true k.picked refl k.reached;
@@ -352,7 +348,7 @@ module _ (P : List ℕ → Result Bool LineError → Type 0) (what : Written) wh
       → Decides done (IsDone what more gathered.count) → done ≡ true → s.failed ≡ false
       → Taken known next s t number gathered.count gathered.block more → Finishes what t u gathered r → Streams P what file known s u r
   ended file known next s t u number gathered more done r d e fine k (verdict, w, counted, writes, is) =
-      let (before, whole, split) = k.held in
+      let (before, whole, split) = k.collected in
       let rest : List ℕ = rest_written what gathered.count in
       let all : before ++ (gathered.block ++ rest) ≡ all_written what k.picked =
       sym (append_assoc before gathered.block rest) ∙ (ap (λ (z : List ℕ). z ++ rest) (sym split)
@@ -382,22 +378,22 @@ module _ (P : List ℕ → Result Bool LineError → Type 0) (what : Written) wh
       → ((text : List ℕ) → Whole s u text × (u.failed ≡ false) → IsWritten s u text e) → Holds s t block (flat_map (line_written what) picked) → Writes t u block w
       → r ≡ Err (ended_by e w) → IfSome known (λ text. IsCutAt P what text (flat_map (line_written what) picked) e)
       → IfSome known (λ text. IsCutAt P what text (flat_map (line_written what) picked) error.Output) → Streams P what file known s u r
-  stopped file known s t u block picked e (Ok a) r fine of goes held wrote is cut lost = inr (
+  stopped file known s t u block picked e (Ok a) r fine of goes collected wrote is cut lost = inr (
     e,
     is,
     of,
     flat_map (line_written what) picked,
     goes (flat_map (line_written what) picked) (answered s u (flat_map (line_written what) picked) (Ok a) fine
-        (last_block s t u block (flat_map (line_written what) picked) (Ok a) held wrote)),
+        (last_block s t u block (flat_map (line_written what) picked) (Ok a) collected wrote)),
     cut,
   )
-  stopped file known s t u block picked e (Err f) r fine of goes held wrote is cut lost = inr (
+  stopped file known s t u block picked e (Err f) r fine of goes collected wrote is cut lost = inr (
     error.Output,
     is,
     tt,
     flat_map (line_written what) picked,
     answered s u (flat_map (line_written what) picked) (Err f) fine
-        (last_block s t u block (flat_map (line_written what) picked) (Err f) held wrote),
+        (last_block s t u block (flat_map (line_written what) picked) (Err f) collected wrote),
     lost,
   )
 
@@ -407,11 +403,11 @@ module _ (P : List ℕ → Result Bool LineError → Type 0) (what : Written) wh
   unread file known left s t u number count block (error.Argument text e) r fine h st stops = absurd h
   unread file known left s t u number count block (error.Line name n e) r fine h st stops = absurd h
   unread file known left s t u number count block (error.Input name) r fine h st (w, wrote, is) =
-      stopped file known s t u block st.picked (error.Input name) w r fine h (λ text all. all) st.held wrote is
+      stopped file known s t u block st.picked (error.Input name) w r fine h (λ text all. all) st.collected wrote is
       (cut_here known left number st.picked (error.Input name) (λ _ _. tt) st.passed)
       (cut_here known left number st.picked error.Output (λ _ _. tt) st.passed)
   unread file known left s t u number count block error.NoMemory r fine h st (w, wrote, is) =
-      stopped file known s t u block st.picked error.NoMemory w r fine tt (λ text all. all) st.held wrote is
+      stopped file known s t u block st.picked error.NoMemory w r fine tt (λ text all. all) st.collected wrote is
       (cut_here known left number st.picked error.NoMemory (λ _ _. tt) st.passed)
       (cut_here known left number st.picked error.Output (λ _ _. tt) st.passed)
   unread file known left s t u number count block error.Output r fine h st stops = absurd h
@@ -434,8 +430,8 @@ module _ (P : List ℕ → Result Bool LineError → Type 0) (what : Written) wh
       → Streamed known left s t number count block → Streamed known left s u number after next
   caught_up known left s t u number count after block next same more st = record {
     picked = st.picked;
-    held = subst (Holds s u next) (append-nil (flat_map (line_written what) st.picked))
-        (held_then s t u block next (flat_map (line_written what) st.picked) [] st.held more);
+    collected = subst (Holds s u next) (append-nil (flat_map (line_written what) st.picked))
+        (held_then s t u block next (flat_map (line_written what) st.picked) [] st.collected more);
     counted = same ∙ st.counted;
     few = omega (arith, same, st.few);
     passed = st.passed;
@@ -449,7 +445,7 @@ module _ (P : List ℕ → Result Bool LineError → Type 0) (what : Written) wh
     tt,
     flat_map (line_written what) st.picked,
     (
-      subst (Part s u) (append-nil (flat_map (line_written what) st.picked)) (held_lost s t u block (flat_map (line_written what) st.picked) [] st.held part),
+      subst (Part s u) (append-nil (flat_map (line_written what) st.picked)) (held_lost s t u block (flat_map (line_written what) st.picked) [] st.collected part),
       λ before. absurd (true≢false (sym before ∙ fine)),
     ),
     cut_here known left number st.picked error.Output (λ _ _. tt) st.passed,
@@ -506,10 +502,10 @@ module _ (P : List ℕ → Result Bool LineError → Type 0) (what : Written) wh
   lost file known left next s t u v number count block rest part more (error.Input name) r fine st n h stops = absurd h.1
   lost file known left next s t u v number count block rest part more error.NoMemory r fine st n h stops = absurd h.1
   lost file known left next s t u v number count block rest part more (error.Line name m e) r fine st n (one, (same, place, bad, still, kept)) (w, wrote, is) =
-      let held : Holds s u rest (flat_map (line_written what) st.picked) =
+      let collected : Holds s u rest (flat_map (line_written what) st.picked) =
       subst (λ (z : State). Holds s z rest (flat_map (line_written what) st.picked)) (sym still)
-      (subst (λ (k : List ℕ). Holds s t k (flat_map (line_written what) st.picked)) (sym kept) st.held) in
-      stopped file known s u v rest st.picked (error.Line name m e) w r fine same (λ text all. all) held wrote is
+      (subst (λ (k : List ℕ). Holds s t k (flat_map (line_written what) st.picked)) (sym kept) st.collected) in
+      stopped file known s u v rest st.picked (error.Line name m e) w r fine same (λ text all. all) collected wrote is
       (cut_at_line known left next number part more st.picked (error.Line name m e) one n st.passed (λ read after at. (place ∙ at, part, after, refl, bad)))
       (cut_at_line known left next number part more st.picked error.Output one n st.passed (λ _ _ _. tt))
   lost file known left next s t u v number count block rest part more error.Output r fine st n (one, (picks, failed)) (still, is) =
@@ -521,7 +517,7 @@ module _ (P : List ℕ → Result Bool LineError → Type 0) (what : Written) wh
         flat_map (line_written what) (st.picked ++ part ∷ []),
         (
           subst (λ (z : State). Part s z (flat_map (line_written what) (st.picked ++ part ∷ []))) (sym still)
-              (subst (Part s u) (flat_map_more (line_written what) [] st.picked part) (held_lost s t u block text (line_written what part) st.held failed)),
+              (subst (Part s u) (flat_map_more (line_written what) [] st.picked part) (held_lost s t u block text (line_written what part) st.collected failed)),
           λ before. absurd (true≢false (sym before ∙ fine)),
         ),
         cut_behind known left next number part more st.picked error.Output one picks (λ _ _. tt) n st.passed,
@@ -550,10 +546,10 @@ known_cut P Q f what known text answer e is h =
     let (read, left, to, stops) = cut in
     (picked, (read, left, record { lines = to.lines; are = picked_same P Q f read picked to.are }, stop_same P Q f read left e stops), written)
 
-pub matched : (told : List ℕ → Option Text) (options : List (List ℕ)) (list file : List ℕ) (sets : Sets) (known : Option (List ℕ)) (s t : State) (r : Result Verdict CommandError)
-    → ReadsFile (told list) list (Ok sets) → ((text : Text) → told file ≡ Some text → known ≡ Some text.bytes)
-    → Streams (Picks (has (codes "--any") options) (Held sets) (has (codes "-v") options)) (written_of options) file known s t r → AnswersRequest told (Match options list file) s t r
-matched told options list file sets known s t r reads tells (inl (answer, verdict, w, match, written, is)) =
+pub matched : (contents : List ℕ → Option Text) (options : List (List ℕ)) (list file : List ℕ) (sets : Sets) (known : Option (List ℕ)) (s t : State) (r : Result Verdict CommandError)
+    → ReadsFile (contents list) list (Ok sets) → ((text : Text) → contents file ≡ Some text → known ≡ Some text.bytes)
+    → Streams (Picks (has (codes "--any") options) (HasAddress sets) (has (codes "-v") options)) (written_of options) file known s t r → AnswersRequest contents (Match options list file) s t r
+matched contents options list file sets known s t r reads tells (inl (answer, verdict, w, match, written, is)) =
     inl (inr (
       answer,
       verdict,
@@ -564,7 +560,7 @@ matched told options list file sets known s t r reads tells (inl (answer, verdic
       written,
       is,
     ))
-matched told options list file sets known s t r reads tells (inr (e, is, of_file, answer, begun, cut)) =
+matched contents options list file sets known s t r reads tells (inr (e, is, of_file, answer, begun, cut)) =
     inr (
       e,
       is,

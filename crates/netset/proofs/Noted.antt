@@ -8,14 +8,15 @@ use Rattle.std.proofs.lemmas.List.Elements.{Contains-append_left, Contains-get_o
 use Rattle.std.proofs.lemmas.Option.{same_Some, slice_get_within}
 use Rattle.cidr_sets.proofs.FirstRules.{increasing_push}
 use Rattle.cidr_table.proofs.MapLaws.{contains_nothing}
-use Rattle.netset.specs.Findings.{AreNotes, AreNotesBelow, IsFinding, IsNote, IsOnlyNote, kind_rank, order, rank}
-use Rattle.netset.specs.declared.input.entries.Entry.{Entry}
-use Rattle.netset.specs.declared.input.entries.Place.{Place}
-use Rattle.netset.specs.declared.commands.findings.Finding.{Finding}
-use Rattle.netset.specs.declared.commands.findings.Finding.TheVariants.{HostBits, NotCanonical, Repeats, Inside, Mergeable}
-use Rattle.netset.specs.declared.commands.findings.Kind.{Kind}
-use Rattle.netset.specs.declared.commands.findings.Kind.TheVariants as kind
-use Rattle.netset.specs.declared.commands.findings.Note.{Note}
+use Rattle.cidr_lists.specs.Findings.{AreNotes, IsFinding, IsNote, IsOnlyNote, kind_rank, order, rank}
+use Rattle.netset.specs.Findings.{AreNotesBelow}
+use Rattle.cidr_lists.specs.declared.entries.Entry.{Entry}
+use Rattle.cidr_lists.specs.declared.entries.Place.{Place}
+use Rattle.cidr_lists.specs.declared.findings.Finding.{Finding}
+use Rattle.cidr_lists.specs.declared.findings.Finding.TheVariants.{HostBits, NotCanonical, Repeats, Inside, Mergeable}
+use Rattle.cidr_lists.specs.declared.findings.Kind.{Kind}
+use Rattle.cidr_lists.specs.declared.findings.Kind.TheVariants as kind
+use Rattle.cidr_lists.specs.declared.findings.Note.{Note}
 
 rank_below : (f : Finding) → rank f < 5
 rank_below HostBits = omega arith

@@ -1,5 +1,5 @@
 -- Options of reading that are taken out of the arguments.
-use Rattle.std.proofs.Common.{◌≡◌, refl, sym, ◌∙◌, ap, ap₂, subst, arith, Bor, ℕ, ◌+◌, suc, Bool, true, false, cond, if◌then◌else◌, ◌||◌, List, [], ◌∷◌, drop, get_or, codes}
+use Rattle.std.proofs.Common.{◌≡◌, refl, sym, ◌∙◌, ap, ap₂, subst, arith, Bor, ℕ, ◌+◌, suc, Bool, true, false, cond, if◌then◌else◌, List, [], ◌∷◌, drop, get_or, codes, ◌||◌}
 use Rattle.std.specs.List.{list_any, prefix_len, remove, take_while}
 use Rattle.std.specs.Str.{bytes_eq}
 use Rattle.std.proofs.lemmas.List.Sums.{take_while-cons}
@@ -8,8 +8,8 @@ use Rattle.netset.specs.Commands.{is_reading_option, reading_of, reading_options
 use Rattle.netset.specs.Matching.{is_word}
 use Rattle.netset.proofs.Arguments.{bytes_of}
 use Rattle.netset.specs.declared.commands.Reading.{Reading}
-use Rattle.netset.specs.declared.input.lines.HostBits.{HostBits}
-use Rattle.netset.specs.declared.input.lines.HostBits.TheVariants.{Refused, Cleared}
+use Rattle.cidr_lists.specs.declared.lines.HostBits.{HostBits}
+use Rattle.cidr_lists.specs.declared.lines.HostBits.TheVariants.{Refused, Cleared}
 
 abbrev either : HostBits → HostBits → HostBits
 either Cleared bits = Cleared

@@ -2,13 +2,13 @@
 use Rattle.std.proofs.Common.{◌≡◌, refl, sym, ◌∙◌, ℕ, ◌+◌, Bor, Bool, true, false, List, [], ◌∷◌, ◌++◌, Option, Some, append_assoc, append-nil}
 use Rattle.std.specs.Option.{IfSome}
 use Rattle.std.specs.List.{AllZip}
-use Rattle.netset.specs.Lists.{lines_of}
+use Rattle.cidr_lists.specs.Lists.{lines_of}
 use Rattle.netset.specs.LookUps.{AreBeforeError, AreFirst}
 use Rattle.netset.specs.Reading.{IsNextLine}
 use Rattle.netset.specs.Streaming.{IsCut, IsStop}
 use Rattle.netset.specs.declared.errors.CommandError.{CommandError}
 use Rattle.netset.specs.declared.errors.CommandError.TheVariants as error
-use Rattle.netset.specs.declared.errors.LineError.{LineError}
+use Rattle.cidr_lists.specs.declared.errors.LineError.{LineError}
 use Rattle.netset.proofs.LinesRead.{LinesRead, line_read, last_read, none_read, stops_at}
 use Rattle.netset.proofs.Zips.{zip_behind}
 

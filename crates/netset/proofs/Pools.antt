@@ -1,40 +1,31 @@
 -- The first free network of a pool.
-use Rattle.std.proofs.Common.{◌≡◌, ◌≢◌, sym, ◌∙◌, ap, [], drop, get_or, inr, ℕ, ◌≤◌, Bool, List, ◌∷◌, Option, Some, None, Result, map}
-use Rattle.std.specs.Option.{option_map}
-use Rattle.std.proofs.lemmas.List.{map-id}
-use Rattle.cidr.specs.model.Network.{FitsWidth}
+use Rattle.std.proofs.Common.{◌≡◌, ◌≢◌, sym, ◌∙◌, ap, [], drop, get_or, inr, ℕ, ◌≤◌, List, ◌∷◌, Option, Result}
 use Rattle.cidr.specs.declared.family.Family.{Family}
 use Rattle.cidr_io.specs.Writing.{State, Answered}
 use Rattle.cidr_io.specs.declared.sink.OutputFailed.{OutputFailed}
-use Rattle.cidr_sets.specs.Pools.{IsFirstFree}
 use Rattle.cidr_sets.specs.Sets.{IsSetOf}
 use Rattle.netset.specs.Answering.{AreRead}
 use Rattle.netset.specs.Combining.{IsMade, name_of}
 use Rattle.netset.specs.Commands.{Lists, NotIn, Diff, Free, Check, Match, Look, Single, Help, Version, IsRequest, IsUsage, Says}
 use Rattle.netset.specs.Free.{IsFreeText}
-use Rattle.netset.specs.Lists.{Text}
+use Rattle.cidr_lists.specs.Lists.{Text}
 use Rattle.netset.specs.Program.{AnswersRequest, by_output}
-use Rattle.netset.specs.Sets.{Held, held}
+use Rattle.cidr_lists.specs.Sets.{HasAddress, networks_of}
 use Rattle.netset.specs.Single.{IsNumber, IsSingle, SingleRequest}
 use Rattle.netset.specs.declared.output.answers.Verdict.{Verdict}
 use Rattle.netset.specs.declared.errors.CommandError.{CommandError}
 use Rattle.netset.specs.declared.commands.operations.Operation.{Operation}
 use Rattle.netset.specs.declared.commands.operations.Operation.TheVariants.{Minus}
-use Rattle.netset.specs.declared.output.sets.Sets.{Sets}
-use Rattle.netset.proofs.Combining.{has_same, made_same, set_same}
-
--- networks whose bits are themselves
-pub plain_free : (width : ℕ) (networks : List (List Bool)) (n : ℕ) (p : Option (List Bool))
-    → IsFirstFree (FitsWidth width) (map (λ (x : List Bool). x) networks) n (option_map (λ (x : List Bool). x) p) → IsFirstFree (FitsWidth width) networks n p
-plain_free width networks n None h = rw (map-id networks) at h
-plain_free width networks n (Some p) h = rw (map-id networks) at h
+use Rattle.cidr_lists.specs.declared.sets.Sets.{Sets}
+use Rattle.netset.proofs.Combining.{has_same, made_same}
+use Rattle.cidr_lists.proofs.SetSteps.{set_same}
 
 -- what is free of the sets is free of the lists
-pub free_written : (told : List ℕ → Option Text) (pool len : List ℕ) (used : List (List ℕ)) (n : ℕ) (read : List Sets) (rest : Sets) (answer : List ℕ)
+pub free_written : (contents : List ℕ → Option Text) (pool len : List ℕ) (used : List (List ℕ)) (n : ℕ) (read : List Sets) (rest : Sets) (answer : List ℕ)
     (verdict : Verdict) (s t : State) (w : Result (Unit {0}) OutputFailed) (r : Result Verdict CommandError) → IsNumber len n × (n ≤ 128)
-    → AreRead told (pool ∷ used) read → ((family : Family) → IsSetOf 129 (IsMade Held Minus read family) (held rest family))
-    → IsFreeText (held rest) n answer verdict → Answered s t answer w → r ≡ by_output verdict w → AnswersRequest told (Free pool len used) s t r
-free_written told pool len used n read rest answer verdict s t w r number are made free written is =
+    → AreRead contents (pool ∷ used) read → ((family : Family) → IsSetOf 129 (IsMade HasAddress Minus read family) (networks_of rest family))
+    → IsFreeText (networks_of rest) n answer verdict → Answered s t answer w → r ≡ by_output verdict w → AnswersRequest contents (Free pool len used) s t r
+free_written contents pool len used n read rest answer verdict s t w r number are made free written is =
     inr (
       answer,
       verdict,
@@ -47,9 +38,9 @@ free_written told pool len used n read rest answer verdict s t w r number are ma
             let (said, says, has) = are texts told_so in (
               said,
               says,
-              held rest,
-              λ family. set_same _ _ (held rest family) (made family) (λ a wide.
-                  made_same Held Says Minus read said family a (has_same said read family a wide has)),
+              networks_of rest,
+              λ family. set_same _ _ (networks_of rest family) (made family) (λ a wide.
+                  made_same HasAddress Says Minus read said family a (has_same said read family a wide has)),
               free,
             ),
       ),

@@ -5,14 +5,15 @@ use Rattle.std.specs.List.{AllZip}
 use Rattle.std.proofs.lemmas.List.{append-nil, flat_map_more}
 use Rattle.cidr.specs.declared.cidr.combined.IpCidr.{IpCidr}
 use Rattle.netset.specs.Causes.{TextFails}
-use Rattle.netset.specs.Lists.{text_by, lines_of, LineSays, network_in, networks_in}
-use Rattle.netset.specs.Reading.{IsNextLine, IsStopped, IsReadError, IsLineError, listed, Grows, ReadsList}
+use Rattle.cidr_lists.specs.Lists.{text_by, lines_of, LineSays, network_in, networks_in}
+use Rattle.netset.specs.Reading.{IsNextLine, IsStopped, IsReadError, IsLineError, ReadsList}
+use Rattle.cidr_lists.specs.Reading.{listed, Grows}
 use Rattle.netset.proofs.Causes.{KnownOf, too_many}
 use Rattle.netset.proofs.Zips.{zip_behind}
 use Rattle.netset.specs.declared.errors.ReadError.{ReadError}
 use Rattle.netset.specs.declared.errors.ReadError.TheVariants.{Line, Input, NoMemory}
-use Rattle.netset.specs.declared.input.lines.HostBits.{HostBits}
-use Rattle.netset.specs.declared.input.lists.Lists.{Lists}
+use Rattle.cidr_lists.specs.declared.lines.HostBits.{HostBits}
+use Rattle.cidr_lists.specs.declared.lists.Lists.{Lists}
 
 first_of_more : (text line : List ℕ) (more : Bool) (next : Option (List ℕ)) → IsNextLine text line more next → (after : List (List ℕ)) × (lines_of text ≡ line ∷ after)
 first_of_more text line true next n = (lines_of n.0, n.2)
@@ -30,7 +31,7 @@ module _ (bits : HostBits) where
     pub fine : AllZip (LineSays bits) before said
     pub grown : Grows old new (λ family. networks_in family said)
 
-  pub started : (told : Option (List ℕ)) (lists : Lists) → IfSome told (λ text. Progress text told lists lists 1)
+  pub started : (contents : Option (List ℕ)) (lists : Lists) → IfSome contents (λ text. Progress text contents lists lists 1)
   started None lists = tt
   started (Some text) lists = record {
     rest = text;
@@ -49,9 +50,9 @@ module _ (bits : HostBits) where
       h family ∙ (ap (λ k. k ++ network_in family one) (g family) ∙ flat_map_more (network_in family) (listed old family) said one)
 
   -- a line that has another behind it
-  pub stepped : (told left next : Option (List ℕ)) (old now new : Lists) (number : ℕ) (line : List ℕ) (more : Bool) (one : List IpCidr)
-      → more ≡ true → IfSome told (λ text. Progress text left old now number) → IfSome left (λ text. IsNextLine text line more next) → LineSays bits line one
-      → Grows now new (λ family. network_in family one) → IfSome told (λ text. Progress text next old new (number + 1))
+  pub stepped : (contents left next : Option (List ℕ)) (old now new : Lists) (number : ℕ) (line : List ℕ) (more : Bool) (one : List IpCidr)
+      → more ≡ true → IfSome contents (λ text. Progress text left old now number) → IfSome left (λ text. IsNextLine text line more next) → LineSays bits line one
+      → Grows now new (λ family. network_in family one) → IfSome contents (λ text. Progress text next old new (number + 1))
   stepped None left next old now new number line more one is p n s g = tt
   stepped (Some text) left next old now new number line false one is p n s g = cc
   stepped (Some text) left next old now new number line true one is p n s g =
@@ -68,9 +69,9 @@ module _ (bits : HostBits) where
       }
 
   -- the last line
-  pub finished : (told left next : Option (List ℕ)) (old now new : Lists) (number : ℕ) (line : List ℕ) (more : Bool) (one : List IpCidr)
-      → more ≡ false → IfSome told (λ text. Progress text left old now number) → IfSome left (λ text. IsNextLine text line more next) → LineSays bits line one
-      → Grows now new (λ family. network_in family one) → IfSome told (λ text. ReadsList (text_by bits text) old new (Ok tt))
+  pub finished : (contents left next : Option (List ℕ)) (old now new : Lists) (number : ℕ) (line : List ℕ) (more : Bool) (one : List IpCidr)
+      → more ≡ false → IfSome contents (λ text. Progress text left old now number) → IfSome left (λ text. IsNextLine text line more next) → LineSays bits line one
+      → Grows now new (λ family. network_in family one) → IfSome contents (λ text. ReadsList (text_by bits text) old new (Ok tt))
   finished None left next old now new number line more one is p n s g = tt
   finished (Some text) left next old now new number line true one is p n s g = cc
   finished (Some text) left next old now new number line false one is p n s g =
@@ -78,9 +79,9 @@ module _ (bits : HostBits) where
       (p.said ++ one ∷ [], rw lines (zip_behind (LineSays bits) p.before p.said line one p.fine s), grown_more old now new p.said one p.grown g)
 
   -- a line in error, or an end of reading
-  failed_by : (told left next : Option (List ℕ)) (old now : Lists) (number : ℕ) (line : List ℕ) (more : Bool) (e : ReadError)
-      → IfSome told (λ text. Progress text left old now number) → IfSome left (λ text. IsNextLine text line more next) → IsLineError bits line number e
-      → IfSome told (λ text. IsReadError (text_by bits text) e)
+  failed_by : (contents left next : Option (List ℕ)) (old now : Lists) (number : ℕ) (line : List ℕ) (more : Bool) (e : ReadError)
+      → IfSome contents (λ text. Progress text left old now number) → IfSome left (λ text. IsNextLine text line more next) → IsLineError bits line number e
+      → IfSome contents (λ text. IsReadError (text_by bits text) e)
   failed_by None left next old now number line more e p n h = tt
   failed_by (Some text) left next old now number line more Input p n h = absurd h
   failed_by (Some text) left next old now number line more NoMemory p n h = tt
@@ -97,7 +98,7 @@ module _ (bits : HostBits) where
         fault = h.1;
       }
 
-  stopped_by : (told : Option (List ℕ)) (e : ReadError) → IsStopped e → IfSome told (λ text. IsReadError (text_by bits text) e)
+  stopped_by : (contents : Option (List ℕ)) (e : ReadError) → IsStopped e → IfSome contents (λ text. IsReadError (text_by bits text) e)
   stopped_by None e h = tt
   stopped_by (Some text) (Line number e) h = absurd h
   stopped_by (Some text) Input h = tt
@@ -106,30 +107,30 @@ module _ (bits : HostBits) where
   abbrev failing : ReadError → Result (Unit {0}) ReadError
   failing e = Err e
 
-  passed_on : (told : Option (List ℕ)) (old new : Lists) (r : Result (Unit {0}) ReadError) (y e : ReadError) → r ≡ Err y → y ≡ e
-      → IfSome told (λ text. IsReadError (text_by bits text) e) → IfSome told (λ text. ReadsList (text_by bits text) old new r)
-  passed_on told old new r y e is same h =
-      let P : Result (Unit {0}) ReadError → Type 0 = λ k. IfSome told (λ text. ReadsList (text_by bits text) old new k) in
+  passed_on : (contents : Option (List ℕ)) (old new : Lists) (r : Result (Unit {0}) ReadError) (y e : ReadError) → r ≡ Err y → y ≡ e
+      → IfSome contents (λ text. IsReadError (text_by bits text) e) → IfSome contents (λ text. ReadsList (text_by bits text) old new r)
+  passed_on contents old new r y e is same h =
+      let P : Result (Unit {0}) ReadError → Type 0 = λ k. IfSome contents (λ text. ReadsList (text_by bits text) old new k) in
       subst P (sym (is ∙ ap failing same)) h
 
-  pub failed : (told left next : Option (List ℕ)) (old now new : Lists) (number : ℕ) (line : List ℕ) (more : Bool) (r : Result (Unit {0}) ReadError) (y e : ReadError)
+  pub failed : (contents left next : Option (List ℕ)) (old now new : Lists) (number : ℕ) (line : List ℕ) (more : Bool) (r : Result (Unit {0}) ReadError) (y e : ReadError)
       → r ≡ Err y → y ≡ e
-      → IfSome told (λ text. Progress text left old now number) → IfSome left (λ text. IsNextLine text line more next) → IsLineError bits line number e
-      → IfSome told (λ text. ReadsList (text_by bits text) old new r)
-  failed told left next old now new number line more r y e is same p n h =
-      passed_on told old new r y e is same (failed_by told left next old now number line more e p n h)
+      → IfSome contents (λ text. Progress text left old now number) → IfSome left (λ text. IsNextLine text line more next) → IsLineError bits line number e
+      → IfSome contents (λ text. ReadsList (text_by bits text) old new r)
+  failed contents left next old now new number line more r y e is same p n h =
+      passed_on contents old new r y e is same (failed_by contents left next old now number line more e p n h)
 
-  pub stopped : (told : Option (List ℕ)) (old new : Lists) (r : Result (Unit {0}) ReadError) (y e : ReadError) → r ≡ Err y → y ≡ e → IsStopped e
-      → IfSome told (λ text. ReadsList (text_by bits text) old new r)
-  stopped told old new r y e is same h = passed_on told old new r y e is same (stopped_by told e h)
+  pub stopped : (contents : Option (List ℕ)) (old new : Lists) (r : Result (Unit {0}) ReadError) (y e : ReadError) → r ≡ Err y → y ≡ e → IsStopped e
+      → IfSome contents (λ text. ReadsList (text_by bits text) old new r)
+  stopped contents old new r y e is same h = passed_on contents old new r y e is same (stopped_by contents e h)
 
   -- what is left is told too
-  pub left_known : (told left : Option (List ℕ)) (old new : Lists) (number : ℕ) → IfSome told (λ text. Progress text left old new number) → KnownOf told left
+  pub left_known : (contents left : Option (List ℕ)) (old new : Lists) (number : ℕ) → IfSome contents (λ text. Progress text left old new number) → KnownOf contents left
   left_known None left old new number p = tt
   left_known (Some text) left old new number p = (p.rest, p.known)
 
   -- there are more lines than numbers
-  pub numbers_used : (told left : Option (List ℕ)) (old new : Lists) (number : ℕ) → IfSome told (λ text. Progress text left old new number)
-      → 18446744073709551615 ≤ number → TextFails told
+  pub numbers_used : (contents left : Option (List ℕ)) (old new : Lists) (number : ℕ) → IfSome contents (λ text. Progress text left old new number)
+      → 18446744073709551615 ≤ number → TextFails contents
   numbers_used None left old new number p most = tt
   numbers_used (Some text) left old new number p most = too_many text p.before (lines_of p.rest) number p.lines p.place most

@@ -7,74 +7,74 @@ use Rattle.cidr_io.specs.Writing.{State}
 use Rattle.netset.specs.Causes.{Cause, MayFail}
 use Rattle.netset.specs.Commands.{Request, IsRequest, MayRead, input_name, lists_of, others_of, reading_of, reading_options, without_options}
 use Rattle.netset.specs.Keeping.{kind_of}
-use Rattle.netset.specs.Lists.{Text}
+use Rattle.cidr_lists.specs.Lists.{Text}
 use Rattle.netset.specs.Matching.{is_word}
 use Rattle.netset.specs.Loading.{IsLoaded, IsUnloaded}
-use Rattle.netset.specs.Program.{AnswersRequest, IsCaused, IsReadTwice, IsWrong, KeepsGoing, Reports, RunsArguments, RunsOnce, RunsRequest, RunsWords, TellsFaults, status_of, told_by}
+use Rattle.netset.specs.Program.{AnswersRequest, IsCaused, IsReadTwice, IsWrong, KeepsGoing, Reports, RunsArguments, RunsOnce, RunsRequest, RunsWords, TellsFaults, status_of, contents_by}
 use Rattle.netset.specs.declared.output.answers.Verdict.{Verdict}
 use Rattle.netset.specs.declared.commands.Reading.{Reading}
 use Rattle.netset.specs.declared.errors.CommandError.{CommandError}
 use Rattle.netset.specs.declared.errors.CommandError.TheVariants as error
 use Rattle.netset.specs.declared.input.keeping.Kept.{Kept}
-use Rattle.netset.specs.declared.input.keeping.Kind.{Kind}
+use Rattle.cidr_lists.specs.declared.lines.Kind.{Kind}
 use Rattle.netset.proofs.Loading.{none_begun, none_told}
 
 -- ---- with lists whose lines in error are told
-module _ (told : List ℕ → Option Text) (request : Request) (kind : Kind) (names : List (List ℕ)) (refused closed : Bool) (out s t : State) (is_kind : kind ≡ kind_of request)
+module _ (contents : List ℕ → Option Text) (request : Request) (kind : Kind) (names : List (List ℕ)) (refused closed : Bool) (out s t : State) (is_kind : kind ≡ kind_of request)
     (are : names ≡ lists_of request) where
-  loaded_of : (lists : List Kept) (found : Bool) → IsLoaded told kind names s t lists found → IsLoaded told (kind_of request) (lists_of request) s t lists found
+  loaded_of : (lists : List Kept) (found : Bool) → IsLoaded contents kind names s t lists found → IsLoaded contents (kind_of request) (lists_of request) s t lists found
   loaded_of lists found h =
-      subst (λ (k : List (List ℕ)). IsLoaded told (kind_of request) k s t lists found) are (subst (λ (k : Kind). IsLoaded told k names s t lists found) is_kind h)
+      subst (λ (k : List (List ℕ)). IsLoaded contents (kind_of request) k s t lists found) are (subst (λ (k : Kind). IsLoaded contents k names s t lists found) is_kind h)
 
-  unloaded_of : (e : CommandError) → IsUnloaded told kind names s t e → IsUnloaded told (kind_of request) (lists_of request) s t e
+  unloaded_of : (e : CommandError) → IsUnloaded contents kind names s t e → IsUnloaded contents (kind_of request) (lists_of request) s t e
   unloaded_of e h =
-      subst (λ (k : List (List ℕ)). IsUnloaded told (kind_of request) k s t e) are (subst (λ (k : Kind). IsUnloaded told k names s t e) is_kind h)
+      subst (λ (k : List (List ℕ)). IsUnloaded contents (kind_of request) k s t e) are (subst (λ (k : Kind). IsUnloaded contents k names s t e) is_kind h)
 
-  pub lines_in_error : (lists : List Kept) → IsLoaded told kind names s t lists true → TellsFaults told refused request closed out out s t 2
+  pub lines_in_error : (lists : List Kept) → IsLoaded contents kind names s t lists true → TellsFaults contents refused request closed out out s t 2
   lines_in_error lists h =
       let (lines, (tells, fine), any, kept) = loaded_of lists true h in
       (lines, t, tells, inl (fine, inl (any, refl, refl, refl)))
 
-  pub no_line_in_error : (lists : List Kept) (new u : State) (r : Result Verdict CommandError) (status : ℕ) → IsLoaded told kind names s t lists false
-      → AnswersRequest told request out new r → IsCaused told refused r → Reports closed r t u → status ≡ status_of r → TellsFaults told refused request closed out new s u status
+  pub no_line_in_error : (lists : List Kept) (new u : State) (r : Result Verdict CommandError) (status : ℕ) → IsLoaded contents kind names s t lists false
+      → AnswersRequest contents request out new r → IsCaused contents refused r → Reports closed r t u → status ≡ status_of r → TellsFaults contents refused request closed out new s u status
   no_line_in_error lists new u r status h answers caused says is =
       let (lines, (tells, fine), any, kept) = loaded_of lists false h in
       (lines, t, tells, inl (fine, inr (any, r, answers, caused, says, is)))
 
-  pub not_loaded : (u : State) (e : CommandError) (status : ℕ) → IsUnloaded told kind names s t e → Cause (MayFail told) refused e → Reports closed (Err e) t u → status ≡ status_of (Err e)
-      → TellsFaults told refused request closed out out s u status
+  pub not_loaded : (u : State) (e : CommandError) (status : ℕ) → IsUnloaded contents kind names s t e → Cause (MayFail contents) refused e → Reports closed (Err e) t u → status ≡ status_of (Err e)
+      → TellsFaults contents refused request closed out out s u status
   not_loaded u e status h cause says is =
       let (before, after, split, why, front, rest, tells, fine, begun) = unloaded_of e h in
       (front ++ rest, t, tells, inr (before, after, split, front, rest, refl, fine, begun, e, why, cause, refl, says, is))
 
-pub no_names : (told : List ℕ → Option Text) (request : Request) (refused closed : Bool) (out s u : State) (status : ℕ) → refused ≡ true → Reports closed (Err error.NoMemory) s u → status ≡ status_of (Err error.NoMemory)
-    → TellsFaults told refused request closed out out s u status
-no_names told request refused closed out s u status none_left says is =
-    let none = none_told told (kind_of request) s in
-    ([], s, none.0, inr ([], lists_of request, refl, [], [], refl, none.1, none_begun told (kind_of request) (lists_of request), error.NoMemory, tt, none_left, refl, says, is))
+pub no_names : (contents : List ℕ → Option Text) (request : Request) (refused closed : Bool) (out s u : State) (status : ℕ) → refused ≡ true → Reports closed (Err error.NoMemory) s u → status ≡ status_of (Err error.NoMemory)
+    → TellsFaults contents refused request closed out out s u status
+no_names contents request refused closed out s u status none_left says is =
+    let none = none_told contents (kind_of request) s in
+    ([], s, none.0, inr ([], lists_of request, refl, [], [], refl, none.1, none_begun contents (kind_of request) (lists_of request), error.NoMemory, tt, none_left, refl, says, is))
 
 -- the first argument that is wrong
-pub argument_first : (told : List ℕ → Option Text) (request : Request) (refused closed : Bool) (out s u : State) (e : CommandError) (status : ℕ) → IsWrong request e
-    → Reports closed (Err e) s u → status ≡ status_of (Err e) → KeepsGoing told refused request closed out out s u status
-argument_first told request refused closed out s u e status wrong says is = inl (e, wrong, (refl, says, is))
+pub argument_first : (contents : List ℕ → Option Text) (request : Request) (refused closed : Bool) (out s u : State) (e : CommandError) (status : ℕ) → IsWrong request e
+    → Reports closed (Err e) s u → status ≡ status_of (Err e) → KeepsGoing contents refused request closed out out s u status
+argument_first contents request refused closed out s u e status wrong says is = inl (e, wrong, (refl, says, is))
 
 -- ---- arguments
-pub run_words : (reading : Reading) (told : List ℕ → Option (List ℕ)) (refused : Bool) (words rest : List (List ℕ)) (closed : Bool) (out new s t : State) (status : ℕ)
-    → reading ≡ reading_of (reading_options words) → rest ≡ without_options words → RunsWords reading told refused rest closed out new s t status
-    → RunsArguments told refused words closed out new s t status
-run_words reading told refused words rest closed out new s t status asked left h =
-    inl (subst (λ (k : Reading). RunsWords k told refused (without_options words) closed out new s t status) asked
-    (subst (λ (k : List (List ℕ)). RunsWords reading told refused k closed out new s t status) left h))
+pub run_words : (reading : Reading) (contents : List ℕ → Option (List ℕ)) (refused : Bool) (words rest : List (List ℕ)) (closed : Bool) (out new s t : State) (status : ℕ)
+    → reading ≡ reading_of (reading_options words) → rest ≡ without_options words → RunsWords reading contents refused rest closed out new s t status
+    → RunsArguments contents refused words closed out new s t status
+run_words reading contents refused words rest closed out new s t status asked left h =
+    inl (subst (λ (k : Reading). RunsWords k contents refused (without_options words) closed out new s t status) asked
+    (subst (λ (k : List (List ℕ)). RunsWords reading contents refused k closed out new s t status) left h))
 
-pub run_request : (reading : Reading) (told : List ℕ → Option (List ℕ)) (refused : Bool) (words : List (List ℕ)) (request : Request) (closed : Bool) (out new s t : State) (status : ℕ)
-    → IsRequest words request × MayRead reading request → RunsOnce reading told refused request closed out new s t status
-    → RunsWords reading told refused words closed out new s t status
-run_request reading told refused words request closed out new s t status is h = inr (request, is.0, is.1, h)
+pub run_request : (reading : Reading) (contents : List ℕ → Option (List ℕ)) (refused : Bool) (words : List (List ℕ)) (request : Request) (closed : Bool) (out new s t : State) (status : ℕ)
+    → IsRequest words request × MayRead reading request → RunsOnce reading contents refused request closed out new s t status
+    → RunsWords reading contents refused words closed out new s t status
+run_request reading contents refused words request closed out new s t status is h = inr (request, is.0, is.1, h)
 
-pub run_once : (reading : Reading) (told : List ℕ → Option (List ℕ)) (refused : Bool) (request : Request) (closed : Bool) (out new s t : State) (status : ℕ) (twice : Bool) (names : List (List ℕ))
-    → names ≡ lists_of request ++ others_of request → Decides twice (1 < count_by (is_word input_name) names) → twice ≡ false → RunsRequest reading (told_by reading.host_bits told) refused request closed out new s t status
-    → RunsOnce reading told refused request closed out new s t status
-run_once reading told refused request closed out new s t status twice names are decides once h = inr (
+pub run_once : (reading : Reading) (contents : List ℕ → Option (List ℕ)) (refused : Bool) (request : Request) (closed : Bool) (out new s t : State) (status : ℕ) (twice : Bool) (names : List (List ℕ))
+    → names ≡ lists_of request ++ others_of request → Decides twice (1 < count_by (is_word input_name) names) → twice ≡ false → RunsRequest reading (contents_by reading.host_bits contents) refused request closed out new s t status
+    → RunsOnce reading contents refused request closed out new s t status
+run_once reading contents refused request closed out new s t status twice names are decides once h = inr (
   λ twice_read. true≢false (sym (decides.1 (subst (λ (k : List (List ℕ)). 1 < count_by (is_word input_name) k) (sym are) twice_read)) ∙ once),
   h,
 )
@@ -88,8 +88,8 @@ told_anyway closed (error.Input name) s t is says = absurd is
 told_anyway closed error.NoMemory s t is says = absurd is
 told_anyway closed error.Output s t is says = absurd is
 
-pub run_none : (reading : Reading) (told : List ℕ → Option (List ℕ)) (refused : Bool) (request : Request) (closed : Bool) (out s t : State) (status : ℕ) (twice : Bool) (names : List (List ℕ)) (e : CommandError)
+pub run_none : (reading : Reading) (contents : List ℕ → Option (List ℕ)) (refused : Bool) (request : Request) (closed : Bool) (out s t : State) (status : ℕ) (twice : Bool) (names : List (List ℕ)) (e : CommandError)
     → names ≡ lists_of request ++ others_of request → Decides twice (1 < count_by (is_word input_name) names) → twice ≡ true → IsReadTwice e → Reports false (Err e) s t → status ≡ status_of (Err e)
-    → RunsOnce reading told refused request closed out out s t status
-run_none reading told refused request closed out s t status twice names e are decides again is says ends =
+    → RunsOnce reading contents refused request closed out out s t status
+run_none reading contents refused request closed out s t status twice names e are decides again is says ends =
     inl (subst (λ (k : List (List ℕ)). 1 < count_by (is_word input_name) k) are (decides.0 again), e, is, (refl, told_anyway closed e s t is says, ends))

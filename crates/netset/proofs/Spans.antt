@@ -10,9 +10,10 @@ use Rattle.cidr_io.specs.declared.sink.OutputFailed.{OutputFailed}
 use Rattle.cidr_io.proofs.Chains.{part_none}
 use Rattle.cidr_sets.specs.Ranges.{AreRanges}
 use Rattle.cidr_table.specs.Cover.{Covers}
-use Rattle.netset.specs.Sets.{Prints, held, printed_ranges, range_line}
-use Rattle.netset.specs.declared.commands.operations.Form.TheVariants.{Ranges}
-use Rattle.netset.specs.declared.output.sets.Sets.{Sets}
+use Rattle.netset.specs.Sets.{Prints}
+use Rattle.cidr_lists.specs.Sets.{networks_of, printed_ranges, range_line}
+use Rattle.cidr_lists.specs.declared.sets.Form.TheVariants.{Ranges}
+use Rattle.cidr_lists.specs.declared.sets.Sets.{Sets}
 
 plain_ranges : (networks : List (List Bool)) (ranges : List (List Bool × List Bool)) → AreRanges 129 (Covers (map (λ (x : List Bool). x) networks)) ranges
     → AreRanges 129 (Covers networks) ranges
@@ -21,10 +22,10 @@ plain_ranges networks ranges h = rw (map-id networks) at h
 -- the ranges of both families, written one behind the other
 pub ranges_printed : (sets : Sets) (four six : List (List Bool × List Bool)) (s t : State) (r : Result (Unit {0}) OutputFailed)
     → AreRanges 129 (Covers (map (λ (x : List Bool). x) sets.v4)) four → AreRanges 129 (Covers (map (λ (x : List Bool). x) sets.v6)) six
-    → Answered s t (flat_map (range_line (address_text Ipv4)) four ++ flat_map (range_line (address_text Ipv6)) six) r → Prints Ranges s t (held sets) r
+    → Answered s t (flat_map (range_line (address_text Ipv4)) four ++ flat_map (range_line (address_text Ipv6)) six) r → Prints Ranges s t (networks_of sets) r
 ranges_printed sets four six s t r h k written =
     let ranges : Family → List (List Bool × List Bool) = elim [ Ipv4 ↦ four | Ipv6 ↦ six ] in
-    let are : (family : Family) → AreRanges 129 (Covers (held sets family)) (ranges family) = elim [
+    let are : (family : Family) → AreRanges 129 (Covers (networks_of sets family)) (ranges family) = elim [
       | Ipv4 ↦ plain_ranges sets.v4 four h
       | Ipv6 ↦ plain_ranges sets.v6 six k
     ] in
@@ -33,7 +34,7 @@ ranges_printed sets four six s t r h k written =
 -- nothing is written to a sink that has failed
 pub ranges_unprinted : (sets : Sets) (four six : List (List Bool × List Bool)) (s : State) (e : OutputFailed)
     → AreRanges 129 (Covers (map (λ (x : List Bool). x) sets.v4)) four → AreRanges 129 (Covers (map (λ (x : List Bool). x) sets.v6)) six
-    → s.failed ≡ true → Prints Ranges s s (held sets) (Err e)
+    → s.failed ≡ true → Prints Ranges s s (networks_of sets) (Err e)
 ranges_unprinted sets four six s e h k failed =
     let text : List ℕ = flat_map (range_line (address_text Ipv4)) four ++ flat_map (range_line (address_text Ipv6)) six in
     ranges_printed sets four six s s (Err e) h k (part_none s text failed, λ _. refl)

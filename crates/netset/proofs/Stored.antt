@@ -6,25 +6,25 @@ use Rattle.cidr.specs.declared.cidr.combined.IpCidr.{IpCidr}
 use Rattle.cidr.specs.declared.cidr.combined.IpCidr.TheVariants.{V4, V6}
 use Rattle.cidr.specs.declared.family.Family.{Family}
 use Rattle.cidr.specs.declared.family.Family.TheVariants.{Ipv4, Ipv6}
-use Rattle.cidr_table.specs.FiniteMap.{StoredRows}
 use Rattle.cidr_table.specs.LastRows.{AreLastRows}
 use Rattle.netset.specs.Causes.{TextFails}
-use Rattle.netset.specs.Lists.{Text, lines_of, text_by}
-use Rattle.netset.specs.Look.{IsBadRow, IsUnreadTable, RowSays, row_in, rows_in, said_in}
+use Rattle.cidr_lists.specs.Lists.{Text, lines_of, text_by}
+use Rattle.cidr_lists.specs.Fields.{IsBadRow}
+use Rattle.netset.specs.Look.{IsUnreadTable}
+use Rattle.cidr_lists.specs.Tables.{RowSays, row_in, rows_in, said_in, AreCopies, AreWithin, Stores, kept, resolved, stored, value_at}
 use Rattle.netset.specs.Keeping.{AllSaid}
-use Rattle.netset.specs.LookUps.{Adds, AreCopies, AreWithin, IsErrorAt, ReadsFileRows, ReadsRows, ReadsTable, Stores, kept, resolved, stored, unread, value_at}
+use Rattle.netset.specs.LookUps.{Adds, IsErrorAt, ReadsFileRows, ReadsRows, ReadsTable, unread}
 use Rattle.netset.specs.Reading.{IsNextLine, IsStopped}
 use Rattle.netset.specs.declared.errors.ReadError.{ReadError}
 use Rattle.netset.specs.declared.errors.ReadError.TheVariants.{Line, Input, NoMemory}
 use Rattle.netset.specs.declared.input.keeping.Said.TheVariants.{Rows as AsRows}
-use Rattle.netset.specs.declared.input.lines.HostBits.{HostBits}
-use Rattle.netset.specs.declared.input.rows.Rows.{Rows}
-use Rattle.netset.specs.declared.input.rows.Span.{Span}
-use Rattle.netset.specs.declared.input.table.Table.{Table}
+use Rattle.cidr_lists.specs.declared.lines.HostBits.{HostBits}
+use Rattle.cidr_lists.specs.declared.rows.Rows.{Rows}
+use Rattle.cidr_lists.specs.declared.rows.Span.{Span}
+use Rattle.cidr_lists.specs.declared.table.Table.{Table}
 use Rattle.netset.proofs.Causes.{KnownOf, too_many}
 use Rattle.netset.proofs.ReadBy.{bytes_read, text_same}
-use Rattle.netset.proofs.Resolved.{last_rows_mapped}
-use Rattle.netset.proofs.Passed.{Passed, none_passed, one_passed, all_passed, cut_before, error_passed}
+use Rattle.netset.proofs.Passed.{Passed, none_passed, one_passed, all_passed, error_passed}
 
 -- ---- values
 value_kept : (values more : List ℕ) (span : Span) → span.start + span.len ≤ length values → value_at (values ++ more) span ≡ value_at values span
@@ -111,20 +111,20 @@ module _ (bits : HostBits) where
   abbrev pub Reads : List ℕ → Option (List ℕ) → Rows → ℕ → Type 0
   Reads text left rows number = (said : List (Option (IpCidr × List ℕ))) × Passed (RowSays bits) text left said number × Stores rows said
 
-  pub rows_started : (told : Option (List ℕ)) (rows : Rows) → Stores rows [] → IfSome told (λ text. Reads text told rows 1)
+  pub rows_started : (contents : Option (List ℕ)) (rows : Rows) → Stores rows [] → IfSome contents (λ text. Reads text contents rows 1)
   rows_started None rows h = tt
   rows_started (Some text) rows h = ([], none_passed (RowSays bits) text, h)
 
-  pub rows_stepped : (told left next : Option (List ℕ)) (old new : Rows) (number : ℕ) (line : List ℕ) (more : Bool) (one : Option (IpCidr × List ℕ)) → more ≡ true
-      → IfSome told (λ text. Reads text left old number) → IfSome left (λ text. IsNextLine text line more next) → RowSays bits line one → Adds old new one
-      → IfSome told (λ text. Reads text next new (number + 1))
+  pub rows_stepped : (contents left next : Option (List ℕ)) (old new : Rows) (number : ℕ) (line : List ℕ) (more : Bool) (one : Option (IpCidr × List ℕ)) → more ≡ true
+      → IfSome contents (λ text. Reads text left old number) → IfSome left (λ text. IsNextLine text line more next) → RowSays bits line one → Adds old new one
+      → IfSome contents (λ text. Reads text next new (number + 1))
   rows_stepped None left next old new number line more one is h n says adds = tt
   rows_stepped (Some text) left next old new number line more one is (said, p, s) n says adds =
       (said ++ one ∷ [], one_passed (RowSays bits) text left next said number line more one is p n says, stored_more old new said one s adds)
 
-  pub rows_finished : (told left next : Option (List ℕ)) (old new : Rows) (number : ℕ) (line : List ℕ) (more : Bool) (one : Option (IpCidr × List ℕ)) → more ≡ false
-      → IfSome told (λ text. Reads text left old number) → IfSome left (λ text. IsNextLine text line more next) → RowSays bits line one → Adds old new one
-      → IfSome told (λ text. ReadsRows (text_by bits text) (Ok new))
+  pub rows_finished : (contents left next : Option (List ℕ)) (old new : Rows) (number : ℕ) (line : List ℕ) (more : Bool) (one : Option (IpCidr × List ℕ)) → more ≡ false
+      → IfSome contents (λ text. Reads text left old number) → IfSome left (λ text. IsNextLine text line more next) → RowSays bits line one → Adds old new one
+      → IfSome contents (λ text. ReadsRows (text_by bits text) (Ok new))
   rows_finished None left next old new number line more one is h n says adds = tt
   rows_finished (Some text) left next old new number line more one is (said, p, s) n says adds =
       (said ++ one ∷ [], all_passed (RowSays bits) text left next said number line more one is p n says, stored_more old new said one s adds)
@@ -132,41 +132,41 @@ module _ (bits : HostBits) where
   abbrev failing : ReadError → Result Rows ReadError
   failing e = Err e
 
-  rows_in_error : (told left next : Option (List ℕ)) (old : Rows) (number : ℕ) (line : List ℕ) (more : Bool) (e : ReadError)
-      → IfSome told (λ text. Reads text left old number) → IfSome left (λ text. IsNextLine text line more next) → IsErrorAt (IsBadRow bits) line number e
-      → IfSome told (λ text. ReadsRows (text_by bits text) (Err e))
+  rows_in_error : (contents left next : Option (List ℕ)) (old : Rows) (number : ℕ) (line : List ℕ) (more : Bool) (e : ReadError)
+      → IfSome contents (λ text. Reads text left old number) → IfSome left (λ text. IsNextLine text line more next) → IsErrorAt (IsBadRow bits) line number e
+      → IfSome contents (λ text. ReadsRows (text_by bits text) (Err e))
   rows_in_error None left next old number line more e h n bad = tt
   rows_in_error (Some text) left next old number line more Input h n bad = tt
   rows_in_error (Some text) left next old number line more NoMemory h n bad = tt
   rows_in_error (Some text) left next old number line more (Line m e) (said, p, s) n bad =
       (said, error_passed (RowSays bits) (IsBadRow bits) text left next said number line more m e p n bad.0 bad.1)
 
-  pub rows_failed : (told left next : Option (List ℕ)) (old : Rows) (number : ℕ) (line : List ℕ) (more : Bool) (r : Result Rows ReadError) (y e : ReadError)
-      → r ≡ Err y → y ≡ e → IfSome told (λ text. Reads text left old number) → IfSome left (λ text. IsNextLine text line more next)
-      → IsErrorAt (IsBadRow bits) line number e → IfSome told (λ text. ReadsRows (text_by bits text) r)
-  rows_failed told left next old number line more r y e is same h n bad =
-      subst (λ (k : Result Rows ReadError). IfSome told (λ text. ReadsRows (text_by bits text) k)) (sym (is ∙ ap failing same))
-      (rows_in_error told left next old number line more e h n bad)
+  pub rows_failed : (contents left next : Option (List ℕ)) (old : Rows) (number : ℕ) (line : List ℕ) (more : Bool) (r : Result Rows ReadError) (y e : ReadError)
+      → r ≡ Err y → y ≡ e → IfSome contents (λ text. Reads text left old number) → IfSome left (λ text. IsNextLine text line more next)
+      → IsErrorAt (IsBadRow bits) line number e → IfSome contents (λ text. ReadsRows (text_by bits text) r)
+  rows_failed contents left next old number line more r y e is same h n bad =
+      subst (λ (k : Result Rows ReadError). IfSome contents (λ text. ReadsRows (text_by bits text) k)) (sym (is ∙ ap failing same))
+      (rows_in_error contents left next old number line more e h n bad)
 
-  no_more_rows : (told : Option (List ℕ)) (e : ReadError) → IsStopped e → IfSome told (λ text. ReadsRows (text_by bits text) (Err e))
+  no_more_rows : (contents : Option (List ℕ)) (e : ReadError) → IsStopped e → IfSome contents (λ text. ReadsRows (text_by bits text) (Err e))
   no_more_rows None e h = tt
   no_more_rows (Some text) (Line number e) h = absurd h
   no_more_rows (Some text) Input h = tt
   no_more_rows (Some text) NoMemory h = tt
 
-  pub rows_stopped : (told : Option (List ℕ)) (r : Result Rows ReadError) (y e : ReadError) → r ≡ Err y → y ≡ e → IsStopped e
-      → IfSome told (λ text. ReadsRows (text_by bits text) r)
-  rows_stopped told r y e is same h =
-      subst (λ (k : Result Rows ReadError). IfSome told (λ text. ReadsRows (text_by bits text) k)) (sym (is ∙ ap failing same)) (no_more_rows told e h)
+  pub rows_stopped : (contents : Option (List ℕ)) (r : Result Rows ReadError) (y e : ReadError) → r ≡ Err y → y ≡ e → IsStopped e
+      → IfSome contents (λ text. ReadsRows (text_by bits text) r)
+  rows_stopped contents r y e is same h =
+      subst (λ (k : Result Rows ReadError). IfSome contents (λ text. ReadsRows (text_by bits text) k)) (sym (is ∙ ap failing same)) (no_more_rows contents e h)
 
   -- what is left is told too
-  pub rows_known : (told left : Option (List ℕ)) (rows : Rows) (number : ℕ) → IfSome told (λ text. Reads text left rows number) → KnownOf told left
+  pub rows_known : (contents left : Option (List ℕ)) (rows : Rows) (number : ℕ) → IfSome contents (λ text. Reads text left rows number) → KnownOf contents left
   rows_known None left rows number p = tt
   rows_known (Some text) left rows number (said, p, s) = (p.rest, p.known)
 
   -- there are more lines than numbers
-  pub rows_used : (told left : Option (List ℕ)) (rows : Rows) (number : ℕ) → IfSome told (λ text. Reads text left rows number)
-      → 18446744073709551615 ≤ number → TextFails told
+  pub rows_used : (contents left : Option (List ℕ)) (rows : Rows) (number : ℕ) → IfSome contents (λ text. Reads text left rows number)
+      → 18446744073709551615 ≤ number → TextFails contents
   rows_used None left rows number p most = tt
   rows_used (Some text) left rows number (said, p, s) most = too_many text p.before (lines_of p.rest) number p.lines p.place most
 
@@ -176,16 +176,10 @@ told_rows : (bits : HostBits) (left : Option (List ℕ)) (text : Text) (r : Resu
     → IfSome left (λ bytes. ReadsRows (text_by bits bytes) r) → ReadsRows text r
 told_rows bits left text r is by h = rw (text_same bits text by) at (bytes_read (λ bytes. ReadsRows (text_by bits bytes) r) left text.bytes is h)
 
-pub table_rows : (values : List ℕ) (rows : List (List Bool × Span)) (made ready : StoredRows (List Bool) Span) → AreLastRows rows made.rows → ready ≡ made
-    → AreLastRows (map (resolved values) rows) (map (resolved values) ready.rows)
-table_rows values rows made ready last same =
-    subst (λ (k : StoredRows (List Bool) Span). AreLastRows (map (resolved values) rows) (map (resolved values) k.rows)) (sym same)
-    (last_rows_mapped (value_at values) rows made.rows last)
-
-pub rows_read : (told : Option Text) (left : Option (List ℕ)) (bits : HostBits) (name : List ℕ) (rows : Rows)
-    → ((text : Text) → told ≡ Some text → left ≡ Some text.bytes) → ((text : Text) → told ≡ Some text → text.host_bits ≡ bits)
-    → IfSome left (λ bytes. ReadsRows (text_by bits bytes) (Ok rows)) → ReadsFileRows told name (Ok rows)
-rows_read told left bits name rows opens by reads text is = told_rows bits left text (Ok rows) (opens text is) (by text is) reads
+pub rows_read : (contents : Option Text) (left : Option (List ℕ)) (bits : HostBits) (name : List ℕ) (rows : Rows)
+    → ((text : Text) → contents ≡ Some text → left ≡ Some text.bytes) → ((text : Text) → contents ≡ Some text → text.host_bits ≡ bits)
+    → IfSome left (λ bytes. ReadsRows (text_by bits bytes) (Ok rows)) → ReadsFileRows contents name (Ok rows)
+rows_read contents left bits name rows opens by reads text is = told_rows bits left text (Ok rows) (opens text is) (by text is) reads
 
 -- the rows of a file, as they were kept
 same_rows : (rows others : Rows) → AreCopies rows others → (family : Family) → stored others family ≡ stored rows family
@@ -201,27 +195,36 @@ stored_same rows others said same s = record {
       (subst (AreWithin rows.values.items) (sym (same_rows rows others same family)) (s.within family));
 }
 
-pub rows_copied : (told : Option Text) (name : List ℕ) (kept rows : Rows)
-    → ((text : Text) → told ≡ Some text → AllSaid text.host_bits (lines_of text.bytes) (AsRows kept)) → AreCopies kept rows
-    → ReadsFileRows told name (Ok rows)
-rows_copied told name kept rows is same text at =
+pub rows_copied : (contents : Option Text) (name : List ℕ) (kept rows : Rows)
+    → ((text : Text) → contents ≡ Some text → AllSaid text.host_bits (lines_of text.bytes) (AsRows kept)) → AreCopies kept rows
+    → ReadsFileRows contents name (Ok rows)
+rows_copied contents name kept rows is same text at =
     let (said, says, stores) = is text at in
     (said, says, stored_same kept rows said same stores)
 
-pub table_read : (told : Option Text) (name : List ℕ) (rows : Rows) (table : Table) → ReadsFileRows told name (Ok rows)
-    → ((family : Family) → AreLastRows (map (resolved rows.values.items) (stored rows family)) (kept table family)) → ReadsTable told name (Ok table)
-table_read told name rows table reads last = λ text is.
+pub table_read : (contents : Option Text) (name : List ℕ) (rows : Rows) (table : Table) → ReadsFileRows contents name (Ok rows)
+    → ((family : Family) → AreLastRows (map (resolved rows.values.items) (stored rows family)) (kept table family)) → ReadsTable contents name (Ok table)
+table_read contents name rows table reads last = λ text is.
     let (said, says, s) = reads text is in
     (said, says, λ family. subst (λ (k : List (List Bool × List ℕ)). AreLastRows k (kept table family)) (s.same family) (last family))
 
-pub table_unread : (told : Option Text) (left : Option (List ℕ)) (bits : HostBits) (file : Bor (List ℕ)) (e : ReadError)
-    → ((text : Text) → told ≡ Some text → left ≡ Some text.bytes) → ((text : Text) → told ≡ Some text → text.host_bits ≡ bits)
-    → IfSome left (λ bytes. ReadsRows (text_by bits bytes) (Err e)) → IsUnreadTable told file.now (unread file e)
-table_unread told left bits file (Line number e) opens by reads = (
+pub table_unread : (contents : Option Text) (left : Option (List ℕ)) (bits : HostBits) (file : Bor (List ℕ)) (e : ReadError)
+    → ((text : Text) → contents ≡ Some text → left ≡ Some text.bytes) → ((text : Text) → contents ≡ Some text → text.host_bits ≡ bits)
+    → IfSome left (λ bytes. ReadsRows (text_by bits bytes) (Err e)) → IsUnreadTable contents file.now (unread file e)
+table_unread contents left bits file (Line number e) opens by reads = (
   refl,
   λ text is.
       let (said, first) = told_rows bits left text (Err (Line number e)) (opens text is) (by text is) reads in
-      (said, cut_before (RowSays text.host_bits) (IsBadRow text.host_bits) text.bytes said number e file first),
+      record {
+        before = first.before;
+        line = first.line;
+        after = first.after;
+        lines = first.lines;
+        place = first.place;
+        said = said;
+        fine = first.fine;
+        fault = first.fault;
+      },
 )
-table_unread told left bits file Input opens by reads = refl
-table_unread told left bits file NoMemory opens by reads = tt
+table_unread contents left bits file Input opens by reads = refl
+table_unread contents left bits file NoMemory opens by reads = tt

@@ -1,5 +1,5 @@
 -- Lines in error that are told, one after another.
-use Rattle.std.proofs.Common.{◌≡◌, ◌≢◌, refl, sym, ◌∙◌, ap, subst, arith, inl, inr, ℕ, ◌+◌, Bor, Bool, true, false, ◌||◌, List, [], ◌∷◌, ◌++◌, length, Option, Some, None, Result, Ok, Err, append_assoc}
+use Rattle.std.proofs.Common.{◌≡◌, ◌≢◌, refl, sym, ◌∙◌, ap, subst, arith, inl, inr, ℕ, ◌+◌, Bor, Bool, true, false, List, [], ◌∷◌, ◌++◌, length, Option, Some, None, Result, Ok, Err, append_assoc, ◌||◌}
 use Rattle.std.specs.Option.{IfSome}
 use Rattle.std.specs.List.{flat_map}
 use Rattle.std.proofs.lemmas.Bool.{true≢false}
@@ -8,10 +8,12 @@ use Rattle.cidr_io.specs.Collecting.{HasSaid}
 use Rattle.cidr_io.specs.Writing.{State, Part, Says as Tells}
 use Rattle.cidr_io.proofs.Collected.{nothing_said}
 use Rattle.cidr_io.proofs.Chains.{part_more, part_none, whole_none, whole_part, whole_whole}
-use Rattle.netset.specs.Entries.{AreEntries}
-use Rattle.netset.specs.Keeping.{AddsBy, AllSaid, AreErrors, AreTellings, IsAny, IsFaulty, IsKept, IsLoadError, IsNone, IsPartTold, IsSound, KeepsLine, KeepsLines, KeepsList, SaysMore, fault_line, kind_in}
-use Rattle.netset.specs.Lists.{LineSays, Text, lines_of, network_in, text_by}
-use Rattle.netset.specs.Look.{RowSays}
+use Rattle.cidr_lists.specs.Entries.{AreEntries}
+use Rattle.netset.specs.Keeping.{AddsBy, AllSaid, IsAny, IsKept, IsLoadError, IsNone, KeepsLine, KeepsLines, KeepsList, SaysMore, kind_in}
+use Rattle.cidr_lists.specs.Faults.{AreErrors, AreTellings, IsFaulty, IsPartTold, IsSound}
+use Rattle.cidr_lists.specs.Messages.{fault_line}
+use Rattle.cidr_lists.specs.Lists.{LineSays, Text, lines_of, network_in, text_by}
+use Rattle.cidr_lists.specs.Tables.{RowSays}
 use Rattle.netset.specs.LookUps.{unread}
 use Rattle.netset.specs.Reading.{IsNextLine, IsStopped}
 use Rattle.netset.proofs.EntriesRead.{line_behind}
@@ -20,13 +22,13 @@ use Rattle.netset.proofs.ReadBy.{bytes_read, text_same}
 use Rattle.netset.proofs.Stored.{stored_more}
 use Rattle.netset.proofs.Zips.{zip_behind}
 use Rattle.netset.specs.declared.errors.CommandError.{CommandError}
-use Rattle.netset.specs.declared.errors.LineError.{LineError}
+use Rattle.cidr_lists.specs.declared.errors.LineError.{LineError}
 use Rattle.netset.specs.declared.errors.ReadError.{ReadError}
 use Rattle.netset.specs.declared.errors.ReadError.TheVariants.{Line, Input, NoMemory}
-use Rattle.netset.specs.declared.input.keeping.Kind.{Kind}
+use Rattle.cidr_lists.specs.declared.lines.Kind.{Kind}
 use Rattle.netset.specs.declared.input.keeping.Said.{Said}
 use Rattle.netset.specs.declared.input.keeping.Said.TheVariants.{Networks, Hosts, Rows}
-use Rattle.netset.specs.declared.input.lines.HostBits.{HostBits}
+use Rattle.cidr_lists.specs.declared.lines.HostBits.{HostBits}
 
 -- ---- lines that are written one after another, as far as the sink takes them
 nothing_by : (s : State) (b : Bool) → s.failed ≡ b → Tells s s []
@@ -151,16 +153,16 @@ same_says old t u block now rest lines same kept says start text h =
 module _ (kind : Kind) (bits : HostBits) (file : List ℕ) (s : State) (b : List ℕ) where
   -- how far the lines of a list were told and kept
   abbrev pub IsKeeping : Option (List ℕ) → Option (List ℕ) → State → List ℕ → Bool → Said → ℕ → Type 0
-  IsKeeping told left t block found said number = (lines : List ℕ) × SaysMore s b t block lines × IsAny found lines × (kind_in said ≡ kind)
-      × IfSome told (λ text. LinesRead (IsKept kind bits file) text left (lines, found, said) number)
+  IsKeeping contents left t block found said number = (lines : List ℕ) × SaysMore s b t block lines × IsAny found lines × (kind_in said ≡ kind)
+      × IfSome contents (λ text. LinesRead (IsKept kind bits file) text left (lines, found, said) number)
 
-  pub keeping_started : (told : Option (List ℕ)) (said : Said) → IsNone kind said → IsKeeping told told s b false said 1
-  keeping_started told said none = (
+  pub keeping_started : (contents : Option (List ℕ)) (said : Said) → IsNone kind said → IsKeeping contents contents s b false said 1
+  keeping_started contents said none = (
     [],
     λ start text h. subst (HasSaid start s b) (sym (append-nil text)) h,
     refl,
     none.0,
-    none_read (IsKept kind bits file) told ([], false, said) ([], refl, refl, λ _. none.1 bits),
+    none_read (IsKept kind bits file) contents ([], false, said) ([], refl, refl, λ _. none.1 bits),
   )
 
   -- what a further line adds
@@ -176,10 +178,10 @@ module _ (kind : Kind) (bits : HostBits) (file : List ℕ) (s : State) (b : List
     same_says s t u b block rest lines same kept says,
     any_same found lines any,
     same_kind bits line number was now (Ok tt) adds ∙ is,
-    λ before at (errors, are, told, fine). (
+    λ before at (errors, are, contents, fine). (
       errors,
       sound_behind kind bits 1 before line errors are (subst (λ (k : Kind). IsSound k bits line) is (line_sound bits line number was now adds)),
-      told,
+      contents,
       λ none. said_behind bits line number was now adds before at (fine (none_of found false none).0),
     ),
   )
@@ -189,56 +191,56 @@ module _ (kind : Kind) (bits : HostBits) (file : List ℕ) (s : State) (b : List
         λ start text h. subst (HasSaid start u rest) (append_assoc text lines (fault_line file fault)) (more start (text ++ lines) (says start text h)),
         any_true found (lines ++ fault_line file fault) (some_text lines file _ 58),
         same ∙ is,
-        λ before at (errors, are, told, fine). (
+        λ before at (errors, are, contents, fine). (
           errors ++ fault ∷ [],
           faulty_behind kind bits 1 number before line errors e (omega (arith, at)) are (subst (λ (k : Kind). IsFaulty k bits line e) is bad),
-          ap (λ (k : List ℕ). k ++ fault_line file fault) told ∙ flat_map_more (fault_line file) [] errors fault,
+          ap (λ (k : List ℕ). k ++ fault_line file fault) contents ∙ flat_map_more (fault_line file) [] errors fault,
           λ none. absurd (true≢false (none_of found true none).1),
         ),
       )
 
-  module _ (told left next : Option (List ℕ)) (t u : State) (block rest : List ℕ) (found bad : Bool) (was now : Said) (number : ℕ) (line given : List ℕ) (more : Bool)
-      (h : IsKeeping told left t block found was number) (n : IfSome left (λ text. IsNextLine text line more next)) (same : given ≡ line)
+  module _ (contents left next : Option (List ℕ)) (t u : State) (block rest : List ℕ) (found bad : Bool) (was now : Said) (number : ℕ) (line given : List ℕ) (more : Bool)
+      (h : IsKeeping contents left t block found was number) (n : IfSome left (λ text. IsNextLine text line more next)) (same : given ≡ line)
       (keeps : KeepsLine bits file number given was now t block u rest (Ok bad)) where
     added : Adds line number u rest (found || bad) now (h.0, found, was)
     added =
         line_kept was now t u block rest found bad number line h.0 h.1 h.2 h.3
         (subst (λ (k : List ℕ). KeepsLine bits file number k was now t block u rest (Ok bad)) same keeps)
 
-    pub keeping_more : more ≡ true → IsKeeping told next u rest (found || bad) now (number + 1)
+    pub keeping_more : more ≡ true → IsKeeping contents next u rest (found || bad) now (number + 1)
     keeping_more is = (
       added.0,
       added.1,
       added.2,
       added.3,
-      line_read (IsKept kind bits file) told left next (h.0, found, was) (added.0, found || bad, now) number line more is h.4 n added.4,
+      line_read (IsKept kind bits file) contents left next (h.0, found, was) (added.0, found || bad, now) number line more is h.4 n added.4,
     )
 
-    pub keeping_done : more ≡ false → KeepsLines kind bits file told s b u rest (Ok (now, found || bad))
+    pub keeping_done : more ≡ false → KeepsLines kind bits file contents s b u rest (Ok (now, found || bad))
     keeping_done is = (
       added.0,
       added.1,
       added.2,
-      last_read (IsKept kind bits file) told left next (h.0, found, was) (added.0, found || bad, now) number line more is h.4 n added.4,
+      last_read (IsKept kind bits file) contents left next (h.0, found, was) (added.0, found || bad, now) number line more is h.4 n added.4,
     )
 
-  part_told : (told left : Option (List ℕ)) (lines : List ℕ) (found : Bool) (said : Said) (number : ℕ)
-      → IfSome told (λ text. LinesRead (IsKept kind bits file) text left (lines, found, said) number)
-      → IfSome told (λ text. IsPartTold kind file (text_by bits text) lines)
+  part_told : (contents left : Option (List ℕ)) (lines : List ℕ) (found : Bool) (said : Said) (number : ℕ)
+      → IfSome contents (λ text. LinesRead (IsKept kind bits file) text left (lines, found, said) number)
+      → IfSome contents (λ text. IsPartTold kind file (text_by bits text) lines)
   part_told None left lines found said number p = tt
   part_told (Some text) left lines found said number p =
       let (errors, are, is, fine) = p.done in
       (p.before, lines_of p.rest, p.lines, errors, are, is)
 
-  pub keeping_stopped : (told left : Option (List ℕ)) (t u : State) (block rest : List ℕ) (found : Bool) (said : Said) (number : ℕ) (e : ReadError)
-      → IsKeeping told left t block found said number → IsStopped e → u ≡ t → rest ≡ block → KeepsLines kind bits file told s b u rest (Err e)
-  keeping_stopped told left t u block rest found said number e (lines, says, any, is, p) stopped same kept =
-      (lines, same_says s t u b block rest lines same kept says, stopped, part_told told left lines found said number p)
+  pub keeping_stopped : (contents left : Option (List ℕ)) (t u : State) (block rest : List ℕ) (found : Bool) (said : Said) (number : ℕ) (e : ReadError)
+      → IsKeeping contents left t block found said number → IsStopped e → u ≡ t → rest ≡ block → KeepsLines kind bits file contents s b u rest (Err e)
+  keeping_stopped contents left t u block rest found said number e (lines, says, any, is, p) stopped same kept =
+      (lines, same_says s t u b block rest lines same kept says, stopped, part_told contents left lines found said number p)
 
 -- ---- the list of a file
-pub nothing_kept : (told : Option Text) (kind : Kind) (file : List ℕ) (s : State) (e : CommandError) → IsLoadError (file ∷ []) e
-    → KeepsList told kind file s s (Err e)
-nothing_kept told kind file s e why = ([], tells_nothing s, why, λ text is. ([], lines_of text.bytes, refl, [], refl, refl))
+pub nothing_kept : (contents : Option Text) (kind : Kind) (file : List ℕ) (s : State) (e : CommandError) → IsLoadError (file ∷ []) e
+    → KeepsList contents kind file s s (Err e)
+nothing_kept contents kind file s e why = ([], tells_nothing s, why, λ text is. ([], lines_of text.bytes, refl, [], refl, refl))
 
 abbrev pub EndsSaying : State → List ℕ → State → Type 0
 EndsSaying old block new = (start : State) (text : List ℕ) → HasSaid start old block text → Tells start new text
@@ -246,10 +248,10 @@ EndsSaying old block new = (start : State) (text : List ℕ) → HasSaid start o
 all_told : (s t u : State) (block rest lines : List ℕ) → block ≡ [] → SaysMore s block t rest lines → EndsSaying t rest u → Tells s u lines
 all_told s t u block rest lines none says ends = ends s lines (says s [] (nothing_said s block none))
 
-module _ (told : Option Text) (left : Option (List ℕ)) (kind : Kind) (bits : HostBits) (s t u : State) (block rest : List ℕ)
-    (opens : (text : Text) → told ≡ Some text → left ≡ Some text.bytes) (by : (text : Text) → told ≡ Some text → text.host_bits ≡ bits)
+module _ (contents : Option Text) (left : Option (List ℕ)) (kind : Kind) (bits : HostBits) (s t u : State) (block rest : List ℕ)
+    (opens : (text : Text) → contents ≡ Some text → left ≡ Some text.bytes) (by : (text : Text) → contents ≡ Some text → text.host_bits ≡ bits)
     (none : block ≡ []) (ends : EndsSaying t rest u) where
-  pub list_kept : (file : List ℕ) (kept : Said × Bool) → KeepsLines kind bits file left s block t rest (Ok kept) → KeepsList told kind file s u (Ok kept)
+  pub list_kept : (file : List ℕ) (kept : Said × Bool) → KeepsLines kind bits file left s block t rest (Ok kept) → KeepsList contents kind file s u (Ok kept)
   list_kept file kept (lines, says, any, is) = (
     lines,
     all_told s t u block rest lines none says ends,
@@ -265,7 +267,7 @@ module _ (told : Option Text) (left : Option (List ℕ)) (kind : Kind) (bits : H
   load_error file NoMemory h = tt
 
   pub list_cut : (file : Bor (List ℕ)) (e : ReadError) → KeepsLines kind bits file.now left s block t rest (Err e)
-      → KeepsList told kind file.now s u (Err (unread file e))
+      → KeepsList contents kind file.now s u (Err (unread file e))
   list_cut file e (lines, says, stopped, is) = (
     lines,
     all_told s t u block rest lines none says ends,

@@ -1,6 +1,6 @@
 -- What a run gives up for: an allocation that was refused, or a file that is not told.
 use Rattle.std.specs.Prelude.{◌≡◌, ℕ, ◌≤◌, Bool, true, List, length, Option, IfSome}
-use Rattle.netset.specs.Lists.{Text, lines_of}
+use Rattle.cidr_lists.specs.Lists.{Text, lines_of}
 use Rattle.netset.specs.declared.errors.CommandError.{CommandError}
 use Rattle.netset.specs.declared.errors.CommandError.TheVariants as error
 use Rattle.netset.specs.declared.errors.ReadError.{ReadError}
@@ -14,16 +14,13 @@ HasTooManyLines bytes = 18446744073709551614 ≤ length (lines_of bytes)
 
 -- a file that can't be read is not told, or has too many lines
 abbrev pub MayFail : (List ℕ → Option Text) → List ℕ → Type 0
-MayFail told name = IfSome (told name) (λ text. HasTooManyLines text.bytes)
+MayFail contents name = IfSome (contents name) (λ text. HasTooManyLines text.bytes)
 
 -- there is no memory only after an allocation was refused, and only some files can't be read
 abbrev pub Cause : (List ℕ → Type 0) → Bool → CommandError → Type 0
-Cause Fails refused error.Usage = Unit {0}
-Cause Fails refused (error.Argument text e) = Unit {0}
-Cause Fails refused (error.Line name number e) = Unit {0}
 Cause Fails refused (error.Input name) = Fails name.now
 Cause Fails refused error.NoMemory = refused ≡ true
-Cause Fails refused error.Output = Unit {0}
+Cause Fails refused e = Unit {0}
 
 -- ---- what private functions promise
 -- the same where one text is read

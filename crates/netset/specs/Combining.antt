@@ -1,12 +1,13 @@
 -- Several lists put together. `In` tells which addresses a list has.
-use Rattle.std.specs.Prelude.{ℕ, Bool, true, false, nat_lt, List, [], ◌∷◌, ◌⊎◌, codes}
+use Rattle.std.specs.Prelude.{ℕ, Bool, true, false, nat_lt, List, [], codes}
 use Rattle.cidr.specs.declared.family.Family.{Family}
 use Rattle.netset.specs.declared.commands.operations.Operation.{Operation}
 use Rattle.netset.specs.declared.commands.operations.Operation.TheVariants.{Merge, Nets, Minus, And, Not, Ranges, Count}
-use Rattle.netset.specs.declared.commands.operations.Form.{Form}
-use Rattle.netset.specs.declared.commands.operations.Form.TheVariants as form
-use Rattle.netset.specs.declared.commands.operations.Step.{Step}
-use Rattle.netset.specs.declared.commands.operations.Step.TheVariants.{Union, Difference, Intersection}
+use Rattle.cidr_lists.specs.declared.sets.Form.{Form}
+use Rattle.cidr_lists.specs.declared.sets.Form.TheVariants as form
+use Rattle.cidr_lists.specs.declared.sets.Step.{Step}
+use Rattle.cidr_lists.specs.declared.sets.Step.TheVariants.{Union, Difference, Intersection}
+use Rattle.cidr_lists.specs.Combining.{SomeHas, AllHave, FirstAlone}
 
 -- the word that asks for it
 abbrev pub name_of : Operation → List ℕ
@@ -20,48 +21,22 @@ name_of Count = codes "count"
 
 -- whether it takes so many files: minus and and take two or more
 abbrev pub takes : Operation → ℕ → Bool
-takes Merge count = true
-takes Nets count = true
 takes Minus count = nat_lt 1 count
 takes And count = nat_lt 1 count
-takes Not count = true
-takes Ranges count = true
-takes Count count = true
-
--- some of the lists has the address
-abbrev pub SomeHas : {X : Type 0} → (X → Family → List Bool → Type 0) → List X → Family → List Bool → Type 0
-SomeHas In [] family a = ⊥
-SomeHas In (x ∷ xs) family a = In x family a ⊎ SomeHas In xs family a
-
--- each of them has it
-abbrev pub AllHave : {X : Type 0} → (X → Family → List Bool → Type 0) → List X → Family → List Bool → Type 0
-AllHave In [] family a = Unit {0}
-AllHave In (x ∷ xs) family a = In x family a × AllHave In xs family a
-
--- the first has it, and no other
-abbrev pub FirstAlone : {X : Type 0} → (X → Family → List Bool → Type 0) → List X → Family → List Bool → Type 0
-FirstAlone In [] family a = ⊥
-FirstAlone In (x ∷ xs) family a = In x family a × ¬ (SomeHas In xs family a)
+takes operation count = true
 
 -- the address belongs to what is made of the lists
 abbrev pub IsMade : {X : Type 0} → (X → Family → List Bool → Type 0) → Operation → List X → Family → List Bool → Type 0
-IsMade In Merge xs family a = SomeHas In xs family a
-IsMade In Nets xs family a = SomeHas In xs family a
 IsMade In Minus xs family a = FirstAlone In xs family a
 IsMade In And xs family a = AllHave In xs family a
 IsMade In Not xs family a = ¬ (SomeHas In xs family a)
-IsMade In Ranges xs family a = SomeHas In xs family a
-IsMade In Count xs family a = SomeHas In xs family a
+IsMade In operation xs family a = SomeHas In xs family a
 
 -- how it writes the addresses
 abbrev pub form_of : Operation → Form
-form_of Merge = form.Networks
-form_of Nets = form.Networks
-form_of Minus = form.Networks
-form_of And = form.Networks
-form_of Not = form.Networks
 form_of Ranges = form.Ranges
 form_of Count = form.Counts
+form_of operation = form.Networks
 
 -- there, or not
 abbrev pub Turned : Bool → Type 0 → Type 0
@@ -88,14 +63,3 @@ turns And = false
 turns Not = true
 turns Ranges = false
 turns Count = false
-
--- whether an address is there after a step, by whether it was there before and whether the list has it
-abbrev pub Steps : Step → Type 0 → Type 0 → Type 0
-Steps Union Before Here = Before ⊎ Here
-Steps Difference Before Here = Before × ¬ Here
-Steps Intersection Before Here = Before × Here
-
--- the same after the steps of some lists
-abbrev pub Combined : {X : Type 0} → (X → Family → List Bool → Type 0) → Step → Type 0 → List X → Family → List Bool → Type 0
-Combined In step Before [] family a = Before
-Combined In step Before (x ∷ xs) family a = Combined In step (Steps step Before (In x family a)) xs family a

@@ -1,5 +1,5 @@
 -- The commands, their arguments and what each answers.
-use Rattle.std.specs.Prelude.{◌≡◌, ℕ, ◌<◌, ◌≤◌, ◌==◌, nat_lt, Bool, true, false, if◌then◌else◌, ◌&&◌, ◌||◌, ◌⊎◌, List, [], ◌∷◌, ◌++◌, length, drop, count_by, take_while, codes, Option, Some}
+use Rattle.std.specs.Prelude.{◌≡◌, ℕ, ◌<◌, ◌≤◌, ◌==◌, nat_lt, Bool, true, false, if◌then◌else◌, ◌&&◌, ◌⊎◌, List, [], ◌∷◌, ◌++◌, length, drop, count_by, take_while, codes, Option, Some, ◌||◌}
 use Rattle.std.specs.List.{AllZip, list_all, list_any, prefix_len, slice_index}
 use Rattle.cidr.specs.either.IpText.{IsIpNetworkText}
 use Rattle.cidr.specs.declared.cidr.combined.IpCidr.{IpCidr}
@@ -9,22 +9,23 @@ use Rattle.cidr_sets.specs.Sets.{IsSetOf}
 use Rattle.netset.specs.Findings.{IsCheck}
 use Rattle.netset.specs.Free.{IsFreeText}
 use Rattle.netset.specs.Look.{IsLook}
-use Rattle.netset.specs.Lists.{Text, ListSays, network_in, networks_in}
-use Rattle.netset.specs.Changes.{AreChanges, AreSame, printed_changes}
+use Rattle.cidr_lists.specs.Lists.{Text, ListSays, network_in, networks_in}
+use Rattle.cidr_lists.specs.Changes.{AreChanges, printed_changes}
+use Rattle.netset.specs.Changes.{AreSame}
 use Rattle.netset.specs.Combining.{form_of, name_of, takes, IsMade}
 use Rattle.netset.specs.Matching.{has, is_match_option, is_word, written_of, IsMatch, Picks}
 use Rattle.netset.specs.declared.program.TheConstants.{HELP}
 use Rattle.netset.specs.declared.commands.Reading.{Reading}
-use Rattle.netset.specs.declared.input.lines.HostBits.TheVariants.{Refused, Cleared}
-use Rattle.netset.specs.declared.commands.operations.Form.{Form}
-use Rattle.netset.specs.declared.commands.operations.Form.TheVariants.{Networks}
+use Rattle.cidr_lists.specs.declared.lines.HostBits.TheVariants.{Refused, Cleared}
+use Rattle.cidr_lists.specs.declared.sets.Form.{Form}
+use Rattle.cidr_lists.specs.declared.sets.Form.TheVariants.{Networks}
 use Rattle.netset.specs.declared.commands.operations.Operation.{Operation}
 use Rattle.netset.specs.declared.commands.operations.Operation.TheVariants.{Minus, Not}
-use Rattle.netset.specs.Sets.{IsPrinted}
+use Rattle.cidr_lists.specs.Sets.{IsPrinted}
 use Rattle.netset.specs.Single.{SingleRequest, IsNumber, IsSingle, IsSingleAnswer}
 use Rattle.netset.specs.declared.output.answers.Verdict.{Verdict}
 use Rattle.netset.specs.declared.output.answers.Verdict.TheVariants.{Yes}
-use Rattle.netset.specs.declared.commands.changes.Sign.{Sign}
+use Rattle.cidr_lists.specs.declared.changes.Sign.{Sign}
 
 -- a command and its arguments
 pub data Request : Type 0 where
@@ -86,9 +87,7 @@ lists_of (Free pool len used) = pool ∷ used
 lists_of (Check files) = read_files files
 lists_of (Match options list file) = list ∷ []
 lists_of (Look table file) = table ∷ []
-lists_of (Single request) = []
-lists_of Help = []
-lists_of Version = []
+lists_of request = []
 
 -- what it reads beside them
 abbrev pub others_of : Request → List (List ℕ)
@@ -123,16 +122,11 @@ reading_of options = record {
 
 -- whether lists of networks are read: `check` reads hosts, and tells their host bits
 abbrev pub reads_networks : Request → Bool
-reads_networks (Lists operation files) = true
-reads_networks (NotIn net files) = true
-reads_networks (Diff old new) = true
-reads_networks (Free pool len used) = true
 reads_networks (Check files) = false
-reads_networks (Match options list file) = true
-reads_networks (Look table file) = true
 reads_networks (Single request) = false
 reads_networks Help = false
 reads_networks Version = false
+reads_networks request = true
 
 -- whether lists are read
 abbrev pub reads_lists : Request → Bool
@@ -147,7 +141,7 @@ MayRead reading request = (reading.host_bits ≡ Cleared → reads_networks requ
 
 -- these are the lists of the files of these names
 abbrev pub AreTold : (List ℕ → Option Text) → List (List ℕ) → List Text → Type 0
-AreTold told names texts = AllZip (λ name text. told name ≡ Some text) names texts
+AreTold contents names texts = AllZip (λ name text. contents name ≡ Some text) names texts
 
 -- what is printed of the shortest list of networks of each family that has these addresses: the list, their ranges, or
 -- how many they are
@@ -199,20 +193,20 @@ version_text = codes "netset 0.1.0\n"
 
 -- what a request is answered with, and whether the answer is none or no, from what is told of the files
 abbrev pub IsAnswer : (List ℕ → Option Text) → Request → List ℕ → Verdict → Type 0
-IsAnswer told (Lists operation files) answer verdict =
-    ((texts : List Text) → AreTold told (read_files files) texts → IsMadeOf operation texts answer) × (verdict ≡ Yes)
-IsAnswer told (NotIn net files) answer verdict = (network : IpCidr) × IsIpNetworkText net network
-    × ((texts : List Text) → AreTold told (read_files files) texts → IsNotIn network texts answer) × (verdict ≡ Yes)
-IsAnswer told (Diff old new) answer verdict =
-    (before after : Text) → told old ≡ Some before → told new ≡ Some after → IsDiff before after answer verdict
-IsAnswer told (Free pool len used) answer verdict = (n : ℕ) × IsNumber len n × (n ≤ 128)
-    × ((texts : List Text) → AreTold told (pool ∷ used) texts → IsFree n texts answer verdict)
-IsAnswer told (Check files) answer verdict =
-    (texts : List Text) → AreTold told (read_files files) texts → IsCheck (read_files files) texts answer verdict
-IsAnswer told (Match options list file) answer verdict =
-    (networks text : Text) → told list ≡ Some networks → told file ≡ Some text → IsMatchOf options networks text.bytes answer verdict
-IsAnswer told (Look table file) answer verdict =
-    (rows text : Text) → told table ≡ Some rows → told file ≡ Some text → IsLook rows text.bytes answer verdict
-IsAnswer told (Single request) answer verdict = IsSingleAnswer request answer verdict
-IsAnswer told Help answer verdict = (answer ≡ help_text) × (verdict ≡ Yes)
-IsAnswer told Version answer verdict = (answer ≡ version_text) × (verdict ≡ Yes)
+IsAnswer contents (Lists operation files) answer verdict =
+    ((texts : List Text) → AreTold contents (read_files files) texts → IsMadeOf operation texts answer) × (verdict ≡ Yes)
+IsAnswer contents (NotIn net files) answer verdict = (network : IpCidr) × IsIpNetworkText net network
+    × ((texts : List Text) → AreTold contents (read_files files) texts → IsNotIn network texts answer) × (verdict ≡ Yes)
+IsAnswer contents (Diff old new) answer verdict =
+    (before after : Text) → contents old ≡ Some before → contents new ≡ Some after → IsDiff before after answer verdict
+IsAnswer contents (Free pool len used) answer verdict = (n : ℕ) × IsNumber len n × (n ≤ 128)
+    × ((texts : List Text) → AreTold contents (pool ∷ used) texts → IsFree n texts answer verdict)
+IsAnswer contents (Check files) answer verdict =
+    (texts : List Text) → AreTold contents (read_files files) texts → IsCheck (read_files files) texts answer verdict
+IsAnswer contents (Match options list file) answer verdict =
+    (networks text : Text) → contents list ≡ Some networks → contents file ≡ Some text → IsMatchOf options networks text.bytes answer verdict
+IsAnswer contents (Look table file) answer verdict =
+    (rows text : Text) → contents table ≡ Some rows → contents file ≡ Some text → IsLook rows text.bytes answer verdict
+IsAnswer contents (Single request) answer verdict = IsSingleAnswer request answer verdict
+IsAnswer contents Help answer verdict = (answer ≡ help_text) × (verdict ≡ Yes)
+IsAnswer contents Version answer verdict = (answer ≡ version_text) × (verdict ≡ Yes)

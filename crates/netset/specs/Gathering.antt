@@ -1,27 +1,22 @@
 -- What functions that pick lines of a file promise.
 use Rattle.std.specs.Prelude.{◌≡◌, ◌⊎◌, ℕ, ◌+◌, ◌<◌, ◌≤◌, Bool, true, false, List, [], ◌∷◌, ◌++◌, length, decimal, Option, IfSome, Result, Ok, Err}
 use Rattle.std.specs.List.{flat_map}
-use Rattle.cidr.specs.declared.cidr.combined.IpCidr.{IpCidr}
 use Rattle.cidr_io.specs.Writing.{State, Part, Writes, Answered}
 use Rattle.cidr_io.specs.declared.sink.OutputFailed.{OutputFailed}
 use Rattle.cidr_io.specs.Collecting.{Collects}
-use Rattle.netset.specs.Matching.{ArePicked, FieldSays, IsBadField, IsCutAt, IsMatch, last_line, line_written}
-use Rattle.netset.specs.Printing.{line}
+use Rattle.netset.specs.Matching.{ArePicked, IsCutAt, IsMatch, line_written}
+use Rattle.cidr_lists.specs.Lines.{last_line}
+use Rattle.cidr_lists.specs.Printing.{line}
 use Rattle.netset.specs.Program.{by_output}
 use Rattle.netset.specs.Streaming.{IsCutShort}
 use Rattle.netset.specs.declared.output.answers.Verdict.{Verdict}
 use Rattle.netset.specs.declared.output.answers.Verdict.TheVariants.{Yes, No}
 use Rattle.netset.specs.declared.errors.CommandError.{CommandError}
 use Rattle.netset.specs.declared.errors.CommandError.TheVariants as error
-use Rattle.netset.specs.declared.errors.LineError.{LineError}
+use Rattle.cidr_lists.specs.declared.errors.LineError.{LineError}
 use Rattle.netset.specs.declared.commands.matching.Gathered.{Gathered}
 use Rattle.netset.specs.declared.commands.matching.Written.{Written}
 use Rattle.netset.specs.declared.commands.matching.Written.TheVariants as written
-
--- what the first field of a line says, or its error
-abbrev pub ReadsField : List ℕ → Result (Option IpCidr) LineError → Type 0
-ReadsField line (Ok said) = FieldSays line said
-ReadsField line (Err e) = IsBadField line e
 
 -- the lines that a part up to a line feed is, or up to the end
 abbrev pub lines_of_part : List ℕ → Bool → List (List ℕ)

@@ -1,82 +1,36 @@
 -- Every line in error of the lists of a request, as `-k` tells them.
-use Rattle.std.specs.Prelude.{◌≡◌, ◌≢◌, ◌⊎◌, ℕ, ◌+◌, Bool, true, false, List, [], ◌∷◌, ◌++◌, codes, decimal, Option, Some, IfSome, Result, Ok, Err}
+use Rattle.std.specs.Prelude.{◌≡◌, ◌≢◌, ℕ, Bool, true, false, List, [], ◌∷◌, ◌++◌, Option, Some, IfSome, Result, Ok, Err}
 use Rattle.std.specs.List.{AllZip, flat_map}
-use Rattle.cidr.specs.texts.Messages.{address_message, parse_message}
 use Rattle.cidr.specs.declared.cidr.combined.IpCidr.{IpCidr}
 use Rattle.cidr.specs.declared.family.Family.{Family}
 use Rattle.cidr_io.specs.Collecting.{HasSaid}
 use Rattle.cidr_io.specs.Writing.{State, Says as Tells}
 use Rattle.netset.specs.Commands.{Request, Check, Look, AreTold}
-use Rattle.netset.specs.Entries.{AddsEntry, AreEntries, HasNoHost, LineHas}
-use Rattle.netset.specs.Lists.{Text, IsContent, IsField, IsInError, LineSays, lines_of, networks_in, text_by}
-use Rattle.netset.specs.Look.{IsBadRow, RowSays}
-use Rattle.netset.specs.LookUps.{AddsRow, Stores}
-use Rattle.netset.specs.Reading.{AddsLine, IsStopped, listed}
-use Rattle.netset.specs.declared.input.entries.Entry.{Entry}
+use Rattle.netset.specs.Entries.{AddsEntry}
+use Rattle.cidr_lists.specs.Entries.{AreEntries}
+use Rattle.cidr_lists.specs.Lists.{Text, LineSays, lines_of, networks_in, text_by}
+use Rattle.cidr_lists.specs.Tables.{RowSays, Stores}
+use Rattle.netset.specs.LookUps.{AddsRow}
+use Rattle.netset.specs.Reading.{AddsLine, IsStopped}
+use Rattle.cidr_lists.specs.Reading.{listed}
 use Rattle.netset.specs.declared.errors.CommandError.{CommandError}
 use Rattle.netset.specs.declared.errors.CommandError.TheVariants as error
-use Rattle.netset.specs.declared.errors.LineError.{LineError}
-use Rattle.netset.specs.declared.errors.LineError.TheVariants.{NotUtf8, NoNetwork, NoAddress, TwoFamilies, Reversed}
+use Rattle.cidr_lists.specs.declared.errors.LineError.{LineError}
 use Rattle.netset.specs.declared.errors.ReadError.{ReadError}
 use Rattle.netset.specs.declared.input.keeping.Kept.{Kept}
-use Rattle.netset.specs.declared.input.keeping.Kind.{Kind}
-use Rattle.netset.specs.declared.input.keeping.Kind.TheVariants as kind
+use Rattle.cidr_lists.specs.declared.lines.Kind.{Kind}
+use Rattle.cidr_lists.specs.declared.lines.Kind.TheVariants as kind
 use Rattle.netset.specs.declared.input.keeping.Said.{Said}
 use Rattle.netset.specs.declared.input.keeping.Said.TheVariants.{Networks, Hosts, Rows}
-use Rattle.netset.specs.declared.input.lines.Content.{Content}
-use Rattle.netset.specs.declared.input.lines.HostBits.{HostBits}
+use Rattle.cidr_lists.specs.declared.lines.HostBits.{HostBits}
+use Rattle.cidr_lists.specs.Messages.{fault_line}
+use Rattle.cidr_lists.specs.Faults.{IsFaulty, AreErrors, AreTellings, IsPartTold}
 
 -- what the lines of the lists of a request are
 abbrev pub kind_of : Request → Kind
 kind_of (Check files) = kind.Hosts
 kind_of (Look table file) = kind.Rows
 kind_of request = kind.Networks
-
--- the line is not in error
-abbrev pub IsSound : Kind → HostBits → List ℕ → Type 0
-IsSound kind.Networks bits line = (field : List ℕ) × (content : Content) × IsField line field × IsContent bits field content
-IsSound kind.Hosts bits line = (file : List ℕ) × (number : ℕ) × (one : Option Entry) × LineHas file number line one
-IsSound kind.Rows bits line = (said : Option (IpCidr × List ℕ)) × RowSays bits line said
-
--- the line is in error, and this is its error
-abbrev pub IsFaulty : Kind → HostBits → List ℕ → LineError → Type 0
-IsFaulty kind.Networks bits line e = IsInError bits line e
-IsFaulty kind.Hosts bits line e = HasNoHost line e
-IsFaulty kind.Rows bits line e = IsBadRow bits line e
-
--- the errors of lines of which the first has this number: each with the number of its line, in their order
-abbrev pub AreErrors : Kind → HostBits → ℕ → List (List ℕ) → List (ℕ × LineError) → Type 0
-AreErrors kind bits number [] errors = errors ≡ []
-AreErrors kind bits number (line ∷ lines) errors =
-    (IsSound kind bits line × AreErrors kind bits (number + 1) lines errors)
-    ⊎ ((e : LineError) × (rest : List (ℕ × LineError)) × IsFaulty kind bits line e × AreErrors kind bits (number + 1) lines rest
-    × (errors ≡ (number, e) ∷ rest))
-
--- the message of a line in error
-abbrev pub line_message : LineError → List ℕ
-line_message NotUtf8 = codes "not UTF-8"
-line_message (NoNetwork e) = parse_message e
-line_message (NoAddress e) = address_message e
-line_message TwoFamilies = codes "the ends of the range are of two families"
-line_message Reversed = codes "the first address of the range is above the last one"
-
--- FILE:LINE: message
-abbrev pub fault_line : List ℕ → ℕ × LineError → List ℕ
-fault_line file (number, e) = file ++ (codes ":" ++ (decimal number ++ (codes ": " ++ (line_message e ++ codes "\n"))))
-
--- what is told of lists of these names and texts: a line for each line in error
-abbrev pub AreTellings : Kind → List (List ℕ) → List Text → List ℕ → Type 0
-AreTellings kind [] [] told = told ≡ []
-AreTellings kind [] (text ∷ texts) told = ⊥
-AreTellings kind (file ∷ files) [] told = ⊥
-AreTellings kind (file ∷ files) (text ∷ texts) told = (errors : List (ℕ × LineError)) × (rest : List ℕ)
-    × AreErrors kind text.host_bits 1 (lines_of text.bytes) errors × AreTellings kind files texts rest
-    × (told ≡ flat_map (fault_line file) errors ++ rest)
-
--- the lines in error are told of some first lines of a list
-abbrev pub IsPartTold : Kind → List ℕ → Text → List ℕ → Type 0
-IsPartTold kind file text lines = (before after : List (List ℕ)) × (lines_of text.bytes ≡ before ++ after)
-    × (errors : List (ℕ × LineError)) × AreErrors kind text.host_bits 1 before errors × (lines ≡ flat_map (fault_line file) errors)
 
 -- why no more lists are read: the first of these can't be read, or memory
 abbrev pub IsLoadError : List (List ℕ) → CommandError → Type 0
@@ -86,13 +40,13 @@ IsLoadError names e = ⊥
 
 -- whether a line is in error
 abbrev pub IsAny : Bool → List ℕ → Type 0
-IsAny true told = told ≢ []
-IsAny false told = told ≡ []
+IsAny true contents = contents ≢ []
+IsAny false contents = contents ≡ []
 
 -- the lines in error are told of a beginning of the first of these lists, if its bytes are told
 abbrev pub IsBegun : (List ℕ → Option Text) → Kind → List (List ℕ) → List ℕ → Type 0
-IsBegun told kind [] lines = lines ≡ []
-IsBegun told kind (name ∷ names) lines = (text : Text) → told name ≡ Some text → IsPartTold kind name text lines
+IsBegun contents kind [] lines = lines ≡ []
+IsBegun contents kind (name ∷ names) lines = (text : Text) → contents name ≡ Some text → IsPartTold kind name text lines
 
 -- ---- what private functions promise
 -- what the lines are
@@ -149,18 +103,18 @@ KeepsLines kind bits file left old block new rest (Err e) = (lines : List ℕ) �
 
 -- the same of the list of a file
 abbrev pub KeepsList : Option Text → Kind → List ℕ → State → State → Result (Said × Bool) CommandError → Type 0
-KeepsList told kind file old new (Ok kept) = (lines : List ℕ) × Tells old new lines × IsAny kept.1 lines
-    × ((text : Text) → told ≡ Some text → IsKept kind text.host_bits file (lines_of text.bytes) (lines, kept.1, kept.0))
-KeepsList told kind file old new (Err e) = (lines : List ℕ) × Tells old new lines × IsLoadError (file ∷ []) e
-    × ((text : Text) → told ≡ Some text → IsPartTold kind file text lines)
+KeepsList contents kind file old new (Ok kept) = (lines : List ℕ) × Tells old new lines × IsAny kept.1 lines
+    × ((text : Text) → contents ≡ Some text → IsKept kind text.host_bits file (lines_of text.bytes) (lines, kept.1, kept.0))
+KeepsList contents kind file old new (Err e) = (lines : List ℕ) × Tells old new lines × IsLoadError (file ∷ []) e
+    × ((text : Text) → contents ≡ Some text → IsPartTold kind file text lines)
 
 -- the lists say what is kept of them
 abbrev pub AreKept : (List ℕ → Option Text) → List Kept → Type 0
-AreKept told [] = Unit {0}
-AreKept told (list ∷ lists) =
-    ((text : Text) → told list.name.now ≡ Some text → AllSaid text.host_bits (lines_of text.bytes) list.said) × AreKept told lists
+AreKept contents [] = Unit {0}
+AreKept contents (list ∷ lists) =
+    ((text : Text) → contents list.name.now ≡ Some text → AllSaid text.host_bits (lines_of text.bytes) list.said) × AreKept contents lists
 
 -- what was told of lists, if their bytes are told
 abbrev pub HasTold : (List ℕ → Option Text) → Kind → List (List ℕ) → State → State → List ℕ → Type 0
-HasTold told kind names old new lines =
-    Tells old new lines × ((texts : List Text) → AreTold told names texts → AreTellings kind names texts lines)
+HasTold contents kind names old new lines =
+    Tells old new lines × ((texts : List Text) → AreTold contents names texts → AreTellings kind names texts lines)

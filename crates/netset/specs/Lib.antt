@@ -1,17 +1,13 @@
 -- What has to be believed: what lists say, what commands answer, and a run of the program. `Reading`, `Command`,
 -- `Gathering`, `Loading`, `Answering`, `LookUps` and `Nearness` are what private functions promise.
-pub mod Lists
 pub mod Causes
 pub mod Reading
-pub mod Printing
 pub mod Single
 pub mod Sets
 pub mod Changes
 pub mod Free
 pub mod Entries
 pub mod Findings
-pub mod Nearness
-pub mod Words
 pub mod Matching
 pub mod Look
 pub mod Combining

@@ -1,59 +1,32 @@
 -- What functions that read a table and look addresses up promise.
-use Rattle.std.specs.Prelude.{◌≡◌, ℕ, ◌+◌, ◌≤◌, Bool, true, false, List, [], ◌∷◌, ◌++◌, length, take, drop, map, is_some, Option, Some, None, IfSome, Result, Ok, Err}
+use Rattle.std.specs.Prelude.{◌≡◌, ℕ, ◌+◌, Bool, true, false, List, [], ◌∷◌, ◌++◌, length, is_some, Option, Some, None, IfSome, Result, Ok, Err}
 use Rattle.std.specs.Borrow.{Bor}
-use Rattle.std.specs.List.{AllByRecursion, AllZip, flat_map, list_any}
+use Rattle.std.specs.List.{AllZip, flat_map, list_any}
 use Rattle.cidr.specs.either.IpAddress.{address_family, plain_bits}
 use Rattle.cidr.specs.declared.addr.ip.IpAddr.{IpAddr}
 use Rattle.cidr.specs.declared.cidr.combined.IpCidr.{IpCidr}
 use Rattle.cidr.specs.declared.family.Family.{Family}
-use Rattle.cidr.specs.declared.family.Family.TheVariants.{Ipv4, Ipv6}
 use Rattle.cidr_io.specs.Writing.{State, Part, Answered}
 use Rattle.cidr_io.specs.declared.sink.OutputFailed.{OutputFailed}
 use Rattle.cidr_table.specs.Prefixes.{IsLookedUp}
 use Rattle.cidr_io.specs.Collecting.{Collects}
-use Rattle.netset.specs.Lists.{Text, lines_of}
-use Rattle.netset.specs.Look.{IsBadLine, IsBadRow, IsTable, IsUnreadTable, LineLooks, LookUp, RowSays, found_line, is_found, look_line, row_in, rows_in}
+use Rattle.cidr_lists.specs.Lists.{Text, lines_of}
+use Rattle.cidr_lists.specs.Fields.{IsBadLine, IsBadRow}
+use Rattle.cidr_lists.specs.Tables.{IsTable, RowSays, Stores, Pushes, kept}
+use Rattle.netset.specs.Look.{IsUnreadTable}
+use Rattle.cidr_lists.specs.LookUps.{LineLooks, LookUp, found_line, is_found, look_line}
 use Rattle.netset.specs.declared.output.answers.Verdict.{Verdict}
 use Rattle.netset.specs.declared.output.answers.Verdict.TheVariants.{Yes, No}
 use Rattle.netset.specs.declared.errors.CommandError.{CommandError}
 use Rattle.netset.specs.declared.errors.CommandError.TheVariants as error
-use Rattle.netset.specs.declared.errors.LineError.{LineError}
-use Rattle.netset.specs.declared.input.lines.HostBits.{HostBits}
+use Rattle.cidr_lists.specs.declared.errors.LineError.{LineError}
+use Rattle.cidr_lists.specs.declared.lines.HostBits.{HostBits}
 use Rattle.netset.specs.declared.errors.ReadError.{ReadError}
 use Rattle.netset.specs.declared.errors.ReadError.TheVariants.{Line, Input, NoMemory}
 use Rattle.netset.specs.declared.commands.look.LookError.{LookError}
 use Rattle.netset.specs.declared.commands.look.LookError.TheVariants.{Reading, Output}
-use Rattle.netset.specs.declared.input.rows.Rows.{Rows}
-use Rattle.netset.specs.declared.input.rows.Span.{Span}
-use Rattle.netset.specs.declared.input.table.Table.{Table}
-
--- the bytes of a value among those of all values
-abbrev pub value_at : List ℕ → Span → List ℕ
-value_at values span = take span.len (drop span.start values)
-
--- a row with its value
-abbrev pub resolved : {C : Type 0} → List ℕ → C × Span → C × List ℕ
-resolved values row = (row.0, value_at values row.1)
-
--- the rows of a family
-abbrev pub stored : Rows → Family → List (List Bool × Span)
-stored rows Ipv4 = rows.v4.items
-stored rows Ipv6 = rows.v6.items
-
--- the values of rows lie in the bytes
-abbrev pub AreWithin : List ℕ → List (List Bool × Span) → Type 0
-AreWithin values rows = AllByRecursion (λ row. row.1.start + row.1.len ≤ length values) rows
-
--- the rows that lines say
-pub record Stores (rows : Rows) (said : List (Option (IpCidr × List ℕ))) : Type 0 where
-  pub same : (family : Family) → map (resolved rows.values.items) (stored rows family) ≡ rows_in family said
-  pub within : (family : Family) → AreWithin rows.values.items (stored rows family)
-
--- a value comes behind those before, and its row behind those of its family
-pub record Pushes (old new : Rows) (network : IpCidr) (value : List ℕ) : Type 0 where
-  pub values : new.values.items ≡ old.values.items ++ value
-  pub rows : (family : Family) → stored new family
-      ≡ stored old family ++ row_in family (network, record { start = length old.values.items; len = length value })
+use Rattle.cidr_lists.specs.declared.rows.Rows.{Rows}
+use Rattle.cidr_lists.specs.declared.table.Table.{Table}
 
 -- the row of a line, if it says one
 abbrev pub Adds : Rows → Rows → Option (IpCidr × List ℕ) → Type 0
@@ -98,26 +71,15 @@ ReadsRows text (Err (Line number e)) = (said : List (Option (IpCidr × List ℕ)
 ReadsRows text (Err Input) = Unit {0}
 ReadsRows text (Err NoMemory) = Unit {0}
 
--- rows with the same networks and values
-pub record AreCopies (rows others : Rows) : Type 0 where
-  pub v4 : others.v4.items ≡ rows.v4.items
-  pub v6 : others.v6.items ≡ rows.v6.items
-  pub values : others.values.items ≡ rows.values.items
-
 -- the rows of a file, or why it is not read
 abbrev pub ReadsFileRows : Option Text → List ℕ → Result Rows CommandError → Type 0
-ReadsFileRows told name (Ok rows) = (text : Text) → told ≡ Some text → ReadsRows text (Ok rows)
-ReadsFileRows told name (Err e) = IsUnreadTable told name e
-
--- the rows of a table, of each key one
-abbrev pub kept : Table → Family → List (List Bool × List ℕ)
-kept table Ipv4 = map (resolved table.values.items) table.v4.rows
-kept table Ipv6 = map (resolved table.values.items) table.v6.rows
+ReadsFileRows contents name (Ok rows) = (text : Text) → contents ≡ Some text → ReadsRows text (Ok rows)
+ReadsFileRows contents name (Err e) = IsUnreadTable contents name e
 
 -- the table of a file, or why it is not read
 abbrev pub ReadsTable : Option Text → List ℕ → Result Table CommandError → Type 0
-ReadsTable told name (Ok table) = (text : Text) → told ≡ Some text → IsTable text (kept table)
-ReadsTable told name (Err e) = IsUnreadTable told name e
+ReadsTable contents name (Ok table) = (text : Text) → contents ≡ Some text → IsTable text (kept table)
+ReadsTable contents name (Err e) = IsUnreadTable contents name e
 
 -- an error of reading a file
 abbrev pub unread : Bor (List ℕ) → ReadError → CommandError
@@ -161,20 +123,20 @@ EndsReading table text looks NoMemory = AreFirst (LineLooks table) text looks
 
 -- the addresses of a text were looked up, and their lines collected, to the end or to an error
 abbrev pub LooksLines : (Family → List (List Bool × List ℕ)) → Option (List ℕ) → State → State → List ℕ → List ℕ → Result Bool LookError → Type 0
-LooksLines table told old new block rest (Ok found) = (looks : List (Option LookUp))
+LooksLines table contents old new block rest (Ok found) = (looks : List (Option LookUp))
     × Collects old new block rest (flat_map look_line looks) (Ok tt) × (found ≡ list_any is_found looks)
-    × IfSome told (λ text. AllZip (LineLooks table) (lines_of text) looks)
-LooksLines table told old new block rest (Err (Reading e)) = (looks : List (Option LookUp))
-    × Collects old new block rest (flat_map look_line looks) (Ok tt) × IfSome told (λ text. EndsReading table text looks e)
-LooksLines table told old new block rest (Err Output) = (looks : List (Option LookUp))
-    × Part old new (block ++ flat_map look_line looks) × IfSome told (λ text. AreFirst (LineLooks table) text looks)
+    × IfSome contents (λ text. AllZip (LineLooks table) (lines_of text) looks)
+LooksLines table contents old new block rest (Err (Reading e)) = (looks : List (Option LookUp))
+    × Collects old new block rest (flat_map look_line looks) (Ok tt) × IfSome contents (λ text. EndsReading table text looks e)
+LooksLines table contents old new block rest (Err Output) = (looks : List (Option LookUp))
+    × Part old new (block ++ flat_map look_line looks) × IfSome contents (λ text. AreFirst (LineLooks table) text looks)
 
 -- the same, and the lines were written
 abbrev pub LooksAll : (Family → List (List Bool × List ℕ)) → Option (List ℕ) → State → State → Result Bool LookError → Type 0
-LooksAll table told old new (Ok found) = (looks : List (Option LookUp))
+LooksAll table contents old new (Ok found) = (looks : List (Option LookUp))
     × Answered old new (flat_map look_line looks) (Ok tt) × (found ≡ list_any is_found looks)
-    × IfSome told (λ text. AllZip (LineLooks table) (lines_of text) looks)
-LooksAll table told old new (Err (Reading e)) = (looks : List (Option LookUp))
-    × Answered old new (flat_map look_line looks) (Ok tt) × IfSome told (λ text. EndsReading table text looks e)
-LooksAll table told old new (Err Output) = (looks : List (Option LookUp)) × (failed : OutputFailed)
-    × Answered old new (flat_map look_line looks) (Err failed) × IfSome told (λ text. AreFirst (LineLooks table) text looks)
+    × IfSome contents (λ text. AllZip (LineLooks table) (lines_of text) looks)
+LooksAll table contents old new (Err (Reading e)) = (looks : List (Option LookUp))
+    × Answered old new (flat_map look_line looks) (Ok tt) × IfSome contents (λ text. EndsReading table text looks e)
+LooksAll table contents old new (Err Output) = (looks : List (Option LookUp)) × (failed : OutputFailed)
+    × Answered old new (flat_map look_line looks) (Err failed) × IfSome contents (λ text. AreFirst (LineLooks table) text looks)

@@ -7,11 +7,13 @@ use Rattle.cidr.specs.declared.cidr.combined.IpCidr.{IpCidr}
 use Rattle.cidr_io.specs.Arguments.{AreArguments, AreUnreadable}
 use Rattle.cidr_io.specs.Writing.{State, Answered, Says as Tells}
 use Rattle.cidr_io.specs.declared.sink.OutputFailed.{OutputFailed}
-use Rattle.netset.specs.Lists.{Text, text_by, ListSays, IsFirstError}
+use Rattle.cidr_lists.specs.Lists.{Text, text_by, ListSays, IsFirstError}
 use Rattle.netset.specs.Commands.{Request, Lists, NotIn, Diff, Free, Check, Match, Look, Single, Help, Version, IsRequest, IsUsage, MayRead, ReadsInputTwice, input_name, lists_of, reading_of, reading_options, without_options, read_files, AreTold, IsAnswer, Says}
 use Rattle.netset.specs.Causes.{Cause, MayFail}
 use Rattle.netset.specs.Free.{IsBadLength}
-use Rattle.netset.specs.Keeping.{AreTellings, IsBegun, IsLoadError, fault_line, kind_of}
+use Rattle.cidr_lists.specs.Faults.{AreTellings}
+use Rattle.netset.specs.Keeping.{IsBegun, IsLoadError, kind_of}
+use Rattle.cidr_lists.specs.Messages.{fault_line}
 use Rattle.netset.specs.Look.{IsLookCut, IsUnreadTable}
 use Rattle.netset.specs.Matching.{has, written_of, IsCutAt, Picks}
 use Rattle.netset.specs.Streaming.{IsCutShort}
@@ -20,7 +22,7 @@ use Rattle.netset.specs.Unchecked.{IsUnchecked}
 use Rattle.netset.specs.declared.errors.ArgumentError.{ArgumentError}
 use Rattle.netset.specs.declared.errors.ArgumentError.TheVariants as bad
 use Rattle.netset.specs.declared.commands.Reading.{Reading}
-use Rattle.netset.specs.declared.input.lines.HostBits.{HostBits}
+use Rattle.cidr_lists.specs.declared.lines.HostBits.{HostBits}
 use Rattle.netset.specs.declared.output.answers.Verdict.{Verdict}
 use Rattle.netset.specs.declared.output.answers.Verdict.TheVariants.{Yes, No}
 use Rattle.netset.specs.declared.errors.CommandError.{CommandError}
@@ -28,27 +30,21 @@ use Rattle.netset.specs.declared.errors.CommandError.TheVariants as error
 
 -- one of these files is the first whose list is not read: those before it say their networks
 abbrev pub StopsAt : (List ℕ → Option Text) → List (List ℕ) → List ℕ → Type 0
-StopsAt told names name = (before : List (List ℕ)) × (after : List (List ℕ)) × (names ≡ before ++ name ∷ after)
-    × ((texts : List Text) → AreTold told before texts → (said : List (List (List IpCidr))) × AllZip ListSays texts said)
+StopsAt contents names name = (before : List (List ℕ)) × (after : List (List ℕ)) × (names ≡ before ++ name ∷ after)
+    × ((texts : List Text) → AreTold contents before texts → (said : List (List (List IpCidr))) × AllZip ListSays texts said)
 
 -- why the lists of these names are not read: the first line in error of the first list that is not read, that its file
 -- can't be read, or memory
 abbrev pub IsUnread : (List ℕ → Option Text) → List (List ℕ) → CommandError → Type 0
-IsUnread told names error.Usage = ⊥
-IsUnread told names (error.Argument text e) = ⊥
-IsUnread told names (error.Line name number e) = StopsAt told names name.now × ((text : Text) → told name.now ≡ Some text → IsFirstError text number e)
-IsUnread told names (error.Input name) = StopsAt told names name.now
-IsUnread told names error.NoMemory = Unit {0}
-IsUnread told names error.Output = ⊥
+IsUnread contents names (error.Line name number e) = StopsAt contents names name.now × ((text : Text) → contents name.now ≡ Some text → IsFirstError text number e)
+IsUnread contents names (error.Input name) = StopsAt contents names name.now
+IsUnread contents names error.NoMemory = Unit {0}
+IsUnread contents names e = ⊥
 
 -- the error is that of an argument
 abbrev pub IsBadArgument : (List ℕ → ArgumentError → Type 0) → CommandError → Type 0
-IsBadArgument IsBad error.Usage = ⊥
 IsBadArgument IsBad (error.Argument text e) = IsBad text.now e
-IsBadArgument IsBad (error.Line name number e) = ⊥
-IsBadArgument IsBad (error.Input name) = ⊥
-IsBadArgument IsBad error.NoMemory = ⊥
-IsBadArgument IsBad error.Output = ⊥
+IsBadArgument IsBad e = ⊥
 
 -- the error is that this file can't be read
 abbrev pub IsInputError : List ℕ → CommandError → Type 0
@@ -57,19 +53,18 @@ IsInputError file e = ⊥
 
 -- why a request is not answered, and nothing is written
 abbrev pub IsRefused : (List ℕ → Option Text) → Request → Result Verdict CommandError → Type 0
-IsRefused told request (Ok verdict) = ⊥
-IsRefused told (Lists operation files) (Err e) = IsUnread told (read_files files) e
-IsRefused told (NotIn net files) (Err e) = IsBadArgument (λ text bad. (text ≡ net) × IsNoNetwork net bad) e
-    ⊎ ((network : IpCidr) × IsIpNetworkText net network × IsUnread told (read_files files) e)
-IsRefused told (Diff old new) (Err e) = IsUnread told (old ∷ new ∷ []) e
-IsRefused told (Free pool len used) (Err e) = IsBadArgument (IsBadLength len) e
-    ⊎ ((n : ℕ) × IsNumber len n × (n ≤ 128) × IsUnread told (pool ∷ used) e)
-IsRefused told (Check files) (Err e) = IsUnchecked told (read_files files) e
-IsRefused told (Match options list file) (Err e) = IsUnread told (list ∷ []) e ⊎ IsInputError file e
-IsRefused told (Look table file) (Err e) = IsUnreadTable (told table) table e ⊎ IsInputError file e
-IsRefused told (Single request) (Err e) = IsBadArgument (IsBadSingle request) e
-IsRefused told Help (Err e) = ⊥
-IsRefused told Version (Err e) = ⊥
+IsRefused contents request (Ok verdict) = ⊥
+IsRefused contents (Lists operation files) (Err e) = IsUnread contents (read_files files) e
+IsRefused contents (NotIn net files) (Err e) = IsBadArgument (λ text bad. (text ≡ net) × IsNoNetwork net bad) e
+    ⊎ ((network : IpCidr) × IsIpNetworkText net network × IsUnread contents (read_files files) e)
+IsRefused contents (Diff old new) (Err e) = IsUnread contents (old ∷ new ∷ []) e
+IsRefused contents (Free pool len used) (Err e) = IsBadArgument (IsBadLength len) e
+    ⊎ ((n : ℕ) × IsNumber len n × (n ≤ 128) × IsUnread contents (pool ∷ used) e)
+IsRefused contents (Check files) (Err e) = IsUnchecked contents (read_files files) e
+IsRefused contents (Match options list file) (Err e) = IsUnread contents (list ∷ []) e ⊎ IsInputError file e
+IsRefused contents (Look table file) (Err e) = IsUnreadTable (contents table) table e ⊎ IsInputError file e
+IsRefused contents (Single request) (Err e) = IsBadArgument (IsBadSingle request) e
+IsRefused contents request (Err e) = ⊥
 
 -- an output that failed is the error
 abbrev pub by_output : Verdict → Result (Unit {0}) OutputFailed → Result Verdict CommandError
@@ -79,37 +74,37 @@ by_output verdict (Err e) = Err error.Output
 -- What becomes of a request and of the sink: nothing is written where its lists are not read. Else its answer is
 -- written whole, or the sink has failed and a beginning of the answer was written, none if it had failed before.
 abbrev pub AnswersWhole : (List ℕ → Option Text) → Request → State → State → Result Verdict CommandError → Type 0
-AnswersWhole told request old new r =
-    ((new ≡ old) × IsRefused told request r)
-    ⊎ ((answer : List ℕ) × (verdict : Verdict) × (written : Result (Unit {0}) OutputFailed) × IsAnswer told request answer verdict
+AnswersWhole contents request old new r =
+    ((new ≡ old) × IsRefused contents request r)
+    ⊎ ((answer : List ℕ) × (verdict : Verdict) × (written : Result (Unit {0}) OutputFailed) × IsAnswer contents request answer verdict
     × Answered old new answer written × (r ≡ by_output verdict written))
 
 -- what belongs to the lines that `match` has read of its file, if it was not read to its end
 abbrev pub IsMatchUntil : (List ℕ → Option Text) → List (List ℕ) → List ℕ → List ℕ → List ℕ → CommandError → Type 0
-IsMatchUntil told options list file answer e = (networks text : Text) → told list ≡ Some networks → told file ≡ Some text
+IsMatchUntil contents options list file answer e = (networks text : Text) → contents list ≡ Some networks → contents file ≡ Some text
     → (said : List (List IpCidr)) × ListSays networks said
     × IsCutAt (Picks (has (codes "--any") options) (Says said) (has (codes "-v") options)) (written_of options) text.bytes answer e
 
 -- the same of `look`
 abbrev pub IsLookUntil : (List ℕ → Option Text) → List ℕ → List ℕ → List ℕ → CommandError → Type 0
-IsLookUntil told table file answer e =
-    (rows text : Text) → told table ≡ Some rows → told file ≡ Some text → IsLookCut rows text.bytes answer e
+IsLookUntil contents table file answer e =
+    (rows text : Text) → contents table ≡ Some rows → contents file ≡ Some text → IsLookCut rows text.bytes answer e
 
 -- what becomes of a request and of the sink
 abbrev pub AnswersRequest : (List ℕ → Option Text) → Request → State → State → Result Verdict CommandError → Type 0
-AnswersRequest told (Match options list file) old new r =
-    AnswersWhole told (Match options list file) old new r ⊎ IsCutShort (IsMatchUntil told options list file) file old new r
-AnswersRequest told (Look table file) old new r =
-    AnswersWhole told (Look table file) old new r ⊎ IsCutShort (IsLookUntil told table file) file old new r
-AnswersRequest told request old new r = AnswersWhole told request old new r
+AnswersRequest contents (Match options list file) old new r =
+    AnswersWhole contents (Match options list file) old new r ⊎ IsCutShort (IsMatchUntil contents options list file) file old new r
+AnswersRequest contents (Look table file) old new r =
+    AnswersWhole contents (Look table file) old new r ⊎ IsCutShort (IsLookUntil contents table file) file old new r
+AnswersRequest contents request old new r = AnswersWhole contents request old new r
 
 -- a request is given up only for its cause
 abbrev pub IsCaused : (List ℕ → Option Text) → Bool → Result Verdict CommandError → Type 0
-IsCaused told refused r = IfErr r (Cause (MayFail told) refused)
+IsCaused contents refused r = IfErr r (Cause (MayFail contents) refused)
 
 -- the lists of the files, read this way
-abbrev pub told_by : HostBits → (List ℕ → Option (List ℕ)) → List ℕ → Option Text
-told_by bits told name = option_map (text_by bits) (told name)
+abbrev pub contents_by : HostBits → (List ℕ → Option (List ℕ)) → List ℕ → Option Text
+contents_by bits contents name = option_map (text_by bits) (contents name)
 
 -- the arguments are no request, or one whose lists may not be read this way
 abbrev pub IsUsageBy : Reading → List (List ℕ) → Type 0
@@ -150,12 +145,9 @@ Reports closed (Err e) old new = ReportsUnless (is_closed_pipe closed e) e old n
 abbrev pub status_of : Result Verdict CommandError → ℕ
 status_of (Ok Yes) = 0
 status_of (Ok No) = 1
-status_of (Err error.Usage) = 2
-status_of (Err (error.Argument text e)) = 2
-status_of (Err (error.Line name number e)) = 2
-status_of (Err (error.Input name)) = 2
 status_of (Err error.NoMemory) = 3
 status_of (Err error.Output) = 3
+status_of (Err e) = 2
 
 -- an argument that is wrong whatever the lists say
 abbrev pub IsWrong : Request → CommandError → Type 0
@@ -170,27 +162,27 @@ EndsWith e closed out new_out err new_err status = (new_out ≡ out) × Reports 
 -- a request of whose lists each line in error is told, up to a list that can't be read, and then nothing is written; where
 -- there is none, the request is answered
 abbrev pub TellsFaults : (List ℕ → Option Text) → Bool → Request → Bool → State → State → State → State → ℕ → Type 0
-TellsFaults told refused request closed out new_out err new_err status = (lines : List ℕ) × (mid : State) × Tells err mid lines
-    × ((((texts : List Text) → AreTold told (lists_of request) texts → AreTellings (kind_of request) (lists_of request) texts lines)
+TellsFaults contents refused request closed out new_out err new_err status = (lines : List ℕ) × (mid : State) × Tells err mid lines
+    × ((((texts : List Text) → AreTold contents (lists_of request) texts → AreTellings (kind_of request) (lists_of request) texts lines)
     × (((lines ≢ []) × (new_out ≡ out) × (new_err ≡ mid) × (status ≡ 2))
-    ⊎ ((lines ≡ []) × (r : Result Verdict CommandError) × AnswersRequest told request out new_out r × IsCaused told refused r
+    ⊎ ((lines ≡ []) × (r : Result Verdict CommandError) × AnswersRequest contents request out new_out r × IsCaused contents refused r
     × Reports closed r mid new_err × (status ≡ status_of r))))
     ⊎ ((before after : List (List ℕ)) × (lists_of request ≡ before ++ after) × (front rest : List ℕ) × (lines ≡ front ++ rest)
-    × ((texts : List Text) → AreTold told before texts → AreTellings (kind_of request) before texts front)
-    × IsBegun told (kind_of request) after rest × (e : CommandError) × IsLoadError after e × Cause (MayFail told) refused e × (new_out ≡ out) × Reports closed (Err e) mid new_err × (status ≡ status_of (Err e))))
+    × ((texts : List Text) → AreTold contents before texts → AreTellings (kind_of request) before texts front)
+    × IsBegun contents (kind_of request) after rest × (e : CommandError) × IsLoadError after e × Cause (MayFail contents) refused e × (new_out ≡ out) × Reports closed (Err e) mid new_err × (status ≡ status_of (Err e))))
 
 -- the same, where no argument is wrong
 abbrev pub KeepsGoing : (List ℕ → Option Text) → Bool → Request → Bool → State → State → State → State → ℕ → Type 0
-KeepsGoing told refused request closed out new_out err new_err status =
+KeepsGoing contents refused request closed out new_out err new_err status =
     ((e : CommandError) × IsWrong request e × EndsWith e closed out new_out err new_err status)
-    ⊎ (((e : CommandError) → ¬ (IsWrong request e)) × TellsFaults told refused request closed out new_out err new_err status)
+    ⊎ (((e : CommandError) → ¬ (IsWrong request e)) × TellsFaults contents refused request closed out new_out err new_err status)
 
 -- what becomes of a request, its lists read this way
 abbrev pub RunsRequest : Reading → (List ℕ → Option Text) → Bool → Request → Bool → State → State → State → State → ℕ → Type 0
-RunsRequest reading told refused request closed out new_out err new_err status =
-    ((reading.keeps_going ≡ true) × KeepsGoing told refused request closed out new_out err new_err status)
-    ⊎ ((reading.keeps_going ≡ false) × (r : Result Verdict CommandError) × AnswersRequest told request out new_out r
-    × IsCaused told refused r × Reports closed r err new_err × (status ≡ status_of r))
+RunsRequest reading contents refused request closed out new_out err new_err status =
+    ((reading.keeps_going ≡ true) × KeepsGoing contents refused request closed out new_out err new_err status)
+    ⊎ ((reading.keeps_going ≡ false) × (r : Result Verdict CommandError) × AnswersRequest contents request out new_out r
+    × IsCaused contents refused r × Reports closed r err new_err × (status ≡ status_of r))
 
 -- the error is that the standard input is read already
 abbrev pub IsReadTwice : CommandError → Type 0
@@ -198,26 +190,26 @@ IsReadTwice e = IsBadArgument (λ text why. (text ≡ input_name) × (why ≡ ba
 
 -- what becomes of a request by itself: one that reads the standard input more than once is not answered
 abbrev pub RunsOnce : Reading → (List ℕ → Option (List ℕ)) → Bool → Request → Bool → State → State → State → State → ℕ → Type 0
-RunsOnce reading told refused request closed out new_out err new_err status =
+RunsOnce reading contents refused request closed out new_out err new_err status =
     (ReadsInputTwice request × (e : CommandError) × IsReadTwice e × EndsWith e closed out new_out err new_err status)
-    ⊎ (¬ (ReadsInputTwice request) × RunsRequest reading (told_by reading.host_bits told) refused request closed out new_out err new_err status)
+    ⊎ (¬ (ReadsInputTwice request) × RunsRequest reading (contents_by reading.host_bits contents) refused request closed out new_out err new_err status)
 
 -- what becomes of arguments without options of reading; others than those of a request are usage
 abbrev pub RunsWords : Reading → (List ℕ → Option (List ℕ)) → Bool → List (List ℕ) → Bool → State → State → State → State → ℕ → Type 0
-RunsWords reading told refused words closed out new_out err new_err status =
+RunsWords reading contents refused words closed out new_out err new_err status =
     (IsUsageBy reading words × EndsWith error.Usage closed out new_out err new_err status)
-    ⊎ ((request : Request) × IsRequest words request × MayRead reading request × RunsOnce reading told refused request closed out new_out err new_err status)
+    ⊎ ((request : Request) × IsRequest words request × MayRead reading request × RunsOnce reading contents refused request closed out new_out err new_err status)
 
 -- the same of arguments with options of reading, or there was no memory for them
 abbrev pub RunsArguments : (List ℕ → Option (List ℕ)) → Bool → List (List ℕ) → Bool → State → State → State → State → ℕ → Type 0
-RunsArguments told refused words closed out new_out err new_err status =
-    RunsWords (reading_of (reading_options words)) told refused (without_options words) closed out new_out err new_err status
+RunsArguments contents refused words closed out new_out err new_err status =
+    RunsWords (reading_of (reading_options words)) contents refused (without_options words) closed out new_out err new_err status
     ⊎ ((refused ≡ true) × EndsWith error.NoMemory closed out new_out err new_err status)
 
 -- A run, from the arguments and the files to the exit status. `refused` tells whether an allocation was refused, and `closed` tells whether the output has failed since nobody
 -- reads it any more.
 abbrev pub Runs : Option (List (List ℕ)) → (List ℕ → Option (List ℕ)) → Bool → Bool → State → State → State → State → ℕ → Type 0
-Runs words told refused closed out new_out err new_err status =
-    ((given : List (List ℕ)) × AreArguments words given × RunsArguments told refused given closed out new_out err new_err status)
+Runs words contents refused closed out new_out err new_err status =
+    ((given : List (List ℕ)) × AreArguments words given × RunsArguments contents refused given closed out new_out err new_err status)
     ⊎ ((AreUnreadable words × EndsWith error.Usage closed out new_out err new_err status)
     ⊎ ((refused ≡ true) × EndsWith error.NoMemory closed out new_out err new_err status))

@@ -1,27 +1,16 @@
 -- What functions that read a list promise, about bytes that are known.
-use Rattle.std.specs.Prelude.{◌≡◌, ℕ, Bool, List, ◌++◌, Result, Ok, Err, MatchResult}
+use Rattle.std.specs.Prelude.{◌≡◌, ℕ, List, Result, Ok, Err}
 use Rattle.cidr.specs.declared.cidr.combined.IpCidr.{IpCidr}
-use Rattle.cidr.specs.declared.family.Family.{Family}
-use Rattle.cidr.specs.declared.family.Family.TheVariants.{Ipv4, Ipv6}
 pub use Rattle.cidr_io.specs.Lines.{IsNextLine}
 use Rattle.cidr_io.specs.declared.lines.ReadError.{ReadError as NoLine}
 use Rattle.cidr_io.specs.declared.lines.ReadError.TheVariants.{Failed}
 use Rattle.cidr_io.specs.declared.lines.ReadError.TheVariants as no_line
-use Rattle.netset.specs.Lists.{Text, IsField, IsContent, IsFieldError, AreNetworks, LineSays, IsInError, ListSays, IsFirstError, network_in, networks_in}
-use Rattle.netset.specs.declared.errors.LineError.{LineError}
+use Rattle.cidr_lists.specs.Lists.{Text, LineSays, IsInError, ListSays, IsFirstError, network_in, networks_in}
 use Rattle.netset.specs.declared.errors.ReadError.{ReadError}
 use Rattle.netset.specs.declared.errors.ReadError.TheVariants.{Line, Input, NoMemory}
-use Rattle.netset.specs.declared.input.lines.Content.{Content}
-use Rattle.netset.specs.declared.input.lines.HostBits.{HostBits}
-use Rattle.netset.specs.declared.input.lists.Lists.{Lists}
-
--- what a field says, or its error
-abbrev pub ReadsField : HostBits → List ℕ → Result Content LineError → Type 0
-ReadsField bits field r = MatchResult r (IsContent bits field) (IsFieldError bits field)
-
--- what the field of a line says, or its error
-abbrev pub ReadsLine : HostBits → List ℕ → Result Content LineError → Type 0
-ReadsLine bits line r = (field : List ℕ) × IsField line field × ReadsField bits field r
+use Rattle.cidr_lists.specs.declared.lines.HostBits.{HostBits}
+use Rattle.cidr_lists.specs.declared.lists.Lists.{Lists}
+use Rattle.cidr_lists.specs.Reading.{Grows}
 
 -- a source that has failed can't be read
 abbrev pub read_error : NoLine → ReadError
@@ -39,19 +28,6 @@ abbrev pub IsReadError : Text → ReadError → Type 0
 IsReadError text (Line number e) = IsFirstError text number e
 IsReadError text Input = Unit {0}
 IsReadError text NoMemory = Unit {0}
-
--- the networks of a family
-abbrev pub listed : Lists → Family → List (List Bool)
-listed lists Ipv4 = lists.v4.items
-listed lists Ipv6 = lists.v6.items
-
--- further networks of each family
-abbrev pub Grows : Lists → Lists → (Family → List (List Bool)) → Type 0
-Grows old new more = (family : Family) → listed new family ≡ listed old family ++ more family
-
--- the networks of what a line says come behind those before
-abbrev pub AddsContent : Content → Lists → Lists → Type 0
-AddsContent content old new = (said : List IpCidr) × AreNetworks content said × Grows old new (λ family. network_in family said)
 
 -- the error is that of this line, or the line is not known to have one
 abbrev pub IsLineError : HostBits → List ℕ → ℕ → ReadError → Type 0

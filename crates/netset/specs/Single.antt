@@ -16,7 +16,7 @@ use Rattle.cidr.specs.declared.family.Family.TheVariants.{Ipv4, Ipv6}
 use Rattle.cidr.specs.declared.inet.combined.IpInet.{IpInet}
 use Rattle.cidr_ext.specs.Inside.{IsAddressAt}
 use Rattle.cidr_ext.specs.Subnets.{subnets_of}
-use Rattle.netset.specs.Printing.{line}
+use Rattle.cidr_lists.specs.Printing.{line}
 use Rattle.netset.specs.declared.output.answers.Verdict.{Verdict}
 use Rattle.netset.specs.declared.output.answers.Verdict.TheVariants.{Yes, No}
 use Rattle.netset.specs.declared.errors.ArgumentError.{ArgumentError}
@@ -93,23 +93,15 @@ IsSingleAnswer (Nth net place) answer verdict =
 -- the string is no network, and this is the first error
 abbrev pub IsNoNetwork : List ℕ → ArgumentError → Type 0
 IsNoNetwork text (bad.Network e) = IsIpRefused text e × ((n : IpCidr) → ¬ (IsIpNetworkText text n))
-IsNoNetwork text bad.Length = ⊥
-IsNoNetwork text bad.Index = ⊥
-IsNoNetwork text bad.ReadTwice = ⊥
+IsNoNetwork text e = ⊥
 
 -- the first argument that is wrong, and its error: no network, and else no length of networks inside, or no index below 2^128
 abbrev pub IsBadSingle : SingleRequest → List ℕ → ArgumentError → Type 0
 IsBadSingle (Show host) text (bad.Network e) = (text ≡ host) × IsIpHostRefused host e × ((h : IpInet) → ¬ (IsIpHostText host h))
-IsBadSingle (Show host) text bad.Length = ⊥
-IsBadSingle (Show host) text bad.Index = ⊥
-IsBadSingle (Show host) text bad.ReadTwice = ⊥
 IsBadSingle (Split net len) text (bad.Network e) = (text ≡ net) × IsNoNetwork net (bad.Network e)
 IsBadSingle (Split net len) text bad.Length =
     (text ≡ len) × (network : IpCidr) × IsIpNetworkText net network × ((n : ℕ) → IsNumber len n → HasNone network n)
-IsBadSingle (Split net len) text bad.Index = ⊥
-IsBadSingle (Split net len) text bad.ReadTwice = ⊥
 IsBadSingle (Nth net place) text (bad.Network e) = (text ≡ net) × IsNoNetwork net (bad.Network e)
-IsBadSingle (Nth net place) text bad.Length = ⊥
 IsBadSingle (Nth net place) text bad.Index =
     (text ≡ place) × (network : IpCidr) × IsIpNetworkText net network × ((i : ℕ) → IsNumber place i → 2 ^ 128 ≤ i)
-IsBadSingle (Nth net place) text bad.ReadTwice = ⊥
+IsBadSingle request text e = ⊥

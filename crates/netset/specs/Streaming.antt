@@ -4,16 +4,15 @@ use Rattle.cidr_io.specs.Writing.{State, Whole, Part}
 use Rattle.netset.specs.declared.output.answers.Verdict.{Verdict}
 use Rattle.netset.specs.declared.errors.CommandError.{CommandError}
 use Rattle.netset.specs.declared.errors.CommandError.TheVariants as error
-use Rattle.netset.specs.declared.errors.LineError.{LineError}
+use Rattle.cidr_lists.specs.declared.errors.LineError.{LineError}
 
 -- it is an error of reading this file, of memory or of the output
 abbrev pub IsOfFile : List ℕ → CommandError → Type 0
-IsOfFile file error.Usage = ⊥
-IsOfFile file (error.Argument text e) = ⊥
 IsOfFile file (error.Line name number e) = name.now ≡ file
 IsOfFile file (error.Input name) = name.now ≡ file
 IsOfFile file error.NoMemory = Unit {0}
 IsOfFile file error.Output = Unit {0}
+IsOfFile file e = ⊥
 
 -- lines were read up to some that are left, and this is what those before say
 pub record ReadTo {S : Type 0} (Say : List (List ℕ) → S → Type 0) (all read left : List (List ℕ)) (said : S) : Type 0 where

@@ -10,19 +10,16 @@ ghost use Rattle.netset.specs.Matching.{is_match_option, is_word};
 pub mod changes;
 pub mod check;
 pub mod combine;
-pub mod findings;
 pub mod free;
 pub mod inside;
 pub mod look;
 pub mod matching;
-pub mod near;
 pub mod operations;
 pub mod single;
-pub mod words;
 
 use crate::commands::operations::{Operation, operation_of, takes};
 use crate::commands::single::{Single, single_of};
-use crate::input::lines::HostBits;
+use cidr_lists::lines::HostBits;
 
 /// A command and its arguments.
 #[derive(Clone, Copy)]

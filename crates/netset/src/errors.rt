@@ -1,23 +1,9 @@
 //! Why a list can't be read, and why a command gave no answer.
-use cidr::AddrParseError;
+
 use cidr::errors::NetworkParseError;
 use cidr_io::lines;
+use cidr_lists::errors::LineError;
 use std::alloc::AllocError;
-
-/// Why a line is in error.
-#[derive(Debug, Drop)]
-pub enum LineError {
-    /// It is not UTF-8.
-    NotUtf8,
-    /// It is neither a network nor an address: the error of parsing it.
-    NoNetwork(NetworkParseError),
-    /// Its first field, or an end of its range, is no address: the error of parsing it.
-    NoAddress(AddrParseError),
-    /// The ends of its range are of two families.
-    TwoFamilies,
-    /// The first address of its range is above the last one.
-    Reversed,
-}
 
 /// Why a list can't be read.
 #[derive(Debug, Drop)]

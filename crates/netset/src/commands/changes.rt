@@ -1,95 +1,26 @@
 //! What a second list adds to a first one, and what it lacks.
-ghost use Rattle.std.specs.Prelude.{◌≡◌, ◌↔◌, [], map, IfErr, IsTrue};
-ghost use Rattle.std.specs.Iterator.{YieldsFirst, item_count};
+ghost use Rattle.std.specs.Prelude.{◌≡◌, [], IfErr};
 ghost use Rattle.std.specs.List.{flat_map};
-ghost use Rattle.cidr.specs.declared.family.Family.{Family};
 ghost use Rattle.cidr_io.specs.Writing.{Answered, Writes};
 ghost use Rattle.netset.specs.Answering.{changed};
-ghost use Rattle.netset.specs.Changes.{AreSame, adds_first, change_line, merged, printed_changes, sign_text};
+ghost use Rattle.netset.specs.Changes.{AreSame};
+ghost use Rattle.cidr_lists.specs.Changes.{change_line, merged, printed_changes};
 ghost use Rattle.cidr_io.specs.Collecting.{Collects};
 ghost use Rattle.netset.specs.Causes.{Cause, MayFail};
 ghost use Rattle.netset.specs.Commands.{Diff};
 ghost use Rattle.netset.specs.Program.{AnswersRequest};
 
-use crate::commands::operations::Step;
 use crate::errors::CommandError;
 use crate::input::files::Sources;
 use crate::input::several::read_both;
 use crate::output::answers::{Verdict, by_output};
-use crate::output::printing::Printed;
-use crate::output::sets::Sets;
-use cidr::NetworkBits;
 use cidr_io::block::Block;
 use cidr_io::memory::Memory;
 use cidr_io::sink::{OutputFailed, Sink};
 use cidr_io::writing::flush;
-use std::marker::Model;
-
-/// Whether a network is added or lacking.
-#[derive(Clone, Copy, Debug, Drop, PartialEq)]
-pub enum Sign {
-    Plus,
-    Minus,
-}
-
-/// The sign in front of a network.
-fn sign_text(sign: Sign) -> &'static str
-    ensures { result.now ≡ sign_text sign }
-{
-    match sign {
-        Sign::Plus => "+",
-        Sign::Minus => "-",
-    }
-}
-
-/// Whether the first of the networks of two lists is an added one.
-fn adds_first<C: NetworkBits>(added: &[C], lacking: &[C]) -> bool
-    ensures { result ≡ adds_first C.bits added.now lacking.now }
-{
-    let Some((plus, _)) = added.split_first() else {
-        return false;
-    };
-    let Some((minus, _)) = lacking.split_first() else {
-        return true;
-    };
-    plus.cmp(minus).is_lt()
-}
-
-/// The networks of two lists that are left, each with its sign, ascending where both lists are.
-#[derive(Drop)]
-struct Changes<'a, C: NetworkBits + Copy> {
-    added: &'a [C],
-    lacking: &'a [C],
-}
-
-impl<'a, C: NetworkBits + Copy> Model for Changes<'a, C> {
-    ghost use Rattle.std.specs.Prelude.{List};
-    ghost use Rattle.netset.specs.Changes.{merged};
-    ghost use Rattle.netset.specs.declared.commands.changes.Sign.{Sign};
-
-    ghost Value = { List (Sign × C) };
-
-    ghost view = { λ left. merged C.bits left.added.now left.lacking.now };
-}
-
-impl<'a, C: NetworkBits + Copy> Iterator for Changes<'a, C> {
-    type Item = (Sign, C);
-
-    ghost next_gives = { YieldsFirst (λ s. s) };
-
-    ghost remaining = { item_count (λ s. s) };
-
-    fn next(&mut self) -> Option<(Sign, C)> {
-        if adds_first(self.added, self.lacking) {
-            let (network, rest) = self.added.split_first()?;
-            self.added = rest;
-            return Some((Sign::Plus, *network));
-        }
-        let (network, rest) = self.lacking.split_first()?;
-        self.lacking = rest;
-        Some((Sign::Minus, *network))
-    }
-}
+use cidr_lists::changes::{Changes, Sign, sign_text};
+use cidr_lists::printing::Printed;
+use cidr_lists::sets::{Sets, Step};
 
 /// Appends a network with its sign to a block, as a line.
 fn push_change<C: Printed, S: Sink>(
@@ -158,8 +89,8 @@ pub fn diff<'a, M: Memory, F: Sources, O: Sink>(
     new: &'a str,
     out: &mut O,
 ) -> Result<Verdict, CommandError<'a>>
-    ensures answers { AnswersRequest (F.told sources.now) (Diff old.now new.now) (O.state out.old) (O.state out.new) result }
-    ensures cause { IfErr result (Cause (MayFail (F.told sources.now)) (M.refused memory.new)) }
+    ensures answers { AnswersRequest (F.contents sources.now) (Diff old.now new.now) (O.state out.old) (O.state out.new) result }
+    ensures cause { IfErr result (Cause (MayFail (F.contents sources.now)) (M.refused memory.new)) }
 {
     let (old, new) = read_both(memory, sources, old, new)?;
     let added = new.stepped(Step::Difference, &old);

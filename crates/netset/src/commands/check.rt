@@ -4,19 +4,21 @@ ghost use Rattle.cidr_io.specs.Writing.{State};
 ghost use Rattle.cidr_io.specs.Collecting.{Collects};
 ghost use Rattle.netset.specs.Causes.{Cause, MayFail};
 ghost use Rattle.netset.specs.Commands.{Check};
-ghost use Rattle.netset.specs.Findings.{AnswersNotes, AreNoted, NotesAll, NotesOn, entry_network, kind_rank, note_line};
-ghost use Rattle.netset.specs.Nearness.{AreNear};
+ghost use Rattle.netset.specs.Findings.{AnswersNotes, AreNoted, NotesAll, NotesOn};
+ghost use Rattle.cidr_lists.specs.Findings.{entry_network, kind_rank, note_line};
+ghost use Rattle.cidr_lists.specs.Nearness.{AreNear};
 ghost use Rattle.netset.specs.Program.{AnswersRequest};
 
-use crate::commands::findings::{Finding, Kind, Note, find};
-use crate::commands::near::{Near, near_at, near_lines};
 use crate::errors::CommandError;
-use crate::input::entries::{Entry, entry_at, read_entries};
+use crate::input::entries::read_entries;
 use crate::input::files::Sources;
 use crate::output::answers::Verdict;
 use cidr_io::block::Block;
 use cidr_io::memory::Memory;
 use cidr_io::sink::{OutputFailed, Sink};
+use cidr_lists::entries::{Entry, entry_at};
+use cidr_lists::findings::{Finding, Kind, Note, find};
+use cidr_lists::near::{Near, near_at, near_lines};
 use itoa::Buffer;
 
 /// Appends a finding to a block, as a line.
@@ -85,7 +87,7 @@ fn push_note<S: Sink>(block: &mut Block, out: &mut S, note: &Note<'_>) -> Result
 
 /// The findings that are told so far.
 #[derive(Drop)]
-struct Told {
+struct Messages {
     /// The lines that are not written yet.
     block: Block,
     /// Yes where nothing is found.
@@ -94,7 +96,7 @@ struct Told {
 
 /// Tells the finding of a kind in a line, if there is one.
 fn tell<S: Sink>(
-    told: &mut Told,
+    messages: &mut Messages,
     out: &mut S,
     entries: &[Entry<'_>],
     near: &[Near],
@@ -104,20 +106,20 @@ fn tell<S: Sink>(
     requires near { AreNear (map entry_network entries.now) near.now }
     requires within { index < length entries.now }
     ensures { (start : State) (bound : ℕ) → bound ≡ index * 5 + kind_rank kind
-        → AreNoted entries.now bound start (S.state out.old) told.old.block told.old.verdict
-        → NotesOn entries.now (bound + 1) start (S.state out.new) told.new.block told.new.verdict result }
+        → AreNoted entries.now bound start (S.state out.old) messages.old.block messages.old.verdict
+        → NotesOn entries.now (bound + 1) start (S.state out.new) messages.new.block messages.new.verdict result }
 {
     let entry = entry_at(entries, index);
     let Some(note) = find(kind, entries, near_at(near, entries, index), index, entry) else {
         return Ok(());
     };
-    told.verdict = Verdict::No;
-    push_note(&mut told.block, out, &note)
+    messages.verdict = Verdict::No;
+    push_note(&mut messages.block, out, &note)
 }
 
 /// Tells the findings of a line.
 fn tell_line<S: Sink>(
-    told: &mut Told,
+    messages: &mut Messages,
     out: &mut S,
     entries: &[Entry<'_>],
     near: &[Near],
@@ -126,14 +128,14 @@ fn tell_line<S: Sink>(
     requires near { AreNear (map entry_network entries.now) near.now }
     requires within { index < length entries.now }
     ensures { (start : State)
-        → AreNoted entries.now (index * 5) start (S.state out.old) told.old.block told.old.verdict
-        → NotesOn entries.now (index * 5 + 5) start (S.state out.new) told.new.block told.new.verdict result }
+        → AreNoted entries.now (index * 5) start (S.state out.old) messages.old.block messages.old.verdict
+        → NotesOn entries.now (index * 5 + 5) start (S.state out.new) messages.new.block messages.new.verdict result }
 {
-    tell(told, out, entries, near, index, Kind::HostBits)?;
-    tell(told, out, entries, near, index, Kind::Form)?;
-    tell(told, out, entries, near, index, Kind::Same)?;
-    tell(told, out, entries, near, index, Kind::Outer)?;
-    tell(told, out, entries, near, index, Kind::Half)?;
+    tell(messages, out, entries, near, index, Kind::HostBits)?;
+    tell(messages, out, entries, near, index, Kind::Form)?;
+    tell(messages, out, entries, near, index, Kind::Same)?;
+    tell(messages, out, entries, near, index, Kind::Outer)?;
+    tell(messages, out, entries, near, index, Kind::Half)?;
     Ok(())
 }
 
@@ -146,15 +148,15 @@ fn tell_all<S: Sink>(
     requires { AreNear (map entry_network entries.now) near.now }
     ensures { NotesAll entries.now (S.state out.old) (S.state out.new) result }
 {
-    let mut told = Told {
+    let mut messages = Messages {
         block: Block::new(),
         verdict: Verdict::Yes,
     };
     for index in 0..entries.len() {
-        tell_line(&mut told, out, entries, near, index)?;
+        tell_line(&mut messages, out, entries, near, index)?;
     }
-    told.block.flush(out)?;
-    Ok(told.verdict)
+    messages.block.flush(out)?;
+    Ok(messages.verdict)
 }
 
 /// Writes the findings of all lines. An output that has failed before gets nothing.
@@ -179,9 +181,9 @@ pub fn check<'a, M: Memory, F: Sources, O: Sink>(
     files: &'a [&'a str],
     out: &mut O,
 ) -> Result<Verdict, CommandError<'a>>
-    ensures answers { AnswersRequest (F.told sources.now) (Check (map (λ file. file.now) files.now))
+    ensures answers { AnswersRequest (F.contents sources.now) (Check (map (λ file. file.now) files.now))
         (O.state out.old) (O.state out.new) result }
-    ensures cause { IfErr result (Cause (MayFail (F.told sources.now)) (M.refused memory.new)) }
+    ensures cause { IfErr result (Cause (MayFail (F.contents sources.now)) (M.refused memory.new)) }
 {
     let entries = read_entries(memory, sources, files)?;
     let near = near_lines(memory.alloc(), entries.as_slice());

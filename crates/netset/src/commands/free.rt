@@ -2,20 +2,16 @@
 ghost use Rattle.std.specs.Prelude.{ℕ, ◌≤◌, ◌<◌, map, IfErr, MatchOption};
 ghost use Rattle.netset.specs.Causes.{Cause, MayFail};
 ghost use Rattle.netset.specs.Commands.{Free};
-ghost use Rattle.netset.specs.Free.{IsFreeOf};
 ghost use Rattle.netset.specs.Program.{AnswersRequest};
-ghost use Rattle.netset.specs.Sets.{held};
 ghost use Rattle.netset.specs.Single.{IsNumber};
 
-use crate::commands::combine::made;
+use crate::commands::combine::combination;
 use crate::commands::operations::Operation;
 use crate::errors::{ArgumentError, CommandError};
 use crate::input::files::Sources;
 use crate::input::several::read_named;
 use crate::output::answers::{Verdict, by_output};
 use crate::output::report::write_line;
-use crate::output::sets::Sets;
-use cidr::IpCidr;
 use cidr_io::memory::Memory;
 use cidr_io::sink::Sink;
 use cidr_io::writing::write_text;
@@ -33,21 +29,6 @@ pub fn length_of(text: &str) -> Option<u8>
     if len <= LONGEST { Some(len) } else { None }
 }
 
-impl Sets {
-    /// The first network of a prefix length that has only addresses of the sets, of IPv4 before IPv6.
-    fn first_free(&self, len: u8) -> Option<IpCidr>
-        ensures { IsFreeOf (held self.now) len result }
-    {
-        if let Some(network) = self.v4.first_free(usize::from(len)) {
-            return Some(IpCidr::V4(network));
-        }
-        match self.v6.first_free(usize::from(len)) {
-            Some(network) => Some(IpCidr::V6(network)),
-            None => None,
-        }
-    }
-}
-
 /// The command `free`.
 pub fn free<'a, M: Memory, F: Sources, O: Sink>(
     memory: &mut M,
@@ -57,15 +38,15 @@ pub fn free<'a, M: Memory, F: Sources, O: Sink>(
     used: &'a [&'a str],
     out: &mut O,
 ) -> Result<Verdict, CommandError<'a>>
-    ensures answers { AnswersRequest (F.told sources.now) (Free pool.now len.now (map (λ file. file.now) used.now))
+    ensures answers { AnswersRequest (F.contents sources.now) (Free pool.now len.now (map (λ file. file.now) used.now))
         (O.state out.old) (O.state out.new) result }
-    ensures cause { IfErr result (Cause (MayFail (F.told sources.now)) (M.refused memory.new)) }
+    ensures cause { IfErr result (Cause (MayFail (F.contents sources.now)) (M.refused memory.new)) }
 {
     let Some(bits) = length_of(len) else {
         return Err(CommandError::Argument(len, ArgumentError::Length));
     };
     let several = read_named(memory, sources, pool, used)?;
-    let rest = made(Operation::Minus, several);
+    let rest = combination(Operation::Minus, several);
     let rest = memory.watch(rest)?;
     match rest.first_free(bits) {
         Some(network) => by_output(

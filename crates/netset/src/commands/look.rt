@@ -2,21 +2,22 @@
 ghost use Rattle.std.specs.Prelude.{◌≡◌, IfErr, false};
 ghost use Rattle.netset.specs.Causes.{Cause, LookCause, MayFail, TextFails};
 ghost use Rattle.netset.specs.Commands.{Look};
-ghost use Rattle.netset.specs.LookUps.{LooksAll, LooksLine, LooksLines, kept, verdict_of};
+ghost use Rattle.netset.specs.LookUps.{LooksAll, LooksLine, LooksLines, verdict_of};
+ghost use Rattle.cidr_lists.specs.Tables.{kept};
 ghost use Rattle.netset.specs.Program.{AnswersRequest};
-ghost use Rattle.cidr_io.specs.Writing.{Writes};
 
 use crate::errors::{CommandError, ReadError};
-use crate::input::columns::{address_in, split_line};
 use crate::input::files::Sources;
-use crate::input::lines::catch_up;
-use crate::input::table::{Table, read_table, unread};
+use crate::input::table::{look_up, read_table, unread};
 use crate::output::answers::Verdict;
+use crate::output::printing::catch_up;
 use cidr_io::block::Block;
 use cidr_io::lines::{LineReader, ReadError as NoLine};
 use cidr_io::memory::Memory;
 use cidr_io::sink::{OutputFailed, Sink};
 use cidr_io::source::Source;
+use cidr_lists::columns::{address_in, split_line};
+use cidr_lists::table::Table;
 
 /// Why look-ups end early.
 #[derive(Debug, Drop)]
@@ -67,7 +68,7 @@ fn look_line<S: Sink>(
     };
     match address_in(first) {
         Ok(address) => {
-            let found = table.look_up(&address, block, out)?;
+            let found = look_up(table, &address, block, out)?;
             Ok(found)
         }
         Err(e) => Err(LookError::Reading(ReadError::Line(number, e))),
@@ -145,8 +146,8 @@ pub fn look<'a, M: Memory, F: Sources, O: Sink>(
     file: &'a str,
     out: &mut O,
 ) -> Result<Verdict, CommandError<'a>>
-    ensures answers { AnswersRequest (F.told sources.now) (Look table.now file.now) (O.state out.old) (O.state out.new) result }
-    ensures cause { IfErr result (Cause (MayFail (F.told sources.now)) (M.refused memory.new)) }
+    ensures answers { AnswersRequest (F.contents sources.now) (Look table.now file.now) (O.state out.old) (O.state out.new) result }
+    ensures cause { IfErr result (Cause (MayFail (F.contents sources.now)) (M.refused memory.new)) }
 {
     let rows = read_table(memory, sources, table)?;
     let Some(reader) = sources.open(file) else {

@@ -6,24 +6,24 @@ ghost use Rattle.cidr_io.specs.Collecting.{Collects};
 ghost use Rattle.netset.specs.Causes.{Cause, MayFail, TextFails};
 ghost use Rattle.netset.specs.Commands.{Match};
 ghost use Rattle.netset.specs.Gathering.{Finishes, IsCounted, IsDone, IsUnreadable, Stops, Streams, TakesPart, lines_of_part, rest_written};
-ghost use Rattle.netset.specs.Matching.{IsWithin, LiesIn, Picks, PicksByField, has, line_written, written_of};
+ghost use Rattle.netset.specs.Matching.{Picks, PicksByField, has, line_written, written_of};
 ghost use Rattle.netset.specs.Program.{AnswersRequest};
 ghost use Rattle.netset.specs.Reading.{IsNextLine};
-ghost use Rattle.netset.specs.Sets.{Held};
+ghost use Rattle.cidr_lists.specs.Sets.{HasAddress};
 
-use crate::errors::{CommandError, LineError};
-use crate::input::fields::said;
+use crate::errors::CommandError;
 use crate::input::files::Sources;
-use crate::input::lines::catch_up;
 use crate::input::several::read_file;
 use crate::output::answers::{Verdict, by_output};
-use crate::output::sets::Sets;
-use cidr::IpCidr;
+use crate::output::printing::catch_up;
 use cidr_io::block::Block;
 use cidr_io::lines::{LineReader, ReadError};
 use cidr_io::memory::Memory;
 use cidr_io::sink::{OutputFailed, Sink};
 use cidr_io::source::Source;
+use cidr_lists::errors::LineError;
+use cidr_lists::fields::first_network;
+use cidr_lists::sets::Sets;
 use itoa::Buffer;
 
 /// What is written of the lines that are picked.
@@ -57,28 +57,6 @@ fn written_of(options: &[&str]) -> Written
     }
 }
 
-impl Sets {
-    /// Whether there are all addresses of a network.
-    fn contains(&self, network: &IpCidr) -> bool
-        ensures { Decides result (IsWithin (Held self.now) network.now) }
-    {
-        match network {
-            IpCidr::V4(network) => self.v4.contains(network),
-            IpCidr::V6(network) => self.v6.contains(network),
-        }
-    }
-
-    /// Whether there is a network, and all its addresses are there.
-    fn have(&self, network: &Option<IpCidr>) -> bool
-        ensures { Decides result (LiesIn (Held self.now) network.now) }
-    {
-        match network {
-            Some(network) => self.contains(network),
-            None => false,
-        }
-    }
-}
-
 /// Which lines are picked, and what is written of them.
 #[derive(Clone, Copy)]
 struct Matcher<'a> {
@@ -91,26 +69,26 @@ struct Matcher<'a> {
 impl Matcher<'_> {
     /// Whether a line is picked by its first field.
     fn picks_by_field(&self, line: &[u8]) -> Result<bool, LineError>
-        ensures { PicksByField (Held self.now.sets.now) self.now.inverted line.now result }
+        ensures { PicksByField (HasAddress self.now.sets.now) self.now.inverted line.now result }
     {
-        let network = said(line)?;
+        let network = first_network(line)?;
         let lies = self.sets.have(&network);
-        Ok(turned(self.inverted, lies))
+        Ok(is_picked(self.inverted, lies))
     }
 
     /// Whether a line is picked.
     fn picks(&self, line: &[u8]) -> Result<bool, LineError>
-        ensures { Picks self.now.anywhere (Held self.now.sets.now) self.now.inverted line.now result }
+        ensures { Picks self.now.anywhere (HasAddress self.now.sets.now) self.now.inverted line.now result }
     {
         if self.anywhere {
-            return Ok(turned(self.inverted, self.sets.have_one(line)));
+            return Ok(is_picked(self.inverted, self.sets.have_one(line)));
         }
         self.picks_by_field(line)
     }
 }
 
 /// Whether a line is picked, by whether it is picked without `-v`.
-fn turned(inverted: bool, lies: bool) -> bool
+fn is_picked(inverted: bool, lies: bool) -> bool
     ensures { result ≡ (if inverted then not lies else lies) }
 {
     if inverted { !lies } else { lies }
@@ -178,7 +156,7 @@ impl Gathered {
         out: &mut S,
     ) -> Result<(), CommandError<'a>>
         requires { self.old.count < number }
-        ensures { TakesPart (Picks matcher.now.anywhere (Held matcher.now.sets.now) matcher.now.inverted)
+        ensures { TakesPart (Picks matcher.now.anywhere (HasAddress matcher.now.sets.now) matcher.now.inverted)
             matcher.now.written file.now number part.now has_more (S.state out.old) (S.state out.new)
             self.old self.new result }
     {
@@ -298,7 +276,7 @@ fn stream<'a, M: Memory, R: Source + Drop, S: Sink>(
     reader: &mut LineReader<R>,
     out: &mut S,
 ) -> Result<Verdict, CommandError<'a>>
-    ensures streams { Streams (Picks matcher.now.anywhere (Held matcher.now.sets.now) matcher.now.inverted)
+    ensures streams { Streams (Picks matcher.now.anywhere (HasAddress matcher.now.sets.now) matcher.now.inverted)
         matcher.now.written file.now reader.old.left (S.state out.old) (S.state out.new) result }
     ensures cause { IfErr result (Cause (λ name. (name ≡ file.now) × TextFails reader.old.left) (M.refused memory.new)) }
 {
@@ -334,9 +312,9 @@ pub fn matching<'a, M: Memory, F: Sources, O: Sink>(
     file: &'a str,
     out: &mut O,
 ) -> Result<Verdict, CommandError<'a>>
-    ensures answers { AnswersRequest (F.told sources.now) (Match (map (λ w. w.now) options.now) list.now file.now)
+    ensures answers { AnswersRequest (F.contents sources.now) (Match (map (λ w. w.now) options.now) list.now file.now)
         (O.state out.old) (O.state out.new) result }
-    ensures cause { IfErr result (Cause (MayFail (F.told sources.now)) (M.refused memory.new)) }
+    ensures cause { IfErr result (Cause (MayFail (F.contents sources.now)) (M.refused memory.new)) }
 {
     let sets = read_file(memory, sources, list)?;
     let anywhere = has(options, "--any");

@@ -3,6 +3,8 @@ ghost use Rattle.std.specs.Prelude.{◌≡◌, ◌≢◌, MatchOption};
 ghost use Rattle.netset.specs.Combining.{form_of, name_of, step_of, takes, turns};
 ghost use Rattle.netset.specs.declared.commands.operations.Operation.{Operation};
 
+use cidr_lists::sets::{Form, Step};
+
 /// What is made of the addresses of lists.
 #[derive(Clone, Copy, Debug, Drop, PartialEq)]
 pub enum Operation {
@@ -20,25 +22,6 @@ pub enum Operation {
     Ranges,
     /// The number of the addresses of all lists.
     Count,
-}
-
-/// How addresses are written.
-#[derive(Clone, Copy, Debug, Drop, PartialEq)]
-pub enum Form {
-    /// As the shortest list of networks.
-    Networks,
-    /// As the longest ranges.
-    Ranges,
-    /// As their number.
-    Counts,
-}
-
-/// What a further list does to the addresses of those before.
-#[derive(Clone, Copy, Debug, Drop, PartialEq)]
-pub enum Step {
-    Union,
-    Difference,
-    Intersection,
 }
 
 /// The operation of a name.

@@ -9,7 +9,7 @@ ghost use Rattle.cidr_ext.specs.Subnets.{subnets_of};
 ghost use Rattle.cidr_io.specs.Writing.{Answered, Writes};
 ghost use Rattle.netset.specs.Command.{single_request};
 ghost use Rattle.netset.specs.Commands.{Single as ASingle};
-ghost use Rattle.netset.specs.Lists.{Text};
+ghost use Rattle.cidr_lists.specs.Lists.{Text};
 ghost use Rattle.netset.specs.Program.{AnswersRequest, IsBadArgument};
 ghost use Rattle.netset.specs.Single.{SingleRequest, Show, Split, Nth, IsSingle, IsNumber, HasNone, IsNoNetwork, network_lines, family_name as name_of, subnet_line};
 
@@ -84,7 +84,7 @@ fn write_host<S: Sink>(host: &IpInet, out: &mut S) -> Result<(), OutputFailed>
 
 /// The command `show`.
 fn show<'a, S: Sink>(text: &'a str, out: &mut S) -> Result<Verdict, CommandError<'a>>
-    ensures { (told : List ℕ → Option Text) → AnswersRequest told (ASingle (Show text.now)) (S.state out.old) (S.state out.new) result }
+    ensures { (contents : List ℕ → Option Text) → AnswersRequest contents (ASingle (Show text.now)) (S.state out.old) (S.state out.new) result }
 {
     match text.parse::<IpInet>() {
         Ok(host) => by_output(Verdict::Yes, write_host(&host, out)),
@@ -150,7 +150,7 @@ fn answer_subnets<S: Sink>(subnets: Subnets<IpCidr>, out: &mut S) -> Result<(), 
 
 /// The command `split`.
 fn split<'a, S: Sink>(net: &'a str, len: &'a str, out: &mut S) -> Result<Verdict, CommandError<'a>>
-    ensures { (told : List ℕ → Option Text) → AnswersRequest told (ASingle (Split net.now len.now)) (S.state out.old) (S.state out.new) result }
+    ensures { (contents : List ℕ → Option Text) → AnswersRequest contents (ASingle (Split net.now len.now)) (S.state out.old) (S.state out.new) result }
 {
     let network = network_of(net)?;
     match subnets_by(&network, len) {
@@ -171,7 +171,7 @@ fn index_of(text: &str) -> Option<u128>
 
 /// The command `nth`.
 fn nth<'a, S: Sink>(net: &'a str, place: &'a str, out: &mut S) -> Result<Verdict, CommandError<'a>>
-    ensures { (told : List ℕ → Option Text) → AnswersRequest told (ASingle (Nth net.now place.now)) (S.state out.old) (S.state out.new) result }
+    ensures { (contents : List ℕ → Option Text) → AnswersRequest contents (ASingle (Nth net.now place.now)) (S.state out.old) (S.state out.new) result }
 {
     let network = network_of(net)?;
     let Some(index) = index_of(place) else {
@@ -191,7 +191,7 @@ pub fn answer_single<'a, S: Sink>(
     command: Single<'a>,
     out: &mut S,
 ) -> Result<Verdict, CommandError<'a>>
-    ensures { (told : List ℕ → Option Text) → AnswersRequest told (ASingle (single_request command.entry)) (S.state out.old) (S.state out.new) result }
+    ensures { (contents : List ℕ → Option Text) → AnswersRequest contents (ASingle (single_request command.entry)) (S.state out.old) (S.state out.new) result }
 {
     match command {
         Single::Show(host) => show(host, out),

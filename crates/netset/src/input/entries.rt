@@ -1,110 +1,18 @@
-//! The lines of lists that have a network or a host.
-ghost use Rattle.std.specs.Prelude.{◌≡◌, ◌<◌, ◌∷◌, ◌++◌, ◌↔◌, true, IfErr, IfSome, IsTrue, List, MatchResult, OnErr, OnOk, Some, length, map, slice_get, ℕ};
-ghost use Rattle.std.specs.Bool.{Decides};
-ghost use Rattle.cidr.specs.either.IpText.{IsIpHostText, ip_host_text};
-ghost use Rattle.cidr.specs.texts.HostText.{IsHostText};
-ghost use Rattle.cidr.specs.texts.Printed.{length_text, plain_host_text};
-ghost use Rattle.cidr.specs.declared.family.Family.TheVariants.{Ipv4};
+//! Reading the lines of lists that have a network or a host.
+ghost use Rattle.std.specs.Prelude.{◌≡◌, ◌∷◌, true, IfErr, IfSome, MatchResult, OnErr, OnOk, Some, map};
 ghost use Rattle.netset.specs.Causes.{Cause, MayFail, ReadCause, TextFails};
 ghost use Rattle.netset.specs.Commands.{read_files};
-ghost use Rattle.netset.specs.Entries.{AddsEntries, AddsEntry, CopiesEntries, ReadsEntry};
+ghost use Rattle.netset.specs.Entries.{AddsEntries, AddsEntry, CopiesEntries};
 ghost use Rattle.netset.specs.Unchecked.{AddsFileEntries, AreToldEntries, IsUnchecked};
 
-use crate::errors::{CommandError, LineError, ReadError};
+use crate::errors::{CommandError, ReadError};
 use crate::input::files::Sources;
 use crate::input::keeping::Said;
-use crate::input::lines::without_comment;
-use cidr::{IpInet, Ipv4Inet};
 use cidr_io::lines::LineReader;
 use cidr_io::memory::Memory;
 use cidr_io::source::Source;
+use cidr_lists::entries::{Entry, Place, entry_of};
 use std::alloc::AllocError;
-
-/// Where a line stands.
-#[derive(Clone, Copy, Debug)]
-pub struct Place<'a> {
-    /// The name of the file.
-    pub file: &'a str,
-    /// The number of the line, from 1 on.
-    pub number: u64,
-}
-
-/// A line that has a network or a host.
-#[derive(Clone, Copy, Debug)]
-pub struct Entry<'a> {
-    pub place: Place<'a>,
-    /// The host; a network is the host at its first address.
-    pub host: IpInet,
-    /// Whether the field is what is printed of the host.
-    pub is_canonical: bool,
-}
-
-/// The line at an index.
-pub fn entry_at<'e, 'a>(entries: &'e [Entry<'a>], index: usize) -> &'e Entry<'a>
-    requires { index < length entries.now }
-    ensures { slice_get entries.now index ≡ Some result.now }
-{
-    &entries[index]
-}
-
-/// Whether a string ends in a slash and this prefix length.
-fn ends_in_length(text: &[u8], len: u8) -> bool
-    requires { len < 100 }
-    ensures { Decides result ((front : List ℕ) × (text.now ≡ front ++ length_text len)) }
-{
-    if len < 10 {
-        return text.ends_with(&[b'/', b'0' + len]);
-    }
-    text.ends_with(&[b'/', b'0' + len / 10, b'0' + len % 10])
-}
-
-/// Whether a string that represents the host is what is printed of it. An IPv4 address has one string, so that the
-/// prefix length decides.
-fn is_plain_ipv4(text: &str, host: &Ipv4Inet) -> bool
-    requires { IsHostText Ipv4 text.now host.now }
-    ensures { IsTrue result ↔ (text.now ≡ plain_host_text Ipv4 host.now) }
-{
-    let len = host.network_length();
-    if len < 32 {
-        return ends_in_length(text.as_bytes(), len);
-    }
-    let Some((_front, _back)) = text.split_once('/') else {
-        return true;
-    };
-    false
-}
-
-/// Whether a string that represents the host is what is printed of it.
-fn is_plain(text: &str, host: &IpInet) -> bool
-    requires { IsIpHostText text.now host.now }
-    ensures { IsTrue result ↔ (text.now ≡ ip_host_text plain_host_text host.now) }
-{
-    match host {
-        IpInet::V4(host) => is_plain_ipv4(text, host),
-        IpInet::V6(_) => text == host.to_text().as_str(),
-    }
-}
-
-/// The entry that a line has; `None` for a line that says nothing.
-pub fn entry_of<'a>(place: Place<'a>, line: &[u8]) -> Result<Option<Entry<'a>>, LineError>
-    ensures { ReadsEntry place.entry.file.now place.entry.number line.now result }
-{
-    let field = without_comment(line).trim_ascii();
-    if field.is_empty() {
-        return Ok(None);
-    }
-    let Ok(text) = str::from_utf8(field) else {
-        return Err(LineError::NotUtf8);
-    };
-    match text.parse::<IpInet>() {
-        Ok(host) => Ok(Some(Entry {
-            place,
-            host,
-            is_canonical: is_plain(text, &host),
-        })),
-        Err(e) => Err(LineError::NoNetwork(e)),
-    }
-}
 
 /// Adds the entry that a line has, if it has one.
 pub fn add_line<'a, M: Memory>(
@@ -169,8 +77,8 @@ fn add_opened<'a, M: Memory, F: Sources>(
     file: &'a str,
     entries: &mut Vec<Entry<'a>>,
 ) -> Result<(), CommandError<'a>>
-    ensures adds { AddsFileEntries (F.told sources.now file.now) file.now entries.old.items entries.new.items result }
-    ensures cause { IfErr result (Cause (MayFail (F.told sources.now)) (M.refused memory.new)) }
+    ensures adds { AddsFileEntries (F.contents sources.now file.now) file.now entries.old.items entries.new.items result }
+    ensures cause { IfErr result (Cause (MayFail (F.contents sources.now)) (M.refused memory.new)) }
 {
     let Some(reader) = sources.open(file) else {
         return Err(CommandError::Input(file));
@@ -217,8 +125,8 @@ fn add_file<'a, M: Memory, F: Sources>(
     file: &'a str,
     entries: &mut Vec<Entry<'a>>,
 ) -> Result<(), CommandError<'a>>
-    ensures adds { AddsFileEntries (F.told sources.now file.now) file.now entries.old.items entries.new.items result }
-    ensures cause { IfErr result (Cause (MayFail (F.told sources.now)) (M.refused memory.new)) }
+    ensures adds { AddsFileEntries (F.contents sources.now file.now) file.now entries.old.items entries.new.items result }
+    ensures cause { IfErr result (Cause (MayFail (F.contents sources.now)) (M.refused memory.new)) }
 {
     match sources.kept(file) {
         Some(Said::Hosts(kept)) => {
@@ -237,9 +145,9 @@ fn read_named<'a, M: Memory, F: Sources>(
     files: &[&'a str],
 ) -> Result<Vec<Entry<'a>>, CommandError<'a>>
     ensures reads { MatchResult result
-        (λ entries. AreToldEntries (F.told sources.now) (file.now ∷ map (λ file. file.now) files.now) entries.items)
-        (IsUnchecked (F.told sources.now) (file.now ∷ map (λ file. file.now) files.now)) }
-    ensures cause { IfErr result (Cause (MayFail (F.told sources.now)) (M.refused memory.new)) }
+        (λ entries. AreToldEntries (F.contents sources.now) (file.now ∷ map (λ file. file.now) files.now) entries.items)
+        (IsUnchecked (F.contents sources.now) (file.now ∷ map (λ file. file.now) files.now)) }
+    ensures cause { IfErr result (Cause (MayFail (F.contents sources.now)) (M.refused memory.new)) }
 {
     let mut entries = Vec::new(memory.alloc());
     add_file(memory, sources, file, &mut entries)?;
@@ -256,9 +164,9 @@ pub fn read_entries<'a, M: Memory, F: Sources>(
     files: &[&'a str],
 ) -> Result<Vec<Entry<'a>>, CommandError<'a>>
     ensures reads { MatchResult result
-        (λ entries. AreToldEntries (F.told sources.now) (read_files (map (λ file. file.now) files.now)) entries.items)
-        (IsUnchecked (F.told sources.now) (read_files (map (λ file. file.now) files.now))) }
-    ensures cause { IfErr result (Cause (MayFail (F.told sources.now)) (M.refused memory.new)) }
+        (λ entries. AreToldEntries (F.contents sources.now) (read_files (map (λ file. file.now) files.now)) entries.items)
+        (IsUnchecked (F.contents sources.now) (read_files (map (λ file. file.now) files.now))) }
+    ensures cause { IfErr result (Cause (MayFail (F.contents sources.now)) (M.refused memory.new)) }
 {
     match files.split_first() {
         Some((file, files)) => read_named(memory, sources, file, files),

@@ -1,13 +1,13 @@
 //! The files of a run and its standard input.
 ghost use Rattle.std.specs.Prelude.{◌≡◌, ℕ, List, Option, Some, None, IfSome};
 ghost use Rattle.netset.specs.Keeping.{AllSaid};
-ghost use Rattle.netset.specs.Lists.{Text, lines_of};
-ghost use Rattle.netset.specs.Program.{told_by};
+ghost use Rattle.cidr_lists.specs.Lists.{Text, lines_of};
+ghost use Rattle.netset.specs.Program.{contents_by};
 
 use crate::input::keeping::Said;
-use crate::input::lines::HostBits;
 use crate::output::terminal::{Progress, Watched};
 use cidr_io::source::Source;
+use cidr_lists::lines::HostBits;
 use std::io::{Eprint, Input, Read};
 use std::rt::Clock;
 use std::{fs, io, rt};
@@ -18,13 +18,13 @@ pub trait Files {
 
     /// The bytes of the file of a name, if they are told: it can be read then. The name `-` is that of the standard
     /// input.
-    ghost told: { Self → List ℕ → Option (List ℕ) };
+    ghost contents: { Self → List ℕ → Option (List ℕ) };
 
     /// Opens the file of this name; `None` where it can't be opened.
     fn open(&self, name: &str) -> Option<Self::Reader>
-        ensures left { IfSome result (λ reader. (text : List ℕ) → told self.now name.now ≡ Some text
+        ensures left { IfSome result (λ reader. (text : List ℕ) → contents self.now name.now ≡ Some text
             → Self.Reader.left reader ≡ Some text) }
-        ensures none { result ≡ None → told self.now name.now ≡ None };
+        ensures none { result ≡ None → contents self.now name.now ≡ None };
 }
 
 /// What lists are read from, and how.
@@ -32,21 +32,21 @@ pub trait Sources {
     type Reader: Source + Drop;
 
     /// The list of the file of a name, if it is told. The name `-` is that of the standard input.
-    ghost told: { Self → List ℕ → Option Text };
+    ghost contents: { Self → List ℕ → Option Text };
 
     /// Opens the file of this name; `None` where it can't be opened.
     fn open(&self, name: &str) -> Option<Self::Reader>
-        ensures left { IfSome result (λ reader. (text : Text) → told self.now name.now ≡ Some text
+        ensures left { IfSome result (λ reader. (text : Text) → contents self.now name.now ≡ Some text
             → Self.Reader.left reader ≡ Some text.bytes) }
-        ensures none { result ≡ None → told self.now name.now ≡ None };
+        ensures none { result ≡ None → contents self.now name.now ≡ None };
 
     /// What is done with a set bit after the prefix of a network.
     fn host_bits(&self) -> HostBits
-        ensures { (name : List ℕ) (text : Text) → told self.now name ≡ Some text → text.host_bits ≡ result };
+        ensures { (name : List ℕ) (text : Text) → contents self.now name ≡ Some text → text.host_bits ≡ result };
 
     /// What the lines of the file of this name say, if they are read already and none is in error.
     fn kept(&self, name: &str) -> Option<&Said>
-        ensures { IfSome result (λ said. (text : Text) → told self.now name.now ≡ Some text
+        ensures { IfSome result (λ said. (text : Text) → contents self.now name.now ≡ Some text
             → AllSaid text.host_bits (lines_of text.bytes) said.now) };
 }
 
@@ -60,7 +60,7 @@ pub struct ReadBy<'a, F: Files> {
 impl<F: Files> Sources for ReadBy<'_, F> {
     type Reader = F::Reader;
 
-    ghost told = { λ s. told_by s.host_bits (F.told s.files.now) };
+    ghost contents = { λ s. contents_by s.host_bits (F.contents s.files.now) };
 
     fn open(&self, name: &str) -> Option<F::Reader> {
         self.files.open(name)
@@ -105,7 +105,7 @@ pub struct System<'a, R: rt::Files + Input + Clock + Eprint> {
 impl<'a, R: rt::Files + Input + Clock + Eprint> Files for System<'a, R> {
     type Reader = Watched<'a, Opened<R::File, R::Reader>, R>;
 
-    ghost told = { λ _ _. None };
+    ghost contents = { λ _ _. None };
 
     fn open(&self, name: &str) -> Option<Self::Reader> {
         let source = if name == "-" {

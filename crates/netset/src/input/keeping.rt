@@ -4,36 +4,26 @@ ghost use Rattle.netset.specs.Causes.{Cause, MayFail, ReadCause, TextFails};
 ghost use Rattle.netset.specs.Command.{request_of};
 ghost use Rattle.netset.specs.Commands.{lists_of, others_of};
 ghost use Rattle.netset.specs.Keeping.{AddsBy, AllSaid, AreKept, IsNone, KeepsLine, KeepsLines, KeepsList, kind_of};
-ghost use Rattle.netset.specs.Lists.{Text, lines_of};
+ghost use Rattle.cidr_lists.specs.Lists.{Text, lines_of};
 ghost use Rattle.netset.specs.Loading.{IsLoaded, IsUnloaded};
 
 use crate::commands::Command;
 use crate::errors::{CommandError, ReadError};
-use crate::input::entries::{self, Entry, Place};
 use crate::input::files::Sources;
-use crate::input::lines::HostBits;
-use crate::input::lists::Lists;
-use crate::input::rows::Rows;
 use crate::input::table::unread;
+use crate::input::{entries, lists, rows};
 use crate::output::report::say_fault;
 use cidr_io::block::Block;
 use cidr_io::lines::LineReader;
 use cidr_io::memory::Memory;
 use cidr_io::sink::Sink;
 use cidr_io::source::Source;
+use cidr_lists::entries::{Entry, Place};
+use cidr_lists::lines::{HostBits, Kind};
+use cidr_lists::lists::Lists;
+use cidr_lists::rows::Rows;
 use std::alloc::{AllocError, Global};
 use std::marker::Model;
-
-/// What the lines of a list are.
-#[derive(Clone, Copy, Debug, Drop, PartialEq)]
-pub enum Kind {
-    /// Networks, addresses and ranges.
-    Networks,
-    /// Networks and hosts.
-    Hosts,
-    /// Networks, each with a value.
-    Rows,
-}
 
 /// What the lines of a list say, those in error left out.
 #[derive(Drop)]
@@ -68,11 +58,11 @@ impl Said {
         ensures cause { IfErr result (ReadCause ⊥ (M.refused memory.new)) }
     {
         match self {
-            Said::Networks(lists) => lists.add_line(memory, host_bits, number, line),
+            Said::Networks(lists) => lists::add_line(memory, host_bits, number, line, lists),
             Said::Hosts(hosts) => {
                 entries::add_line(memory, Place { file: "", number }, line, hosts)
             }
-            Said::Rows(rows) => rows.add_line(memory, host_bits, number, line),
+            Said::Rows(rows) => rows::add_line(memory, host_bits, number, line, rows),
         }
     }
 }
@@ -146,8 +136,8 @@ fn keep_list<'a, M: Memory, F: Sources, E: Sink>(
     file: &'a str,
     err: &mut E,
 ) -> Result<(Said, bool), CommandError<'a>>
-    ensures keeps { KeepsList (F.told sources.now file.now) kind file.now (E.state err.old) (E.state err.new) result }
-    ensures cause { IfErr result (Cause (MayFail (F.told sources.now)) (M.refused memory.new)) }
+    ensures keeps { KeepsList (F.contents sources.now file.now) kind file.now (E.state err.old) (E.state err.new) result }
+    ensures cause { IfErr result (Cause (MayFail (F.contents sources.now)) (M.refused memory.new)) }
 {
     let Some(source) = sources.open(file) else {
         return Err(CommandError::Input(file));
@@ -243,8 +233,8 @@ pub struct Kept<'a> {
 
 /// What the first list of this name says.
 fn said_of<'l>(lists: &'l [Kept<'_>], name: &str) -> Option<&'l Said>
-    ensures { IfSome result (λ said. (told : List ℕ → Option Text) → AreKept told lists.now → (text : Text)
-        → told name.now ≡ Some text → AllSaid text.host_bits (lines_of text.bytes) said.now) }
+    ensures { IfSome result (λ said. (contents : List ℕ → Option Text) → AreKept contents lists.now → (text : Text)
+        → contents name.now ≡ Some text → AllSaid text.host_bits (lines_of text.bytes) said.now) }
 {
     for list in lists {
         if list.name == name {
@@ -268,13 +258,13 @@ impl<'a, F: Sources> Model for Loaded<'a, F> {
 
     ghost view = { λ l. l.sources.now };
 
-    ghost invariant = { λ l. AreKept (F.told l.sources.now) l.lists.now };
+    ghost invariant = { λ l. AreKept (F.contents l.sources.now) l.lists.now };
 }
 
 impl<'a, F: Sources> Loaded<'a, F> {
     /// These lists of these sources.
     pub fn new(sources: &'a F, lists: &'a [Kept<'a>]) -> Loaded<'a, F>
-        requires { AreKept (F.told sources.now) lists.now }
+        requires { AreKept (F.contents sources.now) lists.now }
         ensures { result ≡ sources.now }
     {
         Loaded { lists, sources }
@@ -284,7 +274,7 @@ impl<'a, F: Sources> Loaded<'a, F> {
 impl<F: Sources> Sources for Loaded<'_, F> {
     type Reader = F::Reader;
 
-    ghost told = { λ s. F.told s };
+    ghost contents = { λ s. F.contents s };
 
     fn open(&self, name: &str) -> Option<F::Reader> {
         self.sources.open(name)
@@ -309,10 +299,10 @@ pub fn load<'a, M: Memory, F: Sources, E: Sink>(
     err: &mut E,
 ) -> Result<(Vec<Kept<'a>>, bool), CommandError<'a>>
     ensures loads { MatchResult result
-        (λ loaded. IsLoaded (F.told sources.now) kind (map (λ name. name.now) names.now)
+        (λ loaded. IsLoaded (F.contents sources.now) kind (map (λ name. name.now) names.now)
         (E.state err.old) (E.state err.new) loaded.0.items loaded.1)
-        (IsUnloaded (F.told sources.now) kind (map (λ name. name.now) names.now) (E.state err.old) (E.state err.new)) }
-    ensures cause { IfErr result (Cause (MayFail (F.told sources.now)) (M.refused memory.new)) }
+        (IsUnloaded (F.contents sources.now) kind (map (λ name. name.now) names.now) (E.state err.old) (E.state err.new)) }
+    ensures cause { IfErr result (Cause (MayFail (F.contents sources.now)) (M.refused memory.new)) }
 {
     let mut lists = Vec::new(memory.alloc());
     let mut found = false;

@@ -1,107 +1,35 @@
 //! Reading lists of networks.
-ghost use Rattle.std.specs.Prelude.{◌≡◌, List, [], ◌∷◌, ◌++◌, map, IfErr, IfSome, OnOk};
-ghost use Rattle.cidr_sets.specs.Ranges.{IsBetween};
-ghost use Rattle.cidr_sets.specs.Sets.{IsSetOf};
+ghost use Rattle.std.specs.Prelude.{[], IfErr, IfSome};
 ghost use Rattle.netset.specs.Causes.{ReadCause, TextFails};
-ghost use Rattle.netset.specs.Lists.{network_in, text_by};
-ghost use Rattle.netset.specs.Reading.{AddsContent, AddsLine, Grows, ReadsList, listed};
+ghost use Rattle.cidr_lists.specs.Lists.{text_by};
+ghost use Rattle.netset.specs.Reading.{AddsLine, ReadsList};
 
 use crate::errors::ReadError;
-use crate::input::lines::{Content, HostBits, content_of};
-use cidr::{IpCidr, Ipv4Cidr, Ipv6Cidr};
 use cidr_io::lines::LineReader;
 use cidr_io::memory::Memory;
 use cidr_io::source::Source;
-use cidr_sets::{Addressed, NetworkSet};
-use std::alloc::{AllocError, Global};
+use cidr_lists::lines::{HostBits, content_of};
+use cidr_lists::lists::Lists;
 
-/// The networks of lists, of each family.
-#[derive(Drop)]
-pub struct Lists {
-    pub v4: Vec<Ipv4Cidr>,
-    pub v6: Vec<Ipv6Cidr>,
-}
-
-impl Lists {
-    /// Lists of no networks.
-    pub fn new(alloc: Global) -> Lists
-        ensures v4 { result.v4.items ≡ [] }
-        ensures v6 { result.v6.items ≡ [] }
-    {
-        Lists {
-            v4: Vec::new(alloc),
-            v6: Vec::new(alloc),
-        }
-    }
-
-    /// Adds a network to those of its family.
-    pub fn push(&mut self, network: &IpCidr) -> Result<(), AllocError>
-        ensures { OnOk result (Grows self.old self.new (λ family. network_in family (network.now ∷ []))) }
-    {
-        match network {
-            IpCidr::V4(network) => self.v4.push(*network)?,
-            IpCidr::V6(network) => self.v6.push(*network)?,
-        }
-        Ok(())
-    }
-
-    /// Adds the networks of what a line says to those of their family.
-    fn push_content(&mut self, alloc: Global, content: &Content) -> Result<(), AllocError>
-        ensures { OnOk result (AddsContent content.now self.old self.new) }
-    {
-        match content {
-            Content::Blank => Ok(()),
-            Content::Network(network) => self.push(network),
-            Content::Ipv4Range(first, last) => push_range(alloc, &mut self.v4, *first, *last),
-            Content::Ipv6Range(first, last) => push_range(alloc, &mut self.v6, *first, *last),
-        }
-    }
-
-    /// Adds the networks of other lists.
-    pub fn extend(&mut self, other: &Lists) -> Result<(), AllocError>
-        ensures { OnOk result (Grows self.old self.new (listed other.now)) }
-    {
-        self.v4.extend_from_slice(other.v4.as_slice())?;
-        self.v6.extend_from_slice(other.v6.as_slice())?;
-        Ok(())
-    }
-
-    /// Adds the networks that a line says.
-    pub fn add_line<M: Memory>(
-        &mut self,
-        memory: &mut M,
-        host_bits: HostBits,
-        number: u64,
-        line: &[u8],
-    ) -> Result<(), ReadError>
-        ensures adds { AddsLine host_bits line.now number self.old self.new result }
-        ensures cause { IfErr result (ReadCause ⊥ (M.refused memory.new)) }
-    {
-        match content_of(host_bits, line) {
-            Ok(content) => {
-                let pushed = self.push_content(memory.alloc(), &content);
-                memory.watch(pushed)?;
-                Ok(())
-            }
-            Err(e) => Err(ReadError::Line(number, e)),
-        }
-    }
-}
-
-/// Adds the shortest list of networks that has the addresses from a first to a last one.
-fn push_range<C: Addressed + Copy>(
-    alloc: Global,
-    networks: &mut Vec<C>,
-    first: C::Address,
-    last: C::Address,
-) -> Result<(), AllocError>
-    ensures { OnOk result ((range : List C)
-        × IsSetOf 129 (IsBetween (C.address_bits first) (C.address_bits last)) (map C.bits range)
-        × (networks.new.items ≡ networks.old.items ++ range)) }
+/// Adds the networks that a line says.
+pub fn add_line<M: Memory>(
+    memory: &mut M,
+    host_bits: HostBits,
+    number: u64,
+    line: &[u8],
+    lists: &mut Lists,
+) -> Result<(), ReadError>
+    ensures adds { AddsLine host_bits line.now number lists.old lists.new result }
+    ensures cause { IfErr result (ReadCause ⊥ (M.refused memory.new)) }
 {
-    let range = NetworkSet::from_range(alloc, first, last)?;
-    networks.extend_from_slice(range.as_slice())?;
-    Ok(())
+    match content_of(host_bits, line) {
+        Ok(content) => {
+            let pushed = lists.push_content(memory.alloc(), &content);
+            memory.watch(pushed)?;
+            Ok(())
+        }
+        Err(e) => Err(ReadError::Line(number, e)),
+    }
 }
 
 /// Reads a list to its end or to its first line in error, and adds its networks.
@@ -117,7 +45,7 @@ fn read_lines<M: Memory, S: Source + Drop>(
 {
     for number in 1..u64::MAX {
         let has_more = reader.read_line(memory)?;
-        lists.add_line(memory, host_bits, number, reader.line())?;
+        add_line(memory, host_bits, number, reader.line(), lists)?;
         if !has_more {
             return Ok(());
         }

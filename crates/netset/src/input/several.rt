@@ -8,9 +8,10 @@ ghost use Rattle.netset.specs.Program.{IsUnread};
 use crate::errors::{CommandError, ReadError};
 use crate::input::files::Sources;
 use crate::input::keeping::Said;
-use crate::input::lists::{Lists, read_list};
-use crate::output::sets::Sets;
+use crate::input::lists::read_list;
 use cidr_io::memory::Memory;
+use cidr_lists::lists::Lists;
+use cidr_lists::sets::Sets;
 
 /// The sets of the files of a command, at least one.
 #[derive(Drop)]
@@ -26,8 +27,8 @@ fn add_opened<'a, M: Memory, F: Sources>(
     file: &'a str,
     lists: &mut Lists,
 ) -> Result<(), CommandError<'a>>
-    ensures adds { AddsFile (F.told sources.now file.now) file.now lists.old lists.new result }
-    ensures cause { IfErr result (Cause (MayFail (F.told sources.now)) (M.refused memory.new)) }
+    ensures adds { AddsFile (F.contents sources.now file.now) file.now lists.old lists.new result }
+    ensures cause { IfErr result (Cause (MayFail (F.contents sources.now)) (M.refused memory.new)) }
 {
     let Some(reader) = sources.open(file) else {
         return Err(CommandError::Input(file));
@@ -47,8 +48,8 @@ fn add_file<'a, M: Memory, F: Sources>(
     file: &'a str,
     lists: &mut Lists,
 ) -> Result<(), CommandError<'a>>
-    ensures adds { AddsFile (F.told sources.now file.now) file.now lists.old lists.new result }
-    ensures cause { IfErr result (Cause (MayFail (F.told sources.now)) (M.refused memory.new)) }
+    ensures adds { AddsFile (F.contents sources.now file.now) file.now lists.old lists.new result }
+    ensures cause { IfErr result (Cause (MayFail (F.contents sources.now)) (M.refused memory.new)) }
 {
     match sources.kept(file) {
         Some(Said::Networks(kept)) => {
@@ -66,8 +67,8 @@ pub fn read_file<'a, M: Memory, F: Sources>(
     sources: &F,
     file: &'a str,
 ) -> Result<Sets, CommandError<'a>>
-    ensures reads { ReadsFile (F.told sources.now file.now) file.now result }
-    ensures cause { IfErr result (Cause (MayFail (F.told sources.now)) (M.refused memory.new)) }
+    ensures reads { ReadsFile (F.contents sources.now file.now) file.now result }
+    ensures cause { IfErr result (Cause (MayFail (F.contents sources.now)) (M.refused memory.new)) }
 {
     let mut lists = Lists::new(memory.alloc());
     add_file(memory, sources, file, &mut lists)?;
@@ -82,9 +83,9 @@ fn read_all<'a, M: Memory, F: Sources>(
     sources: &F,
     files: &[&'a str],
 ) -> Result<Vec<Sets>, CommandError<'a>>
-    ensures reads { MatchResult result (λ sets. AreRead (F.told sources.now) (map (λ file. file.now) files.now) sets.items)
-        (IsUnread (F.told sources.now) (map (λ file. file.now) files.now)) }
-    ensures cause { IfErr result (Cause (MayFail (F.told sources.now)) (M.refused memory.new)) }
+    ensures reads { MatchResult result (λ sets. AreRead (F.contents sources.now) (map (λ file. file.now) files.now) sets.items)
+        (IsUnread (F.contents sources.now) (map (λ file. file.now) files.now)) }
+    ensures cause { IfErr result (Cause (MayFail (F.contents sources.now)) (M.refused memory.new)) }
 {
     let mut sets = Vec::new(memory.alloc());
     for file in files {
@@ -101,8 +102,8 @@ pub fn read_both<'a, M: Memory, F: Sources>(
     old: &'a str,
     new: &'a str,
 ) -> Result<(Sets, Sets), CommandError<'a>>
-    ensures reads { ReadsBoth (F.told sources.now) old.now new.now result }
-    ensures cause { IfErr result (Cause (MayFail (F.told sources.now)) (M.refused memory.new)) }
+    ensures reads { ReadsBoth (F.contents sources.now) old.now new.now result }
+    ensures cause { IfErr result (Cause (MayFail (F.contents sources.now)) (M.refused memory.new)) }
 {
     let these = read_file(memory, sources, old)?;
     let those = read_file(memory, sources, new)?;
@@ -116,8 +117,8 @@ pub fn read_named<'a, M: Memory, F: Sources>(
     file: &'a str,
     files: &[&'a str],
 ) -> Result<Several, CommandError<'a>>
-    ensures reads { ReadsSeveral (F.told sources.now) (file.now ∷ map (λ file. file.now) files.now) result }
-    ensures cause { IfErr result (Cause (MayFail (F.told sources.now)) (M.refused memory.new)) }
+    ensures reads { ReadsSeveral (F.contents sources.now) (file.now ∷ map (λ file. file.now) files.now) result }
+    ensures cause { IfErr result (Cause (MayFail (F.contents sources.now)) (M.refused memory.new)) }
 {
     let first = read_file(memory, sources, file)?;
     let others = read_all(memory, sources, files)?;
@@ -130,8 +131,8 @@ pub fn read_several<'a, M: Memory, F: Sources>(
     sources: &F,
     files: &[&'a str],
 ) -> Result<Several, CommandError<'a>>
-    ensures reads { ReadsSeveral (F.told sources.now) (read_files (map (λ file. file.now) files.now)) result }
-    ensures cause { IfErr result (Cause (MayFail (F.told sources.now)) (M.refused memory.new)) }
+    ensures reads { ReadsSeveral (F.contents sources.now) (read_files (map (λ file. file.now) files.now)) result }
+    ensures cause { IfErr result (Cause (MayFail (F.contents sources.now)) (M.refused memory.new)) }
 {
     match files.split_first() {
         Some((file, files)) => read_named(memory, sources, file, files),

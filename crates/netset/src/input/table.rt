@@ -1,68 +1,42 @@
-//! Tables, and the longest network of a table that an address is in.
-ghost use Rattle.std.specs.Prelude.{◌≡◌, Some, map, IfOk, option_copied, option_map, IfErr};
-ghost use Rattle.cidr.specs.declared.family.Family.{Family};
-ghost use Rattle.cidr_table.specs.LastRows.{AreLastRows};
+//! Reading tables, and the longest network of a table that an address is in.
+ghost use Rattle.std.specs.Prelude.{◌≡◌, Some, option_copied, option_map, IfErr};
 ghost use Rattle.cidr_io.specs.Collecting.{Collects};
 ghost use Rattle.netset.specs.Causes.{Cause, MayFail};
-ghost use Rattle.netset.specs.Look.{found_line};
-ghost use Rattle.netset.specs.LookUps.{LooksUp, PushesFound, ReadsFileRows, ReadsTable, kept, resolved, stored, unread, value_at};
+ghost use Rattle.cidr_lists.specs.LookUps.{found_line};
+ghost use Rattle.netset.specs.LookUps.{LooksUp, PushesFound, ReadsFileRows, ReadsTable, unread};
+ghost use Rattle.cidr_lists.specs.Tables.{kept, value_at};
 
 use crate::errors::{CommandError, ReadError};
 use crate::input::files::Sources;
 use crate::input::keeping::Said;
-use crate::input::rows::{Rows, Span, read_rows, value_of};
-use crate::output::printing::Printed;
+use crate::input::rows::read_rows;
 use arrayvec::ArrayString;
 use cidr::{IpAddr, Ipv4Cidr, Ipv6Cidr};
 use cidr_io::block::Block;
 use cidr_io::memory::Memory;
 use cidr_io::sink::{OutputFailed, Sink};
-use cidr_table::{LpmTable, ReadyTable};
-use std::alloc::{AllocError, Global};
+use cidr_lists::printing::Printed;
+use cidr_lists::rows::{Rows, Span, value_of};
+use cidr_lists::table::Table;
 
-/// The networks of each family, made ready for look-ups, each with the span of its value, and the bytes of all values.
-#[derive(Drop)]
-pub struct Table {
-    pub v4: ReadyTable<Ipv4Cidr, Span>,
-    pub v6: ReadyTable<Ipv6Cidr, Span>,
-    pub values: Vec<u8>,
-}
-
-impl Table {
-    /// The table of these rows, of which the last one of each network counts.
-    fn of_rows(alloc: Global, rows: Rows) -> Result<Table, AllocError>
-        ensures { IfOk result (λ table. (family : Family)
-            → AreLastRows (map (resolved rows.values.items) (stored rows family)) (kept table family)) }
-    {
-        let Rows { v4, v6, values } = rows;
-        let Ok(v4) = LpmTable::from_rows(v4).into_lookups(alloc) else {
-            return Err(AllocError);
-        };
-        let Ok(v6) = LpmTable::from_rows(v6).into_lookups(alloc) else {
-            return Err(AllocError);
-        };
-        Ok(Table { v4, v6, values })
-    }
-
-    /// Looks an address up and appends its line to a block; tells whether a network has it.
-    pub fn look_up<S: Sink>(
-        &self,
-        address: &IpAddr,
-        block: &mut Block,
-        out: &mut S,
-    ) -> Result<bool, OutputFailed>
-        ensures { LooksUp (kept self.now) address.now (S.state out.old) (S.state out.new) block.old block.new result }
-    {
-        let text = address.to_text();
-        match address {
-            IpAddr::V4(address) => {
-                let found = self.v4.lookup(&Ipv4Cidr::new_host(*address));
-                push_found(block, out, text, self.values.as_slice(), found)
-            }
-            IpAddr::V6(address) => {
-                let found = self.v6.lookup(&Ipv6Cidr::new_host(*address));
-                push_found(block, out, text, self.values.as_slice(), found)
-            }
+/// Looks an address up and appends its line to a block; tells whether a network has it.
+pub fn look_up<S: Sink>(
+    table: &Table,
+    address: &IpAddr,
+    block: &mut Block,
+    out: &mut S,
+) -> Result<bool, OutputFailed>
+    ensures { LooksUp (kept table.now) address.now (S.state out.old) (S.state out.new) block.old block.new result }
+{
+    let text = address.to_text();
+    match address {
+        IpAddr::V4(address) => {
+            let found = table.v4.lookup(&Ipv4Cidr::new_host(*address));
+            push_found(block, out, text, table.values.as_slice(), found)
+        }
+        IpAddr::V6(address) => {
+            let found = table.v6.lookup(&Ipv6Cidr::new_host(*address));
+            push_found(block, out, text, table.values.as_slice(), found)
         }
     }
 }
@@ -125,8 +99,8 @@ fn read_opened<'a, M: Memory, F: Sources>(
     sources: &F,
     file: &'a str,
 ) -> Result<Rows, CommandError<'a>>
-    ensures reads { ReadsFileRows (F.told sources.now file.now) file.now result }
-    ensures cause { IfErr result (Cause (MayFail (F.told sources.now)) (M.refused memory.new)) }
+    ensures reads { ReadsFileRows (F.contents sources.now file.now) file.now result }
+    ensures cause { IfErr result (Cause (MayFail (F.contents sources.now)) (M.refused memory.new)) }
 {
     let Some(reader) = sources.open(file) else {
         return Err(CommandError::Input(file));
@@ -143,8 +117,8 @@ fn rows_of<'a, M: Memory, F: Sources>(
     sources: &F,
     file: &'a str,
 ) -> Result<Rows, CommandError<'a>>
-    ensures reads { ReadsFileRows (F.told sources.now file.now) file.now result }
-    ensures cause { IfErr result (Cause (MayFail (F.told sources.now)) (M.refused memory.new)) }
+    ensures reads { ReadsFileRows (F.contents sources.now file.now) file.now result }
+    ensures cause { IfErr result (Cause (MayFail (F.contents sources.now)) (M.refused memory.new)) }
 {
     match sources.kept(file) {
         Some(Said::Rows(kept)) => {
@@ -162,8 +136,8 @@ pub fn read_table<'a, M: Memory, F: Sources>(
     sources: &F,
     file: &'a str,
 ) -> Result<Table, CommandError<'a>>
-    ensures reads { ReadsTable (F.told sources.now file.now) file.now result }
-    ensures cause { IfErr result (Cause (MayFail (F.told sources.now)) (M.refused memory.new)) }
+    ensures reads { ReadsTable (F.contents sources.now file.now) file.now result }
+    ensures cause { IfErr result (Cause (MayFail (F.contents sources.now)) (M.refused memory.new)) }
 {
     let rows = rows_of(memory, sources, file)?;
     let table = Table::of_rows(memory.alloc(), rows);

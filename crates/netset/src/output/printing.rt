@@ -1,45 +1,28 @@
 //! Writing networks, one a line, in blocks.
-ghost use Rattle.std.specs.Prelude.{◌≡◌, ◌≤◌, ℕ, List, length};
 ghost use Rattle.std.specs.List.{flat_map};
 ghost use Rattle.cidr_io.specs.Writing.{Writes};
-ghost use Rattle.netset.specs.Printing.{line};
+ghost use Rattle.cidr_lists.specs.Printing.{line};
+ghost use Rattle.std.specs.Prelude.{[]};
+ghost use Rattle.cidr_io.specs.Collecting.{Collects};
 
-use arrayvec::ArrayString;
-use cidr::{Ipv4Cidr, Ipv6Cidr, NetworkBits};
 use cidr_io::block::Block;
+use cidr_io::lines::LineReader;
 use cidr_io::sink::{OutputFailed, Sink};
+use cidr_io::source::Source;
+use cidr_lists::printing::Printed;
 
-/// A network of one family, as it is printed.
-pub trait Printed: NetworkBits + Copy {
-    /// The string, without a full prefix length.
-    ghost text: { Self → List ℕ };
-
-    /// The printed string, without a full prefix length.
-    fn printed(&self) -> ArrayString<43>
-        ensures bytes { result.bytes ≡ text self.now }
-        ensures len { length result.bytes ≤ 43 };
-}
-
-impl Printed for Ipv4Cidr {
-    ghost use Rattle.cidr.specs.texts.Printed.{plain_text};
-    ghost use Rattle.cidr.specs.declared.family.Family.TheVariants.{Ipv4};
-
-    ghost text = { plain_text Ipv4 };
-
-    fn printed(&self) -> ArrayString<43> {
-        self.to_text()
+/// Writes the lines of a block before more is read, so that they don't wait for it.
+pub fn catch_up<R: Source + Drop, S: Sink>(
+    reader: &LineReader<R>,
+    block: &mut Block,
+    out: &mut S,
+) -> Result<(), OutputFailed>
+    ensures { Collects (S.state out.old) (S.state out.new) block.old block.new [] result }
+{
+    if block.is_empty() || reader.has_line() {
+        return Ok(());
     }
-}
-
-impl Printed for Ipv6Cidr {
-    ghost use Rattle.cidr.specs.texts.Printed.{plain_text};
-    ghost use Rattle.cidr.specs.declared.family.Family.TheVariants.{Ipv6};
-
-    ghost text = { plain_text Ipv6 };
-
-    fn printed(&self) -> ArrayString<43> {
-        self.to_text()
-    }
+    block.flush(out)
 }
 
 /// Writes networks in blocks, one a line.

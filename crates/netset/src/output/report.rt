@@ -3,38 +3,19 @@ ghost use Rattle.std.specs.Prelude.{◌≡◌, ◌++◌, Err, List, ℕ};
 ghost use Rattle.std.specs.List.{flat_map};
 ghost use Rattle.cidr_io.specs.Collecting.{Collects, HasSaid};
 ghost use Rattle.cidr_io.specs.Writing.{Answered, Says, State};
-ghost use Rattle.netset.specs.Keeping.{fault_line, line_message};
+ghost use Rattle.cidr_lists.specs.Messages.{fault_line};
 ghost use Rattle.netset.specs.Program.{Reports, ReportsUnless, argument_message, error_line, is_closed_pipe, status_of};
 
-use crate::errors::{ArgumentError, CommandError, LineError};
+use crate::errors::{ArgumentError, CommandError};
 use crate::output::answers::Verdict;
 use arrayvec::ArrayString;
 use cidr_io::block::Block;
 use cidr_io::sink::{OutputFailed, Sink};
+use cidr_lists::errors::{LineError, MOST_MESSAGE};
 use itoa::Buffer;
 
 const USAGE: &str =
     "usage: netset merge|nets|not|ranges|count|check [FILE..] | not --in NET [FILE..] | minus|and A B.. | diff A B | free POOL LEN USED.. | match [--any] [-v] [-c] [-q] LIST [FILE] | look TABLE [FILE] | show HOST | split NET LEN | nth NET INDEX | --help | --version; --host-bits behind a command for lists of networks, -k behind one for lists\n";
-
-/// The longest message of an error.
-const MOST_MESSAGE: usize = 99;
-
-/// The message of a line in error.
-fn message_of(error: &LineError) -> ArrayString<MOST_MESSAGE>
-    ensures { result.bytes ≡ line_message error.now }
-{
-    let mut text = ArrayString::new();
-    match error {
-        LineError::NotUtf8 => text.push_str("not UTF-8"),
-        LineError::NoNetwork(e) => return e.to_text(),
-        LineError::NoAddress(e) => text.push_str(e.to_text().as_str()),
-        LineError::TwoFamilies => text.push_str("the ends of the range are of two families"),
-        LineError::Reversed => text.push_str(
-            "the first address of the range is above the last one",
-        ),
-    }
-    text
-}
 
 /// The message of an argument that is wrong.
 fn argument_message(error: &ArgumentError) -> ArrayString<MOST_MESSAGE>
@@ -90,7 +71,7 @@ pub fn say_fault<E: Sink>(
             b":",
             Buffer::new().format(number).as_bytes(),
             b": ",
-            message_of(error).as_str().as_bytes(),
+            error.message().as_str().as_bytes(),
             b"\n",
         ],
     );
@@ -112,7 +93,7 @@ fn say<E: Sink>(error: &CommandError<'_>, err: &mut E)
                 ":",
                 Buffer::new().format(*number),
                 ": ",
-                message_of(e).as_str(),
+                e.message().as_str(),
                 "\n",
             ],
         ),

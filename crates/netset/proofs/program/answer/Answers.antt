@@ -28,7 +28,7 @@ pub returns-in-Look-clause-answers : goal.returns-in-Look-clause-answers
 returns-in-Look-clause-answers g c = rw c.in-Look.is c.look.ensures.answers
 
 pub returns-in-Single-clause-answers : goal.returns-in-Single-clause-answers
-returns-in-Single-clause-answers g c = rw c.in-Single.is (c.answer_single.ensures (g.F.Sources.told c.args.sources.now))
+returns-in-Single-clause-answers g c = rw c.in-Single.is (c.answer_single.ensures (g.F.Sources.contents c.args.sources.now))
 
 pub returns-in-Help-clause-answers : goal.returns-in-Help-clause-answers
 returns-in-Help-clause-answers g c = rw c.in-Help.is (inr (help_text, Yes, c.write_text.result, (refl, refl), c.write_text.ensures, c.by_output.ensures))
@@ -60,11 +60,11 @@ returns-in-Check-clause-cause g c = c.check.ensures.cause
 
 pub returns-in-Single-clause-cause : goal.returns-in-Single-clause-cause
 returns-in-Single-clause-cause g c =
-    single_cause (MayFail (g.F.Sources.told c.args.sources.now)) (g.M.Memory.refused c.args.memory.now) (g.F.Sources.told c.args.sources.now)
-    (single_request c.in-Single.single) _ _ c.answer_single.result (c.answer_single.ensures (g.F.Sources.told c.args.sources.now))
+    single_cause (MayFail (g.F.Sources.contents c.args.sources.now)) (g.M.Memory.refused c.args.memory.now) (g.F.Sources.contents c.args.sources.now)
+    (single_request c.in-Single.single) _ _ c.answer_single.result (c.answer_single.ensures (g.F.Sources.contents c.args.sources.now))
 
 pub returns-in-Help-clause-cause : goal.returns-in-Help-clause-cause
-returns-in-Help-clause-cause g c = output_cause (MayFail (g.F.Sources.told c.args.sources.now)) _ _ _ c.by_output.result c.by_output.ensures
+returns-in-Help-clause-cause g c = output_cause (MayFail (g.F.Sources.contents c.args.sources.now)) _ _ _ c.by_output.result c.by_output.ensures
 
 pub returns-in-Version-clause-cause : goal.returns-in-Version-clause-cause
-returns-in-Version-clause-cause g c = output_cause (MayFail (g.F.Sources.told c.args.sources.now)) _ _ _ c.by_output-in-Version.result c.by_output-in-Version.ensures
+returns-in-Version-clause-cause g c = output_cause (MayFail (g.F.Sources.contents c.args.sources.now)) _ _ _ c.by_output-in-Version.result c.by_output-in-Version.ensures

@@ -7,15 +7,15 @@ use Rattle.netset.proofs.program.answer_texts.Goals as goal
 
 pub returns-then-name_input_twice : goal.returns-then-name_input_twice
 returns-then-name_input_twice g c =
-    run_words c.take_options-reading.result (g.F.Files.told c.args.files.now) (g.M.Memory.refused c.files.new.memory) (map string_bytes c.args.texts.now) (bytes_of c.take_options-reading.new.words.items)
+    run_words c.take_options-reading.result (g.F.Files.contents c.args.files.now) (g.M.Memory.refused c.files.new.memory) (map string_bytes c.args.texts.now) (bytes_of c.take_options-reading.new.words.items)
     (g.O.Output.closed c.args.out.now) (g.O.Sink.state c.args.out.now) (g.O.Sink.state c.args.out.now) (g.E.Sink.state c.args.err.now)
     (g.E.Sink.state c.report-then-name_input_twice.new.err) c.report-then-name_input_twice.result
     (rw c.in-Ok.ensures.slices at c.take_options-reading.ensures.asked) (rw c.in-Ok.ensures.slices at c.take_options-reading.ensures.rest)
-    (run_request c.take_options-reading.result (g.F.Files.told c.args.files.now) (g.M.Memory.refused c.files.new.memory) (bytes_of c.take_options-reading.new.words.items) (request_of c.in-Some.command)
+    (run_request c.take_options-reading.result (g.F.Files.contents c.args.files.now) (g.M.Memory.refused c.files.new.memory) (bytes_of c.take_options-reading.new.words.items) (request_of c.in-Some.command)
     (g.O.Output.closed c.args.out.now) (g.O.Sink.state c.args.out.now) (g.O.Sink.state c.args.out.now) (g.E.Sink.state c.args.err.now)
     (g.E.Sink.state c.report-then-name_input_twice.new.err) c.report-then-name_input_twice.result
     (rw c.as_slice.ensures.value at c.in-Some.ensures)
-    (run_none c.take_options-reading.result (g.F.Files.told c.args.files.now) (g.M.Memory.refused c.files.new.memory) (request_of c.in-Some.command) (g.O.Output.closed c.args.out.now)
+    (run_none c.take_options-reading.result (g.F.Files.contents c.args.files.now) (g.M.Memory.refused c.files.new.memory) (request_of c.in-Some.command) (g.O.Output.closed c.args.out.now)
     (g.O.Sink.state c.args.out.now) (g.E.Sink.state c.args.err.now) (g.E.Sink.state c.report-then-name_input_twice.new.err)
     c.report-then-name_input_twice.result c.name_input_twice.result (bytes_of c.in-Ok-files.names.items) c.read_twice.result c.in-Ok-files.ensures.names
     (rw c.as_slice-2.ensures.value at c.name_input_twice.ensures) c.if-name_input_twice.true c.read_twice.ensures
@@ -23,30 +23,30 @@ returns-then-name_input_twice g c =
 
 pub returns-then-reading : goal.returns-then-reading
 returns-then-reading g c =
-    run_words c.take_options-reading.result (g.F.Files.told c.args.files.now) (g.M.Memory.refused c.keep_going.new.memory) (map string_bytes c.args.texts.now) (bytes_of c.take_options-reading.new.words.items)
+    run_words c.take_options-reading.result (g.F.Files.contents c.args.files.now) (g.M.Memory.refused c.keep_going.new.memory) (map string_bytes c.args.texts.now) (bytes_of c.take_options-reading.new.words.items)
     (g.O.Output.closed c.keep_going.new.out) (g.O.Sink.state c.args.out.now) (g.O.Sink.state c.keep_going.new.out) (g.E.Sink.state c.args.err.now)
     (g.E.Sink.state c.keep_going.new.err) c.keep_going.result
     (rw c.in-Ok.ensures.slices at c.take_options-reading.ensures.asked) (rw c.in-Ok.ensures.slices at c.take_options-reading.ensures.rest)
-    (run_request c.take_options-reading.result (g.F.Files.told c.args.files.now) (g.M.Memory.refused c.keep_going.new.memory) (bytes_of c.take_options-reading.new.words.items) (request_of c.in-Some.command)
+    (run_request c.take_options-reading.result (g.F.Files.contents c.args.files.now) (g.M.Memory.refused c.keep_going.new.memory) (bytes_of c.take_options-reading.new.words.items) (request_of c.in-Some.command)
     (g.O.Output.closed c.keep_going.new.out) (g.O.Sink.state c.args.out.now) (g.O.Sink.state c.keep_going.new.out) (g.E.Sink.state c.args.err.now)
     (g.E.Sink.state c.keep_going.new.err) c.keep_going.result
     (rw c.as_slice.ensures.value at c.in-Some.ensures)
-    (run_once c.take_options-reading.result (g.F.Files.told c.args.files.now) (g.M.Memory.refused c.keep_going.new.memory) (request_of c.in-Some.command) (g.O.Output.closed c.keep_going.new.out)
+    (run_once c.take_options-reading.result (g.F.Files.contents c.args.files.now) (g.M.Memory.refused c.keep_going.new.memory) (request_of c.in-Some.command) (g.O.Output.closed c.keep_going.new.out)
     (g.O.Sink.state c.args.out.now) (g.O.Sink.state c.keep_going.new.out) (g.E.Sink.state c.args.err.now) (g.E.Sink.state c.keep_going.new.err)
     c.keep_going.result c.name_input_twice.result (bytes_of c.in-Ok-files.names.items) c.in-Ok-files.ensures.names
     (rw c.as_slice-2.ensures.value at c.name_input_twice.ensures) c.if-name_input_twice.false (inl (c.if-reading.true, c.keep_going.ensures))))
 
 pub returns : goal.returns
 returns g c =
-    run_words c.take_options-reading.result (g.F.Files.told c.args.files.now) (g.M.Memory.refused c.answer-answered.new.memory) (map string_bytes c.args.texts.now) (bytes_of c.take_options-reading.new.words.items)
+    run_words c.take_options-reading.result (g.F.Files.contents c.args.files.now) (g.M.Memory.refused c.answer-answered.new.memory) (map string_bytes c.args.texts.now) (bytes_of c.take_options-reading.new.words.items)
     (g.O.Output.closed c.answer-answered.new.out) (g.O.Sink.state c.args.out.now) (g.O.Sink.state c.answer-answered.new.out) (g.E.Sink.state c.args.err.now)
     (g.E.Sink.state c.report-2.new.err) c.report-2.result
     (rw c.in-Ok.ensures.slices at c.take_options-reading.ensures.asked) (rw c.in-Ok.ensures.slices at c.take_options-reading.ensures.rest)
-    (run_request c.take_options-reading.result (g.F.Files.told c.args.files.now) (g.M.Memory.refused c.answer-answered.new.memory) (bytes_of c.take_options-reading.new.words.items) (request_of c.in-Some.command)
+    (run_request c.take_options-reading.result (g.F.Files.contents c.args.files.now) (g.M.Memory.refused c.answer-answered.new.memory) (bytes_of c.take_options-reading.new.words.items) (request_of c.in-Some.command)
     (g.O.Output.closed c.answer-answered.new.out) (g.O.Sink.state c.args.out.now) (g.O.Sink.state c.answer-answered.new.out) (g.E.Sink.state c.args.err.now)
     (g.E.Sink.state c.report-2.new.err) c.report-2.result
     (rw c.as_slice.ensures.value at c.in-Some.ensures)
-    (run_once c.take_options-reading.result (g.F.Files.told c.args.files.now) (g.M.Memory.refused c.answer-answered.new.memory) (request_of c.in-Some.command) (g.O.Output.closed c.answer-answered.new.out)
+    (run_once c.take_options-reading.result (g.F.Files.contents c.args.files.now) (g.M.Memory.refused c.answer-answered.new.memory) (request_of c.in-Some.command) (g.O.Output.closed c.answer-answered.new.out)
     (g.O.Sink.state c.args.out.now) (g.O.Sink.state c.answer-answered.new.out) (g.E.Sink.state c.args.err.now) (g.E.Sink.state c.report-2.new.err)
     c.report-2.result c.name_input_twice.result (bytes_of c.in-Ok-files.names.items) c.in-Ok-files.ensures.names
     (rw c.as_slice-2.ensures.value at c.name_input_twice.ensures) c.if-name_input_twice.false

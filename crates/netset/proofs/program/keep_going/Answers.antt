@@ -7,7 +7,7 @@ use Rattle.netset.proofs.program.keep_going.Goals as goal
 pub returns-in_default-lists : goal.returns-in_default-lists
 returns-in_default-lists g c = inr (
   c.in_default.ensures,
-  no_names (g.F.Sources.told c.args.sources.now) (request_of c.args.command) (g.M.Memory.refused c.lists.new.memory) (g.O.Output.closed c.args.out.now)
+  no_names (g.F.Sources.contents c.args.sources.now) (request_of c.args.command) (g.M.Memory.refused c.lists.new.memory) (g.O.Output.closed c.args.out.now)
       (g.O.Sink.state c.args.out.now) (g.E.Sink.state c.args.err.now) (g.E.Sink.state c.report-in_default-lists.new.err) c.report-in_default-lists.result
       c.in_default-lists.ensures.refused c.report-in_default-lists.ensures.says c.report-in_default-lists.ensures.status,
 )
@@ -15,7 +15,7 @@ returns-in_default-lists g c = inr (
 pub returns-in-Ok-default-false : goal.returns-in-Ok-default-false
 returns-in-Ok-default-false g c = inr (
   c.in_default.ensures,
-  no_line_in_error (g.F.Sources.told c.args.sources.now) (request_of c.args.command) c.kind.result (bytes_of c.in-Ok.names.items)
+  no_line_in_error (g.F.Sources.contents c.args.sources.now) (request_of c.args.command) c.kind.result (bytes_of c.in-Ok.names.items)
       (g.M.Memory.refused c.answer-answered.new.memory) (g.O.Output.closed c.answer-answered.new.out) (g.O.Sink.state c.args.out.now)
       (g.E.Sink.state c.args.err.now) (g.E.Sink.state c.load.new.err) c.kind.ensures c.in-Ok.ensures.names c.in-Ok-default-false.lists.items
       (g.O.Sink.state c.answer-answered.new.out) (g.E.Sink.state c.report-in-Ok-default-false.new.err) c.answer-answered.result c.report-in-Ok-default-false.result
@@ -27,7 +27,7 @@ returns-in-Ok-default-false g c = inr (
 pub returns : goal.returns
 returns g c = inr (
   c.in_default.ensures,
-  not_loaded (g.F.Sources.told c.args.sources.now) (request_of c.args.command) c.kind.result (bytes_of c.in-Ok.names.items)
+  not_loaded (g.F.Sources.contents c.args.sources.now) (request_of c.args.command) c.kind.result (bytes_of c.in-Ok.names.items)
       (g.M.Memory.refused c.load.new.memory) (g.O.Output.closed c.args.out.now) (g.O.Sink.state c.args.out.now)
       (g.E.Sink.state c.args.err.now) (g.E.Sink.state c.load.new.err) c.kind.ensures c.in-Ok.ensures.names (g.E.Sink.state c.report-in-Err.new.err) c.in-Err.e
       c.report-in-Err.result (rw c.as_slice.ensures.value at c.in-Err.ensures.loads) c.in-Err.ensures.cause (rw c.is_closed-in-Err.ensures at c.report-in-Err.ensures.says) c.report-in-Err.ensures.status,
@@ -35,6 +35,6 @@ returns g c = inr (
 
 pub returns-in-Some : goal.returns-in-Some
 returns-in-Some g c =
-    argument_first (g.F.Sources.told c.args.sources.now) (request_of c.args.command) (g.M.Memory.refused c.args.memory.now) (g.O.Output.closed c.args.out.now)
+    argument_first (g.F.Sources.contents c.args.sources.now) (request_of c.args.command) (g.M.Memory.refused c.args.memory.now) (g.O.Output.closed c.args.out.now)
     (g.O.Sink.state c.args.out.now) (g.E.Sink.state c.args.err.now) (g.E.Sink.state c.report.new.err) c.in-Some.e c.report.result c.in-Some.ensures
     (rw c.is_closed.ensures at c.report.ensures.says) c.report.ensures.status

@@ -7,9 +7,9 @@ use Rattle.netset.proofs.program.lists.Goals as goal
 
 pub returns-clause-answers : goal.returns-clause-answers
 returns-clause-answers g c =
-    lists_written (g.F.Sources.told c.args.sources.now) c.args.operation (map (λ file. file.now) c.args.files.now)
+    lists_written (g.F.Sources.contents c.args.sources.now) c.args.operation (map (λ file. file.now) c.args.files.now)
     (c.in_ok-several.several.first ∷ c.in_ok-several.several.others.items) c.in_ok-sets.sets (g.O.Sink.state c.args.out.now) (g.O.Sink.state c.write_made.new.out)
-    c.write_made.result c.by_output.result c.in_ok-several.ensures.reads (rw (sym c.in_ok-sets.ensures.made) at c.made-sets.ensures) c.write_made.ensures c.by_output.ensures
+    c.write_made.result c.by_output.result c.in_ok-several.ensures.reads (rw (sym c.in_ok-sets.ensures.made) at c.combination-sets.ensures) c.write_made.ensures c.by_output.ensures
 
 pub returns-in_err-several-clause-cause : goal.returns-in_err-several-clause-cause
 returns-in_err-several-clause-cause g c =
@@ -22,4 +22,4 @@ returns-in_err-sets-clause-cause g c =
     rw (is, same) c.in_err-sets.ensures.refused
 
 pub returns-clause-cause : goal.returns-clause-cause
-returns-clause-cause g c = output_cause (MayFail (g.F.Sources.told c.args.sources.now)) _ _ _ c.by_output.result c.by_output.ensures
+returns-clause-cause g c = output_cause (MayFail (g.F.Sources.contents c.args.sources.now)) _ _ _ c.by_output.result c.by_output.ensures

@@ -1,6 +1,6 @@
 use Rattle.std.proofs.Common.{refl}
 use Rattle.std.proofs.lemmas.Result.{err_from_is_err_and}
-use Rattle.netset.specs.Changes.{change_line, merged}
+use Rattle.cidr_lists.specs.Changes.{change_line, merged}
 use Rattle.netset.proofs.Walked.{walk_started, walked_on, walk_lost, walk_ended}
 use Rattle.netset.proofs.commands.changes.write_changes.Goals as goal
 

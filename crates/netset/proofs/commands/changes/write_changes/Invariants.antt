@@ -1,4 +1,4 @@
-use Rattle.netset.specs.Changes.{change_line, merged}
+use Rattle.cidr_lists.specs.Changes.{change_line, merged}
 use Rattle.netset.proofs.Walked.{Walked}
 use Rattle.netset.proofs.commands.changes.write_changes.Given as goal
 

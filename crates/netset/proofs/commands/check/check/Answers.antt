@@ -9,12 +9,12 @@ answer-requires g c = rw (c.as_slice-2.ensures.value, c.as_slice-3.ensures.value
 
 pub returns-in-Ok-clause-answers : goal.returns-in-Ok-clause-answers
 returns-in-Ok-clause-answers g c =
-    check_answered (g.F.Sources.told c.args.sources.now) (map (λ file. file.now) c.args.files.now) c.in_ok-entries.entries.items (g.O.Sink.state c.args.out.now)
+    check_answered (g.F.Sources.contents c.args.sources.now) (map (λ file. file.now) c.args.files.now) c.in_ok-entries.entries.items (g.O.Sink.state c.args.out.now)
     (g.O.Sink.state c.answer.new.out) c.in-Ok.verdict c.in_ok-entries.ensures.reads (rw c.as_slice-2.ensures.value at c.in-Ok.ensures)
 
 pub returns-clause-answers : goal.returns-clause-answers
 returns-clause-answers g c =
-    check_lost (g.F.Sources.told c.args.sources.now) (map (λ file. file.now) c.args.files.now) c.in_ok-entries.entries.items (g.O.Sink.state c.args.out.now)
+    check_lost (g.F.Sources.contents c.args.sources.now) (map (λ file. file.now) c.args.files.now) c.in_ok-entries.entries.items (g.O.Sink.state c.args.out.now)
     (g.O.Sink.state c.answer.new.out) _ c.in_ok-entries.ensures.reads (rw c.as_slice-2.ensures.value at c.in-Err.ensures)
 
 pub returns-in_err-entries-clause-cause : goal.returns-in_err-entries-clause-cause

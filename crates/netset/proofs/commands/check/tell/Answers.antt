@@ -1,6 +1,6 @@
-use Rattle.netset.specs.Findings.{entry_network, kind_rank}
+use Rattle.cidr_lists.specs.Findings.{entry_network, kind_rank}
 use Rattle.netset.proofs.Checked.{note_told, nothing_told}
-use Rattle.netset.proofs.Found.{network_of}
+use Rattle.cidr_lists.proofs.Found.{network_of}
 use Rattle.netset.proofs.Noted.{kind_below}
 use Rattle.netset.proofs.commands.check.tell.Goals as goal
 
@@ -11,11 +11,11 @@ find-requires g c =
 pub returns-in_default : goal.returns-in_default
 returns-in_default g c start bound at noted =
     nothing_told c.args.entries.now c.args.near.now c.requires.near c.args.index c.entry_at-entry.result.now c.entry_at-entry.ensures (kind_rank c.args.kind)
-    (kind_below c.args.kind) bound at start (g.S.Sink.state c.args.out.now) (g.S.Sink.state c.args.out.now) c.args.told.now.block c.args.told.now.block
-    c.args.told.now.verdict noted c.in_default.ensures
+    (kind_below c.args.kind) bound at start (g.S.Sink.state c.args.out.now) (g.S.Sink.state c.args.out.now) c.args.messages.now.block c.args.messages.now.block
+    c.args.messages.now.verdict noted c.in_default.ensures
 
 pub returns : goal.returns
 returns g c start bound at noted =
     note_told c.args.entries.now c.args.near.now c.requires.near c.args.index c.entry_at-entry.result.now c.entry_at-entry.ensures (kind_rank c.args.kind)
-    (kind_below c.args.kind) bound at start (g.S.Sink.state c.args.out.now) (g.S.Sink.state c.push_note.new.out) c.args.told.now.block c.push_note.new.block
-    c.args.told.now.verdict noted c.in-Some.note c.push_note.result c.in-Some.ensures c.push_note.ensures
+    (kind_below c.args.kind) bound at start (g.S.Sink.state c.args.out.now) (g.S.Sink.state c.push_note.new.out) c.args.messages.now.block c.push_note.new.block
+    c.args.messages.now.verdict noted c.in-Some.note c.push_note.result c.in-Some.ensures c.push_note.ensures

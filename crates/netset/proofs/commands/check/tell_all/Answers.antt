@@ -11,7 +11,7 @@ pub loop-index-preserved : goal.loop-index-preserved
 loop-index-preserved g c =
     let i = c.loop-index.index in
     let same : i * 5 + 5 ≡ (i + 1) * 5 = omega arith in
-    subst (λ (k : ℕ). AreNoted c.args.entries.now k (g.S.Sink.state c.args.out.now) (g.S.Sink.state c.tell_line.new.out) c.tell_line.new.told.block c.tell_line.new.told.verdict)
+    subst (λ (k : ℕ). AreNoted c.args.entries.now k (g.S.Sink.state c.args.out.now) (g.S.Sink.state c.tell_line.new.out) c.tell_line.new.messages.block c.tell_line.new.messages.verdict)
     same (c.in_ok-tell_line.ensures (g.S.Sink.state c.args.out.now) c.loop-index.invariant)
 
 pub returns-in_err-tell_line : goal.returns-in_err-tell_line
@@ -25,9 +25,9 @@ returns-in_err-flush g c =
     let (y, is, same) = err_from_is_err_and c.from_residual-in_err-flush.result c.from_residual-in_err-flush.ensures.1 in
     all_lost c.args.entries.now (g.S.Sink.state c.args.out.now) (g.S.Sink.state c.flush.new.out) c.from_residual-in_err-flush.result y is
     (last_lost c.args.entries.now c.loop-index.index (g.S.Sink.state c.args.out.now) (g.S.Sink.state c.loop-index.out) (g.S.Sink.state c.flush.new.out)
-    c.loop-index.told.block c.loop-index.told.verdict y c.loop-index-test.false c.loop-index.invariant c.in_err-flush.ensures.writes)
+    c.loop-index.messages.block c.loop-index.messages.verdict y c.loop-index-test.false c.loop-index.invariant c.in_err-flush.ensures.writes)
 
 pub returns : goal.returns
 returns g c =
     all_told c.args.entries.now c.loop-index.index (g.S.Sink.state c.args.out.now) (g.S.Sink.state c.loop-index.out) (g.S.Sink.state c.flush.new.out)
-    c.loop-index.told.block c.loop-index.told.verdict c.loop-index-test.false c.loop-index.invariant c.in_ok-flush.ensures.writes
+    c.loop-index.messages.block c.loop-index.messages.verdict c.loop-index-test.false c.loop-index.invariant c.in_ok-flush.ensures.writes

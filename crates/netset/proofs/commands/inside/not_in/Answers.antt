@@ -7,15 +7,15 @@ use Rattle.netset.proofs.commands.inside.not_in.Goals as goal
 
 pub returns-clause-answers : goal.returns-clause-answers
 returns-clause-answers g c =
-    not_in_written (g.F.Sources.told c.args.sources.now) c.args.net.now (map (λ file. file.now) c.args.files.now) c.in_ok-network.network
+    not_in_written (g.F.Sources.contents c.args.sources.now) c.args.net.now (map (λ file. file.now) c.args.files.now) c.in_ok-network.network
     (c.in_ok-several.several.first ∷ c.in_ok-several.several.others.items) c.in_ok-rest.rest c.in_ok-whole.whole c.in_ok-inside.inside
-    (g.O.Sink.state c.args.out.now) (g.O.Sink.state c.write.new.out) c.write.result c.by_output.result c.in_ok-network.ensures c.in_ok-several.ensures.reads
-    (rw (sym c.in_ok-rest.ensures.made) at c.made-rest.ensures) (rw (sym c.in_ok-whole.ensures.made) at c.of_network-whole.ensures) (rw (sym c.in_ok-inside.ensures.made) at c.stepped-inside.ensures) c.write.ensures c.by_output.ensures
+    (g.O.Sink.state c.args.out.now) (g.O.Sink.state c.write_sets.new.out) c.write_sets.result c.by_output.result c.in_ok-network.ensures c.in_ok-several.ensures.reads
+    (rw (sym c.in_ok-rest.ensures.made) at c.combination-rest.ensures) (rw (sym c.in_ok-whole.ensures.made) at c.of_network-whole.ensures) (rw (sym c.in_ok-inside.ensures.made) at c.stepped-inside.ensures) c.write_sets.ensures c.by_output.ensures
 
 pub returns-in_err-network-clause-cause : goal.returns-in_err-network-clause-cause
 returns-in_err-network-clause-cause g c =
     let (y, is, same) = err_from_is_err_and c.from_residual.result c.from_residual.ensures.1 in
-    rw (is, same) (argument_cause (MayFail (g.F.Sources.told c.args.sources.now)) _ _ c.in_err-network.field-0.0 c.in_err-network.ensures)
+    rw (is, same) (argument_cause (MayFail (g.F.Sources.contents c.args.sources.now)) _ _ c.in_err-network.field-0.0 c.in_err-network.ensures)
 
 pub returns-in_err-several-clause-cause : goal.returns-in_err-several-clause-cause
 returns-in_err-several-clause-cause g c =
@@ -38,4 +38,4 @@ returns-in_err-inside-clause-cause g c =
     rw (is, same) c.in_err-inside.ensures.refused
 
 pub returns-clause-cause : goal.returns-clause-cause
-returns-clause-cause g c = output_cause (MayFail (g.F.Sources.told c.args.sources.now)) _ _ _ c.by_output.result c.by_output.ensures
+returns-clause-cause g c = output_cause (MayFail (g.F.Sources.contents c.args.sources.now)) _ _ _ c.by_output.result c.by_output.ensures

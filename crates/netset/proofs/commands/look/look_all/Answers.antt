@@ -1,6 +1,6 @@
 use Rattle.std.proofs.Common.{sym, ◌∙◌, ap}
 use Rattle.std.proofs.lemmas.Result.{err_from_is_err_and}
-use Rattle.netset.specs.LookUps.{kept}
+use Rattle.cidr_lists.specs.Tables.{kept}
 use Rattle.netset.proofs.Looked.{failing, all_unwritten, part_unwritten}
 use Rattle.netset.proofs.commands.look.look_all.Goals as goal
 

@@ -1,6 +1,6 @@
 use Rattle.std.proofs.Common.{refl}
 use Rattle.std.proofs.lemmas.Result.{err_from_is_err_and}
-use Rattle.netset.specs.LookUps.{kept}
+use Rattle.cidr_lists.specs.Tables.{kept}
 use Rattle.cidr_io.proofs.Collected.{none_collected}
 use Rattle.netset.proofs.Looked.{line_lost}
 use Rattle.netset.proofs.commands.look.look_line.Goals as goal

@@ -2,8 +2,9 @@ use Rattle.std.proofs.Common.{◌∙◌, ap, subst, inl, inr, Ok, Err, List, ℕ
 use Rattle.std.proofs.lemmas.Result.{err_from_is_err_and}
 use Rattle.std.specs.List.{AllZip}
 use Rattle.netset.specs.Causes.{TextFails}
-use Rattle.netset.specs.Look.{LineLooks}
-use Rattle.netset.specs.LookUps.{LooksLine, kept}
+use Rattle.cidr_lists.specs.LookUps.{LineLooks}
+use Rattle.netset.specs.LookUps.{LooksLine}
+use Rattle.cidr_lists.specs.Tables.{kept}
 use Rattle.netset.specs.Reading.{read_error}
 use Rattle.netset.proofs.Causes.{look_line_cause, no_line_cause, reading_stopped}
 use Rattle.netset.proofs.LinesRead.{left_known, numbers_used}

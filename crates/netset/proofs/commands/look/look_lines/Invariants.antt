@@ -1,4 +1,4 @@
-use Rattle.netset.specs.LookUps.{kept}
+use Rattle.cidr_lists.specs.Tables.{kept}
 use Rattle.netset.proofs.Looked.{Looking}
 use Rattle.netset.proofs.commands.look.look_lines.Given as goal
 

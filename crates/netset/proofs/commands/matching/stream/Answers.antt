@@ -1,7 +1,7 @@
 use Rattle.std.proofs.Common.{◌≡◌, sym, refl, None}
 use Rattle.netset.specs.Causes.{TextFails}
 use Rattle.netset.specs.Matching.{Picks}
-use Rattle.netset.specs.Sets.{Held}
+use Rattle.cidr_lists.specs.Sets.{HasAddress}
 use Rattle.netset.specs.declared.errors.CommandError.TheVariants as error
 use Rattle.netset.proofs.Causes.{cause_weaker, output_cause, stop_cause, take_cause, told_fails}
 use Rattle.netset.proofs.Matched.{caught_up, ended, failed_before, go_on, left_known, lost, numbers_used, started, take_on, unread, unwritten}
@@ -9,29 +9,29 @@ use Rattle.netset.proofs.commands.matching.stream.Goals as goal
 
 pub returns-then-failed-clause-streams : goal.returns-then-failed-clause-streams
 returns-then-failed-clause-streams g c =
-    failed_before (Picks c.args.matcher.now.anywhere (Held c.args.matcher.now.sets.now) c.args.matcher.now.inverted) c.args.matcher.now.written c.args.file.now
+    failed_before (Picks c.args.matcher.now.anywhere (HasAddress c.args.matcher.now.sets.now) c.args.matcher.now.inverted) c.args.matcher.now.written c.args.file.now
     c.args.reader.now.left (g.S.Sink.state c.args.out.now) (sym c.if-failed.ensures)
 
 pub loop-number-init : goal.loop-number-init
 loop-number-init g c =
-    started (Picks c.args.matcher.now.anywhere (Held c.args.matcher.now.sets.now) c.args.matcher.now.inverted) c.args.matcher.now.written
+    started (Picks c.args.matcher.now.anywhere (HasAddress c.args.matcher.now.sets.now) c.args.matcher.now.inverted) c.args.matcher.now.written
     c.args.reader.now.left (g.S.Sink.state c.args.out.now) c.new-gathered.result.count c.new-gathered.result.block
     c.new-gathered.ensures.count c.new-gathered.ensures.block
 
 pub returns-in_default-clause-streams : goal.returns-in_default-clause-streams
 returns-in_default-clause-streams g c =
-    unwritten (Picks c.args.matcher.now.anywhere (Held c.args.matcher.now.sets.now) c.args.matcher.now.inverted) c.args.matcher.now.written c.args.file.now
+    unwritten (Picks c.args.matcher.now.anywhere (HasAddress c.args.matcher.now.sets.now) c.args.matcher.now.inverted) c.args.matcher.now.written c.args.file.now
     c.args.reader.now.left c.loop-number.reader.left (g.S.Sink.state c.args.out.now) (g.S.Sink.state c.loop-number.out)
     (g.S.Sink.state c.catch_up.new.out) c.loop-number.number c.loop-number.gathered.count c.loop-number.gathered.block
     (sym c.if-failed.ensures) c.in_default.ensures.collects c.loop-number.invariant
 
 pub returns-in-Err-clause-streams : goal.returns-in-Err-clause-streams
 returns-in-Err-clause-streams g c =
-    unread (Picks c.args.matcher.now.anywhere (Held c.args.matcher.now.sets.now) c.args.matcher.now.inverted) c.args.matcher.now.written c.args.file.now
+    unread (Picks c.args.matcher.now.anywhere (HasAddress c.args.matcher.now.sets.now) c.args.matcher.now.inverted) c.args.matcher.now.written c.args.file.now
     c.args.reader.now.left c.loop-number.reader.left (g.S.Sink.state c.args.out.now) (g.S.Sink.state c.catch_up.new.out)
     (g.S.Sink.state c.stop.new.out) c.loop-number.number c.catch_up.new.self.count c.catch_up.new.self.block _ c.stop.result
     (sym c.if-failed.ensures) c.in-Err.ensures.stopped
-    (caught_up (Picks c.args.matcher.now.anywhere (Held c.args.matcher.now.sets.now) c.args.matcher.now.inverted) c.args.matcher.now.written
+    (caught_up (Picks c.args.matcher.now.anywhere (HasAddress c.args.matcher.now.sets.now) c.args.matcher.now.inverted) c.args.matcher.now.written
     c.args.reader.now.left c.loop-number.reader.left (g.S.Sink.state c.args.out.now) (g.S.Sink.state c.loop-number.out)
     (g.S.Sink.state c.catch_up.new.out) c.loop-number.number c.loop-number.gathered.count c.catch_up.new.self.count c.loop-number.gathered.block
     c.catch_up.new.self.block c.in-Ok.ensures.count c.in-Ok.ensures.collects c.loop-number.invariant)
@@ -39,12 +39,12 @@ returns-in-Err-clause-streams g c =
 
 pub returns-in-Err-take-clause-streams : goal.returns-in-Err-take-clause-streams
 returns-in-Err-take-clause-streams g c =
-    lost (Picks c.args.matcher.now.anywhere (Held c.args.matcher.now.sets.now) c.args.matcher.now.inverted) c.args.matcher.now.written c.args.file.now
+    lost (Picks c.args.matcher.now.anywhere (HasAddress c.args.matcher.now.sets.now) c.args.matcher.now.inverted) c.args.matcher.now.written c.args.file.now
     c.args.reader.now.left c.loop-number.reader.left c.next_part.new.reader.left
     (g.S.Sink.state c.args.out.now) (g.S.Sink.state c.catch_up.new.out) (g.S.Sink.state c.take.new.out) (g.S.Sink.state c.stop-in-Err-take.new.out)
     c.loop-number.number c.catch_up.new.self.count c.catch_up.new.self.block c.take.new.self.block c.next_part.new.reader.line
     c.in-Ok-next_part.has_more _ c.stop-in-Err-take.result (sym c.if-failed.ensures)
-    (caught_up (Picks c.args.matcher.now.anywhere (Held c.args.matcher.now.sets.now) c.args.matcher.now.inverted) c.args.matcher.now.written
+    (caught_up (Picks c.args.matcher.now.anywhere (HasAddress c.args.matcher.now.sets.now) c.args.matcher.now.inverted) c.args.matcher.now.written
     c.args.reader.now.left c.loop-number.reader.left (g.S.Sink.state c.args.out.now) (g.S.Sink.state c.loop-number.out)
     (g.S.Sink.state c.catch_up.new.out) c.loop-number.number c.loop-number.gathered.count c.catch_up.new.self.count c.loop-number.gathered.block
     c.catch_up.new.self.block c.in-Ok.ensures.count c.in-Ok.ensures.collects c.loop-number.invariant)
@@ -52,15 +52,15 @@ returns-in-Err-take-clause-streams g c =
 
 pub returns-then-is_done-clause-streams : goal.returns-then-is_done-clause-streams
 returns-then-is_done-clause-streams g c =
-    ended (Picks c.args.matcher.now.anywhere (Held c.args.matcher.now.sets.now) c.args.matcher.now.inverted) c.args.matcher.now.written c.args.file.now
+    ended (Picks c.args.matcher.now.anywhere (HasAddress c.args.matcher.now.sets.now) c.args.matcher.now.inverted) c.args.matcher.now.written c.args.file.now
     c.args.reader.now.left c.next_part.new.reader.left
     (g.S.Sink.state c.args.out.now) (g.S.Sink.state c.take.new.out) (g.S.Sink.state c.finish.new.out)
     c.loop-number.number c.take.new.self c.in-Ok-next_part.has_more c.is_done.result c.finish.result c.is_done.ensures c.if-is_done.true (sym c.if-failed.ensures)
-    (take_on (Picks c.args.matcher.now.anywhere (Held c.args.matcher.now.sets.now) c.args.matcher.now.inverted) c.args.matcher.now.written c.args.file.now
+    (take_on (Picks c.args.matcher.now.anywhere (HasAddress c.args.matcher.now.sets.now) c.args.matcher.now.inverted) c.args.matcher.now.written c.args.file.now
     c.args.reader.now.left c.loop-number.reader.left c.next_part.new.reader.left
     (g.S.Sink.state c.args.out.now) (g.S.Sink.state c.catch_up.new.out) (g.S.Sink.state c.take.new.out)
     c.loop-number.number c.next_part.new.reader.line c.in-Ok-next_part.has_more c.catch_up.new.self c.take.new.self
-    (caught_up (Picks c.args.matcher.now.anywhere (Held c.args.matcher.now.sets.now) c.args.matcher.now.inverted) c.args.matcher.now.written
+    (caught_up (Picks c.args.matcher.now.anywhere (HasAddress c.args.matcher.now.sets.now) c.args.matcher.now.inverted) c.args.matcher.now.written
     c.args.reader.now.left c.loop-number.reader.left (g.S.Sink.state c.args.out.now) (g.S.Sink.state c.loop-number.out)
     (g.S.Sink.state c.catch_up.new.out) c.loop-number.number c.loop-number.gathered.count c.catch_up.new.self.count c.loop-number.gathered.block
     c.catch_up.new.self.block c.in-Ok.ensures.count c.in-Ok.ensures.collects c.loop-number.invariant) c.in-Ok-next_part.ensures.part (rw c.line.ensures at c.in-Ok-take.ensures))
@@ -68,22 +68,22 @@ returns-then-is_done-clause-streams g c =
 
 pub loop-number-preserved : goal.loop-number-preserved
 loop-number-preserved g c =
-    go_on (Picks c.args.matcher.now.anywhere (Held c.args.matcher.now.sets.now) c.args.matcher.now.inverted) c.args.matcher.now.written
+    go_on (Picks c.args.matcher.now.anywhere (HasAddress c.args.matcher.now.sets.now) c.args.matcher.now.inverted) c.args.matcher.now.written
     c.args.reader.now.left c.next_part.new.reader.left
     (g.S.Sink.state c.args.out.now) (g.S.Sink.state c.take.new.out)
     c.loop-number.number c.take.new.self.count c.take.new.self.block c.in-Ok-next_part.has_more c.is_done.result c.is_done.ensures c.if-is_done.false
-    (take_on (Picks c.args.matcher.now.anywhere (Held c.args.matcher.now.sets.now) c.args.matcher.now.inverted) c.args.matcher.now.written c.args.file.now
+    (take_on (Picks c.args.matcher.now.anywhere (HasAddress c.args.matcher.now.sets.now) c.args.matcher.now.inverted) c.args.matcher.now.written c.args.file.now
     c.args.reader.now.left c.loop-number.reader.left c.next_part.new.reader.left
     (g.S.Sink.state c.args.out.now) (g.S.Sink.state c.catch_up.new.out) (g.S.Sink.state c.take.new.out)
     c.loop-number.number c.next_part.new.reader.line c.in-Ok-next_part.has_more c.catch_up.new.self c.take.new.self
-    (caught_up (Picks c.args.matcher.now.anywhere (Held c.args.matcher.now.sets.now) c.args.matcher.now.inverted) c.args.matcher.now.written
+    (caught_up (Picks c.args.matcher.now.anywhere (HasAddress c.args.matcher.now.sets.now) c.args.matcher.now.inverted) c.args.matcher.now.written
     c.args.reader.now.left c.loop-number.reader.left (g.S.Sink.state c.args.out.now) (g.S.Sink.state c.loop-number.out)
     (g.S.Sink.state c.catch_up.new.out) c.loop-number.number c.loop-number.gathered.count c.catch_up.new.self.count c.loop-number.gathered.block
     c.catch_up.new.self.block c.in-Ok.ensures.count c.in-Ok.ensures.collects c.loop-number.invariant) c.in-Ok-next_part.ensures.part (rw c.line.ensures at c.in-Ok-take.ensures))
 
 pub returns-clause-streams : goal.returns-clause-streams
 returns-clause-streams g c =
-    unread (Picks c.args.matcher.now.anywhere (Held c.args.matcher.now.sets.now) c.args.matcher.now.inverted) c.args.matcher.now.written c.args.file.now
+    unread (Picks c.args.matcher.now.anywhere (HasAddress c.args.matcher.now.sets.now) c.args.matcher.now.inverted) c.args.matcher.now.written c.args.file.now
     c.args.reader.now.left c.loop-number.reader.left (g.S.Sink.state c.args.out.now) (g.S.Sink.state c.loop-number.out)
     (g.S.Sink.state c.stop-2.new.out) c.loop-number.number c.loop-number.gathered.count c.loop-number.gathered.block (error.Input c.args.file) c.stop-2.result
     (sym c.if-failed.ensures) refl c.loop-number.invariant c.stop-2.ensures
@@ -91,7 +91,7 @@ returns-clause-streams g c =
 pub returns-in-Err-clause-cause : goal.returns-in-Err-clause-cause
 returns-in-Err-clause-cause g c =
     let st = c.loop-number.invariant in
-    let known = left_known (Picks c.args.matcher.now.anywhere (Held c.args.matcher.now.sets.now) c.args.matcher.now.inverted) c.args.matcher.now.written c.args.reader.now.left c.loop-number.reader.left (g.S.Sink.state c.args.out.now) (g.S.Sink.state c.loop-number.out)
+    let known = left_known (Picks c.args.matcher.now.anywhere (HasAddress c.args.matcher.now.sets.now) c.args.matcher.now.inverted) c.args.matcher.now.written c.args.reader.now.left c.loop-number.reader.left (g.S.Sink.state c.args.out.now) (g.S.Sink.state c.loop-number.out)
     c.loop-number.number c.loop-number.gathered.count c.loop-number.gathered.block st in
     stop_cause (λ name. (name ≡ c.args.file.now) × TextFails c.args.reader.now.left) (g.M.Memory.refused c.next_part.new.memory) _ _ _ _ _ c.stop.ensures
     (cause_weaker (λ name. (name ≡ c.args.file.now) × (c.loop-number.reader.left ≡ None)) (λ name. (name ≡ c.args.file.now) × TextFails c.args.reader.now.left)
@@ -101,7 +101,7 @@ pub returns-in-Err-take-clause-cause : goal.returns-in-Err-take-clause-cause
 returns-in-Err-take-clause-cause g c =
     stop_cause (λ name. (name ≡ c.args.file.now) × TextFails c.args.reader.now.left) (g.M.Memory.refused c.next_part.new.memory) _ _ _ _ _ c.stop-in-Err-take.ensures
     (take_cause (λ name. (name ≡ c.args.file.now) × TextFails c.args.reader.now.left) (g.M.Memory.refused c.next_part.new.memory)
-    (Picks c.args.matcher.now.anywhere (Held c.args.matcher.now.sets.now) c.args.matcher.now.inverted) c.args.matcher.now.written c.args.file.now
+    (Picks c.args.matcher.now.anywhere (HasAddress c.args.matcher.now.sets.now) c.args.matcher.now.inverted) c.args.matcher.now.written c.args.file.now
     c.loop-number.number c.next_part.new.reader.line (g.S.Sink.state c.catch_up.new.out) (g.S.Sink.state c.take.new.out) c.catch_up.new.self.block
     c.take.new.self.block _ (rw c.line.ensures at c.in-Err-take.ensures).1)
 
@@ -114,6 +114,6 @@ pub returns-clause-cause : goal.returns-clause-cause
 returns-clause-cause g c =
     stop_cause (λ name. (name ≡ c.args.file.now) × TextFails c.args.reader.now.left) (g.M.Memory.refused c.loop-number.memory) (error.Input c.args.file) _ _ _ _ c.stop-2.ensures (
       refl,
-      numbers_used (Picks c.args.matcher.now.anywhere (Held c.args.matcher.now.sets.now) c.args.matcher.now.inverted) c.args.matcher.now.written c.args.reader.now.left c.loop-number.reader.left (g.S.Sink.state c.args.out.now) (g.S.Sink.state c.loop-number.out)
+      numbers_used (Picks c.args.matcher.now.anywhere (HasAddress c.args.matcher.now.sets.now) c.args.matcher.now.inverted) c.args.matcher.now.written c.args.reader.now.left c.loop-number.reader.left (g.S.Sink.state c.args.out.now) (g.S.Sink.state c.loop-number.out)
           c.loop-number.number c.loop-number.gathered.count c.loop-number.gathered.block c.loop-number.invariant c.loop-number-test.false,
     )

@@ -1,11 +1,11 @@
 use Rattle.std.proofs.Common.{inr, refl, []}
 use Rattle.cidr.specs.texts.PrintedAddress.{ip_text}
-use Rattle.netset.specs.Printing.{line}
+use Rattle.cidr_lists.specs.Printing.{line}
 use Rattle.netset.specs.declared.output.answers.Verdict.TheVariants.{Yes, No}
 use Rattle.netset.proofs.commands.single.nth.Goals as goal
 
 pub returns-in-Some-nth : goal.returns-in-Some-nth
-returns-in-Some-nth g c told =
+returns-in-Some-nth g c contents =
     inr (
       line (ip_text c.in-Some-nth.address),
       Yes,
@@ -16,7 +16,7 @@ returns-in-Some-nth g c told =
     )
 
 pub returns-in-None : goal.returns-in-None
-returns-in-None g c told =
+returns-in-None g c contents =
     inr (
       [],
       No,

@@ -5,7 +5,7 @@ use Rattle.netset.specs.declared.output.answers.Verdict.TheVariants.{Yes}
 use Rattle.netset.proofs.commands.single.show.Goals as goal
 
 pub returns-in-Ok : goal.returns-in-Ok
-returns-in-Ok g c told =
+returns-in-Ok g c contents =
     inr (
       network_lines (host_network c.in-Ok.host),
       Yes,

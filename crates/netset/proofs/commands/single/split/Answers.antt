@@ -7,7 +7,7 @@ use Rattle.netset.specs.declared.output.answers.Verdict.TheVariants.{Yes}
 use Rattle.netset.proofs.commands.single.split.Goals as goal
 
 pub returns-in-Some : goal.returns-in-Some
-returns-in-Some g c told =
+returns-in-Some g c contents =
     let (n, number, some, is) = c.in-Some.ensures in
     inr (
       split_text c.in_ok-network.network n,

@@ -4,7 +4,7 @@ use Rattle.netset.proofs.input.entries.add_file.Goals as goal
 
 pub returns-in_ok-add_kept-in-Some-Hosts-clause-adds : goal.returns-in_ok-add_kept-in-Some-Hosts-clause-adds
 returns-in_ok-add_kept-in-Some-Hosts-clause-adds g c =
-    entries_copied (g.F.Sources.told c.args.sources.now c.args.file.now) c.args.file.now c.args.entries.now.items c.add_kept.new.entries.items c.in-Some-Hosts.kept.items
+    entries_copied (g.F.Sources.contents c.args.sources.now c.args.file.now) c.args.file.now c.args.entries.now.items c.add_kept.new.entries.items c.in-Some-Hosts.kept.items
     (rw c.in-Some-Hosts.field-0-is at c.in-Some-Hosts.ensures) (rw c.as_slice.ensures.value at c.in_ok-add_kept-in-Some-Hosts.ensures.added)
 
 pub returns-in_err-add_kept-in-Some-Hosts-clause-cause : goal.returns-in_err-add_kept-in-Some-Hosts-clause-cause

@@ -23,21 +23,21 @@ pub returns-in_err-add_line-clause-reads : goal.returns-in_err-add_line-clause-r
 returns-in_err-add_line-clause-reads g c =
     let (y, is, same) = err_from_is_err_and c.from_residual-in_err-add_line.result c.from_residual-in_err-add_line.ensures.1 in
     failed c.args.host_bits c.args.reader.now.left c.loop-number.reader.left c.read_line.new.self.left
-    c.args.lists.now c.loop-number.lists c.add_line.new.self c.loop-number.number c.read_line.new.self.line c.in_ok-has_more.has_more _ _ _ is same
+    c.args.lists.now c.loop-number.lists c.add_line.new.lists c.loop-number.number c.read_line.new.self.line c.in_ok-has_more.has_more _ _ _ is same
     c.loop-number.invariant c.in_ok-has_more.ensures.line (rw c.line.ensures at c.in_err-add_line.ensures.adds)
 
 pub returns-then-not-has_more-clause-reads : goal.returns-then-not-has_more-clause-reads
 returns-then-not-has_more-clause-reads g c =
     let (said, says, grows) = c.in_ok-add_line.ensures.adds in
     finished c.args.host_bits c.args.reader.now.left c.loop-number.reader.left c.read_line.new.self.left
-    c.args.lists.now c.loop-number.lists c.add_line.new.self c.loop-number.number c.read_line.new.self.line c.in_ok-has_more.has_more said
+    c.args.lists.now c.loop-number.lists c.add_line.new.lists c.loop-number.number c.read_line.new.self.line c.in_ok-has_more.has_more said
     c.if-not-has_more.true c.loop-number.invariant c.in_ok-has_more.ensures.line (rw c.line.ensures at says) grows
 
 pub loop-number-preserved : goal.loop-number-preserved
 loop-number-preserved g c =
     let (said, says, grows) = c.in_ok-add_line.ensures.adds in
     stepped c.args.host_bits c.args.reader.now.left c.loop-number.reader.left c.read_line.new.self.left
-    c.args.lists.now c.loop-number.lists c.add_line.new.self c.loop-number.number c.read_line.new.self.line c.in_ok-has_more.has_more said
+    c.args.lists.now c.loop-number.lists c.add_line.new.lists c.loop-number.number c.read_line.new.self.line c.in_ok-has_more.has_more said
     c.if-not-has_more.false c.loop-number.invariant c.in_ok-has_more.ensures.line (rw c.line.ensures at says) grows
 
 pub returns-in_err-add_line-clause-cause : goal.returns-in_err-add_line-clause-cause

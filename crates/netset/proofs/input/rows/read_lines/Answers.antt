@@ -24,14 +24,14 @@ pub returns-then-not-has_more-clause-reads : goal.returns-then-not-has_more-clau
 returns-then-not-has_more-clause-reads g c =
     let (said, says, adds) = c.in_ok-add_line.ensures.adds in
     rows_finished c.args.host_bits c.args.reader.now.left c.loop-number.reader.left c.read_line.new.self.left
-    c.loop-number.rows c.add_line.new.self c.loop-number.number c.read_line.new.self.line c.in_ok-has_more.has_more said
+    c.loop-number.rows c.add_line.new.rows c.loop-number.number c.read_line.new.self.line c.in_ok-has_more.has_more said
     c.if-not-has_more.true c.loop-number.invariant c.in_ok-has_more.ensures.line (rw c.line.ensures at says) adds
 
 pub loop-number-preserved : goal.loop-number-preserved
 loop-number-preserved g c =
     let (said, says, adds) = c.in_ok-add_line.ensures.adds in
     rows_stepped c.args.host_bits c.args.reader.now.left c.loop-number.reader.left c.read_line.new.self.left
-    c.loop-number.rows c.add_line.new.self c.loop-number.number c.read_line.new.self.line c.in_ok-has_more.has_more said
+    c.loop-number.rows c.add_line.new.rows c.loop-number.number c.read_line.new.self.line c.in_ok-has_more.has_more said
     c.if-not-has_more.false c.loop-number.invariant c.in_ok-has_more.ensures.line (rw c.line.ensures at says) adds
 
 pub returns-in_err-has_more-clause-cause : goal.returns-in_err-has_more-clause-cause

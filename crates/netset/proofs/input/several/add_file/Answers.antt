@@ -5,7 +5,7 @@ use Rattle.netset.proofs.input.several.add_file.Goals as goal
 
 pub returns-in_ok-watch-in-Some-Networks-clause-adds : goal.returns-in_ok-watch-in-Some-Networks-clause-adds
 returns-in_ok-watch-in-Some-Networks-clause-adds g c =
-    networks_copied (g.F.Sources.told c.args.sources.now c.args.file.now) c.args.file.now c.args.lists.now c.extend-added.new.self c.in-Some-Networks.kept
+    networks_copied (g.F.Sources.contents c.args.sources.now c.args.file.now) c.args.file.now c.args.lists.now c.extend-added.new.self c.in-Some-Networks.kept
     (rw c.in-Some-Networks.field-0-is at c.in-Some-Networks.ensures) (rw (sym c.in_ok-watch-in-Some-Networks.ensures.made) at c.extend-added.ensures)
 
 pub returns-in_err-watch-in-Some-Networks-clause-cause : goal.returns-in_err-watch-in-Some-Networks-clause-cause

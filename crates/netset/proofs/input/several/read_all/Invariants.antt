@@ -3,4 +3,4 @@ use Rattle.netset.specs.Answering.{AreRead}
 use Rattle.netset.proofs.input.several.read_all.Given as goal
 
 abbrev pub invariant-loop-file : goal.invariant-loop-file
-invariant-loop-file g l = AreRead (g.F.Sources.told l.sources) (take l.file-index (map (λ file. file.now) l.files)) l.sets.items
+invariant-loop-file g l = AreRead (g.F.Sources.contents l.sources) (take l.file-index (map (λ file. file.now) l.files)) l.sets.items

@@ -5,7 +5,7 @@ use Rattle.netset.proofs.input.several.read_file.Goals as goal
 
 pub returns-clause-reads : goal.returns-clause-reads
 returns-clause-reads g c =
-    file_set (g.F.Sources.told c.args.sources.now c.args.file.now) c.args.file.now c.new-lists.result c.add_file.new.lists c.in_ok-sets.sets
+    file_set (g.F.Sources.contents c.args.sources.now c.args.file.now) c.args.file.now c.new-lists.result c.add_file.new.lists c.in_ok-sets.sets
     c.new-lists.ensures.v4 c.new-lists.ensures.v6 c.in_ok-add_file.ensures.adds (rw (sym c.in_ok-sets.ensures.made) at c.of_lists-sets.ensures)
 
 pub returns-in_err-add_file-clause-cause : goal.returns-in_err-add_file-clause-cause

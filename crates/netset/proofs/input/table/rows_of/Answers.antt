@@ -5,7 +5,7 @@ use Rattle.netset.proofs.input.table.rows_of.Goals as goal
 
 pub returns-in_ok-rows-in-Some-Rows-clause-reads : goal.returns-in_ok-rows-in-Some-Rows-clause-reads
 returns-in_ok-rows-in-Some-Rows-clause-reads g c =
-    rows_copied (g.F.Sources.told c.args.sources.now c.args.file.now) c.args.file.now c.in-Some-Rows.kept c.in_ok-rows-in-Some-Rows.rows
+    rows_copied (g.F.Sources.contents c.args.sources.now c.args.file.now) c.args.file.now c.in-Some-Rows.kept c.in_ok-rows-in-Some-Rows.rows
     (rw c.in-Some-Rows.field-0-is at c.in-Some-Rows.ensures) (rw (sym c.in_ok-rows-in-Some-Rows.ensures.made) at c.copy-rows.ensures)
 
 pub returns-in_err-rows-in-Some-Rows-clause-cause : goal.returns-in_err-rows-in-Some-Rows-clause-cause

@@ -1,5 +1,5 @@
 use Rattle.std.proofs.lemmas.Result.{err_from_is_err_and}
-use Rattle.netset.specs.Printing.{line}
+use Rattle.cidr_lists.specs.Printing.{line}
 use Rattle.netset.proofs.Walked.{walk_started, walked_at, walk_lost_at, walk_ended_at}
 use Rattle.netset.proofs.output.printing.write_networks.Goals as goal
 

@@ -1,5 +1,5 @@
 use Rattle.std.proofs.Common.{drop}
-use Rattle.netset.specs.Printing.{line}
+use Rattle.cidr_lists.specs.Printing.{line}
 use Rattle.netset.proofs.Walked.{Walked}
 use Rattle.netset.proofs.output.printing.write_networks.Given as goal
 

@@ -1,6 +1,6 @@
 use Rattle.std.proofs.Common.{refl}
 use Rattle.std.proofs.lemmas.Result.{err_from_is_err_and}
-use Rattle.netset.specs.Sets.{range_line}
+use Rattle.cidr_lists.specs.Sets.{range_line}
 use Rattle.netset.proofs.Walked.{walk_started, walked_on, walk_lost, walk_ended}
 use Rattle.netset.proofs.output.ranges.write_each.Goals as goal
 

@@ -1,4 +1,4 @@
-use Rattle.netset.specs.Sets.{range_line}
+use Rattle.cidr_lists.specs.Sets.{range_line}
 use Rattle.netset.proofs.Walked.{Walked}
 use Rattle.netset.proofs.output.ranges.write_each.Given as goal
 

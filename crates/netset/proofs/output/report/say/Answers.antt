@@ -5,7 +5,7 @@ returns-in-Usage g c = rw c.in-Usage.is (c.write_line.result, c.write_line.ensur
 
 pub returns-in-Line : goal.returns-in-Line
 returns-in-Line g c =
-    rw c.in-Line.is (c.write_line-in-Line.result, rw (c.format.ensures.text, c.as_str-in-Line.ensures.value, c.message_of.ensures) at c.write_line-in-Line.ensures)
+    rw c.in-Line.is (c.write_line-in-Line.result, rw (c.format.ensures.text, c.as_str-in-Line.ensures.value, c.message.ensures) at c.write_line-in-Line.ensures)
 
 pub returns-in-Input : goal.returns-in-Input
 returns-in-Input g c = rw c.in-Input.is (c.write_line-in-Input.result, c.write_line-in-Input.ensures)

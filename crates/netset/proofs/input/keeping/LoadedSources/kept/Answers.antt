@@ -4,5 +4,5 @@ use Rattle.netset.proofs.input.keeping.LoadedSources.kept.Goals as goal
 
 pub returns : goal.returns
 returns g c =
-    rw (sym c.self.view_is) (said_told (g.F.Sources.told c.self.inside.sources.now) c.self.inside.lists.now c.args.name.now c.said_of.result c.self.invariant
+    rw (sym c.self.view_is) (said_told (g.F.Sources.contents c.self.inside.sources.now) c.self.inside.lists.now c.args.name.now c.said_of.result c.self.invariant
     c.said_of.ensures)

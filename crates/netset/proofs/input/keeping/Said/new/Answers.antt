@@ -1,7 +1,7 @@
 use Rattle.std.proofs.Common.{◌≡◌, refl, []}
 use Rattle.cidr.specs.declared.family.Family.{Family}
 use Rattle.cidr.specs.declared.family.Family.TheVariants.{Ipv4, Ipv6}
-use Rattle.netset.specs.Reading.{listed}
+use Rattle.cidr_lists.specs.Reading.{listed}
 use Rattle.netset.proofs.Stored.{none_stored}
 use Rattle.netset.proofs.input.keeping.Said.new.Goals as goal
 

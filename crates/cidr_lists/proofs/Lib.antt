@@ -1,0 +1,15 @@
+pub mod Anywhere
+pub mod Contents
+pub mod Found
+pub mod KeptNear
+pub mod LineFeeds
+pub mod Merged
+pub mod Nested
+pub mod NumberedRows
+pub mod OpenNetworks
+pub mod Passing
+pub mod PlainTexts
+pub mod Resolved
+pub mod SameKeys
+pub mod SetSteps
+pub mod Spelled

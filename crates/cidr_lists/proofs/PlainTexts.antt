@@ -1,0 +1,131 @@
+-- The string of a network has no comment sign, no hyphen and no white space.
+use Rattle.std.proofs.Common.{◌≡◌, ◌≢◌, sym, subst, arith, inl, inr, ◌⊎◌, ℕ, ◌-◌, ◌<◌, ◌≤◌, Bool, false, List, [], ◌∷◌, ◌++◌, length, slice_index_or}
+use Rattle.std.specs.Char.{digit_value, is_ascii_whitespace}
+use Rattle.std.specs.Str.{IsTrimAscii}
+use Rattle.std.proofs.lemmas.Grind.{common_steps}
+use Rattle.std.proofs.lemmas.List.{take_all}
+use Rattle.cidr.specs.either.IpText.{IsIpHostText}
+use Rattle.cidr.specs.texts.AddressText.{IsAddressText}
+use Rattle.cidr.specs.texts.HostText.{IsHostText}
+use Rattle.cidr.specs.texts.Ipv4Text.{IsJoined, IsOctetText, dot}
+use Rattle.cidr.specs.texts.Ipv6Text.{IsDottedPair, IsEightGroups, IsGroups, IsNothing, IsRun, colon}
+use Rattle.cidr.specs.texts.NetworkText.{IsLengthText, IsNetworkText, plus, slash}
+use Rattle.cidr.specs.texts.Refusal.{Lacks}
+use Rattle.cidr.specs.model.Host.{Host}
+use Rattle.cidr.specs.declared.cidr.combined.IpCidr.{IpCidr}
+use Rattle.cidr.specs.declared.cidr.combined.IpCidr.TheVariants.{V4, V6}
+use Rattle.cidr.specs.declared.family.Family.{Family}
+use Rattle.cidr.specs.declared.family.Family.TheVariants.{Ipv4, Ipv6}
+use Rattle.cidr.specs.declared.inet.combined.IpInet.{IpInet}
+use Rattle.cidr.specs.declared.inet.combined.IpInet.TheVariants as host
+use Rattle.cidr.proofs.Cuts.{Lacks-append, Lacks-cons, Lacks-digits, Lacks-length}
+use Rattle.cidr.proofs.Ipv4Grammar.{Lacks-joined, Lacks-octet}
+use Rattle.cidr_lists.specs.Lists.{IsField, IsNetworkBy, is_comment_sign}
+use Rattle.cidr_lists.specs.declared.lines.HostBits.{HostBits}
+use Rattle.cidr_lists.specs.declared.lines.HostBits.TheVariants.{Refused, Cleared}
+use Rattle.cidr_lists.proofs.LineFeeds.{uncut}
+
+-- a byte that is no digit, dot, colon, slash or plus
+module _ (c : ℕ) (far : 16 ≤ digit_value c) (no_dot : dot ≢ c) (no_colon : colon ≢ c) (no_slash : slash ≢ c) (no_plus : plus ≢ c) where
+  lacks_octets : (text ns : List ℕ) → IsJoined IsOctetText text ns → Lacks c text
+  lacks_octets = Lacks-joined IsOctetText c (λ text n. Lacks-octet c text n (omega (arith, far))) no_dot
+
+  lacks_between : (text front back : List ℕ) → text ≡ front ++ colon ∷ back → Lacks c front → Lacks c back → Lacks c text
+  lacks_between text front back e h k = rw e (Lacks-append c front (colon ∷ back) h (Lacks-cons c colon back no_colon k))
+
+  lacks_nothing : (text groups : List ℕ) → IsNothing text groups → Lacks c text
+  lacks_nothing text groups h = rw h.0 (λ i l. absurd (omega arith))
+
+  lacks_groups : (text groups : List ℕ) → IsGroups text groups → Lacks c text
+  lacks_groups text [] h = absurd h
+  lacks_groups text (g ∷ []) h = Lacks-digits 16 c text far h.0.1
+  lacks_groups text (g ∷ k ∷ groups) (front, back, split, h, more) =
+      lacks_between text front back split (Lacks-digits 16 c front far h.0.1) (lacks_groups back (k ∷ groups) more)
+
+  lacks_pair : (text : List ℕ) (g h : ℕ) → IsDottedPair text g h → Lacks c text
+  lacks_pair text g h (i, j, k, l, joined, _, _) = lacks_octets text (i ∷ j ∷ k ∷ l ∷ []) joined
+
+  lacks_run : (text groups : List ℕ) → IsRun text groups → Lacks c text
+  lacks_run text groups (inl h) = lacks_groups text groups h
+  lacks_run text groups (inr (before, g, h, e, inl (_, pair))) = lacks_pair text g h pair
+  lacks_run text groups (inr (before, g, h, e, inr (front, back, split, more, pair))) =
+      lacks_between text front back split (lacks_groups front before more) (lacks_pair back g h pair)
+
+  lacks_front : (text groups : List ℕ) → IsNothing text groups ⊎ IsGroups text groups → Lacks c text
+  lacks_front text groups (inl h) = lacks_nothing text groups h
+  lacks_front text groups (inr h) = lacks_groups text groups h
+
+  lacks_back : (text groups : List ℕ) → IsNothing text groups ⊎ IsRun text groups → Lacks c text
+  lacks_back text groups (inl h) = lacks_nothing text groups h
+  lacks_back text groups (inr h) = lacks_run text groups h
+
+  lacks_eight : (text groups : List ℕ) → IsEightGroups text groups → Lacks c text
+  lacks_eight text groups (inl h) = lacks_run text groups h.0
+  lacks_eight text groups (inr h) =
+      lacks_between text h.front (colon ∷ h.back) h.spelled (lacks_front h.front h.head h.front_text)
+      (Lacks-cons c colon h.back no_colon (lacks_back h.back h.tail h.back_text))
+
+  lacks_address : (family : Family) (text : List ℕ) (a : List Bool) → IsAddressText family text a → Lacks c text
+  lacks_address Ipv4 text a h = lacks_octets text h.octets h.joined
+  lacks_address Ipv6 text a h = lacks_eight text h.groups h.eight
+
+  lacks_slashed : (family : Family) (text front back : List ℕ) (a : List Bool) (len : ℕ) → text ≡ front ++ slash ∷ back → IsAddressText family front a
+      → IsLengthText back len → Lacks c text
+  lacks_slashed family text front back a len e h k =
+      rw e (Lacks-append c front (slash ∷ back) (lacks_address family front a h)
+      (Lacks-cons c slash back no_slash (Lacks-length c back len (omega (arith, far)) no_plus k)))
+
+  lacks_by_family : (family : Family) (text : List ℕ) (p : List Bool) → IsNetworkText family text p → Lacks c text
+  lacks_by_family family text p (inl h) = lacks_address family text p h
+  lacks_by_family family text p (inr s) = lacks_slashed family text s.front s.back s.address s.len s.spelled s.front_text s.back_text
+
+  lacks_host_of : (family : Family) (text : List ℕ) (h : Host) → IsHostText family text h → Lacks c text
+  lacks_host_of family text h (inl k) = lacks_address family text h.address k.0
+  lacks_host_of family text h (inr s) = lacks_slashed family text s.front s.back h.address h.len s.spelled s.front_text s.back_text
+
+  lacks_host : (text : List ℕ) (h : IpInet) → IsIpHostText text h → Lacks c text
+  lacks_host text (host.V4 h) is = lacks_host_of Ipv4 text h is
+  lacks_host text (host.V6 h) is = lacks_host_of Ipv6 text h is
+
+  lacks_network : (bits : HostBits) (text : List ℕ) (network : IpCidr) → IsNetworkBy bits text network → Lacks c text
+  lacks_network Refused text (V4 p) h = lacks_by_family Ipv4 text p h
+  lacks_network Refused text (V6 p) h = lacks_by_family Ipv6 text p h
+  lacks_network Cleared text network (h, is, same) = lacks_host text h is
+
+-- bytes that begin no comment, and are no white space
+no_sign : (b : ℕ) → b ≢ 35 → b ≢ 59 → is_comment_sign b ≡ false
+no_sign b h k = grind (arith, common_steps)
+
+no_space : (b : ℕ) → b ≢ 9 → b ≢ 10 → b ≢ 12 → b ≢ 13 → b ≢ 32 → is_ascii_whitespace b ≡ false
+no_space b h k l m n = grind (arith, common_steps)
+
+-- a network is its line's field
+module _ (bits : HostBits) (line : List ℕ) (network : IpCidr) (is : IsNetworkBy bits line network) where
+  lacks : (c : ℕ) → 16 ≤ digit_value c → dot ≢ c → colon ≢ c → slash ≢ c → plus ≢ c → Lacks c line
+  lacks c far no_dot no_colon no_slash no_plus = lacks_network c far no_dot no_colon no_slash no_plus bits line network is
+
+  unspaced : (i : ℕ) → i < length line → is_ascii_whitespace (slice_index_or line i 0) ≡ false
+  unspaced i within =
+      no_space (slice_index_or line i 0)
+      (lacks 9 (omega arith) (omega arith) (omega arith) (omega arith) (omega arith) i within)
+      (lacks 10 (omega arith) (omega arith) (omega arith) (omega arith) (omega arith) i within)
+      (lacks 12 (omega arith) (omega arith) (omega arith) (omega arith) (omega arith) i within)
+      (lacks 13 (omega arith) (omega arith) (omega arith) (omega arith) (omega arith) i within)
+      (lacks 32 (omega arith) (omega arith) (omega arith) (omega arith) (omega arith) i within)
+
+  uncommented : (i : ℕ) → i < length line → is_comment_sign (slice_index_or line i 0) ≡ false
+  uncommented i within =
+      no_sign (slice_index_or line i 0)
+      (lacks 35 (omega arith) (omega arith) (omega arith) (omega arith) (omega arith) i within)
+      (lacks 59 (omega arith) (omega arith) (omega arith) (omega arith) (omega arith) i within)
+
+  pub is_field : IsField line line
+  is_field =
+      subst (λ (k : List ℕ). IsTrimAscii k line) (uncut is_comment_sign line (length line) uncommented (omega arith)) (
+        0,
+        sym (take_all (length line) line (omega arith)),
+        λ i below. absurd (omega (arith, below)),
+        λ some. unspaced 0 some,
+        λ i from within. absurd (omega (arith, from, within)),
+        λ some. unspaced (length line - 1) (omega (arith, some)),
+      )

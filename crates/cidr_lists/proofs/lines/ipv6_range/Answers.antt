@@ -1,0 +1,11 @@
+use Rattle.std.proofs.Common.{refl, sym, ◌∙◌}
+use Rattle.cidr.specs.declared.addr.ip.IpAddr.TheVariants.{V6}
+use Rattle.cidr_lists.proofs.Contents.{above, not_above}
+use Rattle.cidr_lists.proofs.lines.ipv6_range.Goals as goal
+
+pub returns-then-is_gt : goal.returns-then-is_gt
+returns-then-is_gt c = λ bits field ends.
+    (V6 c.args.first, V6 c.args.last, ends, refl, sym c.cmp.ensures ∙ above c.cmp.result c.is_gt.result c.is_gt.ensures c.if-is_gt.true)
+
+pub returns : goal.returns
+returns c = λ bits field ends. (ends, rw (← c.cmp.ensures) (not_above c.cmp.result c.is_gt.result c.is_gt.ensures c.if-is_gt.false))

@@ -1,0 +1,160 @@
+-- What a list of networks says: a network, an address or a range of addresses a line, with white space
+-- around it, and a comment behind it from # or ; on. Line feeds separate lines, so that a last one makes an empty line,
+-- which says nothing.
+use Rattle.std.specs.Prelude.{◌≡◌, ◌≢◌, ◌⊎◌, ℕ, ◌+◌, ◌==◌, Bool, List, [], ◌∷◌, ◌++◌, length, map, IsUtf8, ◌||◌}
+use Rattle.std.specs.Char.{is_ascii_whitespace}
+use Rattle.std.specs.List.{AllZip, before_first, flat_map, slice_split}
+use Rattle.std.specs.Str.{IsTrimAscii, IsTrimAsciiStart}
+use Rattle.std.specs.declared.cmp.Ordering.TheVariants.{Greater}
+use Rattle.cidr.specs.either.IpAddress.{IsIpText, address_family, ip_address_bits}
+use Rattle.cidr.specs.either.IpHost.{host_network}
+use Rattle.cidr.specs.either.IpText.{IsIpHostRefused, IsIpHostText, IsIpNetworkText, IsIpRefused}
+use Rattle.cidr.specs.model.Bits.{bit_cmp}
+use Rattle.cidr.specs.texts.Messages.{ip_error}
+use Rattle.cidr.specs.texts.Refusal.{Lacks}
+use Rattle.cidr.specs.declared.addr.ip.IpAddr.{IpAddr}
+use Rattle.cidr.specs.declared.addr.ip.IpAddr.TheVariants as address
+use Rattle.cidr.specs.declared.cidr.combined.IpCidr.{IpCidr}
+use Rattle.cidr.specs.declared.cidr.combined.IpCidr.TheVariants.{V4, V6}
+use Rattle.cidr.specs.declared.errors.NetworkParseError.{NetworkParseError}
+use Rattle.cidr.specs.declared.family.Family.{Family}
+use Rattle.cidr.specs.declared.family.Family.TheVariants.{Ipv4, Ipv6}
+use Rattle.cidr.specs.declared.inet.combined.IpInet.{IpInet}
+use Rattle.cidr_sets.specs.Ranges.{IsBetween}
+use Rattle.cidr_sets.specs.Sets.{IsSetOf}
+use Rattle.cidr_lists.specs.declared.errors.LineError.{LineError}
+use Rattle.cidr_lists.specs.declared.errors.LineError.TheVariants.{NotUtf8, NoNetwork, NoAddress, TwoFamilies, Reversed}
+use Rattle.cidr_lists.specs.declared.lines.HostBits.{HostBits}
+use Rattle.cidr_lists.specs.declared.lines.HostBits.TheVariants.{Refused, Cleared}
+use Rattle.cidr_lists.specs.declared.lines.Content.{Content}
+use Rattle.cidr_lists.specs.declared.lines.Content.TheVariants.{Blank, Network, Ipv4Range, Ipv6Range}
+
+-- # or ;
+abbrev pub is_comment_sign : ℕ → Bool
+is_comment_sign byte = (byte == 35) || (byte == 59)
+
+-- `b'-'`
+abbrev pub hyphen : ℕ
+hyphen = 45
+
+-- a line feed
+abbrev pub is_line_feed : ℕ → Bool
+is_line_feed byte = byte == 10
+
+-- the lines of a text: the bytes between line feeds
+abbrev pub lines_of : List ℕ → List (List ℕ)
+lines_of text = slice_split is_line_feed text
+
+-- a list: its bytes, and what is done with a set bit after the prefix of a network
+pub record Text : Type 0 where
+  pub bytes : List ℕ
+  pub host_bits : HostBits
+
+abbrev pub text_by : HostBits → List ℕ → Text
+text_by bits bytes = record { bytes = bytes; host_bits = bits }
+
+-- the line without a comment and without ASCII white space at both ends, the carriage return of CRLF among it
+abbrev pub IsField : List ℕ → List ℕ → Type 0
+IsField line field = IsTrimAscii (before_first is_comment_sign line) field
+
+-- the field is empty, or begins a comment
+abbrev pub SaysNothing : List ℕ → Type 0
+SaysNothing field = before_first is_comment_sign field ≡ []
+
+-- what stands before the first ASCII white space, behind white space at the front: `match` takes it of a line as it
+-- stands, and `look` of a row of a table, so that a comment sign may be in it, and `look` of an address without its comment
+abbrev pub IsFirstField : List ℕ → List ℕ → Type 0
+IsFirstField bytes field = (rest : List ℕ) × IsTrimAsciiStart bytes rest × (field ≡ before_first is_ascii_whitespace rest)
+
+-- ---- what a line says
+-- the string is these two addresses with a hyphen between them
+abbrev pub AreEnds : List ℕ → IpAddr → IpAddr → Type 0
+AreEnds text first last =
+    (front : List ℕ) × (back : List ℕ) × (text ≡ front ++ hyphen ∷ back) × IsIpText front first × IsIpText back last
+
+-- the string is a network, or a host whose network it is
+abbrev pub IsNetworkBy : HostBits → List ℕ → IpCidr → Type 0
+IsNetworkBy Refused text network = IsIpNetworkText text network
+IsNetworkBy Cleared text network = (host : IpInet) × IsIpHostText text host × (network ≡ host_network host)
+
+-- the field is empty, a network or an address, or a range of one family, whose first address is not above its last
+abbrev pub IsContent : HostBits → List ℕ → Content → Type 0
+IsContent bits field Blank = field ≡ []
+IsContent bits field (Network network) = IsNetworkBy bits field network
+IsContent bits field (Ipv4Range first last) =
+    AreEnds field (address.V4 first) (address.V4 last) × (bit_cmp first last ≢ Greater)
+IsContent bits field (Ipv6Range first last) =
+    AreEnds field (address.V6 first) (address.V6 last) × (bit_cmp first last ≢ Greater)
+
+-- its networks: for a range the shortest list that has exactly the addresses from the first to the last
+abbrev pub AreNetworks : Content → List IpCidr → Type 0
+AreNetworks Blank said = said ≡ []
+AreNetworks (Network network) said = said ≡ network ∷ []
+AreNetworks (Ipv4Range first last) said =
+    (networks : List (List Bool)) × IsSetOf 129 (IsBetween first last) networks × (said ≡ map (λ p. V4 p) networks)
+AreNetworks (Ipv6Range first last) said =
+    (networks : List (List Bool)) × IsSetOf 129 (IsBetween first last) networks × (said ≡ map (λ p. V6 p) networks)
+
+-- the line says these networks
+abbrev pub LineSays : HostBits → List ℕ → List IpCidr → Type 0
+LineSays bits line said =
+    (field : List ℕ) × (content : Content) × IsField line field × IsContent bits field content × AreNetworks content said
+
+-- ---- a line in error
+-- the string is no address of either family
+abbrev pub IsNoAddress : List ℕ → Type 0
+IsNoAddress text = (a : IpAddr) → ¬ (IsIpText text a)
+
+-- the string is no network, or no host, and this is the first error
+abbrev pub IsNoNetworkBy : HostBits → List ℕ → NetworkParseError → Type 0
+IsNoNetworkBy Refused text e = IsIpRefused text e × ((n : IpCidr) → ¬ (IsIpNetworkText text n))
+IsNoNetworkBy Cleared text e = IsIpHostRefused text e × ((h : IpInet) → ¬ (IsIpHostText text h))
+
+-- the first error of a field: it is not UTF-8; else, without a hyphen, it is no network, and this is the first error;
+-- else what stands before its first hyphen is no address, or what stands behind it; else the two are of two families;
+-- else the first is above the last
+abbrev pub IsFieldError : HostBits → List ℕ → LineError → Type 0
+IsFieldError bits field NotUtf8 = ¬ (IsUtf8 field)
+IsFieldError bits field (NoNetwork e) = (field ≢ []) × Lacks hyphen field × IsNoNetworkBy bits field e
+IsFieldError bits field (NoAddress e) = (front : List ℕ) × (back : List ℕ) × (field ≡ front ++ hyphen ∷ back) × Lacks hyphen front
+    × (e ≡ ip_error) × (IsNoAddress front ⊎ IsNoAddress back)
+IsFieldError bits field TwoFamilies =
+    (first : IpAddr) × (last : IpAddr) × AreEnds field first last × (address_family first ≢ address_family last)
+IsFieldError bits field Reversed = (first : IpAddr) × (last : IpAddr) × AreEnds field first last
+    × (address_family first ≡ address_family last) × (bit_cmp (ip_address_bits first) (ip_address_bits last) ≡ Greater)
+
+-- the line is in error
+abbrev pub IsInError : HostBits → List ℕ → LineError → Type 0
+IsInError bits line e = (field : List ℕ) × IsField line field × IsFieldError bits field e
+
+-- ---- a list
+-- what each line of a list says
+abbrev pub ListSays : Text → List (List IpCidr) → Type 0
+ListSays text said = AllZip (LineSays text.host_bits) (lines_of text.bytes) said
+
+-- of all these lines this is the first in error, by its number from 1 on: those before it say something
+pub record IsFirstBad {S : Type 0} (Say : List (List ℕ) → S → Type 0) (IsBad : List ℕ → LineError → Type 0) (all : List (List ℕ)) (number : ℕ) (e : LineError) : Type 0 where
+  pub before : List (List ℕ)
+  pub line : List ℕ
+  pub after : List (List ℕ)
+  pub lines : all ≡ before ++ line ∷ after
+  pub place : number ≡ length before + 1
+  pub said : S
+  pub fine : Say before said
+  pub fault : IsBad line e
+
+-- the first line of a list in error
+abbrev pub IsFirstError : Text → ℕ → LineError → Type 0
+IsFirstError text number e = IsFirstBad (AllZip (LineSays text.host_bits)) (IsInError text.host_bits) (lines_of text.bytes) number e
+
+-- the networks of a family among those that a line says
+abbrev pub network_in : Family → List IpCidr → List (List Bool)
+network_in family [] = []
+network_in Ipv4 (V4 p ∷ said) = p ∷ network_in Ipv4 said
+network_in Ipv4 (V6 p ∷ said) = network_in Ipv4 said
+network_in Ipv6 (V4 p ∷ said) = network_in Ipv6 said
+network_in Ipv6 (V6 p ∷ said) = p ∷ network_in Ipv6 said
+
+-- the networks of a family that the lines say
+abbrev pub networks_in : Family → List (List IpCidr) → List (List Bool)
+networks_in family said = flat_map (network_in family) said

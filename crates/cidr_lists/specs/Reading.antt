@@ -1,0 +1,31 @@
+-- What is read of a line, and the networks of lists.
+use Rattle.std.specs.Prelude.{◌≡◌, ℕ, Bool, List, ◌++◌, Result, MatchResult}
+use Rattle.cidr.specs.declared.cidr.combined.IpCidr.{IpCidr}
+use Rattle.cidr.specs.declared.family.Family.{Family}
+use Rattle.cidr.specs.declared.family.Family.TheVariants.{Ipv4, Ipv6}
+use Rattle.cidr_lists.specs.Lists.{IsField, IsContent, IsFieldError, AreNetworks, network_in}
+use Rattle.cidr_lists.specs.declared.errors.LineError.{LineError}
+use Rattle.cidr_lists.specs.declared.lines.Content.{Content}
+use Rattle.cidr_lists.specs.declared.lines.HostBits.{HostBits}
+use Rattle.cidr_lists.specs.declared.lists.Lists.{Lists}
+
+-- what a field says, or its error
+abbrev pub ReadsField : HostBits → List ℕ → Result Content LineError → Type 0
+ReadsField bits field r = MatchResult r (IsContent bits field) (IsFieldError bits field)
+
+-- what the field of a line says, or its error
+abbrev pub ReadsLine : HostBits → List ℕ → Result Content LineError → Type 0
+ReadsLine bits line r = (field : List ℕ) × IsField line field × ReadsField bits field r
+
+-- the networks of a family
+abbrev pub listed : Lists → Family → List (List Bool)
+listed lists Ipv4 = lists.v4.items
+listed lists Ipv6 = lists.v6.items
+
+-- further networks of each family
+abbrev pub Grows : Lists → Lists → (Family → List (List Bool)) → Type 0
+Grows old new more = (family : Family) → listed new family ≡ listed old family ++ more family
+
+-- the networks of what a line says come behind those before
+abbrev pub AddsContent : Content → Lists → Lists → Type 0
+AddsContent content old new = (said : List IpCidr) × AreNetworks content said × Grows old new (λ family. network_in family said)

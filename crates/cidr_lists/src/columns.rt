@@ -1,0 +1,90 @@
+//! The fields of a line.
+ghost use Rattle.std.specs.Prelude.{◌≤◌, [], length, MatchOption, MatchResult};
+ghost use Rattle.std.specs.Bool.{Decides};
+ghost use Rattle.cidr.specs.either.IpAddress.{IsIpText};
+ghost use Rattle.cidr_lists.specs.Lists.{IsField, IsFirstField, IsNetworkBy, SaysNothing};
+ghost use Rattle.cidr_lists.specs.Fields.{AreParts, IsNoAddressField, IsNoNetworkField, IsNoRow, IsRowSplit, IsSplit};
+
+use crate::errors::LineError;
+use crate::lines::{HostBits, network_of, without_comment};
+use cidr::{IpAddr, IpCidr};
+
+/// What stands before the first white space, behind white space at the front.
+pub fn first_field(bytes: &[u8]) -> &[u8]
+    ensures field { IsFirstField bytes.now result.now }
+    ensures within { length result.now ≤ length bytes.now }
+{
+    let rest = bytes.trim_ascii_start();
+    for (place, byte) in rest.iter().enumerate() {
+        if byte.is_ascii_whitespace() {
+            return &rest[..place];
+        }
+    }
+    rest
+}
+
+/// The first field of a string, and what stands behind it.
+fn parts_of(field: &[u8]) -> (&[u8], &[u8])
+    ensures { AreParts field.now result.0.now result.1.now }
+{
+    let first = first_field(field);
+    let (_, rest) = field.split_at(first.len());
+    (first, rest.trim_ascii())
+}
+
+/// The first field of a line without its comment, and what stands behind it; `None` for a blank line.
+pub fn split_line(line: &[u8]) -> Option<(&[u8], &[u8])>
+    ensures { MatchOption result (IsField line.now []) (λ parts. IsSplit line.now parts.0.now parts.1.now) }
+{
+    let field = without_comment(line).trim_ascii();
+    if field.is_empty() {
+        return None;
+    }
+    let parts = parts_of(field);
+    Some(parts)
+}
+
+/// Whether a field is empty or begins a comment.
+pub fn says_nothing(field: &[u8]) -> bool
+    ensures { Decides result (SaysNothing field.now) }
+{
+    without_comment(field).is_empty()
+}
+
+/// The first field of a row of a table, and its value; `None` for a line that is blank or a comment.
+pub fn split_row(line: &[u8]) -> Option<(&[u8], &[u8])>
+    ensures { MatchOption result (IsNoRow line.now) (λ parts. IsRowSplit line.now parts.0.now parts.1.now) }
+{
+    let field = line.trim_ascii();
+    if says_nothing(field) {
+        return None;
+    }
+    let parts = parts_of(field);
+    Some(parts)
+}
+
+/// The network that a field is.
+pub fn network_in(host_bits: HostBits, field: &[u8]) -> Result<IpCidr, LineError>
+    ensures { MatchResult result (IsNetworkBy host_bits field.now) (IsNoNetworkField host_bits field.now) }
+{
+    let Ok(text) = str::from_utf8(field) else {
+        return Err(LineError::NotUtf8);
+    };
+    match network_of(host_bits, text) {
+        Ok(network) => Ok(network),
+        Err(e) => Err(LineError::NoNetwork(e)),
+    }
+}
+
+/// The address that a field is.
+pub fn address_in(field: &[u8]) -> Result<IpAddr, LineError>
+    ensures { MatchResult result (IsIpText field.now) (IsNoAddressField field.now) }
+{
+    let Ok(text) = str::from_utf8(field) else {
+        return Err(LineError::NotUtf8);
+    };
+    match text.parse::<IpAddr>() {
+        Ok(address) => Ok(address),
+        Err(e) => Err(LineError::NoAddress(e)),
+    }
+}

@@ -1,0 +1,21 @@
+//! What the first field of a line says.
+ghost use Rattle.cidr_lists.specs.Fields.{ReadsField};
+
+use crate::columns::{first_field, network_in, says_nothing};
+use crate::errors::LineError;
+use crate::lines::HostBits;
+use cidr::IpCidr;
+
+/// The network that the first field of a line says; `None` for a line that is blank or a comment.
+pub fn first_network(line: &[u8]) -> Result<Option<IpCidr>, LineError>
+    ensures { ReadsField line.now result }
+{
+    let field = first_field(line);
+    if says_nothing(field) {
+        return Ok(None);
+    }
+    match network_in(HostBits::Refused, field) {
+        Ok(network) => Ok(Some(network)),
+        Err(e) => Err(e),
+    }
+}

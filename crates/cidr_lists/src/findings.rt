@@ -1,0 +1,166 @@
+//! What is found in the lines of lists.
+ghost use Rattle.std.specs.Prelude.{map};
+ghost use Rattle.cidr_lists.specs.Findings.{IsOnlyNote, entry_network, kind_rank};
+ghost use Rattle.cidr_lists.specs.Nearness.{IsNear};
+
+use crate::entries::{Entry, Place, entry_at};
+use crate::near::Near;
+use cidr::{IpCidr, IpInet};
+
+/// What is found in a line.
+#[derive(Clone, Copy, Debug)]
+pub enum Finding<'a> {
+    /// It has a host with a set bit after the prefix.
+    HostBits,
+    /// It has not the printed string of this host.
+    NotCanonical(IpInet),
+    /// An earlier line has the same network: the first one.
+    Repeats(Place<'a>),
+    /// Its network is inside a longer one of another line: the longest, and the first line that has it.
+    Inside(IpCidr, Place<'a>),
+    /// An earlier line has the other half of a network: the first one.
+    Mergeable(Place<'a>),
+}
+
+/// A finding with the line that it is of.
+#[derive(Clone, Copy, Debug)]
+pub struct Note<'a> {
+    /// The index of the line among those that have a network or a host.
+    pub index: usize,
+    pub place: Place<'a>,
+    pub finding: Finding<'a>,
+}
+
+/// The finding that a bit after the prefix is set.
+fn host_bits<'a>(entries: &[Entry<'a>], index: usize, entry: &Entry<'a>) -> Option<Note<'a>>
+    ensures { IsOnlyNote entries.now index entry.now 0 result }
+{
+    // a step down from the first address wraps
+    let (_, wraps) = entry.host.overflowing_sub(1);
+    if wraps {
+        return None;
+    }
+    Some(Note {
+        index,
+        place: entry.place,
+        finding: Finding::HostBits,
+    })
+}
+
+/// The finding that the field is not what is printed of its host.
+fn not_canonical<'a>(entries: &[Entry<'a>], index: usize, entry: &Entry<'a>) -> Option<Note<'a>>
+    ensures { IsOnlyNote entries.now index entry.now 1 result }
+{
+    if entry.is_canonical {
+        return None;
+    }
+    Some(Note {
+        index,
+        place: entry.place,
+        finding: Finding::NotCanonical(entry.host),
+    })
+}
+
+/// The finding that an earlier line has the same network.
+fn repeats<'a>(
+    entries: &[Entry<'a>],
+    near: Near,
+    index: usize,
+    entry: &Entry<'a>,
+) -> Option<Note<'a>>
+    requires { IsNear (map entry_network entries.now) (entry_network entry.now) near }
+    ensures { IsOnlyNote entries.now index entry.now 2 result }
+{
+    let first = near.first;
+    if first >= index {
+        return None;
+    }
+    Some(Note {
+        index,
+        place: entry.place,
+        finding: Finding::Repeats(entry_at(entries, first).place),
+    })
+}
+
+/// The finding that the network is inside a longer one.
+fn inside<'a>(
+    entries: &[Entry<'a>],
+    near: Near,
+    index: usize,
+    entry: &Entry<'a>,
+) -> Option<Note<'a>>
+    requires { IsNear (map entry_network entries.now) (entry_network entry.now) near }
+    ensures { IsOnlyNote entries.now index entry.now 3 result }
+{
+    match near.outer {
+        Some(first) => {
+            let outer = entry_at(entries, first);
+            Some(Note {
+                index,
+                place: entry.place,
+                finding: Finding::Inside(outer.host.network(), outer.place),
+            })
+        }
+        None => None,
+    }
+}
+
+/// The finding that an earlier line has the other half.
+fn mergeable<'a>(
+    entries: &[Entry<'a>],
+    near: Near,
+    index: usize,
+    entry: &Entry<'a>,
+) -> Option<Note<'a>>
+    requires { IsNear (map entry_network entries.now) (entry_network entry.now) near }
+    ensures { IsOnlyNote entries.now index entry.now 4 result }
+{
+    match near.half {
+        Some(first) => {
+            if first >= index {
+                return None;
+            }
+            Some(Note {
+                index,
+                place: entry.place,
+                finding: Finding::Mergeable(entry_at(entries, first).place),
+            })
+        }
+        None => None,
+    }
+}
+
+/// What is looked for in a line.
+#[derive(Clone, Copy, Debug)]
+pub enum Kind {
+    /// Set bits after the prefix.
+    HostBits,
+    /// Another string than the printed one.
+    Form,
+    /// An earlier line of the same network.
+    Same,
+    /// A longer network around it.
+    Outer,
+    /// An earlier line of the other half.
+    Half,
+}
+
+/// The finding of a kind in a line, near whose network this stands.
+pub fn find<'a>(
+    kind: Kind,
+    entries: &[Entry<'a>],
+    near: Near,
+    index: usize,
+    entry: &Entry<'a>,
+) -> Option<Note<'a>>
+    requires { IsNear (map entry_network entries.now) (entry_network entry.now) near }
+    ensures { IsOnlyNote entries.now index entry.now (kind_rank kind) result }
+{
+    match kind {
+        Kind::HostBits => host_bits(entries, index, entry),
+        Kind::Form => not_canonical(entries, index, entry),
+        Kind::Same => repeats(entries, near, index, entry),
+        Kind::Outer => inside(entries, near, index, entry),
+        Kind::Half => mergeable(entries, near, index, entry),
+    }
+}

@@ -1,0 +1,33 @@
+//! Lists of networks and tables as bytes: what their lines say, sets of what they say, and what is printed of those.
+//!
+//! No call reads or writes a stream. A caller cuts its input into lines, as by `cidr_io`, and gives each line, without
+//! its line feed, to the call for what the lines are:
+//!
+//! - `lines::content_of`: a line of a list says nothing, a network, an address or a range. `lists::Lists` collects the
+//!   networks, and `sets::Sets` has their addresses, combines them and tells what lies in them.
+//! - `entries::entry_of`: a line has a network or a host, with its place. `near` and `findings` tell what is found in
+//!   them.
+//! - `columns::split_row`: a row of a table is a network and its value. `rows::Rows` collects them, and `table::Table`
+//!   is ready for look-ups.
+//! - `columns::split_line` and `fields::first_network`: the fields of a line that is looked up or picked, and
+//!   `Sets::have_one` an address anywhere in a line, as in a log.
+//!
+//! A line in error is an `errors::LineError`, whose `message` is the text that follows `FILE:LINE: `. `changes` puts
+//! what a second list adds and lacks in order, and `printing` has the texts of networks, addresses and counts. Only
+//! what collects allocates, and its one error is that there is no memory.
+#![tactic(auto)]
+
+pub mod changes;
+pub mod columns;
+pub mod entries;
+pub mod errors;
+pub mod fields;
+pub mod findings;
+pub mod lines;
+pub mod lists;
+pub mod near;
+pub mod printing;
+pub mod rows;
+pub mod sets;
+pub mod table;
+pub mod words;

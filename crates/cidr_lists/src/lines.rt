@@ -1,0 +1,171 @@
+//! What a line of a list says: nothing, a network, an address or a range.
+ghost use Rattle.std.specs.Prelude.{◌≡◌, [], ℕ, List, IfSome, MatchResult};
+ghost use Rattle.std.specs.List.{before_first};
+ghost use Rattle.cidr.specs.either.IpAddress.{IsIpText};
+ghost use Rattle.cidr.specs.texts.Messages.{ip_error};
+ghost use Rattle.cidr.specs.declared.addr.ip.IpAddr.TheVariants.{V4, V6};
+ghost use Rattle.cidr_lists.specs.Lists.{AreEnds, IsNetworkBy, IsNoAddress, IsNoNetworkBy, is_comment_sign};
+ghost use Rattle.cidr_lists.specs.Reading.{ReadsField, ReadsLine};
+ghost use Rattle.cidr_lists.specs.declared.lines.HostBits.{HostBits as Bits};
+ghost use Rattle.cidr_lists.specs.declared.errors.LineError.TheVariants.{NoAddress};
+
+use crate::errors::LineError;
+use cidr::errors::NetworkParseError;
+use cidr::{IpAddr, IpCidr, IpInet, Ipv4Addr, Ipv6Addr};
+
+/// What is done with a set bit after the prefix of a network.
+#[derive(Clone, Copy, Debug, Drop, PartialEq)]
+pub enum HostBits {
+    /// It is an error.
+    Refused,
+    /// It is taken as unset.
+    Cleared,
+}
+
+/// What the lines of a list are.
+#[derive(Clone, Copy, Debug, Drop, PartialEq)]
+pub enum Kind {
+    /// Networks, addresses and ranges.
+    Networks,
+    /// Networks and hosts.
+    Hosts,
+    /// Networks, each with a value.
+    Rows,
+}
+
+/// What a line says.
+#[derive(Clone, Copy)]
+pub enum Content {
+    /// Nothing.
+    Blank,
+    /// A network, or an address.
+    Network(IpCidr),
+    /// The IPv4 addresses from a first to a last one.
+    Ipv4Range(Ipv4Addr, Ipv4Addr),
+    /// The IPv6 addresses from a first to a last one.
+    Ipv6Range(Ipv6Addr, Ipv6Addr),
+}
+
+/// Whether a byte begins a comment.
+fn is_comment_sign(byte: u8) -> bool
+    ensures { result ≡ is_comment_sign byte }
+{
+    byte == b'#' || byte == b';'
+}
+
+/// The line without its comment.
+pub fn without_comment(line: &[u8]) -> &[u8]
+    ensures { result.now ≡ before_first is_comment_sign line.now }
+{
+    for (place, byte) in line.iter().enumerate() {
+        if is_comment_sign(*byte) {
+            return &line[..place];
+        }
+    }
+    line
+}
+
+/// The address that an end of a range is.
+fn end_of(text: &str) -> Result<IpAddr, LineError>
+    ensures { MatchResult result (IsIpText text.now) (λ e. (e ≡ NoAddress ip_error) × IsNoAddress text.now) }
+{
+    match text.parse() {
+        Ok(address) => Ok(address),
+        Err(e) => Err(LineError::NoAddress(e)),
+    }
+}
+
+/// The range from an IPv4 address to another one.
+fn ipv4_range(first: Ipv4Addr, last: Ipv4Addr) -> Result<Content, LineError>
+    ensures { (bits : Bits) (field : List ℕ) → AreEnds field (V4 first) (V4 last) → ReadsField bits field result }
+{
+    if first.cmp(&last).is_gt() {
+        return Err(LineError::Reversed);
+    }
+    Ok(Content::Ipv4Range(first, last))
+}
+
+/// The range from an IPv6 address to another one.
+fn ipv6_range(first: Ipv6Addr, last: Ipv6Addr) -> Result<Content, LineError>
+    ensures { (bits : Bits) (field : List ℕ) → AreEnds field (V6 first) (V6 last) → ReadsField bits field result }
+{
+    if first.cmp(&last).is_gt() {
+        return Err(LineError::Reversed);
+    }
+    Ok(Content::Ipv6Range(first, last))
+}
+
+/// The range from an address to another one.
+fn range_of(first: IpAddr, last: IpAddr) -> Result<Content, LineError>
+    ensures { (bits : Bits) (field : List ℕ) → AreEnds field first last → ReadsField bits field result }
+{
+    match first {
+        IpAddr::V4(first) => match last {
+            IpAddr::V4(last) => ipv4_range(first, last),
+            IpAddr::V6(_) => Err(LineError::TwoFamilies),
+        },
+        IpAddr::V6(first) => match last {
+            IpAddr::V6(last) => ipv6_range(first, last),
+            IpAddr::V4(_) => Err(LineError::TwoFamilies),
+        },
+    }
+}
+
+/// The network that a string is.
+pub fn network_of(host_bits: HostBits, field: &str) -> Result<IpCidr, NetworkParseError>
+    ensures { MatchResult result (IsNetworkBy host_bits field.now) (IsNoNetworkBy host_bits field.now) }
+{
+    match host_bits {
+        HostBits::Refused => field.parse(),
+        HostBits::Cleared => match field.parse::<IpInet>() {
+            Ok(host) => Ok(host.network()),
+            Err(e) => Err(e),
+        },
+    }
+}
+
+/// What a field says.
+fn content_of_field(host_bits: HostBits, field: &str) -> Result<Content, LineError>
+    ensures { ReadsField host_bits field.now result }
+{
+    if field.is_empty() {
+        return Ok(Content::Blank);
+    }
+    let Some((front, back)) = field.split_once('-') else {
+        return match network_of(host_bits, field) {
+            Ok(network) => Ok(Content::Network(network)),
+            Err(e) => Err(LineError::NoNetwork(e)),
+        };
+    };
+    let first = end_of(front)?;
+    let last = end_of(back)?;
+    range_of(first, last)
+}
+
+/// The network that a whole line is, without white space and comments.
+fn whole_network(host_bits: HostBits, line: &[u8]) -> Option<IpCidr>
+    ensures { IfSome result (IsNetworkBy host_bits line.now) }
+{
+    let Ok(text) = str::from_utf8(line) else {
+        return None;
+    };
+    match network_of(host_bits, text) {
+        Ok(network) => Some(network),
+        Err(_) => None,
+    }
+}
+
+/// What a line says.
+pub fn content_of(host_bits: HostBits, line: &[u8]) -> Result<Content, LineError>
+    ensures { ReadsLine host_bits line.now result }
+{
+    // most lines are a network and nothing else, and this is the shortest way to it
+    if let Some(network) = whole_network(host_bits, line) {
+        return Ok(Content::Network(network));
+    }
+    let field = without_comment(line).trim_ascii();
+    match str::from_utf8(field) {
+        Ok(text) => content_of_field(host_bits, text),
+        Err(_) => Err(LineError::NotUtf8),
+    }
+}

@@ -1,0 +1,79 @@
+//! The networks that lists say.
+ghost use Rattle.std.specs.Prelude.{◌≡◌, List, [], ◌∷◌, ◌++◌, map, OnOk};
+ghost use Rattle.cidr_sets.specs.Ranges.{IsBetween};
+ghost use Rattle.cidr_sets.specs.Sets.{IsSetOf};
+ghost use Rattle.cidr_lists.specs.Lists.{network_in};
+ghost use Rattle.cidr_lists.specs.Reading.{AddsContent, Grows, listed};
+
+use crate::lines::Content;
+use cidr::{IpCidr, Ipv4Cidr, Ipv6Cidr};
+use cidr_sets::{Addressed, NetworkSet};
+use std::alloc::{AllocError, Global};
+
+/// The networks of lists, of each family.
+#[derive(Drop)]
+pub struct Lists {
+    pub v4: Vec<Ipv4Cidr>,
+    pub v6: Vec<Ipv6Cidr>,
+}
+
+impl Lists {
+    /// Lists of no networks.
+    pub fn new(alloc: Global) -> Lists
+        ensures v4 { result.v4.items ≡ [] }
+        ensures v6 { result.v6.items ≡ [] }
+    {
+        Lists {
+            v4: Vec::new(alloc),
+            v6: Vec::new(alloc),
+        }
+    }
+
+    /// Adds a network to those of its family.
+    pub fn push(&mut self, network: &IpCidr) -> Result<(), AllocError>
+        ensures { OnOk result (Grows self.old self.new (λ family. network_in family (network.now ∷ []))) }
+    {
+        match network {
+            IpCidr::V4(network) => self.v4.push(*network)?,
+            IpCidr::V6(network) => self.v6.push(*network)?,
+        }
+        Ok(())
+    }
+
+    /// Adds the networks of what a line says to those of their family.
+    pub fn push_content(&mut self, alloc: Global, content: &Content) -> Result<(), AllocError>
+        ensures { OnOk result (AddsContent content.now self.old self.new) }
+    {
+        match content {
+            Content::Blank => Ok(()),
+            Content::Network(network) => self.push(network),
+            Content::Ipv4Range(first, last) => push_range(alloc, &mut self.v4, *first, *last),
+            Content::Ipv6Range(first, last) => push_range(alloc, &mut self.v6, *first, *last),
+        }
+    }
+
+    /// Adds the networks of other lists.
+    pub fn extend(&mut self, other: &Lists) -> Result<(), AllocError>
+        ensures { OnOk result (Grows self.old self.new (listed other.now)) }
+    {
+        self.v4.extend_from_slice(other.v4.as_slice())?;
+        self.v6.extend_from_slice(other.v6.as_slice())?;
+        Ok(())
+    }
+}
+
+/// Adds the shortest list of networks that has the addresses from a first to a last one.
+fn push_range<C: Addressed + Copy>(
+    alloc: Global,
+    networks: &mut Vec<C>,
+    first: C::Address,
+    last: C::Address,
+) -> Result<(), AllocError>
+    ensures { OnOk result ((range : List C)
+        × IsSetOf 129 (IsBetween (C.address_bits first) (C.address_bits last)) (map C.bits range)
+        × (networks.new.items ≡ networks.old.items ++ range)) }
+{
+    let range = NetworkSet::from_range(alloc, first, last)?;
+    networks.extend_from_slice(range.as_slice())?;
+    Ok(())
+}

@@ -1,0 +1,111 @@
+//! Networks and addresses as they are printed.
+ghost use Rattle.std.specs.Prelude.{◌≡◌, ◌≤◌, ◌^◌, ℕ, List, length, Bool, decimal};
+ghost use Rattle.cidr_lists.specs.Sets.{count_of};
+ghost use Rattle.cidr.specs.model.Bits.{bit_eq};
+
+use arrayvec::ArrayString;
+use cidr::{Ipv4Addr, Ipv4Cidr, Ipv6Addr, Ipv6Cidr, NetworkBits};
+use cidr_sets::Addressed;
+use itoa::Buffer;
+
+/// A network of one family, as it is printed.
+pub trait Printed: NetworkBits + Copy {
+    /// The string, without a full prefix length.
+    ghost text: { Self → List ℕ };
+
+    /// The printed string, without a full prefix length.
+    fn printed(&self) -> ArrayString<43>
+        ensures bytes { result.bytes ≡ text self.now }
+        ensures len { length result.bytes ≤ 43 };
+}
+
+impl Printed for Ipv4Cidr {
+    ghost use Rattle.cidr.specs.texts.Printed.{plain_text};
+    ghost use Rattle.cidr.specs.declared.family.Family.TheVariants.{Ipv4};
+
+    ghost text = { plain_text Ipv4 };
+
+    fn printed(&self) -> ArrayString<43> {
+        self.to_text()
+    }
+}
+
+impl Printed for Ipv6Cidr {
+    ghost use Rattle.cidr.specs.texts.Printed.{plain_text};
+    ghost use Rattle.cidr.specs.declared.family.Family.TheVariants.{Ipv6};
+
+    ghost text = { plain_text Ipv6 };
+
+    fn printed(&self) -> ArrayString<43> {
+        self.to_text()
+    }
+}
+
+/// The addresses of networks of one family, as they are printed.
+pub trait PrintedAddress: Addressed + Copy {
+    /// The string of an address, by its bits.
+    ghost shown: { List Bool → List ℕ };
+
+    /// The printed string.
+    fn shown(address: &Self::Address) -> ArrayString<39>
+        ensures { result.bytes ≡ shown (Self.address_bits address.now) };
+
+    /// Whether two addresses are the same.
+    fn are_same(first: &Self::Address, last: &Self::Address) -> bool
+        ensures { result ≡ bit_eq (Self.address_bits first.now) (Self.address_bits last.now) };
+}
+
+impl PrintedAddress for Ipv4Cidr {
+    ghost use Rattle.cidr.specs.texts.PrintedAddress.{address_text};
+    ghost use Rattle.cidr.specs.declared.family.Family.TheVariants.{Ipv4};
+
+    ghost shown = { address_text Ipv4 };
+
+    fn shown(address: &Ipv4Addr) -> ArrayString<39> {
+        address.to_text()
+    }
+
+    fn are_same(first: &Ipv4Addr, last: &Ipv4Addr) -> bool {
+        first == last
+    }
+}
+
+impl PrintedAddress for Ipv6Cidr {
+    ghost use Rattle.cidr.specs.texts.PrintedAddress.{address_text};
+    ghost use Rattle.cidr.specs.declared.family.Family.TheVariants.{Ipv6};
+
+    ghost shown = { address_text Ipv6 };
+
+    fn shown(address: &Ipv6Addr) -> ArrayString<39> {
+        address.to_text()
+    }
+
+    fn are_same(first: &Ipv6Addr, last: &Ipv6Addr) -> bool {
+        first == last
+    }
+}
+
+/// 2^128 in decimal: what is left of it by ten, and its last digit.
+#[tactic(auto, using(crate::proofs::SetSteps::last_digit))]
+fn all_of_ipv6() -> ArrayString<41>
+    ensures { result.bytes ≡ decimal (2 ^ 128) }
+{
+    let mut text = ArrayString::new();
+    text.push_str(Buffer::new().format(34028236692093846346337460743176821145u128));
+    text.push_str("6");
+    text
+}
+
+/// A count in decimal; `None` is 2^128.
+pub fn count_text(count: Option<u128>) -> ArrayString<41>
+    ensures { result.bytes ≡ decimal (count_of count) }
+{
+    match count {
+        Some(count) => {
+            let mut text = ArrayString::new();
+            text.push_str(Buffer::new().format(count));
+            text
+        }
+        None => all_of_ipv6(),
+    }
+}

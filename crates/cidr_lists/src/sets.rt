@@ -1,0 +1,162 @@
+//! The addresses of lists as sets, and sets put together.
+ghost use Rattle.std.specs.Prelude.{◌≡◌, ◌↔◌, [], IfOk, IsTrue, ◌∷◌, map};
+ghost use Rattle.cidr.specs.declared.family.Family.{Family};
+ghost use Rattle.cidr_table.specs.Cover.{Covers, IsReduced};
+ghost use Rattle.cidr_sets.specs.Sets.{IsSetOf};
+ghost use Rattle.cidr_lists.specs.Reading.{listed};
+ghost use Rattle.cidr_lists.specs.Sets.{networks_of, Combined, Steps, HasAddress, IsFreeOf};
+ghost use Rattle.std.specs.Bool.{Decides};
+ghost use Rattle.cidr_lists.specs.Within.{IsWithin, LiesIn};
+ghost use Rattle.cidr_lists.specs.Lists.{network_in};
+
+use crate::lists::Lists;
+use cidr::{BitString, IpCidr, Ipv4Cidr, Ipv6Cidr, NetworkBits};
+use cidr_sets::NetworkSet;
+use std::alloc::{AllocError, Global};
+
+/// How addresses are written.
+#[derive(Clone, Copy, Debug, Drop, PartialEq)]
+pub enum Form {
+    /// As the shortest list of networks.
+    Networks,
+    /// As the longest ranges.
+    Ranges,
+    /// As their number.
+    Counts,
+}
+
+/// What a further list does to the addresses of those before.
+#[derive(Clone, Copy, Debug, Drop, PartialEq)]
+pub enum Step {
+    Union,
+    Difference,
+    Intersection,
+}
+
+/// A set of addresses of each family.
+#[derive(Drop)]
+pub struct Sets {
+    pub v4: NetworkSet<Ipv4Cidr>,
+    pub v6: NetworkSet<Ipv6Cidr>,
+}
+
+/// Two sets of one family put together.
+fn stepped<C: NetworkBits + Copy>(
+    step: Step,
+    these: &NetworkSet<C>,
+    those: &NetworkSet<C>,
+) -> Result<NetworkSet<C>, AllocError>
+    ensures { IfOk result (λ set. IsSetOf 129
+        (λ a. Steps step (Covers (map C.bits these.now) a) (Covers (map C.bits those.now) a)) (map C.bits set)) }
+{
+    match step {
+        Step::Union => these.union(those),
+        Step::Difference => these.difference(those),
+        Step::Intersection => these.intersection(those),
+    }
+}
+
+impl Sets {
+    /// The addresses of the networks of lists.
+    pub fn of_lists(alloc: Global, lists: &Lists) -> Result<Sets, AllocError>
+        ensures { IfOk result (λ sets. (family : Family) → IsSetOf 129 (Covers (listed lists.now family)) (networks_of sets family)) }
+    {
+        Ok(Sets {
+            v4: NetworkSet::from_networks(alloc, lists.v4.as_slice())?,
+            v6: NetworkSet::from_networks(alloc, lists.v6.as_slice())?,
+        })
+    }
+
+    /// The addresses of a network.
+    pub fn of_network(alloc: Global, network: &IpCidr) -> Result<Sets, AllocError>
+        ensures { IfOk result (λ sets. (family : Family)
+            → IsSetOf 129 (Covers (network_in family (network.now ∷ []))) (networks_of sets family)) }
+    {
+        let mut lists = Lists::new(alloc);
+        lists.push(network)?;
+        let sets = Sets::of_lists(alloc, &lists)?;
+        Ok(sets)
+    }
+
+    /// Whether there is no address of either family.
+    pub fn is_empty(&self) -> bool
+        ensures { IsTrue result ↔ ((family : Family) → networks_of self.now family ≡ []) }
+    {
+        self.v4.is_empty() && self.v6.is_empty()
+    }
+
+    /// Whether there are all addresses of a network.
+    pub fn contains(&self, network: &IpCidr) -> bool
+        ensures { Decides result (IsWithin (HasAddress self.now) network.now) }
+    {
+        match network {
+            IpCidr::V4(network) => self.v4.contains(network),
+            IpCidr::V6(network) => self.v6.contains(network),
+        }
+    }
+
+    /// Whether there is a network, and all its addresses are there.
+    pub fn have(&self, network: &Option<IpCidr>) -> bool
+        ensures { Decides result (LiesIn (HasAddress self.now) network.now) }
+    {
+        match network {
+            Some(network) => self.contains(network),
+            None => false,
+        }
+    }
+
+    /// The first network of a prefix length that has only addresses of the sets, of IPv4 before IPv6.
+    pub fn first_free(&self, len: u8) -> Option<IpCidr>
+        ensures { IsFreeOf (networks_of self.now) len result }
+    {
+        if let Some(network) = self.v4.first_free(usize::from(len)) {
+            return Some(IpCidr::V4(network));
+        }
+        match self.v6.first_free(usize::from(len)) {
+            Some(network) => Some(IpCidr::V6(network)),
+            None => None,
+        }
+    }
+
+    /// Tells the proof that the networks of both sets are in normal form.
+    fn known(&self)
+        ensures { (family : Family) → IsReduced 129 (networks_of self.now family) }
+    {
+        self.v4.as_slice();
+        self.v6.as_slice();
+    }
+
+    /// The sets of each family put together.
+    pub fn stepped(&self, step: Step, other: &Sets) -> Result<Sets, AllocError>
+        ensures { IfOk result (λ sets. (family : Family)
+            → IsSetOf 129 (λ a. Steps step (HasAddress self.now family a) (HasAddress other.now family a)) (networks_of sets family)) }
+    {
+        Ok(Sets {
+            v4: stepped(step, &self.v4, &other.v4)?,
+            v6: stepped(step, &self.v6, &other.v6)?,
+        })
+    }
+
+    /// The addresses of each family that the sets have not.
+    pub fn complement(&self) -> Result<Sets, AllocError>
+        ensures { IfOk result (λ sets. (family : Family) → IsSetOf 129 (λ a. ¬ (HasAddress self.now family a)) (networks_of sets family)) }
+    {
+        Ok(Sets {
+            v4: self.v4.complement_in(&Ipv4Cidr::null())?,
+            v6: self.v6.complement_in(&Ipv6Cidr::null())?,
+        })
+    }
+}
+
+/// Sets put together, from the first one on.
+pub fn combined(step: Step, first: Sets, others: &[Sets]) -> Result<Sets, AllocError>
+    ensures { IfOk result (λ sets. (family : Family)
+        → IsSetOf 129 (λ a. Combined HasAddress step (HasAddress first family a) others.now family a) (networks_of sets family)) }
+{
+    first.known();
+    let mut all = first;
+    for other in others {
+        all = all.stepped(step, other)?;
+    }
+    Ok(all)
+}

@@ -1,0 +1,35 @@
+//! Tables that are ready for look-ups.
+ghost use Rattle.std.specs.Prelude.{map, IfOk};
+ghost use Rattle.cidr.specs.declared.family.Family.{Family};
+ghost use Rattle.cidr_table.specs.LastRows.{AreLastRows};
+ghost use Rattle.cidr_lists.specs.Tables.{kept, resolved, stored};
+
+use crate::rows::{Rows, Span};
+use cidr::{Ipv4Cidr, Ipv6Cidr};
+use cidr_table::{LpmTable, ReadyTable};
+use std::alloc::{AllocError, Global};
+
+/// The networks of each family, made ready for look-ups, each with the span of its value, and the bytes of all values.
+#[derive(Drop)]
+pub struct Table {
+    pub v4: ReadyTable<Ipv4Cidr, Span>,
+    pub v6: ReadyTable<Ipv6Cidr, Span>,
+    pub values: Vec<u8>,
+}
+
+impl Table {
+    /// The table of these rows, of which the last one of each network counts.
+    pub fn of_rows(alloc: Global, rows: Rows) -> Result<Table, AllocError>
+        ensures { IfOk result (λ table. (family : Family)
+            → AreLastRows (map (resolved rows.values.items) (stored rows family)) (kept table family)) }
+    {
+        let Rows { v4, v6, values } = rows;
+        let Ok(v4) = LpmTable::from_rows(v4).into_lookups(alloc) else {
+            return Err(AllocError);
+        };
+        let Ok(v6) = LpmTable::from_rows(v6).into_lookups(alloc) else {
+            return Err(AllocError);
+        };
+        Ok(Table { v4, v6, values })
+    }
+}

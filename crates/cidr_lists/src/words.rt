@@ -1,0 +1,150 @@
+//! Addresses anywhere in a line, as in a log.
+ghost use Rattle.std.specs.Prelude.{◌≡◌, ◌↔◌, ◌≤◌, true, length, ℕ, List, Bool, [], ◌∷◌, ◌++◌, IsTrue};
+ghost use Rattle.std.specs.Bool.{Decides};
+ghost use Rattle.std.specs.List.{position_or_len};
+ghost use Rattle.std.specs.Str.{IsAscii};
+ghost use Rattle.cidr.specs.texts.AddressText.{IsAddressText};
+ghost use Rattle.cidr.specs.texts.Ipv6Text.{colon};
+ghost use Rattle.cidr_lists.specs.Within.{HasOneIn, IsOneIn, LineHasOneIn, WordIsOneIn};
+ghost use Rattle.cidr_lists.specs.Sets.{HasAddress, networks_of};
+ghost use Rattle.cidr_lists.specs.Words.{IsBare, ends_word, joins, without_dots};
+
+use crate::sets::Sets;
+use cidr::{Family, Ipv4Addr, Ipv4Cidr, Ipv6Addr, Ipv6Cidr};
+
+/// The bytes of the shortest IPv4 address, 0.0.0.0.
+const LEAST_IPV4: usize = 7;
+
+/// Whether a byte is a colon that addresses of this family may have.
+fn joins(family: Family, byte: u8) -> bool
+    ensures { result ≡ joins family byte }
+{
+    match family {
+        Family::Ipv4 => false,
+        Family::Ipv6 => byte == b':',
+    }
+}
+
+/// Whether no word for this family has this byte.
+fn ends_word(family: Family, byte: u8) -> bool
+    ensures { result ≡ ends_word family byte }
+{
+    !(byte.is_ascii_alphanumeric() || byte == b'.' || joins(family, byte))
+}
+
+/// How many bytes the first word has.
+fn word_len(family: Family, line: &[u8]) -> usize
+    ensures first { result ≡ position_or_len (ends_word family) line.now }
+    ensures fits { result ≤ length line.now }
+{
+    for (place, byte) in line.iter().enumerate() {
+        if ends_word(family, *byte) {
+            return place;
+        }
+    }
+    line.len()
+}
+
+/// A word without the dots at its end.
+fn without_dots(word: &[u8]) -> &[u8]
+    ensures { result.now ≡ without_dots word.now }
+{
+    let mut rest = word;
+    while let Some((b'.', front)) = rest.split_last() {
+        rest = front;
+    }
+    rest
+}
+
+/// Whether a word is too short for an address of IPv4, or has no colon for one of IPv6.
+fn is_plain(family: Family, word: &[u8]) -> bool
+    ensures { result ≡ true → (text : List ℕ) (address : List Bool) → IsBare word.now text
+        → ¬ (IsAddressText family text address) }
+{
+    match family {
+        Family::Ipv4 => word.len() < LEAST_IPV4,
+        Family::Ipv6 => !word.contains(&b':'),
+    }
+}
+
+impl Sets {
+    /// Whether there is no address of this family.
+    fn lack(&self, family: Family) -> bool
+        ensures { IsTrue result ↔ (networks_of self.now family ≡ []) }
+    {
+        match family {
+            Family::Ipv4 => self.v4.is_empty(),
+            Family::Ipv6 => self.v6.is_empty(),
+        }
+    }
+
+    /// Whether a string is an address of this family that is there.
+    fn have_text(&self, family: Family, text: &[u8]) -> bool
+        requires { IsAscii text.now }
+        ensures { Decides result (IsOneIn (HasAddress self.now) family text.now) }
+    {
+        let Ok(text) = str::from_utf8(text) else {
+            return false;
+        };
+        match family {
+            Family::Ipv4 => match text.parse::<Ipv4Addr>() {
+                Ok(address) => self.v4.contains(&Ipv4Cidr::new_host(address)),
+                Err(_) => false,
+            },
+            Family::Ipv6 => match text.parse::<Ipv6Addr>() {
+                Ok(address) => self.v6.contains(&Ipv6Cidr::new_host(address)),
+                Err(_) => false,
+            },
+        }
+    }
+
+    /// Whether a word without one colon behind it is an address of this family that is there.
+    fn have_before_colon(&self, family: Family, word: &[u8]) -> bool
+        requires { IsAscii word.now }
+        ensures { Decides result ((text : List ℕ) × (word.now ≡ text ++ colon ∷ [])
+            × IsOneIn (HasAddress self.now) family text) }
+    {
+        match word.split_last() {
+            Some((b':', front)) => self.have_text(family, front),
+            _ => false,
+        }
+    }
+
+    /// Whether a word is an address of this family that is there, with or without punctuation behind it.
+    fn have_word(&self, family: Family, word: &[u8]) -> bool
+        requires { IsAscii word.now }
+        ensures { Decides result (WordIsOneIn (HasAddress self.now) family word.now) }
+    {
+        if is_plain(family, word) {
+            return false;
+        }
+        self.have_text(family, without_dots(word)) || self.have_before_colon(family, word)
+    }
+
+    /// Whether a line has an address of this family that is there.
+    fn have_one_of(&self, family: Family, line: &[u8]) -> bool
+        ensures { Decides result (LineHasOneIn (HasAddress self.now) family line.now) }
+    {
+        if self.lack(family) {
+            return false;
+        }
+        let mut rest = line;
+        loop {
+            let (word, behind) = rest.split_at(word_len(family, rest));
+            if self.have_word(family, word) {
+                return true;
+            }
+            let Some((_, next)) = behind.split_first() else {
+                return false;
+            };
+            rest = next;
+        }
+    }
+
+    /// Whether a line has an address that is there.
+    pub fn have_one(&self, line: &[u8]) -> bool
+        ensures { Decides result (HasOneIn (HasAddress self.now) line.now) }
+    {
+        self.have_one_of(Family::Ipv4, line) || self.have_one_of(Family::Ipv6, line)
+    }
+}

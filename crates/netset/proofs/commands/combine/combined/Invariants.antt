@@ -1,6 +1,0 @@
-use Rattle.std.proofs.Common.{take}
-use Rattle.netset.proofs.Combining.{IsCombined}
-use Rattle.netset.proofs.commands.combine.combined.Given as goal
-
-abbrev pub invariant-loop-other : goal.invariant-loop-other
-invariant-loop-other l = IsCombined l.step l.fn.first (take l.other-index l.others) l.all

@@ -1,4 +1,0 @@
-use Rattle.netset.proofs.commands.near.put_first.Goals as goal
-
-pub returns : goal.returns
-returns c = (c.kept-outer.result, c.kept-outer.ensures, c.put.ensures)

@@ -1,9 +1,0 @@
-use Rattle.netset.proofs.NumberedRows.{ascending, same_rows}
-use Rattle.netset.proofs.commands.near.sorted.Goals as goal
-
-pub returns-clause-ascending : goal.returns-clause-ascending
-returns-clause-ascending g c =
-    ascending g.C.Ord.cmp g.C.BitString.bits g.met.C.Ord.total g.met.C.NetworkBits.ordered c.sort_unstable.new.self.items c.sort_unstable.ensures.sorted
-
-pub returns-clause-same : goal.returns-clause-same
-returns-clause-same g c = same_rows c.args.rows.items c.sort_unstable.new.self.items c.sort_unstable.ensures.permutation

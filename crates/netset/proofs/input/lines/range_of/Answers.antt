@@ -1,7 +1,0 @@
-use Rattle.netset.proofs.input.lines.range_of.Goals as goal
-
-pub returns-in-V4-last : goal.returns-in-V4-last
-returns-in-V4-last c = rw (c.in-V4.is, c.in-V4-last.is) c.ipv4_range.ensures
-
-pub returns-in-V6-last-2 : goal.returns-in-V6-last-2
-returns-in-V6-last-2 c = rw (c.in-V6.is, c.in-V6-last-2.is) c.ipv6_range.ensures

@@ -1,4 +1,0 @@
-use Rattle.netset.proofs.input.lines.whole_network.Goals as goal
-
-pub returns-in-Ok-network_of : goal.returns-in-Ok-network_of
-returns-in-Ok-network_of c = rw c.in-Ok.ensures.cases.0 at c.in-Ok-network_of.ensures
