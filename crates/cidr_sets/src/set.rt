@@ -76,6 +76,23 @@ impl<C: NetworkBits + Copy> NetworkSet<C> {
         Ok(reduced(copies))
     }
 
+    /// The set of the addresses of the networks of a `Vec`, which may come in any order, overlap and repeat.
+    ///
+    /// It never fails and copies nothing: the set keeps the `Vec`. It sorts them, O(n log n), in place.
+    ///
+    /// ```
+    /// let lower: Ipv4Cidr = "10.0.0.0/9".parse()?;
+    /// let upper: Ipv4Cidr = "10.128.0.0/9".parse()?;
+    /// let networks = vec![in rt.alloc(); upper, lower].map_err(|_| AllocError)?;
+    /// NetworkSet::from_vec(networks).as_slice() // [10.0.0.0/8]
+    /// ```
+    pub fn from_vec(networks: Vec<C>) -> Self
+        ensures set { IsSetOf 129 (Covers (map C.bits networks.items)) (map C.bits result) }
+        ensures fits { length result ≤ length networks.items }
+    {
+        reduced(networks)
+    }
+
     /// Whether the set has all addresses of a network.
     ///
     /// It is [`contains`](crate::contains) over `probe`: one binary search and a look at one neighbour. Where the number
