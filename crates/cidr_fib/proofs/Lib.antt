@@ -1,7 +1,8 @@
--- The lemmas: first bits as numbers, keys in order, ranges as they grow, what a range says, and ranges by parts.
+-- The lemmas: first bits as numbers, keys in order, ranges as they grow, what a range says, ranges by parts, and values of parts.
 pub mod Leadings
 pub mod Order
 pub mod Growth
 pub mod Found
 pub mod Lows
+pub mod Marks
 pub mod SetRows

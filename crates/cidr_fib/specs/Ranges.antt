@@ -3,7 +3,7 @@
 use Rattle.std.specs.Prelude.{◌≡◌, ℕ, ◌+◌, ◌-◌, ◌*◌, ◌%◌, ◌^◌, ◌<◌, ◌≤◌, ◌⊎◌, Bool, List, Some, None, length, map, slice_get, slice_index_or}
 use Rattle.cidr.specs.model.BitString.{leading}
 use Rattle.cidr_fib.specs.declared.find.Ranges.{Ranges}
-use Rattle.cidr_fib.specs.declared.find.Ranges.TheVariants.{Whole, Parted}
+use Rattle.cidr_fib.specs.declared.find.Ranges.TheVariants.{Whole, Parted, Marked}
 use Rattle.cidr_fib.specs.declared.starts.Starts.{Starts}
 use Rattle.cidr_fib.specs.declared.starts.Starts.TheVariants.{Narrow, Wide}
 use Rattle.cidr_table.specs.Prefixes.{IsValueLookedUp}
@@ -34,11 +34,22 @@ pub record AreParted (starts firsts lows : List ℕ) : Type 0 where
   pub front : AreFirsts starts firsts
   pub back : lows ≡ map (λ start. start % 2 ^ 16) starts
 
+-- the entry of a part of 2 ^ 46 numbers: the code of a range that has them all, or none of the codes that are kept so
+abbrev pub IsEntry : (starts codes : List ℕ) (part entry : ℕ) → Type 0
+IsEntry starts codes part entry = ((2 ^ 31 ≤ entry) × (entry < 2 ^ 32 - 1))
+    ⊎ ((k : ℕ) × IsRangeOf starts (part * 2 ^ 46) (part * 2 ^ 46 + (2 ^ 46 - 1)) k × (entry ≡ slice_index_or codes k 0))
+
+-- that of each part
+abbrev pub AreEntries : (starts codes entries : List ℕ) → Type 0
+AreEntries starts codes entries = (p : ℕ) → p < length entries → IsEntry starts codes p (slice_index_or entries p 0)
+
 -- ranges with these starts and codes
 abbrev pub AreCoded : (starts codes : List ℕ) → Ranges → Type 0
 AreCoded starts codes (Whole ranges) = (numbers ranges.starts ≡ starts) × (ranges.codes.items ≡ codes)
 AreCoded starts codes (Parted ranges) = (ranges.codes.items ≡ codes)
     × ((narrow : List ℕ) × (map (λ start. start * 2 ^ 32) narrow ≡ starts) × AreParted narrow ranges.firsts.items ranges.lows.items)
+AreCoded starts codes (Marked ranges) = (map (λ start. start * 2 ^ 32) ranges.starts.items ≡ starts) × (ranges.codes.items ≡ codes)
+    × AreEntries starts codes ranges.parts.entries.items
 
 -- the code of a range of these numbers, or the one that says nothing
 abbrev pub IsFound : (starts codes : List ℕ) (first last code : ℕ) → Type 0

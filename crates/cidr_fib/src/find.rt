@@ -1,18 +1,20 @@
 //! The value of the longest match, by ranges.
-ghost use Rattle.std.specs.Prelude.{◌≡◌, ℕ, ◌+◌, ◌-◌, ◌*◌, ◌^◌, ◌<◌, ◌≤◌, ◌⊎◌, List, length, map, position, IfOk, IfErr, IsTrue};
+ghost use Rattle.std.specs.Prelude.{◌≡◌, ℕ, ◌-◌, ◌*◌, ◌^◌, ◌<◌, List, length, map, position, IfOk, IfErr};
 ghost use Rattle.std.specs.List.Sorted.{IsStrictlySortedBy};
 ghost use Rattle.std.specs.Map.{keys_of};
 ghost use Rattle.cidr_table.specs.Prefixes.{IsValueLookedUp};
 ghost use Rattle.cidr_fib.specs.Errors.{is_too_large, IsRefused};
 ghost use Rattle.cidr_fib.specs.Growth.{IsAscending};
-ghost use Rattle.cidr_fib.specs.Ranges.{numbers, AreCoded, HaveAnswers, IsFound, IsRangeOf};
+ghost use Rattle.cidr_fib.specs.Ranges.{numbers, AreCoded, HaveAnswers, IsFound};
 
 use crate::codes::{NOTHING, SEARCH, put_codes};
 use crate::error::ForwardingError;
 use crate::level::FirstLevel;
+use crate::marked::MarkedRanges;
 use crate::parts::PartedRanges;
 use crate::ranges::{Ends, last_bits, ranges_of};
 use crate::starts::{Start, Starts};
+use crate::tested::code_at;
 use cidr::NetworkBits;
 use cidr_table::LpmTable;
 use std::alloc::{AllocError, Global};
@@ -22,6 +24,7 @@ use std::alloc::{AllocError, Global};
 pub(crate) enum Ranges {
     Whole(WholeRanges),
     Parted(PartedRanges),
+    Marked(MarkedRanges),
 }
 
 /// Ranges whose starts are kept whole, each with a code.
@@ -103,21 +106,51 @@ impl Ranges {
         let Ends { starts, ends } = ranges_of(alloc, rows)?;
         let mut codes = ends;
         put_codes(rows, codes.as_mut_slice());
-        let ranges = Ranges::with_codes(alloc, starts, codes)?;
+        let ranges = Ranges::with_codes(alloc, starts, codes, rows.len())?;
         Ok(ranges)
     }
 
-    /// The ranges with these starts and codes, in the form that takes less memory.
-    fn with_codes(alloc: Global, starts: Starts, codes: Vec<u32>) -> Result<Ranges, AllocError>
+    /// The ranges of so many rows with these starts and codes, in the form that is quickest and takes few bytes.
+    fn with_codes(
+        alloc: Global,
+        starts: Starts,
+        codes: Vec<u32>,
+        rows: usize,
+    ) -> Result<Ranges, AllocError>
         requires { IsAscending (numbers starts) }
         ensures { IfOk result (λ ranges. AreCoded (numbers starts) codes.items ranges) }
     {
-        if let Starts::Narrow(narrow) = &starts {
-            if PartedRanges::fits(narrow.len()) {
-                let ranges = PartedRanges::of(alloc, narrow.as_slice(), codes)?;
-                return Ok(Ranges::Parted(ranges));
-            }
+        match starts {
+            Starts::Narrow(narrow) => Ranges::with_narrow(alloc, narrow, codes, rows),
+            Starts::Wide(wide) => Ranges::whole(alloc, Starts::Wide(wide), codes),
         }
+    }
+
+    /// The same, of starts of 32 bits.
+    fn with_narrow(
+        alloc: Global,
+        starts: Vec<u32>,
+        codes: Vec<u32>,
+        rows: usize,
+    ) -> Result<Ranges, AllocError>
+        requires { IsAscending starts.items }
+        ensures { IfOk result (λ ranges. AreCoded (map (λ start. start * 2 ^ 32) starts.items) codes.items ranges) }
+    {
+        if MarkedRanges::fits(starts.as_slice(), rows) {
+            let ranges = MarkedRanges::of(alloc, starts, codes)?;
+            Ok(Ranges::Marked(ranges))
+        } else if PartedRanges::fits(starts.len()) {
+            let ranges = PartedRanges::of(alloc, starts.as_slice(), codes)?;
+            Ok(Ranges::Parted(ranges))
+        } else {
+            Ranges::whole(alloc, Starts::Narrow(starts), codes)
+        }
+    }
+
+    /// The same, with an index of the first bits.
+    fn whole(alloc: Global, starts: Starts, codes: Vec<u32>) -> Result<Ranges, AllocError>
+        ensures { IfOk result (λ ranges. AreCoded (numbers starts) codes.items ranges) }
+    {
         let level = FirstLevel::of(alloc, &starts)?;
         Ok(Ranges::Whole(WholeRanges {
             starts,
@@ -134,6 +167,7 @@ impl Ranges {
         match self {
             Ranges::Whole(ranges) => ranges.code(first, last),
             Ranges::Parted(ranges) => ranges.code(first, last),
+            Ranges::Marked(ranges) => ranges.code(first, last),
         }
     }
 }
@@ -159,26 +193,5 @@ impl WholeRanges {
 fn code_by<N: Start>(starts: &[N], codes: &[u32], level: &FirstLevel, first: u64, last: u64) -> u32
     ensures { IsFound (map N.value starts.now) codes.now first last result }
 {
-    let at = level.find(starts, first);
-    if !has_all(starts, at, first, last) {
-        return SEARCH;
-    }
-    match codes.get(at) {
-        Some(code) => *code,
-        None => SEARCH,
-    }
-}
-
-/// Whether a range has all numbers from the first to the last.
-#[inline(always)]
-fn has_all<N: Start>(starts: &[N], at: usize, first: u64, last: u64) -> bool
-    ensures { IsTrue result → IsRangeOf (map N.value starts.now) first last at }
-{
-    if at >= starts.len() || !starts[at].is_upto(first) {
-        return false;
-    }
-    if at + 1 == starts.len() {
-        return true;
-    }
-    !starts[at + 1].is_upto(last)
+    code_at(starts, codes, level.find(starts, first), first, last)
 }

@@ -172,7 +172,7 @@ fn narrow(number: usize) -> u32 {
 }
 
 /// The last range from `start` on that begins at most with the number.
-fn last_upto<N: Start>(starts: &[N], start: usize, number: u64) -> usize {
+pub(crate) fn last_upto<N: Start>(starts: &[N], start: usize, number: u64) -> usize {
     let mut at = start;
     for place in start..starts.len() {
         if !starts[place].is_upto(number) {

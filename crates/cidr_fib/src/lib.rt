@@ -22,11 +22,13 @@ mod codes;
 mod error;
 mod find;
 mod level;
+mod marked;
 mod parts;
 mod ranges;
 mod sets;
 mod starts;
 mod table;
+mod tested;
 
 pub use error::ForwardingError;
 pub use sets::ReadySet;

@@ -4,6 +4,6 @@ use Rattle.cidr_fib.specs.Ranges.{numbers}
 use Rattle.cidr_fib.proofs.Lows.{starts_ascend}
 use Rattle.cidr_fib.proofs.find.Ranges.with_codes.Goals as goal
 
-pub of-requires-clause-ascending : goal.of-requires-clause-ascending
-of-requires-clause-ascending c =
-    rw c.as_slice.ensures.value (starts_ascend c.in-Narrow.narrow.items (subst (λ s. IsAscending (numbers s)) c.in-Narrow.is c.requires))
+pub with_narrow-requires : goal.with_narrow-requires
+with_narrow-requires c =
+    starts_ascend c.in-Narrow.narrow.items (subst (λ s. IsAscending (numbers s)) c.in-Narrow.is c.requires)
