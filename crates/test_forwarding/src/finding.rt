@@ -44,13 +44,15 @@ pub fn write_speed<C: NetworkBits + Copy>(
     Ok(ready.into_table())
 }
 
-/// Writes the times of all look-ups and those numbers.
+/// Writes the time until `lookups` are ready, and the times of all look-ups and those numbers.
 fn write_times<C: NetworkBits + Copy>(
     rt: &HostRuntime,
     ready: &ForwardingTable<C>,
     asked: &[C],
 ) -> Result<(), Failure> {
+    let start = Instant::now(rt)?;
     let rows = ready.table().lookups(rt.alloc())?;
+    let rows_made = start.elapsed(rt)?.as_nanos();
     let (mut rows_time, mut time) = (u128::MAX, u128::MAX);
     let (mut rows_sum, mut sum) = (0, 0);
     for _ in 0..TURNS {
@@ -61,7 +63,7 @@ fn write_times<C: NetworkBits + Copy>(
         sum = sum_by_ranges(ready, asked);
         time = time.min(start.elapsed(rt)?.as_nanos());
     }
-    println!(rt; "{rows_time}\t{rows_sum}\t{time}\t{sum}")?;
+    println!(rt; "{rows_made}\t{rows_time}\t{rows_sum}\t{time}\t{sum}")?;
     Ok(())
 }
 
