@@ -58,13 +58,14 @@ fn stepped<C: NetworkBits + Copy>(
 
 impl Sets {
     /// The addresses of the networks of lists.
-    pub fn of_lists(alloc: Global, lists: &Lists) -> Result<Sets, AllocError>
-        ensures { IfOk result (λ sets. (family : Family) → IsSetOf 129 (Covers (listed lists.now family)) (networks_of sets family)) }
+    pub fn of_lists(lists: Lists) -> Sets
+        ensures { (family : Family) → IsSetOf 129 (Covers (listed lists family)) (networks_of result family) }
     {
-        Ok(Sets {
-            v4: NetworkSet::from_networks(alloc, lists.v4.as_slice())?,
-            v6: NetworkSet::from_networks(alloc, lists.v6.as_slice())?,
-        })
+        let Lists { v4, v6 } = lists;
+        Sets {
+            v4: NetworkSet::from_vec(v4),
+            v6: NetworkSet::from_vec(v6),
+        }
     }
 
     /// The addresses of a network.
@@ -74,8 +75,7 @@ impl Sets {
     {
         let mut lists = Lists::new(alloc);
         lists.push(network)?;
-        let sets = Sets::of_lists(alloc, &lists)?;
-        Ok(sets)
+        Ok(Sets::of_lists(lists))
     }
 
     /// Whether there is no address of either family.

@@ -72,9 +72,7 @@ pub fn read_file<'a, M: Memory, F: Sources>(
 {
     let mut lists = Lists::new(memory.alloc());
     add_file(memory, sources, file, &mut lists)?;
-    let sets = Sets::of_lists(memory.alloc(), &lists);
-    let sets = memory.watch(sets)?;
-    Ok(sets)
+    Ok(Sets::of_lists(lists))
 }
 
 /// The addresses of the lists of some files, each.

@@ -1,19 +1,13 @@
-use Rattle.std.proofs.Common.{sym}
 use Rattle.std.proofs.lemmas.Result.{err_from_is_err_and}
 use Rattle.netset.proofs.EachFile.{file_set}
 use Rattle.netset.proofs.input.several.read_file.Goals as goal
 
 pub returns-clause-reads : goal.returns-clause-reads
 returns-clause-reads g c =
-    file_set (g.F.Sources.contents c.args.sources.now c.args.file.now) c.args.file.now c.new-lists.result c.add_file.new.lists c.in_ok-sets.sets
-    c.new-lists.ensures.v4 c.new-lists.ensures.v6 c.in_ok-add_file.ensures.adds (rw (sym c.in_ok-sets.ensures.made) at c.of_lists-sets.ensures)
+    file_set (g.F.Sources.contents c.args.sources.now c.args.file.now) c.args.file.now c.new-lists.result c.add_file.new.lists c.of_lists.result
+    c.new-lists.ensures.v4 c.new-lists.ensures.v6 c.in_ok-add_file.ensures.adds c.of_lists.ensures
 
 pub returns-in_err-add_file-clause-cause : goal.returns-in_err-add_file-clause-cause
 returns-in_err-add_file-clause-cause g c =
     let (y, is, same) = err_from_is_err_and c.from_residual.result c.from_residual.ensures.1 in
     rw (is, same) c.in_err-add_file.ensures.cause
-
-pub returns-in_err-sets-clause-cause : goal.returns-in_err-sets-clause-cause
-returns-in_err-sets-clause-cause g c =
-    let (y, is, same) = err_from_is_err_and c.from_residual-in_err-sets.result c.from_residual-in_err-sets.ensures.1 in
-    rw (is, same) c.in_err-sets.ensures.refused
