@@ -1,20 +1,25 @@
 -- What follows from the contract of a run for a run that ends with status 0.
-use Rattle.std.proofs.Common.{◌≡◌, refl, sym, ◌∙◌, ap, subst, inl, inr, ℕ, Bool, true, false, List, [], ◌∷◌, ◌++◌, codes, Option, Some, Result, Ok, Err}
+use Rattle.std.proofs.Common.{◌≡◌, refl, sym, ◌∙◌, ap, subst, inl, inr, ℕ, ◌≤◌, Bool, true, false, List, [], ◌∷◌, ◌++◌, codes, Option, Some, Result, Ok, Err}
+use Rattle.std.specs.List.{list_any}
 use Rattle.std.specs.Str.{bytes_eq}
 use Rattle.std.proofs.lemmas.Bool.{true≢false}
 use Rattle.cidr_io.specs.Writing.{State, Whole, Answered, Says as Tells}
 use Rattle.cidr_io.specs.declared.sink.OutputFailed.{OutputFailed}
+use Rattle.cidr.specs.either.IpText.{IsIpNetworkText}
+use Rattle.cidr.specs.declared.cidr.combined.IpCidr.{IpCidr}
 use Rattle.netset.specs.Combining.{name_of}
-use Rattle.netset.specs.Commands.{Request, Lists, NotIn, Diff, Free, Check, Match, Look, Single as ASingle, Help, Version, AreTold, IsAnswer, IsMadeOf, IsRequest, read_files, reading_of, reading_options, without_options}
+use Rattle.netset.specs.Commands.{Request, Lists, NotIn, Diff, Free, Check, Match, Look, Single as ASingle, Help, Version, AreTold, IsAnswer, IsDiff, IsFree, IsMadeOf, IsMatchOf, IsNotIn, IsRequest, is_option, read_files, reading_of, reading_options, without_options}
 use Rattle.cidr_lists.specs.Lists.{Text}
 use Rattle.netset.specs.Look.{IsLook}
 use Rattle.netset.specs.Program.{AnswersRequest, AnswersWhole, IsRefused, KeepsGoing, Reports, Runs, RunsArguments, RunsRequest, RunsWords, by_output, status_of, contents_by}
-use Rattle.netset.specs.Single.{SingleRequest, Show, Split, Nth}
+use Rattle.netset.specs.Findings.{IsCheck}
+use Rattle.netset.specs.Single.{SingleRequest, Show, Split, Nth, IsNumber, IsSingleAnswer}
 use Rattle.netset.specs.declared.output.answers.Verdict.{Verdict}
 use Rattle.netset.specs.declared.output.answers.Verdict.TheVariants.{Yes, No}
 use Rattle.netset.specs.declared.commands.Reading.{Reading}
 use Rattle.netset.specs.declared.errors.CommandError.{CommandError}
 use Rattle.netset.specs.declared.errors.CommandError.TheVariants as error
+use Rattle.netset.specs.declared.commands.operations.Operation.{Operation}
 use Rattle.netset.specs.declared.commands.operations.Operation.TheVariants.{Merge, Nets, Minus, And, Not, Ranges, Count}
 use Rattle.netset.proofs.Telling.{tells_nothing}
 
@@ -170,37 +175,66 @@ other_name : {Z : Type 0} (word : List ℕ) (words : List (List ℕ)) (request :
 other_name word words request is same differ =
     absurd (true≢false (sym same ∙ (ap (λ (k : List ℕ). bytes_eq k word) (named word words request is) ∙ differ)))
 
-is_merge : (files : List (List ℕ)) (request : Request) → IsRequest (codes "merge" ∷ files) request → request ≡ Lists Merge files
-is_merge files (Lists Merge names) h = ap (λ (k : List (List ℕ)). Lists Merge k) (sym (rest_is (codes "merge") files (codes "merge") names h.0))
-is_merge files (Lists Nets names) h = other_name (codes "merge") files (Lists Nets names) h refl refl
-is_merge files (Lists Minus names) h = other_name (codes "merge") files (Lists Minus names) h refl refl
-is_merge files (Lists And names) h = other_name (codes "merge") files (Lists And names) h refl refl
-is_merge files (Lists Not names) h = other_name (codes "merge") files (Lists Not names) h refl refl
-is_merge files (Lists Ranges names) h = other_name (codes "merge") files (Lists Ranges names) h refl refl
-is_merge files (Lists Count names) h = other_name (codes "merge") files (Lists Count names) h refl refl
-is_merge files (NotIn net names) h = other_name (codes "merge") files (NotIn net names) h refl refl
-is_merge files (Diff old new) h = other_name (codes "merge") files (Diff old new) h refl refl
-is_merge files (Free pool len used) h = other_name (codes "merge") files (Free pool len used) h refl refl
-is_merge files (Check names) h = other_name (codes "merge") files (Check names) h refl refl
-is_merge files (Match options list file) h = other_name (codes "merge") files (Match options list file) h refl refl
-is_merge files (Look table file) h = other_name (codes "merge") files (Look table file) h refl refl
-is_merge files (ASingle (Show host)) h = other_name (codes "merge") files (ASingle (Show host)) h refl refl
-is_merge files (ASingle (Split net len)) h = other_name (codes "merge") files (ASingle (Split net len)) h refl refl
-is_merge files (ASingle (Nth net place)) h = other_name (codes "merge") files (ASingle (Nth net place)) h refl refl
-is_merge files Help h = other_name (codes "merge") files Help h refl refl
-is_merge files Version h = other_name (codes "merge") files Version h refl refl
+-- the arguments are no other command than this one
+same_files : (op : Operation) (files names : List (List ℕ)) → name_of op ∷ files ≡ name_of op ∷ names → Lists op names ≡ Lists op files
+same_files op files names is = ap (λ (k : List (List ℕ)). Lists op k) (sym (rest_is (name_of op) files (name_of op) names is))
 
--- `netset merge FILE..`, where the lists of the files are told: what is printed is what the lists have together
-pub merge_prints : (files : List (List ℕ)) (texts : List Text) (contents : List ℕ → Option (List ℕ)) (refused closed : Bool) (out new err new_err : State)
-    → Runs (Some (codes "merge" ∷ files)) contents refused closed out new err new_err 0 → reading_options (codes "merge" ∷ files) ≡ []
-    → without_options (codes "merge" ∷ files) ≡ codes "merge" ∷ files
-    → AreTold (contents_by (reading_of []).host_bits contents) (read_files files) texts
-    → (answer : List ℕ) × IsMadeOf Merge texts answer × Whole out new answer × Tells err new_err []
-merge_prints files texts contents refused closed out new err new_err runs none all tells =
-    let (request, is, done) = status_0 (codes "merge" ∷ files) contents refused closed out new err new_err runs in
-    let same = is_merge files request (rw all at is) in
-    let (answer, answers, whole, quiet) = (rw (none, same) at done) in
-    (answer, answers.0 texts tells, whole, quiet)
+no_in : {Z : Type 0} (net : List ℕ) (names files : List (List ℕ)) → list_any is_option files ≡ false → codes "not" ∷ files ≡ codes "not" ∷ codes "--in" ∷ net ∷ names → Z
+no_in net names files none is =
+    absurd (true≢false (subst (λ (k : List (List ℕ)). list_any is_option k ≡ false) (rest_is (codes "not") files (codes "not") (codes "--in" ∷ net ∷ names) is) none))
+
+is_lists : (op : Operation) (files : List (List ℕ)) (request : Request) → list_any is_option files ≡ false → IsRequest (name_of op ∷ files) request → request ≡ Lists op files
+is_lists Merge files (Lists Merge names) none h = same_files Merge files names h.0
+is_lists Nets files (Lists Nets names) none h = same_files Nets files names h.0
+is_lists Minus files (Lists Minus names) none h = same_files Minus files names h.0
+is_lists And files (Lists And names) none h = same_files And files names h.0
+is_lists Not files (Lists Not names) none h = same_files Not files names h.0
+is_lists Ranges files (Lists Ranges names) none h = same_files Ranges files names h.0
+is_lists Count files (Lists Count names) none h = same_files Count files names h.0
+is_lists Not files (NotIn net names) none h = no_in net names files none h.0
+is_lists op files (ASingle (Show host)) none h = other_name (name_of op) files (ASingle (Show host)) h refl refl
+is_lists op files request none h = other_name (name_of op) files request h refl refl
+
+is_not_in : (net : List ℕ) (files : List (List ℕ)) (request : Request) → IsRequest (codes "not" ∷ codes "--in" ∷ net ∷ files) request → request ≡ NotIn net files
+is_not_in net files (NotIn other names) (is, plain) =
+    let one : other ≡ net = cc in
+    let two : names ≡ files = cc in
+    ap (λ (k : List ℕ). NotIn k names) one ∙ ap (λ (k : List (List ℕ)). NotIn net k) two
+is_not_in net files (Lists Not names) (is, plain, enough) = no_in net files names plain (sym is)
+is_not_in net files (ASingle (Show host)) h = other_name (codes "not") (codes "--in" ∷ net ∷ files) (ASingle (Show host)) h refl refl
+is_not_in net files request h = other_name (codes "not") (codes "--in" ∷ net ∷ files) request h refl refl
+
+is_diff : (old new : List ℕ) (request : Request) → IsRequest (codes "diff" ∷ old ∷ new ∷ []) request → request ≡ Diff old new
+is_diff old new (Diff these those) (is, a, b) =
+    let one : these ≡ old = cc in
+    let two : those ≡ new = cc in
+    ap (λ (k : List ℕ). Diff k those) one ∙ ap (λ (k : List ℕ). Diff old k) two
+is_diff old new (Lists Merge names) h = other_name (codes "diff") (old ∷ new ∷ []) (Lists Merge names) h refl refl
+is_diff old new (ASingle (Show host)) h = other_name (codes "diff") (old ∷ new ∷ []) (ASingle (Show host)) h refl refl
+is_diff old new request h = other_name (codes "diff") (old ∷ new ∷ []) request h refl refl
+
+is_free : (pool len : List ℕ) (used : List (List ℕ)) (request : Request) → IsRequest (codes "free" ∷ pool ∷ len ∷ used) request → request ≡ Free pool len used
+is_free pool len used (Free other text names) (is, a, b, c) =
+    let one : other ≡ pool = cc in
+    let two : text ≡ len = cc in
+    let three : names ≡ used = cc in
+    ap (λ (k : List ℕ). Free k text names) one ∙ (ap (λ (k : List ℕ). Free pool k names) two ∙ ap (λ (k : List (List ℕ)). Free pool len k) three)
+is_free pool len used (Lists Merge names) h = other_name (codes "free") (pool ∷ len ∷ used) (Lists Merge names) h refl refl
+is_free pool len used (ASingle (Show host)) h = other_name (codes "free") (pool ∷ len ∷ used) (ASingle (Show host)) h refl refl
+is_free pool len used request h = other_name (codes "free") (pool ∷ len ∷ used) request h refl refl
+
+is_check : (files : List (List ℕ)) (request : Request) → IsRequest (codes "check" ∷ files) request → request ≡ Check files
+is_check files (Check names) h = ap (λ (k : List (List ℕ)). Check k) (sym (rest_is (codes "check") files (codes "check") names h.0))
+is_check files (Lists Merge names) h = other_name (codes "check") files (Lists Merge names) h refl refl
+is_check files (ASingle (Show host)) h = other_name (codes "check") files (ASingle (Show host)) h refl refl
+is_check files request h = other_name (codes "check") files request h refl refl
+
+is_match : (rest : List (List ℕ)) (request : Request) → IsRequest (codes "match" ∷ rest) request
+    → (options : List (List ℕ)) × (list : List ℕ) × (file : List ℕ) × (request ≡ Match options list file)
+is_match rest (Match options list file) h = (options, list, file, refl)
+is_match rest (Lists Merge names) h = other_name (codes "match") rest (Lists Merge names) h refl refl
+is_match rest (ASingle (Show host)) h = other_name (codes "match") rest (ASingle (Show host)) h refl refl
+is_match rest request h = other_name (codes "match") rest request h refl refl
 
 is_look : (table file : List ℕ) (request : Request) → IsRequest (codes "look" ∷ table ∷ file ∷ []) request → request ≡ Look table file
 is_look table file (Look rows lines) (inl is, a, b) =
@@ -209,31 +243,121 @@ is_look table file (Look rows lines) (inl is, a, b) =
     ap (λ (k : List ℕ). Look k lines) one ∙ ap (λ (k : List ℕ). Look table k) two
 is_look table file (Look rows lines) (inr (is, input), a, b) = cc
 is_look table file (Lists Merge names) h = other_name (codes "look") (table ∷ file ∷ []) (Lists Merge names) h refl refl
-is_look table file (Lists Nets names) h = other_name (codes "look") (table ∷ file ∷ []) (Lists Nets names) h refl refl
-is_look table file (Lists Minus names) h = other_name (codes "look") (table ∷ file ∷ []) (Lists Minus names) h refl refl
-is_look table file (Lists And names) h = other_name (codes "look") (table ∷ file ∷ []) (Lists And names) h refl refl
-is_look table file (Lists Not names) h = other_name (codes "look") (table ∷ file ∷ []) (Lists Not names) h refl refl
-is_look table file (Lists Ranges names) h = other_name (codes "look") (table ∷ file ∷ []) (Lists Ranges names) h refl refl
-is_look table file (Lists Count names) h = other_name (codes "look") (table ∷ file ∷ []) (Lists Count names) h refl refl
-is_look table file (NotIn net names) h = other_name (codes "look") (table ∷ file ∷ []) (NotIn net names) h refl refl
-is_look table file (Diff old new) h = other_name (codes "look") (table ∷ file ∷ []) (Diff old new) h refl refl
-is_look table file (Free pool len used) h = other_name (codes "look") (table ∷ file ∷ []) (Free pool len used) h refl refl
-is_look table file (Check names) h = other_name (codes "look") (table ∷ file ∷ []) (Check names) h refl refl
-is_look table file (Match options list other) h = other_name (codes "look") (table ∷ file ∷ []) (Match options list other) h refl refl
 is_look table file (ASingle (Show host)) h = other_name (codes "look") (table ∷ file ∷ []) (ASingle (Show host)) h refl refl
-is_look table file (ASingle (Split net len)) h = other_name (codes "look") (table ∷ file ∷ []) (ASingle (Split net len)) h refl refl
-is_look table file (ASingle (Nth net place)) h = other_name (codes "look") (table ∷ file ∷ []) (ASingle (Nth net place)) h refl refl
-is_look table file Help h = other_name (codes "look") (table ∷ file ∷ []) Help h refl refl
-is_look table file Version h = other_name (codes "look") (table ∷ file ∷ []) Version h refl refl
+is_look table file request h = other_name (codes "look") (table ∷ file ∷ []) request h refl refl
 
--- `netset look TABLE FILE`, where both are told: what is printed are the longest networks of the addresses of FILE
-pub look_prints : (table file : List ℕ) (rows text : Text) (contents : List ℕ → Option (List ℕ)) (refused closed : Bool) (out new err new_err : State)
-    → Runs (Some (codes "look" ∷ table ∷ file ∷ [])) contents refused closed out new err new_err 0 → reading_options (codes "look" ∷ table ∷ file ∷ []) ≡ []
-    → without_options (codes "look" ∷ table ∷ file ∷ []) ≡ codes "look" ∷ table ∷ file ∷ []
-    → contents_by (reading_of []).host_bits contents table ≡ Some rows → contents_by (reading_of []).host_bits contents file ≡ Some text
-    → (answer : List ℕ) × IsLook rows text.bytes answer Yes × Whole out new answer × Tells err new_err []
-look_prints table file rows text contents refused closed out new err new_err runs none all first second =
-    let (request, is, done) = status_0 (codes "look" ∷ table ∷ file ∷ []) contents refused closed out new err new_err runs in
-    let same = is_look table file request (rw all at is) in
-    let (answer, answers, whole, quiet) = (rw (none, same) at done) in
-    (answer, answers rows text first second, whole, quiet)
+is_show : (host : List ℕ) (request : Request) → IsRequest (codes "show" ∷ host ∷ []) request → request ≡ ASingle (Show host)
+is_show host (ASingle (Show text)) is =
+    let one : text ≡ host = cc in
+    ap (λ (k : List ℕ). ASingle (Show k)) one
+is_show host (Lists Merge names) h = other_name (codes "show") (host ∷ []) (Lists Merge names) h refl refl
+is_show host request h = other_name (codes "show") (host ∷ []) request h refl refl
+
+is_split : (net len : List ℕ) (request : Request) → IsRequest (codes "split" ∷ net ∷ len ∷ []) request → request ≡ ASingle (Split net len)
+is_split net len (ASingle (Split text number)) is =
+    let one : text ≡ net = cc in
+    let two : number ≡ len = cc in
+    ap (λ (k : List ℕ). ASingle (Split k number)) one ∙ ap (λ (k : List ℕ). ASingle (Split net k)) two
+is_split net len (Lists Merge names) h = other_name (codes "split") (net ∷ len ∷ []) (Lists Merge names) h refl refl
+is_split net len request h = other_name (codes "split") (net ∷ len ∷ []) request h refl refl
+
+is_nth : (net place : List ℕ) (request : Request) → IsRequest (codes "nth" ∷ net ∷ place ∷ []) request → request ≡ ASingle (Nth net place)
+is_nth net place (ASingle (Nth text number)) is =
+    let one : text ≡ net = cc in
+    let two : number ≡ place = cc in
+    ap (λ (k : List ℕ). ASingle (Nth k number)) one ∙ ap (λ (k : List ℕ). ASingle (Nth net k)) two
+is_nth net place (Lists Merge names) h = other_name (codes "nth") (net ∷ place ∷ []) (Lists Merge names) h refl refl
+is_nth net place request h = other_name (codes "nth") (net ∷ place ∷ []) request h refl refl
+
+-- ---- what a run with status 0 has written, for each command: its answer and nothing else, and nothing of an error
+-- the answer of the files that are told
+abbrev pub Wrote : State → State → State → State → (List ℕ → Type 0) → Type 0
+Wrote out new err new_err Is = (answer : List ℕ) × Is answer × Whole out new answer × Tells err new_err []
+
+module _ (words : List (List ℕ)) (contents : List ℕ → Option (List ℕ)) (refused closed : Bool) (out new err new_err : State)
+    (runs : Runs (Some words) contents refused closed out new err new_err 0) where
+  -- the files, read by the options of the arguments
+  abbrev pub file_contents : List ℕ → Option Text
+  file_contents = contents_by (reading_of (reading_options words)).host_bits contents
+
+  done_of : (arguments : List (List ℕ)) (request : Request) → without_options words ≡ arguments
+      → ((other : Request) → IsRequest arguments other → other ≡ request) → Done file_contents request out new err new_err
+  done_of arguments request spelled only =
+      let (other, is, done) = status_0 words contents refused closed out new err new_err runs in
+      let same = only other (subst (λ (k : List (List ℕ)). IsRequest k other) spelled is) in
+      subst (λ (k : Request). Done file_contents k out new err new_err) same done
+
+  -- merge, nets, minus, and, not, ranges and count: what the operation makes of the lists
+  pub lists_write : (op : Operation) (files : List (List ℕ)) (texts : List Text) → without_options words ≡ name_of op ∷ files
+      → list_any is_option files ≡ false → AreTold file_contents (read_files files) texts → Wrote out new err new_err (IsMadeOf op texts)
+  lists_write op files texts spelled none tells =
+      let (answer, is, whole, quiet) = done_of (name_of op ∷ files) (Lists op files) spelled (λ other h. is_lists op files other none h) in
+      (answer, is.0 texts tells, whole, quiet)
+
+  -- not --in
+  pub not_in_writes : (net : List ℕ) (files : List (List ℕ)) (texts : List Text) → without_options words ≡ codes "not" ∷ codes "--in" ∷ net ∷ files
+      → AreTold file_contents (read_files files) texts
+      → (network : IpCidr) × IsIpNetworkText net network × Wrote out new err new_err (IsNotIn network texts)
+  not_in_writes net files texts spelled tells =
+      let (answer, is, whole, quiet) = done_of (codes "not" ∷ codes "--in" ∷ net ∷ files) (NotIn net files) spelled (is_not_in net files) in
+      let (network, names, made, verdict) = is in
+      (network, names, (answer, made texts tells, whole, quiet))
+
+  -- diff: nothing changes, since the status is 0
+  pub diff_writes : (old other : List ℕ) (before after : Text) → without_options words ≡ codes "diff" ∷ old ∷ other ∷ []
+      → file_contents old ≡ Some before → file_contents other ≡ Some after → Wrote out new err new_err (λ answer. IsDiff before after answer Yes)
+  diff_writes old other before after spelled first second =
+      let (answer, is, whole, quiet) = done_of (codes "diff" ∷ old ∷ other ∷ []) (Diff old other) spelled (is_diff old other) in
+      (answer, is before after first second, whole, quiet)
+
+  -- free
+  pub free_writes : (pool len : List ℕ) (used : List (List ℕ)) (texts : List Text) → without_options words ≡ codes "free" ∷ pool ∷ len ∷ used
+      → AreTold file_contents (pool ∷ used) texts → (n : ℕ) × IsNumber len n × (n ≤ 128) × Wrote out new err new_err (λ answer. IsFree n texts answer Yes)
+  free_writes pool len used texts spelled tells =
+      let (answer, is, whole, quiet) = done_of (codes "free" ∷ pool ∷ len ∷ used) (Free pool len used) spelled (is_free pool len used) in
+      let (n, number, most, first) = is in
+      (n, number, most, (answer, first texts tells, whole, quiet))
+
+  -- check: nothing is found, since the status is 0
+  pub check_writes : (files : List (List ℕ)) (texts : List Text) → without_options words ≡ codes "check" ∷ files
+      → AreTold file_contents (read_files files) texts → Wrote out new err new_err (λ answer. IsCheck (read_files files) texts answer Yes)
+  check_writes files texts spelled tells =
+      let (answer, is, whole, quiet) = done_of (codes "check" ∷ files) (Check files) spelled (is_check files) in
+      (answer, is texts tells, whole, quiet)
+
+  -- match: which options, list and file the arguments are, and the lines that are picked
+  pub match_writes : (rest : List (List ℕ)) → without_options words ≡ codes "match" ∷ rest
+      → (options : List (List ℕ)) × (list : List ℕ) × (file : List ℕ) × IsRequest (codes "match" ∷ rest) (Match options list file)
+      × ((networks text : Text) → file_contents list ≡ Some networks → file_contents file ≡ Some text
+      → Wrote out new err new_err (λ answer. IsMatchOf options networks text.bytes answer Yes))
+  match_writes rest spelled =
+      let (request, is, done) = status_0 words contents refused closed out new err new_err runs in
+      let at = subst (λ (k : List (List ℕ)). IsRequest k request) spelled is in
+      let (options, list, file, same) = is_match rest request at in
+      let (answer, answers, whole, quiet) = subst (λ (k : Request). Done file_contents k out new err new_err) same done in (
+        options,
+        list,
+        file,
+        subst (λ (k : Request). IsRequest (codes "match" ∷ rest) k) same at,
+        λ networks text first second. (answer, answers networks text first second, whole, quiet),
+      )
+
+  -- look
+  pub look_writes : (table file : List ℕ) (rows text : Text) → without_options words ≡ codes "look" ∷ table ∷ file ∷ []
+      → file_contents table ≡ Some rows → file_contents file ≡ Some text → Wrote out new err new_err (λ answer. IsLook rows text.bytes answer Yes)
+  look_writes table file rows text spelled first second =
+      let (answer, is, whole, quiet) = done_of (codes "look" ∷ table ∷ file ∷ []) (Look table file) spelled (is_look table file) in
+      (answer, is rows text first second, whole, quiet)
+
+  -- show, split and nth
+  pub show_writes : (host : List ℕ) → without_options words ≡ codes "show" ∷ host ∷ []
+      → Wrote out new err new_err (λ answer. IsSingleAnswer (Show host) answer Yes)
+  show_writes host spelled = done_of (codes "show" ∷ host ∷ []) (ASingle (Show host)) spelled (is_show host)
+
+  pub split_writes : (net len : List ℕ) → without_options words ≡ codes "split" ∷ net ∷ len ∷ []
+      → Wrote out new err new_err (λ answer. IsSingleAnswer (Split net len) answer Yes)
+  split_writes net len spelled = done_of (codes "split" ∷ net ∷ len ∷ []) (ASingle (Split net len)) spelled (is_split net len)
+
+  pub nth_writes : (net place : List ℕ) → without_options words ≡ codes "nth" ∷ net ∷ place ∷ []
+      → Wrote out new err new_err (λ answer. IsSingleAnswer (Nth net place) answer Yes)
+  nth_writes net place spelled = done_of (codes "nth" ∷ net ∷ place ∷ []) (ASingle (Nth net place)) spelled (is_nth net place)
