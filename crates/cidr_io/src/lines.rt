@@ -1,7 +1,8 @@
 //! Reading lines, as slices of the blocks that are read.
-ghost use Rattle.std.specs.Prelude.{◌≡◌, ◌<◌, ◌≤◌, [], Ok, None, true, false, drop, length, vec_len, IfErr, IfOk, IfSome, MatchOption, OnErr, OnOk};
+ghost use Rattle.std.specs.Prelude.{◌≡◌, ◌<◌, ◌≤◌, [], Ok, None, true, false, ℕ, List, drop, length, take, vec_len, IfErr, IfOk, IfSome, MatchOption, OnErr, OnOk};
+ghost use Rattle.std.specs.Bool.{Decides};
 ghost use Rattle.std.specs.Io.KnownBytes.{IsAtEnd, prepend_known};
-ghost use Rattle.cidr_io.specs.Lines.{HasNoFeed, IsFirstFeed, IsNextLine, StaysTold};
+ghost use Rattle.cidr_io.specs.Lines.{HasNoFeed, IsFirstFeed, IsNextLine, IsTooLong, KeepsLines, MayFail, StaysTold, kept_of};
 ghost use Rattle.cidr_io.specs.declared.lines.ReadError.TheVariants.{Failed, NoMemory};
 
 use crate::memory::Memory;
@@ -11,6 +12,12 @@ use std::marker::Model;
 
 /// How many bytes a source is asked for at once.
 const CHUNK: usize = 65536;
+
+/// The most bytes of a line, without its line feed: 1 MiB.
+pub const MOST_BYTES: usize = 1_048_576;
+
+/// How many bytes are kept of a longer line: so many that it is seen to be too long.
+const KEPT: usize = MOST_BYTES + 1;
 
 /// Why a line is not read.
 #[derive(Clone, Copy, Debug, Drop, PartialEq)]
@@ -44,6 +51,17 @@ fn feed_in(text: &[u8]) -> Option<usize>
     None
 }
 
+/// Whether a line has more than [`MOST_BYTES`] bytes.
+///
+/// ```
+/// is_too_long(b"10.0.0.0/8") // false
+/// ```
+pub fn is_too_long(line: &[u8]) -> bool
+    ensures { Decides result (IsTooLong line.now) }
+{
+    line.len() > MOST_BYTES
+}
+
 /// Drops bytes in front of the others.
 fn drop_front(block: &mut Vec<u8>, count: usize)
     requires { count ≤ vec_len block.old }
@@ -64,6 +82,7 @@ fn read_more<M: Memory, S: Source>(
     requires { 0 < length chunk.old }
     ensures told { OnOk result (StaysTold (prepend_known block.old.items (S.left source.old))
         (prepend_known block.new.items (S.left source.new))) }
+    ensures front { OnOk result (take (vec_len block.old) block.new.items ≡ block.old.items) }
     ensures more { result ≡ Ok true → vec_len block.old < vec_len block.new }
     ensures same { result ≡ Ok false → block.new.items ≡ block.old.items }
     ensures end { result ≡ Ok false → IsAtEnd (S.left source.new) }
@@ -81,7 +100,7 @@ fn read_more<M: Memory, S: Source>(
 }
 
 /// Reads bytes of a source behind those of a block, until there is a line feed or to its end, and tells where the first
-/// line feed stands.
+/// line feed stands. Of bytes without one no more stay in the block than are kept of a line, and a chunk.
 fn fill_line<M: Memory, S: Source>(
     memory: &mut M,
     source: &mut S,
@@ -89,22 +108,34 @@ fn fill_line<M: Memory, S: Source>(
     block: &mut Vec<u8>,
 ) -> Result<Option<usize>, ReadError>
     requires { 0 < length chunk.old }
-    ensures told { OnOk result (StaysTold (prepend_known block.old.items (S.left source.old))
+    ensures lines { OnOk result (KeepsLines (prepend_known block.old.items (S.left source.old))
         (prepend_known block.new.items (S.left source.new))) }
     ensures found { IfOk result (λ found. MatchOption found (HasNoFeed block.new.items × IsAtEnd (S.left source.new))
         (IsFirstFeed block.new.items)) }
-    ensures failed { IfErr result (λ e. e ≡ Failed → prepend_known block.old.items (S.left source.old) ≡ None) }
+    ensures failed { IfErr result (λ e. e ≡ Failed → MayFail (prepend_known block.old.items (S.left source.old))) }
     ensures refused { IfErr result (λ e. e ≡ NoMemory → M.refused memory.new ≡ true) }
 {
-    loop {
-        if let Some(place) = feed_in(block.as_slice()) {
-            return Ok(Some(place));
+    let mut seen = 0;
+    for _reads in 0..u64::MAX {
+        if let Some(place) = feed_in(&block[seen..]) {
+            return Ok(Some(seen + place));
         }
+        block.truncate(KEPT);
+        seen = block.len();
         let has_more = read_more(memory, source, chunk, block)?;
         if !has_more {
             return Ok(None);
         }
     }
+    Err(ReadError::Failed)
+}
+
+/// How many bytes are kept of a line of so many.
+fn kept(len: usize) -> usize
+    ensures within { result ≤ len }
+    ensures kept { (text : List ℕ) → take result text ≡ kept_of (take len text) }
+{
+    if len < KEPT { len } else { KEPT }
 }
 
 /// Where the next line of a block begins, and its length if a line feed is behind it: where none is known to be, more is
@@ -122,11 +153,11 @@ fn find_line<M: Memory, S: Source>(
     requires within { next ≤ vec_len block.old }
     requires ahead { IfSome ahead (IsFirstFeed (drop next block.old.items)) }
     ensures within { IfOk result (λ line. line.0 ≤ vec_len block.new) }
-    ensures told { IfOk result (λ line. StaysTold (prepend_known (drop next block.old.items) (S.left source.old))
+    ensures lines { IfOk result (λ line. KeepsLines (prepend_known (drop next block.old.items) (S.left source.old))
         (prepend_known (drop line.0 block.new.items) (S.left source.new))) }
     ensures found { IfOk result (λ line. MatchOption line.1 (HasNoFeed (drop line.0 block.new.items) × IsAtEnd (S.left source.new))
         (IsFirstFeed (drop line.0 block.new.items))) }
-    ensures failed { IfErr result (λ e. e ≡ Failed → prepend_known (drop next block.old.items) (S.left source.old) ≡ None) }
+    ensures failed { IfErr result (λ e. e ≡ Failed → MayFail (prepend_known (drop next block.old.items) (S.left source.old))) }
     ensures refused { IfErr result (λ e. e ≡ NoMemory → M.refused memory.new ≡ true) }
 {
     if let Some(len) = ahead {
@@ -173,7 +204,8 @@ pub fn read_to_end<M: Memory, S: Source + Drop>(
 /// Reads lines from a source.
 ///
 /// A line is a slice of the block that was read, and is copied only where it goes on behind it. It stays until the next
-/// one is read.
+/// one is read. Of a line of more than [`MOST_BYTES`] bytes the first ones are kept, one more than that, and the rest is
+/// passed over, so that the memory does not grow with it: [`is_too_long`] tells such a line.
 #[derive(Drop)]
 pub struct LineReader<S: Source + Drop> {
     source: S,
@@ -221,10 +253,12 @@ impl<S: Source + Drop> LineReader<S> {
     }
 
     /// Reads the next line, without its line feed, and tells whether it ends in one, so that another line is behind it.
+    ///
+    /// It takes time in the length of the line, also of one that is too long. After an error the reader is at no line.
     pub fn read_line<M: Memory>(&mut self, memory: &mut M) -> Result<bool, ReadError>
         ensures line { IfOk result (λ more. IfSome self.old.left
             (λ text. IsNextLine text self.new.line more self.new.left)) }
-        ensures failed { IfErr result (λ e. e ≡ Failed → self.old.left ≡ None) }
+        ensures failed { IfErr result (λ e. e ≡ Failed → MayFail self.old.left) }
         ensures refused { IfErr result (λ e. e ≡ NoMemory → M.refused memory.new ≡ true) }
     {
         let (next, ahead) = (self.next, self.ahead);
@@ -242,12 +276,15 @@ impl<S: Source + Drop> LineReader<S> {
         )?;
         self.start = start;
         let Some(len) = found else {
-            self.stop = self.block.len();
-            self.next = self.stop;
+            let end = self.block.len();
+            let last = kept(end - start);
+            self.stop = start + last;
+            self.next = end;
             return Ok(false);
         };
-        self.stop = start + len;
-        self.next = self.stop + 1;
+        let line = kept(len);
+        self.stop = start + line;
+        self.next = start + len + 1;
         self.ahead = feed_in(&self.block[self.next..]);
         Ok(true)
     }

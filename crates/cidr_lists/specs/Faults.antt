@@ -3,7 +3,7 @@ use Rattle.std.specs.Prelude.{◌≡◌, ◌⊎◌, ℕ, ◌+◌, List, [], ◌�
 use Rattle.std.specs.List.{flat_map}
 use Rattle.cidr.specs.declared.cidr.combined.IpCidr.{IpCidr}
 use Rattle.cidr_lists.specs.Entries.{HasNoHost, LineHas}
-use Rattle.cidr_lists.specs.Lists.{Text, IsContent, IsField, IsInError, lines_of}
+use Rattle.cidr_lists.specs.Lists.{Text, IsContent, IsField, IsInError, IsTooLong, lines_of}
 use Rattle.cidr_lists.specs.Fields.{IsBadRow}
 use Rattle.cidr_lists.specs.Tables.{RowSays}
 use Rattle.cidr_lists.specs.declared.entries.Entry.{Entry}
@@ -16,7 +16,8 @@ use Rattle.cidr_lists.specs.Messages.{fault_line}
 
 -- the line is not in error
 abbrev pub IsSound : Kind → HostBits → List ℕ → Type 0
-IsSound kind.Networks bits line = (field : List ℕ) × (content : Content) × IsField line field × IsContent bits field content
+IsSound kind.Networks bits line = ¬ (IsTooLong line)
+    × (field : List ℕ) × (content : Content) × IsField line field × IsContent bits field content
 IsSound kind.Hosts bits line = (file : List ℕ) × (number : ℕ) × (one : Option Entry) × LineHas file number line one
 IsSound kind.Rows bits line = (said : Option (IpCidr × List ℕ)) × RowSays bits line said
 

@@ -4,7 +4,7 @@ use Rattle.std.specs.Str.{IsTrimAscii}
 use Rattle.cidr.specs.either.IpText.{IsIpNetworkText}
 use Rattle.cidr.specs.declared.cidr.combined.IpCidr.{IpCidr}
 use Rattle.cidr.specs.texts.Messages.{ip_error}
-use Rattle.cidr_lists.specs.Lists.{IsFirstField, SaysNothing, IsField, IsNoAddress, IsNoNetworkBy}
+use Rattle.cidr_lists.specs.Lists.{IsFirstField, SaysNothing, IsBadLineBy, IsField, IsNoAddress, IsNoNetworkBy}
 use Rattle.cidr_lists.specs.declared.errors.LineError.{LineError}
 use Rattle.cidr_lists.specs.declared.lines.HostBits.TheVariants.{Refused}
 use Rattle.cidr_lists.specs.declared.errors.LineError.TheVariants.{NotUtf8, NoNetwork, NoAddress}
@@ -49,12 +49,18 @@ IsNoAddressField first (NoAddress e) = (e ≡ ip_error) × IsNoAddress first
 IsNoAddressField first e = ⊥
 
 -- the row of a table is in error by its first field
+abbrev pub HasBadNetwork : HostBits → List ℕ → LineError → Type 0
+HasBadNetwork bits line e = (first : List ℕ) × (value : List ℕ) × IsRowSplit line first value × IsNoNetworkField bits first e
+
 abbrev pub IsBadRow : HostBits → List ℕ → LineError → Type 0
-IsBadRow bits line e = (first : List ℕ) × (value : List ℕ) × IsRowSplit line first value × IsNoNetworkField bits first e
+IsBadRow bits line e = IsBadLineBy (HasBadNetwork bits) line e
 
 -- the line that is looked up is in error by its first field
+abbrev pub HasBadAddress : List ℕ → LineError → Type 0
+HasBadAddress line e = (first : List ℕ) × (rest : List ℕ) × IsSplit line first rest × IsNoAddressField first e
+
 abbrev pub IsBadLine : List ℕ → LineError → Type 0
-IsBadLine line e = (first : List ℕ) × (rest : List ℕ) × IsSplit line first rest × IsNoAddressField first e
+IsBadLine line e = IsBadLineBy HasBadAddress line e
 
 -- what the first field of a line says, or its error
 abbrev pub ReadsField : List ℕ → Result (Option IpCidr) LineError → Type 0

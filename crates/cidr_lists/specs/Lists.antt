@@ -1,7 +1,7 @@
 -- What a list of networks says: a network, an address or a range of addresses a line, with white space
 -- around it, and a comment behind it from # or ; on. Line feeds separate lines, so that a last one makes an empty line,
--- which says nothing.
-use Rattle.std.specs.Prelude.{◌≡◌, ◌≢◌, ◌⊎◌, ℕ, ◌+◌, ◌==◌, Bool, List, [], ◌∷◌, ◌++◌, length, map, IsUtf8, ◌||◌}
+-- which says nothing. A line of more than 1 MiB is in error, whatever it says.
+use Rattle.std.specs.Prelude.{◌≡◌, ◌≢◌, ◌⊎◌, ℕ, ◌+◌, ◌<◌, ◌==◌, Bool, List, [], ◌∷◌, ◌++◌, length, map, take, IsUtf8, ◌||◌}
 use Rattle.std.specs.Char.{is_ascii_whitespace}
 use Rattle.std.specs.List.{AllZip, before_first, flat_map, slice_split}
 use Rattle.std.specs.Str.{IsTrimAscii, IsTrimAsciiStart}
@@ -23,7 +23,7 @@ use Rattle.cidr.specs.declared.inet.combined.IpInet.{IpInet}
 use Rattle.cidr_sets.specs.Ranges.{IsBetween}
 use Rattle.cidr_sets.specs.Sets.{IsSetOf}
 use Rattle.cidr_lists.specs.declared.errors.LineError.{LineError}
-use Rattle.cidr_lists.specs.declared.errors.LineError.TheVariants.{NotUtf8, NoNetwork, NoAddress, TwoFamilies, Reversed}
+use Rattle.cidr_lists.specs.declared.errors.LineError.TheVariants.{TooLong, NotUtf8, NoNetwork, NoAddress, TwoFamilies, Reversed}
 use Rattle.cidr_lists.specs.declared.lines.HostBits.{HostBits}
 use Rattle.cidr_lists.specs.declared.lines.HostBits.TheVariants.{Refused, Cleared}
 use Rattle.cidr_lists.specs.declared.lines.Content.{Content}
@@ -41,9 +41,21 @@ hyphen = 45
 abbrev pub is_line_feed : ℕ → Bool
 is_line_feed byte = byte == 10
 
--- the lines of a text: the bytes between line feeds
+-- the most bytes of a line, without its line feed: 1 MiB
+abbrev pub most_bytes : ℕ
+most_bytes = 1048576
+
+-- the line has more
+abbrev pub IsTooLong : List ℕ → Type 0
+IsTooLong line = most_bytes < length line
+
+-- what is kept of a line: of one that is too long as many bytes as show it
+abbrev pub kept_of : List ℕ → List ℕ
+kept_of line = take (most_bytes + 1) line
+
+-- the lines of a text: the bytes between line feeds, as far as they are kept
 abbrev pub lines_of : List ℕ → List (List ℕ)
-lines_of text = slice_split is_line_feed text
+lines_of text = map kept_of (slice_split is_line_feed text)
 
 -- a list: its bytes, and what is done with a set bit after the prefix of a network
 pub record Text : Type 0 where
@@ -97,8 +109,8 @@ AreNetworks (Ipv6Range first last) said =
 
 -- the line says these networks
 abbrev pub LineSays : HostBits → List ℕ → List IpCidr → Type 0
-LineSays bits line said =
-    (field : List ℕ) × (content : Content) × IsField line field × IsContent bits field content × AreNetworks content said
+LineSays bits line said = ¬ (IsTooLong line)
+    × (field : List ℕ) × (content : Content) × IsField line field × IsContent bits field content × AreNetworks content said
 
 -- ---- a line in error
 -- the string is no address of either family
@@ -114,6 +126,7 @@ IsNoNetworkBy Cleared text e = IsIpHostRefused text e × ((h : IpInet) → ¬ (I
 -- else what stands before its first hyphen is no address, or what stands behind it; else the two are of two families;
 -- else the first is above the last
 abbrev pub IsFieldError : HostBits → List ℕ → LineError → Type 0
+IsFieldError bits field TooLong = ⊥
 IsFieldError bits field NotUtf8 = ¬ (IsUtf8 field)
 IsFieldError bits field (NoNetwork e) = (field ≢ []) × Lacks hyphen field × IsNoNetworkBy bits field e
 IsFieldError bits field (NoAddress e) = (front : List ℕ) × (back : List ℕ) × (field ≡ front ++ hyphen ∷ back) × Lacks hyphen front
@@ -123,9 +136,16 @@ IsFieldError bits field TwoFamilies =
 IsFieldError bits field Reversed = (first : IpAddr) × (last : IpAddr) × AreEnds field first last
     × (address_family first ≡ address_family last) × (bit_cmp (ip_address_bits first) (ip_address_bits last) ≡ Greater)
 
--- the line is in error
+-- the line is in error: it is too long, or it is not, and the error is that of its bytes
+abbrev pub IsBadLineBy : (List ℕ → LineError → Type 0) → List ℕ → LineError → Type 0
+IsBadLineBy IsBad line e = ((e ≡ TooLong) × IsTooLong line) ⊎ (¬ (IsTooLong line) × IsBad line e)
+
+-- the same by its field
+abbrev pub HasBadField : HostBits → List ℕ → LineError → Type 0
+HasBadField bits line e = (field : List ℕ) × IsField line field × IsFieldError bits field e
+
 abbrev pub IsInError : HostBits → List ℕ → LineError → Type 0
-IsInError bits line e = (field : List ℕ) × IsField line field × IsFieldError bits field e
+IsInError bits line e = IsBadLineBy (HasBadField bits) line e
 
 -- ---- a list
 -- what each line of a list says

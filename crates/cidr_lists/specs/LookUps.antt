@@ -6,7 +6,7 @@ use Rattle.cidr.specs.texts.PrintedAddress.{ip_text}
 use Rattle.cidr.specs.declared.addr.ip.IpAddr.{IpAddr}
 use Rattle.cidr.specs.declared.family.Family.{Family}
 use Rattle.cidr_table.specs.Prefixes.{IsLookedUp}
-use Rattle.cidr_lists.specs.Lists.{IsField}
+use Rattle.cidr_lists.specs.Lists.{IsField, IsTooLong}
 use Rattle.cidr_lists.specs.Fields.{IsSplit}
 
 -- an address, and the longest network of a table that has it, with its value, if there is one
@@ -15,10 +15,14 @@ pub record LookUp : Type 0 where
   pub found : Option (List Bool × List ℕ)
 
 -- the line says nothing, or an address, which was looked up in the table
-abbrev pub LineLooks : (Family → List (List Bool × List ℕ)) → List ℕ → Option LookUp → Type 0
-LineLooks table line None = IsField line []
-LineLooks table line (Some look) = (first : List ℕ) × (rest : List ℕ) × IsSplit line first rest × IsIpText first look.address
+abbrev pub FieldLooks : (Family → List (List Bool × List ℕ)) → List ℕ → Option LookUp → Type 0
+FieldLooks table line None = IsField line []
+FieldLooks table line (Some look) = (first : List ℕ) × (rest : List ℕ) × IsSplit line first rest × IsIpText first look.address
     × IsLookedUp (λ (p : List Bool). p) (plain_bits look.address) (table (address_family look.address)) look.found
+
+-- the same of a line that is not too long
+abbrev pub LineLooks : (Family → List (List Bool × List ℕ)) → List ℕ → Option LookUp → Type 0
+LineLooks table line look = ¬ (IsTooLong line) × FieldLooks table line look
 
 -- a space in front of a value, if there is one
 abbrev pub gap : List ℕ → List ℕ

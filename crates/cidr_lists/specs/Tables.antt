@@ -6,7 +6,7 @@ use Rattle.cidr.specs.declared.cidr.combined.IpCidr.TheVariants.{V4, V6}
 use Rattle.cidr.specs.declared.family.Family.{Family}
 use Rattle.cidr.specs.declared.family.Family.TheVariants.{Ipv4, Ipv6}
 use Rattle.cidr_table.specs.LastRows.{AreLastRows}
-use Rattle.cidr_lists.specs.Lists.{Text, IsNetworkBy, lines_of}
+use Rattle.cidr_lists.specs.Lists.{Text, IsNetworkBy, IsTooLong, lines_of}
 use Rattle.cidr_lists.specs.declared.lines.HostBits.{HostBits}
 use Rattle.cidr_lists.specs.Fields.{IsRowSplit, IsNoRow}
 use Rattle.cidr_lists.specs.declared.rows.Rows.{Rows}
@@ -15,9 +15,13 @@ use Rattle.cidr_lists.specs.declared.table.Table.{Table}
 
 -- ---- a table
 -- the line of a table says nothing, or a network and its value
+abbrev pub RowFieldsSay : HostBits → List ℕ → Option (IpCidr × List ℕ) → Type 0
+RowFieldsSay bits line None = IsNoRow line
+RowFieldsSay bits line (Some (network, value)) = (first : List ℕ) × IsRowSplit line first value × IsNetworkBy bits first network
+
+-- the same of a line that is not too long
 abbrev pub RowSays : HostBits → List ℕ → Option (IpCidr × List ℕ) → Type 0
-RowSays bits line None = IsNoRow line
-RowSays bits line (Some (network, value)) = (first : List ℕ) × IsRowSplit line first value × IsNetworkBy bits first network
+RowSays bits line said = ¬ (IsTooLong line) × RowFieldsSay bits line said
 
 -- a network of either family with what belongs to it, if it is of this family
 abbrev pub row_in : {V : Type 0} → Family → IpCidr × V → List (List Bool × V)

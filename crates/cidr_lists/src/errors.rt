@@ -12,6 +12,8 @@ pub const MOST_MESSAGE: usize = 99;
 /// Why a line is in error.
 #[derive(Debug, Drop)]
 pub enum LineError {
+    /// It has more than 1 MiB. The caller that cuts lines tells it: no call of this library does.
+    TooLong,
     /// It is not UTF-8.
     NotUtf8,
     /// It is neither a network nor an address: the error of parsing it.
@@ -31,6 +33,7 @@ impl LineError {
     {
         let mut text = ArrayString::new();
         match self {
+            LineError::TooLong => text.push_str("longer than 1 MiB"),
             LineError::NotUtf8 => text.push_str("not UTF-8"),
             LineError::NoNetwork(e) => return e.to_text(),
             LineError::NoAddress(e) => text.push_str(e.to_text().as_str()),

@@ -1,15 +1,20 @@
 -- What a run gives up for.
 use Rattle.std.proofs.Common.{◌≡◌, refl, sym, ap, subst, arith, inl, inr, ℕ, ◌+◌, ◌≤◌, Bor, Bool, true, false, List, ◌++◌, length, length-append, Option, Some, None, Result, Ok, Err, IfErr}
+use Rattle.std.specs.List.{slice_split}
 use Rattle.std.specs.Option.{IfSome}
+use Rattle.std.proofs.lemmas.List.{length-map}
+use Rattle.std.proofs.lemmas.List.Splits.{length-slice_split}
+use Rattle.std.proofs.lemmas.List.Sums.{count_by-le-length}
+use Rattle.cidr_io.specs.Lines.{MayFail as NoLineFails}
 use Rattle.cidr_io.specs.declared.lines.ReadError.{ReadError as NoLine}
 use Rattle.cidr_io.specs.declared.lines.ReadError.TheVariants.{Failed}
 use Rattle.cidr_io.specs.declared.lines.ReadError.TheVariants as no_line
 use Rattle.cidr_io.specs.declared.sink.OutputFailed.{OutputFailed}
 use Rattle.cidr_io.specs.Writing.{State}
-use Rattle.netset.specs.Causes.{Cause, HasTooManyLines, LookCause, MayFail, ReadCause, TextFails}
+use Rattle.netset.specs.Causes.{Cause, AreTooMany, LookCause, MayFail, ReadCause, TextFails}
 use Rattle.netset.specs.Commands.{Single as ASingle}
 use Rattle.netset.specs.Gathering.{IsLost, Stops, ended_by}
-use Rattle.cidr_lists.specs.Lists.{Text, lines_of}
+use Rattle.cidr_lists.specs.Lists.{Text, is_line_feed, kept_of, lines_of}
 use Rattle.netset.specs.LookUps.{unread}
 use Rattle.netset.specs.Program.{AnswersRequest, IsBadArgument, by_output}
 use Rattle.netset.specs.Reading.{IsStopped, read_error}
@@ -32,17 +37,19 @@ reading_stopped no_line.NoMemory = tt
 
 -- where a text is told, so is what is left of it
 abbrev pub KnownOf : Option (List ℕ) → Option (List ℕ) → Type 0
-KnownOf contents left = IfSome contents (λ _. (rest : List ℕ) × (left ≡ Some rest))
+KnownOf contents left = IfSome contents (λ text. (rest : List ℕ) × (left ≡ Some rest) × (length rest ≤ length text))
 
 pub known_first : (contents : Option (List ℕ)) → KnownOf contents contents
 known_first None = tt
-known_first (Some text) = (text, refl)
+known_first (Some text) = (text, refl, omega arith)
 
-pub told_fails : (contents left : Option (List ℕ)) → KnownOf contents left → left ≡ None → TextFails contents
+pub told_fails : (contents left : Option (List ℕ)) → KnownOf contents left → NoLineFails left → TextFails contents
 told_fails None left known h = tt
-told_fails (Some text) left (rest, is) h = cc
+told_fails (Some text) left (rest, is, size) h =
+    let many : 18446744073709551615 ≤ length rest = subst NoLineFails is h in
+    omega (arith, many, size)
 
-pub no_line_cause : (contents left : Option (List ℕ)) (refused : Bool) (e : NoLine) → KnownOf contents left → (e ≡ Failed → left ≡ None)
+pub no_line_cause : (contents left : Option (List ℕ)) (refused : Bool) (e : NoLine) → KnownOf contents left → (e ≡ Failed → NoLineFails left)
     → (e ≡ no_line.NoMemory → refused ≡ true) → ReadCause (TextFails contents) refused (read_error e)
 no_line_cause contents left refused Failed known fails none = told_fails contents left known (fails refl)
 no_line_cause contents left refused no_line.NoMemory known fails none = none refl
@@ -63,13 +70,19 @@ look_line_cause Fails refused Output h = tt
 pub longer_than : (most : ℕ) (all before after : List (List ℕ)) (number : ℕ) → all ≡ before ++ after → number ≡ length before + 1 → most + 1 ≤ number → most ≤ length all
 longer_than most all before after number lines place many = omega (arith, ap length lines, length-append before after)
 
+-- a text has at least a byte for each line but one
+pub enough_bytes : (text : List ℕ) → 18446744073709551614 ≤ length (lines_of text) → AreTooMany text
+enough_bytes text many =
+    omega (arith, many, length-map (slice_split is_line_feed text) kept_of, length-slice_split is_line_feed text, count_by-le-length is_line_feed text)
+
 pub too_many : (text : List ℕ) (before after : List (List ℕ)) (number : ℕ) → lines_of text ≡ before ++ after → number ≡ length before + 1
-    → 18446744073709551615 ≤ number → HasTooManyLines text
-too_many text before after number lines place most = longer_than 18446744073709551614 (lines_of text) before after number lines place most
+    → 18446744073709551615 ≤ number → AreTooMany text
+too_many text before after number lines place most =
+    enough_bytes text (longer_than 18446744073709551614 (lines_of text) before after number lines place most)
 
 -- ---- a file
 fails_there : (contents : Option Text) (left : Option (List ℕ)) → ((text : Text) → contents ≡ Some text → left ≡ Some text.bytes) → TextFails left
-    → IfSome contents (λ text. HasTooManyLines text.bytes)
+    → IfSome contents (λ text. AreTooMany text.bytes)
 fails_there None left opens h = tt
 fails_there (Some text) left opens h = subst TextFails (opens text refl) h
 
@@ -91,7 +104,7 @@ file_cause contents file left refused Input opens h = file_fails contents file.n
 file_cause contents file left refused NoMemory opens h = h
 
 pub not_opened : (contents : List ℕ → Option Text) (name : List ℕ) → contents name ≡ None → MayFail contents name
-not_opened contents name is = subst (λ (k : Option Text). IfSome k (λ text. HasTooManyLines text.bytes)) (sym is) tt
+not_opened contents name is = subst (λ (k : Option Text). IfSome k (λ text. AreTooMany text.bytes)) (sym is) tt
 
 pub cause_weaker : (F G : List ℕ → Type 0) (refused : Bool) (e : CommandError) → ((name : List ℕ) → F name → G name) → Cause F refused e → Cause G refused e
 cause_weaker F G refused error.Usage f h = tt

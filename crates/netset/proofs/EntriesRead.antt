@@ -182,14 +182,17 @@ all_files_at contents first files i entries past h =
 -- ---- entries that were kept in a file of no name
 line_in : (file : List ℕ) (number : ℕ) (line : List ℕ) (entry copy : Entry) → IsCopyIn file entry copy → LineHas [] number line (Some entry)
     → LineHas file number line (Some copy)
-line_in file number line entry copy (in_file, same_number, same_host, same_form) (no_name, at, field, is_field, is_host, canonical) = (
-  in_file,
-  same_number ∙ at,
-  field,
-  is_field,
-  subst (IsIpHostText field) (sym same_host) is_host,
-  subst (λ (h : IpInet). IsTrue copy.is_canonical ↔ (field ≡ ip_host_text plain_host_text h)) (sym same_host)
-      (subst (λ (b : Bool). IsTrue b ↔ (field ≡ ip_host_text plain_host_text entry.host)) (sym same_form) canonical),
+line_in file number line entry copy (in_file, same_number, same_host, same_form) (short, (no_name, at, field, is_field, is_host, canonical)) = (
+  short,
+  (
+    in_file,
+    same_number ∙ at,
+    field,
+    is_field,
+    subst (IsIpHostText field) (sym same_host) is_host,
+    subst (λ (h : IpInet). IsTrue copy.is_canonical ↔ (field ≡ ip_host_text plain_host_text h)) (sym same_host)
+        (subst (λ (b : Bool). IsTrue b ↔ (field ≡ ip_host_text plain_host_text entry.host)) (sym same_form) canonical),
+  ),
 )
 
 -- one line and those behind it

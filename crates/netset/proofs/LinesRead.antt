@@ -1,10 +1,15 @@
 -- How far the lines of a text have been read, whatever is made of them: `Done` says what a state has of the lines so far.
-use Rattle.std.proofs.Common.{◌≡◌, refl, sym, ◌∙◌, ap, subst, ℕ, ◌+◌, ◌≤◌, Bool, true, false, List, [], ◌∷◌, ◌++◌, length, arith, Option, Some, None, append_assoc, length-append}
+use Rattle.std.proofs.Common.{◌≡◌, refl, sym, ◌∙◌, ap, subst, ℕ, ◌+◌, ◌≤◌, Bool, true, false, Decides, List, [], ◌∷◌, ◌++◌, length, arith, Option, Some, None, append_assoc, length-append}
 use Rattle.std.specs.Option.{IfSome}
+use Rattle.std.proofs.lemmas.Bool.{true≢false}
 use Rattle.netset.specs.Causes.{TextFails}
-use Rattle.cidr_lists.specs.Lists.{lines_of}
+use Rattle.cidr_lists.specs.Lists.{IsTooLong, lines_of}
 use Rattle.netset.proofs.Causes.{KnownOf, too_many}
 use Rattle.netset.specs.Reading.{IsNextLine}
+
+-- the line is not too long
+pub fits : (line : List ℕ) (test : Bool) → Decides test (IsTooLong line) → test ≡ false → ¬ (IsTooLong line)
+fits line test d fails h = true≢false (sym (d.1 h) ∙ fails)
 
 module _ {S : Type 0} (Done : List (List ℕ) → S → Type 0) where
   -- the lines before this number were read
@@ -13,6 +18,7 @@ module _ {S : Type 0} (Done : List (List ℕ) → S → Type 0) where
     pub known : left ≡ Some rest
     pub before : List (List ℕ)
     pub lines : lines_of text ≡ before ++ lines_of rest
+    pub size : length rest ≤ length text
     pub place : number ≡ length before + 1
     pub done : Done before state
 
@@ -26,7 +32,7 @@ module _ {S : Type 0} (Done : List (List ℕ) → S → Type 0) where
 
   pub none_read : (contents : Option (List ℕ)) (state : S) → Done [] state → IfSome contents (λ text. LinesRead text contents state 1)
   none_read None state d = tt
-  none_read (Some text) state d = record { rest = text; known = refl; before = []; lines = refl; place = refl; done = d }
+  none_read (Some text) state d = record { rest = text; known = refl; before = []; lines = refl; size = omega arith; place = refl; done = d }
 
   -- a line that has another behind it
   pub line_read : (contents left next : Option (List ℕ)) (state new : S) (number : ℕ) (line : List ℕ) (more : Bool) → more ≡ true
@@ -36,12 +42,13 @@ module _ {S : Type 0} (Done : List (List ℕ) → S → Type 0) where
   line_read None left next state new number line more is p n step = tt
   line_read (Some text) left next state new number line false is p n step = cc
   line_read (Some text) left next state new number line true is p n step =
-      let (rest, known, lines) = (rw p.known at n) in
+      let (rest, known, lines, less) = (rw p.known at n) in
       record {
         rest = rest;
         known = known;
         before = p.before ++ line ∷ [];
         lines = p.lines ∙ (ap (λ k. p.before ++ k) lines ∙ sym (append_assoc p.before (line ∷ []) (lines_of rest)));
+        size = omega (arith, p.size, less);
         place = omega (arith, p.place, length-append p.before (line ∷ []));
         done = step p.before p.place p.done;
       }
@@ -74,7 +81,7 @@ module _ {S : Type 0} (Done : List (List ℕ) → S → Type 0) where
   -- what is left is told too
   pub left_known : (contents left : Option (List ℕ)) (state : S) (number : ℕ) → IfSome contents (λ text. LinesRead text left state number) → KnownOf contents left
   left_known None left state number p = tt
-  left_known (Some text) left state number p = (p.rest, p.known)
+  left_known (Some text) left state number p = (p.rest, p.known, p.size)
 
   -- there are more lines than numbers
   pub numbers_used : (contents left : Option (List ℕ)) (state : S) (number : ℕ) → IfSome contents (λ text. LinesRead text left state number)

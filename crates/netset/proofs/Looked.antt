@@ -17,7 +17,7 @@ use Rattle.cidr_io.proofs.Chains.{part_none, answered, then_writes}
 use Rattle.cidr_table.specs.Prefixes.{IsLookedUp}
 use Rattle.cidr_io.specs.Collecting.{Collects}
 use Rattle.netset.specs.Commands.{Look}
-use Rattle.cidr_lists.specs.Lists.{Text, lines_of}
+use Rattle.cidr_lists.specs.Lists.{IsTooLong, Text, lines_of}
 use Rattle.cidr_lists.specs.Fields.{IsBadLine, IsSplit}
 use Rattle.cidr_lists.specs.LookUps.{LineLooks, LookUp, found_line, is_found, look_line, shown}
 use Rattle.netset.specs.Look.{TellsFound}
@@ -105,11 +105,11 @@ row_pushed {C} text_of values found row a s t block rest r is h =
 
 -- the line of an address was lost
 pub line_lost : (table : Family → List (List Bool × List ℕ)) (line : List ℕ) (number : ℕ) (s t : State) (block rest first second : List ℕ) (address : IpAddr) (r : Result Bool LookError)
-    (y : LookError) (f : OutputFailed) → r ≡ Err y → y ≡ Output → IsSplit line first second → IsIpText first address → LooksUp table address s t block rest (Err f)
+    (y : LookError) (f : OutputFailed) → r ≡ Err y → y ≡ Output → ¬ (IsTooLong line) → IsSplit line first second → IsIpText first address → LooksUp table address s t block rest (Err f)
     → LooksLine table line number s t block rest r
-line_lost table line number s t block rest first second address r y f is same split spells (row, looked, part) =
+line_lost table line number s t block rest first second address r y f is same short split spells (row, looked, part) =
     subst (LooksLine table line number s t block rest) (sym (is ∙ ap failing same))
-    (Some (record { address = address; found = row }), (first, second, split, spells, looked), part)
+    (Some (record { address = address; found = row }), (short, (first, second, split, spells, looked)), part)
 
 -- ---- one line after the other
 -- so far

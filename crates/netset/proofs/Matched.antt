@@ -1,9 +1,9 @@
 -- Lines that are picked of a file.
 use Rattle.std.proofs.Common.{◌≡◌, ◌≢◌, ◌↔◌, refl, sym, ◌∙◌, ap, subst, inl, inr, ℕ, ◌+◌, ◌<◌, ◌≤◌, Bool, true, false, not, if◌then◌else◌, List, [], ◌∷◌, ◌++◌, length, arith, codes, Option, Some, None, Result, Ok, Err, Decides, append_assoc, length-append}
 use Rattle.std.specs.Option.{IfSome}
-use Rattle.std.specs.List.{AllZip, flat_map, items_where_true}
+use Rattle.std.specs.List.{AllZip, flat_map, items_where_true, slice_split}
 use Rattle.std.proofs.lemmas.Bool.{true≢false}
-use Rattle.std.proofs.lemmas.List.{append-nil, flat_map_more}
+use Rattle.std.proofs.lemmas.List.{append-nil, flat_map_more, length-map}
 use Rattle.std.proofs.lemmas.List.Concat.{flat_map-append}
 use Rattle.std.proofs.lemmas.List.Splits.{length-slice_split}
 use Rattle.cidr.specs.either.IpNetwork.{network_family, network_prefix}
@@ -18,9 +18,9 @@ use Rattle.netset.specs.Causes.{TextFails}
 use Rattle.netset.specs.Combining.{Turned}
 use Rattle.netset.specs.Commands.{Match, Says}
 use Rattle.netset.specs.Gathering.{Finishes, IsCounted, IsDone, IsLost, IsUnreadable, Stops, Streams, TakesPart, ended_by, lines_of_part, rest_written}
-use Rattle.cidr_lists.specs.Lists.{Text, is_line_feed, lines_of}
+use Rattle.cidr_lists.specs.Lists.{Text, is_line_feed, kept_of, lines_of}
 use Rattle.cidr_lists.specs.Within.{AreWithin, HasOneIn, LiesIn}
-use Rattle.netset.specs.Matching.{ArePicked, ArePickedBy, IsCutAt, IsEnough, IsErrorBy, IsMatch, Picks, PicksAnywhere, PicksByField, all_written, has, line_written, written_of}
+use Rattle.netset.specs.Matching.{ArePicked, ArePickedBy, IsCutAt, IsEnough, IsErrorBy, IsMatch, Picks, PicksAnywhere, PicksBy, PicksByField, all_written, has, line_written, written_of}
 use Rattle.cidr_lists.specs.Lines.{last_line, lines_among, lines_in}
 use Rattle.cidr_lists.specs.Fields.{FieldSays}
 use Rattle.netset.specs.Program.{AnswersRequest}
@@ -38,7 +38,7 @@ use Rattle.netset.specs.declared.commands.matching.Written.TheVariants as writte
 use Rattle.cidr_lists.specs.declared.sets.Sets.{Sets}
 use Rattle.netset.proofs.Blocks.{last_block, nothing_held}
 use Rattle.cidr_io.proofs.Collected.{held_lost, held_then, none_collected}
-use Rattle.netset.proofs.Causes.{KnownOf, longer_than}
+use Rattle.netset.proofs.Causes.{KnownOf, enough_bytes, longer_than}
 use Rattle.netset.proofs.Combining.{turned_same}
 
 -- ---- lines
@@ -58,12 +58,12 @@ among_more part (next ∷ parts) h = refl
 -- the lines of the next part, and those behind it
 part_read : (text part : List ℕ) (more : Bool) (next : Option (List ℕ)) → IsNextLine text part more next
     → (after : List (List ℕ)) × (lines_in text ≡ lines_of_part part more ++ after) × (more ≡ false → after ≡ [])
-    × (more ≡ true → (rest : List ℕ) × (next ≡ Some rest) × (after ≡ lines_in rest))
+    × (more ≡ true → (rest : List ℕ) × (next ≡ Some rest) × (after ≡ lines_in rest) × (length rest < length text))
 part_read text part true next n = (
   lines_in n.0,
-  ap lines_among n.2 ∙ among_more part (lines_of n.0) (omega (arith, length-slice_split is_line_feed n.0)),
+  ap lines_among n.2 ∙ among_more part (lines_of n.0) (omega (arith, length-map (slice_split is_line_feed n.0) kept_of, length-slice_split is_line_feed n.0)),
   λ e. absurd (true≢false e),
-  λ e. (n.0, n.1, refl),
+  λ e. (n.0, n.1, refl, n.3),
 )
 part_read text part false next n = (
   [],
@@ -156,19 +156,24 @@ module _ (said : List (List IpCidr)) (sets : Sets) (h : HasAddresses said sets) 
         (family, (word, among, (text, bare, (address, spells, (within_same family address).1 within)))),
   )
 
-  picks_same : (anywhere inverted : Bool) (line : List ℕ) (r : Result Bool LineError) → Picks anywhere (HasAddress sets) inverted line r
-      → Picks anywhere (Says said) inverted line r
-  picks_same true inverted line (Ok picked) d =
+  picks_by_same : (anywhere inverted : Bool) (line : List ℕ) (r : Result Bool LineError) → PicksBy anywhere (HasAddress sets) inverted line r
+      → PicksBy anywhere (Says said) inverted line r
+  picks_by_same true inverted line (Ok picked) d =
       decides_same (Turned inverted (HasOneIn (HasAddress sets) line)) (Turned inverted (HasOneIn (Says said) line)) picked
       (turned_same inverted (HasOneIn (HasAddress sets) line) (HasOneIn (Says said) line) (one_same line)) d
-  picks_same true inverted line (Err e) bad = absurd bad
-  picks_same false inverted line (Ok picked) (what, says, d) = (
+  picks_by_same true inverted line (Err e) bad = absurd bad
+  picks_by_same false inverted line (Ok picked) (what, says, d) = (
     what,
     says,
     decides_same (Turned inverted (LiesIn (HasAddress sets) what)) (Turned inverted (LiesIn (Says said) what)) picked
         (turned_same inverted (LiesIn (HasAddress sets) what) (LiesIn (Says said) what) (lies_same what)) d,
   )
-  picks_same false inverted line (Err e) bad = bad
+  picks_by_same false inverted line (Err e) bad = bad
+
+  picks_same : (anywhere inverted : Bool) (line : List ℕ) (r : Result Bool LineError) → Picks anywhere (HasAddress sets) inverted line r
+      → Picks anywhere (Says said) inverted line r
+  picks_same anywhere inverted line r (inl long) = inl long
+  picks_same anywhere inverted line r (inr (short, picks)) = inr (short, picks_by_same anywhere inverted line r picks)
 
 -- ---- what is written
 flat_none : (f : List ℕ → List ℕ) → ((l : List ℕ) → f l ≡ []) → (ls : List (List ℕ)) → flat_map f ls ≡ []
@@ -229,6 +234,7 @@ module _ (P : List ℕ → Result Bool LineError → Type 0) (what : Written) wh
     pub known : left ≡ Some rest
     pub read : List (List ℕ)
     pub lines : lines_in text ≡ read ++ lines_in rest
+    pub size : length rest ≤ length text
     pub place : number ≡ length read + 1
     pub are : ArePicked P read picked
 
@@ -256,7 +262,7 @@ module _ (P : List ℕ → Result Bool LineError → Type 0) (what : Written) wh
 
   nothing_passed : (known : Option (List ℕ)) → IfSome known (λ text. Passed text known 1 [])
   nothing_passed None = tt
-  nothing_passed (Some text) = record { rest = text; known = refl; read = []; lines = refl; place = refl; are = none_picked P }
+  nothing_passed (Some text) = record { rest = text; known = refl; read = []; lines = refl; size = omega arith; place = refl; are = none_picked P }
 
   pub started : (known : Option (List ℕ)) (s : State) (count : ℕ) (block : List ℕ) → count ≡ 0 → block ≡ [] → Streamed known known s s 1 count block
   started known s count block zero none = record {
@@ -282,12 +288,13 @@ module _ (P : List ℕ → Result Bool LineError → Type 0) (what : Written) wh
         to = record { lines = all; are = are };
         over = over;
         on = λ e.
-            let (rest, known, is) = on e in
+            let (rest, known, is, less) = on e in
             record {
               rest = rest;
               known = known;
               read = p.read ++ lines_of_part part more;
               lines = all ∙ ap (λ (z : List (List ℕ)). (p.read ++ lines_of_part part more) ++ z) is;
+              size = omega (arith, p.size, less);
               place = omega (arith, p.place, length-append p.read (lines_of_part part more), ap (λ (b : Bool). length (lines_of_part part b)) e);
               are = are;
             };
@@ -415,15 +422,15 @@ module _ (P : List ℕ → Result Bool LineError → Type 0) (what : Written) wh
   -- what is left is told too
   pub left_known : (known left : Option (List ℕ)) (s t : State) (number count : ℕ) (block : List ℕ) → Streamed known left s t number count block → KnownOf known left
   left_known None left s t number count block st = tt
-  left_known (Some text) left s t number count block st = (st.passed.rest, st.passed.known)
+  left_known (Some text) left s t number count block st = (st.passed.rest, st.passed.known, st.passed.size)
 
   -- there are more lines than numbers
   pub numbers_used : (known left : Option (List ℕ)) (s t : State) (number count : ℕ) (block : List ℕ) → Streamed known left s t number count block
       → 18446744073709551615 ≤ number → TextFails known
   numbers_used None left s t number count block st most = tt
   numbers_used (Some text) left s t number count block st most =
-      more_parts 18446744073709551614 text
-      (longer_than 18446744073709551614 (lines_in text) st.passed.read (lines_in st.passed.rest) number st.passed.lines st.passed.place most)
+      enough_bytes text (more_parts 18446744073709551614 text
+      (longer_than 18446744073709551614 (lines_in text) st.passed.read (lines_in st.passed.rest) number st.passed.lines st.passed.place most))
 
   -- what was collected is written before more is read, or not all of it
   pub caught_up : (known left : Option (List ℕ)) (s t u : State) (number count after : ℕ) (block next : List ℕ) → after ≡ count → Collects t u block next [] (Ok tt)

@@ -26,6 +26,7 @@ module _ (bits : HostBits) where
     pub known : left ≡ Some rest
     pub before : List (List ℕ)
     pub lines : lines_of text ≡ before ++ lines_of rest
+    pub size : length rest ≤ length text
     pub place : number ≡ length before + 1
     pub said : List (List IpCidr)
     pub fine : AllZip (LineSays bits) before said
@@ -38,6 +39,7 @@ module _ (bits : HostBits) where
     known = refl;
     before = [];
     lines = refl;
+    size = omega arith;
     place = refl;
     said = [];
     fine = tt;
@@ -56,12 +58,13 @@ module _ (bits : HostBits) where
   stepped None left next old now new number line more one is p n s g = tt
   stepped (Some text) left next old now new number line false one is p n s g = cc
   stepped (Some text) left next old now new number line true one is p n s g =
-      let (rest, known, lines) = (rw p.known at n) in
+      let (rest, known, lines, less) = (rw p.known at n) in
       record {
         rest = rest;
         known = known;
         before = p.before ++ line ∷ [];
         lines = p.lines ∙ (ap (λ k. p.before ++ k) lines ∙ sym (append_assoc p.before (line ∷ []) (lines_of rest)));
+        size = omega (arith, p.size, less);
         place = omega (arith, p.place, length-append p.before (line ∷ []));
         said = p.said ++ one ∷ [];
         fine = zip_behind (LineSays bits) p.before p.said line one p.fine s;
@@ -127,7 +130,7 @@ module _ (bits : HostBits) where
   -- what is left is told too
   pub left_known : (contents left : Option (List ℕ)) (old new : Lists) (number : ℕ) → IfSome contents (λ text. Progress text left old new number) → KnownOf contents left
   left_known None left old new number p = tt
-  left_known (Some text) left old new number p = (p.rest, p.known)
+  left_known (Some text) left old new number p = (p.rest, p.known, p.size)
 
   -- there are more lines than numbers
   pub numbers_used : (contents left : Option (List ℕ)) (old new : Lists) (number : ℕ) → IfSome contents (λ text. Progress text left old new number)

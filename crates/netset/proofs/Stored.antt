@@ -162,7 +162,7 @@ module _ (bits : HostBits) where
   -- what is left is told too
   pub rows_known : (contents left : Option (List ℕ)) (rows : Rows) (number : ℕ) → IfSome contents (λ text. Reads text left rows number) → KnownOf contents left
   rows_known None left rows number p = tt
-  rows_known (Some text) left rows number (said, p, s) = (p.rest, p.known)
+  rows_known (Some text) left rows number (said, p, s) = (p.rest, p.known, p.size)
 
   -- there are more lines than numbers
   pub rows_used : (contents left : Option (List ℕ)) (rows : Rows) (number : ℕ) → IfSome contents (λ text. Reads text left rows number)

@@ -86,7 +86,7 @@ module _ (bits : HostBits) (line : List ℕ) (number : ℕ) where
   same_kind (Rows old) (Hosts new) r h = absurd h
 
   line_sound : (was now : Said) → AddsBy bits line number was now (Ok tt) → IsSound (kind_in was) bits line
-  line_sound (Networks old) (Networks new) (said, (field, content, is_field, is_content, are), grows) = (field, content, is_field, is_content)
+  line_sound (Networks old) (Networks new) (said, (short, field, content, is_field, is_content, are), grows) = (short, field, content, is_field, is_content)
   line_sound (Hosts old) (Hosts new) (one, has, is) = ([], number, one, has)
   line_sound (Rows old) (Rows new) (said, says, adds) = (said, says)
   line_sound (Networks old) (Hosts new) h = absurd h

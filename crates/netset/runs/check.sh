@@ -396,6 +396,26 @@ long_list() {
     run 0 "$output" '' "$input" look parts
 }
 
+# Lines of 1 MiB, and of a byte more.
+rows_of_long_lines() {
+    local fits long told=$'longer than 1 MiB\n'
+    fits=10.0.0.1$(head -c 1048568 /dev/zero | tr '\0' ' ')
+    long="$fits "
+    run 0 $'10.0.0.1\n' '' "$fits" merge
+    run 0 $'10.0.0.0/31\n' '' "$fits\n10.0.0.0" merge
+    run 2 '' "-:1: $told" "$long" merge
+    run 2 '' "-:2: $told" "10.0.0.0\n$long\nx" merge
+    run 2 '' "-:1: $told-:3: couldn't parse address in network: invalid IP address syntax"$'\n' "$long$fits$long\n::1\nx" merge -k
+    run 2 '' "-:2: $told" "#\n# $fits\n" check
+    run 0 $'10.0.0.1\n' '' "$fits\n" check
+    run 2 $'10.0.0.2 10.0.0.0/8 ten\n' "-:2: $told" "10.0.0.2\n$long\n10.0.0.1" look owners
+    run 2 '' "-:1: $told" "$long x" look - owners
+    run 0 "$fits"$'\n' '' "$fits" match ten
+    run 2 $'10.0.0.2\n' "-:2: $told" "10.0.0.2\n$long\n10.0.0.1" match ten
+    run 2 $'10.0.0.2\n' "-:2: $told" "10.0.0.2\n$long\n10.0.0.1" match --any ten
+    run 2 '' "-:1: $told" "$long" match - ten
+}
+
 # Either stream fails, or both.
 rows_where_a_stream_fails() {
     local output_file=/dev/full
@@ -505,6 +525,7 @@ for build in netset netset.by-rattle; do
     rows_of_one_network
     rows_of_host_bits
     rows_of_all_errors
+    rows_of_long_lines
     long_list
     runs/streams.py "$program" || differs=1
     if command -v "${CC:-cc}" >/dev/null; then

@@ -1,6 +1,6 @@
 -- What a run gives up for: an allocation that was refused, or a file that is not told.
 use Rattle.std.specs.Prelude.{◌≡◌, ℕ, ◌≤◌, Bool, true, List, length, Option, IfSome}
-use Rattle.cidr_lists.specs.Lists.{Text, lines_of}
+use Rattle.cidr_lists.specs.Lists.{Text}
 use Rattle.netset.specs.declared.errors.CommandError.{CommandError}
 use Rattle.netset.specs.declared.errors.CommandError.TheVariants as error
 use Rattle.netset.specs.declared.errors.ReadError.{ReadError}
@@ -8,13 +8,13 @@ use Rattle.netset.specs.declared.errors.ReadError.TheVariants.{Line, Input, NoMe
 use Rattle.netset.specs.declared.commands.look.LookError.{LookError}
 use Rattle.netset.specs.declared.commands.look.LookError.TheVariants.{Reading, Output}
 
--- the bytes have more lines than there are numbers for
-abbrev pub HasTooManyLines : List ℕ → Type 0
-HasTooManyLines bytes = 18446744073709551614 ≤ length (lines_of bytes)
+-- the bytes are about as many as 64 bits count, so that their lines may be more than there are numbers for
+abbrev pub AreTooMany : List ℕ → Type 0
+AreTooMany bytes = 18446744073709551613 ≤ length bytes
 
--- a file that can't be read is not told, or has too many lines
+-- a file that can't be read is not told, or is too long
 abbrev pub MayFail : (List ℕ → Option Text) → List ℕ → Type 0
-MayFail contents name = IfSome (contents name) (λ text. HasTooManyLines text.bytes)
+MayFail contents name = IfSome (contents name) (λ text. AreTooMany text.bytes)
 
 -- there is no memory only after an allocation was refused, and only some files can't be read
 abbrev pub Cause : (List ℕ → Type 0) → Bool → CommandError → Type 0
@@ -29,9 +29,9 @@ ReadCause Fails refused (Line number e) = Unit {0}
 ReadCause Fails refused Input = Fails
 ReadCause Fails refused NoMemory = refused ≡ true
 
--- the bytes that are read are not told, or have too many lines
+-- the bytes that are read are not told, or too many
 abbrev pub TextFails : Option (List ℕ) → Type 0
-TextFails left = IfSome left HasTooManyLines
+TextFails left = IfSome left AreTooMany
 
 -- the same where addresses are looked up
 abbrev pub LookCause : Type 0 → Bool → LookError → Type 0

@@ -12,11 +12,13 @@ use Rattle.netset.specs.declared.output.answers.Verdict.{Verdict}
 use Rattle.netset.specs.declared.output.answers.Verdict.TheVariants.{Yes, No}
 use Rattle.netset.specs.declared.errors.CommandError.{CommandError}
 use Rattle.cidr_lists.specs.declared.errors.LineError.{LineError}
+use Rattle.cidr_lists.specs.declared.errors.LineError.TheVariants.{TooLong}
 use Rattle.netset.specs.declared.commands.matching.Written.{Written}
 use Rattle.netset.specs.declared.commands.matching.Written.TheVariants as written
 use Rattle.cidr_lists.specs.Fields.{FieldSays, IsBadField}
 use Rattle.cidr_lists.specs.Within.{LiesIn, HasOneIn}
 use Rattle.cidr_lists.specs.Lines.{lines_in}
+use Rattle.cidr_lists.specs.Lists.{IsTooLong}
 
 -- ---- options
 -- the word is this one
@@ -49,9 +51,13 @@ PicksAnywhere IsIn inverted line (Ok picked) = Decides picked (Turned inverted (
 PicksAnywhere IsIn inverted line (Err e) = ⊥
 
 -- whether a line is picked, with --any or without, or its error
+abbrev pub PicksBy : Bool → (Family → List Bool → Type 0) → Bool → List ℕ → Result Bool LineError → Type 0
+PicksBy true IsIn inverted line r = PicksAnywhere IsIn inverted line r
+PicksBy false IsIn inverted line r = PicksByField IsIn inverted line r
+
+-- the same of any line: one that is too long is in error
 abbrev pub Picks : Bool → (Family → List Bool → Type 0) → Bool → List ℕ → Result Bool LineError → Type 0
-Picks true IsIn inverted line r = PicksAnywhere IsIn inverted line r
-Picks false IsIn inverted line r = PicksByField IsIn inverted line r
+Picks anywhere IsIn inverted line r = ((r ≡ Err TooLong) × IsTooLong line) ⊎ (¬ (IsTooLong line) × PicksBy anywhere IsIn inverted line r)
 
 -- the line is in error, and this is its error
 abbrev pub IsErrorBy : (List ℕ → Result Bool LineError → Type 0) → List ℕ → LineError → Type 0

@@ -12,11 +12,12 @@ use crate::input::table::{look_up, read_table, unread};
 use crate::output::answers::Verdict;
 use crate::output::printing::catch_up;
 use cidr_io::block::Block;
-use cidr_io::lines::{LineReader, ReadError as NoLine};
+use cidr_io::lines::{LineReader, ReadError as NoLine, is_too_long};
 use cidr_io::memory::Memory;
 use cidr_io::sink::{OutputFailed, Sink};
 use cidr_io::source::Source;
 use cidr_lists::columns::{address_in, split_line};
+use cidr_lists::errors::LineError;
 use cidr_lists::table::Table;
 
 /// Why look-ups end early.
@@ -63,6 +64,9 @@ fn look_line<S: Sink>(
         block.old block.new result }
     ensures cause { IfErr result (LookCause ⊥ false) }
 {
+    if is_too_long(line) {
+        return Err(LookError::Reading(ReadError::Line(number, LineError::TooLong)));
+    }
     let Some((first, _)) = split_line(line) else {
         return Ok(false);
     };

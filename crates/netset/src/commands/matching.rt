@@ -1,6 +1,7 @@
 //! The command `match`: the lines of a file whose first field lies in a list, or that have an address of it.
 ghost use Rattle.std.specs.Prelude.{◌≡◌, ◌<◌, ◌++◌, [], ◌∷◌, true, false, not, if◌then◌else◌, map, IfOk, IfErr, IfSome, None};
 ghost use Rattle.std.specs.Bool.{Decides};
+ghost use Rattle.cidr_io.specs.Lines.{MayFail as NoLineFails};
 ghost use Rattle.cidr_io.specs.Writing.{Writes};
 ghost use Rattle.cidr_io.specs.Collecting.{Collects};
 ghost use Rattle.netset.specs.Causes.{Cause, MayFail, TextFails};
@@ -17,7 +18,7 @@ use crate::input::several::read_file;
 use crate::output::answers::{Verdict, by_output};
 use crate::output::printing::catch_up;
 use cidr_io::block::Block;
-use cidr_io::lines::{LineReader, ReadError};
+use cidr_io::lines::{LineReader, ReadError, is_too_long};
 use cidr_io::memory::Memory;
 use cidr_io::sink::{OutputFailed, Sink};
 use cidr_io::source::Source;
@@ -80,6 +81,9 @@ impl Matcher<'_> {
     fn picks(&self, line: &[u8]) -> Result<bool, LineError>
         ensures { Picks self.now.anywhere (HasAddress self.now.sets.now) self.now.inverted line.now result }
     {
+        if is_too_long(line) {
+            return Err(LineError::TooLong);
+        }
         if self.anywhere {
             return Ok(is_picked(self.inverted, self.sets.have_one(line)));
         }
@@ -258,7 +262,7 @@ fn next_part<'a, M: Memory, R: Source + Drop>(
     ensures part { IfOk result (λ more. IfSome reader.old.left
         (λ text. IsNextLine text reader.new.line more reader.new.left)) }
     ensures stopped { IfErr result (IsUnreadable file.now) }
-    ensures cause { IfErr result (Cause (λ name. (name ≡ file.now) × (reader.old.left ≡ None)) (M.refused memory.new)) }
+    ensures cause { IfErr result (Cause (λ name. (name ≡ file.now) × NoLineFails reader.old.left) (M.refused memory.new)) }
 {
     match reader.read_line(memory) {
         Ok(has_more) => Ok(has_more),

@@ -8,10 +8,11 @@ ghost use Rattle.netset.specs.Unchecked.{AddsFileEntries, AreToldEntries, IsUnch
 use crate::errors::{CommandError, ReadError};
 use crate::input::files::Sources;
 use crate::input::keeping::Said;
-use cidr_io::lines::LineReader;
+use cidr_io::lines::{LineReader, is_too_long};
 use cidr_io::memory::Memory;
 use cidr_io::source::Source;
 use cidr_lists::entries::{Entry, Place, entry_of};
+use cidr_lists::errors::LineError;
 use std::alloc::AllocError;
 
 /// Adds the entry that a line has, if it has one.
@@ -24,6 +25,9 @@ pub fn add_line<'a, M: Memory>(
     ensures adds { AddsEntry place.entry.file.now place.entry.number line.now entries.old.items entries.new.items result }
     ensures cause { IfErr result (ReadCause ⊥ (M.refused memory.new)) }
 {
+    if is_too_long(line) {
+        return Err(ReadError::Line(place.number, LineError::TooLong));
+    }
     match entry_of(place, line) {
         Ok(Some(entry)) => {
             memory.push(entries, entry)?;

@@ -5,9 +5,10 @@ ghost use Rattle.cidr_lists.specs.Lists.{text_by};
 ghost use Rattle.netset.specs.Reading.{AddsLine, ReadsList};
 
 use crate::errors::ReadError;
-use cidr_io::lines::LineReader;
+use cidr_io::lines::{LineReader, is_too_long};
 use cidr_io::memory::Memory;
 use cidr_io::source::Source;
+use cidr_lists::errors::LineError;
 use cidr_lists::lines::{HostBits, content_of};
 use cidr_lists::lists::Lists;
 
@@ -22,6 +23,9 @@ pub fn add_line<M: Memory>(
     ensures adds { AddsLine host_bits line.now number lists.old lists.new result }
     ensures cause { IfErr result (ReadCause ⊥ (M.refused memory.new)) }
 {
+    if is_too_long(line) {
+        return Err(ReadError::Line(number, LineError::TooLong));
+    }
     match content_of(host_bits, line) {
         Ok(content) => {
             let pushed = lists.push_content(memory.alloc(), &content);

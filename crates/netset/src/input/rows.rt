@@ -5,10 +5,11 @@ ghost use Rattle.cidr_lists.specs.Lists.{text_by};
 ghost use Rattle.netset.specs.LookUps.{AddsRow, ReadsRows};
 
 use crate::errors::ReadError;
-use cidr_io::lines::LineReader;
+use cidr_io::lines::{LineReader, is_too_long};
 use cidr_io::memory::Memory;
 use cidr_io::source::Source;
 use cidr_lists::columns::{network_in, split_row};
+use cidr_lists::errors::LineError;
 use cidr_lists::lines::HostBits;
 use cidr_lists::rows::Rows;
 
@@ -23,6 +24,9 @@ pub fn add_line<M: Memory>(
     ensures adds { AddsRow host_bits line.now number rows.old rows.new result }
     ensures cause { IfErr result (ReadCause ⊥ (M.refused memory.new)) }
 {
+    if is_too_long(line) {
+        return Err(ReadError::Line(number, LineError::TooLong));
+    }
     let Some((first, value)) = split_row(line) else {
         return Ok(());
     };

@@ -1,4 +1,5 @@
-use Rattle.std.proofs.Common.{◌≡◌, sym, refl, None}
+use Rattle.std.proofs.Common.{◌≡◌, sym, refl}
+use Rattle.cidr_io.specs.Lines.{MayFail as NoLineFails}
 use Rattle.netset.specs.Causes.{TextFails}
 use Rattle.netset.specs.Matching.{Picks}
 use Rattle.cidr_lists.specs.Sets.{HasAddress}
@@ -94,7 +95,7 @@ returns-in-Err-clause-cause g c =
     let known = left_known (Picks c.args.matcher.now.anywhere (HasAddress c.args.matcher.now.sets.now) c.args.matcher.now.inverted) c.args.matcher.now.written c.args.reader.now.left c.loop-number.reader.left (g.S.Sink.state c.args.out.now) (g.S.Sink.state c.loop-number.out)
     c.loop-number.number c.loop-number.gathered.count c.loop-number.gathered.block st in
     stop_cause (λ name. (name ≡ c.args.file.now) × TextFails c.args.reader.now.left) (g.M.Memory.refused c.next_part.new.memory) _ _ _ _ _ c.stop.ensures
-    (cause_weaker (λ name. (name ≡ c.args.file.now) × (c.loop-number.reader.left ≡ None)) (λ name. (name ≡ c.args.file.now) × TextFails c.args.reader.now.left)
+    (cause_weaker (λ name. (name ≡ c.args.file.now) × NoLineFails c.loop-number.reader.left) (λ name. (name ≡ c.args.file.now) × TextFails c.args.reader.now.left)
     (g.M.Memory.refused c.next_part.new.memory) _ (λ name k. (k.0, told_fails c.args.reader.now.left c.loop-number.reader.left known k.1)) c.in-Err.ensures.cause)
 
 pub returns-in-Err-take-clause-cause : goal.returns-in-Err-take-clause-cause
