@@ -1,5 +1,5 @@
 -- The messages of lines in error.
-use Rattle.std.specs.Prelude.{ℕ, List, [], ◌++◌, codes, decimal}
+use Rattle.std.specs.Prelude.{ℕ, List, ◌++◌, codes, decimal}
 use Rattle.cidr.specs.texts.Messages.{address_message, parse_message}
 use Rattle.cidr_lists.specs.declared.errors.LineError.{LineError}
 use Rattle.cidr_lists.specs.declared.errors.LineError.TheVariants.{TooLong, NotUtf8, NoNetwork, NoAddress, TwoFamilies, Reversed}

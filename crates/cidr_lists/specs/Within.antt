@@ -1,5 +1,5 @@
 -- What lies in sets of addresses: networks, addresses, and the words of a line. `IsIn` tells the addresses of a set.
-use Rattle.std.specs.Prelude.{◌≡◌, ℕ, Bool, List, [], length, Option, Some, None, Contains}
+use Rattle.std.specs.Prelude.{◌≡◌, ℕ, Bool, List, length, Option, Some, None, Contains}
 use Rattle.cidr.specs.either.IpNetwork.{network_family, network_prefix}
 use Rattle.cidr.specs.model.Network.{BeginsWith}
 use Rattle.cidr.specs.texts.AddressText.{IsAddressText}

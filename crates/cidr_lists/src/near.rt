@@ -1,10 +1,10 @@
-//! What stands near the network of a line: the first line that has it, and those of the longest network around it and of
-//! its other half.
+//! What stands near the network of a line: the first line that has it, and those of the longest network around it and
+//! of its other half.
 //!
 //! One pass over the networks of a family in their order finds it. Of those passed, the ones that a network behind may
-//! still be inside are open: a chain, in which each network is inside those before it. A network closes those at the end
-//! of the chain that do not contain it. Then the last open one is the longest around it, and its other half, if that
-//! stands before it, is the last one that it closed.
+//! still be inside are open: a chain, in which each network is inside those before it. A network closes those at the
+//! end of the chain that do not contain it. Then the last open one is the longest around it, and its other half, if
+//! that stands before it, is the last one that it closed.
 ghost use Rattle.std.specs.Prelude.{◌≡◌, ◌+◌, ◌<◌, ◌↔◌, Contains, IfOk, IfSome, OnOk, Some, length, map, set, slice_get, take, ℕ};
 ghost use Rattle.std.specs.Bool.{Decides};
 ghost use Rattle.std.specs.Option.{option_map};

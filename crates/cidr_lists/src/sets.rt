@@ -129,7 +129,8 @@ impl Sets {
     /// The sets of each family put together.
     pub fn stepped(&self, step: Step, other: &Sets) -> Result<Sets, AllocError>
         ensures { IfOk result (λ sets. (family : Family)
-            → IsSetOf 129 (λ a. Steps step (HasAddress self.now family a) (HasAddress other.now family a)) (networks_of sets family)) }
+            → IsSetOf 129 (λ a. Steps step (HasAddress self.now family a) (HasAddress other.now family a))
+            (networks_of sets family)) }
     {
         Ok(Sets {
             v4: stepped(step, &self.v4, &other.v4)?,
@@ -139,7 +140,8 @@ impl Sets {
 
     /// The addresses of each family that the sets have not.
     pub fn complement(&self) -> Result<Sets, AllocError>
-        ensures { IfOk result (λ sets. (family : Family) → IsSetOf 129 (λ a. ¬ (HasAddress self.now family a)) (networks_of sets family)) }
+        ensures { IfOk result (λ sets. (family : Family)
+            → IsSetOf 129 (λ a. ¬ (HasAddress self.now family a)) (networks_of sets family)) }
     {
         Ok(Sets {
             v4: self.v4.complement_in(&Ipv4Cidr::null())?,
@@ -151,7 +153,8 @@ impl Sets {
 /// Sets put together, from the first one on.
 pub fn combined(step: Step, first: Sets, others: &[Sets]) -> Result<Sets, AllocError>
     ensures { IfOk result (λ sets. (family : Family)
-        → IsSetOf 129 (λ a. Combined HasAddress step (HasAddress first family a) others.now family a) (networks_of sets family)) }
+        → IsSetOf 129 (λ a. Combined HasAddress step (HasAddress first family a) others.now family a)
+        (networks_of sets family)) }
 {
     first.known();
     let mut all = first;

@@ -407,7 +407,7 @@ rows_of_long_lines() {
     run 2 '' "-:2: $told" "10.0.0.0\n$long\nx" merge
     run 2 '' "-:1: $told-:3: couldn't parse address in network: invalid IP address syntax"$'\n' "$long$fits$long\n::1\nx" merge -k
     run 2 '' "-:2: $told" "#\n# $fits\n" check
-    run 0 $'10.0.0.1\n' '' "$fits\n" check
+    run 0 '' '' "$fits\n" check
     run 2 $'10.0.0.2 10.0.0.0/8 ten\n' "-:2: $told" "10.0.0.2\n$long\n10.0.0.1" look owners
     run 2 '' "-:1: $told" "$long x" look - owners
     run 0 "$fits"$'\n' '' "$fits" match ten

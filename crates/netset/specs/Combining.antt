@@ -1,5 +1,5 @@
 -- Several lists put together. `In` tells which addresses a list has.
-use Rattle.std.specs.Prelude.{ℕ, Bool, true, false, nat_lt, List, [], codes}
+use Rattle.std.specs.Prelude.{ℕ, Bool, true, false, nat_lt, List, codes}
 use Rattle.cidr.specs.declared.family.Family.{Family}
 use Rattle.netset.specs.declared.commands.operations.Operation.{Operation}
 use Rattle.netset.specs.declared.commands.operations.Operation.TheVariants.{Merge, Nets, Minus, And, Not, Ranges, Count}

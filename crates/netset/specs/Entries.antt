@@ -1,5 +1,5 @@
 -- The lines of lists that have a network or a host, each with its file and its number: what `check` looks at.
-use Rattle.std.specs.Prelude.{◌≡◌, ℕ, List, [], ◌++◌, Option, option_to_list, Result, Ok, Err}
+use Rattle.std.specs.Prelude.{◌≡◌, ℕ, List, ◌++◌, Option, option_to_list, Result, Ok, Err}
 use Rattle.std.specs.List.{AllZip}
 use Rattle.cidr_lists.specs.Lists.{lines_of}
 use Rattle.cidr_lists.specs.declared.entries.Entry.{Entry}

@@ -1,6 +1,6 @@
 -- The longest network of a table that an address is in, and the value of that. A line of a table is a network or an
 -- address and, behind white space, its value: the rest of the line. A line that is looked up begins with an address.
-use Rattle.std.specs.Prelude.{◌≡◌, ℕ, Bool, true, false, List, [], Option, Some}
+use Rattle.std.specs.Prelude.{◌≡◌, ℕ, Bool, true, false, List, Option, Some}
 use Rattle.std.specs.List.{AllZip, flat_map, list_any}
 use Rattle.cidr.specs.declared.family.Family.{Family}
 use Rattle.cidr_lists.specs.Lists.{Text, IsFirstBad, lines_of}

@@ -8,7 +8,7 @@ use Rattle.cidr_io.specs.Arguments.{AreArguments, AreUnreadable}
 use Rattle.cidr_io.specs.Writing.{State, Answered, Says as Tells}
 use Rattle.cidr_io.specs.declared.sink.OutputFailed.{OutputFailed}
 use Rattle.cidr_lists.specs.Lists.{Text, text_by, ListSays, IsFirstError}
-use Rattle.netset.specs.Commands.{Request, Lists, NotIn, Diff, Free, Check, Match, Look, Single, Help, Version, IsRequest, IsUsage, MayRead, ReadsInputTwice, input_name, lists_of, reading_of, reading_options, without_options, read_files, AreTold, IsAnswer, Says}
+use Rattle.netset.specs.Commands.{Request, Lists, NotIn, Diff, Free, Check, Match, Look, Single, IsRequest, IsUsage, MayRead, ReadsInputTwice, input_name, lists_of, reading_of, reading_options, without_options, read_files, AreTold, IsAnswer, Says}
 use Rattle.netset.specs.Causes.{Cause, MayFail}
 use Rattle.netset.specs.Free.{IsBadLength}
 use Rattle.cidr_lists.specs.Faults.{AreTellings}

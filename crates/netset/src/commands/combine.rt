@@ -13,7 +13,8 @@ use std::alloc::AllocError;
 /// What an operation makes of sets.
 pub fn combination(operation: Operation, several: Several) -> Result<Sets, AllocError>
     ensures { IfOk result (λ sets. (family : Family)
-        → IsSetOf 129 (IsMade HasAddress operation (several.first ∷ several.others.items) family) (networks_of sets family)) }
+        → IsSetOf 129 (IsMade HasAddress operation (several.first ∷ several.others.items) family)
+        (networks_of sets family)) }
 {
     let Several { first, others } = several;
     let all = combined(step_of(operation), first, others.as_slice())?;
