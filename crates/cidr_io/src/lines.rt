@@ -52,10 +52,6 @@ fn feed_in(text: &[u8]) -> Option<usize>
 }
 
 /// Whether a line has more than [`MOST_BYTES`] bytes.
-///
-/// ```
-/// is_too_long(b"10.0.0.0/8") // false
-/// ```
 pub fn is_too_long(line: &[u8]) -> bool
     ensures { Decides result (IsTooLong line.now) }
 {
