@@ -34,7 +34,7 @@ from pcidr._library import (
     read_all,
 )
 
-__version__ = "0.2.0"
+__version__ = "0.3.0"
 
 __all__ = [
     "Address",

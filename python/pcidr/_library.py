@@ -8,7 +8,7 @@ import struct
 from collections.abc import Callable, Iterable, Sequence
 from typing import TYPE_CHECKING, Any
 
-VERSION = (0, 2)
+VERSION = (0, 3)
 TEXT_ROOM = 44
 MESSAGE_ROOM = 100
 NO_ROOM = 11

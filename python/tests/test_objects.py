@@ -97,9 +97,9 @@ class Values(unittest.TestCase):
 
 class Library(unittest.TestCase):
     def test_another_version_is_refused(self):
-        pcidr._library._check_version(0x000201)
-        for version in (0x000100, 0x000300, 0x010200):
-            with self.assertRaisesRegex(ImportError, "this module wants 0.2"):
+        pcidr._library._check_version(0x000301)
+        for version in (0x000200, 0x000400, 0x010300):
+            with self.assertRaisesRegex(ImportError, "this module wants 0.3"):
                 pcidr._library._check_version(version)
 
 

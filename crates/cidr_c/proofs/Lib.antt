@@ -6,3 +6,4 @@ pub mod NetworkLists
 pub mod Networks
 pub mod Orders
 pub mod Readings
+pub mod TableRows

@@ -61,7 +61,11 @@ same networks.txt
 "$room/filter" "$here/list" <"$here/addresses" >"$room/filter.txt" 2>"$room/filter.err" || status=1
 same filter.txt
 same filter.err
-for program in examples/networks examples/filter runs/wrong runs/memory; do
+"$compiler" -std=c99 "${strict[@]}" -o "$room/lookup" "$crate/examples/lookup.c" "$lib/libpcidr.a"
+asked=(10.1.2.3 10.1.255.255 11.0.0.0)
+"$room/lookup" "${asked[@]}" >"$room/lookup.txt"
+same lookup.txt
+for program in examples/networks examples/filter examples/lookup runs/wrong runs/memory runs/tables; do
     made=$room/$(basename "$program").checked
     refusing=()
     [[ $program != runs/memory ]] || refusing=("-Wl,--wrap=malloc,--wrap=realloc")
@@ -70,6 +74,8 @@ for program in examples/networks examples/filter runs/wrong runs/memory; do
 done
 "$room/filter.checked" "$here/list" <"$here/addresses" 2>/dev/null | cmp - "$here/filter.txt" || status=1
 "$room/networks.checked" | cmp - "$here/networks.txt" || status=1
+"$room/lookup.checked" "${asked[@]}" | cmp - "$here/lookup.txt" || status=1
+"$room/tables.checked" || wrong "a look-up table"
 "$room/wrong.checked" || wrong "a call with a wrong argument"
 "$room/memory.checked" || wrong "a call without memory"
 "$compiler" -std=c11 -O2 "${strict[@]}" -o "$room/wrong" "$here/wrong.c" -L"$lib" -lpcidr "-Wl,-rpath,$lib"

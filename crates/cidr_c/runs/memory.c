@@ -20,6 +20,10 @@ void *__wrap_realloc(void *block, size_t size) { return before-- == 0 ? NULL : _
 static pcidr_value networks[ROOM], others[COUNT], out[ROOM], kept[ROOM];
 static uint8_t held[COUNT];
 static size_t matches[COUNT], count;
+/* Networks that ascend, and room for their table. */
+static pcidr_value ascending[COUNT];
+static uint32_t starts[2 * COUNT + 1], found[2 * COUNT + 1], level[3];
+static pcidr_table table, built;
 
 static uint32_t cover(void) { return pcidr_cover(networks, COUNT, &count); }
 static uint32_t make_union(void) { return pcidr_union(networks, COUNT, others, COUNT, out, ROOM, &count); }
@@ -36,6 +40,9 @@ static uint32_t longest_match_each(void) {
     return pcidr_longest_match_each(networks, COUNT, others, COUNT, matches, COUNT);
 }
 
+static uint32_t build_table(void) { return pcidr_table_build(&table, ascending, COUNT, &count); }
+static uint32_t check_table(void) { return pcidr_table_check(&built, ascending, COUNT); }
+
 /* Networks of which some overlap, in no order, and a mark in what is written. */
 static void set_values(void) {
     memset(out, 0, sizeof out), memset(held, 9, sizeof held), memset(matches, 9, sizeof matches);
@@ -43,7 +50,12 @@ static void set_values(void) {
     for (uint64_t i = 0; i < COUNT; i++) {
         networks[i].low = i * 37 % COUNT << 26, networks[i].tag = 6;
         others[i].low = i * 23 % COUNT << 27 & 0xffffffff, others[i].tag = 9;
+        ascending[i].low = i << 26, ascending[i].tag = 6;
     }
+    table.ipv4_starts = starts, table.answers = found, table.ranges = 2 * COUNT + 1;
+    table.level = level, table.level_len = 3, table.shift = 31;
+    if (build_table() != PCIDR_OK) failures++;
+    built = table, table.ranges = 2 * COUNT + 1;
     memcpy(kept, networks, sizeof kept);
     count = COUNT;
 }
@@ -59,7 +71,7 @@ static int is_left(void) {
 int main(void) {
     static uint32_t (*const calls[])(void) = {
         cover, make_union, intersection, difference, symmetric_difference, union_in_place, intersection_in_place,
-        difference_in_place, contains_each, longest_match_each};
+        difference_in_place, contains_each, longest_match_each, build_table, check_table};
     for (size_t i = 0; i < sizeof calls / sizeof *calls; i++) {
         uint32_t code = PCIDR_NO_MEMORY;
         size_t refused = 0;

@@ -47,6 +47,18 @@ no_memory = 12
 abbrev pub wrapped : ℕ
 wrapped = 13
 
+-- there are too many networks
+abbrev pub too_many : ℕ
+too_many = 15
+
+-- a shift is not below the number of bits of an address
+abbrev pub wrong_shift : ℕ
+wrong_shift = 16
+
+-- arrays are not those of the networks
+abbrev pub no_table : ℕ
+no_table = 17
+
 -- a comparison as a number
 abbrev pub order_code : Ordering → ℕ
 order_code Less = 0
@@ -70,4 +82,7 @@ message code =
     else (if code == 12 then codes "no memory"
     else (if code == 13 then codes "step leaves the network"
     else (if code == 14 then codes "invalid IP address syntax"
-    else [])))))))))))))
+    else (if code == 15 then codes "too many networks"
+    else (if code == 16 then codes "shift is too great for the family"
+    else (if code == 17 then codes "arrays are not those of the networks"
+    else []))))))))))))))))

@@ -4,4 +4,5 @@ pub mod Codes
 pub mod Lines
 pub mod Lookups
 pub mod Orders
+pub mod Tables
 pub mod Values

@@ -35,6 +35,12 @@ pub const NO_MEMORY: u32 = 12;
 pub const WRAPPED: u32 = 13;
 /// A string is no address.
 pub const NOT_ADDRESS: u32 = 14;
+/// There are too many networks.
+pub const TOO_MANY: u32 = 15;
+/// A shift is not below the number of bits of an address.
+pub const SHIFT: u32 = 16;
+/// Arrays are not those of the networks.
+pub const NO_TABLE: u32 = 17;
 
 /// The number of an error of parsing.
 pub fn parse_code(error: &NetworkParseError) -> u32
@@ -93,6 +99,9 @@ pub fn message(code: u32) -> &'static str
         12 => "no memory",
         13 => "step leaves the network",
         14 => "invalid IP address syntax",
+        15 => "too many networks",
+        16 => "shift is too great for the family",
+        17 => "arrays are not those of the networks",
         _ => "",
     }
 }

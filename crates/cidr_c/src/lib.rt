@@ -11,4 +11,5 @@ mod parts;
 mod printing;
 mod reading;
 mod sets;
+mod tables;
 mod values;

@@ -137,7 +137,7 @@ pub extern "C" fn pcidr_message(code: u32, out: &mut [u8]) -> usize
 /// The version: 65536 for the major one, 256 for the minor one, and the patch.
 #[unsafe(no_mangle)]
 pub extern "C" fn pcidr_version() -> u32
-    ensures { result ≡ 512 }
+    ensures { result ≡ 768 }
 {
-    0x200
+    0x300
 }

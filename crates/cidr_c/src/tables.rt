@@ -1,0 +1,333 @@
+//! Look-up tables in arrays of the caller.
+ghost use Rattle.std.specs.Prelude.{◌≡◌, ◌≢◌, ℕ, ◌≤◌, length, map, IfOk, MatchOption};
+ghost use Rattle.cidr_arrays.specs.Arrays.{Represents, networks_of};
+ghost use Rattle.cidr_c.specs.Tables.{AreFound, IsBuilt, IsFound, ipv4_number, ipv4_pair, ipv6_number, ipv6_pair, room_of};
+
+use crate::codes::{NO_MEMORY, NO_ROOM, NO_TABLE, NO_VALUE, OK, SHIFT, TOO_MANY};
+use crate::values::CValue;
+use cidr_arrays::{BuildError, Fault, Halves, Key, Word, build, check, fill_level, lookup};
+use std::alloc::{AllocError, Global};
+
+/// The row that stands for none.
+const NO_ROW: u32 = u32::MAX;
+
+/// The length of what is no network.
+const NO_LENGTH: u32 = 255;
+
+/// A family of addresses, as values have them.
+trait Family: Word {
+    ghost use Rattle.cidr_c.specs.declared.values.CValue.{CValue};
+
+    /// The number of the address and the prefix length of a value.
+    ghost pair: { CValue → ℕ × ℕ };
+
+    /// The value as a key, which is no network where the value is none of the family.
+    fn key_in(value: &CValue) -> Key<Self>
+        ensures address { Self.value result.address ≡ (pair value.now).0 }
+        ensures len { result.len ≡ (pair value.now).1 };
+}
+
+impl Family for u32 {
+    ghost pair = { ipv4_pair };
+
+    #[inline(always)]
+    fn key_in(value: &CValue) -> Key<u32> {
+        if value.high != 0 || value.low >= 1 << 32 {
+            return Key {
+                address: 0,
+                len: NO_LENGTH,
+            };
+        }
+        Key {
+            address: value.low as u32,
+            len: u32::from(value.tag),
+        }
+    }
+}
+
+impl Family for Halves {
+    ghost pair = { ipv6_pair };
+
+    #[inline(always)]
+    fn key_in(value: &CValue) -> Key<Halves> {
+        let address = Halves {
+            high: value.high,
+            low: value.low,
+        };
+        if value.tag < 64 {
+            return Key {
+                address,
+                len: NO_LENGTH,
+            };
+        }
+        Key {
+            address,
+            len: u32::from(value.tag - 64),
+        }
+    }
+}
+
+/// The address that a value is, if it is one of the family.
+#[inline(always)]
+fn address_in<W: Family>(value: &CValue) -> Option<W>
+    ensures { MatchOption result ((W.pair value.now).1 ≢ W.width)
+        (λ address. ((W.pair value.now).1 ≡ W.width) × (W.value address ≡ (W.pair value.now).0)) }
+{
+    let key = W::key_in(value);
+    if key.len == W::width() {
+        Some(key.address)
+    } else {
+        None
+    }
+}
+
+/// Values as keys.
+fn keys_in<W: Family>(alloc: Global, values: &[CValue]) -> Result<Vec<Key<W>>, AllocError>
+    ensures { IfOk result (λ keys. networks_of W.value keys.items ≡ map W.pair values.now) }
+{
+    let mut keys = Vec::with_capacity(alloc, values.len())?;
+    for value in values {
+        keys.push(W::key_in(value))?;
+    }
+    Ok(keys)
+}
+
+/// Writes the table of keys, and returns 0 or the number of the error.
+fn put_table<W: Word>(
+    keys: &[Key<W>],
+    starts: &mut [W],
+    answers: &mut [u32],
+    level: &mut [u32],
+    shift: u32,
+    count: &mut usize,
+) -> u32
+    ensures { IsBuilt W.width W.value (networks_of W.value keys.now) starts.new answers.new level.new shift count.old count.new result }
+{
+    if keys.len() >= 1 << 31 {
+        return TOO_MANY;
+    }
+    if shift >= W::width() {
+        return SHIFT;
+    }
+    match build(keys, starts, answers) {
+        Ok(ranges) => {
+            fill_level(&starts[..ranges], shift, level);
+            *count = ranges;
+            OK
+        }
+        Err(BuildError::TooMany) => TOO_MANY,
+        Err(BuildError::Refused(place)) => {
+            *count = place;
+            NO_VALUE
+        }
+        Err(BuildError::NoRoom) => {
+            *count = 2 * keys.len() + 1;
+            NO_ROOM
+        }
+    }
+}
+
+/// The row of the longest match, or that which stands for none.
+#[inline(always)]
+fn row_in<W: Family>(
+    starts: &[W],
+    answers: &[u32],
+    level: &[u32],
+    shift: u32,
+    rows: u32,
+    asked: &CValue,
+) -> u32
+    ensures { IsFound W.width (map W.value starts.now) answers.now level.now shift rows (W.pair asked.now) result }
+{
+    let Some(address) = address_in(asked) else {
+        return NO_ROW;
+    };
+    match lookup(starts, answers, level, shift, rows as usize, address) {
+        Some(row) => row as u32,
+        None => NO_ROW,
+    }
+}
+
+/// The rows of many.
+fn put_rows<W: Family>(
+    starts: &[W],
+    answers: &[u32],
+    level: &[u32],
+    shift: u32,
+    rows: u32,
+    asked: &[CValue],
+    out: &mut [u32],
+) -> u32
+    ensures { AreFound W.width (map W.value starts.now) answers.now level.now shift rows (map W.pair asked.now) out.old out.new result }
+{
+    if out.len() < asked.len() {
+        return NO_ROOM;
+    }
+    for i in 0..asked.len() {
+        out[i] = row_in(starts, answers, level, shift, rows, &asked[i]);
+    }
+    OK
+}
+
+/// 0 where arrays are those of keys, or the number of the error.
+fn check_code<W: Word>(
+    keys: &[Key<W>],
+    starts: &[W],
+    answers: &[u32],
+    level: &[u32],
+    shift: u32,
+) -> u32
+    ensures { result ≡ 0 → Represents W.width (networks_of W.value keys.now) (map W.value starts.now) answers.now level.now shift }
+{
+    match check(keys, starts, answers, level, shift) {
+        Ok(()) => OK,
+        Err(Fault::TooMany) => TOO_MANY,
+        Err(Fault::Shift) => SHIFT,
+        Err(Fault::Refused(_)) => NO_VALUE,
+        Err(_) => NO_TABLE,
+    }
+}
+
+/// How many starts and answers are room enough for a table of so many networks.
+#[unsafe(no_mangle)]
+pub extern "C" fn pcidr_table_room(rows: u32) -> usize
+    ensures { result ≡ room_of rows }
+{
+    2 * rows as usize + 1
+}
+
+/// Makes a table of IPv4 networks that ascend.
+#[unsafe(no_mangle)]
+pub extern "C" fn pcidr_ipv4_table_build(
+    alloc: Global,
+    networks: &[CValue],
+    starts: &mut [u32],
+    answers: &mut [u32],
+    level: &mut [u32],
+    shift: u32,
+    count: &mut usize,
+) -> u32
+    ensures { IsBuilt 32 ipv4_number (map ipv4_pair networks.now) starts.new answers.new level.new shift count.old count.new result }
+{
+    match keys_in(alloc, networks) {
+        Ok(keys) => put_table(keys.as_slice(), starts, answers, level, shift, count),
+        Err(_) => NO_MEMORY,
+    }
+}
+
+/// Makes a table of IPv6 networks that ascend.
+#[unsafe(no_mangle)]
+pub extern "C" fn pcidr_ipv6_table_build(
+    alloc: Global,
+    networks: &[CValue],
+    starts: &mut [Halves],
+    answers: &mut [u32],
+    level: &mut [u32],
+    shift: u32,
+    count: &mut usize,
+) -> u32
+    ensures { IsBuilt 128 ipv6_number (map ipv6_pair networks.now) starts.new answers.new level.new shift count.old count.new result }
+{
+    match keys_in(alloc, networks) {
+        Ok(keys) => put_table(keys.as_slice(), starts, answers, level, shift, count),
+        Err(_) => NO_MEMORY,
+    }
+}
+
+/// 0 where arrays are those that a table of the IPv4 networks has.
+#[unsafe(no_mangle)]
+pub extern "C" fn pcidr_ipv4_table_check(
+    alloc: Global,
+    networks: &[CValue],
+    starts: &[u32],
+    answers: &[u32],
+    level: &[u32],
+    shift: u32,
+) -> u32
+    ensures { result ≡ 0 → Represents 32 (map ipv4_pair networks.now) (map ipv4_number starts.now) answers.now level.now shift }
+{
+    match keys_in(alloc, networks) {
+        Ok(keys) => check_code(keys.as_slice(), starts, answers, level, shift),
+        Err(_) => NO_MEMORY,
+    }
+}
+
+/// The same of IPv6 networks.
+#[unsafe(no_mangle)]
+pub extern "C" fn pcidr_ipv6_table_check(
+    alloc: Global,
+    networks: &[CValue],
+    starts: &[Halves],
+    answers: &[u32],
+    level: &[u32],
+    shift: u32,
+) -> u32
+    ensures { result ≡ 0 → Represents 128 (map ipv6_pair networks.now) (map ipv6_number starts.now) answers.now level.now shift }
+{
+    match keys_in(alloc, networks) {
+        Ok(keys) => check_code(keys.as_slice(), starts, answers, level, shift),
+        Err(_) => NO_MEMORY,
+    }
+}
+
+/// The row of the longest IPv4 network that an address is in, or `u32::MAX` where it is in none.
+#[unsafe(no_mangle)]
+pub extern "C" fn pcidr_ipv4_table_lookup(
+    starts: &[u32],
+    answers: &[u32],
+    level: &[u32],
+    shift: u32,
+    rows: u32,
+    address: &CValue,
+) -> u32
+    ensures { IsFound 32 (map ipv4_number starts.now) answers.now level.now shift rows (ipv4_pair address.now) result }
+{
+    row_in(starts, answers, level, shift, rows, address)
+}
+
+/// The same of IPv6.
+#[unsafe(no_mangle)]
+pub extern "C" fn pcidr_ipv6_table_lookup(
+    starts: &[Halves],
+    answers: &[u32],
+    level: &[u32],
+    shift: u32,
+    rows: u32,
+    address: &CValue,
+) -> u32
+    ensures { IsFound 128 (map ipv6_number starts.now) answers.now level.now shift rows (ipv6_pair address.now) result }
+{
+    row_in(starts, answers, level, shift, rows, address)
+}
+
+/// The row of each of many addresses.
+#[unsafe(no_mangle)]
+pub extern "C" fn pcidr_ipv4_table_lookup_each(
+    starts: &[u32],
+    answers: &[u32],
+    level: &[u32],
+    shift: u32,
+    rows: u32,
+    asked: &[CValue],
+    out: &mut [u32],
+) -> u32
+    ensures { AreFound 32 (map ipv4_number starts.now) answers.now level.now shift rows (map ipv4_pair asked.now) out.old out.new result }
+{
+    put_rows(starts, answers, level, shift, rows, asked, out)
+}
+
+/// The same of IPv6.
+#[unsafe(no_mangle)]
+pub extern "C" fn pcidr_ipv6_table_lookup_each(
+    starts: &[Halves],
+    answers: &[u32],
+    level: &[u32],
+    shift: u32,
+    rows: u32,
+    asked: &[CValue],
+    out: &mut [u32],
+) -> u32
+    ensures { AreFound 128 (map ipv6_number starts.now) answers.now level.now shift rows (map ipv6_pair asked.now) out.old out.new result }
+{
+    put_rows(starts, answers, level, shift, rows, asked, out)
+}
