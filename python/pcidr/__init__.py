@@ -13,12 +13,15 @@ from __future__ import annotations
 import ipaddress
 import os
 import threading
-from bisect import bisect_right
+from bisect import bisect_left, bisect_right
 from collections.abc import Callable, ItemsView, Iterable, Iterator, Mapping, MutableMapping, ValuesView
+from itertools import chain
 from operator import attrgetter
 from typing import Any, ClassVar, NamedTuple, TypeVar, Union, overload
 
 from pcidr._library import (
+    NO_ROW,
+    Arrays,
     Call,
     Value,
     Values,
@@ -32,6 +35,7 @@ from pcidr._library import (
     printed,
     read,
     read_all,
+    tags_of,
 )
 
 __version__ = "0.3.0"
@@ -451,12 +455,43 @@ class NetworkSet:
         return f"NetworkSet({self.to_strings()!r})"
 
 
+class _Part(NamedTuple):
+    """The rows of one family in order, behind them the row of `any` or None, and the arrays of their networks."""
+
+    rows: tuple[tuple[Network, Any] | None, ...]
+    arrays: Arrays
+
+
 class _Snapshot(NamedTuple):
-    """The rows of a table as they were at a version, in order, and their networks: made once, and never changed."""
+    """The rows of a table as they were at a version, in order, their networks, and by the tags of addresses the rows of
+    each family: made once, and never changed."""
 
     version: object
     rows: tuple[tuple[Network, Any], ...]
     networks: Values
+    parts: Mapping[int, _Part] = {}
+
+    def lookup_each(self, asked: Values) -> list[tuple[Network, Any] | None]:
+        """The longest matches of many."""
+        tags = tags_of(asked)
+        families = set(tags)
+        if families <= self.parts.keys():
+            found = [(self.parts[tag].rows, self.parts[tag].arrays.rows(asked)) for tag in sorted(families)]
+            if len(found) == 2:
+                (ipv4, ours), (ipv6, others) = found
+                return [ipv4[a] if tag == 32 else ipv6[b] for tag, a, b in zip(tags, ours, others)]
+            return list(chain.from_iterable(map(rows.__getitem__, places) for rows, places in found))
+        room, out = answers("q", len(asked))  # networks, too
+        check(calls.longest_match_each(self.networks, len(self.networks), asked, len(asked), room, len(asked)))
+        # The index that stands for none is -1 with a sign: that of the last one here.
+        return list(map([*self.rows, None].__getitem__, out))
+
+
+def _parts(rows: tuple[tuple[Network, Any], ...], networks: Values, ipv4: int, ipv6: int) -> dict[int, _Part]:
+    """The rows of each family, of which those of IPv4 and of IPv6 begin at an index."""
+    none = rows[0] if ipv4 else None  # only `any` comes before them
+    of_ipv4 = _Part((*rows[ipv4:ipv6], none), Arrays(4, networks, ipv4, ipv6 - ipv4))
+    return {32: of_ipv4, 192: _Part((*rows[ipv6:], none), Arrays(6, networks, ipv6, len(rows) - ipv6))}
 
 
 # Held by each change of a table, for a few assignments. It is one for all tables, so that a table has nothing in it
@@ -495,9 +530,11 @@ class _ValuesOfRows(ValuesView[V]):
 class Table(MutableMapping[Network, V]):
     """A table of networks with a value each: ``Table({"10.0.0.0/8": 1})``, a mapping that can be changed as a `dict`.
 
-    `lookup` gives the longest network that an address, or a network, is in, with its value: one look in a `dict` for
-    each prefix length that the table has had. `lookup_each` looks up many by one call of the library. That call, and
-    each walk over the rows, go through them in order: the first one after a change lists and sorts all rows.
+    `lookup` gives the longest network that an address, or a network, is in, with its value. `lookup_each` looks up many
+    by one call of the library for each family. Both look in arrays that are made once. The first `lookup_each`, or walk
+    over the rows, after a change makes them anew: it lists and sorts all rows. A `lookup` does so when there have been
+    more of them than rows since the change, and before that looks in a `dict`, once for each prefix length that the
+    table has had; so it always does for a network that is no address.
 
     Any threads may look up in a table and change it at once, and an interrupt leaves it as it was before the change or
     after it. Each call sees all of a change or nothing of it. Look-ups and walks take no lock, but for the copy of the
@@ -515,6 +552,8 @@ class Table(MutableMapping[Network, V]):
         # Another object before each change, so that an interrupt behind it is no harm, and after it.
         self._version = object()
         self._snapshot: _Snapshot | None = None
+        # About how many look-ups there have been in the `dict` since the last change.
+        self._looks = 0
 
     def _now(self) -> _Snapshot:
         """The rows as they are."""
@@ -522,8 +561,12 @@ class Table(MutableMapping[Network, V]):
         if made is None or made.version is not self._version:
             with _changing:
                 version, rows = self._version, self._rows.copy()
-            listed = tuple((_row_network(key), rows[key]) for key in sorted(rows, key=_row_order))
-            made = _Snapshot(version, listed, array(network._value for network, _ in listed))
+            places = sorted(map(_row_order, rows))
+            keys = [(tag, number) for _, number, tag in places]
+            listed = tuple((_row_network(key), rows[key]) for key in keys)
+            networks = array(network._value for network, _ in listed)
+            parts = _parts(listed, networks, bisect_left(places, (1,)), bisect_left(places, (2,)))
+            made = _Snapshot(version, listed, networks, parts)
             self._snapshot = made
         return made
 
@@ -532,7 +575,7 @@ class Table(MutableMapping[Network, V]):
         goes until the lock is free: values may have finalizers, and these may wait for another thread."""
         self._version = object()
         result = change(*arguments)
-        self._version, self._snapshot = object(), None
+        self._version, self._snapshot, self._looks = object(), None, 0
         return result
 
     def _put(self, put: Callable[[Key, V], R], key: Key, value: V) -> R:
@@ -545,7 +588,7 @@ class Table(MutableMapping[Network, V]):
 
     def __getstate__(self) -> dict[str, Any]:
         state = {**vars(self), "_rows": [(str(network), value) for network, value in self.items()]}
-        for derived in ("_tags", "_version", "_snapshot"):
+        for derived in ("_tags", "_version", "_snapshot", "_looks"):
             del state[derived]
         return state
 
@@ -646,14 +689,24 @@ class Table(MutableMapping[Network, V]):
 
     def lookup(self, asked: AnyNetwork) -> tuple[Network, V] | None:
         """The longest network that the address is in, with its value, or None."""
-        return next(iter(self._matches(asked, 1)), None)
+        value, made = _network_value(asked), self._snapshot
+        if made is None or made.version is not self._version:
+            self._looks += 1
+            if self._looks <= len(self._rows):
+                return next(iter(self._matches(value, 1)), None)
+            made = self._now()
+        part = made.parts.get(value.tag)
+        if part is None:
+            return next(iter(self._matches(value, 1)), None)
+        row = part.arrays.row(value)
+        return part.rows[-1 if row == NO_ROW else row]
 
     def matches(self, asked: AnyNetwork) -> list[tuple[Network, V]]:
         """All rows whose network the address is in, the longest first."""
-        return self._matches(asked, 1 << 8)
+        return self._matches(_network_value(asked), 1 << 8)
 
-    def _matches(self, asked: AnyNetwork, most: int) -> list[tuple[Network, V]]:
-        value, rows = _network_value(asked), self._rows
+    def _matches(self, value: Value, most: int) -> list[tuple[Network, V]]:
+        rows = self._rows
         while True:
             version, found = self._version, []
             for key in _outer_keys(value, self._tags):
@@ -666,13 +719,9 @@ class Table(MutableMapping[Network, V]):
                 return [(_row_network(key), held) for key, held in found]
 
     def lookup_each(self, asked: Iterable[AnyNetwork]) -> list[tuple[Network, V] | None]:
-        """The same as `lookup` for each of many, by one call of the library."""
+        """The same as `lookup` for each of many, by one call of the library for each family."""
         values = _values(asked)
-        _, rows, networks = self._now()
-        room, out = answers("q", len(values))
-        check(calls.longest_match_each(networks, len(networks), values, len(values), room, len(values)))
-        # The index that stands for none is -1 with a sign: that of the last one here.
-        return list(map([*rows, None].__getitem__, out))
+        return self._now().lookup_each(values)
 
 
 def _rows_by_key(rows: Rows[V]) -> dict[Key, V]:

@@ -6,6 +6,7 @@ import ctypes.util
 import os
 import struct
 from collections.abc import Callable, Iterable, Sequence
+from functools import partial
 from typing import TYPE_CHECKING, Any
 
 VERSION = (0, 3)
@@ -13,6 +14,9 @@ TEXT_ROOM = 44
 MESSAGE_ROOM = 100
 NO_ROOM = 11
 NO_MEMORY = 12
+NO_ROW = 2**32 - 1
+# A first level of this many bits is enough for large tables.
+LEVEL_BITS = 18
 
 
 class Value(ctypes.Structure):
@@ -24,6 +28,12 @@ class Value(ctypes.Structure):
     _fields_ = [("high", ctypes.c_uint64), ("low", ctypes.c_uint64), ("tag", ctypes.c_uint8)]
 
 
+class Halves(ctypes.Structure):
+    """`pcidr_halves` of the header: the number of an IPv6 address."""
+
+    _fields_ = [("high", ctypes.c_uint64), ("low", ctypes.c_uint64)]
+
+
 Call = Callable[..., int]
 if TYPE_CHECKING:
     Values = ctypes.Array[Value]
@@ -32,6 +42,7 @@ else:
 
 SIZE, CODE, BYTES, TEXT = ctypes.c_size_t, ctypes.c_uint32, ctypes.c_void_p, ctypes.c_char_p
 VALUE, COUNT = ctypes.POINTER(Value), ctypes.POINTER(ctypes.c_size_t)
+TABLE = [BYTES, SIZE, BYTES, SIZE, BYTES, SIZE, CODE]
 # of each call that is used here the result and the parameters
 CALLS: dict[str, tuple[Any, list[Any]]] = {
     "read_address": (CODE, [TEXT, SIZE, VALUE]),
@@ -61,6 +72,13 @@ CALLS: dict[str, tuple[Any, list[Any]]] = {
     "symmetric_difference": (CODE, [VALUE, SIZE, VALUE, SIZE, VALUE, SIZE, COUNT]),
     "contains_each": (CODE, [VALUE, SIZE, VALUE, SIZE, BYTES, SIZE]),
     "longest_match_each": (CODE, [VALUE, SIZE, VALUE, SIZE, BYTES, SIZE]),
+    "table_room": (SIZE, [CODE]),
+    "ipv4_table_build": (CODE, [BYTES, SIZE, *TABLE, COUNT]),
+    "ipv6_table_build": (CODE, [BYTES, SIZE, *TABLE, COUNT]),
+    "ipv4_table_lookup": (CODE, [*TABLE, CODE, VALUE]),
+    "ipv6_table_lookup": (CODE, [*TABLE, CODE, VALUE]),
+    "ipv4_table_lookup_each": (CODE, [*TABLE, CODE, VALUE, SIZE, BYTES, SIZE]),
+    "ipv6_table_lookup_each": (CODE, [*TABLE, CODE, VALUE, SIZE, BYTES, SIZE]),
 }
 
 
@@ -88,12 +106,20 @@ class _Calls:
     """The calls of the library, named as those of the header but without the `pcidr_`."""
 
     def __init__(self) -> None:
-        loaded = ctypes.CDLL(_find())
+        self._loaded = loaded = ctypes.CDLL(_find())
         _check_version(loaded.pcidr_version())
         for name, (result, parameters) in CALLS.items():
             call = getattr(loaded, f"pcidr_{name}")
             call.restype, call.argtypes = result, parameters
             setattr(self, name.removesuffix("_by_value"), call)
+
+    def with_arguments(self, name: str, arguments: Sequence[int]) -> Call:
+        """A call whose first arguments are given once and for all: turning them into C's takes longer than a look-up. The
+        others have to be C's already."""
+        result, parameters = CALLS[name]
+        call = self._loaded[f"pcidr_{name}"]  # another object at each time
+        call.restype = result
+        return partial(call, *(kind.from_param(argument) for kind, argument in zip(parameters, arguments)))
 
     if TYPE_CHECKING:
 
@@ -149,6 +175,42 @@ def answers(kind: str, count: int) -> tuple[ctypes.Array[ctypes.c_char], Iterabl
     the module `struct`."""
     room = (ctypes.c_char * (count * struct.calcsize(kind)))()
     return room, memoryview(room).cast("B").cast(kind) if count else ()
+
+
+class Arrays:
+    """The look-up table of networks of one family, in arrays that never change once they are made."""
+
+    __slots__ = ("_row", "_each", "_kept")
+
+    def __init__(self, family: int, networks: Values, first: int, count: int) -> None:
+        """The table of those from `first` on, so many, which ascend."""
+        width, number = (32, ctypes.c_uint32) if family == 4 else (128, Halves)
+        bits, room = max(1, min(count.bit_length(), LEVEL_BITS)), calls.table_room(count)
+        starts, found = (number * room)(), (ctypes.c_uint32 * room)()
+        level, ranges = (ctypes.c_uint32 * (2**bits + 1))(), ctypes.c_size_t()
+        at = ctypes.addressof(networks) + first * ctypes.sizeof(Value)
+        behind = [ctypes.addressof(level), len(level), width - bits]
+        build = getattr(calls, f"ipv{family}_table_build")
+        check(build(at, count, ctypes.addressof(starts), room, ctypes.addressof(found), room, *behind, ranges))
+        table = [ctypes.addressof(starts), ranges.value, ctypes.addressof(found), ranges.value, *behind, count]
+        self._row = calls.with_arguments(f"ipv{family}_table_lookup", table)
+        self._each = partial(getattr(calls, f"ipv{family}_table_lookup_each"), *table)
+        self._kept = starts, found, level  # which the calls have by their addresses
+
+    def row(self, address: Value) -> int:
+        """The row of the longest network that an address is in, or NO_ROW."""
+        return self._row(ctypes.byref(address))
+
+    def rows(self, asked: Values) -> Iterable[int]:
+        """The same of many, by one call, with -1 for none."""
+        room, out = answers("i", len(asked))
+        check(self._each(asked, len(asked), room, len(asked)))
+        return out
+
+
+def tags_of(values: Values) -> bytes:
+    """The tags of values."""
+    return bytes(values)[Value.tag.offset :: ctypes.sizeof(Value)]
 
 
 def read_all(texts: Sequence[str]) -> Values:

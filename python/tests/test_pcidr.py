@@ -166,6 +166,19 @@ class Tables(unittest.TestCase):
             self.assertEqual([ours.lookup(str(address)) for address in asked], wanted)
             self.assertEqual(list(ours), sorted(Network(str(network)) for network in theirs))
 
+    def test_lookups_of_addresses_without_arrays_and_with_them(self):
+        names = ["any", "10.0.0.0/8", "10.1.2.3", "::/0", "2001:db8::/32"]
+        four, six = ["10.1.2.3", "10.9.9.9", "11.0.0.1", "0.0.0.0", "255.255.255.255"], ["::", "2001:db8::2", "fe80::1"]
+        for rows in (names, names[1:], names[1:3], names[3:], names[:1], []):
+            for asked in (four, six, [*four, *six], ["::ffff:10.1.2.3"]):
+                table = Table((name, name) for name in rows)
+                wanted = [next(iter(table.matches(text)), None) for text in asked]
+                self.assertIsNone(table._snapshot)
+                for _ in range(len(rows) + 2):
+                    self.assertEqual([table.lookup(text) for text in asked], wanted)
+                self.assertIsNotNone(table._snapshot)  # there were more look-ups than rows
+                self.assertEqual(table.lookup_each(asked), wanted)
+
     def test_lookups_of_networks_of_both_families(self):
         names = ["any", "0.0.0.0/0", "10.0.0.0/8", "10.1.2.3", "::/0", "2001:db8::/32", "2001:db8::1"]
         rows = {name: i for i, name in enumerate(names)}

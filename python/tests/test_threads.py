@@ -111,6 +111,7 @@ class Interleaved(unittest.TestCase):
 
         looks = {
             lambda table: table.lookup(ASKED)[1]: ("old", "new"),
+            lambda table: (setattr(table, "_looks", 9), table.lookup(ASKED)[1])[1]: ("old", "new"),
             lambda table: table.lookup_each([ASKED])[0][1]: ("old", "new"),
             lambda table: [value for _, value in table.matches(ASKED)]: (["old", "wide"], ["new", "wide"]),
             lambda table: [value for _, value in table.items()][:2]: (["wide", "old"], ["wide", "new"]),
