@@ -4,3 +4,4 @@ pub mod Numbers
 pub mod Steps
 pub mod Longest
 pub mod Written
+pub mod Only

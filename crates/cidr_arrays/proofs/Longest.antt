@@ -4,7 +4,7 @@ use Rattle.std.proofs.Math.Seq.{take-append_seam}
 use Rattle.std.proofs.lemmas.Bool.{cases_eq}
 use Rattle.std.proofs.lemmas.List.{get_or_default}
 use Rattle.std.proofs.lemmas.Nat.{pow_pos, div-add-mod', div-mul-add, shr_below, mod_below}
-use Rattle.std.proofs.lemmas.Option.{slice_get-get_or, slice_get_within}
+use Rattle.std.proofs.lemmas.Option.{get_or_from_slice_get, slice_get-get_or, slice_get_within}
 use Rattle.std.specs.List.{Contains}
 use Rattle.cidr.specs.model.Bits.{bits, number}
 use Rattle.cidr.specs.model.Network.{BeginsWith}
@@ -87,6 +87,36 @@ module _ (w : ℕ) (networks : List (ℕ × ℕ)) (good : AreNetworks w networks
                   omega (arith, size, same, size_i, nested.0)
             ];
       }
+
+  -- and no other answer says so
+  pub unique : (answer end : ℕ) → IsLongestMatch (network_bits w) (bits w address) networks (row_of answer) → IsLast w networks (length networks) address end
+      → answer ≡ end
+  unique zero end m known = elim (cases_eq end 0) [
+    | inl z ↦ sym z
+    | inr n ↦
+        let h = known.here (omega arith) in
+        let l : end - 1 < length networks = omega (arith, h.0) in
+        let last = at w networks (end - 1) in
+        absurd (m last (end - 1, l, get_or_default networks (end - 1) last (0, 0) l) (begins w last (good.each (end - 1) l) address within h.1.0 h.1.1))
+  ]
+  unique (suc i) end m known =
+      let l : i < length networks = slice_get_within networks i m.key m.here in
+      let key_is : at w networks i ≡ m.key = get_or_from_slice_get networks i m.key (0, 0) m.here in
+      let inside_i : IsIn w networks (at w networks i) address =
+      inside w (at w networks i) (good.each i l) address within (subst (λ k. BeginsWith (bits w address) (network_bits w k)) (sym key_is) m.begins) in
+      let before : i < end = known.before i l inside_i in
+      let h = known.here (omega arith) in
+      let l' : end - 1 < length networks = omega (arith, h.0) in
+      let last = at w networks (end - 1) in
+      elim (cases_eq i (end - 1)) [
+        | inl e ↦ omega arith
+        | inr n ↦
+            let nested = nests w (at w networks i) last (good.each i l) (good.each (end - 1) l') (good.ascending i (end - 1) (omega arith) l') (omega (arith, h.1.0, inside_i.1)) in
+            let no_longer = m.longest last (end - 1, l', get_or_default networks (end - 1) last (0, 0) l') (begins w last (good.each (end - 1) l') address within h.1.0 h.1.1) in
+            let size : length (network_bits w last) ≡ last.1 = length_network w last (good.each (end - 1) l').fits in
+            let size_i : length (network_bits w m.key) ≡ (at w networks i).1 = ap (λ k. length (network_bits w k)) (sym key_is) ∙ length_network w (at w networks i) (good.each i l).fits in
+            absurd (omega (arith, no_longer, size, size_i, nested.0))
+      ]
 
 -- the row of an answer
 pub row_of_some : (answer : ℕ) → 0 < answer → Some (answer - 1) ≡ row_of answer

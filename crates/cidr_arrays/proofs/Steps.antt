@@ -1,9 +1,9 @@
 -- The steps of the pass: a network is opened, or the last open one is closed.
-use Rattle.std.proofs.Common.{◌≡◌, sym, ◌∙◌, ap, subst, arith, inl, inr, ℕ, ◌+◌, ◌-◌, ◌^◌, ◌<◌, ◌≤◌, List, length, get_or}
+use Rattle.std.proofs.Common.{◌≡◌, ◌≢◌, sym, ◌∙◌, ap, subst, arith, inl, inr, ℕ, ◌+◌, ◌-◌, ◌^◌, ◌<◌, ◌≤◌, List, length, get_or}
 use Rattle.std.proofs.lemmas.Bool.{cases_eq, cases_lt}
 use Rattle.std.proofs.lemmas.Nat.{pow_pos}
 use Rattle.cidr_arrays.specs.Arrays.{AreNetworks, last_of}
-use Rattle.cidr_arrays.specs.Passing.{IsIn, IsLast, IsPassing, at}
+use Rattle.cidr_arrays.specs.Passing.{IsEdge, IsIn, IsLast, IsPassing, at}
 use Rattle.cidr_arrays.proofs.Numbers.{ends_within, nests, no_earlier}
 
 module _ (w : ℕ) (networks : List (ℕ × ℕ)) (good : AreNetworks w networks) where
@@ -19,7 +19,7 @@ module _ (w : ℕ) (networks : List (ℕ × ℕ)) (good : AreNetworks w networks
   }
 
   -- the networks from b on begin no earlier than b
-  from_next : (b j : ℕ) → b ≤ j → j < length networks → (at w networks b).0 ≤ (at w networks j).0
+  pub from_next : (b j : ℕ) → b ≤ j → j < length networks → (at w networks b).0 ≤ (at w networks j).0
   from_next b j le l = elim (cases_eq b j) [
     | inl e ↦ omega (arith, ap (λ i. (at w networks i).0) e)
     | inr n ↦ no_earlier (at w networks b) (at w networks j) (good.ascending b j (omega arith) l)
@@ -195,3 +195,42 @@ module _ (w : ℕ) (networks : List (ℕ × ℕ)) (good : AreNetworks w networks
       → (address : ℕ) → start ≤ address → address < 2 ^ w → IsLast w networks (length networks) address (get_or ends (depth - 1) 0)
   ended b start lasts ends depth g all most address from to =
       passed b start address lasts ends depth g from (omega arith) (λ j le l. absurd (omega arith))
+
+  -- where a network begins, or has ended, the last one that has the address is another than before
+  pub changed : (address end end' : ℕ) → 0 < address → IsEdge w networks address → IsLast w networks (length networks) (address - 1) end
+      → IsLast w networks (length networks) address end' → end ≢ end'
+  changed address end end' some edge before here = λ same.
+      let j = edge.place in
+      let before_at = subst (λ e. IsLast w networks (length networks) (address - 1) e) same before in
+      elim edge.edge [
+        | inl first ↦
+            let earlier : j < end' = here.before j edge.within (omega arith, omega arith) in
+            let last = before_at.here (omega arith) in
+            absurd (omega (arith, from_next j (end' - 1) (omega arith) (omega (arith, last.0)), last.1.0))
+        | inr past ↦
+            let earlier : j < end' = before_at.before j edge.within (omega arith, omega arith) in
+            let last = here.here (omega arith) in
+            let last_before = before_at.here (omega arith) in
+            elim (cases_eq j (end' - 1)) [
+              | inl e ↦ absurd (omega (arith, last.1.1, ap (λ i. last_of w (at w networks i)) e))
+              | inr n ↦
+                  let nested = nests w (at w networks j) (at w networks (end' - 1)) (good.each j edge.within) (good.each (end' - 1) (omega (arith, last.0)))
+                  (good.ascending j (end' - 1) (omega arith) (omega (arith, last.0))) (omega (arith, last_before.1.0)) in
+                  absurd (omega (arith, nested.1, last.1.1))
+            ]
+      ]
+
+  -- a network is open where the last open one ends before the addresses
+  pub two_open : (b start : ℕ) (lasts ends : List ℕ) (depth : ℕ) → IsPassing w networks b start lasts ends depth
+      → get_or lasts (depth - 1) 0 ≢ get_or lasts 0 0 → 2 ≤ depth
+  two_open b start lasts ends depth g other = elim (cases_lt 1 depth) [
+    | inl lt ↦ omega arith
+    | inr le ↦ let z : depth - 1 ≡ 0 = omega arith in absurd (other (ap (λ i. get_or lasts i 0) z))
+  ]
+
+  -- the pass goes on to such an address, where it closes the last open network
+  pub closed_edge : (b start last : ℕ) (lasts ends : List ℕ) (depth : ℕ) → IsPassing w networks b start lasts ends depth
+      → 2 ≤ depth → last ≡ get_or lasts (depth - 1) 0 → IsEdge w networks (last + 1)
+  closed_edge b start last lasts ends depth g two is_last =
+      let o = g.opened (depth - 1) (omega arith) (omega arith) in
+      record { place = get_or ends (depth - 1) 0 - 1; within = omega (arith, o.some, o.upto, g.places); edge = inr (omega (arith, o.last_is)) }

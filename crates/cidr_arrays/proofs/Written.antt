@@ -1,10 +1,11 @@
 -- Ranges in arrays, one more at a time.
-use Rattle.std.proofs.Common.{◌≡◌, refl, sym, ◌∙◌, ap, subst, arith, inl, inr, ℕ, ◌+◌, ◌^◌, ◌<◌, ◌≤◌, List, length, get_or, take, take_all}
+use Rattle.std.proofs.Common.{◌≡◌, refl, sym, ◌∙◌, ap, subst, arith, inl, inr, ℕ, ◌+◌, ◌-◌, ◌^◌, ◌<◌, ◌≤◌, List, length, get_or, take, take_all}
 use Rattle.std.proofs.lemmas.Bool.{cases_eq}
 use Rattle.std.proofs.lemmas.List.{length-take-le, get_or-take}
 use Rattle.cidr_arrays.specs.Arrays.{AreNetworks, AreRanges}
-use Rattle.cidr_arrays.specs.Passing.{IsLast, AreSoFar, IsPut}
+use Rattle.cidr_arrays.specs.Passing.{AreSoFar, HasRange, IsEdge, IsLast, IsPut}
 use Rattle.cidr_arrays.proofs.Longest.{longest}
+use Rattle.cidr_arrays.proofs.Steps.{changed}
 
 module _ (w : ℕ) (networks : List (ℕ × ℕ)) where
   -- none yet
@@ -14,6 +15,7 @@ module _ (w : ℕ) (networks : List (ℕ × ℕ)) where
     first = λ l. absurd (omega arith);
     below = λ k l. absurd (omega arith);
     ascending = λ i k lt l. absurd (omega arith);
+    changes = λ k l. absurd (omega arith);
     known = λ k address l from to last. absurd (omega arith);
   }
 
@@ -22,12 +24,19 @@ module _ (w : ℕ) (networks : List (ℕ × ℕ)) where
       → AreSoFar w networks starts answers count start → AreSoFar w networks starts answers count start'
   same_start starts answers count start start' e h = subst (λ s. AreSoFar w networks starts answers count s) (sym e) h
 
+  -- the address before the start has the last answer
+  pub last_known : (starts answers : List ℕ) (count start : ℕ) → AreSoFar w networks starts answers count start → (k : ℕ) → k + 1 ≡ count
+      → IsLast w networks (length networks) (start - 1) (get_or answers k 0)
+  last_known starts answers count start h k last =
+      let below = h.below k (omega arith) in
+      h.known k (start - 1) (omega arith) (omega arith) (omega arith) (λ i lt l. absurd (omega arith))
+
   -- the arrays have one range more
-  pub one_more : (starts answers starts' answers' : List ℕ) (count start start' answer : ℕ)
-      → AreSoFar w networks starts answers count start → IsPut starts starts' count start → IsPut answers answers' count answer → start < start'
+  pub one_more : AreNetworks w networks → (starts answers starts' answers' : List ℕ) (count start start' answer : ℕ)
+      → (0 < start → IsEdge w networks start) → AreSoFar w networks starts answers count start → IsPut starts starts' count start → IsPut answers answers' count answer → start < start'
       → ((address : ℕ) → start ≤ address → address < start' → IsLast w networks (length networks) address answer)
       → AreSoFar w networks starts' answers' (count + 1) start'
-  one_more starts answers starts' answers' count start start' answer h put_start put_answer lt range =
+  one_more good starts answers starts' answers' count start start' answer edge h put_start put_answer lt range =
       let old = λ (k : ℕ) (l : k < count). put_start.others k (λ e. absurd (omega arith)) in
       let new = λ (k : ℕ) (e : k ≡ count). ap (λ i. get_or starts' i 0) e ∙ put_start.put in
       record {
@@ -44,6 +53,14 @@ module _ (w : ℕ) (networks : List (ℕ × ℕ)) where
           | inl e ↦ omega (arith, new k e, old i (omega arith), h.below i (omega arith))
           | inr n ↦ omega (arith, old k (omega arith), old i (omega arith), h.ascending i k less (omega arith))
         ];
+        changes = λ k l. elim (cases_eq (k + 1) count) [
+          | inl e ↦ λ same.
+              let some : 0 < start = omega (arith, h.below k (omega arith)) in
+              changed w networks good start (get_or answers k 0) answer some (edge some) (last_known starts answers count start h k (omega arith)) (range start (omega arith) lt)
+              (sym (put_answer.others k (λ z. absurd (omega arith))) ∙ (same ∙ (ap (λ i. get_or answers' i 0) e ∙ put_answer.put)))
+          | inr n ↦ λ same. h.changes k (omega arith)
+              (sym (put_answer.others k (λ z. absurd (omega arith))) ∙ (same ∙ put_answer.others (k + 1) (λ z. absurd (omega arith))))
+        ];
         known = λ k address l from to last. elim (cases_eq k count) [
           | inl e ↦ subst (λ a. IsLast w networks (length networks) address a) (sym (ap (λ i. get_or answers' i 0) e ∙ put_answer.put)) (range address (omega (arith, new k e)) to)
           | inr n ↦
@@ -55,13 +72,13 @@ module _ (w : ℕ) (networks : List (ℕ × ℕ)) where
       }
 
   -- the arrays as they were, where they have the range already
-  pub one_more_there : (starts answers : List ℕ) (count start start' answer : ℕ)
-      → AreSoFar w networks starts answers count start → get_or starts count 0 ≡ start → get_or answers count 0 ≡ answer → start < start'
+  pub one_more_there : AreNetworks w networks → (starts answers : List ℕ) (count start start' answer : ℕ)
+      → (0 < start → IsEdge w networks start) → AreSoFar w networks starts answers count start → HasRange starts answers count start answer → start < start'
       → ((address : ℕ) → start ≤ address → address < start' → IsLast w networks (length networks) address answer)
       → AreSoFar w networks starts answers (count + 1) start'
-  one_more_there starts answers count start start' answer h is_start is_answer lt range =
-      one_more starts answers starts answers count start start' answer h
-      (record { put = is_start; others = λ k n. refl; same = refl }) (record { put = is_answer; others = λ k n. refl; same = refl }) lt range
+  one_more_there good starts answers count start start' answer edge h there lt range =
+      one_more good starts answers starts answers count start start' answer edge h
+      (record { put = there.1; others = λ k n. refl; same = refl }) (record { put = there.2; others = λ k n. refl; same = refl }) lt range
 
 -- all ranges are in the arrays
 pub are_ranges : (w : ℕ) (networks : List (ℕ × ℕ)) (starts answers : List ℕ) (count : ℕ) → AreNetworks w networks → 0 < count
@@ -78,6 +95,9 @@ are_ranges w networks starts answers count good some fits_starts fits_answers h 
         ascending = λ i k lt l. omega (arith, same i (omega arith), same k (omega arith), h.ascending i k lt (omega arith));
       };
       both = size_answers ∙ sym size;
+      fits = λ k l. omega (arith, same k (omega arith), h.below k (omega arith));
+      changes = λ k l e. h.changes k (omega arith)
+          (sym (get_or-take count answers k 0 (omega arith)) ∙ (e ∙ get_or-take count answers (k + 1) 0 (omega arith)));
       matches = λ address k fits r.
           let l : k < count = omega (arith, r.within) in
           let known = h.known k address l (omega (arith, same k l, r.from)) fits (λ i lt l'. omega (arith, same i l', r.last i lt (omega arith))) in

@@ -1,6 +1,6 @@
 -- A look-up table in arrays: networks that ascend, and ranges of addresses. Range k begins with the address that `starts`
 -- has at k, and ends before the next start.
-use Rattle.std.specs.Prelude.{◌≡◌, ℕ, zero, suc, ◌+◌, ◌-◌, ◌*◌, ◌%◌, ◌^◌, ◌<◌, ◌≤◌, ◌⊎◌, Bool, List, Option, Some, None, length, map, take, slice_index_or}
+use Rattle.std.specs.Prelude.{◌≡◌, ◌≢◌, ℕ, zero, suc, ◌+◌, ◌-◌, ◌*◌, ◌%◌, ◌^◌, ◌<◌, ◌≤◌, ◌⊎◌, Bool, List, Option, Some, None, length, map, take, slice_index_or}
 use Rattle.cidr.specs.model.Bits.{bits}
 use Rattle.cidr_table.specs.Prefixes.{IsLongestMatch}
 use Rattle.cidr_arrays.specs.declared.building.BuildError.{BuildError}
@@ -62,10 +62,13 @@ abbrev pub row_of : ℕ → Option ℕ
 row_of zero = None
 row_of (suc row) = Some row
 
--- ranges whose answers are the longest matches of their addresses (RFC 1812, 5.2.4.3)
+-- ranges whose answers are the longest matches of their addresses (RFC 1812, 5.2.4.3), and as few as that takes: the answers of
+-- two side by side differ
 pub record AreRanges (w : ℕ) (networks : List (ℕ × ℕ)) (starts answers : List ℕ) : Type 0 where
   pub ordered : AreStarts starts
   pub both : length answers ≡ length starts
+  pub fits : (k : ℕ) → k < length starts → slice_index_or starts k 0 < 2 ^ w
+  pub changes : (k : ℕ) → k + 1 < length starts → slice_index_or answers k 0 ≢ slice_index_or answers (k + 1) 0
   pub matches : (address k : ℕ) → address < 2 ^ w → IsRangeOf starts address k
       → IsLongestMatch (network_bits w) (bits w address) networks (row_of (slice_index_or answers k 0))
 

@@ -1,5 +1,5 @@
 -- What the pass over networks keeps: the last network that has an address, among the first `bound`.
-use Rattle.std.specs.Prelude.{◌≡◌, ◌≢◌, ℕ, ◌+◌, ◌-◌, ◌^◌, ◌<◌, ◌≤◌, List, length, slice_index_or}
+use Rattle.std.specs.Prelude.{◌≡◌, ◌≢◌, ℕ, ◌+◌, ◌-◌, ◌^◌, ◌<◌, ◌≤◌, ◌⊎◌, List, length, slice_index_or}
 use Rattle.cidr_arrays.specs.Arrays.{AreStarts, IsFirstLevel, last_of}
 
 module _ (w : ℕ) (networks : List (ℕ × ℕ)) where
@@ -14,6 +14,12 @@ module _ (w : ℕ) (networks : List (ℕ × ℕ)) where
   pub record IsLast (bound address end : ℕ) : Type 0 where
     pub before : (j : ℕ) → j < bound → IsIn (at j) address → j < end
     pub here : 0 < end → (end ≤ bound) × IsIn (at (end - 1)) address
+
+  -- a network begins with the address, or has ended with the one before it
+  pub record IsEdge (address : ℕ) : Type 0 where
+    pub place : ℕ
+    pub within : place < length networks
+    pub edge : (address ≡ (at place).0) ⊎ (address ≡ last_of w (at place) + 1)
 
   -- the network before `end` is open at place p
   pub record IsOpen (bound p last end : ℕ) : Type 0 where
@@ -43,8 +49,14 @@ module _ (w : ℕ) (networks : List (ℕ × ℕ)) where
     pub first : 0 < count → slice_index_or starts 0 0 ≡ 0
     pub below : (k : ℕ) → k < count → slice_index_or starts k 0 < start
     pub ascending : (i k : ℕ) → i < k → k < count → slice_index_or starts i 0 < slice_index_or starts k 0
+    pub changes : (k : ℕ) → k + 1 < count → slice_index_or answers k 0 ≢ slice_index_or answers (k + 1) 0
     pub known : (k address : ℕ) → k < count → slice_index_or starts k 0 ≤ address → address < start
         → ((i : ℕ) → k < i → i < count → address < slice_index_or starts i 0) → IsLast (length networks) address (slice_index_or answers k 0)
+
+-- the arrays have a range at the place, and this one
+abbrev pub HasRange : (starts answers : List ℕ) (place start answer : ℕ) → Type 0
+HasRange starts answers place start answer =
+    (place < length starts) × (slice_index_or starts place 0 ≡ start) × (slice_index_or answers place 0 ≡ answer)
 
 -- the list has the value in place of one, and else what it had
 pub record IsPut (old new : List ℕ) (place value : ℕ) : Type 0 where

@@ -1,7 +1,7 @@
 //! The ranges of networks, written into arrays of the caller.
 ghost use Rattle.std.specs.Prelude.{◌≡◌, ℕ, ◌+◌, ◌*◌, ◌^◌, ◌<◌, ◌≤◌, List, length, map, take, IfOk, IfErr};
 ghost use Rattle.cidr_arrays.specs.Arrays.{AreNetworks, AreRanges, IsFirstRefused, IsBuildRefused, networks_of};
-ghost use Rattle.cidr_arrays.specs.Passing.{AreSoFar, IsLast, IsPut};
+ghost use Rattle.cidr_arrays.specs.Passing.{AreSoFar, IsEdge, IsLast, IsPut};
 
 use crate::key::Key;
 use crate::pass::{goes_on, started};
@@ -20,11 +20,13 @@ pub enum BuildError {
 
 /// Writes the ranges of keys that ascend, and returns how many there are: at most twice as many as keys, and one more.
 /// So long the arrays have to be, whatever the keys are; what is behind the ranges is left as it was or written over.
+/// The ranges of keys are unique: two side by side differ in their answers.
 pub fn build<W: Word>(
     keys: &[Key<W>],
     starts: &mut [W],
     answers: &mut [u32],
 ) -> Result<usize, BuildError>
+    ensures few { IfOk result (λ _. length keys.now < 2 ^ 31) }
     ensures room { IfOk result (λ count. count ≤ 2 * length keys.now + 1) }
     ensures starts { IfOk result (λ count. count ≤ length starts.new) }
     ensures answers { IfOk result (λ count. count ≤ length answers.new) }
@@ -98,7 +100,8 @@ fn put_range<W: Word>(
     requires starts { count < length starts.old }
     requires answers { count < length answers.old }
     ensures room { result ≤ count + 1 }
-    ensures ranges { (networks : List (ℕ × ℕ)) → AreSoFar W.width networks (map W.value starts.old) answers.old count start → start ≤ end
+    ensures ranges { (networks : List (ℕ × ℕ)) → AreNetworks W.width networks → (0 < start → IsEdge W.width networks start)
+        → AreSoFar W.width networks (map W.value starts.old) answers.old count start → start ≤ end
         → ((address : ℕ) → start ≤ address → address < end → IsLast W.width networks (length networks) address answer)
         → AreSoFar W.width networks (map W.value starts.new) answers.new result end }
 {

@@ -1,7 +1,8 @@
 //! Whether arrays are those of keys.
-ghost use Rattle.std.specs.Prelude.{◌≡◌, ℕ, ◌+◌, ◌*◌, ◌^◌, ◌<◌, ◌≤◌, List, length, map, slice_index_or, IfOk, IsTrue};
-ghost use Rattle.cidr_arrays.specs.Arrays.{AreNetworks, AreRanges, AreStarts, IsFirstLevel, Represents, networks_of};
-ghost use Rattle.cidr_arrays.specs.Passing.{AreSoFar, IsLast};
+ghost use Rattle.std.specs.Prelude.{◌≡◌, ◌↔◌, ◌+◌, ◌^◌, ◌<◌, ◌≤◌, ◌⊎◌, None, length, map, IfOk, IfErr, IfSome, IsTrue};
+ghost use Rattle.cidr_arrays.specs.Arrays.{AreNetworks, AreStarts, Represents, networks_of};
+ghost use Rattle.cidr_arrays.specs.Faults.{IsFault, IsFirstOther, IsFirstWrong};
+ghost use Rattle.cidr_arrays.specs.Passing.{HasRange};
 
 use crate::building::first_refused;
 use crate::key::Key;
@@ -18,15 +19,16 @@ pub enum Fault {
     Counts,
     /// The shift of the first level is not below the number of bits of an address.
     Shift,
-    /// The key at this index is no network, or doesn't come after the one before it.
+    /// The key at this index is no network, or doesn't come after the one before it: the first such key.
     Refused(usize),
-    /// The range at this index is not that of the keys.
+    /// The range at this index is not that of the keys, which may have fewer or more: the first such range.
     Range(usize),
-    /// The entry of the first level at this index is not the range of its number.
+    /// The entry of the first level at this index is not the range of its number: the first such entry.
     Entry(usize),
 }
 
-/// Whether the arrays are those that keys have.
+/// Whether the arrays are those that keys have. What [`build`](crate::build) and [`fill_level`](crate::fill_level) wrote
+/// is, and the error is the first of those that [`Fault`] names, in its order.
 pub fn check<W: Word>(
     keys: &[Key<W>],
     starts: &[W],
@@ -34,7 +36,8 @@ pub fn check<W: Word>(
     level: &[u32],
     shift: u32,
 ) -> Result<(), Fault>
-    ensures { IfOk result (λ _. Represents W.width (networks_of W.value keys.now) (map W.value starts.now) answers.now level.now shift) }
+    ensures represented { IfOk result (λ _. Represents W.width (networks_of W.value keys.now) (map W.value starts.now) answers.now level.now shift) }
+    ensures refused { IfErr result (IsFault W.width (networks_of W.value keys.now) (map W.value starts.now) answers.now level.now shift) }
 {
     if keys.len() >= 1 << 31 {
         return Err(Fault::TooMany);
@@ -45,28 +48,24 @@ pub fn check<W: Word>(
     if shift >= W::width() {
         return Err(Fault::Shift);
     }
-    check_keys(keys)?;
-    check_ranges(keys, starts, answers)?;
-    check_level(starts, level, shift)?;
+    if let Some(place) = first_refused(keys) {
+        return Err(Fault::Refused(place));
+    }
+    if let Some(place) = first_other(keys, starts, answers) {
+        return Err(Fault::Range(place));
+    }
+    if let Some(place) = first_wrong(starts, level, shift) {
+        return Err(Fault::Entry(place));
+    }
     Ok(())
 }
 
-/// Whether keys are networks that ascend.
-fn check_keys<W: Word>(keys: &[Key<W>]) -> Result<(), Fault>
-    ensures { IfOk result (λ _. AreNetworks W.width (networks_of W.value keys.now)) }
-{
-    match first_refused(keys) {
-        Some(place) => Err(Fault::Refused(place)),
-        None => Ok(()),
-    }
-}
-
-/// Whether the ranges are those of the keys.
-fn check_ranges<W: Word>(keys: &[Key<W>], starts: &[W], answers: &[u32]) -> Result<(), Fault>
+/// The index of the first range that is another than the keys have.
+fn first_other<W: Word>(keys: &[Key<W>], starts: &[W], answers: &[u32]) -> Option<usize>
     requires keys { AreNetworks W.width (networks_of W.value keys.now) }
     requires few { length keys.now < 2 ^ 31 }
     requires both { length answers.now ≡ length starts.now }
-    ensures { IfOk result (λ _. AreRanges W.width (networks_of W.value keys.now) (map W.value starts.now) answers.now) }
+    ensures { IsFirstOther W.width (networks_of W.value keys.now) (map W.value starts.now) answers.now result }
 {
     let mut pass = started(keys);
     let mut count = 0;
@@ -74,17 +73,22 @@ fn check_ranges<W: Word>(keys: &[Key<W>], starts: &[W], answers: &[u32]) -> Resu
         let start = pass.start;
         let answer = pass.ends[pass.depth - 1];
         if !goes_on(keys, &mut pass) {
-            if has_range(starts, answers, count, start, answer) && count + 1 == starts.len() {
-                return Ok(());
+            if !has_range(starts, answers, count, start, answer) {
+                return Some(count);
             }
-            return Err(Fault::Range(count));
+            if count + 1 < starts.len() {
+                return Some(count + 1);
+            }
+            return None;
         }
-        let next = past_range(starts, answers, count, start, answer, pass.start)?;
-        count = next;
+        match past_range(starts, answers, count, start, answer, pass.start) {
+            Some(next) => count = next,
+            None => return Some(count),
+        }
     }
 }
 
-/// How many ranges there are up to one that the arrays have to have, unless it is empty.
+/// How many ranges there are up to one that the arrays have to have, unless it is empty; or `None` if they don't have it.
 fn past_range<W: Word>(
     starts: &[W],
     answers: &[u32],
@@ -92,42 +96,42 @@ fn past_range<W: Word>(
     start: u128,
     answer: u32,
     end: u128,
-) -> Result<usize, Fault>
+) -> Option<usize>
     requires both { length answers.now ≡ length starts.now }
-    ensures room { IfOk result (λ next. next ≤ count + 1) }
-    ensures ranges { IfOk result (λ next. (networks : List (ℕ × ℕ)) → AreSoFar W.width networks (map W.value starts.now) answers.now count start → start ≤ end
-        → ((address : ℕ) → start ≤ address → address < end → IsLast W.width networks (length networks) address answer)
-        → AreSoFar W.width networks (map W.value starts.now) answers.now next end) }
+    ensures room { IfSome result (λ next. next ≤ count + 1) }
+    ensures next { IfSome result (λ next. ((end ≤ start) × (next ≡ count))
+        ⊎ ((start < end) × (next ≡ count + 1) × HasRange (map W.value starts.now) answers.now count start answer)) }
+    ensures none { result ≡ None → (start < end) × ¬ (HasRange (map W.value starts.now) answers.now count start answer) }
 {
     if end <= start {
-        return Ok(count);
+        return Some(count);
     }
     if !has_range(starts, answers, count, start, answer) {
-        return Err(Fault::Range(count));
+        return None;
     }
-    Ok(count + 1)
+    Some(count + 1)
 }
 
 /// Whether a range begins with a number and has an answer.
 fn has_range<W: Word>(starts: &[W], answers: &[u32], place: usize, start: u128, answer: u32) -> bool
     requires { length answers.now ≡ length starts.now }
-    ensures { IsTrue result → (place < length starts.now) × (slice_index_or (map W.value starts.now) place 0 ≡ start) × (slice_index_or answers.now place 0 ≡ answer) }
+    ensures { IsTrue result ↔ HasRange (map W.value starts.now) answers.now place start answer }
 {
     place < starts.len() && starts[place].number() == start && answers[place] == answer
 }
 
-/// Whether each entry of a first level is the range of its number.
-fn check_level<W: Word>(starts: &[W], level: &[u32], shift: u32) -> Result<(), Fault>
+/// The index of the first entry of a first level that is not the range of its number.
+fn first_wrong<W: Word>(starts: &[W], level: &[u32], shift: u32) -> Option<usize>
     requires ordered { AreStarts (map W.value starts.now) }
     requires shift { shift < W.width }
-    ensures { IfOk result (λ _. IsFirstLevel (map W.value starts.now) level.now shift) }
+    ensures { IsFirstWrong (map W.value starts.now) level.now shift result }
 {
     for i in 0..level.len() {
         let entry = level[i] as usize;
         let range = entry_of(starts, shift, i);
         if entry != range {
-            return Err(Fault::Entry(i));
+            return Some(i);
         }
     }
-    Ok(())
+    None
 }

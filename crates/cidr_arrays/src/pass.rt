@@ -1,7 +1,7 @@
 //! The pass over networks that ascend, which comes to one range after the other.
 ghost use Rattle.std.specs.Prelude.{◌≡◌, ℕ, ◌+◌, ◌-◌, ◌*◌, ◌^◌, ◌<◌, ◌≤◌, length, slice_index_or, false, true};
 ghost use Rattle.cidr_arrays.specs.Arrays.{AreNetworks, networks_of};
-ghost use Rattle.cidr_arrays.specs.Passing.{IsLast, IsPassing};
+ghost use Rattle.cidr_arrays.specs.Passing.{IsEdge, IsLast, IsPassing};
 
 use crate::key::{Key, ones};
 use crate::word::Word;
@@ -50,6 +50,7 @@ pub(crate) fn goes_on<W: Word>(keys: &[Key<W>], pass: &mut Pass) -> bool
     requires few { length keys.now < 2 ^ 32 }
     requires passing { IsPassing W.width (networks_of W.value keys.now) pass.old.place pass.old.start pass.old.lasts pass.old.ends pass.old.depth }
     ensures passing { result ≡ true → IsPassing W.width (networks_of W.value keys.now) pass.new.place pass.new.start pass.new.lasts pass.new.ends pass.new.depth }
+    ensures edge { result ≡ true → IsEdge W.width (networks_of W.value keys.now) pass.new.start }
     ensures further { result ≡ true → pass.old.start ≤ pass.new.start }
     ensures range { result ≡ true → (address : ℕ) → pass.old.start ≤ address → address < pass.new.start
         → IsLast W.width (networks_of W.value keys.now) (length (networks_of W.value keys.now)) address (slice_index_or pass.old.ends (pass.old.depth - 1) 0) }

@@ -3,10 +3,10 @@ use Rattle.cidr_arrays.proofs.Written.{one_more, same_start}
 use Rattle.cidr_arrays.proofs.building.put_range.Goals as goal
 
 pub returns-then-end-start-clause-ranges : goal.returns-then-end-start-clause-ranges
-returns-then-end-start-clause-ranges g c = λ networks so_far le range.
+returns-then-end-start-clause-ranges g c = λ networks good edge so_far le range.
     same_start g.W.Word.width networks (map g.W.Word.value c.args.starts.now) c.args.answers.now c.args.count c.args.start c.args.end (omega arith) so_far
 
 pub returns-clause-ranges : goal.returns-clause-ranges
-returns-clause-ranges g c = λ networks so_far le range.
-    one_more g.W.Word.width networks (map g.W.Word.value c.args.starts.now) c.args.answers.now (map g.W.Word.value c.put.new.starts) c.put.new.answers
-    c.args.count c.args.start c.args.end c.args.answer so_far c.put.ensures.starts c.put.ensures.answers (omega arith) range
+returns-clause-ranges g c = λ networks good edge so_far le range.
+    one_more g.W.Word.width networks good (map g.W.Word.value c.args.starts.now) c.args.answers.now (map g.W.Word.value c.put.new.starts) c.put.new.answers
+    c.args.count c.args.start c.args.end c.args.answer edge so_far c.put.ensures.starts c.put.ensures.answers (omega arith) range

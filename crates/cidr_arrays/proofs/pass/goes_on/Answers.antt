@@ -1,9 +1,8 @@
-use Rattle.std.proofs.Common.{◌≡◌, ◌≢◌, refl, sym, ◌∙◌, ap, subst, arith, inl, inr, ◌+◌, ◌-◌, ◌^◌, ◌<◌, ◌≤◌, length, get_or, slice_set, get_or-set_other, get_or-set_same}
-use Rattle.std.proofs.lemmas.Bool.{cases_lt}
+use Rattle.std.proofs.Common.{◌≡◌, ◌≢◌, refl, sym, ◌∙◌, ap, subst, arith, inl, ◌+◌, ◌-◌, ◌^◌, ◌<◌, ◌≤◌, length, get_or, slice_set, get_or-set_other, get_or-set_same}
 use Rattle.cidr_arrays.specs.Arrays.{last_of, networks_of}
 use Rattle.cidr_arrays.specs.Passing.{IsPassing, at}
 use Rattle.cidr_arrays.proofs.Numbers.{length_networks, network_at}
-use Rattle.cidr_arrays.proofs.Steps.{closed, closed_range, ended, opened, opened_range, room}
+use Rattle.cidr_arrays.proofs.Steps.{closed, closed_edge, closed_range, ended, opened, opened_range, room, two_open}
 use Rattle.cidr_arrays.proofs.pass.goes_on.Goals as goal
 use Rattle.cidr_arrays.proofs.pass.goes_on.Goals.{then-pass-keys+else-first-last, else-pass-keys}
 
@@ -35,6 +34,13 @@ returns-then-first-last-clause-passing g c = λ _.
     (λ q l. let ne : q ≢ p.depth = omega arith in rw get_or-set_other refl)
     (let within : p.depth < length p.lasts = omega (arith, fits, c.requires.passing.wide) in rw get_or-set_same refl)
     (let within : p.depth < length p.ends = omega (arith, fits, c.requires.passing.wide) in rw get_or-set_same refl))
+
+pub returns-then-first-last-clause-edge : goal.returns-then-first-last-clause-edge
+returns-then-first-last-clause-edge g c = λ _.
+    let p = c.args.pass.now in
+    let size = length_networks g.W.Word.value c.args.keys.now in
+    let here = network_at g.W.Word.value c.args.keys.now p.place c.index-keys-pass.result c.index-keys-pass.is c.if-pass-keys.true in
+    record { place = p.place; within = omega arith; edge = inl (c.number-first.ensures.value ∙ sym (ap (λ k. k.0) here)) }
 
 pub returns-then-first-last-clause-further : goal.returns-then-first-last-clause-further
 returns-then-first-last-clause-further g c = λ _.
@@ -74,10 +80,7 @@ returns-clause-passing g c = λ _.
     let networks = networks_of g.W.Word.value c.args.keys.now in
     let size = length_networks g.W.Word.value c.args.keys.now in
     let h = c.requires.passing in
-    let two : 2 ≤ p.depth = elim (cases_lt 1 p.depth) [
-      | inl lt ↦ omega arith
-      | inr le ↦ let z : p.depth - 1 ≡ 0 = omega arith in absurd (c.if-last-pass.false (ap (λ i. get_or p.lasts i 0) z))
-    ] in
+    let two = two_open w networks c.requires.keys p.place p.start p.lasts p.ends p.depth h c.if-last-pass.false in
     closed w networks c.requires.keys p.place p.start (get_or p.lasts (p.depth - 1) 0) p.lasts p.ends p.depth h two refl
     (omega (arith, c.if-last-pass.false, h.nested 0 (p.depth - 1) (omega arith) (omega arith), h.widest))
     (elim c.if-pass-keys.branch [
@@ -85,6 +88,14 @@ returns-clause-passing g c = λ _.
           omega (arith, v.if-first-last.false, v.number-first.ensures.value, ap (λ k. k.0) (network_at g.W.Word.value c.args.keys.now p.place v.index-keys-pass.result v.index-keys-pass.is v.if-pass-keys.true))
       | else-pass-keys v ↦ λ l. absurd (omega (arith, v.if-pass-keys.false))
     ])
+
+pub returns-clause-edge : goal.returns-clause-edge
+returns-clause-edge g c = λ _.
+    let p = c.args.pass.now in
+    let networks = networks_of g.W.Word.value c.args.keys.now in
+    let h = c.requires.passing in
+    let two = two_open g.W.Word.width networks c.requires.keys p.place p.start p.lasts p.ends p.depth h c.if-last-pass.false in
+    closed_edge g.W.Word.width networks c.requires.keys p.place p.start (get_or p.lasts (p.depth - 1) 0) p.lasts p.ends p.depth h two refl
 
 pub returns-clause-range : goal.returns-clause-range
 returns-clause-range g c = λ _ address from to.

@@ -1,7 +1,7 @@
 use Rattle.std.proofs.Common.{◌≡◌, sym, subst, arith, inl, inr, ◌*◌, ◌^◌, get_or, map}
 use Rattle.std.proofs.lemmas.Bool.{cases_eq}
 use Rattle.cidr_arrays.specs.Arrays.{IsRangeOf}
-use Rattle.cidr_arrays.proofs.checking.check_level.Goals as goal
+use Rattle.cidr_arrays.proofs.checking.first_wrong.Goals as goal
 
 pub loop-i-preserved : goal.loop-i-preserved
 loop-i-preserved g c = λ k l.
