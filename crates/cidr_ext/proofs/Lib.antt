@@ -18,3 +18,4 @@ pub mod Distinct
 pub mod Found
 pub mod MaskTexts
 pub mod ZoneNames
+pub mod Faults

@@ -11,3 +11,4 @@ pub mod Entries
 pub mod MaskText
 pub mod Families
 pub mod MaskMessages
+pub mod TextFaults

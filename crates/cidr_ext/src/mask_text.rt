@@ -198,7 +198,7 @@ fn cut_at_last_slash(text: &str) -> Option<(&str, &str)>
 }
 
 /// The prefix length of a network mask, or of a host mask that is none.
-fn length_of_mask<A: AddressExt>(mask: A) -> Option<u8>
+pub(crate) fn length_of_mask<A: AddressExt>(mask: A) -> Option<u8>
     ensures { MatchOption result
         ((n : ℕ) → ¬ (IsLengthOfMask (width_of (A.family_of mask)) n (A.bits mask)))
         (λ n. IsLengthOfMask (width_of (A.family_of mask)) n (A.bits mask)) }
