@@ -3,3 +3,4 @@ pub mod Collecting
 pub mod Tracked
 pub mod Arguments
 pub mod Lines
+pub mod Shown

@@ -2,8 +2,10 @@
 ghost use Rattle.std.specs.Prelude.{◌≡◌, ◌↔◌, ◌++◌, List, ℕ, [], IsTrue, OnOk};
 ghost use Rattle.std.specs.List.{flat_map};
 ghost use Rattle.cidr_io.specs.Collecting.{Collects, HasSaid};
+ghost use Rattle.cidr_io.specs.Shown.{part_text, shown};
 ghost use Rattle.cidr_io.specs.Writing.{Answered, Says, State, Writes};
 
+use crate::shown::{Part, shown_char};
 use crate::sink::{OutputFailed, Sink};
 use crate::writing::{flush, write_all};
 use arrayvec::ArrayVec;
@@ -28,6 +30,27 @@ impl Model for Block {
     ghost view = { λ b. b.collected.items };
 }
 
+/// How many bytes parts have.
+fn total_len(parts: &[&[u8]]) -> usize {
+    let mut len = 0usize;
+    for part in parts {
+        len = len.saturating_add(part.len());
+    }
+    len
+}
+
+/// The most bytes that the parts of a message may have: four for each byte of a string that is shown.
+fn most_len(parts: &[Part<'_>]) -> usize {
+    let mut len = 0usize;
+    for part in parts {
+        len = len.saturating_add(match part {
+            Part::Plain(text) => text.len(),
+            Part::Shown(text) => text.len().saturating_mul(4),
+        });
+    }
+    len
+}
+
 impl Block {
     /// The block that has no bytes.
     pub fn new() -> Block
@@ -45,20 +68,11 @@ impl Block {
         self.collected.is_empty()
     }
 
-    /// Whether there is room for all of these parts.
-    fn has_room(&self, parts: &[&[u8]]) -> bool {
-        let mut len = self.collected.len();
-        for part in parts {
-            len = len.saturating_add(part.len());
-        }
-        len <= BLOCK
-    }
-
-    /// Writes what is collected, unless there is room behind it for all of these parts.
-    fn make_room<S: Sink>(&mut self, out: &mut S, parts: &[&[u8]]) -> Result<(), OutputFailed>
+    /// Writes what is collected, unless there is room behind it for so many bytes.
+    fn make_room<S: Sink>(&mut self, out: &mut S, len: usize) -> Result<(), OutputFailed>
         ensures { Collects (S.state out.old) (S.state out.new) self.old self.new [] result }
     {
-        if self.has_room(parts) {
+        if self.collected.len().saturating_add(len) <= BLOCK {
             return Ok(());
         }
         self.write(out)
@@ -94,7 +108,7 @@ impl Block {
     pub fn push_line<S: Sink>(&mut self, out: &mut S, parts: &[&[u8]]) -> Result<(), OutputFailed>
         ensures { Collects (S.state out.old) (S.state out.new) self.old self.new (flat_map (λ part. part.now) parts.now) result }
     {
-        self.make_room(out, parts)?;
+        self.make_room(out, total_len(parts))?;
         self.push_parts(out, parts)
     }
 
@@ -117,6 +131,42 @@ impl Block {
         flush(out)
     }
 
+    /// Appends a string from outside, as it is shown in a message.
+    fn push_shown<S: Sink>(&mut self, out: &mut S, text: &str) -> Result<(), OutputFailed>
+        ensures { Collects (S.state out.old) (S.state out.new) self.old self.new (shown text.now) result }
+    {
+        for c in text.chars() {
+            self.push(out, shown_char(c).as_str().as_bytes())?;
+        }
+        Ok(())
+    }
+
+    /// Appends a part of a message.
+    fn push_part<S: Sink>(&mut self, out: &mut S, part: Part<'_>) -> Result<(), OutputFailed>
+        ensures { Collects (S.state out.old) (S.state out.new) self.old self.new (part_text part.entry) result }
+    {
+        match part {
+            Part::Plain(text) => self.push(out, text.as_bytes()),
+            Part::Shown(text) => self.push_shown(out, text),
+        }
+    }
+
+    /// Appends the parts of a message, which ends in a line feed. Where there may be no room for all of them, what is
+    /// collected is written first.
+    pub fn push_message<S: Sink>(
+        &mut self,
+        out: &mut S,
+        parts: &[Part<'_>],
+    ) -> Result<(), OutputFailed>
+        ensures { Collects (S.state out.old) (S.state out.new) self.old self.new (flat_map part_text parts.now) result }
+    {
+        self.make_room(out, most_len(parts))?;
+        for part in parts {
+            self.push_part(out, *part)?;
+        }
+        Ok(())
+    }
+
     /// Appends a line as `push_line` does, as far as the sink takes lines: one that has failed gets nothing.
     pub fn say<S: Sink>(&mut self, out: &mut S, parts: &[&[u8]])
         ensures { (start : State) (text : List ℕ) → HasSaid start (S.state out.old) self.old text
@@ -124,6 +174,16 @@ impl Block {
     {
         if !out.failed() {
             let _ = self.push_line(out, parts);
+        }
+    }
+
+    /// Appends a message as `push_message` does, as far as the sink takes messages: one that has failed gets nothing.
+    pub fn say_message<S: Sink>(&mut self, out: &mut S, parts: &[Part<'_>])
+        ensures { (start : State) (text : List ℕ) → HasSaid start (S.state out.old) self.old text
+            → HasSaid start (S.state out.new) self.new (text ++ flat_map part_text parts.now) }
+    {
+        if !out.failed() {
+            let _ = self.push_message(out, parts);
         }
     }
 

@@ -6,6 +6,7 @@ pub mod arguments;
 pub mod block;
 pub mod lines;
 pub mod memory;
+pub mod shown;
 pub mod sink;
 pub mod source;
 pub mod writing;
