@@ -32,6 +32,10 @@ impl TextFault {
     ghost use Rattle.cidr_ext.specs.TextFaults.{fault_message};
 
     /// The message.
+    ///
+    /// ```
+    /// TextFault::LeadingZero.to_text() // a leading zero in an octet
+    /// ```
     pub fn to_text(&self) -> ArrayString<73>
         ensures { result.bytes ≡ fault_message self.now }
     {

@@ -25,6 +25,13 @@ pub enum TextFault {
 
 impl TextFault {
     /// The message.
+    ///
+    /// ```
+    /// # use cidr::*;
+    /// # use cidr_ext::*;
+    /// assert_eq!(format!("{}", TextFault::LeadingZero.to_text()), "a leading zero in an octet");
+    /// # Ok::<(), Box<dyn std::error::Error>>(())
+    /// ```
     pub fn to_text(&self) -> ArrayString<73> {
         let mut text = ArrayString::new();
         match self {
