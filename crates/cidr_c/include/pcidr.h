@@ -49,9 +49,9 @@ typedef struct pcidr_value {
 } pcidr_value;
 
 #if defined(__cplusplus) && __cplusplus >= 201103L
-#define PCIDR_ASSERT(holds) static_assert(holds, "pcidr_value is laid out otherwise")
+#define PCIDR_ASSERT(holds) static_assert(holds, "a struct of the library is laid out otherwise")
 #elif defined(__STDC_VERSION__) && __STDC_VERSION__ >= 201112L
-#define PCIDR_ASSERT(holds) _Static_assert(holds, "pcidr_value is laid out otherwise")
+#define PCIDR_ASSERT(holds) _Static_assert(holds, "a struct of the library is laid out otherwise")
 #else
 #define PCIDR_JOINED(a, b) a##b
 #define PCIDR_NAMED(line) PCIDR_JOINED(pcidr_assert_, line)
