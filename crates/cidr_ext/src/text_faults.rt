@@ -24,7 +24,8 @@ pub enum TextFault {
     LongGroup,
     /// A network mask or a host mask follows the slash: `a mask in place of a length`.
     MaskForLength,
-    /// A bit after the prefix is set, and this is the network of the host: `host bits set; the network is 192.0.2.0/24`.
+    /// A bit after the prefix is set, and this is the network of the host:
+    /// `host bits set; the network is 192.0.2.0/24`.
     HostBits(IpCidr),
 }
 
