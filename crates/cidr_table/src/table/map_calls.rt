@@ -88,7 +88,10 @@ impl<C: NetworkBits + Copy, V: Drop> LpmTable<C, V> {
         self.rows.clear();
     }
 
-    /// Removes the rows for which `keep` returns `false`. It is called once with each row, in the order of the keys.
+    /// Removes the rows for which `keep` returns `false`. It is called once with each row, in the order of the keys,
+    /// and has to be callable for every row, as a closure with no condition of its own is.
+    ///
+    /// It takes one pass over the rows, allocates nothing, and the room for the rows stays.
     ///
     /// ```
     /// routes.retain(|row| row.1 != 1);
@@ -105,7 +108,7 @@ impl<C: NetworkBits + Copy, V: Drop> LpmTable<C, V> {
 
     /// Removes the rows whose key is in the outer network, which may be a key itself, and returns how many there were.
     ///
-    /// It takes one pass over the rows and allocates nothing.
+    /// It takes one pass over the rows, allocates nothing, and the room for the rows stays.
     ///
     /// ```
     /// routes.remove_inside(&"10.0.0.0/8".parse()?) // 2
