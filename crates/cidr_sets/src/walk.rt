@@ -23,7 +23,7 @@ pub trait AddressSpace: NetworkBits {
     /// The bits of an address.
     ghost address_bits: { Self.Address → List Bool };
 
-    /// The numbers of the first and the last address of a network.
+    /// The numbers of the first and the last address of a network, as `to_number` has them.
     fn ends(&self) -> (u128, u128)
         ensures first { result.0 ≡ number (first_of (width_of family) (Self.bits self.now)) }
         ensures last { result.1 ≡ number (last_of (width_of family) (Self.bits self.now)) }
@@ -34,7 +34,8 @@ pub trait AddressSpace: NetworkBits {
         ensures value { result ≡ number (address_bits address) }
         ensures width { length (address_bits address) ≡ width_of family };
 
-    /// The address with this number. The caller has to prove that it is below 2^32 or 2^128.
+    /// The address with this number. The caller has to prove that it is below 2^32 in IPv4, or below 2^128 in IPv6, as
+    /// each `u128` is.
     fn from_number(value: u128) -> Self::Address
         requires { value < 2 ^ width_of family }
         ensures { address_bits result ≡ bits (width_of family) value };

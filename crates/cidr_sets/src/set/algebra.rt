@@ -40,8 +40,8 @@ impl<C: NetworkBits + Copy> NetworkSet<C> {
 
     /// The addresses that both of two sets have. Both stay as they were.
     ///
-    /// It goes through both once, and allocates room for as many networks as both have together. Where an allocation
-    /// fails, it returns the error.
+    /// It goes through both once, O(n), and allocates room for as many networks as both have together; the result has
+    /// one less at most, if they have any. Where an allocation fails, it returns the error.
     ///
     /// ```
     /// set.intersection(&half)?.as_slice() // [10.128.0.0/9]
@@ -59,7 +59,9 @@ impl<C: NetworkBits + Copy> NetworkSet<C> {
 
     /// The addresses of this set that the other has not. Both stay as they were.
     ///
-    /// It goes through both once. Where an allocation fails, it returns the error.
+    /// It goes through both once. The result has at most as many networks as this set, and for each network of the
+    /// other as many more as the longest of these has bits; its memory grows as it is written. Where an allocation
+    /// fails, it returns the error.
     ///
     /// ```
     /// set.difference(&half)?.as_slice() // [10.0.0.0/9]
@@ -75,7 +77,8 @@ impl<C: NetworkBits + Copy> NetworkSet<C> {
         Ok(NetworkSet { networks: rest })
     }
 
-    /// Whether the set has all addresses of some networks. Binary search for each: O(k log n) for k networks.
+    /// Whether the set has all addresses of some networks, which may come in any order. Binary search for each, up to
+    /// the first that isn't in the set: O(k log n) for k networks.
     ///
     /// ```
     /// set.contains_all(&["10.0.0.0/24".parse()?, "10.1.0.0/24".parse()?]) // true
@@ -86,7 +89,7 @@ impl<C: NetworkBits + Copy> NetworkSet<C> {
         are_covered(networks, self.as_slice())
     }
 
-    /// Whether the set has an address of a network. Binary search: O(log n).
+    /// Whether the set has an address of a network. Two binary searches at most: O(log n).
     ///
     /// ```
     /// half.overlaps(&"10.0.0.0/8".parse()?) // true
@@ -98,7 +101,8 @@ impl<C: NetworkBits + Copy> NetworkSet<C> {
         meets(self.as_slice(), network)
     }
 
-    /// Whether the other set has all addresses of this one.
+    /// Whether the other set has all addresses of this one. Binary search in the other for each network of this one, up
+    /// to the first that isn't in it: O(m log n) for m and n networks.
     ///
     /// ```
     /// half.is_subset(&set) // true
@@ -111,7 +115,8 @@ impl<C: NetworkBits + Copy> NetworkSet<C> {
 
     /// The addresses that exactly one of two sets has. Both stay as they were.
     ///
-    /// Where an allocation fails, it returns the error.
+    /// It makes the difference each way and the union of both, in the time and memory of these. Where an allocation
+    /// fails, it returns the error.
     ///
     /// ```
     /// set.symmetric_difference(&half)?.as_slice() // [10.0.0.0/9]
@@ -125,9 +130,11 @@ impl<C: NetworkBits + Copy> NetworkSet<C> {
         these.union(&those)
     }
 
-    /// The addresses of a network that the set has not.
+    /// The addresses of a network that the set has not. The set stays as it was.
     ///
-    /// Where an allocation fails, it returns the error.
+    /// It goes through the set once: O(n). The result has at most one network, and for each network of the set as many
+    /// more as the longest of these has bits; its memory grows as it is written. Where an allocation fails, it returns
+    /// the error.
     ///
     /// ```
     /// half.complement_in(&"10.0.0.0/8".parse()?)?.as_slice() // [10.0.0.0/9]
@@ -144,7 +151,8 @@ impl<C: NetworkBits + Copy> NetworkSet<C> {
         Ok(NetworkSet { networks: rest })
     }
 
-    /// Whether no address is in both sets.
+    /// Whether no address is in both sets. Binary searches in the other for each network of this one, up to the first
+    /// that has an address in it: O(m log n) for m and n networks.
     ///
     /// ```
     /// set.is_disjoint(&half) // false

@@ -10,7 +10,7 @@ impl<C: NetworkBits + Copy> PartialEq for NetworkSet<C> {
 
     ghost laws = { lists_per C.PartialEq.laws };
 
-    /// Whether two sets have the same addresses.
+    /// Whether two sets have the same addresses. It compares their networks one by one: O(n).
     fn eq(&self, other: &Self) -> bool {
         self.as_slice() == other.as_slice()
     }
@@ -39,7 +39,7 @@ impl<C: NetworkBits + Copy> Ord for NetworkSet<C> {
 
     ghost matches_eq = { lists_ties C.cmp C.matches_eq };
 
-    /// By their first networks that differ.
+    /// By their first networks that differ; a set that has the first networks of another and no more comes before it.
     fn cmp(&self, other: &Self) -> Ordering {
         self.as_slice().cmp(other.as_slice())
     }
