@@ -22,7 +22,8 @@ pub trait AddressExt: Address {
     fn family(self) -> Family
         ensures { result ≡ Self.family_of self };
 
-    /// The prefix length of a network mask, or `None` where the address is none: where a set bit follows an unset one.
+    /// The prefix length of a network mask, from 0 to the width, 32 or 128, or `None` where the address is none: where
+    /// a set bit follows an unset one.
     ///
     /// ```
     /// Ipv4Addr::new(255, 255, 255, 240).mask_length() // Some(28)
@@ -38,7 +39,7 @@ pub trait AddressExt: Address {
     }
 
     /// The prefix length of a host mask, the inverse of a network mask, or `None` where the address is none: where an
-    /// unset bit follows a set one.
+    /// unset bit follows a set one. Of 0.0.0.0 it is 32, of 255.255.255.255 it is 0.
     ///
     /// ```
     /// Ipv4Addr::new(0, 0, 0, 15).host_mask_length() // Some(28)

@@ -45,7 +45,8 @@ pub trait CidrMaskText: Cidr {
             IsMaskText (Self.family_of self.now) result.bytes (Self.prefix self.now) };
 
     /// The network that a string with a network mask or a host mask represents, as Python's `ipaddress` parses it in
-    /// IPv4. Address and mask are parsed as addresses of the family are; a prefix length is no mask.
+    /// IPv4. Address and mask are parsed as addresses of the family are; a prefix length is no mask, and an address
+    /// alone no network. It takes time in the length of the string.
     ///
     /// A mask that could be either is a network mask: 0.0.0.0 is that of /0, and 255.255.255.255 that of /32. The
     /// errors, of which the first one is returned, are in the order of `MaskParseError`.
@@ -72,7 +73,8 @@ pub enum MaskParseError {
     InvalidAddress,
     /// What follows it is no address of the same family: `invalid mask`.
     InvalidMask,
-    /// It is neither a network mask nor a host mask, since its set bits have a gap: `mask is not contiguous`.
+    /// It is neither a network mask nor a host mask: its set bits are not all at the front, and not all at the end, as
+    /// of 255.0.255.0 and of 0.255.0.0. `mask is not contiguous`.
     NonContiguousMask,
     /// A bit after the prefix is set: `host part of address was not zero`.
     InvalidHostPart,
@@ -81,7 +83,7 @@ pub enum MaskParseError {
 impl MaskParseError {
     ghost use Rattle.cidr_ext.specs.MaskMessages.{mask_message};
 
-    /// The message.
+    /// The message, as stated at each variant.
     pub fn as_str(&self) -> &'static str
         ensures { result.now ≡ mask_message self.now }
     {

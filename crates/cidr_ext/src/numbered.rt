@@ -50,7 +50,7 @@ pub trait CidrExt: Cidr {
         ensures { MatchOption result (width_of (Self.family_of self.now) - length (Self.prefix self.now) ≡ 128)
             (λ count. count ≡ 2 ^ (width_of (Self.family_of self.now) - length (Self.prefix self.now))) };
 
-    /// The network of the same length that follows, or `None` for the last one of the family.
+    /// The network of the same length that follows, or `None` for the last one of its length and family.
     ///
     /// ```
     /// "10.255.0.0/16".parse::<Ipv4Cidr>()?.next_network() // Some(11.0.0.0/16)
@@ -60,7 +60,7 @@ pub trait CidrExt: Cidr {
             (λ next. (Self.family_of next ≡ Self.family_of self.now) ×
             IsNext (Self.prefix self.now) (Self.prefix next)) };
 
-    /// The network of the same length that this one follows, or `None` for the first one of the family.
+    /// The network of the same length that this one follows, or `None` for the first one of its length and family.
     ///
     /// ```
     /// "::/64".parse::<Ipv6Cidr>()?.previous_network() // None
@@ -108,7 +108,8 @@ pub trait CidrExt: Cidr {
     /// The hosts that may have an address of the network, ascending, with its prefix length.
     ///
     /// In IPv4 these are all addresses but the first and the last, the network and the broadcast address; of a /31
-    /// network they are both (RFC 3021), and of a /32 network the one. In IPv6 they are all.
+    /// network they are both (RFC 3021), and of a /32 network the one. In IPv6 they are all, the subnet-router anycast
+    /// address (RFC 4291, 2.6.1) among them.
     ///
     /// ```
     /// "192.0.2.48/28".parse::<Ipv4Cidr>()?.usable_hosts().count() // Some(14)

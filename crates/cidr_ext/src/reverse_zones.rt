@@ -15,8 +15,8 @@ use std::marker::Model;
 
 /// The names of the zones of a network that are left, ascending. The call `reverse_zones` makes it.
 ///
-/// `next` takes the lowest of them and `next_back` the highest. Once either has returned `None`, both return `None` from
-/// then on. It does not allocate.
+/// `next` takes the lowest of them and `next_back` the highest, in constant time. Once either has returned `None`, both
+/// return `None` from then on. It does not allocate.
 #[derive(Drop)]
 pub struct ReverseZones<C: Cidr> {
     networks: Subnets<C>,
