@@ -13,6 +13,7 @@ use std::marker::Model;
 
 /// A set made ready for look-ups: whether an address is in it is one search among integers, as for a
 /// [`ForwardingTable`](crate::ForwardingTable). It keeps the networks of the set, with a `u32` each, beside its ranges.
+/// The set itself is not borrowed.
 ///
 /// Take it where a set stays as it is and many addresses are asked for. Where networks come and go, take `contains` of
 /// the set, which is a binary search.
@@ -34,9 +35,11 @@ impl<C: NetworkBits + Copy> Model for ReadySet<C> {
 }
 
 impl<C: NetworkBits + Copy> ReadySet<C> {
-    /// The networks of a set, made ready: O(n), some 50 ns a network. The set stays as it was.
+    /// The networks of a set, made ready: O(n), some 50 ns a network. It copies them, and takes the memory of
+    /// [`ForwardingTable::new`](crate::ForwardingTable::new) besides. The set stays as it was.
     ///
-    /// The error is that there are more than 4,294,967,294 networks, or that an allocation fails.
+    /// The error is that there are more than 4,294,967,294 networks, or that an allocation fails, which may be told of
+    /// so many networks too.
     pub fn new(alloc: Global, set: &NetworkSet<C>) -> Result<Self, ForwardingError>
         ensures ok { IfOk result (λ ready. ready ≡ set.now) }
         ensures refused { IfErr result (IsSetRefused set.now) }
@@ -52,9 +55,11 @@ impl<C: NetworkBits + Copy> ReadySet<C> {
         }
     }
 
-    /// Whether the set has all addresses of a network. It is one search among the starts of ranges, O(log n) at most
-    /// and a few steps for most addresses; for a network that holds the end of a range, and where the network of the
-    /// set has more than 64 bits, it is a `lookup` in a table.
+    /// Whether the set has all addresses of a network. An address is asked for as the network of full prefix length.
+    ///
+    /// It is one search among the starts of ranges, O(log n) at most and a few steps for most addresses. It is a
+    /// `lookup` in a table where a network of the set of more than 64 bits has the first 64 of the one that is asked
+    /// for, for a network that holds the end of a range, and for some of fewer than 18 bits. It allocates nothing.
     pub fn contains(&self, network: &C) -> bool
         ensures addresses { IsTrue result ↔ IsFull 129 (map C.bits self.now) (C.bits network.now) }
         ensures networks { IsTrue result ↔ Covers (map C.bits self.now) (C.bits network.now) }
