@@ -7,7 +7,7 @@ use crate::key::Key;
 use crate::pass::{goes_on, started};
 use crate::word::Word;
 
-/// Why no table was built.
+/// Why no table was built: the first of these.
 #[derive(Debug, Drop, PartialEq)]
 pub enum BuildError {
     /// There are more than 2,147,483,647 keys.
@@ -21,6 +21,12 @@ pub enum BuildError {
 /// Writes the ranges of keys that ascend, and returns how many there are: at most twice as many as keys, and one more.
 /// So long the arrays have to be, whatever the keys are; what is behind the ranges is left as it was or written over.
 /// The ranges of keys are unique: two side by side differ in their answers.
+///
+/// A start is the first address of its range, and its answer how many keys there are up to the longest that has the
+/// addresses of the range: the index of that key and one more, or 0 where no key has them.
+///
+/// Keys ascend by their first addresses and then by their lengths, and none repeats. The error is the first that
+/// [`BuildError`] names, in its order, and is told before anything is written. It takes O(n): two passes over n keys.
 pub fn build<W: Word>(
     keys: &[Key<W>],
     starts: &mut [W],
@@ -49,7 +55,8 @@ pub fn build<W: Word>(
     }
 }
 
-/// The index of the first key that is no network, or doesn't come after the one before it.
+/// The index of the first key, counted from 0, that is no network or doesn't come after the one before it, or `None`
+/// where all are networks in their order. One pass over the keys: O(n).
 pub fn first_refused<W: Word>(keys: &[Key<W>]) -> Option<usize>
     ensures { IsFirstRefused W.width (networks_of W.value keys.now) result }
 {

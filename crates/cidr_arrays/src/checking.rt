@@ -10,7 +10,7 @@ use crate::level::entry_of;
 use crate::pass::{goes_on, started};
 use crate::word::Word;
 
-/// What is wrong with arrays: the first thing.
+/// What is wrong with arrays: the first of these.
 #[derive(Debug, Drop, PartialEq)]
 pub enum Fault {
     /// There are more than 2,147,483,647 keys.
@@ -27,8 +27,11 @@ pub enum Fault {
     Entry(usize),
 }
 
-/// Whether the arrays are those that keys have. What [`build`](crate::build) and [`fill_level`](crate::fill_level) wrote
-/// is, and the error is the first of those that [`Fault`] names, in its order.
+/// Whether the arrays are those that keys have, so that look-ups in them are right. Those that [`build`](crate::build)
+/// and [`fill_level`](crate::fill_level) wrote are accepted, and the error is the first that [`Fault`] names, in its
+/// order. A first level may have any number of entries, also none.
+///
+/// It takes O(n): two passes over n keys and one over the ranges, and one search for each entry of the first level.
 pub fn check<W: Word>(
     keys: &[Key<W>],
     starts: &[W],

@@ -4,13 +4,14 @@ ghost use Rattle.cidr_arrays.specs.Arrays.{IsNetwork, Precedes, last_of};
 
 use crate::word::Word;
 
-/// A network, as it lies in an array: its first address and its prefix length.
+/// A network, as it lies in an array: its first address and its prefix length, in 8 bytes for IPv4 and 24 for IPv6. Any
+/// two numbers are a `Key`: `is_network` tells which are a network.
 #[derive(Clone, Copy)]
 #[repr(C)]
 pub struct Key<W> {
     /// The first address.
     pub address: W,
-    /// The prefix length.
+    /// The prefix length: of a network at most 32 or 128.
     pub len: u32,
 }
 

@@ -1,9 +1,23 @@
-//! A look-up table that lies in plain arrays of the caller: the longest match of an address, without a pointer and without
-//! an allocation.
+//! A look-up table in plain arrays of the caller: the longest match of an address, without a pointer or an allocation.
 //!
-//! The keys are networks of one family, in the order of their first addresses and then of their lengths. [`build`] writes
-//! the ranges of addresses between which the longest match changes into two arrays, [`fill_level`] where to search among
-//! them into a third, and [`lookup`] reads these. [`check`] says whether arrays from elsewhere are those of keys.
+//! The keys are networks of one family, in the order of their first addresses and then of their lengths. [`build`]
+//! writes the ranges of addresses between which the longest match changes into two arrays, [`fill_level`] where to
+//! search among them into a third, which may be empty, and [`lookup`] reads these. [`check`] says whether arrays from
+//! elsewhere are those of keys. Here `starts` and `answers` have two elements for each key and one more:
+//!
+//! ```
+//! let count = build(keys, starts, answers)?;
+//! Ok(lookup(
+//!     &starts[..count],
+//!     &answers[..count],
+//!     &[],
+//!     0,
+//!     keys.len(),
+//!     address.to_bits(),
+//! ))
+//! ```
+//!
+//! Rows that change are built anew: no call changes a range.
 #![tactic(auto)]
 
 mod building;

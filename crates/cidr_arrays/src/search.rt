@@ -11,7 +11,11 @@ use crate::word::Word;
 /// forwarding table (RFC 1812, 5.2.4.3). The keys are not read: `rows` says how many there are.
 ///
 /// Whatever the arrays hold, it reads nothing outside of them, and the index is below `rows`. It is the longest match in
-/// arrays that represent the keys: those that `build` and `fill_level` filled, or that `check` accepted.
+/// arrays that represent the keys: those that `build` and `fill_level` filled, with the `shift` of the first level, or
+/// that `check` accepted.
+///
+/// It takes one search among the ranges that the first level leaves, O(log r) for r of them, and one answer. Without a
+/// level, as `&[]` and any shift, these are all ranges.
 pub fn lookup<W: Word>(
     starts: &[W],
     answers: &[u32],

@@ -13,7 +13,8 @@ pub trait Word: Copy {
     fn is_upto(self, other: Self) -> bool
         ensures { IsTrue result ↔ (value self ≤ value other) };
 
-    /// The number of the bits before the last `shift`, or `None` where no `usize` may have it.
+    /// The number of the bits before the last `shift`, or `None` where a `usize` might not have room for it, as of IPv6
+    /// for a `shift` below 64, and where `shift` is not below the width.
     fn part(self, shift: u32) -> Option<usize>
         ensures { IfSome result (λ part. part ≡ value self / 2 ^ shift) };
 
@@ -22,7 +23,8 @@ pub trait Word: Copy {
         ensures value { result ≡ value self }
         ensures fits { result < 2 ^ width };
 
-    /// The address with a number.
+    /// The address with a number. The caller has to prove that it is below 2^32 in IPv4, or below 2^128 in IPv6, as
+    /// each `u128` is.
     fn of(number: u128) -> Self
         requires { number < 2 ^ width }
         ensures { value result ≡ number };
