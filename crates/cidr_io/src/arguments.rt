@@ -18,7 +18,9 @@ pub trait Arguments {
     /// The bytes of each argument, if they are told.
     ghost told: { Self → Option (List (List ℕ)) };
 
-    /// Copies the argument at this index, from 0 on, to the start of `buf`, and returns its length in bytes.
+    /// Copies the argument at this index, from 0 on, to the start of `buf`, and returns its length in bytes. The errors
+    /// are `NotPresent` past the last argument, and `TooLong` where `buf` has no room for all of it. The caller has to
+    /// prove that the index is below 2^64 - 1.
     fn copy_to(&self, place: usize, buf: &mut [u8]) -> Result<usize, FillError>
         requires { place < 18446744073709551615 }
         ensures bound { WritesAtMost result buf.new }
@@ -91,7 +93,8 @@ fn bytes_at<M: Memory, A: Arguments>(
     }
 }
 
-/// The arguments as strings.
+/// The arguments as strings, in their order. It reads up to the first error: `NotText` of an argument that is not
+/// UTF-8, and `NoMemory` where an allocation was refused, which `memory` remembers.
 pub fn texts_of<M: Memory, A: Arguments>(
     memory: &mut M,
     arguments: &A,
@@ -115,7 +118,8 @@ pub fn texts_of<M: Memory, A: Arguments>(
     }
 }
 
-/// The arguments as a program takes them.
+/// The arguments as a program takes them: a slice of each string. The error is an allocation that was refused, which
+/// `memory` remembers.
 pub fn borrowed<'a, M: Memory>(
     memory: &mut M,
     texts: &'a [String],

@@ -14,9 +14,12 @@ use std::marker::Model;
 /// The most bytes that are collected.
 const BLOCK: usize = 8192;
 
-/// Lines that are collected to be written by one call.
+/// Lines that are collected to be written by one call: at most 8,192 bytes, in the block itself, so that nothing is
+/// allocated.
 ///
-/// A block ends where a line ends, but for a line that is longer than a block.
+/// By `push_line` and `push_message` a block ends where a line ends, but for a line that is longer than a block. After
+/// an error a beginning of what was collected and of what was to come behind it was written, and what is collected is
+/// not told.
 #[derive(Drop)]
 pub struct Block {
     collected: ArrayVec<u8, BLOCK>,
@@ -78,8 +81,8 @@ impl Block {
         self.write(out)
     }
 
-    /// Appends bytes. Where there is no room for them, what is collected is written first, and they too where they are
-    /// more than a block.
+    /// Appends bytes, wherever a line ends. Where there is no room for them, what is collected is written first, and
+    /// they too where they are more than a block.
     pub fn push<S: Sink>(&mut self, out: &mut S, bytes: &[u8]) -> Result<(), OutputFailed>
         ensures { Collects (S.state out.old) (S.state out.new) self.old self.new bytes.now result }
     {
@@ -151,8 +154,8 @@ impl Block {
         }
     }
 
-    /// Appends the parts of a message, which ends in a line feed. Where there may be no room for all of them, what is
-    /// collected is written first.
+    /// Appends the parts of a message, the last of which ends in a line feed. Where there may be no room for all of
+    /// them, four bytes for each byte of a string that is shown, what is collected is written first.
     pub fn push_message<S: Sink>(
         &mut self,
         out: &mut S,
@@ -187,7 +190,7 @@ impl Block {
         }
     }
 
-    /// Writes what is left of the lines, and flushes, unless the sink has failed.
+    /// Writes what is left of the lines, and flushes. A sink that has failed gets nothing.
     pub fn end<S: Sink>(&mut self, out: &mut S)
         ensures { (start : State) (text : List ℕ) → HasSaid start (S.state out.old) self.old text
             → Says start (S.state out.new) text }

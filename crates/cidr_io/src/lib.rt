@@ -1,5 +1,9 @@
-//! What a program reads its arguments from and writes its answers to, proved: arguments as strings, sinks that may take
-//! a part of what they are offered and may fail, and lines that are written to them in blocks.
+//! What a program reads its arguments from and writes its answers to, proved: arguments as strings, lines of sources
+//! that may fail, sinks that may take a part of what they are offered and may fail, and lines that are written to them
+//! in blocks.
+//!
+//! Contracts speak of the bytes of arguments, sources and sinks that are told. Those of the system tell none; a source
+//! and a sink over memory do.
 #![tactic(auto)]
 
 pub mod arguments;

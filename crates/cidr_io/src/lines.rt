@@ -51,7 +51,8 @@ fn feed_in(text: &[u8]) -> Option<usize>
     None
 }
 
-/// Whether a line has more than [`MOST_BYTES`] bytes.
+/// Whether a line has more than [`MOST_BYTES`] bytes. Of a line of a [`LineReader`] that says that not all of it is
+/// there.
 pub fn is_too_long(line: &[u8]) -> bool
     ensures { Decides result (IsTooLong line.now) }
 {
@@ -177,7 +178,8 @@ fn new_chunk<M: Memory>(memory: &mut M) -> Result<Vec<u8>, AllocError>
     Ok(chunk)
 }
 
-/// The bytes of a source, to its end.
+/// The bytes of a source, to its end, in memory that grows with them; it is read by 64 KiB at once. The error is the
+/// first: `Failed` where a read of the source fails, or `NoMemory`, which `memory` remembers.
 pub fn read_to_end<M: Memory, S: Source + Drop>(
     memory: &mut M,
     source: S,
@@ -201,7 +203,8 @@ pub fn read_to_end<M: Memory, S: Source + Drop>(
 ///
 /// A line is a slice of the block that was read, and is copied only where it goes on behind it. It stays until the next
 /// one is read. Of a line of more than [`MOST_BYTES`] bytes the first ones are kept, one more than that, and the rest is
-/// passed over, so that the memory does not grow with it: [`is_too_long`] tells such a line.
+/// passed over, so that the memory does not grow with it: [`is_too_long`] tells such a line. The source is read by 64
+/// KiB at once, and a line and two such parts are kept at most.
 #[derive(Drop)]
 pub struct LineReader<S: Source + Drop> {
     source: S,
@@ -230,7 +233,7 @@ impl<S: Source + Drop> Model for LineReader<S> {
 }
 
 impl<S: Source + Drop> LineReader<S> {
-    /// Over a source of which nothing is read yet.
+    /// Over a source, of which nothing is read yet: it is at no line. The error is `NoMemory`, for the room of 64 KiB.
     pub fn new<M: Memory>(memory: &mut M, source: S) -> Result<LineReader<S>, ReadError>
         ensures left { IfOk result (λ reader. reader.left ≡ S.left source) }
         ensures refused { IfErr result (λ e. (e ≡ NoMemory) × (M.refused memory.new ≡ true)) }
@@ -248,9 +251,11 @@ impl<S: Source + Drop> LineReader<S> {
         })
     }
 
-    /// Reads the next line, without its line feed, and tells whether it ends in one, so that another line is behind it.
+    /// Reads the next line, without its line feed, and tells whether it ends in one, so that another line is behind it:
+    /// behind the last line feed too, where that line may be empty. Behind the last line are only empty ones.
     ///
-    /// It takes time in the length of the line, also of one that is too long. After an error the reader is at no line.
+    /// It takes time in the length of the line, also of one that is too long. The errors are `Failed` where a read of
+    /// the source fails, and `NoMemory`, which `memory` remembers. After an error the reader is at no line.
     pub fn read_line<M: Memory>(&mut self, memory: &mut M) -> Result<bool, ReadError>
         ensures line { IfOk result (λ more. IfSome self.old.left
             (λ text. IsNextLine text self.new.line more self.new.left)) }
@@ -285,7 +290,7 @@ impl<S: Source + Drop> LineReader<S> {
         Ok(true)
     }
 
-    /// The line that was read last.
+    /// The line that was read last, without its line feed; of one that is too long its first 1,048,577 bytes.
     pub fn line(&self) -> &[u8]
         ensures { result.now ≡ self.now.line }
     {

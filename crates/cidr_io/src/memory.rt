@@ -5,7 +5,8 @@ ghost use Rattle.std.specs.Vec.{vec_capacity, vec_len};
 use std::alloc::{AllocError, Global};
 use std::marker::Model;
 
-/// Allocates, and remembers whether an allocation was refused.
+/// Allocates, and remembers whether an allocation was refused. By it a program tells that there is no memory only where
+/// that is so.
 pub trait Memory {
     /// Whether an allocation was refused.
     ghost refused: { Self → Bool };
@@ -26,7 +27,7 @@ pub trait Memory {
         ensures made { result ≡ made }
         ensures refused { OnErr result (refused self.new ≡ true) };
 
-    /// Appends an item. An error is an allocation that was refused.
+    /// Appends an item. An error is an allocation that was refused, and the item is dropped.
     fn push<T: Drop>(&mut self, items: &mut Vec<T>, item: T) -> Result<(), AllocError>
         ensures pushed { OnOk result (items.new.items ≡ items.old.items ++ item ∷ []) }
         ensures refused { OnErr result (refused self.new ≡ true) }

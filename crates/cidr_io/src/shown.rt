@@ -42,7 +42,8 @@ fn escape(code: u8) -> ArrayString<4>
     text
 }
 
-/// A character as it is shown.
+/// A character as it is shown: a control character, of ASCII or C1 (Unicode's class Cc), as `\x` and two hexadecimal
+/// digits, and any other as it is, also one that turns the direction of writing.
 pub fn shown_char(c: char) -> ArrayString<4>
     ensures { result.bytes ≡ shown_char c }
 {
@@ -112,7 +113,7 @@ pub fn excerpt(text: &str) -> ArrayString<42>
     cut_text(text)
 }
 
-/// The same of a string that is not UTF-8: each byte that is no character of ASCII is `\x` and two hexadecimal digits.
+/// The same of a string that is not UTF-8: each byte outside of 32 to 126 is `\x` and two hexadecimal digits.
 pub fn byte_excerpt(bytes: &[u8]) -> ArrayString<42>
     ensures text { result.bytes ≡ byte_excerpt bytes.now }
     ensures clean { HasNoControl result.bytes }

@@ -31,15 +31,16 @@ pub trait Sink {
 
 /// A sink that knows whether anybody still reads it.
 pub trait Output: Sink {
-    /// Whether a call has failed since nobody reads it any more.
+    /// Whether a call has failed because nobody reads it any more.
     ghost closed: { Self → Bool };
 
-    /// Whether a call of `write` or `flush` has failed since nobody reads what was written any more.
+    /// Whether a call of `write` or `flush` has failed because nobody reads what was written any more.
     fn is_closed(&self) -> bool
         ensures { result ≡ closed self.now };
 }
 
-/// A writer that remembers whether it has failed, and whether that was since nobody reads it any more.
+/// A writer that remembers whether it has failed, and whether that was because nobody reads it any more
+/// (`BrokenPipe`).
 ///
 /// An error of the writer, also an interrupted call, is a failure, and so is a write that takes none of some bytes.
 #[derive(Drop)]

@@ -34,7 +34,8 @@ impl Source for &[u8] {
 /// How often a read is tried that a signal interrupts.
 const TRIES: usize = 1_000_000;
 
-/// Reads bytes of a reader to the start of `buf`, again where a signal interrupts it; `None` is a read that failed.
+/// Reads bytes of a reader to the start of `buf`, again where a signal interrupts it; `None` is a read that failed, or
+/// that was interrupted a million times.
 pub fn read_uninterrupted<R: Read>(reader: &mut R, buf: &mut [u8]) -> Option<usize>
     ensures { IfSome result (λ n. n ≤ length buf.new) }
 {

@@ -4,7 +4,7 @@ ghost use Rattle.cidr_io.specs.Writing.{Writes, Answered, Says};
 
 use crate::sink::{OutputFailed, Sink};
 
-/// Offers what is left until all is taken.
+/// Writes all bytes: offers what is left until all is taken, or the sink fails, which has a beginning of them then.
 pub fn write_all<S: Sink>(out: &mut S, text: &[u8]) -> Result<(), OutputFailed>
     ensures { Writes (S.state out.old) (S.state out.new) text.now result }
 {
@@ -18,7 +18,7 @@ pub fn write_all<S: Sink>(out: &mut S, text: &[u8]) -> Result<(), OutputFailed>
     Ok(())
 }
 
-/// Sends on what was taken.
+/// Sends on what was taken. The error is that the sink has failed.
 pub fn flush<S: Sink>(out: &mut S) -> Result<(), OutputFailed>
     ensures { Writes (S.state out.old) (S.state out.new) [] result }
 {
@@ -41,7 +41,7 @@ pub fn write_text<S: Sink>(out: &mut S, text: &str) -> Result<(), OutputFailed>
     flush(out)
 }
 
-/// Writes a line, as far as the sink takes it.
+/// Writes a line as `write_text` does, as far as the sink takes it: whether it does is known to the sink alone.
 pub fn say<E: Sink>(err: &mut E, line: &str)
     ensures { Says (E.state err.old) (E.state err.new) line.now }
 {
