@@ -9,11 +9,13 @@ use std::marker::Model;
 /// Whether a network is added or lacking.
 #[derive(Clone, Copy, Debug, Drop, PartialEq)]
 pub enum Sign {
+    /// The second list adds it.
     Plus,
+    /// The second list lacks it.
     Minus,
 }
 
-/// The sign in front of a network.
+/// The sign in front of a network: `+` or `-`.
 pub fn sign_text(sign: Sign) -> &'static str
     ensures { result.now ≡ sign_text sign }
 {
@@ -36,10 +38,13 @@ fn adds_first<C: NetworkBits>(added: &[C], lacking: &[C]) -> bool
     plus.cmp(minus).is_lt()
 }
 
-/// The networks of two lists that are left, each with its sign, ascending where both lists are.
+/// The networks of two lists that are left, each with its sign, ascending where both lists are: each call of `next`
+/// takes the first of both. It allocates nothing.
 #[derive(Drop)]
 pub struct Changes<'a, C: NetworkBits + Copy> {
+    /// What the second list adds: what its set has and the first one's has not.
     pub added: &'a [C],
+    /// What the second list lacks: what the first one's set has and its own has not.
     pub lacking: &'a [C],
 }
 

@@ -9,7 +9,8 @@ use crate::errors::LineError;
 use crate::lines::{HostBits, network_of, without_comment};
 use cidr::{IpAddr, IpCidr};
 
-/// What stands before the first white space, behind white space at the front.
+/// What stands before the first ASCII white space, behind white space at the front. A comment sign in it is a byte like
+/// any other.
 pub fn first_field(bytes: &[u8]) -> &[u8]
     ensures field { IsFirstField bytes.now result.now }
     ensures within { length result.now ≤ length bytes.now }
@@ -32,7 +33,8 @@ fn parts_of(field: &[u8]) -> (&[u8], &[u8])
     (first, rest.trim_ascii())
 }
 
-/// The first field of a line without its comment, and what stands behind it; `None` for a blank line.
+/// The first field of a line without its comment, and what stands behind it, without white space at both ends; `None`
+/// for a line that is blank or a comment alone.
 pub fn split_line(line: &[u8]) -> Option<(&[u8], &[u8])>
     ensures { MatchOption result (IsField line.now []) (λ parts. IsSplit line.now parts.0.now parts.1.now) }
 {
@@ -44,14 +46,16 @@ pub fn split_line(line: &[u8]) -> Option<(&[u8], &[u8])>
     Some(parts)
 }
 
-/// Whether a field is empty or begins a comment.
+/// Whether a field is empty or begins a comment, by `#` or `;`.
 pub fn says_nothing(field: &[u8]) -> bool
     ensures { Decides result (SaysNothing field.now) }
 {
     without_comment(field).is_empty()
 }
 
-/// The first field of a row of a table, and its value; `None` for a line that is blank or a comment.
+/// The first field of a row of a table, and its value, the rest of the line without white space at both ends, which may
+/// be empty; `None` for a line that is blank or a comment. Only a whole line is a comment here, so that a value may
+/// have `#` and `;`.
 pub fn split_row(line: &[u8]) -> Option<(&[u8], &[u8])>
     ensures { MatchOption result (IsNoRow line.now) (λ parts. IsRowSplit line.now parts.0.now parts.1.now) }
 {
@@ -63,7 +67,8 @@ pub fn split_row(line: &[u8]) -> Option<(&[u8], &[u8])>
     Some(parts)
 }
 
-/// The network that a field is.
+/// The network that a field is; an address is one too, and a range is none. The errors are `NotUtf8`, and then
+/// `NoNetwork` with the first error of parsing it.
 pub fn network_in(host_bits: HostBits, field: &[u8]) -> Result<IpCidr, LineError>
     ensures { MatchResult result (IsNetworkBy host_bits field.now) (IsNoNetworkField host_bits field.now) }
 {
@@ -76,7 +81,7 @@ pub fn network_in(host_bits: HostBits, field: &[u8]) -> Result<IpCidr, LineError
     }
 }
 
-/// The address that a field is.
+/// The address that a field is. The errors are `NotUtf8`, and then `NoAddress`.
 pub fn address_in(field: &[u8]) -> Result<IpAddr, LineError>
     ensures { MatchResult result (IsIpText field.now) (IsNoAddressField field.now) }
 {

@@ -23,14 +23,15 @@ pub struct Place<'a> {
 /// A line that has a network or a host.
 #[derive(Clone, Copy, Debug)]
 pub struct Entry<'a> {
+    /// Where the line stands.
     pub place: Place<'a>,
     /// The host; a network is the host at its first address.
     pub host: IpInet,
-    /// Whether the field is what is printed of the host.
+    /// Whether the field is what is printed of the host, without a full prefix length.
     pub is_canonical: bool,
 }
 
-/// The line at an index.
+/// The line at an index, counted from 0. The caller has to prove that there is one.
 pub fn entry_at<'e, 'a>(entries: &'e [Entry<'a>], index: usize) -> &'e Entry<'a>
     requires { index < length entries.now }
     ensures { slice_get entries.now index ≡ Some result.now }
@@ -76,7 +77,10 @@ fn is_plain(text: &str, host: &IpInet) -> bool
     }
 }
 
-/// The entry that a line has; `None` for a line that says nothing.
+/// The entry that a line has: what stands before its comment, without white space at both ends, as a network or a host.
+/// `None` for a line that is blank or a comment alone. A range is in error here.
+///
+/// The errors are `NotUtf8`, and then `NoNetwork` with the first error of parsing a host.
 pub fn entry_of<'a>(place: Place<'a>, line: &[u8]) -> Result<Option<Entry<'a>>, LineError>
     ensures { ReadsEntry place.entry.file.now place.entry.number line.now result }
 {

@@ -27,7 +27,7 @@ pub enum LineError {
 }
 
 impl LineError {
-    /// The message, as `not UTF-8`, without a full stop.
+    /// The message, as `not UTF-8`, without a full stop: at most [`MOST_MESSAGE`] bytes.
     pub fn message(&self) -> ArrayString<MOST_MESSAGE>
         ensures { result.bytes ≡ line_message self.now }
     {

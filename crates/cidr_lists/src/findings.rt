@@ -16,7 +16,7 @@ pub enum Finding<'a> {
     NotCanonical(IpInet),
     /// An earlier line has the same network: the first one.
     Repeats(Place<'a>),
-    /// Its network is inside a longer one of another line: the longest, and the first line that has it.
+    /// Its network is inside a larger one of another line: the smallest of these, and the first line that has it.
     Inside(IpCidr, Place<'a>),
     /// An earlier line has the other half of a network: the first one.
     Mergeable(Place<'a>),
@@ -25,9 +25,11 @@ pub enum Finding<'a> {
 /// A finding with the line that it is of.
 #[derive(Clone, Copy, Debug)]
 pub struct Note<'a> {
-    /// The index of the line among those that have a network or a host.
+    /// The index of the line, from 0 on, among those that have a network or a host.
     pub index: usize,
+    /// Where the line stands.
     pub place: Place<'a>,
+    /// What is found in it.
     pub finding: Finding<'a>,
 }
 
@@ -82,7 +84,7 @@ fn repeats<'a>(
     })
 }
 
-/// The finding that the network is inside a longer one.
+/// The finding that the network is inside a larger one.
 fn inside<'a>(
     entries: &[Entry<'a>],
     near: Near,
@@ -139,13 +141,14 @@ pub enum Kind {
     Form,
     /// An earlier line of the same network.
     Same,
-    /// A longer network around it.
+    /// A larger network around it.
     Outer,
     /// An earlier line of the other half.
     Half,
 }
 
-/// The finding of a kind in a line, near whose network this stands.
+/// The finding of a kind in a line, near whose network this stands, or `None` where there is none of that kind. The
+/// caller has to prove that `near` is what `near_at` gave for the line, among the same lines.
 pub fn find<'a>(
     kind: Kind,
     entries: &[Entry<'a>],

@@ -18,7 +18,7 @@ use cidr::{IpAddr, IpCidr, IpInet, Ipv4Addr, Ipv6Addr};
 pub enum HostBits {
     /// It is an error.
     Refused,
-    /// It is taken as unset.
+    /// It is taken as unset, so that a host says its network.
     Cleared,
 }
 
@@ -53,7 +53,7 @@ fn is_comment_sign(byte: u8) -> bool
     byte == b'#' || byte == b';'
 }
 
-/// The line without its comment.
+/// The line without its comment, which goes from the first `#` or `;` to the end.
 pub fn without_comment(line: &[u8]) -> &[u8]
     ensures { result.now ≡ before_first is_comment_sign line.now }
 {
@@ -111,7 +111,8 @@ fn range_of(first: IpAddr, last: IpAddr) -> Result<Content, LineError>
     }
 }
 
-/// The network that a string is.
+/// The network that a string is, or with `HostBits::Cleared` that of the host that it is; an address is a network too.
+/// The error is the first of parsing it.
 pub fn network_of(host_bits: HostBits, field: &str) -> Result<IpCidr, NetworkParseError>
     ensures { MatchResult result (IsNetworkBy host_bits field.now) (IsNoNetworkBy host_bits field.now) }
 {
@@ -155,7 +156,11 @@ fn whole_network(host_bits: HostBits, line: &[u8]) -> Option<IpCidr>
     }
 }
 
-/// What a line says.
+/// What a line says, by what stands before its comment, without white space at both ends: a field with a hyphen is a
+/// range, whose ends are addresses without white space around the hyphen, and any other a network or an address.
+///
+/// The first error is, in this order: `NotUtf8`; `NoNetwork` without a hyphen; `NoAddress` of what stands before the
+/// first hyphen, or behind it; `TwoFamilies`; `Reversed`. A line of more than 1 MiB is for the caller to find.
 pub fn content_of(host_bits: HostBits, line: &[u8]) -> Result<Content, LineError>
     ensures { ReadsLine host_bits line.now result }
 {

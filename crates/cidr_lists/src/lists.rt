@@ -10,15 +10,18 @@ use cidr::{IpCidr, Ipv4Cidr, Ipv6Cidr};
 use cidr_sets::{Addressed, NetworkSet};
 use std::alloc::{AllocError, Global};
 
-/// The networks of lists, of each family.
+/// The networks of lists, of each family, as they come: in any order, overlapping and repeated. They take 8 bytes each
+/// in IPv4 and 24 in IPv6. After an error, which is that there is no memory, what was added isn't told.
 #[derive(Drop)]
 pub struct Lists {
+    /// Those of IPv4.
     pub v4: Vec<Ipv4Cidr>,
+    /// Those of IPv6.
     pub v6: Vec<Ipv6Cidr>,
 }
 
 impl Lists {
-    /// Lists of no networks.
+    /// Lists of no networks. It allocates nothing.
     pub fn new(alloc: Global) -> Lists
         ensures v4 { result.v4.items ≡ [] }
         ensures v6 { result.v6.items ≡ [] }
@@ -40,7 +43,8 @@ impl Lists {
         Ok(())
     }
 
-    /// Adds the networks of what a line says to those of their family.
+    /// Adds the networks of what a line says to those of their family: of a range the shortest list of networks, at
+    /// most 62 in IPv4 and 254 in IPv6.
     pub fn push_content(&mut self, alloc: Global, content: &Content) -> Result<(), AllocError>
         ensures { OnOk result (AddsContent content.now self.old self.new) }
     {
@@ -52,7 +56,7 @@ impl Lists {
         }
     }
 
-    /// Adds the networks of other lists.
+    /// Adds the networks of other lists behind those of their family.
     pub fn extend(&mut self, other: &Lists) -> Result<(), AllocError>
         ensures { OnOk result (Grows self.old self.new (listed other.now)) }
     {

@@ -18,7 +18,8 @@ use cidr::{IpCidr, Ipv4Cidr, Ipv6Cidr, NetworkBits};
 use cidr_ext::NetworkExt;
 use std::alloc::{AllocError, Global};
 
-/// What stands near the network of a line. A line is told by its index among those that have a network or a host.
+/// What stands near the network of a line. A line is told by its index, from 0 on, among those that have a network or a
+/// host.
 #[derive(Clone, Copy, Debug)]
 pub struct Near {
     /// The first line that has the network. What follows is kept for that line alone.
@@ -254,7 +255,10 @@ fn keep<C: NetworkExt>(
     Ok(())
 }
 
-/// What stands near the networks of lines.
+/// What stands near the networks of lines, for `near_at`. A host is taken by its network.
+///
+/// It sorts the networks of n lines, O(n log n), and passes them once. It allocates 16 bytes for each line of IPv4 and
+/// 32 for each of IPv6, which it frees, and some 40 a line, which stay. The error is that there is no memory.
 pub fn near_lines(alloc: Global, entries: &[Entry<'_>]) -> Result<Vec<Near>, AllocError>
     ensures { IfOk result (λ near. AreNear (map entry_network entries.now) near.items) }
 {
@@ -268,7 +272,8 @@ pub fn near_lines(alloc: Global, entries: &[Entry<'_>]) -> Result<Vec<Near>, All
     Ok(near)
 }
 
-/// What stands near the network of a line, which is kept for the first line of the network.
+/// What stands near the network of the line at an index, which is kept for the first line of the network. The caller
+/// has to prove that `near` is what `near_lines` gave of these lines, and that the index is below their number.
 pub fn near_at(near: &[Near], entries: &[Entry<'_>], index: usize) -> Near
     requires near { AreNear (map entry_network entries.now) near.now }
     requires within { index < length entries.now }

@@ -13,7 +13,7 @@ pub trait Printed: NetworkBits + Copy {
     /// The string, without a full prefix length.
     ghost text: { Self → List ℕ };
 
-    /// The printed string, without a full prefix length.
+    /// The printed string, without a full prefix length: at most 18 bytes in IPv4 and 43 in IPv6.
     fn printed(&self) -> ArrayString<43>
         ensures bytes { result.bytes ≡ text self.now }
         ensures len { length result.bytes ≤ 43 };
@@ -46,7 +46,7 @@ pub trait PrintedAddress: Addressed + Copy {
     /// The string of an address, by its bits.
     ghost shown: { List Bool → List ℕ };
 
-    /// The printed string.
+    /// The printed string: at most 15 bytes in IPv4 and 39 in IPv6 (RFC 5952).
     fn shown(address: &Self::Address) -> ArrayString<39>
         ensures { result.bytes ≡ shown (Self.address_bits address.now) };
 
@@ -96,7 +96,7 @@ fn all_of_ipv6() -> ArrayString<41>
     text
 }
 
-/// A count in decimal; `None` is 2^128.
+/// A count in decimal, as `address_count` of a set has it: `None` is 2^128.
 pub fn count_text(count: Option<u128>) -> ArrayString<41>
     ensures { result.bytes ≡ decimal (count_of count) }
 {

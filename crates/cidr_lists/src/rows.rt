@@ -8,11 +8,13 @@ use std::alloc::{AllocError, Global};
 /// Where a value stands among the bytes of all values.
 #[derive(Clone, Copy, Debug, Drop, PartialEq)]
 pub struct Span {
+    /// The index of its first byte, counted from 0.
     pub start: usize,
+    /// How many bytes it has.
     pub len: usize,
 }
 
-/// The bytes of a value.
+/// The bytes of a value; of a span that goes beyond all values, those that there are.
 pub fn value_of(values: &[u8], span: Span) -> &[u8]
     ensures { result.now ≡ value_at values.now span }
 {
@@ -25,16 +27,20 @@ pub fn value_of(values: &[u8], span: Span) -> &[u8]
     value
 }
 
-/// The networks of each family, each with the span of its value, and the bytes of all values.
+/// The networks of each family, each with the span of its value, and the bytes of all values: rows as they come, also
+/// several of one network. After an error, which is that there is no memory, what was added isn't told.
 #[derive(Drop)]
 pub struct Rows {
+    /// The rows of IPv4.
     pub v4: Vec<(Ipv4Cidr, Span)>,
+    /// The rows of IPv6.
     pub v6: Vec<(Ipv6Cidr, Span)>,
+    /// The bytes of all values, one behind the other.
     pub values: Vec<u8>,
 }
 
 impl Rows {
-    /// No rows.
+    /// No rows. It allocates nothing.
     pub fn new(alloc: Global) -> Rows
         ensures v4 { result.v4.items ≡ [] }
         ensures v6 { result.v6.items ≡ [] }
@@ -63,7 +69,7 @@ impl Rows {
         Ok(())
     }
 
-    /// The same rows.
+    /// The same rows in memory of their own.
     pub fn copy(&self, alloc: Global) -> Result<Rows, AllocError>
         ensures { IfOk result (λ rows. AreCopies self.now rows) }
     {

@@ -14,7 +14,7 @@ use cidr::{BitString, IpCidr, Ipv4Cidr, Ipv6Cidr, NetworkBits};
 use cidr_sets::NetworkSet;
 use std::alloc::{AllocError, Global};
 
-/// How addresses are written.
+/// How addresses are written, for a caller that writes them.
 #[derive(Clone, Copy, Debug, Drop, PartialEq)]
 pub enum Form {
     /// As the shortest list of networks.
@@ -28,15 +28,20 @@ pub enum Form {
 /// What a further list does to the addresses of those before.
 #[derive(Clone, Copy, Debug, Drop, PartialEq)]
 pub enum Step {
+    /// Its own are added.
     Union,
+    /// Its own are taken away.
     Difference,
+    /// Only its own stay.
     Intersection,
 }
 
 /// A set of addresses of each family.
 #[derive(Drop)]
 pub struct Sets {
+    /// That of IPv4.
     pub v4: NetworkSet<Ipv4Cidr>,
+    /// That of IPv6.
     pub v6: NetworkSet<Ipv6Cidr>,
 }
 
@@ -57,7 +62,7 @@ fn stepped<C: NetworkBits + Copy>(
 }
 
 impl Sets {
-    /// The addresses of the networks of lists.
+    /// The addresses of the networks of lists. It never fails: it sorts them in their own memory, O(n log n).
     pub fn of_lists(lists: Lists) -> Sets
         ensures { (family : Family) → IsSetOf 129 (Covers (listed lists family)) (networks_of result family) }
     {
@@ -68,7 +73,7 @@ impl Sets {
         }
     }
 
-    /// The addresses of a network.
+    /// The addresses of a network. The error is that there is no memory.
     pub fn of_network(alloc: Global, network: &IpCidr) -> Result<Sets, AllocError>
         ensures { IfOk result (λ sets. (family : Family)
             → IsSetOf 129 (Covers (network_in family (network.now ∷ []))) (networks_of sets family)) }
@@ -85,7 +90,7 @@ impl Sets {
         self.v4.is_empty() && self.v6.is_empty()
     }
 
-    /// Whether there are all addresses of a network.
+    /// Whether there are all addresses of a network. Binary search: O(log n).
     pub fn contains(&self, network: &IpCidr) -> bool
         ensures { Decides result (IsWithin (HasAddress self.now) network.now) }
     {
@@ -105,7 +110,8 @@ impl Sets {
         }
     }
 
-    /// The first network of a prefix length that has only addresses of the sets, of IPv4 before IPv6.
+    /// The first network of a prefix length that has only addresses of the sets, of IPv4 before IPv6, or `None` where
+    /// there is none. A length above 32 is one of IPv6. It looks at each network at most once: O(n).
     pub fn first_free(&self, len: u8) -> Option<IpCidr>
         ensures { IsFreeOf (networks_of self.now) len result }
     {
@@ -126,7 +132,8 @@ impl Sets {
         self.v6.as_slice();
     }
 
-    /// The sets of each family put together.
+    /// The sets of each family put together, as the calls of `NetworkSet` do, in their time and memory. The error is
+    /// that there is no memory, and both stay as they were.
     pub fn stepped(&self, step: Step, other: &Sets) -> Result<Sets, AllocError>
         ensures { IfOk result (λ sets. (family : Family)
             → IsSetOf 129 (λ a. Steps step (HasAddress self.now family a) (HasAddress other.now family a))
@@ -138,7 +145,8 @@ impl Sets {
         })
     }
 
-    /// The addresses of each family that the sets have not.
+    /// The addresses of each family that the sets have not: where there are none, all of that family. The error is that
+    /// there is no memory.
     pub fn complement(&self) -> Result<Sets, AllocError>
         ensures { IfOk result (λ sets. (family : Family)
             → IsSetOf 129 (λ a. ¬ (HasAddress self.now family a)) (networks_of sets family)) }
@@ -150,7 +158,8 @@ impl Sets {
     }
 }
 
-/// Sets put together, from the first one on.
+/// Sets put together, from the first one on: each of the others in turn with what came of those before, in the time and
+/// memory of each step. The error is that there is no memory.
 pub fn combined(step: Step, first: Sets, others: &[Sets]) -> Result<Sets, AllocError>
     ensures { IfOk result (λ sets. (family : Family)
         → IsSetOf 129 (λ a. Combined HasAddress step (HasAddress first family a) others.now family a)

@@ -12,13 +12,17 @@ use std::alloc::{AllocError, Global};
 /// The networks of each family, made ready for look-ups, each with the span of its value, and the bytes of all values.
 #[derive(Drop)]
 pub struct Table {
+    /// The networks of IPv4.
     pub v4: ReadyTable<Ipv4Cidr, Span>,
+    /// The networks of IPv6.
     pub v6: ReadyTable<Ipv6Cidr, Span>,
+    /// The bytes of all values, for `value_of` of `rows`.
     pub values: Vec<u8>,
 }
 
 impl Table {
-    /// The table of these rows, of which the last one of each network counts.
+    /// The table of these rows, of which the last one of each network counts. It sorts them, O(n log n), and makes them
+    /// ready, with up to eight bytes a row. The error is that there is no memory.
     pub fn of_rows(alloc: Global, rows: Rows) -> Result<Table, AllocError>
         ensures { IfOk result (λ table. (family : Family)
             → AreLastRows (map (resolved rows.values.items) (stored rows family)) (kept table family)) }

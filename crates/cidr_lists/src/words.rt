@@ -141,7 +141,13 @@ impl Sets {
         }
     }
 
-    /// Whether a line has an address that is there.
+    /// Whether a line has an address of the sets anywhere, as a line of a log has.
+    ///
+    /// An address is a word of ASCII letters, digits and dots, and for IPv6 colons, between other bytes: so in
+    /// `[2001:db8::1]:80`, `192.0.2.1:80`, `192.0.2.1/24` and `fe80::1%eth0`, but not in `v192.0.2.1`. Dots at the end
+    /// of a word, and one colon, may be punctuation. Of a network only the address counts.
+    ///
+    /// It passes the line once for each family of which the sets have addresses, with a binary search for each address.
     pub fn have_one(&self, line: &[u8]) -> bool
         ensures { Decides result (HasOneIn (HasAddress self.now) line.now) }
     {
