@@ -147,17 +147,17 @@ class _Shown:
 
     @property
     def first(self) -> Address:
-        """The first address of the network."""
+        """The first address of the network; `any`, which has addresses of two families, raises `ValueError`."""
         return Address._of(self._part(calls.first))
 
     @property
     def last(self) -> Address:
-        """The last address of the network."""
+        """The last address of the network, as `first` has the first one."""
         return Address._of(self._part(calls.last))
 
     @property
     def mask(self) -> Address:
-        """The mask of the network."""
+        """The mask of the network, as an address: 255.255.255.0 of a /24. `any` has none, and raises `ValueError`."""
         return Address._of(self._part(calls.mask))
 
 
@@ -179,7 +179,8 @@ def _has(outer: Value, inner: Value) -> bool:
 
 
 class Address(_Shown):
-    """An IPv4 or IPv6 address, as ``Address("10.0.0.1")``. IPv4 addresses come before IPv6 addresses."""
+    """An IPv4 or IPv6 address, as ``Address("10.0.0.1")``. IPv4 addresses come before IPv6 addresses. A string that is
+    none raises `ValueError`; a prefix length is not taken."""
 
     __slots__ = ()
     _read = calls.read_address
@@ -200,7 +201,8 @@ class Address(_Shown):
 
 
 class Host(_Shown):
-    """An address in its network, as ``Host("10.0.0.5/8")``, in the order of the addresses and then of the lengths."""
+    """An address in its network, as ``Host("10.0.0.5/8")``, in the order of the addresses and then of the lengths. A
+    string that is none raises `ValueError`; an address alone has full prefix length."""
 
     __slots__ = ()
     _read = calls.read_host
@@ -232,8 +234,9 @@ class Host(_Shown):
 class Network(_Shown):
     """An IPv4 or IPv6 network, as ``Network("10.0.0.0/8")``, or ``Network("any")``, which has all addresses.
 
-    ``in`` takes an address, a network, or a string of one. Iteration gives the addresses from the first on, `reversed`
-    from the last on, and ``network[i]`` the address at an index. `any` comes first in the order, then IPv4, then IPv6.
+    A string that is none raises `ValueError`, also where a bit after the prefix is set. ``in`` takes an address, a
+    network, or a string of one. Iteration gives the addresses from the first on, `reversed` from the last on, and
+    ``network[i]`` the address at an index. `any` comes first in the order, then IPv4, then IPv6.
     """
 
     __slots__ = ()
@@ -319,7 +322,7 @@ def _values(given: Iterable[AnyNetwork]) -> Values:
 
 
 def parse_networks(texts: Iterable[str]) -> list[Network]:
-    """The networks of strings, by one call of the library."""
+    """The networks of strings, by one call of the library; the first that is none raises `ValueError`."""
     return [Network._of(_copied(value)) for value in read_all(_listed(texts))]
 
 
@@ -345,7 +348,7 @@ def _set_strings(values: Values, count: int) -> list[str]:
 
 
 def contains_each(networks: Iterable[AnyNetwork], asked: Iterable[AnyNetwork]) -> list[bool]:
-    """For each asked address or network, whether the networks together have it."""
+    """For each asked address or network, whether the networks together have it. These are sorted at each call."""
     return _contained(_values(networks), _values(asked))
 
 
@@ -405,7 +408,7 @@ class NetworkSet:
         return behind > 0 and _has(held[behind - 1], value)
 
     def isdisjoint(self, other: NetworkSet | Iterable[AnyNetwork]) -> bool:
-        """Whether no address is in both."""
+        """Whether no address is in both, by the set of those that are."""
         return not self & (other if isinstance(other, NetworkSet) else NetworkSet(other))
 
     def __invert__(self) -> NetworkSet:

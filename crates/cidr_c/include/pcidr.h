@@ -240,13 +240,14 @@ static inline int pcidr_order(const void *one, const void *other) {
  * is taken for the set of its addresses, in any order; networks may repeat and overlap. */
 
 /* Replaces networks by the set of their addresses: the first `count` of them; what is behind stays as it was. Errors:
- * NO_MEMORY, NO_VALUE; then all is as it was. Allocates. */
+ * NO_MEMORY, NO_VALUE; then all is as it was. Allocates, and sorts the networks: O(n log n). */
 uint32_t pcidr_cover(pcidr_value *networks, size_t networks_len, size_t *count);
 
 /* The set of the addresses that one list has or the other (union), that both have (intersection), that the first has and
  * the second has not (difference), or that exactly one has (symmetric difference): the first `count` of `out`, and what
  * is behind them stays. Where `out_len` is too small, PCIDR_NO_ROOM, and `count` is how many networks the set has. Errors:
- * NO_MEMORY, NO_VALUE, NO_ROOM; then `out` is as it was. Allocates. */
+ * NO_MEMORY, NO_VALUE, NO_ROOM; then `out` is as it was, and `count` too but for NO_ROOM. A union needs room for at
+ * most as many networks as both lists have, an intersection for one less. Allocates, and sorts both: O(n log n). */
 uint32_t pcidr_union(const pcidr_value *these, size_t these_len, const pcidr_value *those, size_t those_len,
                      pcidr_value *out, size_t out_len, size_t *count);
 uint32_t pcidr_intersection(const pcidr_value *these, size_t these_len, const pcidr_value *those, size_t those_len,
@@ -259,7 +260,8 @@ uint32_t pcidr_symmetric_difference(const pcidr_value *these, size_t these_len, 
 /* The same in place: the first `count` networks of `networks` are replaced by the set of the addresses that they have or
  * the others have (union), that both have (intersection), or that they have and the others have not (difference), and
  * `count` becomes its number of networks. `networks_len` is the room; a `count` above it stands for all of it. What is
- * behind the set stays as it was. Errors as above; then `networks` is as it was. Allocates. */
+ * behind the set stays as it was. Errors as above; then `networks` is as it was, and after NO_ROOM `count` is how many
+ * networks the set has, no longer how many there are. Allocates, and sorts both. */
 uint32_t pcidr_union_in_place(pcidr_value *networks, size_t networks_len, size_t *count, const pcidr_value *others,
                               size_t others_len);
 uint32_t pcidr_intersection_in_place(pcidr_value *networks, size_t networks_len, size_t *count,
@@ -270,7 +272,7 @@ uint32_t pcidr_difference_in_place(pcidr_value *networks, size_t networks_len, s
 /* For each of the asked networks or addresses, 1 where the list has all of its addresses, and 0 where not, at the same
  * index of `out`, whose further places stay. Errors: NO_VALUE for a value of the list; then NO_ROOM, and `out` is as it
  * was; then NO_VALUE for an asked value, and what `out` has at the places of answers is not specified. NO_MEMORY may come
- * before any answer, and `out` is as it was. Allocates. */
+ * before any answer, and `out` is as it was. Allocates, and sorts the list at each call: pass many at once. */
 uint32_t pcidr_contains_each(const pcidr_value *networks, size_t networks_len, const pcidr_value *asked,
                              size_t asked_len, uint8_t *out, size_t out_len);
 
@@ -279,7 +281,8 @@ uint32_t pcidr_contains_each(const pcidr_value *networks, size_t networks_len, c
 
 /* The longest match: for each of the asked networks or addresses the index, in `networks`, of the longest network that it
  * is in, and PCIDR_NO_INDEX where it is in none, at the same index of `out`. The networks may be in any order, which is
- * fastest where they ascend; of a network that repeats the last index counts. Errors as above. Allocates. */
+ * fastest where they ascend; of a network that repeats the last index counts. Errors as above. Allocates, and makes a
+ * table at each call: pass many at once. */
 uint32_t pcidr_longest_match_each(const pcidr_value *networks, size_t networks_len, const pcidr_value *asked,
                                   size_t asked_len, size_t *out, size_t out_len);
 
@@ -314,11 +317,11 @@ PCIDR_ASSERT(offsetof(pcidr_halves, low) == 8);
  * The first level makes look-ups in large tables faster: entry i tells where to search for the address with the number
  * i * 2^shift. It may have any number of entries, and none. With 2^bits + 1 of them and a shift of 32 - bits, or 128 - bits
  * in IPv6, each look-up finds its entry. 18 bits are good for 100,000 networks and more; a shift below 64 makes it unused
- * in IPv6. */
+ * in IPv6. The shift is below 32, or 128 in IPv6, also where there is no level. */
 typedef struct pcidr_table {
     uint32_t *ipv4_starts;     /* the address that each range begins with */
     pcidr_halves *ipv6_starts; /* the same in IPv6 */
-    uint32_t *answers;         /* of each range one more than the row, or 0 */
+    uint32_t *answers;         /* of each range one more than the row, or 0 for none */
     size_t ranges;             /* how many starts and answers there are */
     uint32_t *level;           /* the first level */
     size_t level_len;
@@ -363,7 +366,8 @@ uint32_t pcidr_ipv6_table_lookup_each(const pcidr_halves *starts, size_t starts_
 /* Writes the table of networks. Before it `table->ranges` is for how many ranges there is room, and after PCIDR_OK how many
  * there are. Errors: NO_MEMORY; TOO_MANY; SHIFT; NO_VALUE, and `place` is the index of the first value that is no network
  * of the family, or does not come after the one before it; NO_ROOM, and `place` is how many ranges are room enough. Then
- * `table` is as it was, and what the arrays hold is not specified. Allocates: 8 bytes for each network, or 24 in IPv6. */
+ * `table` is as it was, and what the arrays hold is not specified. Takes O(n), and O(log n) for each entry of the
+ * level. Allocates: 8 bytes for each network, or 24 in IPv6. */
 static inline uint32_t pcidr_table_build(pcidr_table *table, const pcidr_value *networks, size_t networks_len,
                                          size_t *place) {
     size_t count = 0;
@@ -383,8 +387,9 @@ static inline uint32_t pcidr_table_build(pcidr_table *table, const pcidr_value *
     return code;
 }
 
-/* PCIDR_OK where the arrays, as from a file, are the table of the networks: one pass over both. Errors: NO_MEMORY;
- * TOO_MANY; SHIFT; NO_VALUE for a network; NO_TABLE. Allocates, as above. */
+/* PCIDR_OK where the arrays, as from a file, are the table of the networks: two passes over these, one over the arrays,
+ * and O(log n) for each entry of the level. Errors: NO_TABLE where `table->rows` is another number; NO_MEMORY;
+ * TOO_MANY; SHIFT; NO_VALUE for a network; NO_TABLE for the arrays. Allocates, as above. */
 static inline uint32_t pcidr_table_check(const pcidr_table *table, const pcidr_value *networks, size_t networks_len) {
     if (table->rows != networks_len) return PCIDR_NO_TABLE;
     return table->ipv6_starts
@@ -406,7 +411,7 @@ static inline uint32_t pcidr_table_lookup(const pcidr_table *table, const pcidr_
 }
 
 /* The same of each of many, at the same index of `out`, whose further places stay. Error: NO_ROOM, and `out` is as it
- * was. */
+ * was. Does not allocate. */
 static inline uint32_t pcidr_table_lookup_each(const pcidr_table *table, const pcidr_value *asked, size_t asked_len,
                                                uint32_t *out, size_t out_len) {
     return table->ipv6_starts

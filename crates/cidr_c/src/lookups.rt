@@ -18,9 +18,10 @@ use cidr_sets::NetworkSet;
 use cidr_table::{Lookups, LpmTable};
 use std::alloc::{AllocError, Global};
 
-/// For each asked network 1, where it lies in the others together, and 0 where not.
+/// For each asked network 1, where it lies in the others together, and 0 where not, at its index of `out`: 0, or the
+/// number of the first error, of one of the others, of the room, or of an asked network; of memory at any place before.
 ///
-/// It allocates, and puts the others in order.
+/// It allocates, and puts the others in order: O(n log n) at each call.
 #[unsafe(no_mangle)]
 pub extern "C" fn pcidr_contains_each(
     alloc: Global,
@@ -54,9 +55,9 @@ fn held(set: &NetworkSet<AnyIpCidr>, network: &AnyIpCidr) -> u8
 }
 
 /// For each asked network the index of the longest network that it is in, or `usize::MAX` where it is in none. The
-/// networks may be in any order; of one that repeats the last index counts.
+/// networks may be in any order; of one that repeats the last index counts. Errors as of `pcidr_contains_each`.
 ///
-/// It allocates, and puts the networks in order: O(n log n).
+/// It allocates, and puts the networks in order: O(n log n) at each call.
 #[unsafe(no_mangle)]
 pub extern "C" fn pcidr_longest_match_each(
     alloc: Global,

@@ -209,7 +209,7 @@ pub extern "C" fn pcidr_compare_hosts(one: &CValue, other: &CValue) -> u32
 }
 
 /// The host so many addresses further in its network, of which the count is high * 2^64 + low. Where that is beyond the
-/// last address, it goes on from the first, and the number of `wrapped` is returned.
+/// last address, it goes on from the first, and the number of `WRAPPED` is returned.
 #[unsafe(no_mangle)]
 pub extern "C" fn pcidr_step_up_by_value(host: CValue, high: u64, low: u64, out: &mut CValue) -> u32
     ensures { IsStepped (IsHost host) (IpWrapsUp (host_in host) (high * 2 ^ 64 + low)) IsHost host_in
@@ -242,7 +242,8 @@ pub extern "C" fn pcidr_step_down_by_value(
     if wraps { WRAPPED } else { OK }
 }
 
-/// The host at a position of the network of a host, counted from 0 at the first address: a walk by position.
+/// The host at a position of the network of a host, counted from 0 at the first address, of which the number is high *
+/// 2^64 + low: a walk by position. Beyond the last address it goes on as a step does.
 #[unsafe(no_mangle)]
 pub extern "C" fn pcidr_at_by_value(host: CValue, high: u64, low: u64, out: &mut CValue) -> u32
     ensures { IsStepped (IsHost host)

@@ -24,7 +24,7 @@ pub fn set_of(alloc: Global, values: &[CValue]) -> Result<NetworkSet<AnyIpCidr>,
 }
 
 /// Replaces networks, in any order, by the shortest list of networks with the same addresses, ascending: the first
-/// `count` of the slice. What is behind them stays as it was.
+/// `count` of the slice. What is behind them stays as it was. 0, or the number of an error, and all is as it was.
 ///
 /// It allocates, and puts the networks in order: O(n log n).
 #[unsafe(no_mangle)]
@@ -159,8 +159,8 @@ fn both_in(
     both_of(alloc, &room[..count.min(room.len())], others)
 }
 
-/// Of the set that the first `count` networks of a room are, adds the addresses that the others have: the set that is left
-/// stands at the front of the room, and `count` becomes its number of networks; where there is too little room, it
+/// Of the set that the first `count` networks of a room are, adds the addresses that the others have: the set that is
+/// left stands at the front of the room, and `count` becomes its number of networks; where there is too little room, it
 /// becomes how many are needed.
 #[unsafe(no_mangle)]
 pub extern "C" fn pcidr_union_in_place(
@@ -179,9 +179,9 @@ pub extern "C" fn pcidr_union_in_place(
     }
 }
 
-/// Of the set that the first `count` networks of a room are, keeps the addresses that the others have too: the set that is left
-/// stands at the front of the room, and `count` becomes its number of networks; where there is too little room, it
-/// becomes how many are needed.
+/// Of the set that the first `count` networks of a room are, keeps the addresses that the others have too: the set that
+/// is left stands at the front of the room, and `count` becomes its number of networks; where there is too little room,
+/// it becomes how many are needed.
 #[unsafe(no_mangle)]
 pub extern "C" fn pcidr_intersection_in_place(
     alloc: Global,
@@ -199,9 +199,9 @@ pub extern "C" fn pcidr_intersection_in_place(
     }
 }
 
-/// Of the set that the first `count` networks of a room are, takes out the addresses that the others have: the set that is left
-/// stands at the front of the room, and `count` becomes its number of networks; where there is too little room, it
-/// becomes how many are needed.
+/// Of the set that the first `count` networks of a room are, takes out the addresses that the others have: the set that
+/// is left stands at the front of the room, and `count` becomes its number of networks; where there is too little room,
+/// it becomes how many are needed.
 #[unsafe(no_mangle)]
 pub extern "C" fn pcidr_difference_in_place(
     alloc: Global,

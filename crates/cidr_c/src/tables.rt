@@ -188,7 +188,7 @@ fn check_code<W: Word>(
     }
 }
 
-/// How many starts and answers are room enough for a table of so many networks.
+/// How many starts and answers are room enough for a table of so many networks: twice as many, and one more.
 #[unsafe(no_mangle)]
 pub extern "C" fn pcidr_table_room(rows: u32) -> usize
     ensures { result ≡ room_of rows }
@@ -196,7 +196,11 @@ pub extern "C" fn pcidr_table_room(rows: u32) -> usize
     2 * rows as usize + 1
 }
 
-/// Makes a table of IPv4 networks that ascend.
+/// Makes a table of IPv4 networks that ascend, each once: 0, and `count` becomes how many ranges stand in the front of
+/// `starts` and `answers`, which `level` tells by `shift`. Else the number of the first error: no memory; too many
+/// networks; the shift; a network, and `count` becomes its index; the room, and `count` becomes how much is enough.
+///
+/// It allocates 8 bytes a network, and takes O(n), and O(log n) for each entry of the level.
 #[unsafe(no_mangle)]
 pub extern "C" fn pcidr_ipv4_table_build(
     alloc: Global,
@@ -215,7 +219,7 @@ pub extern "C" fn pcidr_ipv4_table_build(
     }
 }
 
-/// Makes a table of IPv6 networks that ascend.
+/// The same of IPv6 networks, of which it allocates 24 bytes each.
 #[unsafe(no_mangle)]
 pub extern "C" fn pcidr_ipv6_table_build(
     alloc: Global,
@@ -234,7 +238,9 @@ pub extern "C" fn pcidr_ipv6_table_build(
     }
 }
 
-/// 0 where arrays are those that a table of the IPv4 networks has.
+/// 0 where arrays are those that a table of the IPv4 networks has, else the number of the first error: no memory; too
+/// many networks; other counts of starts and answers; the shift; a network; a range; an entry of the level. It
+/// allocates 8 bytes a network, and takes O(n), and O(log n) for each entry.
 #[unsafe(no_mangle)]
 pub extern "C" fn pcidr_ipv4_table_check(
     alloc: Global,
@@ -252,7 +258,7 @@ pub extern "C" fn pcidr_ipv4_table_check(
     }
 }
 
-/// The same of IPv6 networks.
+/// The same of IPv6 networks, of which it allocates 24 bytes each.
 #[unsafe(no_mangle)]
 pub extern "C" fn pcidr_ipv6_table_check(
     alloc: Global,
@@ -270,7 +276,8 @@ pub extern "C" fn pcidr_ipv6_table_check(
     }
 }
 
-/// The row of the longest IPv4 network that an address is in, or `u32::MAX` where it is in none.
+/// The row of the longest IPv4 network that an address is in, or `u32::MAX` where it is in none, and of a value that is
+/// no IPv4 address. It reads nothing outside of the arrays, whatever they hold, and allocates nothing.
 #[unsafe(no_mangle)]
 pub extern "C" fn pcidr_ipv4_table_lookup(
     starts: &[u32],
@@ -300,7 +307,7 @@ pub extern "C" fn pcidr_ipv6_table_lookup(
     row_in(starts, answers, level, shift, rows, address)
 }
 
-/// The row of each of many addresses.
+/// The row of each of many addresses, at its index of `out`: 0, or the number of too little room.
 #[unsafe(no_mangle)]
 pub extern "C" fn pcidr_ipv4_table_lookup_each(
     starts: &[u32],

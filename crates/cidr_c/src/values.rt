@@ -20,8 +20,11 @@ const ANY: u8 = 255;
 #[repr(C)]
 #[derive(Clone, Copy)]
 pub struct CValue {
+    /// The upper half: in IPv6 the first 64 bits, else 0.
     pub high: u64,
+    /// The lower half: in IPv4 the 32 bits.
     pub low: u64,
+    /// The prefix length and the family.
     pub tag: u8,
 }
 
