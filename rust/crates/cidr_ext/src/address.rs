@@ -25,7 +25,8 @@ pub trait AddressExt: Sized + Address {
     /// ```
     fn family(self) -> Family;
 
-    /// The prefix length of a network mask, or `None` where the address is none: where a set bit follows an unset one.
+    /// The prefix length of a network mask, from 0 to the width, 32 or 128, or `None` where the address is none: where
+    /// a set bit follows an unset one.
     ///
     /// ```
     /// # use cidr::*;
@@ -41,7 +42,7 @@ pub trait AddressExt: Sized + Address {
     }
 
     /// The prefix length of a host mask, the inverse of a network mask, or `None` where the address is none: where an
-    /// unset bit follows a set one.
+    /// unset bit follows a set one. Of 0.0.0.0 it is 32, of 255.255.255.255 it is 0.
     ///
     /// ```
     /// # use cidr::*;

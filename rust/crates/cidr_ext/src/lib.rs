@@ -4,8 +4,9 @@
 //! `sibling`, `supernet`, `overlaps`, `spanning`), `IpCidrExt` the same for `IpCidr`, `CidrExt` what is counted
 //! (`subnets`, `next_network`, `host_mask`, `nth`, `position`, `usable_hosts`), `AddressExt` numbers and masks of
 //! addresses, `CidrMaskText` masks in strings, `CidrReverseName` and `AddressReverseName` names in reverse DNS, and
-//! `SpecialAddress` what addresses are for (`special_entry`, `is_global`, `is_private`). Each call has one body for both
-//! families. The function `text_fault` tells what is wrong with a string that is no network and no address.
+//! `SpecialAddress` what addresses are for (`special_entry`, `is_global`, `is_private`). `Ipv4AddrExt`, `Ipv4CidrExt`,
+//! `Ipv6AddrExt` and `Ipv6CidrExt` have IPv4 inside IPv6. The function `text_fault` tells what is wrong with a string
+//! that is no network and no address.
 //!
 //! ```
 //! # use cidr::*;

@@ -38,7 +38,8 @@ pub trait CidrMaskText: Sized + Cidr {
     fn to_host_mask_text(&self) -> ArrayString<79>;
 
     /// The network that a string with a network mask or a host mask represents, as Python's `ipaddress` parses it in
-    /// IPv4. Address and mask are parsed as addresses of the family are; a prefix length is no mask.
+    /// IPv4. Address and mask are parsed as addresses of the family are; a prefix length is no mask, and an address
+    /// alone no network. It takes time in the length of the string.
     ///
     /// A mask that could be either is a network mask: 0.0.0.0 is that of /0, and 255.255.255.255 that of /32. The
     /// errors, of which the first one is returned, are in the order of `MaskParseError`.
@@ -64,14 +65,15 @@ pub enum MaskParseError {
     InvalidAddress,
     /// What follows it is no address of the same family: `invalid mask`.
     InvalidMask,
-    /// It is neither a network mask nor a host mask, since its set bits have a gap: `mask is not contiguous`.
+    /// It is neither a network mask nor a host mask: its set bits are not all at the front, and not all at the end, as
+    /// of 255.0.255.0 and of 0.255.0.0. `mask is not contiguous`.
     NonContiguousMask,
     /// A bit after the prefix is set: `host part of address was not zero`.
     InvalidHostPart,
 }
 
 impl MaskParseError {
-    /// The message.
+    /// The message, as stated at each variant.
     ///
     /// ```
     /// # use cidr::*;

@@ -45,7 +45,7 @@ pub trait CidrExt: Sized + Cidr {
     /// ```
     fn address_count(&self) -> Option<u128>;
 
-    /// The network of the same length that follows, or `None` for the last one of the family.
+    /// The network of the same length that follows, or `None` for the last one of its length and family.
     ///
     /// ```
     /// # use cidr::*;
@@ -55,7 +55,7 @@ pub trait CidrExt: Sized + Cidr {
     /// ```
     fn next_network(&self) -> Option<Self>;
 
-    /// The network of the same length that this one follows, or `None` for the first one of the family.
+    /// The network of the same length that this one follows, or `None` for the first one of its length and family.
     ///
     /// ```
     /// # use cidr::*;
@@ -100,7 +100,8 @@ pub trait CidrExt: Sized + Cidr {
     /// The hosts that may have an address of the network, ascending, with its prefix length.
     ///
     /// In IPv4 these are all addresses but the first and the last, the network and the broadcast address; of a /31
-    /// network they are both (RFC 3021), and of a /32 network the one. In IPv6 they are all.
+    /// network they are both (RFC 3021), and of a /32 network the one. In IPv6 they are all, the subnet-router anycast
+    /// address (RFC 4291, 2.6.1) among them.
     ///
     /// ```
     /// # use cidr::*;

@@ -9,8 +9,8 @@ use core::iter::FusedIterator;
 
 /// The names of the zones of a network that are left, ascending. The call `reverse_zones` makes it.
 ///
-/// `next` takes the lowest of them and `next_back` the highest. Once either has returned `None`, both return `None` from
-/// then on. It does not allocate.
+/// `next` takes the lowest of them and `next_back` the highest, in constant time. Once either has returned `None`, both
+/// return `None` from then on. It does not allocate.
 pub struct ReverseZones<C: Cidr> {
     networks: Subnets<C>,
 }

@@ -9,7 +9,7 @@ use cidr::Family;
 /// The registries are [`IPV4_ENTRIES`](crate::IPV4_ENTRIES) and [`IPV6_ENTRIES`](crate::IPV6_ENTRIES). A block may be
 /// inside another, and the longest one that contains the address is its entry: 192.0.0.9 is an anycast address,
 /// although 192.0.0.0/24 is not for use. An IPv4-mapped address is `Ipv4Mapped`, whatever its IPv4 address is for. A
-/// look-up compares the address with each entry of the registry.
+/// look-up compares the address with each entry of the registry, 26 of IPv4 and 25 of IPv6, and allocates nothing.
 pub trait SpecialAddress: Sized + AddressExt {
     /// The longest entry of the registry whose block contains the address, or `None` for an address of no special
     /// purpose.
@@ -111,7 +111,8 @@ pub trait SpecialAddress: Sized + AddressExt {
         self.has_purpose(Purpose::LinkLocal)
     }
 
-    /// Whether the address is for documentation (RFC 5737; RFC 3849; RFC 9637).
+    /// Whether the address is for documentation: in 192.0.2.0/24, 198.51.100.0/24 or 203.0.113.0/24 (RFC 5737), in
+    /// 2001:db8::/32 (RFC 3849) or in 3fff::/20 (RFC 9637).
     ///
     /// ```
     /// # use cidr::*;
@@ -138,7 +139,8 @@ pub trait SpecialAddress: Sized + AddressExt {
         self.has_purpose(Purpose::Unspecified)
     }
 
-    /// Whether the address is a multicast address: in 224.0.0.0/4 (RFC 5771), or in ff00::/8 (RFC 4291, 2.7).
+    /// Whether the address is a multicast address: in 224.0.0.0/4 (RFC 5771), or in ff00::/8 (RFC 4291, 2.7). These are
+    /// not in the registries, and it looks at the first bits alone.
     ///
     /// ```
     /// # use cidr::*;

@@ -6,18 +6,20 @@ use cidr_support::arrayvec::ArrayString;
 use cidr::{IpAddr, IpCidr, IpInet};
 use core::fmt;
 
-/// What is wrong with a string, so that it is no network, no address and no range of addresses.
+/// What is wrong with a string, so that it is no network, no address and no range of addresses, in the order in which
+/// `text_fault` looks for it. Octets are decimal numbers joined by dots, also between colons, or one such number in an
+/// address without colons.
 #[derive(Clone, Copy, PartialEq)]
 pub enum TextFault {
     /// An octet has a zero before other digits: `a leading zero in an octet`.
     LeadingZero,
-    /// A number between dots is above 255: `a number above 255`.
+    /// An octet is above 255: `a number above 255`.
     NumberAbove255,
-    /// There are fewer or more than four numbers between dots: `not four octets`.
+    /// There are fewer or more than four octets: `not four octets`.
     NotFourOctets,
     /// There are more than four hexadecimal digits between colons: `a group of more than four digits`.
     LongGroup,
-    /// A network mask or a host mask follows the slash: `a mask in place of a length`.
+    /// A network mask or a host mask follows the first slash: `a mask in place of a length`.
     MaskForLength,
     /// A bit after the prefix is set, and this is the network of the host:
     /// `host bits set; the network is 192.0.2.0/24`.
@@ -25,7 +27,7 @@ pub enum TextFault {
 }
 
 impl TextFault {
-    /// The message.
+    /// The message, of at most 73 bytes. Nothing is allocated.
     ///
     /// ```
     /// # use cidr::*;
@@ -98,7 +100,7 @@ fn network_meant(text: &str) -> Option<IpCidr> {
 /// range; `None` where none of them is found.
 ///
 /// The address is what precedes the first slash, and of a range, whose ends have a hyphen between them, both are looked
-/// at. It costs a few passes over the string.
+/// at. It costs a few passes over the string, and allocates nothing.
 ///
 /// ```
 /// # use cidr::*;

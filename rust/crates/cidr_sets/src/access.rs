@@ -25,10 +25,11 @@ pub struct Rule<C: NetworkBits + Copy> {
 }
 
 /// Whether an access list permits an address, which is given as the network of full prefix length. The first rule whose
-/// network contains it decides; an address in none of the networks is denied.
+/// network contains it decides; an address in none of the networks is denied. A larger network is taken as a whole: a
+/// rule for a part of it doesn't count.
 ///
-/// It goes through the rules up to the one that decides, and takes no memory. For many addresses take the set that
-/// [`permitted`] returns.
+/// It goes through the rules up to the one that decides, O(n), and takes no memory. For many addresses take the set
+/// that [`permitted`] returns.
 ///
 /// ```
 /// # use cidr::*;
@@ -64,8 +65,8 @@ fn is_permit(action: Action) -> bool {
 /// The first rule whose network contains an address decides. An address in none of the networks is denied, so that
 /// a list without rules permits none.
 ///
-/// It goes from the last rule to the first and adds the network of each to the set or removes it, which takes time
-/// that grows with the square of the number of rules. Where an allocation fails, it returns the error.
+/// It goes from the last rule to the first and adds the network of each to the set or removes it, each time moving the
+/// networks behind: O(n²) at most for n rules. Where an allocation fails, it returns the error.
 ///
 /// ```
 /// # use cidr::*;
@@ -91,10 +92,11 @@ pub fn permitted<C: NetworkBits + Copy>(
     Ok(set)
 }
 
-/// The indices of the rules that no address reaches, ascending: each address of such a rule's network is in the network
-/// of an earlier rule, which decides.
+/// The indices of the rules that no address reaches, counted from 0 and ascending: each address of such a rule's
+/// network is in the network of an earlier rule, which decides. What the rules do plays no part.
 ///
-/// Where an allocation fails, it returns the error.
+/// It adds the network of each rule to a set, moving the networks behind: O(n²) at most for n rules. Where an
+/// allocation fails, it returns the error.
 ///
 /// ```
 /// # use cidr::*;
@@ -120,11 +122,12 @@ pub fn shadowed<C: NetworkBits + Copy>(
     Ok(out)
 }
 
-/// The indices of the rules that decide the addresses of a network, ascending: each is the first rule whose network
-/// contains some address of this one.
+/// The indices of the rules that decide the addresses of a network, counted from 0 and ascending: each is the first
+/// rule whose network contains some address of this one. Whether some of these are in no rule's network isn't told.
 ///
 /// Of the network of a rule that [`shadowed`] returns, they are the earlier rules that together contain all of its
-/// addresses. Where an allocation fails, it returns the error.
+/// addresses. It takes the network of each rule out of a set that begins as this network: O(n²) at most for n rules.
+/// Where an allocation fails, it returns the error.
 ///
 /// ```
 /// # use cidr::*;
@@ -156,7 +159,7 @@ pub fn deciding<C: NetworkBits + Copy>(
 /// A rule that no address reaches, with the earlier rules that cover it.
 #[derive(Debug)]
 pub struct Shadow {
-    /// The index of the rule.
+    /// The index of the rule, counted from 0.
     pub rule: usize,
     /// The indices of the earlier rules that decide the addresses of its network, ascending.
     pub by: Vec<usize>,
@@ -164,8 +167,8 @@ pub struct Shadow {
 
 /// The rules that no address reaches, ascending, each with the earlier rules that decide the addresses of its network.
 ///
-/// It calls [`shadowed`], and [`deciding`] for the network of each rule that it returns, which takes time that grows
-/// with the square of the number of rules for each of them. Where an allocation fails, it returns the error.
+/// It calls [`shadowed`], and [`deciding`] for the network of each rule that it returns, in the time of these: O(n²) at
+/// most for each of them. Where an allocation fails, it returns the error.
 ///
 /// ```
 /// # use cidr::*;

@@ -1,5 +1,13 @@
 //! Sets of addresses, proved: union, intersection and difference of sets that are lists of networks.
 //!
+//! The networks are of one type of `cidr` that implements `NetworkBits`: `Ipv4Cidr`, `Ipv6Cidr` or `AnyIpCidr`, of
+//! which a set has addresses of both families. [`NetworkSet`] keeps them in a `Vec`, [`slices`] has some of its calls
+//! in memory of the caller, and [`access`] tells what an access list permits.
+//!
+//! A look-up in n networks takes one or two binary searches, O(log n), and no memory. `union`, `intersection` and
+//! `difference` go through both sets once, and allocate room for their result. `insert` and `remove` move the networks
+//! behind, O(n). A call that returns `AllocError` has changed nothing.
+//!
 //! # What is proved
 //!
 //! The four libraries are written in Rattle, which is Rust with contracts. There each function is proved to return what its

@@ -15,8 +15,9 @@ impl Subnets for AnyIpCidr {}
 impl<C: Subnets + Copy> NetworkSet<C> {
     /// The first network of `len` bits all of whose addresses are in the set, or `None` where there is none.
     ///
-    /// `len` is the prefix length, and for `AnyIpCidr` one more, as `BitString::len` counts. It looks at each network
-    /// of the set once: O(n).
+    /// `len` is the prefix length, and for `AnyIpCidr` one more, as `BitString::len` counts; of one above the width
+    /// there is none. It looks at each network of the set once: O(n). The set stays as it is: `remove` takes what is
+    /// returned.
     ///
     /// ```
     /// # use cidr::*;
@@ -41,8 +42,9 @@ impl<C: Subnets + Copy> NetworkSet<C> {
     /// The first network of `len` bits in the smallest network of the set that has one, of equally small ones in the
     /// first, or `None` where there is none. So what is large stays whole.
     ///
-    /// `len` is the prefix length, and for `AnyIpCidr` one more, as `BitString::len` counts, and the smallest network
-    /// is the longest. It looks at each network of the set once: O(n).
+    /// `len` is the prefix length, and for `AnyIpCidr` one more, as `BitString::len` counts; of one above the width
+    /// there is none. The smallest network is the longest. It looks at each network of the set once: O(n). The set
+    /// stays as it is: `remove` takes what is returned.
     ///
     /// ```
     /// # use cidr::*;

@@ -65,7 +65,9 @@ impl<'a, C: NetworkBits> NetworkProbe<C> for Networks<'a, C> {
     }
 }
 
-/// Whether one of the networks of a set contains this one, so that all its addresses are in the set.
+/// Whether one of the networks of a set contains this one, so that all its addresses are in the set. The caller has to
+/// ensure that the networks are those of a set, as `probe` gives them: ascending, none in another, and no two the halves
+/// of one.
 ///
 /// One binary search and a look at one neighbour: of n networks, where n has d binary digits, it makes at most d + 1
 /// comparisons, 18 of 100,000 networks.

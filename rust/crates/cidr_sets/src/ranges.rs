@@ -116,8 +116,8 @@ impl<C: Addressed + Copy> NetworkSet<C> {
     /// The set of the addresses from the first to the last, both included, as `first..=last` has them: empty where the
     /// last comes before the first.
     ///
-    /// It has at most 62 networks in IPv4 and 254 in IPv6. Of `AnyIpCidr`, the addresses of IPv4 come before those of
-    /// IPv6. Where an allocation fails, it returns the error.
+    /// It has at most 62 networks in IPv4 and 254 in IPv6, which bounds its time too. Of `AnyIpCidr`, the addresses of
+    /// IPv4 come before those of IPv6. Where an allocation fails, it returns the error.
     ///
     /// ```
     /// # use cidr::*;

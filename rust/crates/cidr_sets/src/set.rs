@@ -17,7 +17,7 @@ mod edits;
 /// A set of addresses: the shortest list of networks that has exactly these, ascending.
 ///
 /// No network of the list contains another, and no two are the halves of one. Two sets have the same addresses exactly
-/// if their lists are equal. Of `AnyIpCidr`, a set has addresses of both families.
+/// if their lists are equal. Of `AnyIpCidr`, a set has addresses of both families. It keeps nothing but its networks.
 pub struct NetworkSet<C: NetworkBits + Copy> {
     networks: Vec<C>,
 }
@@ -64,7 +64,8 @@ impl<C: NetworkBits + Copy> NetworkSet<C> {
 
     /// The set of the addresses of the networks of a `Vec`, which may come in any order, overlap and repeat.
     ///
-    /// It never fails and copies nothing: the set keeps the `Vec`. It sorts them, O(n log n), in place.
+    /// It never fails and allocates nothing: the set keeps the `Vec`, with all of its room. It sorts the networks in
+    /// place, O(n log n).
     ///
     /// ```
     /// # use cidr::*;
@@ -81,7 +82,7 @@ impl<C: NetworkBits + Copy> NetworkSet<C> {
         reduced(networks)
     }
 
-    /// Whether the set has all addresses of a network.
+    /// Whether the set has all addresses of a network. An address is asked for as the network of full prefix length.
     ///
     /// It is [`contains`](crate::contains) over `probe`: one binary search and a look at one neighbour. Where the number
     /// of networks has d binary digits, it makes at most d + 1 comparisons.
@@ -133,7 +134,7 @@ impl<C: NetworkBits + Copy> NetworkSet<C> {
         self.networks.as_slice()
     }
 
-    /// The networks of the set, ascending.
+    /// The networks of the set, ascending, from both ends.
     ///
     /// ```
     /// # use cidr::*;

@@ -1,6 +1,7 @@
 //! Sets in memory that the caller brings: nothing here allocates.
 //!
-//! The networks of each set are in normal form, as `as_slice` of a set has them, and so are those that are written.
+//! The caller has to ensure that the networks of each set are in normal form, as `as_slice` of a set has them:
+//! ascending, none in another, and no two the halves of one. So are those that are written. `from_networks` takes any.
 
 use crate::ranges::{Addressed, all_from};
 use crate::rests::{half, is_passed, skip};
@@ -12,8 +13,8 @@ use core::cmp::Ordering;
 /// Writes the networks of the addresses that one of two sets has, or both, to the first elements of `out`, and returns
 /// how many they are.
 ///
-/// The caller has to ensure that `out` has room for as many networks as both sets have together. The contract leaves
-/// open what is in `out` after the networks. It goes through both sets once.
+/// The caller has to ensure that `out` has room for as many networks as both sets have together, and that these are in
+/// normal form. The contract leaves open what is in `out` after the networks. It goes through both sets once.
 ///
 /// ```
 /// # use cidr::*;
@@ -36,9 +37,9 @@ pub fn union<C: NetworkBits + Copy>(these: &[C], those: &[C], out: &mut [C]) -> 
 /// Writes the networks of the addresses that both of two sets have to the first elements of `out`, and returns how many
 /// they are.
 ///
-/// The caller has to ensure that `out` has room for one network less than both sets have together. The contract leaves
-/// open what is in `out` after the networks. It goes through both sets once, with as many steps at most as they have
-/// networks.
+/// The caller has to ensure that `out` has room for one network less than both sets have together, and that these are in
+/// normal form. The contract leaves open what is in `out` after the networks. It goes through both sets once, with as
+/// many steps at most as they have networks.
 ///
 /// ```
 /// # use cidr::*;
@@ -70,9 +71,10 @@ pub fn intersection<C: NetworkBits + Copy>(these: &[C], those: &[C], out: &mut [
 /// Writes the networks of the addresses that the first of two sets has and the other has not to the first elements of
 /// `out`, and returns how many they are; `None` exactly where `out` is too short for them.
 ///
-/// It goes through both sets once, and joins nothing: what is left of a set is in normal form as it is written. Each
-/// network of the other set adds at most as many networks as an address has bits. The contract leaves open what is in
-/// `out` after the networks, and after `None` in all of it.
+/// The caller has to ensure that both sets are in normal form. It goes through both once, and joins nothing: what is
+/// left of a set is in normal form as it is written. Each network of the other set adds at most as many networks as the
+/// longest of these has bits. The contract leaves open what is in `out` after the networks, and after `None` in all of
+/// it.
 ///
 /// ```
 /// # use cidr::*;
@@ -103,8 +105,9 @@ pub fn difference<C: NetworkBits + Copy>(these: &[C], those: &[C], out: &mut [C]
 /// Writes the networks of the addresses of a network that a set has not to the first elements of `out`, and returns how
 /// many they are; `None` exactly where `out` is too short for them.
 ///
-/// It goes through the set once. Each network of the set adds at most as many networks as an address has bits. The
-/// contract leaves open what is in `out` after the networks, and after `None` in all of it.
+/// The caller has to ensure that the set is in normal form. It goes through it once. Each network of the set adds at
+/// most as many networks as the longest of these has bits. The contract leaves open what is in `out` after the
+/// networks, and after `None` in all of it.
 ///
 /// ```
 /// # use cidr::*;
@@ -194,7 +197,7 @@ fn is_cut<C: BitString>(network: &C, edge: &C, bit: bool) -> bool {
 /// Makes a slice of networks, which may come in any order, overlap and repeat, the set of their addresses: it stands in
 /// the first elements, and the call returns how many they are.
 ///
-/// It sorts the slice: O(n log n). The contract leaves open what is in it after the set.
+/// It sorts the slice in place: O(n log n). The contract leaves open what is in it after the set.
 ///
 /// ```
 /// # use cidr::*;

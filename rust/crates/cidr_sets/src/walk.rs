@@ -8,7 +8,7 @@ pub trait AddressSpace: Sized + NetworkBits {
     /// The addresses of the networks.
     type Address: Copy;
 
-    /// The numbers of the first and the last address of a network.
+    /// The numbers of the first and the last address of a network, as `to_number` has them.
     ///
     /// ```
     /// # use cidr::*;
@@ -30,7 +30,8 @@ pub trait AddressSpace: Sized + NetworkBits {
     /// ```
     fn to_number(address: Self::Address) -> u128;
 
-    /// The address with this number. The caller has to ensure that it is below 2^32 or 2^128.
+    /// The address with this number. The caller has to ensure that it is below 2^32 in IPv4, or below 2^128 in IPv6, as
+    /// each `u128` is.
     ///
     /// ```
     /// # use cidr::*;

@@ -45,11 +45,11 @@
 //! assert_eq!(format!("{:?}", routes.remove(&"0.0.0.0/0".parse()?)), "Some(192.0.2.1)");
 //! ```
 //!
-//! Of a new key `insert` and `set`, and `with_capacity`, `reserve`, `lookups`, `into_lookups`, `clone`, `load` and, of rows
-//! that don't ascend, `from_rows` allocate, and no other call does. Where an allocation fails, `insert` returns the key
-//! and the value as its error and leaves the rows as they were, `load` returns `NoMemory`, and `from_rows` does without.
-//! `insert` and `remove` move the rows behind the key, so they take time in the number of rows; `from_rows` and `load`
-//! sort many rows once.
+//! `insert` and `set` of a new key without room, `with_capacity`, `reserve`, `lookups`, `into_lookups`, `clone`, `load`
+//! and, of rows that don't ascend, `from_rows` allocate, and no other call does. Where an allocation fails, `insert`
+//! returns the key and the value as its error and leaves the rows as they were, `load` returns `NoMemory`, and
+//! `from_rows` does without. `insert` and `remove` move the rows behind the key, O(n); `from_rows` and `load` sort many
+//! rows once.
 //!
 //! `load` takes prefix bytes, one network after the other, and keeps the index of each as its value. `inside` has the
 //! rows whose key is in a network, and `least_cover` the shortest list of networks with the addresses of all keys:

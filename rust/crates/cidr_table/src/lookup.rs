@@ -8,8 +8,9 @@ use cidr::{BitString, NetworkBits};
 /// is in no key: the longest match of a forwarding table (RFC 1812, 5.2.4.3). An address is looked up as the network of
 /// full prefix length.
 ///
-/// It takes a time that grows with the logarithm of the number of keys: with n keys, d binary digits of n and a look-up
-/// key of `len` bits, it makes at most `(len + 1) * d` comparisons, and fewer for most keys.
+/// With n keys, d binary digits of n and a look-up key of `len` bits, it makes at most `(len + 1) * d` comparisons, and
+/// fewer for most look-up keys. It allocates nothing. The caller has to ensure that the keys ascend, each once, as those
+/// that `probe` of a table gives do.
 ///
 /// ```
 /// # use cidr::{errors::*, *};

@@ -2,10 +2,11 @@
 
 use core::cmp::Ordering;
 
-/// The one way to the keys of a table: their number, and comparisons with them, which are counted for the contracts and
-/// take no memory. The keys ascend.
+/// The one way to the keys of a table: their number, and comparisons with them. The count of these is for the contracts
+/// and takes no memory.
 ///
 /// A type of yours that keeps ascending keys, as a file or a part of memory, gets `longest_match` by implementing it.
+/// The trait itself doesn't ask that the keys ascend: `longest_match` does, of its caller.
 pub trait Probe<C: Ord>: Sized {
     /// The number of keys.
     ///
@@ -19,8 +20,8 @@ pub trait Probe<C: Ord>: Sized {
     /// ```
     fn len(&self) -> usize;
 
-    /// How the key at index `i`, counted from 0, compares with `key`. The caller has to ensure that `i` is below the
-    /// number of keys.
+    /// How the key at index `i`, counted from 0, compares with `key`: `Less` where it comes before `key`. The caller
+    /// has to ensure that `i` is below the number of keys.
     ///
     /// ```
     /// # use cidr::{errors::*, *};

@@ -24,7 +24,7 @@ pub mod matches;
 ///
 /// The rows are kept in one `Vec`, in the order of the keys, which is that of their bits. `insert` and `remove` of one
 /// key shift the rows after it, O(n), so that n inserts in random order take O(n²). Many rows are best given at once,
-/// to `from_rows` or, as prefix bytes, to `load`.
+/// to `from_rows` or, as prefix bytes, to `load`. Beside the rows a table keeps nothing.
 pub struct LpmTable<C: NetworkBits + Copy, V> {
     rows: Vec<(C, V)>,
 }
@@ -46,7 +46,8 @@ impl<C: NetworkBits + Copy, V> LpmTable<C, V> {
         }
     }
 
-    /// The empty table with room for `capacity` rows: up to that number, `insert` allocates nothing.
+    /// The empty table with room for `capacity` rows: up to that number, `insert` allocates nothing. An error where the
+    /// allocation fails; a capacity of 0 takes none.
     ///
     /// ```
     /// # use cidr::{errors::*, *};
@@ -77,7 +78,8 @@ impl<C: NetworkBits + Copy, V> LpmTable<C, V> {
         self.rows.capacity()
     }
 
-    /// Makes room for `additional` more rows. Where the allocation fails, nothing changes.
+    /// Makes room for `additional` more rows. It allocates nothing where there is that room, and may make more. Where
+    /// the allocation fails, nothing changes.
     ///
     /// ```
     /// # use cidr::{errors::*, *};
@@ -130,7 +132,7 @@ impl<C: NetworkBits + Copy, V> LpmTable<C, V> {
         }
     }
 
-    /// Sets the value under a key and returns the one that was there.
+    /// Sets the value under a key and returns the one that was there, or `None` where there was none.
     ///
     /// A new key shifts the rows after it, O(n), some 13 µs among 100,000 rows of 12 bytes and 350 µs among 900,000,
     /// and allocates where there is no room for one more row, see `capacity`. `from_rows` takes many rows at once.
@@ -236,7 +238,7 @@ impl<C: NetworkBits + Copy, V> LpmTable<C, V> {
         self.rows.is_empty()
     }
 
-    /// The rows in the order of their keys: a network before those inside it.
+    /// The rows in the order of their keys, from both ends: a network comes before those inside it.
     ///
     /// ```
     /// # use cidr::{errors::*, *};
@@ -270,8 +272,8 @@ impl<C: NetworkBits + Copy, V> LpmTable<C, V> {
         self.rows.get(place)
     }
 
-    /// The rows whose key is in the outer network, which may be a key itself, in the order of the keys. Two binary
-    /// searches: O(log n).
+    /// The rows whose key is in the outer network, which may be a key itself, in the order of the keys: as they stand
+    /// next to each other, part of the table itself. Two binary searches: O(log n).
     ///
     /// ```
     /// # use cidr::{errors::*, *};

@@ -34,8 +34,8 @@ impl<C: NetworkBits + Copy> NetworkSet<C> {
 
     /// The addresses that both of two sets have. Both stay as they were.
     ///
-    /// It goes through both once, and allocates room for as many networks as both have together. Where an allocation
-    /// fails, it returns the error.
+    /// It goes through both once, O(n), and allocates room for as many networks as both have together; the result has
+    /// one less at most, if they have any. Where an allocation fails, it returns the error.
     ///
     /// ```
     /// # use cidr::*;
@@ -56,7 +56,9 @@ impl<C: NetworkBits + Copy> NetworkSet<C> {
 
     /// The addresses of this set that the other has not. Both stay as they were.
     ///
-    /// It goes through both once. Where an allocation fails, it returns the error.
+    /// It goes through both once. The result has at most as many networks as this set, and for each network of the
+    /// other as many more as the longest of these has bits; its memory grows as it is written. Where an allocation
+    /// fails, it returns the error.
     ///
     /// ```
     /// # use cidr::*;
@@ -74,7 +76,8 @@ impl<C: NetworkBits + Copy> NetworkSet<C> {
         Ok(NetworkSet { networks: rest })
     }
 
-    /// Whether the set has all addresses of some networks. Binary search for each: O(k log n) for k networks.
+    /// Whether the set has all addresses of some networks, which may come in any order. Binary search for each, up to
+    /// the first that isn't in the set: O(k log n) for k networks.
     ///
     /// ```
     /// # use cidr::*;
@@ -89,7 +92,7 @@ impl<C: NetworkBits + Copy> NetworkSet<C> {
         are_covered(networks, self.as_slice())
     }
 
-    /// Whether the set has an address of a network. Binary search: O(log n).
+    /// Whether the set has an address of a network. Two binary searches at most: O(log n).
     ///
     /// ```
     /// # use cidr::*;
@@ -105,7 +108,8 @@ impl<C: NetworkBits + Copy> NetworkSet<C> {
         meets(self.as_slice(), network)
     }
 
-    /// Whether the other set has all addresses of this one.
+    /// Whether the other set has all addresses of this one. Binary search in the other for each network of this one, up
+    /// to the first that isn't in it: O(m log n) for m and n networks.
     ///
     /// ```
     /// # use cidr::*;
@@ -123,7 +127,8 @@ impl<C: NetworkBits + Copy> NetworkSet<C> {
 
     /// The addresses that exactly one of two sets has. Both stay as they were.
     ///
-    /// Where an allocation fails, it returns the error.
+    /// It makes the difference each way and the union of both, in the time and memory of these. Where an allocation
+    /// fails, it returns the error.
     ///
     /// ```
     /// # use cidr::*;
@@ -141,9 +146,11 @@ impl<C: NetworkBits + Copy> NetworkSet<C> {
         these.union(&those)
     }
 
-    /// The addresses of a network that the set has not.
+    /// The addresses of a network that the set has not. The set stays as it was.
     ///
-    /// Where an allocation fails, it returns the error.
+    /// It goes through the set once: O(n). The result has at most one network, and for each network of the set as many
+    /// more as the longest of these has bits; its memory grows as it is written. Where an allocation fails, it returns
+    /// the error.
     ///
     /// ```
     /// # use cidr::*;
@@ -161,7 +168,8 @@ impl<C: NetworkBits + Copy> NetworkSet<C> {
         Ok(NetworkSet { networks: rest })
     }
 
-    /// Whether no address is in both sets.
+    /// Whether no address is in both sets. Binary searches in the other for each network of this one, up to the first
+    /// that has an address in it: O(m log n) for m and n networks.
     ///
     /// ```
     /// # use cidr::*;

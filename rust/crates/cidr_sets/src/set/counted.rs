@@ -83,7 +83,7 @@ impl<C: AddressSpace + Copy> NetworkSet<C> {
         None
     }
 
-    /// The addresses of the set, ascending.
+    /// The addresses of the set, ascending, from both ends. It allocates nothing, and each step takes constant time.
     ///
     /// ```
     /// # use cidr::*;

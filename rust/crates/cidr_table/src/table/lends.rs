@@ -49,7 +49,8 @@ impl<C: NetworkBits + Copy, V> LpmTable<C, V> {
 
     /// The value of the row at an index, for writing, or `None` from the number of rows on. `row` returns its key.
     ///
-    /// Each takes the same time, so that a loop over the indices may write all values, also where it is to stop early.
+    /// Each takes the same time, O(1), so that a loop over the indices may write all values, also where it is to stop
+    /// early.
     ///
     /// ```
     /// # use cidr::{errors::*, *};
@@ -73,8 +74,8 @@ impl<C: NetworkBits + Copy, V> LpmTable<C, V> {
         }
     }
 
-    /// Calls `write` once with each key and its value, in the order of the keys: it may write the value. It allocates
-    /// nothing.
+    /// Calls `write` once with each key and its value, in the order of the keys: it may write the value. It has to be
+    /// callable for every row, as a closure with no condition of its own is. Nothing is allocated.
     ///
     /// ```
     /// # use cidr::{errors::*, *};

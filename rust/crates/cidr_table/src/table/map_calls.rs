@@ -93,7 +93,10 @@ impl<C: NetworkBits + Copy, V> LpmTable<C, V> {
         self.rows.clear();
     }
 
-    /// Removes the rows for which `keep` returns `false`. It is called once with each row, in the order of the keys.
+    /// Removes the rows for which `keep` returns `false`. It is called once with each row, in the order of the keys,
+    /// and has to be callable for every row, as a closure with no condition of its own is.
+    ///
+    /// It takes one pass over the rows, allocates nothing, and the room for the rows stays.
     ///
     /// ```
     /// # use cidr::{errors::*, *};
@@ -111,7 +114,7 @@ impl<C: NetworkBits + Copy, V> LpmTable<C, V> {
 
     /// Removes the rows whose key is in the outer network, which may be a key itself, and returns how many there were.
     ///
-    /// It takes one pass over the rows and allocates nothing.
+    /// It takes one pass over the rows, allocates nothing, and the room for the rows stays.
     ///
     /// ```
     /// # use cidr::{errors::*, *};
