@@ -12,6 +12,7 @@ use Rattle.std.proofs.lemmas.Grind.{common_steps}
 use Rattle.std.proofs.Math.Seq.{take-append_seam}
 use Rattle.cidr.specs.model.Address.{group_bits}
 use Rattle.cidr.specs.model.Bits.{bits}
+use Rattle.cidr.specs.model.Network.{width_of}
 use Rattle.cidr.specs.texts.AddressText.{IsAddressText}
 use Rattle.cidr.specs.texts.Ipv4Text.{dot, IsIpv4Text}
 use Rattle.cidr.specs.texts.Ipv6Text.{colon, IsEightGroups, IsIpv6Text}
@@ -186,13 +187,17 @@ eight_groups text groups (inr e) =
       e.room,
     )
 
-address_fits : (family : Family) (text : List ℕ) (address : List Bool) → IsAddressText family text address → length address ≤ 129
-address_fits Ipv4 text address h = omega (arith, ap length h.value, length-octet_bits h.octets, h.four)
-address_fits Ipv6 text address h = omega (arith, ap length h.value, length-group_bits h.groups, eight_groups text h.groups h.eight)
+pub address_width : (family : Family) (text : List ℕ) (address : List Bool) → IsAddressText family text address → length address ≡ width_of family
+address_width Ipv4 text address h = omega (arith, ap length h.value, length-octet_bits h.octets, h.four)
+address_width Ipv6 text address h = omega (arith, ap length h.value, length-group_bits h.groups, eight_groups text h.groups h.eight)
+
+width_fits : (family : Family) → width_of family ≤ 129
+width_fits Ipv4 = omega arith
+width_fits Ipv6 = omega arith
 
 pub none_held : (sets : Sets) (family : Family) (line : List ℕ) → networks_of sets family ≡ [] → ¬ (LineHasOneIn (HasAddress sets) family line)
 none_held sets family line none (word, among, (text, bare, (address, spells, within))) =
-    let fits = address_fits family text address spells in
+    let fits : length address ≤ 129 = omega (arith, address_width family text address spells, width_fits family) in
     let behind : List Bool = replicate (129 - length address) false in
     let wide : length (address ++ behind) ≡ 129 =
     omega (arith, fits, length-append address behind, length-replicate (129 - length address) false) in

@@ -40,19 +40,19 @@ is_nothing (b ∷ field) test is on =
     absurd (omega (arith, none))
 
 -- ---- the networks of one family
-in_v4 : (ps : List (List Bool)) → network_in Ipv4 (map (λ (p : List Bool). V4 p) ps) ≡ ps
+pub in_v4 : (ps : List (List Bool)) → network_in Ipv4 (map (λ (p : List Bool). V4 p) ps) ≡ ps
 in_v4 [] = refl
 in_v4 (p ∷ ps) = ap (λ (k : List (List Bool)). p ∷ k) (in_v4 ps)
 
-in_v6 : (ps : List (List Bool)) → network_in Ipv6 (map (λ (p : List Bool). V6 p) ps) ≡ ps
+pub in_v6 : (ps : List (List Bool)) → network_in Ipv6 (map (λ (p : List Bool). V6 p) ps) ≡ ps
 in_v6 [] = refl
 in_v6 (p ∷ ps) = ap (λ (k : List (List Bool)). p ∷ k) (in_v6 ps)
 
-not_in_v4 : (ps : List (List Bool)) → network_in Ipv4 (map (λ (p : List Bool). V6 p) ps) ≡ []
+pub not_in_v4 : (ps : List (List Bool)) → network_in Ipv4 (map (λ (p : List Bool). V6 p) ps) ≡ []
 not_in_v4 [] = refl
 not_in_v4 (p ∷ ps) = not_in_v4 ps
 
-not_in_v6 : (ps : List (List Bool)) → network_in Ipv6 (map (λ (p : List Bool). V4 p) ps) ≡ []
+pub not_in_v6 : (ps : List (List Bool)) → network_in Ipv6 (map (λ (p : List Bool). V4 p) ps) ≡ []
 not_in_v6 [] = refl
 not_in_v6 (p ∷ ps) = not_in_v6 ps
 

@@ -9,7 +9,11 @@ pub mod NumberedRows
 pub mod OpenNetworks
 pub mod Passing
 pub mod PlainTexts
+pub mod PrintedLines
+pub mod ReadBack
 pub mod Resolved
+pub mod SaidWidths
 pub mod SameKeys
 pub mod SetSteps
+pub mod ShortTexts
 pub mod Spelled

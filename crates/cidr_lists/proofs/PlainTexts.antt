@@ -1,9 +1,10 @@
 -- The string of a network has no comment sign, no hyphen and no white space.
-use Rattle.std.proofs.Common.{◌≡◌, ◌≢◌, sym, subst, arith, inl, inr, ◌⊎◌, ℕ, ◌-◌, ◌<◌, ◌≤◌, Bool, false, List, [], ◌∷◌, ◌++◌, length, slice_index_or}
+use Rattle.std.proofs.Common.{◌≡◌, ◌≢◌, sym, ◌∙◌, ap, subst, arith, inl, inr, ◌⊎◌, ℕ, zero, suc, ◌-◌, ◌<◌, ◌≤◌, Bool, false, List, [], ◌∷◌, ◌++◌, drop, length, slice_index_or}
 use Rattle.std.specs.Char.{digit_value, is_ascii_whitespace}
 use Rattle.std.specs.Str.{IsTrimAscii}
 use Rattle.std.proofs.lemmas.Grind.{common_steps}
-use Rattle.std.proofs.lemmas.List.{take_all}
+use Rattle.std.proofs.lemmas.Bool.{cases_lt, true≢false}
+use Rattle.std.proofs.lemmas.List.{length-drop, length-take, nil_from_length, take_all}
 use Rattle.cidr.specs.either.IpText.{IsIpHostText}
 use Rattle.cidr.specs.texts.AddressText.{IsAddressText}
 use Rattle.cidr.specs.texts.HostText.{IsHostText}
@@ -20,7 +21,7 @@ use Rattle.cidr.specs.declared.inet.combined.IpInet.{IpInet}
 use Rattle.cidr.specs.declared.inet.combined.IpInet.TheVariants as host
 use Rattle.cidr.proofs.Cuts.{Lacks-append, Lacks-cons, Lacks-digits, Lacks-length}
 use Rattle.cidr.proofs.Ipv4Grammar.{Lacks-joined, Lacks-octet}
-use Rattle.cidr_lists.specs.Lists.{IsField, IsNetworkBy, is_comment_sign}
+use Rattle.cidr_lists.specs.Lists.{IsField, IsNetworkBy, hyphen, is_comment_sign}
 use Rattle.cidr_lists.specs.declared.lines.HostBits.{HostBits}
 use Rattle.cidr_lists.specs.declared.lines.HostBits.TheVariants.{Refused, Cleared}
 use Rattle.cidr_lists.proofs.LineFeeds.{uncut}
@@ -99,6 +100,20 @@ no_sign b h k = grind (arith, common_steps)
 no_space : (b : ℕ) → b ≢ 9 → b ≢ 10 → b ≢ 12 → b ≢ 13 → b ≢ 32 → is_ascii_whitespace b ≡ false
 no_space b h k l m n = grind (arith, common_steps)
 
+-- what is left of bytes without white space
+pub one_trim : (bytes field : List ℕ) → ((i : ℕ) → i < length bytes → is_ascii_whitespace (slice_index_or bytes i 0) ≡ false)
+    → IsTrimAscii bytes field → field ≡ bytes
+one_trim bytes field plain (zero, whole, below, here, from, last) = elim (cases_lt (length field) (length bytes)) [
+  | inl less ↦ absurd (true≢false (sym (from (length field) (omega arith) less) ∙ plain (length field) less))
+  | inr past ↦ whole ∙ take_all (length field) bytes past
+]
+one_trim bytes field plain (suc m, whole, below, here, from, last) = elim (cases_lt 0 (length bytes)) [
+  | inl some ↦ absurd (true≢false (sym (below 0 (omega arith)) ∙ plain 0 some))
+  | inr none ↦
+      let empty : length field ≡ 0 = omega (arith, none, ap length whole, length-take (length field) (drop (suc m) bytes), length-drop (suc m) bytes) in
+      nil_from_length field empty ∙ sym (nil_from_length bytes (omega (arith, none)))
+]
+
 -- a network is its line's field
 module _ (bits : HostBits) (line : List ℕ) (network : IpCidr) (is : IsNetworkBy bits line network) where
   lacks : (c : ℕ) → 16 ≤ digit_value c → dot ≢ c → colon ≢ c → slash ≢ c → plus ≢ c → Lacks c line
@@ -129,3 +144,15 @@ module _ (bits : HostBits) (line : List ℕ) (network : IpCidr) (is : IsNetworkB
         λ i from within. absurd (omega (arith, from, within)),
         λ some. unspaced (length line - 1) (omega (arith, some)),
       )
+
+  pub no_feed : Lacks 10 line
+  no_feed = lacks 10 (omega arith) (omega arith) (omega arith) (omega arith) (omega arith)
+
+  pub no_hyphen : Lacks hyphen line
+  no_hyphen = lacks hyphen (omega arith) (omega arith) (omega arith) (omega arith) (omega arith)
+
+  -- and has no other field
+  pub one_field : (field : List ℕ) → IsField line field → field ≡ line
+  one_field field h =
+      one_trim line field unspaced
+      (subst (λ (k : List ℕ). IsTrimAscii k field) (sym (uncut is_comment_sign line (length line) uncommented (omega arith))) h)

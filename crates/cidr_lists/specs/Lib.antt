@@ -11,8 +11,10 @@ pub mod LookUps
 pub mod Messages
 pub mod Nearness
 pub mod Printing
+pub mod ReadBack
 pub mod Reading
 pub mod Sets
 pub mod Tables
+pub mod Texts
 pub mod Within
 pub mod Words

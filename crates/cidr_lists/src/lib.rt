@@ -24,6 +24,7 @@ pub mod entries;
 pub mod errors;
 pub mod fields;
 pub mod findings;
+pub mod laws;
 pub mod lines;
 pub mod lists;
 pub mod near;

@@ -1,0 +1,32 @@
+//! Laws, each as the contract of a function that does nothing. After a call, a caller's proof has the law; a program
+//! that runs needs none of these.
+ghost use Rattle.std.specs.Prelude.{◌≡◌, [], ◌∷◌, Bool, List};
+ghost use Rattle.std.specs.List.{AllZip};
+ghost use Rattle.cidr.specs.declared.cidr.combined.IpCidr.{IpCidr};
+ghost use Rattle.cidr.specs.declared.family.Family.{Family};
+ghost use Rattle.cidr_lists.specs.Lists.{Text, ListSays, text_by};
+ghost use Rattle.cidr_lists.specs.ReadBack.{AreOfFamilies, AreUnions, SaysJust};
+ghost use Rattle.cidr_lists.specs.Sets.{printed_sets};
+ghost use Rattle.cidr_lists.specs.declared.lines.HostBits.{HostBits};
+
+/// What is printed of networks, read as a list, says these networks, whatever is done with host bits: printed networks
+/// have none.
+pub fn printed_networks_are_read()
+    ensures { (bits : HostBits) (networks : Family → List (List Bool)) → AreOfFamilies networks
+        → SaysJust (text_by bits (printed_sets networks)) networks }
+{}
+
+/// What is printed of the set of some lists, read as a list, says the networks of that set.
+pub fn printed_unions_are_read()
+    ensures { (bits : HostBits) (texts : List Text) (lists : List (List (List IpCidr))) (networks : Family → List (List Bool))
+        → AllZip ListSays texts lists → AreUnions lists networks → SaysJust (text_by bits (printed_sets networks)) networks }
+{}
+
+/// What is printed of the set of some lists is what is printed of the set of that text as a list: merged again, a list
+/// stays the same.
+pub fn merging_again_changes_nothing()
+    ensures { (bits : HostBits) (texts : List Text) (lists : List (List (List IpCidr))) (networks again : Family → List (List Bool))
+        (said : List (List IpCidr)) → AllZip ListSays texts lists → AreUnions lists networks
+        → ListSays (text_by bits (printed_sets networks)) said → AreUnions (said ∷ []) again
+        → printed_sets again ≡ printed_sets networks }
+{}
