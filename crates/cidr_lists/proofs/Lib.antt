@@ -10,6 +10,7 @@ pub mod OpenNetworks
 pub mod Passing
 pub mod PlainTexts
 pub mod PrintedLines
+pub mod PrintedTexts
 pub mod ReadBack
 pub mod Resolved
 pub mod SaidWidths
@@ -17,3 +18,4 @@ pub mod SameKeys
 pub mod SetSteps
 pub mod ShortTexts
 pub mod Spelled
+pub mod WholeTexts

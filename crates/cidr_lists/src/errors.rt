@@ -1,10 +1,11 @@
-//! Why a line is in error.
+//! Why a line is in error, and why a list is not read.
 ghost use Rattle.std.specs.Prelude.{◌≡◌};
 ghost use Rattle.cidr_lists.specs.Messages.{line_message};
 
 use arrayvec::ArrayString;
 use cidr::AddrParseError;
 use cidr::errors::NetworkParseError;
+use std::alloc::AllocError;
 
 /// The most bytes that a message has.
 pub const MOST_MESSAGE: usize = 99;
@@ -12,7 +13,7 @@ pub const MOST_MESSAGE: usize = 99;
 /// Why a line is in error.
 #[derive(Debug, Drop)]
 pub enum LineError {
-    /// It has more than 1 MiB. The caller that cuts lines tells it: no call of this library does.
+    /// It has more than 1 MiB. Whoever cuts the lines tells it: `texts`, or a caller that reads a stream.
     TooLong,
     /// It is not UTF-8.
     NotUtf8,
@@ -43,5 +44,25 @@ impl LineError {
             ),
         }
         text
+    }
+}
+
+/// Why a list is not read.
+#[derive(Debug, Drop)]
+pub enum ListError {
+    /// Its first line in error, by its number from 1 on.
+    Line(u64, LineError),
+    /// There is no memory for its networks.
+    NoMemory,
+}
+
+impl From<AllocError> for ListError {
+    ghost use Rattle.std.specs.Prelude.{◌≡◌};
+    ghost use Rattle.cidr_lists.specs.declared.errors.ListError.TheVariants.{NoMemory};
+
+    ghost from_gives = { λ _ e. e ≡ NoMemory };
+
+    fn from(_error: AllocError) -> ListError {
+        ListError::NoMemory
     }
 }

@@ -1,7 +1,8 @@
 //! Lists of networks and tables as bytes: what their lines say, sets of what they say, and what is printed of those.
 //!
-//! No call reads or writes a stream. A caller cuts its input into lines, as by `cidr_io`, and gives each line, without
-//! its line feed, to the call for what the lines are:
+//! No call reads or writes a stream. `Sets::of_text` reads a whole list in memory, and `Sets::to_text` prints a set. A
+//! caller that cuts its input into lines itself, as by `cidr_io`, gives each line, without its line feed, to the call for
+//! what the lines are:
 //!
 //! - `lines::content_of`: a line of a list says nothing, a network, an address or a range. `lists::Lists` collects the
 //!   networks, and `sets::Sets` has their addresses, combines them and tells what lies in them.
@@ -14,8 +15,8 @@
 //!
 //! A line in error is an `errors::LineError`, whose `message` is the text that follows `FILE:LINE: `. `changes` puts
 //! what a second list adds and lacks in order, and `printing` has the texts of networks, addresses and counts. A call
-//! on a line takes time in its length and allocates nothing. Only what collects, sorts or combines allocates, and its
-//! one error is that there is no memory.
+//! on a line takes time in its length and allocates nothing. Only what collects, sorts, combines or prints whole lists
+//! allocates, and its one other error is that there is no memory.
 #![tactic(auto)]
 
 pub mod changes;
@@ -32,4 +33,5 @@ pub mod printing;
 pub mod rows;
 pub mod sets;
 pub mod table;
+pub mod texts;
 pub mod words;

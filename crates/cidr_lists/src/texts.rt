@@ -1,0 +1,185 @@
+//! Whole lists as bytes: reading one to its end or to its first line in error, and printing a set.
+//!
+//! ```
+//! let sets = Sets::of_text(alloc, HostBits::Refused, b"192.0.2.0/25  # ours\r\n\n192.0.2.128-192.0.2.255\n")?;
+//! sets.to_text(alloc, Form::Networks)? // 192.0.2.0/24 and a line feed
+//! ```
+ghost use Rattle.std.specs.Prelude.{◌≡◌, ◌≤◌, ◌++◌, length, IfOk, MatchResult, OnOk};
+ghost use Rattle.std.specs.List.{flat_map, position_or_len};
+ghost use Rattle.cidr_lists.specs.Lists.{is_line_feed, kept_of, text_by};
+ghost use Rattle.cidr_lists.specs.Printing.{line};
+ghost use Rattle.cidr_lists.specs.Sets.{IsPrinted, networks_of, printed_sets, range_line};
+ghost use Rattle.cidr_lists.specs.Texts.{AddsLine, HaveAddresses, HaveNetworks, IsListError};
+ghost use Rattle.cidr_lists.specs.declared.sets.Form.TheVariants.{Counts, Ranges as AsRanges};
+
+use crate::errors::{LineError, ListError};
+use crate::lines::{HostBits, content_of};
+use crate::lists::Lists;
+use crate::printing::{Printed, PrintedAddress, count_text};
+use crate::sets::{Form, Sets};
+use cidr_sets::Ranges;
+use std::alloc::{AllocError, Global};
+
+/// The most bytes of a line, without its line feed: 1 MiB.
+const MOST_BYTES: usize = 1_048_576;
+
+/// Whether a byte is a line feed.
+fn is_line_feed(byte: u8) -> bool
+    ensures { result ≡ is_line_feed byte }
+{
+    byte == b'\n'
+}
+
+/// How many bytes the first line has, without its line feed.
+fn line_len(text: &[u8]) -> usize
+    ensures first { result ≡ position_or_len is_line_feed text.now }
+    ensures fits { result ≤ length text.now }
+{
+    for (place, byte) in text.iter().enumerate() {
+        if is_line_feed(*byte) {
+            return place;
+        }
+    }
+    text.len()
+}
+
+/// Adds the networks that a line says.
+fn add_line(
+    alloc: Global,
+    host_bits: HostBits,
+    number: u64,
+    line: &[u8],
+    lists: &mut Lists,
+) -> Result<(), ListError>
+    ensures { AddsLine host_bits (kept_of line.now) number lists.old lists.new result }
+{
+    if line.len() > MOST_BYTES {
+        return Err(ListError::Line(number, LineError::TooLong));
+    }
+    match content_of(host_bits, line) {
+        Ok(content) => {
+            lists.push_content(alloc, &content)?;
+            Ok(())
+        }
+        Err(e) => Err(ListError::Line(number, e)),
+    }
+}
+
+impl Lists {
+    /// The networks that a list says: a network, an address or a range a line, with white space around it and a comment
+    /// behind it from `#` or `;` on. The first line in error is told, with its number from 1 on. It takes time in the
+    /// length of the text.
+    pub fn of_text(alloc: Global, host_bits: HostBits, text: &[u8]) -> Result<Lists, ListError>
+        ensures { MatchResult result (HaveNetworks (text_by host_bits text.now)) (IsListError (text_by host_bits text.now)) }
+    {
+        let mut lists = Lists::new(alloc);
+        let mut rest = text;
+        let mut number = 1;
+        loop {
+            let (line, behind) = rest.split_at(line_len(rest));
+            add_line(alloc, host_bits, number, line, &mut lists)?;
+            let Some((_, next)) = behind.split_first() else {
+                return Ok(lists);
+            };
+            rest = next;
+            number += 1;
+        }
+    }
+}
+
+/// Appends networks, one a line.
+fn push_networks<C: Printed>(text: &mut Vec<u8>, networks: &[C]) -> Result<(), AllocError>
+    ensures { OnOk result (text.new.items ≡ text.old.items ++ flat_map (λ network. line (C.text network)) networks.now) }
+{
+    for network in networks {
+        text.extend_from_slice(network.printed().as_str().as_bytes())?;
+        text.push(b'\n')?;
+    }
+    Ok(())
+}
+
+/// Appends a range, or its one address, as a line.
+fn push_range<C: PrintedAddress>(
+    text: &mut Vec<u8>,
+    first: C::Address,
+    last: C::Address,
+) -> Result<(), AllocError>
+    ensures { OnOk result (text.new.items ≡ text.old.items ++ range_line C.shown (C.address_bits first, C.address_bits last)) }
+{
+    text.extend_from_slice(C::shown(&first).as_str().as_bytes())?;
+    if C::are_same(&first, &last) {
+        text.push(b'\n')?;
+        return Ok(());
+    }
+    text.push(b'-')?;
+    text.extend_from_slice(C::shown(&last).as_str().as_bytes())?;
+    text.push(b'\n')?;
+    Ok(())
+}
+
+/// Appends ranges, one a line.
+fn push_ranges<C: PrintedAddress>(
+    text: &mut Vec<u8>,
+    mut ranges: Ranges<'_, C>,
+) -> Result<(), AllocError>
+    ensures { OnOk result (text.new.items ≡ text.old.items ++ flat_map (range_line C.shown) ranges.entry) }
+{
+    while let Some(range) = ranges.next() {
+        push_range::<C>(text, range.first, range.last)?;
+    }
+    Ok(())
+}
+
+impl Sets {
+    /// The addresses that a list says, as [`Lists::of_text`] reads it.
+    pub fn of_text(alloc: Global, host_bits: HostBits, text: &[u8]) -> Result<Sets, ListError>
+        ensures { MatchResult result (HaveAddresses (text_by host_bits text.now)) (IsListError (text_by host_bits text.now)) }
+    {
+        let lists = Lists::of_text(alloc, host_bits, text)?;
+        Ok(Sets::of_lists(lists))
+    }
+
+    /// The networks, one a line, ascending, IPv4 before IPv6.
+    fn to_network_lines(&self, alloc: Global) -> Result<Vec<u8>, AllocError>
+        ensures { IfOk result (λ text. text.items ≡ printed_sets (networks_of self.now)) }
+    {
+        let mut text = Vec::new(alloc);
+        push_networks(&mut text, self.v4.as_slice())?;
+        push_networks(&mut text, self.v6.as_slice())?;
+        Ok(text)
+    }
+
+    /// The longest ranges, one a line, ascending, IPv4 before IPv6.
+    fn to_range_lines(&self, alloc: Global) -> Result<Vec<u8>, AllocError>
+        ensures { IfOk result (λ text. IsPrinted AsRanges (networks_of self.now) text.items) }
+    {
+        let mut text = Vec::new(alloc);
+        push_ranges(&mut text, self.v4.ranges())?;
+        push_ranges(&mut text, self.v6.ranges())?;
+        Ok(text)
+    }
+
+    /// How many addresses of each family there are, a line each.
+    fn to_count_lines(&self, alloc: Global) -> Result<Vec<u8>, AllocError>
+        ensures { IfOk result (λ text. IsPrinted Counts (networks_of self.now) text.items) }
+    {
+        let mut text = Vec::new(alloc);
+        text.extend_from_slice(b"IPv4 ")?;
+        text.extend_from_slice(count_text(self.v4.address_count()).as_str().as_bytes())?;
+        text.extend_from_slice(b"\nIPv6 ")?;
+        text.extend_from_slice(count_text(self.v6.address_count()).as_str().as_bytes())?;
+        text.push(b'\n')?;
+        Ok(text)
+    }
+
+    /// What is printed of the addresses in this form, as bytes.
+    pub fn to_text(&self, alloc: Global, form: Form) -> Result<Vec<u8>, AllocError>
+        ensures { IfOk result (λ text. IsPrinted form (networks_of self.now) text.items) }
+    {
+        match form {
+            Form::Networks => self.to_network_lines(alloc),
+            Form::Ranges => self.to_range_lines(alloc),
+            Form::Counts => self.to_count_lines(alloc),
+        }
+    }
+}
