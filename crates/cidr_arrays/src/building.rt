@@ -1,5 +1,5 @@
 //! The ranges of networks, written into arrays of the caller.
-ghost use Rattle.std.specs.Prelude.{◌≡◌, ℕ, ◌+◌, ◌*◌, ◌^◌, ◌<◌, ◌≤◌, List, length, map, take, IfOk, IfErr};
+ghost use Rattle.std.specs.Prelude.{◌≡◌, ℕ, ◌+◌, ◌*◌, ◌^◌, ◌<◌, ◌≤◌, List, length, map, take, IfOk, IfErr, OnErr};
 ghost use Rattle.cidr_arrays.specs.Arrays.{AreNetworks, AreRanges, IsFirstRefused, IsBuildRefused, networks_of};
 ghost use Rattle.cidr_arrays.specs.Passing.{AreSoFar, IsEdge, IsLast, IsPut};
 
@@ -39,6 +39,8 @@ pub fn build<W: Word>(
     ensures keys { IfOk result (λ _. AreNetworks W.width (networks_of W.value keys.now)) }
     ensures ranges { IfOk result (λ count. AreRanges W.width (networks_of W.value keys.now) (map W.value (take count starts.new)) (take count answers.new)) }
     ensures refused { IfErr result (IsBuildRefused W.width (networks_of W.value keys.now) (length starts.old) (length answers.old)) }
+    ensures unchanged { OnErr result ((starts.new ≡ starts.old) × (answers.new ≡ answers.old)) }
+    ensures long { IfOk result (λ _. (2 * length keys.now + 1 ≤ length starts.old) × (2 * length keys.now + 1 ≤ length answers.old)) }
 {
     if keys.len() >= 1 << 31 {
         return Err(BuildError::TooMany);

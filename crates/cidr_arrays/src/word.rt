@@ -1,5 +1,5 @@
 //! The numbers of addresses, as arrays have them.
-ghost use Rattle.std.specs.Prelude.{◌≡◌, ℕ, ◌+◌, ◌*◌, ◌/◌, ◌^◌, ◌<◌, ◌≤◌, ◌↔◌, IfSome, IsTrue};
+ghost use Rattle.std.specs.Prelude.{◌≡◌, ℕ, ◌+◌, ◌*◌, ◌/◌, ◌^◌, ◌<◌, ◌≤◌, ◌↔◌, ◌⊎◌, IfNone, IfSome, IsTrue};
 
 /// The number of an address, as it lies in an array: a `u32` of IPv4, and two halves of IPv6.
 pub trait Word: Copy {
@@ -13,10 +13,11 @@ pub trait Word: Copy {
     fn is_upto(self, other: Self) -> bool
         ensures { IsTrue result ↔ (value self ≤ value other) };
 
-    /// The number of the bits before the last `shift`, or `None` where a `usize` might not have room for it, as of IPv6
-    /// for a `shift` below 64, and where `shift` is not below the width.
+    /// The number of the bits before the last `shift`, or `None` where there are more than 64 of them, as of IPv6 for a
+    /// `shift` below 64, and where there are none, since `shift` is not below the width.
     fn part(self, shift: u32) -> Option<usize>
-        ensures { IfSome result (λ part. part ≡ value self / 2 ^ shift) };
+        ensures part { IfSome result (λ part. part ≡ value self / 2 ^ shift) }
+        ensures none { IfNone result ((width ≤ shift) ⊎ (shift + 64 < width)) };
 
     /// The number.
     fn number(self) -> u128
