@@ -138,8 +138,9 @@ size_t pcidr_print_network(const pcidr_value *network, char *out, size_t out_len
 size_t pcidr_print_network_with_length(const pcidr_value *network, char *out, size_t out_len);
 
 /* Prints networks, each with a line feed behind it and without a full prefix length. PCIDR_OK and `count` bytes in `out`;
- * PCIDR_NO_ROOM, or PCIDR_NO_VALUE for a value that is no network, and then what `out` has is not specified and `count`
- * is as it was. 44 bytes for each network are enough. */
+ * or the error of the first value that has one: PCIDR_NO_VALUE where it is no network, PCIDR_NO_ROOM where the lines up to
+ * it have more bytes than `out`. Then what `out` has is not specified and `count` is as it was. 44 bytes for each network
+ * are enough. */
 uint32_t pcidr_print_lines(const pcidr_value *networks, size_t networks_len, char *out, size_t out_len, size_t *count);
 
 /* The message of an error, or 0 for a number that is none. */
@@ -270,9 +271,9 @@ uint32_t pcidr_difference_in_place(pcidr_value *networks, size_t networks_len, s
                                    const pcidr_value *others, size_t others_len);
 
 /* For each of the asked networks or addresses, 1 where the list has all of its addresses, and 0 where not, at the same
- * index of `out`, whose further places stay. Errors: NO_VALUE for a value of the list; then NO_ROOM, and `out` is as it
- * was; then NO_VALUE for an asked value, and what `out` has at the places of answers is not specified. NO_MEMORY may come
- * before any answer, and `out` is as it was. Allocates, and sorts the list at each call: pass many at once. */
+ * index of `out`, whose further places stay. Errors: NO_VALUE for a value of the list, and then NO_ROOM; `out` is as it was
+ * with both. Then NO_VALUE for an asked value, and what `out` has at the places of answers is not specified. NO_MEMORY may
+ * come before any answer, and `out` is as it was. Allocates, and sorts the list at each call: pass many at once. */
 uint32_t pcidr_contains_each(const pcidr_value *networks, size_t networks_len, const pcidr_value *asked,
                              size_t asked_len, uint8_t *out, size_t out_len);
 
@@ -366,8 +367,8 @@ uint32_t pcidr_ipv6_table_lookup_each(const pcidr_halves *starts, size_t starts_
 /* Writes the table of networks. Before it `table->ranges` is for how many ranges there is room, and after PCIDR_OK how many
  * there are. Errors: NO_MEMORY; TOO_MANY; SHIFT; NO_VALUE, and `place` is the index of the first value that is no network
  * of the family, or does not come after the one before it; NO_ROOM, and `place` is how many ranges are room enough. Then
- * `table` is as it was, and what the arrays hold is not specified. Takes O(n), and O(log n) for each entry of the
- * level. Allocates: 8 bytes for each network, or 24 in IPv6. */
+ * `table` is as it was, and so are the arrays. Takes O(n), and O(log n) for each entry of the level. Allocates: 8 bytes for
+ * each network, or 24 in IPv6. */
 static inline uint32_t pcidr_table_build(pcidr_table *table, const pcidr_value *networks, size_t networks_len,
                                          size_t *place) {
     size_t count = 0;

@@ -75,4 +75,5 @@ contained values asked set old out n fine is_set past first behind = record {
   codes = inl refl;
   behind = behind;
   stays = λ h. elim h [ inl z ↦ absurd (omega (arith, z)) | inr z ↦ absurd (omega (arith, z)) ];
+  refused = λ none. absurd (none fine);
 }

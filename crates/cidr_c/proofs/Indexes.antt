@@ -96,4 +96,5 @@ matched values asked rows old out n fine last past first behind = record {
   codes = inl refl;
   behind = behind;
   stays = λ h. elim h [ inl z ↦ absurd (omega (arith, z)) | inr z ↦ absurd (omega (arith, z)) ];
+  refused = λ none. absurd (none fine);
 }

@@ -1,5 +1,6 @@
 pub mod Answering
 pub mod Bits
+pub mod Checks
 pub mod Indexes
 pub mod LineSteps
 pub mod NetworkLists

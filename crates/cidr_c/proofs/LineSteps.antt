@@ -98,6 +98,7 @@ module _ (text rest : List ℕ) (old : List CValue) (n : ℕ) (out : List CValue
     all = λ z. absurd (other z);
     room = λ _. (omega (arith, so_far.fits, so_far.kept, past), rw next_split (omega (arith, so_far.count, length-append so_far.done (line ∷ lines_left behind more))));
     error = λ _ none. absurd (none full);
+    before = λ _ none. absurd (none full);
   }
   stopped new code other (inr (fits, value, is, read)) = record {
     fits = omega (arith, so_far.fits, so_far.kept);
@@ -110,6 +111,7 @@ module _ (text rest : List ℕ) (old : List CValue) (n : ℕ) (out : List CValue
       rw (next_split, so_far.count) (line_at so_far.done line (lines_left behind more)),
       elim (cases_eq code 1) [ inl e ↦ inl (e, read.utf8.0 e) | inr ne ↦ inr (read.error (omega (arith, ne, other))) ],
     );
+    before = λ _ _. omega (arith, so_far.kept, fits);
   }
 
 pub all_read : (text rest : List ℕ) (old : List CValue) (n : ℕ) (out : List CValue) → AreSoFar text rest false old n out
@@ -124,6 +126,7 @@ all_read text rest old n out so_far =
       all = λ _. rw all so_far.count;
       room = λ z. absurd (omega (arith, z));
       error = λ other _. absurd (other refl);
+      before = λ other _. absurd (other refl);
     }
 
 -- ---- the first line
@@ -175,6 +178,37 @@ line_more values i d lt =
     let f : CValue → List ℕ = λ v. any_network_text plain_text (network_in v) ++ 10 ∷ [] in
     ap lines_in (take_more values i d lt) ∙ (flat_map-append f (take i values) (get_or values i d ∷ [])
     ∙ ap (λ (t : List ℕ). lines_in (take i values) ++ t) (append-nil (f (get_or values i d))))
+
+-- a value more that is no network
+pub no_network_more : (values : List CValue) (i : ℕ) (d : CValue) → i < length values → ¬ (IsNetwork (get_or values i d))
+    → ¬ (AreNetworks (take (i + 1) values))
+no_network_more values i d lt none all =
+    let size : length (take (i + 1) values) ≡ i + 1 = length-take-le (i + 1) values (omega (arith, lt)) in
+    none (subst IsNetwork (get_or-take (i + 1) values i d (omega arith)) (all i d (omega (arith, size))))
+
+module _ (values : List CValue) (i end : ℕ) (out : List ℕ) (within : end ≤ length out) (so_far : take end out ≡ lines_in (take i values)) where
+  -- the lines that are printed have room
+  pub lines_fit : length (lines_in (take i values)) ≤ length out
+  lines_fit = omega (arith, length-take-le end out within, ap length so_far, within)
+
+  -- one line more has none
+  pub line_over : (d : CValue) (text : List ℕ) → i < length values → AreNetworks (take i values) → IsNetwork (get_or values i d)
+      → text ≡ any_network_text plain_text (network_in (get_or values i d)) → length out ≤ end + length text
+      → AreNetworks (take (i + 1) values) × (length out < length (lines_in (take (i + 1) values)))
+  line_over d text lt fine here is past =
+      let line : List ℕ = any_network_text plain_text (network_in (get_or values i d)) in (
+        (networks_more values i d (map network_in (take i values)) lt fine refl here).0,
+        omega (
+          arith,
+          past,
+          length-take-le end out within,
+          ap length so_far,
+          ap length is,
+          ap length (line_more values i d lt),
+          length-append (lines_in (take i values)) (line ++ 10 ∷ []),
+          length-append line (10 ∷ []),
+        ),
+      )
 
 -- one line more
 pub line_printed : (values : List CValue) (i : ℕ) (d : CValue) (text out new : List ℕ) (end next : ℕ) → i < length values

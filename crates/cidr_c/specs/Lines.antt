@@ -1,5 +1,5 @@
 -- Texts of networks, one a line.
-use Rattle.std.specs.Prelude.{◌≡◌, ◌≢◌, ◌⊎◌, ℕ, ◌*◌, ◌<◌, ◌≤◌, ◌==◌, Bool, List, [], ◌∷◌, ◌++◌, drop, length, take, flat_map, slice_get, slice_index_or, Some, set, true, false, Ok, Err, IsUtf8}
+use Rattle.std.specs.Prelude.{◌≡◌, ◌≢◌, ◌⊎◌, ℕ, ◌+◌, ◌*◌, ◌<◌, ◌≤◌, ◌==◌, Bool, List, [], ◌∷◌, ◌++◌, drop, length, take, flat_map, slice_get, slice_index_or, Some, set, true, false, Ok, Err, IsUtf8}
 use Rattle.std.specs.List.{AllZip, slice_split}
 use Rattle.cidr.specs.either.IpText.{ReadsAnyNetwork, any_network_text}
 use Rattle.cidr.specs.texts.Printed.{plain_text}
@@ -38,7 +38,7 @@ IsLineRead line place old new code =
     ⊎ ((place < length old) × (value : CValue) × (new ≡ set old place value)
     × IsRead ReadsAnyNetwork parse_code IsNetwork network_in line (slice_index_or old place value) value code)
 
--- the first `count` lines of a text are read: all of them, or else the next one is in error, or the room is full; what is
+-- the first `count` lines of a text are read: all of them, or else the room is full, or the next one is in error; what is
 -- behind their networks stays
 pub record AreLinesRead (text : List ℕ) (old new : List CValue) (count code : ℕ) : Type 0 where
   pub fits : count ≤ length old
@@ -47,13 +47,18 @@ pub record AreLinesRead (text : List ℕ) (old new : List CValue) (count code : 
   pub all : code ≡ 0 → count ≡ length (lines_of text)
   pub room : code ≡ no_room → (count ≡ length old) × (count < length (lines_of text))
   pub error : code ≢ 0 → code ≢ no_room → (line : List ℕ) × (slice_get (lines_of text) count ≡ Some line) × IsInError line code
+  pub before : code ≢ 0 → code ≢ no_room → count < length old
 
 -- what is printed of networks, each with a line feed behind it
 abbrev pub lines_in : List CValue → List ℕ
 lines_in values = flat_map (λ v. any_network_text plain_text (network_in v) ++ 10 ∷ []) values
 
--- it is there, and `count` is how many bytes it has; or there is an error, and `count` stays. There is room for it where
--- there are 44 bytes for each network
+-- the first i values are networks, and their lines have room
+abbrev pub HaveRoom : List CValue → (room i : ℕ) → Type 0
+HaveRoom values room i = AreNetworks (take i values) × (length (lines_in (take i values)) ≤ room)
+
+-- it is there, and `count` is how many bytes it has; or there is an error, and `count` stays: that of the first value that is
+-- no network, or whose line has no room. There is room where there are 44 bytes for each network
 pub record AreLinesPrinted (values : List CValue) (new : List ℕ) (count count_new code : ℕ) : Type 0 where
   pub networks : code ≡ 0 → AreNetworks values
   pub text : code ≡ 0 → (count_new ≤ length new) × (take count_new new ≡ lines_in values)
@@ -61,3 +66,6 @@ pub record AreLinesPrinted (values : List CValue) (new : List ℕ) (count count_
   pub room : 44 * length values ≤ length new → code ≢ no_room
   pub codes : (code ≡ 0) ⊎ ((code ≡ no_value) ⊎ (code ≡ no_room))
   pub stays : code ≢ 0 → count_new ≡ count
+  pub first_value : code ≡ no_value → (i : ℕ) × HaveRoom values (length new) i × ¬ (AreNetworks (take (i + 1) values))
+  pub first_line : code ≡ no_room → (i : ℕ) × HaveRoom values (length new) i × AreNetworks (take (i + 1) values)
+      × (length new < length (lines_in (take (i + 1) values)))

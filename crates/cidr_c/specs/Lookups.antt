@@ -19,7 +19,7 @@ AreAnswered Answers asked out =
     → IsNetwork v × (answer : ℕ) × (slice_get out i ≡ Some answer) × Answers (network_in v) answer
 
 -- where there is no error, each asked value has its answer; when each error comes: first for a value that is no network,
--- then for too little room, then for an asked value; for which of them nothing is written; and what is behind the answers
+-- then for too little room, then for an asked value; nothing is written but for the last; and what is behind the answers
 -- stays
 pub record AreAllAnswered (Answers : AnyIpCidr → ℕ → Type 0) (values asked : List CValue) (old out : List ℕ) (code : ℕ) : Type 0 where
   pub networks : code ≡ 0 → AreNetworks values
@@ -29,6 +29,7 @@ pub record AreAllAnswered (Answers : AnyIpCidr → ℕ → Type 0) (values asked
   pub codes : (code ≡ 0) ⊎ ((code ≡ no_value) ⊎ ((code ≡ no_room) ⊎ (code ≡ no_memory)))
   pub behind : drop (length asked) out ≡ drop (length asked) old
   pub stays : (code ≡ no_room) ⊎ (code ≡ no_memory) → out ≡ old
+  pub refused : ¬ (AreNetworks values) → out ≡ old
 
 -- each answer is whether all addresses of the asked network are in the networks
 abbrev pub AreContained : List CValue → List CValue → List ℕ → List ℕ → ℕ → Type 0

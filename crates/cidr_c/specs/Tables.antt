@@ -3,8 +3,11 @@ use Rattle.std.specs.Prelude.{◌≡◌, ◌≢◌, ◌⊎◌, ℕ, ◌+◌, ◌
 use Rattle.cidr.specs.model.Bits.{bits}
 use Rattle.cidr_table.specs.Prefixes.{IsLongestMatch}
 use Rattle.cidr_arrays.specs.Arrays.{AreNetworks, IsFirstRefused, Represents, network_bits}
+use Rattle.cidr_arrays.specs.Faults.{IsFault}
+use Rattle.cidr_arrays.specs.declared.checking.Fault.{Fault}
+use Rattle.cidr_arrays.specs.declared.checking.Fault.TheVariants.{TooMany, Counts, Shift, Refused, Range, Entry}
 use Rattle.cidr_arrays.specs.declared.word.Halves.{Halves}
-use Rattle.cidr_c.specs.Codes.{no_memory, no_room, no_value, too_many, wrong_shift}
+use Rattle.cidr_c.specs.Codes.{no_memory, no_room, no_table, no_value, too_many, wrong_shift}
 use Rattle.cidr_c.specs.Values.{number_in}
 use Rattle.cidr_c.specs.declared.values.CValue.{CValue}
 
@@ -27,21 +30,38 @@ ipv6_number halves = halves.high * 2 ^ 64 + halves.low
 abbrev pub room_of : ℕ → ℕ
 room_of networks = 2 * networks + 1
 
--- building a table: 0, and the first `count` starts and answers are those of the networks; or when each error comes. With
--- the number of `no_value` the count becomes the index of the first value that is no network of the family or out of order,
--- with that of `no_room` how many ranges are room enough
+-- building a table: 0, and the first `count` starts and answers are those of the networks; or when each error comes, in this
+-- order, but for that of memory, which may come first. With the number of `no_value` the count becomes the index of the first
+-- value that is no network of the family or out of order, with that of `no_room` how many ranges are room enough
 pub record IsBuilt {A : Type 0} (w : ℕ) (value : A → ℕ) (networks : List (ℕ × ℕ)) (starts : List A) (answers level : List ℕ)
     (shift count count_new code : ℕ) : Type 0 where
   pub fits : code ≡ 0 → (count_new ≤ length starts) × (count_new ≤ length answers)
   pub table : code ≡ 0 → Represents w networks (map value (take count_new starts)) (take count_new answers) level shift
+  pub sizes : code ≡ 0 → (length networks < 2 ^ 31) × (shift < w)
   pub many : code ≡ too_many → 2 ^ 31 ≤ length networks
-  pub shifted : code ≡ wrong_shift → w ≤ shift
-  pub refused : code ≡ no_value → IsFirstRefused w networks (Some count_new)
-  pub room : code ≡ no_room
-      → AreNetworks w networks × (count_new ≡ room_of (length networks)) × ((length starts < count_new) ⊎ (length answers < count_new))
+  pub shifted : code ≡ wrong_shift → (length networks < 2 ^ 31) × (w ≤ shift)
+  pub refused : code ≡ no_value → (length networks < 2 ^ 31) × (shift < w) × IsFirstRefused w networks (Some count_new)
+  pub room : code ≡ no_room → (length networks < 2 ^ 31) × (shift < w)
+      × AreNetworks w networks × (count_new ≡ room_of (length networks)) × ((length starts < count_new) ⊎ (length answers < count_new))
   pub codes : (code ≡ 0) ⊎ ((code ≡ too_many) ⊎ ((code ≡ wrong_shift) ⊎ ((code ≡ no_memory) ⊎ ((code ≡ no_value) ⊎ (code ≡ no_room)))))
   pub stays : (code ≡ too_many) ⊎ ((code ≡ wrong_shift) ⊎ (code ≡ no_memory))
       → (count_new ≡ count)
+
+-- the number of what is wrong with arrays
+abbrev pub fault_code : Fault → ℕ
+fault_code TooMany = too_many
+fault_code Counts = no_table
+fault_code Shift = wrong_shift
+fault_code (Refused place) = no_value
+fault_code (Range place) = no_table
+fault_code (Entry place) = no_table
+
+-- checking arrays: 0, where they are a table of the networks; or else the number of what is wrong with them first, but for
+-- that of memory, which may come before it
+pub record IsChecked (w : ℕ) (networks : List (ℕ × ℕ)) (starts answers level : List ℕ) (shift code : ℕ) : Type 0 where
+  pub table : code ≡ 0 → Represents w networks starts answers level shift
+  pub fault : code ≢ 0 → code ≢ no_memory
+      → (fault : Fault) × (code ≡ fault_code fault) × IsFault w networks starts answers level shift fault
 
 -- the row that stands for none
 abbrev pub no_row : ℕ

@@ -1,5 +1,9 @@
 //! What holds of the calls together, as the contract of a function that does nothing.
+ghost use Rattle.std.specs.Prelude.{◌≡◌, ◌⊎◌, ℕ, List, map, take};
+ghost use Rattle.cidr_arrays.specs.declared.word.Halves.{Halves};
+ghost use Rattle.cidr_c.specs.Codes.{no_memory};
 ghost use Rattle.cidr_c.specs.Orders.{IsCompared, IsTotal, host_value_order, network_order};
+ghost use Rattle.cidr_c.specs.Tables.{IsBuilt, IsChecked, ipv4_number, ipv6_number};
 ghost use Rattle.cidr_c.specs.Values.{IsHost, IsNetwork};
 
 /// What `pcidr_compare` and `pcidr_compare_hosts` return is a total order of all values, whatever their fields are.
@@ -7,4 +11,16 @@ ghost use Rattle.cidr_c.specs.Values.{IsHost, IsNetwork};
 fn comparing_is_a_total_order()
     ensures networks { IsTotal (IsCompared IsNetwork network_order) }
     ensures hosts { IsTotal (IsCompared IsHost host_value_order) }
+{}
+
+/// Arrays that were built are accepted, where they are checked with the same networks and there is memory for that.
+fn built_tables_are_accepted()
+    ensures ipv4 { (networks : List (ℕ × ℕ)) (starts answers level : List ℕ) (shift count ranges code : ℕ)
+        → IsBuilt 32 ipv4_number networks starts answers level shift count ranges 0
+        → IsChecked 32 networks (map ipv4_number (take ranges starts)) (take ranges answers) level shift code
+        → (code ≡ 0) ⊎ (code ≡ no_memory) }
+    ensures ipv6 { (networks : List (ℕ × ℕ)) (starts : List Halves) (answers level : List ℕ) (shift count ranges code : ℕ)
+        → IsBuilt 128 ipv6_number networks starts answers level shift count ranges 0
+        → IsChecked 128 networks (map ipv6_number (take ranges starts)) (take ranges answers) level shift code
+        → (code ≡ 0) ⊎ (code ≡ no_memory) }
 {}

@@ -1,7 +1,7 @@
 //! Look-up tables in arrays of the caller.
-ghost use Rattle.std.specs.Prelude.{◌≡◌, ◌≢◌, ℕ, ◌≤◌, length, map, IfOk, MatchOption};
-ghost use Rattle.cidr_arrays.specs.Arrays.{Represents, networks_of};
-ghost use Rattle.cidr_c.specs.Tables.{AreFound, IsBuilt, IsFound, ipv4_number, ipv4_pair, ipv6_number, ipv6_pair, room_of};
+ghost use Rattle.std.specs.Prelude.{◌≡◌, ◌≢◌, ◌<◌, ℕ, map, IfOk, MatchOption};
+ghost use Rattle.cidr_arrays.specs.Arrays.{networks_of};
+ghost use Rattle.cidr_c.specs.Tables.{AreFound, IsBuilt, IsChecked, IsFound, fault_code, ipv4_number, ipv4_pair, ipv6_number, ipv6_pair, room_of};
 
 use crate::codes::{NO_MEMORY, NO_ROOM, NO_TABLE, NO_VALUE, OK, SHIFT, TOO_MANY};
 use crate::values::CValue;
@@ -101,7 +101,8 @@ fn put_table<W: Word>(
     shift: u32,
     count: &mut usize,
 ) -> u32
-    ensures { IsBuilt W.width W.value (networks_of W.value keys.now) starts.new answers.new level.new shift count.old count.new result }
+    ensures built { IsBuilt W.width W.value (networks_of W.value keys.now) starts.new answers.new level.new shift count.old count.new result }
+    ensures stays { result ≢ 0 → (starts.new ≡ starts.old) × (answers.new ≡ answers.old) × (level.new ≡ level.old) }
 {
     if keys.len() >= 1 << 31 {
         return TOO_MANY;
@@ -169,7 +170,20 @@ fn put_rows<W: Family>(
     OK
 }
 
-/// 0 where arrays are those of keys, or the number of the error.
+/// The number of what is wrong with arrays.
+fn fault_code(fault: &Fault) -> u32
+    ensures value { result ≡ fault_code fault.now }
+    ensures above { 0 < result }
+{
+    match fault {
+        Fault::TooMany => TOO_MANY,
+        Fault::Shift => SHIFT,
+        Fault::Refused(_) => NO_VALUE,
+        Fault::Counts | Fault::Range(_) | Fault::Entry(_) => NO_TABLE,
+    }
+}
+
+/// 0 where arrays are those of keys, or the number of what is wrong with them.
 fn check_code<W: Word>(
     keys: &[Key<W>],
     starts: &[W],
@@ -177,14 +191,11 @@ fn check_code<W: Word>(
     level: &[u32],
     shift: u32,
 ) -> u32
-    ensures { result ≡ 0 → Represents W.width (networks_of W.value keys.now) (map W.value starts.now) answers.now level.now shift }
+    ensures { IsChecked W.width (networks_of W.value keys.now) (map W.value starts.now) answers.now level.now shift result }
 {
     match check(keys, starts, answers, level, shift) {
         Ok(()) => OK,
-        Err(Fault::TooMany) => TOO_MANY,
-        Err(Fault::Shift) => SHIFT,
-        Err(Fault::Refused(_)) => NO_VALUE,
-        Err(_) => NO_TABLE,
+        Err(fault) => fault_code(&fault),
     }
 }
 
@@ -198,7 +209,8 @@ pub extern "C" fn pcidr_table_room(rows: u32) -> usize
 
 /// Makes a table of IPv4 networks that ascend, each once: 0, and `count` becomes how many ranges stand in the front of
 /// `starts` and `answers`, which `level` tells by `shift`. Else the number of the first error: no memory; too many
-/// networks; the shift; a network, and `count` becomes its index; the room, and `count` becomes how much is enough.
+/// networks; the shift; a network, and `count` becomes its index; the room, and `count` becomes how much is enough. An
+/// error leaves the arrays as they were.
 ///
 /// It allocates 8 bytes a network, and takes O(n), and O(log n) for each entry of the level.
 #[unsafe(no_mangle)]
@@ -211,7 +223,8 @@ pub extern "C" fn pcidr_ipv4_table_build(
     shift: u32,
     count: &mut usize,
 ) -> u32
-    ensures { IsBuilt 32 ipv4_number (map ipv4_pair networks.now) starts.new answers.new level.new shift count.old count.new result }
+    ensures built { IsBuilt 32 ipv4_number (map ipv4_pair networks.now) starts.new answers.new level.new shift count.old count.new result }
+    ensures stays { result ≢ 0 → (starts.new ≡ starts.old) × (answers.new ≡ answers.old) × (level.new ≡ level.old) }
 {
     match keys_in(alloc, networks) {
         Ok(keys) => put_table(keys.as_slice(), starts, answers, level, shift, count),
@@ -230,7 +243,8 @@ pub extern "C" fn pcidr_ipv6_table_build(
     shift: u32,
     count: &mut usize,
 ) -> u32
-    ensures { IsBuilt 128 ipv6_number (map ipv6_pair networks.now) starts.new answers.new level.new shift count.old count.new result }
+    ensures built { IsBuilt 128 ipv6_number (map ipv6_pair networks.now) starts.new answers.new level.new shift count.old count.new result }
+    ensures stays { result ≢ 0 → (starts.new ≡ starts.old) × (answers.new ≡ answers.old) × (level.new ≡ level.old) }
 {
     match keys_in(alloc, networks) {
         Ok(keys) => put_table(keys.as_slice(), starts, answers, level, shift, count),
@@ -250,7 +264,7 @@ pub extern "C" fn pcidr_ipv4_table_check(
     level: &[u32],
     shift: u32,
 ) -> u32
-    ensures { result ≡ 0 → Represents 32 (map ipv4_pair networks.now) (map ipv4_number starts.now) answers.now level.now shift }
+    ensures { IsChecked 32 (map ipv4_pair networks.now) (map ipv4_number starts.now) answers.now level.now shift result }
 {
     match keys_in(alloc, networks) {
         Ok(keys) => check_code(keys.as_slice(), starts, answers, level, shift),
@@ -268,7 +282,7 @@ pub extern "C" fn pcidr_ipv6_table_check(
     level: &[u32],
     shift: u32,
 ) -> u32
-    ensures { result ≡ 0 → Represents 128 (map ipv6_pair networks.now) (map ipv6_number starts.now) answers.now level.now shift }
+    ensures { IsChecked 128 (map ipv6_pair networks.now) (map ipv6_number starts.now) answers.now level.now shift result }
 {
     match keys_in(alloc, networks) {
         Ok(keys) => check_code(keys.as_slice(), starts, answers, level, shift),
