@@ -34,7 +34,7 @@ pub(crate) fn entry_of<W: Word>(starts: &[W], shift: u32, i: usize) -> usize
 {
     let most = ones(W::width());
     match number_upto(i, shift, most) {
-        Some(number) => range_of(starts, &[], 0, W::of(number)),
+        Some(number) => range_of::<W, u32>(starts, &[], 0, W::of(number)),
         None => last_range(starts),
     }
 }

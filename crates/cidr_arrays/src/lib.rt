@@ -21,6 +21,7 @@
 #![tactic(auto)]
 
 mod building;
+mod bytes;
 mod checking;
 mod key;
 mod level;
@@ -32,5 +33,5 @@ pub use building::{BuildError, build, first_refused};
 pub use checking::{Fault, check};
 pub use key::Key;
 pub use level::fill_level;
-pub use search::lookup;
-pub use word::{Halves, Word};
+pub use search::{longest_match, lookup};
+pub use word::{Halves, Index, Word};

@@ -5,7 +5,7 @@ ghost use Rattle.cidr_table.specs.Prefixes.{IsLongestMatch};
 ghost use Rattle.cidr_arrays.specs.Arrays.{IsRangeOf, Represents, network_bits, row_of};
 ghost use Rattle.cidr_arrays.specs.Passing.{IsSearchable};
 
-use crate::word::Word;
+use crate::word::{Index, Word};
 
 /// The index of the longest of the keys that have an address, or `None` where none has it: the longest match of a
 /// forwarding table (RFC 1812, 5.2.4.3). The keys are not read: `rows` says how many there are.
@@ -29,6 +29,24 @@ pub fn lookup<W: Word>(
         → Represents W.width networks (map W.value starts.now) answers.now level.now shift
         → IsLongestMatch (network_bits W.width) (bits W.width (W.value address)) networks result }
 {
+    longest_match(starts, answers, level, shift, rows, address)
+}
+
+/// The same of arrays whose answers and entries are another type's numbers, such as the bytes that a file has.
+#[inline(always)]
+pub fn longest_match<W: Word, I: Index>(
+    starts: &[W],
+    answers: &[I],
+    level: &[I],
+    shift: u32,
+    rows: usize,
+    address: W,
+) -> Option<usize>
+    ensures within { IfSome result (λ row. row < rows) }
+    ensures longest { (networks : List (ℕ × ℕ)) → length networks ≡ rows
+        → Represents W.width networks (map W.value starts.now) (map I.place answers.now) (map I.place level.now) shift
+        → IsLongestMatch (network_bits W.width) (bits W.width (W.value address)) networks result }
+{
     address.number();
     if starts.is_empty() {
         return None;
@@ -37,16 +55,15 @@ pub fn lookup<W: Word>(
     if at >= answers.len() {
         return None;
     }
-    row_below(answers[at], rows)
+    row_below(answers[at].as_index(), rows)
 }
 
 /// The row of an answer, if it is one of so many.
 #[inline(always)]
-fn row_below(answer: u32, rows: usize) -> Option<usize>
+fn row_below(end: usize, rows: usize) -> Option<usize>
     ensures within { IfSome result (λ row. row < rows) }
-    ensures row { answer ≤ rows → result ≡ row_of answer }
+    ensures row { end ≤ rows → result ≡ row_of end }
 {
-    let end = answer as usize;
     if end == 0 {
         return None;
     }
@@ -58,10 +75,10 @@ fn row_below(answer: u32, rows: usize) -> Option<usize>
 
 /// The index of the last range that begins at most with a number.
 #[inline(always)]
-pub(crate) fn range_of<W: Word>(starts: &[W], level: &[u32], shift: u32, number: W) -> usize
+pub(crate) fn range_of<W: Word, I: Index>(starts: &[W], level: &[I], shift: u32, number: W) -> usize
     requires { 0 < length starts.now }
     ensures within { result < length starts.now }
-    ensures found { IsSearchable (map W.value starts.now) level.now shift → IsRangeOf (map W.value starts.now) (W.value number) result }
+    ensures found { IsSearchable (map W.value starts.now) (map I.place level.now) shift → IsRangeOf (map W.value starts.now) (W.value number) result }
 {
     let (from, to) = around(starts, level, shift, number);
     let mut at = from;
@@ -78,18 +95,18 @@ pub(crate) fn range_of<W: Word>(starts: &[W], level: &[u32], shift: u32, number:
 
 /// Between which ranges it is, the two included.
 #[inline(always)]
-fn around<W: Word>(starts: &[W], level: &[u32], shift: u32, number: W) -> (usize, usize)
+fn around<W: Word, I: Index>(starts: &[W], level: &[I], shift: u32, number: W) -> (usize, usize)
     requires { 0 < length starts.now }
     ensures from { result.0 ≤ result.1 }
     ensures to { result.1 < length starts.now }
-    ensures upto { IsSearchable (map W.value starts.now) level.now shift → slice_index_or (map W.value starts.now) result.0 0 ≤ W.value number }
-    ensures behind { IsSearchable (map W.value starts.now) level.now shift → (i : ℕ) → result.1 < i → i < length starts.now
+    ensures upto { IsSearchable (map W.value starts.now) (map I.place level.now) shift → slice_index_or (map W.value starts.now) result.0 0 ≤ W.value number }
+    ensures behind { IsSearchable (map W.value starts.now) (map I.place level.now) shift → (i : ℕ) → result.1 < i → i < length starts.now
         → W.value number < slice_index_or (map W.value starts.now) i 0 }
 {
     if let Some(part) = number.part(shift) {
         if part < level.len() && part + 1 < level.len() {
-            let from = level[part] as usize;
-            let to = level[part + 1] as usize;
+            let from = level[part].as_index();
+            let to = level[part + 1].as_index();
             if from <= to && to < starts.len() {
                 return (from, to);
             }

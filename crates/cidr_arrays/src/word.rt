@@ -121,3 +121,22 @@ fn first_bits(high: u64, _low: u64, shift: u32) -> u64
 {
     high >> (shift - 64)
 }
+
+/// An index or an answer, as it lies in an array.
+pub trait Index: Copy {
+    /// The number.
+    ghost place: { Self → ℕ };
+
+    /// The number.
+    fn as_index(self) -> usize
+        ensures { result ≡ place self };
+}
+
+impl Index for u32 {
+    ghost place = { λ number. number };
+
+    #[inline(always)]
+    fn as_index(self) -> usize {
+        self as usize
+    }
+}
