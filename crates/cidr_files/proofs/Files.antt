@@ -1,0 +1,237 @@
+-- A file that is written is cut into what was written.
+use Rattle.std.proofs.Common.{◌≡◌, refl, sym, ◌∙◌, ap, ap₂, subst, arith, ℕ, zero, suc, ◌+◌, ◌*◌, ◌^◌, ◌<◌, ◌≤◌, List, [], ◌∷◌, ◌++◌, length, get_or, map, drop}
+use Rattle.std.proofs.lemmas.List.{append-nil, drop_at, length-append, length-map}
+use Rattle.std.specs.List.{zip}
+use Rattle.cidr_arrays.specs.Arrays.{Represents, networks_of}
+use Rattle.cidr_arrays.specs.declared.key.Key.{Key}
+use Rattle.cidr_arrays.proofs.Longest.{row_within}
+use Rattle.cidr_arrays.proofs.Numbers.{length_networks}
+use Rattle.cidr.specs.model.Bits.{bits}
+use Rattle.cidr_files.specs.Contents.{AreContents, HasRows, addresses_of, counts_of, head_of, lengths_of, parts_written}
+use Rattle.cidr_files.specs.Layout.{IsLaidOut, behind, counts_in, header, ipv4_counts, ipv4_parts, ipv4_sizes, ipv6_counts, ipv6_parts, ipv6_sizes, magic, parts_of, room_of, sizes_of, version, wide_words, words}
+use Rattle.cidr_files.specs.Spelling.{length-spelled, length-wide_bytes, length-word_bytes, spells_wide, spells_words, wide_bytes, word_bytes, words-spelled}
+use Rattle.cidr_files.specs.Tables.{AreOffsets, IsFile, IsSmall, IsTable, networks_in}
+use Rattle.cidr_files.specs.Written.{AreBelow, joined, spelled}
+use Rattle.cidr_files.specs.declared.contents.Contents.{Contents}
+use Rattle.cidr_files.specs.declared.layout.Counts.{Counts}
+use Rattle.cidr_files.proofs.Joined.{behind-joined, length-joined, parts_of-joined}
+
+module _ (a b : Counts) (ipv4 ipv6 : List (List ℕ)) (bytes : List ℕ) (below : AreBelow (2 ^ 32) (head_of a b))
+    (is : bytes ≡ spelled word_bytes (head_of a b) ++ (joined ipv4 ++ joined ipv6))
+    (sizes_a : map length ipv4 ≡ sizes_of 4 a) (sizes_b : map length ipv6 ≡ sizes_of 16 b) where
+  words_are : words bytes ≡ head_of a b ++ words (joined ipv4 ++ joined ipv6)
+  words_are = ap words is ∙ words-spelled (head_of a b) below (joined ipv4 ++ joined ipv6)
+
+  pub counts_a : ipv4_counts bytes ≡ a
+  counts_a = ap (λ ws. counts_in ws 4) words_are
+
+  pub counts_b : ipv6_counts bytes ≡ b
+  counts_b = ap (λ ws. counts_in ws 10) words_are
+
+  size_a : ipv4_sizes bytes ≡ map length ipv4
+  size_a = ap (sizes_of 4) counts_a ∙ sym sizes_a
+
+  size_b : ipv6_sizes bytes ≡ map length ipv6
+  size_b = ap (sizes_of 16) counts_b ∙ sym sizes_b
+
+  head_size : length (spelled word_bytes (head_of a b)) ≡ header
+  head_size = length-spelled word_bytes 4 length-word_bytes (head_of a b)
+
+  behind_head : drop header bytes ≡ joined ipv4 ++ joined ipv6
+  behind_head = ap (drop header) is ∙ drop_at (spelled word_bytes (head_of a b)) (joined ipv4 ++ joined ipv6) header head_size
+
+  pub parts_a : ipv4_parts bytes ≡ ipv4
+  parts_a = ap₂ parts_of size_a behind_head ∙ parts_of-joined ipv4 (joined ipv6)
+
+  pub parts_b : ipv6_parts bytes ≡ ipv6
+  parts_b =
+      ap₂ parts_of size_b (ap₂ behind size_a behind_head ∙ (behind-joined ipv4 (joined ipv6) ∙ sym (append-nil (joined ipv6))))
+      ∙ parts_of-joined ipv6 []
+
+  pub laid_out : IsLaidOut bytes
+  laid_out = record {
+    magic_is = ap (λ ws. get_or ws 0 0) words_are;
+    version_is = ap (λ ws. get_or ws 1 0) words_are;
+    long =
+        let rest = length-append (joined ipv4) (joined ipv6) in
+        let all = ap length is ∙ length-append (spelled word_bytes (head_of a b)) (joined ipv4 ++ joined ipv6) in
+        let rooms : room_of (ipv4_sizes bytes) + room_of (ipv6_sizes bytes) ≡ length (joined ipv4) + length (joined ipv6) =
+        ap₂ (λ x y. room_of x + room_of y) size_a size_b ∙ sym (ap₂ (λ x y. x + y) (length-joined ipv4) (length-joined ipv6)) in
+        omega (arith, all, rest, rooms, head_size);
+  }
+
+-- ---- the parts of a table
+-- networks are their addresses and their lengths
+zip-networks : {W : Type 0} (value : W → ℕ) (keys : List (Key W)) → zip (addresses_of value keys) (lengths_of keys) ≡ networks_of value keys
+zip-networks value [] = refl
+zip-networks value (key ∷ keys) = ap (λ rest. (value key.address, key.len) ∷ rest) (zip-networks value keys)
+
+-- the address of each key is that of a network, and so is its length
+address-network : {W : Type 0} (value : W → ℕ) (keys : List (Key W)) (i : ℕ) → i < length keys
+    → get_or (addresses_of value keys) i 0 ≡ (get_or (networks_of value keys) i (0, 0)).0
+address-network value [] i l = absurd (omega arith)
+address-network value (key ∷ keys) zero l = refl
+address-network value (key ∷ keys) (suc i) l = address-network value keys i (omega arith)
+
+length-network : {W : Type 0} (value : W → ℕ) (keys : List (Key W)) (i : ℕ) → i < length keys
+    → get_or (lengths_of keys) i 0 ≡ (get_or (networks_of value keys) i (0, 0)).1
+length-network value [] i l = absurd (omega arith)
+length-network value (key ∷ keys) zero l = refl
+length-network value (key ∷ keys) (suc i) l = length-network value keys i (omega arith)
+
+module _ {W : Type 0} (w : ℕ) (value : W → ℕ) (contents : Contents W) (good : AreContents w value contents) where
+  pub starts_below : AreBelow (2 ^ w) (map value contents.starts.now)
+  starts_below = λ k l. good.arrays.ranges.fits k l
+
+  pub addresses_below : AreBelow (2 ^ w) (addresses_of value contents.rows.now.keys.now)
+  addresses_below = λ k l.
+      let within : k < length contents.rows.now.keys.now = omega (arith, length-map contents.rows.now.keys.now (λ (key : Key W). value key.address)) in
+      omega (
+        arith,
+        address-network value contents.rows.now.keys.now k within,
+        (good.arrays.keys.each k (omega (arith, length_networks value contents.rows.now.keys.now))).within,
+      )
+
+  pub lengths_below : w ≤ 128 → AreBelow 256 (lengths_of contents.rows.now.keys.now)
+  lengths_below wide = λ k l.
+      let within : k < length contents.rows.now.keys.now = omega (arith, length-map contents.rows.now.keys.now (λ (key : Key W). key.len)) in
+      omega (
+        arith,
+        length-network value contents.rows.now.keys.now k within,
+        (good.arrays.keys.each k (omega (arith, length_networks value contents.rows.now.keys.now))).fits,
+      )
+
+  -- each range has its start, so that its answer is one of a row
+  pub answers_below : AreBelow (2 ^ 32) contents.answers.now
+  answers_below = λ k l.
+      let starts = map value contents.starts.now in
+      let within : k < length starts = omega (arith, good.arrays.ranges.both) in
+      let start = get_or starts k 0 in
+      let found = good.arrays.ranges.matches start k (good.arrays.ranges.fits k within)
+      (record { within = within; from = omega arith; last = λ i lt l'. good.arrays.ranges.ordered.ascending k i lt l' }) in
+      omega (
+        arith,
+        row_within w (networks_of value contents.rows.now.keys.now) (bits w start) (get_or contents.answers.now k 0) found,
+        length_networks value contents.rows.now.keys.now,
+        good.rows,
+      )
+
+  pub level_below : AreBelow (2 ^ 32) contents.level.now
+  level_below = λ k l. omega (arith, (good.arrays.entries k l).within, length-map contents.starts.now value, good.ranges)
+
+  pub offsets_below : AreBelow (2 ^ 32) contents.rows.now.offsets.now
+  offsets_below = λ k l.
+      let o = good.offsets in
+      omega (arith, o.many, o.ascending k (length contents.rows.now.keys.now) (omega (arith, o.many)) (omega arith), o.last, good.sizes)
+
+  module _ (size : ℕ) (numbers : List ℕ → List ℕ) (bytes : ℕ → List ℕ) (long : (n : ℕ) → length (bytes n) ≡ size)
+      (spells : (ns : List ℕ) → AreBelow (2 ^ w) ns → numbers (spelled bytes ns) ≡ ns) where
+    pub sizes_are : map length (parts_written value bytes contents) ≡ sizes_of size (counts_of contents)
+    sizes_are =
+        let c = contents in
+        let word = length-spelled word_bytes 4 length-word_bytes in
+        ap₂ ◌∷◌ (length-spelled bytes size long (map value c.starts.now) ∙ ap (λ n. size * n) (length-map c.starts.now value))
+        (ap₂ ◌∷◌ (word c.answers.now ∙ ap (λ n. 4 * n) (good.arrays.ranges.both ∙ length-map c.starts.now value))
+        (ap₂ ◌∷◌ (word c.level.now)
+        (ap₂ ◌∷◌ (length-spelled bytes size long (addresses_of value c.rows.now.keys.now) ∙ ap (λ n. size * n) (length-map c.rows.now.keys.now (λ (key : Key W). value key.address)))
+        (ap₂ ◌∷◌ (length-map c.rows.now.keys.now (λ (key : Key W). key.len))
+        (ap₂ ◌∷◌ (word c.rows.now.offsets.now ∙ ap (λ n. 4 * n) good.offsets.many) refl)))))
+
+    pub has_rows : HasRows numbers (parts_written value bytes contents) value contents.rows.now
+    has_rows = record {
+      networks_are =
+          ap (λ xs. zip xs (lengths_of contents.rows.now.keys.now)) (spells (addresses_of value contents.rows.now.keys.now) addresses_below)
+          ∙ zip-networks value contents.rows.now.keys.now;
+      offsets_are = spells_words contents.rows.now.offsets.now offsets_below;
+      values_are = refl;
+    }
+
+    pub is_table : IsTable w numbers (parts_written value bytes contents) contents.shift
+    is_table =
+        let h = has_rows in
+        let count : length (networks_in numbers (parts_written value bytes contents)) ≡ length contents.rows.now.keys.now =
+        ap length h.networks_are ∙ length_networks value contents.rows.now.keys.now in
+        let a : numbers (spelled bytes (map value contents.starts.now)) ≡ map value contents.starts.now = spells (map value contents.starts.now) starts_below in
+        let b = spells_words contents.answers.now answers_below in
+        let d = spells_words contents.level.now level_below in
+        record {
+          arrays =
+              subst (λ (xs : List (ℕ × ℕ)). Represents w xs (numbers (spelled bytes (map value contents.starts.now))) (words (spelled word_bytes contents.answers.now)) (words (spelled word_bytes contents.level.now)) contents.shift) (sym h.networks_are)
+              (subst (λ (xs : List ℕ). Represents w (networks_of value contents.rows.now.keys.now) xs (words (spelled word_bytes contents.answers.now)) (words (spelled word_bytes contents.level.now)) contents.shift) (sym a)
+              (subst (λ (xs : List ℕ). Represents w (networks_of value contents.rows.now.keys.now) (map value contents.starts.now) xs (words (spelled word_bytes contents.level.now)) contents.shift) (sym b)
+              (subst (λ (xs : List ℕ). Represents w (networks_of value contents.rows.now.keys.now) (map value contents.starts.now) contents.answers.now xs contents.shift) (sym d)
+              good.arrays)));
+          offsets =
+              subst (λ (n : ℕ). AreOffsets (words (spelled word_bytes contents.rows.now.offsets.now)) n (length contents.rows.now.values.now)) (sym count)
+              (subst (λ (xs : List ℕ). AreOffsets xs (length contents.rows.now.keys.now) (length contents.rows.now.values.now)) (sym h.offsets_are) good.offsets);
+        }
+
+-- ---- both tables
+below_more : (bound n : ℕ) (ns : List ℕ) → n < bound → AreBelow bound ns → AreBelow bound (n ∷ ns)
+below_more bound n ns first others zero l = first
+below_more bound n ns first others (suc k) l = others k (omega arith)
+
+none_below : (bound : ℕ) → AreBelow bound []
+none_below bound = λ k l. absurd (omega arith)
+
+-- the words of a header's counts
+counts_below : (c : Counts) (rest : List ℕ) → c.rows < 2 ^ 32 → c.ranges < 2 ^ 32 → c.entries < 2 ^ 32 → c.shift < 2 ^ 32 → c.values < 2 ^ 32 → AreBelow (2 ^ 32) rest
+    → AreBelow (2 ^ 32) (c.rows ∷ c.ranges ∷ c.entries ∷ c.shift ∷ c.values ∷ 0 ∷ rest)
+counts_below c rest rows ranges entries shift values others =
+    let bound = 2 ^ 32 in
+    below_more bound c.rows (c.ranges ∷ c.entries ∷ c.shift ∷ c.values ∷ 0 ∷ rest) rows
+    (below_more bound c.ranges (c.entries ∷ c.shift ∷ c.values ∷ 0 ∷ rest) ranges
+    (below_more bound c.entries (c.shift ∷ c.values ∷ 0 ∷ rest) entries
+    (below_more bound c.shift (c.values ∷ 0 ∷ rest) shift
+    (below_more bound c.values (0 ∷ rest) values
+    (below_more bound 0 rest (omega arith) others)))))
+
+module _ {A B : Type 0} (value_a : A → ℕ) (value_b : B → ℕ) (ipv4 : Contents A) (ipv6 : Contents B) (good_a : AreContents 32 value_a ipv4)
+    (good_b : AreContents 128 value_b ipv6) where
+  pub head_below : AreBelow (2 ^ 32) (head_of (counts_of ipv4) (counts_of ipv6))
+  head_below =
+      let a = counts_of ipv4 in
+      let b = counts_of ipv6 in
+      let bound = 2 ^ 32 in
+      let tail_b = counts_below b [] (omega (arith, good_b.rows)) good_b.ranges good_b.entries (omega (arith, good_b.shift_below)) good_b.sizes (none_below bound) in
+      let words_b = b.rows ∷ b.ranges ∷ b.entries ∷ b.shift ∷ b.values ∷ 0 ∷ [] in
+      let tail_a = counts_below a words_b (omega (arith, good_a.rows)) good_a.ranges good_a.entries (omega (arith, good_a.shift_below)) good_a.sizes tail_b in
+      let words_a = a.rows ∷ a.ranges ∷ a.entries ∷ a.shift ∷ a.values ∷ 0 ∷ words_b in
+      below_more bound magic (version ∷ 0 ∷ 0 ∷ words_a) (omega arith)
+      (below_more bound version (0 ∷ 0 ∷ words_a) (omega arith)
+      (below_more bound 0 (0 ∷ words_a) (omega arith) (below_more bound 0 words_a (omega arith) tail_a)))
+
+  module _ (bytes : List ℕ) (is : bytes ≡ spelled word_bytes (head_of (counts_of ipv4) (counts_of ipv6))
+      ++ (joined (parts_written value_a word_bytes ipv4) ++ joined (parts_written value_b wide_bytes ipv6))) where
+    pub is_file : IsFile bytes × IsSmall bytes × HasRows words (ipv4_parts bytes) value_a ipv4.rows.now × HasRows wide_words (ipv6_parts bytes) value_b ipv6.rows.now
+    is_file =
+        let a = counts_of ipv4 in
+        let b = counts_of ipv6 in
+        let p4 = parts_written value_a word_bytes ipv4 in
+        let p6 = parts_written value_b wide_bytes ipv6 in
+        let s4 = sizes_are 32 value_a ipv4 good_a 4 words word_bytes length-word_bytes spells_words in
+        let s6 = sizes_are 128 value_b ipv6 good_b 16 wide_words wide_bytes length-wide_bytes spells_wide in
+        let t4 = is_table 32 value_a ipv4 good_a 4 words word_bytes length-word_bytes spells_words in
+        let t6 = is_table 128 value_b ipv6 good_b 16 wide_words wide_bytes length-wide_bytes spells_wide in
+        let h4 = has_rows 32 value_a ipv4 good_a 4 words word_bytes length-word_bytes spells_words in
+        let h6 = has_rows 128 value_b ipv6 good_b 16 wide_words wide_bytes length-wide_bytes spells_wide in
+        let e4 = parts_a a b p4 p6 bytes head_below is s4 s6 in
+        let e6 = parts_b a b p4 p6 bytes head_below is s4 s6 in
+        let shift4 : (ipv4_counts bytes).shift ≡ ipv4.shift = ap (λ (c : Counts). c.shift) (counts_a a b p4 p6 bytes head_below is s4 s6) in
+        let shift6 : (ipv6_counts bytes).shift ≡ ipv6.shift = ap (λ (c : Counts). c.shift) (counts_b a b p4 p6 bytes head_below is s4 s6) in
+        let has4 : HasRows words (ipv4_parts bytes) value_a ipv4.rows.now = subst (λ (ps : List (List ℕ)). HasRows words ps value_a ipv4.rows.now) (sym e4) h4 in
+        let has6 : HasRows wide_words (ipv6_parts bytes) value_b ipv6.rows.now = subst (λ (ps : List (List ℕ)). HasRows wide_words ps value_b ipv6.rows.now) (sym e6) h6 in (
+          record {
+            laid_out = laid_out a b p4 p6 bytes head_below is s4 s6;
+            ipv4 = subst (λ (ps : List (List ℕ)). IsTable 32 words ps (ipv4_counts bytes).shift) (sym e4) (subst (λ (n : ℕ). IsTable 32 words p4 n) (sym shift4) t4);
+            ipv6 = subst (λ (ps : List (List ℕ)). IsTable 128 wide_words ps (ipv6_counts bytes).shift) (sym e6) (subst (λ (n : ℕ). IsTable 128 wide_words p6 n) (sym shift6) t6);
+          },
+          record {
+            ipv4_rows = omega (arith, ap length has4.networks_are, length_networks value_a ipv4.rows.now.keys.now, good_a.rows);
+            ipv4_shift = omega (arith, shift4, good_a.shift_below);
+            ipv6_rows = omega (arith, ap length has6.networks_are, length_networks value_b ipv6.rows.now.keys.now, good_b.rows);
+            ipv6_shift = omega (arith, shift6, good_b.shift_below);
+          },
+          has4,
+          has6,
+        )

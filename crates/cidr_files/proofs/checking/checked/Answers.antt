@@ -1,0 +1,29 @@
+use Rattle.std.proofs.Common.{subst, List, ℕ}
+use Rattle.cidr_files.specs.Faults.{IsTableFault}
+use Rattle.cidr_files.specs.Layout.{ipv4_counts, ipv6_counts, wide_words, words}
+use Rattle.cidr_files.specs.Tables.{IsTable, parts_in}
+use Rattle.cidr_files.proofs.checking.checked.Goals as goal
+
+pub returns-in-Err-clause-refused : goal.returns-in-Err-clause-refused
+returns-in-Err-clause-refused c =
+    let t = c.in_ok-table.table in
+    let cut = c.in_ok-table.ensures.cut in
+    let bytes = c.args.bytes.now in
+    let fault = c.in-Err.fault in (
+      c.in_ok-table.ensures.laid_out,
+      subst (λ (ps : List (List ℕ)). IsTableFault 32 words ps (ipv4_counts bytes).shift fault) cut.ipv4
+      (subst (λ (n : ℕ). IsTableFault 32 words (parts_in t.ipv4) n fault) cut.ipv4_shift c.in-Err.ensures.refused),
+    )
+
+pub returns-in-Err-check-clause-refused : goal.returns-in-Err-check-clause-refused
+returns-in-Err-check-clause-refused c =
+    let t = c.in_ok-table.table in
+    let cut = c.in_ok-table.ensures.cut in
+    let bytes = c.args.bytes.now in
+    let fault = c.in-Err-check.fault in (
+      c.in_ok-table.ensures.laid_out,
+      subst (λ (ps : List (List ℕ)). IsTable 32 words ps (ipv4_counts bytes).shift) cut.ipv4
+      (subst (λ (n : ℕ). IsTable 32 words (parts_in t.ipv4) n) cut.ipv4_shift c.in_default.ensures.table),
+      subst (λ (ps : List (List ℕ)). IsTableFault 128 wide_words ps (ipv6_counts bytes).shift fault) cut.ipv6
+      (subst (λ (n : ℕ). IsTableFault 128 wide_words (parts_in t.ipv6) n fault) cut.ipv6_shift c.in-Err-check.ensures.refused),
+    )

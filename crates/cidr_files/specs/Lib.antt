@@ -1,0 +1,10 @@
+-- What has to be believed: where the parts of a file lie (`Layout`), what they say (`Tables`), what is wrong with other bytes
+-- (`Faults`) and what is written (`Contents`). `Written` is what private functions promise each other; `FaultLaws` and
+-- `Spelling` are checked and not believed.
+pub mod Layout
+pub mod Tables
+pub mod Faults
+pub mod Contents
+pub mod Written
+pub mod Spelling
+pub mod FaultLaws

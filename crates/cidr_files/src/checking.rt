@@ -1,0 +1,116 @@
+//! Whether the parts of a file are tables.
+ghost use Rattle.std.specs.Prelude.{◌≡◌, ◌↔◌, ◌^◌, ◌<◌, map, zip, IfErr, IfOk, IsTrue};
+ghost use Rattle.cidr_arrays.specs.Arrays.{networks_of};
+ghost use Rattle.cidr_files.specs.Faults.{IsFault, IsTableFault};
+ghost use Rattle.cidr_files.specs.Layout.{words};
+ghost use Rattle.cidr_files.specs.Tables.{AreOffsets, IsCut, IsFile, IsTable, parts_in};
+
+use crate::family::{Family, Ipv4Bytes, Ipv6Bytes};
+use crate::faults::{Fault, TableFault};
+use crate::layout::{Part, Table};
+use crate::opening::open;
+use cidr_arrays::{Index, Key, Word};
+use std::alloc::{AllocError, Global};
+
+/// The tables of a file, which are checked: one pass over its bytes. The error is the first of those that [`Fault`] names,
+/// in its order.
+pub fn checked(alloc: Global, bytes: &[u8]) -> Result<Table<'_>, Fault>
+    ensures file { IfOk result (λ _. IsFile bytes.now) }
+    ensures cut { IfOk result (IsCut bytes.now) }
+    ensures refused { IfErr result (IsFault bytes.now) }
+{
+    let table = open(bytes)?;
+    if let Err(fault) = check::<Ipv4Bytes>(alloc, &table.ipv4) {
+        return Err(Fault::Ipv4(fault));
+    }
+    if let Err(fault) = check::<Ipv6Bytes>(alloc, &table.ipv6) {
+        return Err(Fault::Ipv6(fault));
+    }
+    Ok(table)
+}
+
+/// Whether the parts are a table: the arrays are those of the keys, and the values lie one behind the other. It asks for
+/// memory for the keys, the answers and the first level.
+pub fn check<W: Family>(alloc: Global, part: &Part<'_>) -> Result<(), TableFault>
+    ensures table { IfOk result (λ _. IsTable W.width W.numbers (parts_in part.now) part.now.shift) }
+    ensures refused { IfErr result (IsTableFault W.width W.numbers (parts_in part.now) part.now.shift) }
+{
+    let starts = W::addresses(part.starts);
+    let addresses = W::addresses(part.addresses);
+    let Ok(keys) = keys_of(alloc, addresses, part.lengths) else {
+        return Err(TableFault::NoMemory);
+    };
+    let Ok(answers) = numbers_of(alloc, part.answers) else {
+        return Err(TableFault::NoMemory);
+    };
+    let Ok(level) = numbers_of(alloc, part.level) else {
+        return Err(TableFault::NoMemory);
+    };
+    if let Err(fault) = cidr_arrays::check(
+        keys.as_slice(),
+        starts,
+        answers.as_slice(),
+        level.as_slice(),
+        part.shift,
+    ) {
+        return Err(TableFault::Arrays(fault));
+    }
+    let (offsets, _) = part.offsets.as_chunks::<4>();
+    if !are_offsets(offsets, keys.len(), part.values.len()) {
+        return Err(TableFault::Offsets);
+    }
+    Ok(())
+}
+
+/// The keys of addresses and lengths.
+fn keys_of<W: Word>(
+    alloc: Global,
+    addresses: &[W],
+    lengths: &[u8],
+) -> Result<Vec<Key<W>>, AllocError>
+    ensures { IfOk result (λ keys. networks_of W.value keys.items ≡ zip (map W.value addresses.now) lengths.now) }
+{
+    let count = addresses.len().min(lengths.len());
+    let mut keys = Vec::with_capacity(alloc, count)?;
+    for i in 0..count {
+        keys.push(Key {
+            address: addresses[i],
+            len: u32::from(lengths[i]),
+        })?;
+    }
+    Ok(keys)
+}
+
+/// The numbers that bytes spell.
+fn numbers_of(alloc: Global, bytes: &[u8]) -> Result<Vec<u32>, AllocError>
+    ensures { IfOk result (λ numbers. numbers.items ≡ words bytes.now) }
+{
+    let (spelled, _) = bytes.as_chunks::<4>();
+    let mut numbers = Vec::with_capacity(alloc, spelled.len())?;
+    for i in 0..spelled.len() {
+        numbers.push(u32::from_le_bytes(spelled[i]))?;
+    }
+    Ok(numbers)
+}
+
+/// Whether they are offsets of so many values, which lie one behind the other and have so many bytes.
+pub(crate) fn are_offsets<I: Index>(offsets: &[I], rows: usize, size: usize) -> bool
+    requires { rows < 2 ^ 63 }
+    ensures { IsTrue result ↔ AreOffsets (map I.place offsets.now) rows size }
+{
+    if offsets.len() != rows + 1 {
+        return false;
+    }
+    if offsets[0].as_index() != 0 {
+        return false;
+    }
+    let mut before = 0;
+    for i in 0..offsets.len() {
+        let offset = offsets[i].as_index();
+        if offset < before {
+            return false;
+        }
+        before = offset;
+    }
+    before == size
+}

@@ -1,0 +1,47 @@
+//! What is written in a file.
+ghost use Rattle.std.specs.Prelude.{◌≡◌, ◌^◌, ◌<◌, length};
+ghost use Rattle.cidr_files.specs.Contents.{counts_of};
+
+use crate::layout::Counts;
+use cidr_arrays::Key;
+
+/// The rows of a table: networks, and a value for each.
+pub struct Rows<'a, W> {
+    /// The networks, by first address and then by length.
+    pub keys: &'a [Key<W>],
+    /// Where the value of each begins, and last where they end.
+    pub offsets: &'a [u32],
+    /// The values, one behind the other.
+    pub values: &'a [u8],
+}
+
+/// A table: its rows, and the arrays of their networks.
+pub struct Contents<'a, W> {
+    /// The rows.
+    pub rows: &'a Rows<'a, W>,
+    /// The first addresses of the ranges.
+    pub starts: &'a [W],
+    /// The answers of these.
+    pub answers: &'a [u32],
+    /// The first level.
+    pub level: &'a [u32],
+    /// Its shift.
+    pub shift: u32,
+}
+
+/// Their counts.
+pub(crate) fn counts_of<W>(contents: &Contents<'_, W>) -> Counts
+    requires rows { length contents.now.rows.now.keys.now < 2 ^ 32 }
+    requires ranges { length contents.now.starts.now < 2 ^ 32 }
+    requires entries { length contents.now.level.now < 2 ^ 32 }
+    requires values { length contents.now.rows.now.values.now < 2 ^ 32 }
+    ensures { result ≡ counts_of contents.now }
+{
+    Counts {
+        rows: contents.rows.keys.len() as u32,
+        ranges: contents.starts.len() as u32,
+        entries: contents.level.len() as u32,
+        shift: contents.shift,
+        values: contents.rows.values.len() as u32,
+    }
+}

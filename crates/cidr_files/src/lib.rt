@@ -1,0 +1,24 @@
+//! Look-up tables in files: the longest match of an address, with its value, out of bytes that are read or mapped.
+//!
+//! A file has a table of IPv4 networks and one of IPv6 networks, each row with a value of any bytes. [`open`] reads the
+//! header and cuts the bytes into parts, [`check`] says whether these are a table, and [`lookup`] reads some of their
+//! bytes. README.md describes a file to the byte.
+#![tactic(auto)]
+
+mod checking;
+mod contents;
+mod family;
+mod faults;
+mod layout;
+mod looking;
+mod opening;
+mod writing;
+
+pub use checking::{check, checked};
+pub use contents::{Contents, Rows};
+pub use family::{Family, Ipv4Bytes, Ipv6Bytes};
+pub use faults::{Fault, TableFault};
+pub use layout::{Counts, Part, Table};
+pub use looking::{has, lookup};
+pub use opening::open;
+pub use writing::file_of;
