@@ -1,5 +1,5 @@
 -- Parts that are written one behind the other are cut into these parts again.
-use Rattle.std.proofs.Common.{◌≡◌, refl, sym, ◌∙◌, ap, ap₂, subst, arith, ℕ, ◌+◌, ◌-◌, ◌*◌, ◌/◌, ◌%◌, ◌≤◌, List, [], ◌∷◌, ◌++◌, append_assoc, length, map, drop, take, replicate}
+use Rattle.std.proofs.Common.{◌≡◌, refl, ◌∙◌, ap, ap₂, arith, ℕ, ◌+◌, ◌%◌, List, [], ◌∷◌, ◌++◌, append_assoc, length, map, drop, take, replicate}
 use Rattle.std.proofs.lemmas.List.{drop_at, length-append, length-replicate, take_at}
 use Rattle.cidr_files.specs.Layout.{behind, padded, parts_of, room_of}
 use Rattle.cidr_files.specs.Written.{filled, free, joined}

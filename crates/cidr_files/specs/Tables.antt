@@ -1,6 +1,6 @@
 -- What the parts of a table say: `parts` are the seven of `sizes_of`, `numbers` the addresses that bytes spell, and w how
 -- many bits an address has.
-use Rattle.std.specs.Prelude.{◌≡◌, ℕ, ◌+◌, ◌^◌, ◌<◌, ◌≤◌, List, [], ◌∷◌, length, map, slice_index_or, slice_range, zip}
+use Rattle.std.specs.Prelude.{◌≡◌, ℕ, ◌+◌, ◌^◌, ◌<◌, ◌≤◌, List, [], ◌∷◌, length, slice_index_or, slice_range, zip}
 use Rattle.cidr_arrays.specs.Arrays.{Represents}
 use Rattle.cidr_files.specs.Layout.{IsLaidOut, ipv4_counts, ipv4_parts, ipv6_counts, ipv6_parts, wide_words, words}
 use Rattle.cidr_files.specs.declared.layout.Part.{Part}

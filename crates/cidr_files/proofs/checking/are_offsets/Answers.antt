@@ -1,4 +1,4 @@
-use Rattle.std.proofs.Common.{◌≡◌, sym, ◌∙◌, ap, arith, inl, inr, eq-eqb, IsTrue, nat_eq, ℕ, ◌+◌, ◌-◌, ◌<◌, ◌≤◌, length, get_or, map}
+use Rattle.std.proofs.Common.{◌≡◌, sym, ◌∙◌, ap, arith, inl, inr, eq-eqb, IsTrue, nat_eq, ℕ, ◌+◌, ◌-◌, length, get_or, map}
 use Rattle.std.proofs.lemmas.Bool.{cases_eq, false≢true}
 use Rattle.std.proofs.lemmas.Bool.Decides.{nat_tests}
 use Rattle.std.proofs.lemmas.List.{length-map}

@@ -12,8 +12,13 @@ returns-clause-within g c =
     let p = c.args.part.now in
     let networks = networks_in g.W.Family.numbers (parts_in p) in
     let rows : length networks ≡ c.min-rows.result =
-    omega (arith, length-zip (g.W.Family.numbers p.addresses.now) p.lengths.now, ap length c.addresses-addresses.ensures,
-    length-map c.addresses-addresses.result.now g.W.Word.value, c.min-rows.ensures) in
+    omega (
+      arith,
+      length-zip (g.W.Family.numbers p.addresses.now) p.lengths.now,
+      ap length c.addresses-addresses.ensures,
+      length-map c.addresses-addresses.result.now g.W.Word.value,
+      c.min-rows.ensures,
+    ) in
     subst (λ (n : ℕ). IfSome c.longest_match.result (λ row. row < n)) (sym rows) c.longest_match.ensures.within
 
 pub returns-clause-longest : goal.returns-clause-longest
@@ -25,8 +30,13 @@ returns-clause-longest g c = λ good.
     let answers : map (from_le_bytes w32) c.as_chunks.result.0.now ≡ words p.answers.now = ap (map (from_le_bytes w32)) c.as_chunks.ensures.front in
     let level : map (from_le_bytes w32) c.as_chunks-2.result.0.now ≡ words p.level.now = ap (map (from_le_bytes w32)) c.as_chunks-2.ensures.front in
     let rows : length networks ≡ c.min-rows.result =
-    omega (arith, length-zip (g.W.Family.numbers p.addresses.now) p.lengths.now, ap length c.addresses-addresses.ensures,
-    length-map c.addresses-addresses.result.now g.W.Word.value, c.min-rows.ensures) in
+    omega (
+      arith,
+      length-zip (g.W.Family.numbers p.addresses.now) p.lengths.now,
+      ap length c.addresses-addresses.ensures,
+      length-map c.addresses-addresses.result.now g.W.Word.value,
+      c.min-rows.ensures,
+    ) in
     c.longest_match.ensures.longest networks rows
     (subst (λ (xs : List ℕ). Represents w networks xs (map (from_le_bytes w32) c.as_chunks.result.0.now) (map (from_le_bytes w32) c.as_chunks-2.result.0.now) p.shift) (sym starts.ensures)
     (subst (λ (xs : List ℕ). Represents w networks (g.W.Family.numbers p.starts.now) xs (map (from_le_bytes w32) c.as_chunks-2.result.0.now) p.shift) (sym answers)

@@ -1,4 +1,4 @@
-use Rattle.std.proofs.Common.{◌≡◌, ◌∙◌, ap, arith, ◌+◌, ◌%◌, length}
+use Rattle.std.proofs.Common.{◌≡◌, ◌∙◌, ap, arith, ◌+◌, length}
 use Rattle.std.proofs.lemmas.List.{length-append}
 use Rattle.cidr_files.specs.Contents.{head_of}
 use Rattle.cidr_files.specs.Spelling.{length-spelled, length-word_bytes, word_bytes}

@@ -1,5 +1,4 @@
 use Rattle.std.proofs.Common.{◌∙◌, ap, arith, ◌++◌, take_all}
-use Rattle.cidr_arrays.specs.declared.key.Key.{Key}
 use Rattle.cidr_files.specs.Contents.{addresses_of}
 use Rattle.cidr_files.specs.Written.{spelled}
 use Rattle.cidr_files.proofs.Putting.{none_put, number_more}
