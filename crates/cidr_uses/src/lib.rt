@@ -27,6 +27,7 @@ pub mod prefix_tree;
 pub mod ranges_and_back;
 pub mod read_back;
 pub mod reading;
+pub mod ready_sets;
 pub mod route_hits;
 pub mod routing_table;
 pub mod strict_parsers;
