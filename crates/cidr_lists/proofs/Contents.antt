@@ -1,20 +1,21 @@
 -- What a line says, and its networks.
-use Rattle.std.proofs.Common.{◌≡◌, ◌≢◌, refl, sym, ◌∙◌, ap, ℕ, ◌==◌, Bool, true, false, List, [], ◌∷◌, ◌++◌, length, map, arith, ◌⊎◌, Result, Ok, Err}
+use Rattle.std.proofs.Common.{◌≡◌, ◌≢◌, refl, sym, ◌∙◌, ap, inl, inr, ℕ, ◌==◌, Bool, true, false, List, [], ◌∷◌, ◌++◌, length, map, arith, Result, Ok, Err}
 use Rattle.std.specs.Result.{OnOk}
 use Rattle.std.proofs.lemmas.List.{append-nil, map-id}
 use Rattle.std.proofs.lemmas.Bool.Decides.{Decides-eqb}
 use Rattle.std.specs.Ordering.{is_gt}
 use Rattle.std.specs.declared.cmp.Ordering.{Ordering}
 use Rattle.std.specs.declared.cmp.Ordering.TheVariants.{Less, Equal, Greater}
+use Rattle.cidr.specs.either.IpAddress.{IsIpText}
+use Rattle.cidr.specs.declared.addr.ip.IpAddr.{IpAddr}
 use Rattle.cidr.specs.declared.cidr.combined.IpCidr.{IpCidr}
 use Rattle.cidr.specs.declared.cidr.combined.IpCidr.TheVariants.{V4, V6}
 use Rattle.cidr.specs.declared.family.Family.TheVariants.{Ipv4, Ipv6}
-use Rattle.cidr.specs.texts.Messages.{ip_error}
 use Rattle.cidr.specs.texts.Refusal.{Lacks}
 use Rattle.cidr_sets.specs.Ranges.{IsBetween}
 use Rattle.cidr_sets.specs.Sets.{IsSetOf}
-use Rattle.cidr_lists.specs.Lists.{IsNoAddress, hyphen, network_in}
-use Rattle.cidr_lists.specs.Reading.{AddsContent, Grows, ReadsField}
+use Rattle.cidr_lists.specs.Lists.{IsFieldError, hyphen, network_in}
+use Rattle.cidr_lists.specs.Reading.{AddsContent, Grows, IsNoEnd, ReadsField}
 use Rattle.cidr_lists.specs.declared.errors.LineError.{LineError}
 use Rattle.cidr_lists.specs.declared.errors.LineError.TheVariants.{NoAddress}
 use Rattle.cidr_lists.specs.declared.lines.HostBits.{HostBits}
@@ -99,6 +100,17 @@ adds_v6 first last old new (Ok t) (range, set, six) four =
     (map (λ (p : List Bool). V6 p) range, (range, plain, refl), grows)
 
 -- ---- an end that is no address
-pub no_end : (bits : HostBits) (field front back : List ℕ) (r : Result Content LineError) (y e : LineError) → r ≡ Err y → y ≡ e → e ≡ NoAddress ip_error
-    → field ≡ front ++ hyphen ∷ back → Lacks hyphen front → IsNoAddress front ⊎ IsNoAddress back → ReadsField bits field r
-no_end bits field front back r y e is same none split lacks bad = rw (is, same, none) (front, back, split, lacks, refl, bad)
+module _ (bits : HostBits) (field front back : List ℕ) (split : field ≡ front ++ hyphen ∷ back) (lacks : Lacks hyphen front) where
+  first_error : (e : LineError) → IsNoEnd front e → IsFieldError bits field e
+  first_error (NoAddress bad e) none = (front, back, split, lacks, inl none)
+  first_error e none = absurd none
+
+  last_error : (e : LineError) (first : IpAddr) → IsIpText front first → IsNoEnd back e → IsFieldError bits field e
+  last_error (NoAddress bad e) first is none = (front, back, split, lacks, inr (first, is, none))
+  last_error e first is none = absurd none
+
+  pub no_first : (r : Result Content LineError) (y e : LineError) → r ≡ Err y → y ≡ e → IsNoEnd front e → ReadsField bits field r
+  no_first r y e is same none = rw (is, same) (first_error e none)
+
+  pub no_last : (r : Result Content LineError) (y e : LineError) (first : IpAddr) → r ≡ Err y → y ≡ e → IsIpText front first → IsNoEnd back e → ReadsField bits field r
+  no_last r y e first is same begins none = rw (is, same) (last_error e first begins none)

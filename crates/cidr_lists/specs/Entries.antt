@@ -3,7 +3,9 @@ use Rattle.std.specs.Prelude.{◌≡◌, ◌≢◌, ◌↔◌, ℕ, ◌+◌, Lis
 use Rattle.cidr.specs.either.IpText.{IsIpHostText, IsIpHostRefused, ip_host_text}
 use Rattle.cidr.specs.texts.Printed.{plain_host_text}
 use Rattle.cidr.specs.declared.inet.combined.IpInet.{IpInet}
+use Rattle.cidr_io.specs.Shown.{byte_excerpt}
 use Rattle.cidr_lists.specs.Lists.{Text, lines_of, IsBadLineBy, IsField, IsFirstBad, IsTooLong}
+use Rattle.cidr_lists.specs.Messages.{Shows}
 use Rattle.cidr_lists.specs.declared.entries.Entry.{Entry}
 use Rattle.cidr_lists.specs.declared.errors.LineError.{LineError}
 use Rattle.cidr_lists.specs.declared.errors.LineError.TheVariants.{NotUtf8, NoNetwork}
@@ -34,11 +36,11 @@ AreAllEntries (file ∷ files) [] entries = ⊥
 AreAllEntries (file ∷ files) (text ∷ texts) entries = (these : List Entry) × (those : List Entry)
     × AreEntries file 1 (lines_of text.bytes) these × AreAllEntries files texts those × (entries ≡ these ++ those)
 
--- the field is not UTF-8, or neither a network nor a host, and this is the first error
+-- the field is not UTF-8, or neither a network nor a host, and this is the first error, with the field
 abbrev pub IsNoHostField : List ℕ → LineError → Type 0
-IsNoHostField line NotUtf8 = (field : List ℕ) × IsField line field × ¬ (IsUtf8 field)
-IsNoHostField line (NoNetwork e) =
-    (field : List ℕ) × IsField line field × (field ≢ []) × IsIpHostRefused field e × ((h : IpInet) → ¬ (IsIpHostText field h))
+IsNoHostField line (NotUtf8 text) = (field : List ℕ) × IsField line field × ¬ (IsUtf8 field) × (text.bytes ≡ byte_excerpt field)
+IsNoHostField line (NoNetwork bad e) = (field : List ℕ) × IsField line field × (field ≢ []) × IsIpHostRefused field e
+    × ((h : IpInet) → ¬ (IsIpHostText field h)) × Shows field bad
 IsNoHostField line e = ⊥
 
 -- the line is in error

@@ -3,8 +3,9 @@ use Rattle.std.specs.Prelude.{ℕ, List, [], Option, Some, None, ◌≡◌, ◌�
 use Rattle.std.specs.Str.{IsTrimAscii}
 use Rattle.cidr.specs.either.IpText.{IsIpNetworkText}
 use Rattle.cidr.specs.declared.cidr.combined.IpCidr.{IpCidr}
-use Rattle.cidr.specs.texts.Messages.{ip_error}
-use Rattle.cidr_lists.specs.Lists.{IsFirstField, SaysNothing, IsBadLineBy, IsField, IsNoAddress, IsNoNetworkBy}
+use Rattle.cidr_io.specs.Shown.{byte_excerpt}
+use Rattle.cidr_lists.specs.Lists.{IsFirstField, SaysNothing, IsBadLineBy, IsField, IsNoAddressBy, IsNoNetworkBy}
+use Rattle.cidr_lists.specs.Messages.{Shows}
 use Rattle.cidr_lists.specs.declared.errors.LineError.{LineError}
 use Rattle.cidr_lists.specs.declared.lines.HostBits.TheVariants.{Refused}
 use Rattle.cidr_lists.specs.declared.errors.LineError.TheVariants.{NotUtf8, NoNetwork, NoAddress}
@@ -15,10 +16,10 @@ abbrev pub FieldSays : List ℕ → Option IpCidr → Type 0
 FieldSays line None = (field : List ℕ) × IsFirstField line field × SaysNothing field
 FieldSays line (Some network) = (field : List ℕ) × IsFirstField line field × IsIpNetworkText field network
 
--- the first field is no network, and this is the error
+-- the first field is no network, and this is the error, with the field
 abbrev pub IsNoNetworkField : HostBits → List ℕ → LineError → Type 0
-IsNoNetworkField bits first NotUtf8 = ¬ (IsUtf8 first)
-IsNoNetworkField bits first (NoNetwork e) = IsNoNetworkBy bits first e
+IsNoNetworkField bits first (NotUtf8 text) = ¬ (IsUtf8 first) × (text.bytes ≡ byte_excerpt first)
+IsNoNetworkField bits first (NoNetwork bad e) = IsNoNetworkBy bits first e × Shows first bad
 IsNoNetworkField bits first e = ⊥
 
 -- the first field is in error: it says something, and no network
@@ -42,10 +43,10 @@ IsRowSplit line first value = (field : List ℕ) × IsTrimAscii line field × ¬
 abbrev pub IsNoRow : List ℕ → Type 0
 IsNoRow line = (field : List ℕ) × IsTrimAscii line field × SaysNothing field
 
--- the first field is no address, and this is the error
+-- the first field is no address, and this is the error, with the field
 abbrev pub IsNoAddressField : List ℕ → LineError → Type 0
-IsNoAddressField first NotUtf8 = ¬ (IsUtf8 first)
-IsNoAddressField first (NoAddress e) = (e ≡ ip_error) × IsNoAddress first
+IsNoAddressField first (NotUtf8 text) = ¬ (IsUtf8 first) × (text.bytes ≡ byte_excerpt first)
+IsNoAddressField first (NoAddress bad e) = IsNoAddressBy first bad e
 IsNoAddressField first e = ⊥
 
 -- the row of a table is in error by its first field

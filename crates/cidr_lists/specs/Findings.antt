@@ -10,6 +10,7 @@ use Rattle.cidr.specs.texts.Printed.{plain_host_text, plain_text}
 use Rattle.cidr.specs.declared.cidr.combined.IpCidr.{IpCidr}
 use Rattle.cidr.specs.declared.inet.combined.IpInet.{IpInet}
 use Rattle.cidr_ext.specs.Tree.{AreSiblings}
+use Rattle.cidr_io.specs.Shown.{shown}
 use Rattle.cidr_lists.specs.Printing.{line}
 use Rattle.cidr_lists.specs.declared.entries.Entry.{Entry}
 use Rattle.cidr_lists.specs.declared.entries.Place.{Place}
@@ -86,9 +87,9 @@ module _ (entries : List Entry) where
     pub all : (note : Note) → Contains notes note ↔ IsNote note
     pub ordered : IsStrictlyIncreasing (map order notes)
 
--- FILE:LINE
+-- FILE:LINE, the name of the file as it is shown in a message
 abbrev pub place_text : Place → List ℕ
-place_text place = place.file.now ++ (codes ":" ++ decimal place.number)
+place_text place = shown place.file.now ++ (codes ":" ++ decimal place.number)
 
 abbrev pub finding_text : Finding → List ℕ
 finding_text HostBits = codes "host bits set"

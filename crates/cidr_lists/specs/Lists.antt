@@ -10,6 +10,7 @@ use Rattle.cidr.specs.either.IpAddress.{IsIpText, address_family, ip_address_bit
 use Rattle.cidr.specs.either.IpHost.{host_network}
 use Rattle.cidr.specs.either.IpText.{IsIpHostRefused, IsIpHostText, IsIpNetworkText, IsIpRefused}
 use Rattle.cidr.specs.model.Bits.{bit_cmp}
+use Rattle.cidr.specs.model.Errors.{AddressError}
 use Rattle.cidr.specs.texts.Messages.{ip_error}
 use Rattle.cidr.specs.texts.Refusal.{Lacks}
 use Rattle.cidr.specs.declared.addr.ip.IpAddr.{IpAddr}
@@ -20,8 +21,11 @@ use Rattle.cidr.specs.declared.errors.NetworkParseError.{NetworkParseError}
 use Rattle.cidr.specs.declared.family.Family.{Family}
 use Rattle.cidr.specs.declared.family.Family.TheVariants.{Ipv4, Ipv6}
 use Rattle.cidr.specs.declared.inet.combined.IpInet.{IpInet}
+use Rattle.cidr_io.specs.Shown.{byte_excerpt, excerpt}
 use Rattle.cidr_sets.specs.Ranges.{IsBetween}
 use Rattle.cidr_sets.specs.Sets.{IsSetOf}
+use Rattle.cidr_lists.specs.Messages.{Shows}
+use Rattle.cidr_lists.specs.declared.errors.BadText.{BadText}
 use Rattle.cidr_lists.specs.declared.errors.LineError.{LineError}
 use Rattle.cidr_lists.specs.declared.errors.LineError.TheVariants.{TooLong, NotUtf8, NoNetwork, NoAddress, TwoFamilies, Reversed}
 use Rattle.cidr_lists.specs.declared.lines.HostBits.{HostBits}
@@ -122,19 +126,24 @@ abbrev pub IsNoNetworkBy : HostBits → List ℕ → NetworkParseError → Type 
 IsNoNetworkBy Refused text e = IsIpRefused text e × ((n : IpCidr) → ¬ (IsIpNetworkText text n))
 IsNoNetworkBy Cleared text e = IsIpHostRefused text e × ((h : IpInet) → ¬ (IsIpHostText text h))
 
--- the first error of a field: it is not UTF-8; else, without a hyphen, it is no network, and this is the first error;
--- else what stands before its first hyphen is no address, or what stands behind it; else the two are of two families;
--- else the first is above the last
+-- the string is no address: its beginning and its fault, and the error
+abbrev pub IsNoAddressBy : List ℕ → BadText → AddressError → Type 0
+IsNoAddressBy text bad e = IsNoAddress text × (e ≡ ip_error) × Shows text bad
+
+-- the first error of a field, with the string that is wrong: it is not UTF-8; else, without a hyphen, it is no network,
+-- and this is the first error; else what stands before its first hyphen is no address, or else what stands behind it;
+-- else the two are of two families; else the first is above the last
 abbrev pub IsFieldError : HostBits → List ℕ → LineError → Type 0
 IsFieldError bits field TooLong = ⊥
-IsFieldError bits field NotUtf8 = ¬ (IsUtf8 field)
-IsFieldError bits field (NoNetwork e) = (field ≢ []) × Lacks hyphen field × IsNoNetworkBy bits field e
-IsFieldError bits field (NoAddress e) = (front : List ℕ) × (back : List ℕ) × (field ≡ front ++ hyphen ∷ back) × Lacks hyphen front
-    × (e ≡ ip_error) × (IsNoAddress front ⊎ IsNoAddress back)
-IsFieldError bits field TwoFamilies =
-    (first : IpAddr) × (last : IpAddr) × AreEnds field first last × (address_family first ≢ address_family last)
-IsFieldError bits field Reversed = (first : IpAddr) × (last : IpAddr) × AreEnds field first last
+IsFieldError bits field (NotUtf8 text) = ¬ (IsUtf8 field) × (text.bytes ≡ byte_excerpt field)
+IsFieldError bits field (NoNetwork bad e) = (field ≢ []) × Lacks hyphen field × IsNoNetworkBy bits field e × Shows field bad
+IsFieldError bits field (NoAddress bad e) = (front : List ℕ) × (back : List ℕ) × (field ≡ front ++ hyphen ∷ back) × Lacks hyphen front
+    × (IsNoAddressBy front bad e ⊎ ((first : IpAddr) × IsIpText front first × IsNoAddressBy back bad e))
+IsFieldError bits field (TwoFamilies text) = (first : IpAddr) × (last : IpAddr) × AreEnds field first last
+    × (address_family first ≢ address_family last) × (text.bytes ≡ excerpt field)
+IsFieldError bits field (Reversed text) = (first : IpAddr) × (last : IpAddr) × AreEnds field first last
     × (address_family first ≡ address_family last) × (bit_cmp (ip_address_bits first) (ip_address_bits last) ≡ Greater)
+    × (text.bytes ≡ excerpt field)
 
 -- the line is in error: it is too long, or it is not, and the error is that of its bytes
 abbrev pub IsBadLineBy : (List ℕ → LineError → Type 0) → List ℕ → LineError → Type 0

@@ -3,11 +3,17 @@ use Rattle.std.specs.Prelude.{◌≡◌, ℕ, Bool, List, ◌++◌, Result, Matc
 use Rattle.cidr.specs.declared.cidr.combined.IpCidr.{IpCidr}
 use Rattle.cidr.specs.declared.family.Family.{Family}
 use Rattle.cidr.specs.declared.family.Family.TheVariants.{Ipv4, Ipv6}
-use Rattle.cidr_lists.specs.Lists.{IsField, IsContent, IsFieldError, AreNetworks, network_in}
+use Rattle.cidr_lists.specs.Lists.{IsField, IsContent, IsFieldError, IsNoAddressBy, AreNetworks, network_in}
 use Rattle.cidr_lists.specs.declared.errors.LineError.{LineError}
+use Rattle.cidr_lists.specs.declared.errors.LineError.TheVariants.{NoAddress}
 use Rattle.cidr_lists.specs.declared.lines.Content.{Content}
 use Rattle.cidr_lists.specs.declared.lines.HostBits.{HostBits}
 use Rattle.cidr_lists.specs.declared.lists.Lists.{Lists}
+
+-- the string is no address, and this is the error
+abbrev pub IsNoEnd : List ℕ → LineError → Type 0
+IsNoEnd text (NoAddress bad e) = IsNoAddressBy text bad e
+IsNoEnd text e = ⊥
 
 -- what a field says, or its error
 abbrev pub ReadsField : HostBits → List ℕ → Result Content LineError → Type 0

@@ -5,9 +5,10 @@ ghost use Rattle.cidr.specs.either.IpAddress.{IsIpText};
 ghost use Rattle.cidr_lists.specs.Lists.{IsField, IsFirstField, IsNetworkBy, SaysNothing};
 ghost use Rattle.cidr_lists.specs.Fields.{AreParts, IsNoAddressField, IsNoNetworkField, IsNoRow, IsRowSplit, IsSplit};
 
-use crate::errors::LineError;
+use crate::errors::{BadText, LineError};
 use crate::lines::{HostBits, network_of, without_comment};
 use cidr::{IpAddr, IpCidr};
+use cidr_io::shown::byte_excerpt;
 
 /// What stands before the first ASCII white space, behind white space at the front. A comment sign in it is a byte like
 /// any other.
@@ -73,11 +74,11 @@ pub fn network_in(host_bits: HostBits, field: &[u8]) -> Result<IpCidr, LineError
     ensures { MatchResult result (IsNetworkBy host_bits field.now) (IsNoNetworkField host_bits field.now) }
 {
     let Ok(text) = str::from_utf8(field) else {
-        return Err(LineError::NotUtf8);
+        return Err(LineError::NotUtf8(byte_excerpt(field)));
     };
     match network_of(host_bits, text) {
         Ok(network) => Ok(network),
-        Err(e) => Err(LineError::NoNetwork(e)),
+        Err(e) => Err(LineError::NoNetwork(BadText::new(text), e)),
     }
 }
 
@@ -86,10 +87,10 @@ pub fn address_in(field: &[u8]) -> Result<IpAddr, LineError>
     ensures { MatchResult result (IsIpText field.now) (IsNoAddressField field.now) }
 {
     let Ok(text) = str::from_utf8(field) else {
-        return Err(LineError::NotUtf8);
+        return Err(LineError::NotUtf8(byte_excerpt(field)));
     };
     match text.parse::<IpAddr>() {
         Ok(address) => Ok(address),
-        Err(e) => Err(LineError::NoAddress(e)),
+        Err(e) => Err(LineError::NoAddress(BadText::new(text), e)),
     }
 }

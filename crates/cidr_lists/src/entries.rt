@@ -7,9 +7,10 @@ ghost use Rattle.cidr.specs.texts.Printed.{length_text, plain_host_text};
 ghost use Rattle.cidr.specs.declared.family.Family.TheVariants.{Ipv4};
 ghost use Rattle.cidr_lists.specs.Entries.{ReadsEntry};
 
-use crate::errors::LineError;
+use crate::errors::{BadText, LineError};
 use crate::lines::without_comment;
 use cidr::{IpInet, Ipv4Inet};
+use cidr_io::shown::byte_excerpt;
 
 /// Where a line stands.
 #[derive(Clone, Copy, Debug)]
@@ -89,7 +90,7 @@ pub fn entry_of<'a>(place: Place<'a>, line: &[u8]) -> Result<Option<Entry<'a>>, 
         return Ok(None);
     }
     let Ok(text) = str::from_utf8(field) else {
-        return Err(LineError::NotUtf8);
+        return Err(LineError::NotUtf8(byte_excerpt(field)));
     };
     match text.parse::<IpInet>() {
         Ok(host) => Ok(Some(Entry {
@@ -97,6 +98,6 @@ pub fn entry_of<'a>(place: Place<'a>, line: &[u8]) -> Result<Option<Entry<'a>>, 
             host,
             is_canonical: is_plain(text, &host),
         })),
-        Err(e) => Err(LineError::NoNetwork(e)),
+        Err(e) => Err(LineError::NoNetwork(BadText::new(text), e)),
     }
 }

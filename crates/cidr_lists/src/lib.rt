@@ -13,10 +13,10 @@
 //! - `columns::split_line` and `fields::first_network`: the fields of a line that is looked up or picked, and
 //!   `Sets::have_one` an address anywhere in a line, as in a log.
 //!
-//! A line in error is an `errors::LineError`, whose `message` is the text that follows `FILE:LINE: `. `changes` puts
-//! what a second list adds and lacks in order, and `printing` has the texts of networks, addresses and counts. A call
-//! on a line takes time in its length and allocates nothing. Only what collects, sorts, combines or prints whole lists
-//! allocates, and its one other error is that there is no memory.
+//! A line in error is an `errors::LineError`, whose `message` is the text that follows `FILE:LINE: `: the string that is
+//! wrong, and what is wrong with it. `changes` puts what a second list adds and lacks in order, and `printing` has the
+//! texts of networks, addresses and counts. A call on a line takes time in its length and allocates nothing. Only what
+//! collects, sorts, combines or prints whole lists allocates, and its one other error is that there is no memory.
 #![tactic(auto)]
 
 pub mod changes;

@@ -1,17 +1,16 @@
 //! What a line of a list says: nothing, a network, an address or a range.
-ghost use Rattle.std.specs.Prelude.{◌≡◌, [], ℕ, List, IfSome, MatchResult};
+ghost use Rattle.std.specs.Prelude.{◌≡◌, [], IfSome, MatchResult};
 ghost use Rattle.std.specs.List.{before_first};
 ghost use Rattle.cidr.specs.either.IpAddress.{IsIpText};
-ghost use Rattle.cidr.specs.texts.Messages.{ip_error};
 ghost use Rattle.cidr.specs.declared.addr.ip.IpAddr.TheVariants.{V4, V6};
-ghost use Rattle.cidr_lists.specs.Lists.{AreEnds, IsNetworkBy, IsNoAddress, IsNoNetworkBy, is_comment_sign};
-ghost use Rattle.cidr_lists.specs.Reading.{ReadsField, ReadsLine};
+ghost use Rattle.cidr_lists.specs.Lists.{AreEnds, IsNetworkBy, IsNoNetworkBy, is_comment_sign};
+ghost use Rattle.cidr_lists.specs.Reading.{IsNoEnd, ReadsField, ReadsLine};
 ghost use Rattle.cidr_lists.specs.declared.lines.HostBits.{HostBits as Bits};
-ghost use Rattle.cidr_lists.specs.declared.errors.LineError.TheVariants.{NoAddress};
 
-use crate::errors::LineError;
+use crate::errors::{BadText, LineError};
 use cidr::errors::NetworkParseError;
 use cidr::{IpAddr, IpCidr, IpInet, Ipv4Addr, Ipv6Addr};
+use cidr_io::shown::{byte_excerpt, excerpt};
 
 /// What is done with a set bit after the prefix of a network.
 #[derive(Clone, Copy, Debug, Drop, PartialEq)]
@@ -67,46 +66,46 @@ pub fn without_comment(line: &[u8]) -> &[u8]
 
 /// The address that an end of a range is.
 fn end_of(text: &str) -> Result<IpAddr, LineError>
-    ensures { MatchResult result (IsIpText text.now) (λ e. (e ≡ NoAddress ip_error) × IsNoAddress text.now) }
+    ensures { MatchResult result (IsIpText text.now) (IsNoEnd text.now) }
 {
     match text.parse() {
         Ok(address) => Ok(address),
-        Err(e) => Err(LineError::NoAddress(e)),
+        Err(e) => Err(LineError::NoAddress(BadText::new(text), e)),
     }
 }
 
-/// The range from an IPv4 address to another one.
-fn ipv4_range(first: Ipv4Addr, last: Ipv4Addr) -> Result<Content, LineError>
-    ensures { (bits : Bits) (field : List ℕ) → AreEnds field (V4 first) (V4 last) → ReadsField bits field result }
+/// The range from an IPv4 address to another one, which this field is.
+fn ipv4_range(field: &str, first: Ipv4Addr, last: Ipv4Addr) -> Result<Content, LineError>
+    ensures { (bits : Bits) → AreEnds field.now (V4 first) (V4 last) → ReadsField bits field.now result }
 {
     if first.cmp(&last).is_gt() {
-        return Err(LineError::Reversed);
+        return Err(LineError::Reversed(excerpt(field)));
     }
     Ok(Content::Ipv4Range(first, last))
 }
 
-/// The range from an IPv6 address to another one.
-fn ipv6_range(first: Ipv6Addr, last: Ipv6Addr) -> Result<Content, LineError>
-    ensures { (bits : Bits) (field : List ℕ) → AreEnds field (V6 first) (V6 last) → ReadsField bits field result }
+/// The range from an IPv6 address to another one, which this field is.
+fn ipv6_range(field: &str, first: Ipv6Addr, last: Ipv6Addr) -> Result<Content, LineError>
+    ensures { (bits : Bits) → AreEnds field.now (V6 first) (V6 last) → ReadsField bits field.now result }
 {
     if first.cmp(&last).is_gt() {
-        return Err(LineError::Reversed);
+        return Err(LineError::Reversed(excerpt(field)));
     }
     Ok(Content::Ipv6Range(first, last))
 }
 
-/// The range from an address to another one.
-fn range_of(first: IpAddr, last: IpAddr) -> Result<Content, LineError>
-    ensures { (bits : Bits) (field : List ℕ) → AreEnds field first last → ReadsField bits field result }
+/// The range from an address to another one, which this field is.
+fn range_of(field: &str, first: IpAddr, last: IpAddr) -> Result<Content, LineError>
+    ensures { (bits : Bits) → AreEnds field.now first last → ReadsField bits field.now result }
 {
     match first {
         IpAddr::V4(first) => match last {
-            IpAddr::V4(last) => ipv4_range(first, last),
-            IpAddr::V6(_) => Err(LineError::TwoFamilies),
+            IpAddr::V4(last) => ipv4_range(field, first, last),
+            IpAddr::V6(_) => Err(LineError::TwoFamilies(excerpt(field))),
         },
         IpAddr::V6(first) => match last {
-            IpAddr::V6(last) => ipv6_range(first, last),
-            IpAddr::V4(_) => Err(LineError::TwoFamilies),
+            IpAddr::V6(last) => ipv6_range(field, first, last),
+            IpAddr::V4(_) => Err(LineError::TwoFamilies(excerpt(field))),
         },
     }
 }
@@ -135,12 +134,12 @@ fn content_of_field(host_bits: HostBits, field: &str) -> Result<Content, LineErr
     let Some((front, back)) = field.split_once('-') else {
         return match network_of(host_bits, field) {
             Ok(network) => Ok(Content::Network(network)),
-            Err(e) => Err(LineError::NoNetwork(e)),
+            Err(e) => Err(LineError::NoNetwork(BadText::new(field), e)),
         };
     };
     let first = end_of(front)?;
     let last = end_of(back)?;
-    range_of(first, last)
+    range_of(field, first, last)
 }
 
 /// The network that a whole line is, without white space and comments.
@@ -171,6 +170,6 @@ pub fn content_of(host_bits: HostBits, line: &[u8]) -> Result<Content, LineError
     let field = without_comment(line).trim_ascii();
     match str::from_utf8(field) {
         Ok(text) => content_of_field(host_bits, text),
-        Err(_) => Err(LineError::NotUtf8),
+        Err(_) => Err(LineError::NotUtf8(byte_excerpt(field))),
     }
 }

@@ -5,6 +5,7 @@ use Rattle.std.specs.List.{flat_map}
 use Rattle.std.proofs.lemmas.Bool.{true≢false}
 use Rattle.std.proofs.lemmas.List.{append-nil, flat_map_more}
 use Rattle.cidr_io.specs.Collecting.{HasSaid}
+use Rattle.cidr_io.specs.Shown.{shown}
 use Rattle.cidr_io.specs.Writing.{State, Part, Says as Tells}
 use Rattle.cidr_io.proofs.Collected.{nothing_said}
 use Rattle.cidr_io.proofs.Chains.{part_more, part_none, whole_none, whole_part, whole_whole}
@@ -189,7 +190,7 @@ module _ (kind : Kind) (bits : HostBits) (file : List ℕ) (s : State) (b : List
       let fault : ℕ × LineError = (number, e) in (
         lines ++ fault_line file fault,
         λ start text h. subst (HasSaid start u rest) (append_assoc text lines (fault_line file fault)) (more start (text ++ lines) (says start text h)),
-        any_true found (lines ++ fault_line file fault) (some_text lines file _ 58),
+        any_true found (lines ++ fault_line file fault) (some_text lines (shown file) _ 58),
         same ∙ is,
         λ before at (errors, are, contents, fine). (
           errors ++ fault ∷ [],

@@ -42,11 +42,11 @@ rows() {
     run 0 '' '' '\n \n#\n;' merge
     run 0 $'10.0.0.0/7\n' '' '11.0.0.0/8' merge ten -
     run 0 $'10.0.0.0/8\n' '' '11.0.0.0/8' merge ten ten
-    run 2 '' $'-:3: host part of address was not zero\n' '10.0.0.0/8\n\n10.0.0.1/8\nx' merge
-    run 2 '' $'-:1: couldn\'t parse address in network: invalid IP address syntax\n' '010.0.0.0/8' merge
-    run 2 '' $'-:2: couldn\'t parse address in network: invalid IP address syntax\n' '10.0.0.1\n10.0.0.1 10.0.0.2' merge
-    run 2 '' $'bad:1: couldn\'t parse length in network: invalid length text\n' '' merge ten bad missing
-    run 2 '' $'-:1: not UTF-8\n' '\xff' merge
+    run 2 '' $'-:3: 10.0.0.1/8: host bits set; the network is 10.0.0.0/8\n' '10.0.0.0/8\n\n10.0.0.1/8\nx' merge
+    run 2 '' $'-:1: 010.0.0.0/8: a leading zero in an octet\n' '010.0.0.0/8' merge
+    run 2 '' $'-:2: 10.0.0.1 10.0.0.2: couldn\'t parse address in network: invalid IP address syntax\n' '10.0.0.1\n10.0.0.1 10.0.0.2' merge
+    run 2 '' $'bad:1: 10.0.0.0/x: couldn\'t parse length in network: invalid length text\n' '' merge ten bad missing
+    run 2 '' $'-:1: \\xff: not UTF-8\n' '\xff' merge
     run 2 '' $'missing: cannot be read\n' '' merge missing
     run 2 '' $'.: cannot be read\n' '' merge .
     run 0 $'10.0.0.0/8\n' '' '10.128.0.0/9\n10.0.0.0/9' nets
@@ -59,13 +59,13 @@ rows() {
     run 0 $'0.0.0.0/0\n::/0\n' '' '' not
     run 0 $'0.0.0.0/1\n192.0.0.0/2\n8000::/1\n' '' '128.0.0.0/2\n::/1' not
     run 0 '' '' '0.0.0.0/0' not - eight seven
-    run 2 '' $'bad:1: couldn\'t parse length in network: invalid length text\n' '' minus ten bad missing
+    run 2 '' $'bad:1: 10.0.0.0/x: couldn\'t parse length in network: invalid length text\n' '' minus ten bad missing
     run 2 '' $'missing: cannot be read\n' '' and ten missing bad
     run 0 $'10.128.0.0/9\n' '' '10.0.0.0/9' not --in 10.0.0.0/8
     run 0 $'10.0.0.0/8\n' '' '' not --in 10.0.0.0/8 -
     run 0 $'8000::/1\n' '' '10.0.0.0/9' not --in ::/0 - seven
     run 0 '' '' '' not --in 10.0.0.0/9 ten
-    run 2 '' $'10.0.0.1/8: host part of address was not zero\n' '' not --in 10.0.0.1/8 missing
+    run 2 '' $'10.0.0.1/8: host bits set; the network is 10.0.0.0/8\n' '' not --in 10.0.0.1/8 missing
     run 2 '' $'missing: cannot be read\n' '' not --in ::/0 missing
     run 2 '' "$usage" '' not --in
     run 2 '' "$usage" '' not --in ::/0 -k
@@ -76,12 +76,12 @@ rows() {
         '0.0.0.0/1\n::/0\n128.0.0.0/1' ranges
     run 0 $'10.0.0.0-11.255.255.255\n' '' '11.0.0.0/8' ranges ten -
     run 0 '' '' '' ranges
-    run 2 '' $'-:1: not UTF-8\n' '\xff' ranges
+    run 2 '' $'-:1: \\xff: not UTF-8\n' '\xff' ranges
     run 2 '' "$usage" '' ranges - -k
     run 0 $'IPv4 0\nIPv6 0\n' '' '' count
     run 0 $'IPv4 257\nIPv6 1\n' '' '10.0.0.1\n10.0.1.0/24\n10.0.1.7\n::1' count
     run 0 $'IPv4 4294967296\nIPv6 340282366920938463463374607431768211456\n' '' '0.0.0.0/0\n::/0' count
-    run 2 '' $'-:1: not UTF-8\n' '\xff' count
+    run 2 '' $'-:1: \\xff: not UTF-8\n' '\xff' count
     run 2 '' "$usage" '' minus
     run 2 '' "$usage" '' minus ten
     run 2 '' "$usage" '' and ten
@@ -105,18 +105,18 @@ rows_of_ranges() {
         '0.0.0.1-255.255.255.254\n::1-ffff:ffff:ffff:ffff:ffff:ffff:ffff:fffe' count
     run 0 $'10.0.0.1-10.0.0.6\n10.0.0.8\n::1-::2\n' '' '::1-::2\n10.0.0.8-10.0.0.8\n10.0.0.1-10.0.0.6' ranges
     run 0 $'10.0.0.0\n10.0.0.7\n' '' '10.0.0.1-10.0.0.6' minus eight_addresses -
-    run 2 '' $'-:1: invalid IP address syntax\n' '10.0.0.0/31-10.0.0.6' merge
-    run 2 '' $'-:1: invalid IP address syntax\n' '10.0.0.1-10.0.0.6/32' merge
-    run 2 '' $'-:1: invalid IP address syntax\n' '10.0.0.1 - 10.0.0.6' merge
-    run 2 '' $'-:1: invalid IP address syntax\n' '10.0.0.1-10.0.0.2-10.0.0.3' merge
-    run 2 '' $'-:1: invalid IP address syntax\n' '10.0.0.1-' merge
-    run 2 '' $'-:1: invalid IP address syntax\n' '-' merge
-    run 2 '' $'-:1: invalid IP address syntax\n' '::1-10.0.0.x' merge
-    run 2 '' $'-:2: the ends of the range are of two families\n' '10.0.0.1-10.0.0.1\n10.0.0.1-::1' merge
-    run 2 '' $'-:1: the ends of the range are of two families\n' '::1-10.0.0.1' merge
-    run 2 '' $'-:1: the first address of the range is above the last one\n' '10.0.0.6-10.0.0.1' merge
-    run 2 '' $'-:1: the first address of the range is above the last one\n' '::2-::1' merge
-    run 2 '' $'-:1: not UTF-8\n' '::2-::\xff' merge
+    run 2 '' $'-:1: 10.0.0.0/31: invalid IP address syntax\n' '10.0.0.0/31-10.0.0.6' merge
+    run 2 '' $'-:1: 10.0.0.6/32: invalid IP address syntax\n' '10.0.0.1-10.0.0.6/32' merge
+    run 2 '' $'-:1: 10.0.0.1 : invalid IP address syntax\n' '10.0.0.1 - 10.0.0.6' merge
+    run 2 '' $'-:1: 10.0.0.2-10.0.0.3: invalid IP address syntax\n' '10.0.0.1-10.0.0.2-10.0.0.3' merge
+    run 2 '' $'-:1: : invalid IP address syntax\n' '10.0.0.1-' merge
+    run 2 '' $'-:1: : invalid IP address syntax\n' '-' merge
+    run 2 '' $'-:1: 10.0.0.x: invalid IP address syntax\n' '::1-10.0.0.x' merge
+    run 2 '' $'-:2: 10.0.0.1-::1: the ends of the range are of two families\n' '10.0.0.1-10.0.0.1\n10.0.0.1-::1' merge
+    run 2 '' $'-:1: ::1-10.0.0.1: the ends of the range are of two families\n' '::1-10.0.0.1' merge
+    run 2 '' $'-:1: 10.0.0.6-10.0.0.1: the first address of the range is above the last one\n' '10.0.0.6-10.0.0.1' merge
+    run 2 '' $'-:1: ::2-::1: the first address of the range is above the last one\n' '::2-::1' merge
+    run 2 '' $'-:1: ::2-::\\xff: not UTF-8\n' '::2-::\xff' merge
 }
 
 # The standard input named twice, or once where it is read also without a name.
@@ -145,7 +145,7 @@ rows_of_changes() {
     run 1 $'+9.0.0.0/8\n-10.0.0.0/9\n+11.0.0.0/8\n+::/1\n-8000::/1\n' '' '10.128.0.0/9\n11.0.0.0/8\n9.0.0.0/8\n::/1' \
         diff ten_and_eight -
     run 1 $'-10.0.0.0\n' '' '10.0.0.1\n10.0.0.2/31\n10.0.0.4/30' diff eight_addresses -
-    run 2 '' $'bad:1: couldn\'t parse length in network: invalid length text\n' '' diff ten bad
+    run 2 '' $'bad:1: 10.0.0.0/x: couldn\'t parse length in network: invalid length text\n' '' diff ten bad
     run 2 '' $'missing: cannot be read\n' '' diff missing bad
     run 2 '' "$usage" '' diff
     run 2 '' "$usage" '' diff ten
@@ -193,16 +193,16 @@ rows_of_findings() {
     run 1 $'ten:1: repeats ten:1\n' '' '' check ten ten
     run 1 $'-:2: inside 2001:db8::/32 at -:1\n-:3: inside 2001:db8::/32 at -:1\n-:3: mergeable with -:2\n-:4: host bits set\n-:4: not in canonical form: 2001:db8:8000::5/33\n-:4: repeats -:3\n-:4: inside 2001:db8::/32 at -:1\n-:4: mergeable with -:2\n' \
         '' "$deep" check
-    run 2 '' $'-:2: couldn\'t parse address in network: invalid IP address syntax\n' '10.0.0.1/8\n10.0.0.1-10.0.0.2' check
-    run 2 '' $'bad:1: couldn\'t parse length in network: invalid length text\n' '' check ten ten bad
-    run 2 '' $'-:1: not UTF-8\n' '\xff' check
+    run 2 '' $'-:2: 10.0.0.1-10.0.0.2: couldn\'t parse address in network: invalid IP address syntax\n' '10.0.0.1/8\n10.0.0.1-10.0.0.2' check
+    run 2 '' $'bad:1: 10.0.0.0/x: couldn\'t parse length in network: invalid length text\n' '' check ten ten bad
+    run 2 '' $'-:1: \\xff: not UTF-8\n' '\xff' check
     run 2 '' $'missing: cannot be read\n' '' check ten missing
     run 2 '' "$usage" '' check -x
 }
 
 # The lines of a file by a list.
 rows_of_matches() {
-    local bad=$': couldn\'t parse address in network: invalid IP address syntax\n'
+    local bad=$': x: couldn\'t parse address in network: invalid IP address syntax\n'
     run 0 $'10.0.0.1 a\n10.0.0.0/9\n' '' '10.0.0.1 a\n11.0.0.1\n10.0.0.0/9\n10.0.0.0/7\n::1\n' match ten
     run 0 $'10.0.0.1\r\n \t10.2.3.4\tx # y\n::1\n' '' '10.0.0.1\r\n \t10.2.3.4\tx # y\n11.0.0.1\n::1' match both -
     run 0 $'10.0.0.0/8\n' '' '' match ten ten
@@ -218,15 +218,15 @@ rows_of_matches() {
     run 0 '' '' '11.0.0.1\n10.0.0.1' match -c -q ten
     run 1 '' '' '11.0.0.1' match -q ten
     run 2 '' "-:2$bad" '11.0.0.1\nx\n10.0.0.1' match -q ten
-    run 2 '' "-:3$bad" '11.0.0.1\n\n010.0.0.1\n10.0.0.1' match ten
-    run 2 '' "-:1$bad" '10.0.0.1#x' match ten
+    run 2 '' $'-:3: 010.0.0.1: a leading zero in an octet\n' '11.0.0.1\n\n010.0.0.1\n10.0.0.1' match ten
+    run 2 '' $'-:1: 10.0.0.1#x: couldn\'t parse address in network: invalid IP address syntax\n' '10.0.0.1#x' match ten
     run 2 $'10.0.0.1 a\n10.0.0.2\n' "-:3$bad" '10.0.0.1 a\n10.0.0.2\nx\n10.0.0.3' match ten
     run 2 $'\n' "-:2$bad" '\nx' match -v ten
     run 2 '' "-:2$bad" '10.0.0.1\nx' match -c ten
     run 0 '' '' '10.0.0.1\nx' match -q ten
-    run 2 '' $'-:1: host part of address was not zero\n' '10.0.0.1/8 x' match -v ten
-    run 2 '' $'-:1: not UTF-8\n' '\xff' match ten
-    run 2 '' $'bad:1: couldn\'t parse length in network: invalid length text\n' '' match bad missing
+    run 2 '' $'-:1: 10.0.0.1/8: host bits set; the network is 10.0.0.0/8\n' '10.0.0.1/8 x' match -v ten
+    run 2 '' $'-:1: \\xff: not UTF-8\n' '\xff' match ten
+    run 2 '' $'bad:1: 10.0.0.0/x: couldn\'t parse length in network: invalid length text\n' '' match bad missing
     run 2 '' $'missing: cannot be read\n' '' match missing bad
     run 2 '' $'missing: cannot be read\n' '' match ten missing
     run 2 '' $'.: cannot be read\n' '' match ten .
@@ -251,16 +251,16 @@ rows_of_look_ups() {
     run 0 $'10.0.0.1 10.0.0.0/8 room #5\n' '' '; all\n \t# more\n10.0.0.0/8\t room #5 \r\n' look - address
     run 0 $'10.0.0.1 10.0.0.1 http://x/#a;b\n' '' '10.0.0.1 http://x/#a;b\n10.0.0.0/8 ;' look - address
     run 0 $'10.0.0.1 10.0.0.0/8 ;\n' '' '10.0.0.0/8 ;\n;10.0.0.1 x' look - address
-    run 2 '' $'-:1: couldn\'t parse length in network: invalid length text\n' '10.0.0.0/8#x' look - address
-    run 2 '' $'-:1: couldn\'t parse length in network: invalid length text\n' '10.0.0.0/8#x' look -k - address
+    run 2 '' $'-:1: 10.0.0.0/8#x: couldn\'t parse length in network: invalid length text\n' '10.0.0.0/8#x' look - address
+    run 2 '' $'-:1: 10.0.0.0/8#x: couldn\'t parse length in network: invalid length text\n' '10.0.0.0/8#x' look -k - address
     run 0 $'10.0.0.1 10.0.0.0/8 x\n' '' '10.0.0.0/8 x' look - address
-    run 2 $'10.2.0.1 10.0.0.0/8 ten\n192.0.2.8 -\n' $'-:4: invalid IP address syntax\n' \
+    run 2 $'10.2.0.1 10.0.0.0/8 ten\n192.0.2.8 -\n' $'-:4: 10.0.0.0/8: invalid IP address syntax\n' \
         '10.2.0.1\n192.0.2.8\n\n10.0.0.0/8\n10.0.0.1' look owners
-    run 2 '' $'-:1: invalid IP address syntax\n' '010.0.0.1' look owners
-    run 2 $'10.2.0.1 10.0.0.0/8 ten\n' $'-:2: not UTF-8\n' '10.2.0.1\n\xff 10.0.0.1' look owners
-    run 2 '' $'bad:1: couldn\'t parse length in network: invalid length text\n' '10.0.0.1' look bad
-    run 2 '' $'-:2: host part of address was not zero\n' '10.0.0.0/8 10.0.0.1/8\n10.0.0.1/8 x' look - address
-    run 2 '' $'-:1: not UTF-8\n' '\xff x' look - address
+    run 2 '' $'-:1: 010.0.0.1: a leading zero in an octet\n' '010.0.0.1' look owners
+    run 2 $'10.2.0.1 10.0.0.0/8 ten\n' $'-:2: \\xff: not UTF-8\n' '10.2.0.1\n\xff 10.0.0.1' look owners
+    run 2 '' $'bad:1: 10.0.0.0/x: couldn\'t parse length in network: invalid length text\n' '10.0.0.1' look bad
+    run 2 '' $'-:2: 10.0.0.1/8: host bits set; the network is 10.0.0.0/8\n' '10.0.0.0/8 10.0.0.1/8\n10.0.0.1/8 x' look - address
+    run 2 '' $'-:1: \\xff: not UTF-8\n' '\xff x' look - address
     run 2 '' $'missing: cannot be read\n' '' look missing bad
     run 2 '' $'missing: cannot be read\n' '' look owners missing
     run 2 '' $'.: cannot be read\n' '' look owners .
@@ -288,7 +288,7 @@ rows_of_logs() {
     run 0 '' '' '\xff\n11.0.0.1 10.0.0.1\n' match --any -q ten -
     run 1 '' '' '' match --any ten
     run 1 '' '' '10.0.0.1\n' match -v --any ten
-    run 2 '' $'bad:1: couldn\'t parse length in network: invalid length text\n' '' match --any bad missing
+    run 2 '' $'bad:1: 10.0.0.0/x: couldn\'t parse length in network: invalid length text\n' '' match --any bad missing
     run 2 '' $'missing: cannot be read\n' '' match --any ten missing
     run 2 '' "$usage" '' match ten --any
     run 2 '' "$usage" '' match --anywhere ten
@@ -307,7 +307,7 @@ rows_of_one_network() {
     run 2 '' $'23: no prefix length inside the network\n' '' split 192.0.2.0/24 23
     run 2 '' $'33: no prefix length inside the network\n' '' split 192.0.2.0/24 33
     run 2 '' $'x: no prefix length inside the network\n' '' split 192.0.2.0/24 x
-    run 2 '' $'192.0.2.1/24: host part of address was not zero\n' '' split 192.0.2.1/24 x
+    run 2 '' $'192.0.2.1/24: host bits set; the network is 192.0.2.0/24\n' '' split 192.0.2.1/24 x
     run 0 $'192.0.2.255\n' '' '' nth 192.0.2.0/24 255
     run 1 '' '' '' nth 192.0.2.0/24 256
     run 0 $'ffff:ffff:ffff:ffff:ffff:ffff:ffff:ffff\n' '' '' nth ::/0 340282366920938463463374607431768211455
@@ -321,7 +321,7 @@ rows_of_one_network() {
 
 # Host bits of the networks of lists, set and cleared.
 rows_of_host_bits() {
-    local host=$'host part of address was not zero\n'
+    local host=$'host bits set; the network is 10.0.0.0/8\n'
     run 0 $'10.0.0.0/8\n192.0.2.1\n192.0.2.2\n192.0.2.4/30\n2001:db8::/32\n' '' \
         '2001:DB8::5/32 # x\n10.0.0.7/8\n10.1.2.3/8\n192.0.2.1\n192.0.2.2/32\n192.0.2.4-192.0.2.7' merge --host-bits
     run 0 $'0.0.0.0/0\n::/0\n' '' '255.255.255.255/0\n::1/0\n' nets --host-bits --host-bits -
@@ -333,16 +333,16 @@ rows_of_host_bits() {
     run 0 $'10.1.0.0-10.1.255.255\n' '' '10.1.2.3/16\n' ranges --host-bits
     run 0 $'IPv4 256\nIPv6 0\n' '' '10.1.2.3/24\n10.1.2.4/24' count --host-bits
     run 0 $'11.0.0.1\n' '' '10.0.0.1\n11.0.0.1' match --host-bits -v hosts
-    run 2 '' "-:1: $host" '10.0.0.1/8' match --host-bits hosts
+    run 2 '' "-:1: 10.0.0.1/8: $host" '10.0.0.1/8' match --host-bits hosts
     run 0 $'10.0.0.1 10.0.0.0/8\n' '' '10.0.0.1' look --host-bits hosts
-    run 2 '' "hosts:1: $host" '' look hosts
-    run 2 '' "hosts:1: $host" '' match hosts
-    run 2 '' "-:2: $host" '10.0.0.0/8\n10.0.0.7/8' merge
+    run 2 '' "hosts:1: 10.0.0.7/8: $host" '' look hosts
+    run 2 '' "hosts:1: 10.0.0.7/8: $host" '' match hosts
+    run 2 '' "-:2: 10.0.0.7/8: $host" '10.0.0.0/8\n10.0.0.7/8' merge
     run 2 '' "10.0.0.1/8: $host" '' not --host-bits --in 10.0.0.1/8
-    run 2 '' $'-:1: invalid length for network: Network length 33 is too long for Ipv4 (maximum: 32)\n' '10.0.0.7/33' merge --host-bits
-    run 2 '' $'-:2: couldn\'t parse address in network: invalid IP address syntax\n' '10.0.0.7/8\n010.0.0.7/8' merge --host-bits
-    run 2 '' $'-:1: invalid IP address syntax\n' '10.0.0.7/8-10.0.0.9' merge --host-bits
-    run 2 '' $'-:1: not UTF-8\n' '\xff' merge --host-bits
+    run 2 '' $'-:1: 10.0.0.7/33: invalid length for network: Network length 33 is too long for Ipv4 (maximum: 32)\n' '10.0.0.7/33' merge --host-bits
+    run 2 '' $'-:2: 010.0.0.7/8: a leading zero in an octet\n' '10.0.0.7/8\n010.0.0.7/8' merge --host-bits
+    run 2 '' $'-:1: 10.0.0.7/8: invalid IP address syntax\n' '10.0.0.7/8-10.0.0.9' merge --host-bits
+    run 2 '' $'-:1: \\xff: not UTF-8\n' '\xff' merge --host-bits
     run 2 '' "$usage" '' check --host-bits
     run 2 '' "$usage" '' show --host-bits ::1
     run 2 '' "$usage" '' show --host-bits
@@ -355,23 +355,23 @@ rows_of_host_bits() {
 
 # Each line in error.
 rows_of_all_errors() {
-    local host=$'host part of address was not zero\n' none=$'couldn\'t parse address in network: invalid IP address syntax\n'
+    local host=$'host bits set; the network is 10.0.0.0/8\n' none=$'couldn\'t parse address in network: invalid IP address syntax\n'
     run 0 $'10.0.0.0/8\n' '' '10.128.0.0/9\n10.0.0.0/9' merge -k
     run 0 $'10.0.0.0/8\n' '' '10.128.0.1/9\n10.0.0.0/9' merge -k --host-bits
-    run 2 '' "-:1: $host-:3: $none-:4: not UTF-8"$'\n' '10.0.0.1/8\n10.0.0.1\nx\n\xff\n' merge -k
-    run 2 '' "-:3: $none-:4: not UTF-8"$'\n' '10.0.0.1/8\n10.0.0.1\nx\n\xff' merge --host-bits -k
-    run 2 '' "hosts:1: ${host}-:1: ${none}hosts:1: $host" 'ten\n' minus -k hosts - hosts
-    run 2 '' "hosts:1: ${host}missing: cannot be read"$'\n' '' and -k hosts missing hosts
+    run 2 '' "-:1: 10.0.0.1/8: $host-:3: x: $none-:4: \xff: not UTF-8"$'\n' '10.0.0.1/8\n10.0.0.1\nx\n\xff\n' merge -k
+    run 2 '' "-:3: x: $none-:4: \xff: not UTF-8"$'\n' '10.0.0.1/8\n10.0.0.1\nx\n\xff' merge --host-bits -k
+    run 2 '' "hosts:1: 10.0.0.7/8: ${host}-:1: ten: ${none}hosts:1: 10.0.0.7/8: $host" 'ten\n' minus -k hosts - hosts
+    run 2 '' "hosts:1: 10.0.0.7/8: ${host}missing: cannot be read"$'\n' '' and -k hosts missing hosts
     run 2 '' "10.0.0.1/8: $host" '' not -k --in 10.0.0.1/8 hosts
     run 2 '' "10.0.0.1/8: $host" '' not -k --in 10.0.0.1/8 ten
     run 1 $'-10.0.0.0/8\n' '' '' diff -k ten -
-    run 2 '' "hosts:1: ${host}hosts:1: $host" '' diff -k hosts hosts
-    run 2 '' "hosts:1: $host" '' free -k ten 8 hosts
-    run 2 '' "-:1: $none-:2: $none" 'x\n10.0.0.1-10.0.0.2\n10.0.0.1/8' check -k
-    run 2 '' "hosts:1: $host" 'x' match -k -v hosts
-    run 2 '' "-:1: $none" 'x\ny' match -k ten
+    run 2 '' "hosts:1: 10.0.0.7/8: ${host}hosts:1: 10.0.0.7/8: $host" '' diff -k hosts hosts
+    run 2 '' "hosts:1: 10.0.0.7/8: $host" '' free -k ten 8 hosts
+    run 2 '' "-:1: x: $none-:2: 10.0.0.1-10.0.0.2: $none" 'x\n10.0.0.1-10.0.0.2\n10.0.0.1/8' check -k
+    run 2 '' "hosts:1: 10.0.0.7/8: $host" 'x' match -k -v hosts
+    run 2 '' "-:1: x: $none" 'x\ny' match -k ten
     run 0 $'10.0.0.1\n' '' '10.0.0.1\n11.0.0.1' match -k ten
-    run 2 '' "hosts:1: $host" '' look -k hosts
+    run 2 '' "hosts:1: 10.0.0.7/8: $host" '' look -k hosts
     run 0 $'10.0.0.1 10.0.0.0/8\n' '' '10.0.0.1' look -k --host-bits hosts
     run 0 $'10.1.2.3 10.1.0.0/16 x  y \t; z\n' '' '10.1.2.3' look -k owners
     run 2 '' "$usage" '' show -k ::1
@@ -405,7 +405,7 @@ rows_of_long_lines() {
     run 0 $'10.0.0.0/31\n' '' "$fits\n10.0.0.0" merge
     run 2 '' "-:1: $told" "$long" merge
     run 2 '' "-:2: $told" "10.0.0.0\n$long\nx" merge
-    run 2 '' "-:1: $told-:3: couldn't parse address in network: invalid IP address syntax"$'\n' "$long$fits$long\n::1\nx" merge -k
+    run 2 '' "-:1: $told-:3: x: couldn't parse address in network: invalid IP address syntax"$'\n' "$long$fits$long\n::1\nx" merge -k
     run 2 '' "-:2: $told" "#\n# $fits\n" check
     run 0 '' '' "$fits\n" check
     run 2 $'10.0.0.2 10.0.0.0/8 ten\n' "-:2: $told" "10.0.0.2\n$long\n10.0.0.1" look owners
@@ -416,11 +416,37 @@ rows_of_long_lines() {
     run 2 '' "-:1: $told" "$long" match - ten
 }
 
+# What is told of a string that is wrong, and how it and the names of files are shown.
+rows_of_messages() {
+    local none=$'couldn\'t parse address in network: invalid IP address syntax\n' long lines=$'two\nlines'
+    long=$(printf 'a%.0s' {1..40})
+    run 2 '' $'-:1: 10.0.0.256: a number above 255\n' '10.0.0.256' merge
+    run 2 '' $'-:1: 10.0.0.256: a number above 255\n' '10.0.0.256-10.0.0' merge
+    run 2 '' $'-:1: 10.0.0: not four octets\n' '10.0.0.1-10.0.0' merge
+    run 2 '' $'-:1: 10/8: not four octets\n' '10/8' merge
+    run 2 '' $'-:1: 2001:db8::12345: a group of more than four digits\n' '2001:db8::12345' merge
+    run 2 '' $'-:1: 10.0.0.0/255.0.0.0: a mask in place of a length\n' '10.0.0.0/255.0.0.0' check
+    run 2 '' $'-:2: 10.0.0.0/255.0.0.0: a mask in place of a length\n' '\n10.0.0.0/255.0.0.0 x' look - address
+    run 2 '' $'-:1: 10.0.0.0/255.0.0.0: invalid IP address syntax\n' '10.0.0.0/255.0.0.0' look owners
+    run 2 '' $'-:1: 2001:db8::1/32: host bits set; the network is 2001:db8::/32\n' '2001:db8::1/32' match ten
+    run 2 '' $'10.0.0.300: a number above 255\n' '' show 10.0.0.300
+    run 2 '' "-:1: $long: $none" "$long" merge
+    run 2 '' "-:1: $long..: $none" "${long}a" merge
+    run 2 '' "-:1: x\\x1b[31m\\x09y\\x85: $none" ' x\x1b[31m\ty\xc2\x85 ' merge
+    run 2 '' "-:1: \\x1b\\x1b\\x1b\\x1b\\x1b\\x1b\\x1b\\x1b\\x1b\\x1b..: $none" '\x1b\x1b\x1b\x1b\x1b\x1b\x1b\x1b\x1b\x1b\x1b' merge -k
+    run 2 '' $'two\\x0alines:1: 10.0.0.1/8: host bits set; the network is 10.0.0.0/8\n' '' merge "$lines"
+    run 2 '' $'two\\x0alines:1: 10.0.0.1/8: host bits set; the network is 10.0.0.0/8\n' '' merge -k "$lines"
+    run 1 $'two\\x0alines:1: host bits set\n' '' '' check "$lines"
+    run 2 '' $'\\x1b[2J: cannot be read\n' '' merge $'\e[2J'
+    run 2 '' "\\x1b[2J: $none" '' show $'\e[2J'
+    run 2 '' "$long..: $none" '' not --in "${long}a"
+}
+
 # Either stream fails, or both.
 rows_where_a_stream_fails() {
     local output_file=/dev/full
     run 3 '' $'output failed\n' '10.0.0.0/8' merge
-    run 2 '' $'-:1: host part of address was not zero\n' '10.0.0.1/8' merge
+    run 2 '' $'-:1: 10.0.0.1/8: host bits set; the network is 10.0.0.0/8\n' '10.0.0.1/8' merge
     run 3 '' $'output failed\n' '' --help
     run 3 '' $'output failed\n' '' diff - ten
     run 3 '' $'output failed\n' '' free ten 9 eight
@@ -430,7 +456,7 @@ rows_where_a_stream_fails() {
     run 3 '' $'output failed\n' '' ranges ten
     run 3 '' $'output failed\n' '10.2.0.1' look owners
     run 3 '' $'output failed\n' '10.2.0.1\nx' look owners
-    run 2 '' $'-:1: invalid IP address syntax\n' 'x' look owners
+    run 2 '' $'-:1: x: invalid IP address syntax\n' 'x' look owners
     run 1 '' '' '' look owners
     run 3 '' $'output failed\n' '' not --in ::/0 ten
     run 3 '' $'output failed\n' '10.0.0.1' match ten
@@ -503,6 +529,7 @@ printf '10.0.0.0/8 ten\n10.1.0.0/16\tfirst\r\n\n# 10.2.0.0/16 x\n10.1.0.0/16  x 
 : >"$room/nothing"
 printf '10.0.0.7/8\n' >"$room/hosts"
 printf '10.0.0.1\n' >"$room/address"
+printf '10.0.0.1/8\n' >"$room/"$'two\nlines'
 seq 0 255 | awk '{ print "10.1." $1 ".0/24 " $1 }' >"$room/parts"
 output_file=$room/output
 error_file=$room/error
@@ -526,6 +553,7 @@ for build in netset netset.by-rattle; do
     rows_of_host_bits
     rows_of_all_errors
     rows_of_long_lines
+    rows_of_messages
     long_list
     runs/streams.py "$program" || differs=1
     if command -v "${CC:-cc}" >/dev/null; then

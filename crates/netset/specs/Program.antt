@@ -5,6 +5,7 @@ use Rattle.cidr.specs.texts.Messages.{parse_message}
 use Rattle.cidr.specs.either.IpText.{IsIpNetworkText}
 use Rattle.cidr.specs.declared.cidr.combined.IpCidr.{IpCidr}
 use Rattle.cidr_io.specs.Arguments.{AreArguments, AreUnreadable}
+use Rattle.cidr_io.specs.Shown.{excerpt, shown}
 use Rattle.cidr_io.specs.Writing.{State, Answered, Says as Tells}
 use Rattle.cidr_io.specs.declared.sink.OutputFailed.{OutputFailed}
 use Rattle.cidr_lists.specs.Lists.{Text, text_by, ListSays, IsFirstError}
@@ -13,7 +14,7 @@ use Rattle.netset.specs.Causes.{Cause, MayFail}
 use Rattle.netset.specs.Free.{IsBadLength}
 use Rattle.cidr_lists.specs.Faults.{AreTellings}
 use Rattle.netset.specs.Keeping.{IsBegun, IsLoadError, kind_of}
-use Rattle.cidr_lists.specs.Messages.{fault_line}
+use Rattle.cidr_lists.specs.Messages.{fault_line, fault_words}
 use Rattle.netset.specs.Look.{IsLookCut, IsUnreadTable}
 use Rattle.netset.specs.Matching.{has, written_of, IsCutAt, Picks}
 use Rattle.netset.specs.Streaming.{IsCutShort}
@@ -112,17 +113,17 @@ IsUsageBy reading words = IsUsage words ⊎ ((request : Request) × IsRequest wo
 
 -- the message of an argument that is wrong
 abbrev pub argument_message : ArgumentError → List ℕ
-argument_message (bad.Network e) = parse_message e
+argument_message (bad.Network fault e) = fault_words fault (parse_message e)
 argument_message bad.Length = codes "no prefix length inside the network"
 argument_message bad.Index = codes "no index below 2^128"
 argument_message bad.ReadTwice = codes "standard input can be read only once"
 
--- the line that is written to standard error
+-- the line that is written to standard error: an argument as its beginning is shown, and the name of a file in whole
 abbrev pub error_line : CommandError → List ℕ
 error_line error.Usage = codes "usage: netset merge|nets|not|ranges|count|check [FILE..] | not --in NET [FILE..] | minus|and A B.. | diff A B | free POOL LEN USED.. | match [--any] [-v] [-c] [-q] LIST [FILE] | look TABLE [FILE] | show HOST | split NET LEN | nth NET INDEX | --help | --version; --host-bits behind a command for lists of networks, -k behind one for lists\n"
-error_line (error.Argument text e) = text.now ++ (codes ": " ++ (argument_message e ++ codes "\n"))
+error_line (error.Argument text e) = excerpt text.now ++ (codes ": " ++ (argument_message e ++ codes "\n"))
 error_line (error.Line name number e) = fault_line name.now (number, e)
-error_line (error.Input name) = name.now ++ codes ": cannot be read\n"
+error_line (error.Input name) = shown name.now ++ codes ": cannot be read\n"
 error_line error.NoMemory = codes "no memory\n"
 error_line error.Output = codes "output failed\n"
 

@@ -16,6 +16,7 @@ use Rattle.cidr.specs.declared.family.Family.TheVariants.{Ipv4, Ipv6}
 use Rattle.cidr.specs.declared.inet.combined.IpInet.{IpInet}
 use Rattle.cidr_ext.specs.Inside.{IsAddressAt}
 use Rattle.cidr_ext.specs.Subnets.{subnets_of}
+use Rattle.cidr_ext.specs.TextFaults.{IsFaultOf}
 use Rattle.cidr_lists.specs.Printing.{line}
 use Rattle.netset.specs.declared.output.answers.Verdict.{Verdict}
 use Rattle.netset.specs.declared.output.answers.Verdict.TheVariants.{Yes, No}
@@ -90,18 +91,19 @@ IsSingleAnswer (Split net len) answer verdict =
 IsSingleAnswer (Nth net place) answer verdict =
     (network : IpCidr) × (i : ℕ) × IsIpNetworkText net network × IsNumber place i × IsNthText network i answer verdict
 
--- the string is no network, and this is the first error
+-- the string is no network, and this is its first fault, if it has one, and the first error
 abbrev pub IsNoNetwork : List ℕ → ArgumentError → Type 0
-IsNoNetwork text (bad.Network e) = IsIpRefused text e × ((n : IpCidr) → ¬ (IsIpNetworkText text n))
+IsNoNetwork text (bad.Network fault e) = IsIpRefused text e × ((n : IpCidr) → ¬ (IsIpNetworkText text n)) × IsFaultOf text fault
 IsNoNetwork text e = ⊥
 
 -- the first argument that is wrong, and its error: no network, and else no length of networks inside, or no index below 2^128
 abbrev pub IsBadSingle : SingleRequest → List ℕ → ArgumentError → Type 0
-IsBadSingle (Show host) text (bad.Network e) = (text ≡ host) × IsIpHostRefused host e × ((h : IpInet) → ¬ (IsIpHostText host h))
-IsBadSingle (Split net len) text (bad.Network e) = (text ≡ net) × IsNoNetwork net (bad.Network e)
+IsBadSingle (Show host) text (bad.Network fault e) =
+    (text ≡ host) × IsIpHostRefused host e × ((h : IpInet) → ¬ (IsIpHostText host h)) × IsFaultOf host fault
+IsBadSingle (Split net len) text (bad.Network fault e) = (text ≡ net) × IsNoNetwork net (bad.Network fault e)
 IsBadSingle (Split net len) text bad.Length =
     (text ≡ len) × (network : IpCidr) × IsIpNetworkText net network × ((n : ℕ) → IsNumber len n → HasNone network n)
-IsBadSingle (Nth net place) text (bad.Network e) = (text ≡ net) × IsNoNetwork net (bad.Network e)
+IsBadSingle (Nth net place) text (bad.Network fault e) = (text ≡ net) × IsNoNetwork net (bad.Network fault e)
 IsBadSingle (Nth net place) text bad.Index =
     (text ≡ place) × (network : IpCidr) × IsIpNetworkText net network × ((i : ℕ) → IsNumber place i → 2 ^ 128 ≤ i)
 IsBadSingle request text e = ⊥

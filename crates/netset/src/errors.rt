@@ -1,6 +1,7 @@
 //! Why a list can't be read, and why a command gave no answer.
 
 use cidr::errors::NetworkParseError;
+use cidr_ext::TextFault;
 use cidr_io::lines;
 use cidr_lists::errors::LineError;
 use std::alloc::AllocError;
@@ -19,8 +20,8 @@ pub enum ReadError {
 /// Why an argument is wrong.
 #[derive(Debug, Drop)]
 pub enum ArgumentError {
-    /// It is no network and no host: the error of parsing it.
-    Network(NetworkParseError),
+    /// It is no network or no host: its first fault, if it has one, and the error of parsing it.
+    Network(Option<TextFault>, NetworkParseError),
     /// It is no prefix length of networks inside the network.
     Length,
     /// It is no index below 2^128.

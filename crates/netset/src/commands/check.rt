@@ -1,5 +1,9 @@
 //! The command `check`.
-ghost use Rattle.std.specs.Prelude.{◌≡◌, ◌<◌, ◌+◌, ◌*◌, IfErr, length, map, ℕ};
+ghost use Rattle.std.specs.Prelude.{◌≡◌, ◌++◌, ◌<◌, ◌+◌, ◌*◌, IfErr, codes, length, map, ℕ};
+ghost use Rattle.std.specs.List.{flat_map};
+ghost use Rattle.cidr.specs.either.IpText.{ip_network_text};
+ghost use Rattle.cidr.specs.texts.Printed.{plain_text};
+ghost use Rattle.cidr_io.specs.Shown.{part_text, shown};
 ghost use Rattle.cidr_io.specs.Writing.{State};
 ghost use Rattle.cidr_io.specs.Collecting.{Collects};
 ghost use Rattle.netset.specs.Causes.{Cause, MayFail};
@@ -13,75 +17,103 @@ use crate::errors::CommandError;
 use crate::input::entries::read_entries;
 use crate::input::files::Sources;
 use crate::output::answers::Verdict;
+use arrayvec::ArrayString;
+use cidr::IpCidr;
 use cidr_io::block::Block;
 use cidr_io::memory::Memory;
+use cidr_io::shown::Part;
 use cidr_io::sink::{OutputFailed, Sink};
 use cidr_lists::entries::{Entry, entry_at};
 use cidr_lists::findings::{Finding, Kind, Note, find};
 use cidr_lists::near::{Near, near_at, near_lines};
 use itoa::Buffer;
 
+/// The parts of the line of a finding: its place and what is found.
+fn found_parts<'a>(file: &'a str, number: &'a str, words: &'a str, text: &'a str) -> [Part<'a>; 6]
+    ensures { flat_map part_text result ≡ shown file.now ++ (codes ":" ++ (number.now ++ (words.now ++ (text.now ++ codes "\n")))) }
+{
+    let colon: &'a str = ":";
+    let end: &'a str = "\n";
+    [
+        Part::Shown(file),
+        Part::Plain(colon),
+        Part::Plain(number),
+        Part::Plain(words),
+        Part::Plain(text),
+        Part::Plain(end),
+    ]
+}
+
+/// The same of a finding that names another place.
+fn placed_parts<'a>(
+    file: &'a str,
+    number: &'a str,
+    words: &'a str,
+    other: &'a str,
+    line: &'a str,
+) -> [Part<'a>; 8]
+    ensures { flat_map part_text result ≡ shown file.now ++ (codes ":" ++ (number.now
+        ++ (words.now ++ (shown other.now ++ (codes ":" ++ (line.now ++ codes "\n")))))) }
+{
+    let colon: &'a str = ":";
+    let end: &'a str = "\n";
+    [
+        Part::Shown(file),
+        Part::Plain(colon),
+        Part::Plain(number),
+        Part::Plain(words),
+        Part::Shown(other),
+        Part::Plain(colon),
+        Part::Plain(line),
+        Part::Plain(end),
+    ]
+}
+
+/// The words in front of the place of a network around another one.
+fn inside_words(outer: &IpCidr) -> ArrayString<56>
+    ensures { result.bytes ≡ codes ": inside " ++ (ip_network_text plain_text outer.now ++ codes " at ") }
+{
+    let mut words = ArrayString::new();
+    words.push_str(": inside ");
+    words.push_str(outer.to_text().as_str());
+    words.push_str(" at ");
+    words
+}
+
 /// Appends a finding to a block, as a line.
 fn push_note<S: Sink>(block: &mut Block, out: &mut S, note: &Note<'_>) -> Result<(), OutputFailed>
     ensures { Collects (S.state out.old) (S.state out.new) block.old block.new (note_line note.now) result }
 {
-    let file = note.place.file.as_bytes();
+    let file = note.place.file;
     let mut buffer = Buffer::new();
-    let number = buffer.format(note.place.number).as_bytes();
+    let number = buffer.format(note.place.number);
+    let mut digits = Buffer::new();
     match &note.finding {
-        Finding::HostBits => { block.push_line(out, &[file, b":", number, b": host bits set\n"]) }
-        Finding::NotCanonical(host) => block.push_line(
-            out,
-            &[
-                file,
-                b":",
-                number,
-                b": not in canonical form: ",
-                host.to_text().as_str().as_bytes(),
-                b"\n",
-            ],
-        ),
-        Finding::Repeats(place) => block.push_line(
-            out,
-            &[
-                file,
-                b":",
-                number,
-                b": repeats ",
-                place.file.as_bytes(),
-                b":",
-                Buffer::new().format(place.number).as_bytes(),
-                b"\n",
-            ],
-        ),
-        Finding::Inside(outer, place) => block.push_line(
-            out,
-            &[
-                file,
-                b":",
-                number,
-                b": inside ",
-                outer.to_text().as_str().as_bytes(),
-                b" at ",
-                place.file.as_bytes(),
-                b":",
-                Buffer::new().format(place.number).as_bytes(),
-                b"\n",
-            ],
-        ),
-        Finding::Mergeable(place) => block.push_line(
-            out,
-            &[
-                file,
-                b":",
-                number,
-                b": mergeable with ",
-                place.file.as_bytes(),
-                b":",
-                Buffer::new().format(place.number).as_bytes(),
-                b"\n",
-            ],
-        ),
+        Finding::HostBits => {
+            let parts = found_parts(file, number, ": host bits set", "");
+            block.push_message(out, &parts)
+        }
+        Finding::NotCanonical(host) => {
+            let text = host.to_text();
+            let parts = found_parts(file, number, ": not in canonical form: ", text.as_str());
+            block.push_message(out, &parts)
+        }
+        Finding::Repeats(place) => {
+            let line = digits.format(place.number);
+            let parts = placed_parts(file, number, ": repeats ", place.file, line);
+            block.push_message(out, &parts)
+        }
+        Finding::Inside(outer, place) => {
+            let line = digits.format(place.number);
+            let words = inside_words(outer);
+            let parts = placed_parts(file, number, words.as_str(), place.file, line);
+            block.push_message(out, &parts)
+        }
+        Finding::Mergeable(place) => {
+            let line = digits.format(place.number);
+            let parts = placed_parts(file, number, ": mergeable with ", place.file, line);
+            block.push_message(out, &parts)
+        }
     }
 }
 

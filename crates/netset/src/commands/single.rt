@@ -17,7 +17,7 @@ use crate::errors::{ArgumentError, CommandError};
 use crate::output::answers::{Verdict, by_output};
 use crate::output::report::write_line;
 use cidr::{Family, IpCidr, IpInet};
-use cidr_ext::{CidrExt, Subnets};
+use cidr_ext::{CidrExt, Subnets, text_fault};
 use cidr_io::block::Block;
 use cidr_io::sink::{OutputFailed, Sink};
 use cidr_io::writing::{flush, write_text};
@@ -88,7 +88,7 @@ fn show<'a, S: Sink>(text: &'a str, out: &mut S) -> Result<Verdict, CommandError
 {
     match text.parse::<IpInet>() {
         Ok(host) => by_output(Verdict::Yes, write_host(&host, out)),
-        Err(e) => Err(CommandError::Argument(text, ArgumentError::Network(e))),
+        Err(e) => Err(CommandError::Argument(text, ArgumentError::Network(text_fault(text), e))),
     }
 }
 
@@ -99,7 +99,7 @@ pub fn network_of<'a>(text: &'a str) -> Result<IpCidr, CommandError<'a>>
 {
     match text.parse() {
         Ok(network) => Ok(network),
-        Err(e) => Err(CommandError::Argument(text, ArgumentError::Network(e))),
+        Err(e) => Err(CommandError::Argument(text, ArgumentError::Network(text_fault(text), e))),
     }
 }
 

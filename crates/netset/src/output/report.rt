@@ -1,7 +1,8 @@
 //! The exit status, and what is written to standard error.
-ghost use Rattle.std.specs.Prelude.{◌≡◌, ◌++◌, Err, List, ℕ};
+ghost use Rattle.std.specs.Prelude.{◌≡◌, ◌++◌, Err, List, ℕ, codes};
 ghost use Rattle.std.specs.List.{flat_map};
 ghost use Rattle.cidr_io.specs.Collecting.{Collects, HasSaid};
+ghost use Rattle.cidr_io.specs.Shown.{part_text, shown};
 ghost use Rattle.cidr_io.specs.Writing.{Answered, Says, State};
 ghost use Rattle.cidr_lists.specs.Messages.{fault_line};
 ghost use Rattle.netset.specs.Program.{Reports, ReportsUnless, argument_message, error_line, is_closed_pipe, status_of};
@@ -10,20 +11,21 @@ use crate::errors::{ArgumentError, CommandError};
 use crate::output::answers::Verdict;
 use arrayvec::ArrayString;
 use cidr_io::block::Block;
+use cidr_io::shown::{Part, excerpt};
 use cidr_io::sink::{OutputFailed, Sink};
-use cidr_lists::errors::{LineError, MOST_MESSAGE};
+use cidr_lists::errors::{LineError, fault_words};
 use itoa::Buffer;
 
 const USAGE: &str =
     "usage: netset merge|nets|not|ranges|count|check [FILE..] | not --in NET [FILE..] | minus|and A B.. | diff A B | free POOL LEN USED.. | match [--any] [-v] [-c] [-q] LIST [FILE] | look TABLE [FILE] | show HOST | split NET LEN | nth NET INDEX | --help | --version; --host-bits behind a command for lists of networks, -k behind one for lists\n";
 
 /// The message of an argument that is wrong.
-fn argument_message(error: &ArgumentError) -> ArrayString<MOST_MESSAGE>
+fn argument_message(error: &ArgumentError) -> ArrayString<99>
     ensures { result.bytes ≡ argument_message error.now }
 {
     let mut text = ArrayString::new();
     match error {
-        ArgumentError::Network(e) => return e.to_text(),
+        ArgumentError::Network(fault, e) => return fault_words(fault, e.to_text()),
         ArgumentError::Length => text.push_str("no prefix length inside the network"),
         ArgumentError::Index => text.push_str("no index below 2^128"),
         ArgumentError::ReadTwice => text.push_str("standard input can be read only once"),
@@ -53,6 +55,43 @@ pub fn write_line<S: Sink>(out: &mut S, parts: &[&str]) -> Result<(), OutputFail
     block.flush(out)
 }
 
+/// Writes a message of several parts, and flushes. A sink that has failed before gets nothing.
+fn write_message<S: Sink>(out: &mut S, parts: &[Part<'_>]) -> Result<(), OutputFailed>
+    ensures { Answered (S.state out.old) (S.state out.new) (flat_map part_text parts.now) result }
+{
+    if out.failed() {
+        return Err(OutputFailed);
+    }
+    let mut block = Block::new();
+    block.push_message(out, parts)?;
+    block.flush(out)
+}
+
+/// The parts of the line of a line in error.
+fn fault_parts<'a>(file: &'a str, number: &'a str, message: &'a str) -> [Part<'a>; 6]
+    ensures { flat_map part_text result ≡ shown file.now ++ (codes ":" ++ (number.now ++ (codes ": " ++ (message.now ++ codes "\n")))) }
+{
+    let colon: &'a str = ":";
+    let gap: &'a str = ": ";
+    let end: &'a str = "\n";
+    [
+        Part::Shown(file),
+        Part::Plain(colon),
+        Part::Plain(number),
+        Part::Plain(gap),
+        Part::Plain(message),
+        Part::Plain(end),
+    ]
+}
+
+/// The parts of the line of a file that can't be read.
+fn unread_parts<'a>(name: &'a str) -> [Part<'a>; 2]
+    ensures { flat_map part_text result ≡ shown name.now ++ codes ": cannot be read\n" }
+{
+    let words: &'a str = ": cannot be read\n";
+    [Part::Shown(name), Part::Plain(words)]
+}
+
 /// Appends the line of a line in error to a block, as far as the sink takes lines.
 pub fn say_fault<E: Sink>(
     block: &mut Block,
@@ -64,17 +103,10 @@ pub fn say_fault<E: Sink>(
     ensures { (start : State) (text : List ℕ) → HasSaid start (E.state err.old) block.old text
         → HasSaid start (E.state err.new) block.new (text ++ fault_line file.now (number, error.now)) }
 {
-    block.say(
-        err,
-        &[
-            file.as_bytes(),
-            b":",
-            Buffer::new().format(number).as_bytes(),
-            b": ",
-            error.message().as_str().as_bytes(),
-            b"\n",
-        ],
-    );
+    let mut digits = Buffer::new();
+    let message = error.message();
+    let parts = fault_parts(file, digits.format(number), message.as_str());
+    block.say_message(err, &parts);
 }
 
 /// Writes the line of an error, as far as the sink takes it.
@@ -83,21 +115,20 @@ fn say<E: Sink>(error: &CommandError<'_>, err: &mut E)
 {
     let _ = match error {
         CommandError::Usage => write_line(err, &[USAGE]),
-        CommandError::Argument(text, e) => {
-            write_line(err, &[text, ": ", argument_message(e).as_str(), "\n"])
-        }
-        CommandError::Line(name, number, e) => write_line(
+        CommandError::Argument(text, e) => write_line(
             err,
             &[
-                name,
-                ":",
-                Buffer::new().format(*number),
+                excerpt(text).as_str(),
                 ": ",
-                e.message().as_str(),
+                argument_message(e).as_str(),
                 "\n",
             ],
         ),
-        CommandError::Input(name) => write_line(err, &[name, ": cannot be read\n"]),
+        CommandError::Line(name, number, e) => write_message(
+            err,
+            &fault_parts(name, Buffer::new().format(*number), e.message().as_str()),
+        ),
+        CommandError::Input(name) => write_message(err, &unread_parts(name)),
         CommandError::NoMemory => write_line(err, &["no memory\n"]),
         CommandError::Output => write_line(err, &["output failed\n"]),
     };

@@ -5,10 +5,11 @@ returns-in-Usage g c = rw c.in-Usage.is (c.write_line.result, c.write_line.ensur
 
 pub returns-in-Line : goal.returns-in-Line
 returns-in-Line g c =
-    rw c.in-Line.is (c.write_line-in-Line.result, rw (c.format.ensures.text, c.as_str-in-Line.ensures.value, c.message.ensures) at c.write_line-in-Line.ensures)
+    rw c.in-Line.is (c.write_message.result, rw (c.fault_parts.ensures, c.format.ensures.text, c.as_str-in-Line.ensures.value, c.message.ensures) at c.write_message.ensures)
 
 pub returns-in-Input : goal.returns-in-Input
-returns-in-Input g c = rw c.in-Input.is (c.write_line-in-Input.result, c.write_line-in-Input.ensures)
+returns-in-Input g c =
+    rw c.in-Input.is (c.write_message-in-Input.result, rw c.unread_parts.ensures at c.write_message-in-Input.ensures)
 
 pub returns-in-NoMemory : goal.returns-in-NoMemory
 returns-in-NoMemory g c = rw c.in-NoMemory.is (c.write_line-in-NoMemory.result, c.write_line-in-NoMemory.ensures)
@@ -18,4 +19,4 @@ returns-in-Output g c = rw c.in-Output.is (c.write_line-in-Output.result, c.writ
 
 pub returns-in-Argument : goal.returns-in-Argument
 returns-in-Argument g c =
-    rw c.in-Argument.is (c.write_line-in-Argument.result, rw (c.as_str.ensures.value, c.argument_message.ensures) at c.write_line-in-Argument.ensures)
+    rw c.in-Argument.is (c.write_line-in-Argument.result, rw (c.as_str.ensures.value, c.excerpt.ensures.text, c.as_str-in-Argument.ensures.value, c.argument_message.ensures) at c.write_line-in-Argument.ensures)
