@@ -8,3 +8,4 @@ pub mod Contents
 pub mod Written
 pub mod Spelling
 pub mod FaultLaws
+pub mod Built

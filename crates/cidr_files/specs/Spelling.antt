@@ -1,5 +1,5 @@
 -- The bytes of numbers spell these numbers.
-use Rattle.std.proofs.Common.{◌≡◌, refl, sym, ◌∙◌, ap, ap₂, arith, ℕ, suc, ◌+◌, ◌*◌, ◌/◌, ◌%◌, ◌^◌, ◌<◌, List, [], ◌∷◌, ◌++◌, length, map}
+use Rattle.std.proofs.Common.{◌≡◌, refl, sym, ◌∙◌, ap, ap₂, arith, ℕ, suc, ◌+◌, ◌*◌, ◌/◌, ◌%◌, ◌^◌, ◌<◌, ◌≤◌, List, [], ◌∷◌, ◌++◌, length, map}
 use Rattle.std.proofs.Math.Nat.{add_comm, mul-suc, mul-zero}
 use Rattle.std.proofs.lemmas.List.{append-nil, append_assoc, length-append}
 use Rattle.std.proofs.lemmas.Nat.{div-add-mod', from_le_bytes-to_le_bytes_4, from_le_bytes-to_le_bytes_8, mod_below, pow_pos, shr_below}
@@ -93,3 +93,10 @@ pub spelled_more : (bytes : ℕ → List ℕ) (ns : List ℕ) (n : ℕ) → spel
 unfolding spelled
 spelled_more bytes [] n = append-nil (bytes n)
 spelled_more bytes (m ∷ ns) n = ap (λ xs. bytes m ++ xs) (spelled_more bytes ns n) ∙ sym (append_assoc (bytes m) (spelled bytes ns) (bytes n))
+
+-- ---- how many bits an address has
+pub wide_word_bits : 18 ≤ 32
+wide_word_bits = omega arith
+
+pub wide_address_bits : 18 ≤ 128
+wide_address_bits = omega arith

@@ -6,6 +6,7 @@ use crate::layout::Counts;
 use cidr_arrays::Key;
 
 /// The rows of a table: networks, and a value for each.
+#[derive(Drop)]
 pub struct Rows<'a, W> {
     /// The networks, by first address and then by length.
     pub keys: &'a [Key<W>],
@@ -16,6 +17,7 @@ pub struct Rows<'a, W> {
 }
 
 /// A table: its rows, and the arrays of their networks.
+#[derive(Drop)]
 pub struct Contents<'a, W> {
     /// The rows.
     pub rows: &'a Rows<'a, W>,

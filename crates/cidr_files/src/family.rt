@@ -1,7 +1,7 @@
 //! The families of addresses, as files have them.
-ghost use Rattle.std.specs.Prelude.{◌≡◌, ℕ, ◌++◌, ◌^◌, ◌<◌, List, length, map, OnOk};
+ghost use Rattle.std.specs.Prelude.{◌≡◌, ℕ, ◌++◌, ◌^◌, ◌<◌, List, length, map, OnOk, ◌≤◌};
 ghost use Rattle.cidr_files.specs.Layout.{wide_words, words};
-ghost use Rattle.cidr_files.specs.Spelling.{length-wide_bytes, length-word_bytes, spells_wide, spells_words, wide_bytes, word_bytes};
+ghost use Rattle.cidr_files.specs.Spelling.{length-wide_bytes, length-word_bytes, spells_wide, spells_words, wide_address_bits, wide_bytes, wide_word_bits, word_bytes};
 ghost use Rattle.cidr_files.specs.Written.{AreBelow, spelled};
 
 use cidr_arrays::Word;
@@ -38,6 +38,9 @@ pub trait Family: Word {
 
     /// The bytes of numbers spell these.
     ghost spells: { (ns : List ℕ) → AreBelow (2 ^ Self.width) ns → numbers (spelled bytes_of ns) ≡ ns };
+
+    /// An address has more bits than a first level reads.
+    ghost wide: { 18 ≤ Self.width };
 }
 
 impl Family for [u8; 4] {
@@ -61,6 +64,8 @@ impl Family for [u8; 4] {
     ghost long = { length-word_bytes };
 
     ghost spells = { spells_words };
+
+    ghost wide = { wide_word_bits };
 }
 
 impl Family for [[u8; 8]; 2] {
@@ -86,4 +91,6 @@ impl Family for [[u8; 8]; 2] {
     ghost long = { length-wide_bytes };
 
     ghost spells = { spells_wide };
+
+    ghost wide = { wide_address_bits };
 }

@@ -1,5 +1,8 @@
 //! What is wrong with a file.
 
+use cidr_arrays::BuildError;
+use std::alloc::AllocError;
+
 /// What is wrong with a table: the first thing.
 #[derive(Debug, Drop, PartialEq)]
 pub enum TableFault {
@@ -26,4 +29,27 @@ pub enum Fault {
     Ipv4(TableFault),
     /// The table of IPv6 networks is none.
     Ipv6(TableFault),
+}
+
+/// Why no file was made.
+#[derive(Debug, Drop, PartialEq)]
+pub enum WriteError {
+    /// The keys are too many, or one is refused.
+    Keys(BuildError),
+    /// The values don't lie one behind the other, there are not as many as keys, or they have 2^32 bytes or more.
+    Values,
+    /// There was no memory.
+    NoMemory,
+}
+
+impl From<AllocError> for WriteError {
+    fn from(_error: AllocError) -> WriteError {
+        WriteError::NoMemory
+    }
+}
+
+impl From<BuildError> for WriteError {
+    fn from(error: BuildError) -> WriteError {
+        WriteError::Keys(error)
+    }
 }

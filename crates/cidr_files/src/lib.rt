@@ -5,6 +5,8 @@
 //! bytes. README.md describes a file to the byte.
 #![tactic(auto)]
 
+mod arrays;
+mod building;
 mod checking;
 mod contents;
 mod family;
@@ -14,10 +16,11 @@ mod looking;
 mod opening;
 mod writing;
 
+pub use building::written;
 pub use checking::{check, checked};
 pub use contents::{Contents, Rows};
 pub use family::{Family, Ipv4Bytes, Ipv6Bytes};
-pub use faults::{Fault, TableFault};
+pub use faults::{Fault, TableFault, WriteError};
 pub use layout::{Counts, Part, Table};
 pub use looking::{has, lookup};
 pub use opening::open;

@@ -1,0 +1,98 @@
+//! Files of rows.
+ghost use Rattle.std.specs.Prelude.{◌≡◌, ◌+◌, ◌^◌, ◌≤◌, IfOk};
+ghost use Rattle.std.specs.Int.{from_le_bytes, w32};
+ghost use Rattle.cidr_files.specs.Built.{AreArraysOf};
+ghost use Rattle.cidr_files.specs.Contents.{AreContents, HasRows};
+ghost use Rattle.cidr_files.specs.Layout.{ipv4_parts, ipv6_parts, wide_word, wide_words, words};
+ghost use Rattle.cidr_files.specs.Tables.{IsFile, IsSmall};
+
+use crate::arrays::Arrays;
+use crate::checking::are_offsets;
+use crate::contents::{Contents, Rows};
+use crate::family::{Family, Ipv4Bytes, Ipv6Bytes};
+use crate::faults::WriteError;
+use crate::writing::file_of;
+use cidr_arrays::{BuildError, build, fill_level};
+use std::alloc::Global;
+
+/// The bytes of a file of rows. The keys have to ascend and the values to lie one behind the other; the error says which
+/// table's don't.
+pub fn written(
+    alloc: Global,
+    ipv4: &Rows<'_, Ipv4Bytes>,
+    ipv6: &Rows<'_, Ipv6Bytes>,
+) -> Result<Vec<u8>, WriteError>
+    ensures file { IfOk result (λ bytes. IsFile bytes.items) }
+    ensures small { IfOk result (λ bytes. IsSmall bytes.items) }
+    ensures ipv4 { IfOk result (λ bytes. HasRows words (ipv4_parts bytes.items) (from_le_bytes w32) ipv4.now) }
+    ensures ipv6 { IfOk result (λ bytes. HasRows wide_words (ipv6_parts bytes.items) wide_word ipv6.now) }
+{
+    let ipv4_arrays = arrays_of(alloc, ipv4)?;
+    let ipv6_arrays = arrays_of(alloc, ipv6)?;
+    let ipv4_contents = contents_of(ipv4, &ipv4_arrays);
+    let ipv6_contents = contents_of(ipv6, &ipv6_arrays);
+    let bytes = file_of(alloc, &ipv4_contents, &ipv6_contents)?;
+    Ok(bytes)
+}
+
+/// A table of rows and their arrays.
+fn contents_of<'a, W: Family>(rows: &'a Rows<'a, W>, arrays: &'a Arrays<W>) -> Contents<'a, W>
+    requires { AreArraysOf W.width W.value rows.now arrays.now }
+    ensures contents { AreContents W.width W.value result }
+    ensures rows { result.rows.now ≡ rows.now }
+{
+    Contents {
+        rows,
+        starts: arrays.starts.as_slice(),
+        answers: arrays.answers.as_slice(),
+        level: arrays.level.as_slice(),
+        shift: arrays.shift,
+    }
+}
+
+/// The arrays of rows.
+fn arrays_of<W: Family>(alloc: Global, rows: &Rows<'_, W>) -> Result<Arrays<W>, WriteError>
+    ensures { IfOk result (AreArraysOf W.width W.value rows.now) }
+{
+    if rows.keys.len() >= 1 << 31 {
+        return Err(WriteError::Keys(BuildError::TooMany));
+    }
+    if rows.values.len() >= 1 << 32 {
+        return Err(WriteError::Values);
+    }
+    if !are_offsets(rows.offsets, rows.keys.len(), rows.values.len()) {
+        return Err(WriteError::Values);
+    }
+    let most = 2 * rows.keys.len() + 1;
+    let mut starts = vec![in alloc; W::of(0); most]?;
+    let mut answers = vec![in alloc; 0; most]?;
+    let count = build(rows.keys, starts.as_mut_slice(), answers.as_mut_slice())?;
+    starts.truncate(count);
+    answers.truncate(count);
+    let (bits, entries) = level_of(count);
+    let shift = W::width() - bits;
+    let mut level = vec![in alloc; 0; entries]?;
+    fill_level(starts.as_slice(), shift, level.as_mut_slice());
+    Ok(Arrays {
+        starts,
+        answers,
+        level,
+        shift,
+    })
+}
+
+/// How many bits of an address the first level of so many ranges reads, from 1 up to 18, and how many entries it has: about
+/// one for each range, and one more.
+fn level_of(ranges: usize) -> (u32, usize)
+    ensures some { 1 ≤ result.0 }
+    ensures few { result.0 ≤ 18 }
+    ensures entries { result.1 ≤ 2 ^ 18 + 1 }
+{
+    let mut bits = 1;
+    let mut entries = 2;
+    while bits < 18 && entries < ranges {
+        bits += 1;
+        entries *= 2;
+    }
+    (bits, entries + 1)
+}
