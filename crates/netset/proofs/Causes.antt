@@ -107,7 +107,6 @@ pub not_opened : (contents : List ℕ → Option Text) (name : List ℕ) → con
 not_opened contents name is = subst (λ (k : Option Text). IfSome k (λ text. AreTooMany text.bytes)) (sym is) tt
 
 pub cause_weaker : (F G : List ℕ → Type 0) (refused : Bool) (e : CommandError) → ((name : List ℕ) → F name → G name) → Cause F refused e → Cause G refused e
-cause_weaker F G refused error.Usage f h = tt
 cause_weaker F G refused (error.Argument text e) f h = tt
 cause_weaker F G refused (error.Line name number e) f h = tt
 cause_weaker F G refused (error.Input name) f h = f name.now h
@@ -134,7 +133,6 @@ output_cause F refused verdict (Ok a) r is = subst (λ (k : Result Verdict Comma
 output_cause F refused verdict (Err f) r is = subst (λ (k : Result Verdict CommandError). IfErr k (Cause F refused)) (sym is) tt
 
 pub argument_cause : (F : List ℕ → Type 0) (refused : Bool) (P : List ℕ → ArgumentError → Type 0) (e : CommandError) → IsBadArgument P e → Cause F refused e
-argument_cause F refused P error.Usage h = tt
 argument_cause F refused P (error.Argument text e) h = tt
 argument_cause F refused P (error.Line name number e) h = tt
 argument_cause F refused P (error.Input name) h = absurd h
@@ -156,7 +154,6 @@ ended_cause F refused e (Err f) r is h = subst (λ (k : Result Verdict CommandEr
 pub stop_cause : (F : List ℕ → Type 0) (refused : Bool) (e : CommandError) (s t : State) (block : List ℕ) (r : Result Verdict CommandError) → Stops e s t block r
     → Cause F refused e → IfErr r (Cause F refused)
 stop_cause F refused error.Output s t block r (same, is) h = subst (λ (k : Result Verdict CommandError). IfErr k (Cause F refused)) (sym is) tt
-stop_cause F refused error.Usage s t block r (w, wrote, is) h = ended_cause F refused error.Usage w r is h
 stop_cause F refused (error.Argument text e) s t block r (w, wrote, is) h = ended_cause F refused (error.Argument text e) w r is h
 stop_cause F refused (error.Line name number e) s t block r (w, wrote, is) h = ended_cause F refused (error.Line name number e) w r is h
 stop_cause F refused (error.Input name) s t block r (w, wrote, is) h = ended_cause F refused (error.Input name) w r is h
@@ -164,7 +161,6 @@ stop_cause F refused error.NoMemory s t block r (w, wrote, is) h = ended_cause F
 
 pub take_cause : (F : List ℕ → Type 0) (refused : Bool) (P : List ℕ → Result Bool LineError → Type 0) (what : Written) (file : List ℕ) (number : ℕ) (part : List ℕ)
     (old new : State) (block rest : List ℕ) (e : CommandError) → IsLost P what file number part old new block rest e → Cause F refused e
-take_cause F refused P what file number part old new block rest error.Usage h = tt
 take_cause F refused P what file number part old new block rest (error.Argument text e) h = tt
 take_cause F refused P what file number part old new block rest (error.Line name n e) h = tt
 take_cause F refused P what file number part old new block rest (error.Input name) h = absurd h

@@ -100,7 +100,6 @@ stops_there contents names i name file sets within at before same =
 
 not_read : (contents : List ℕ → Option Text) (names : List (List ℕ)) (i : ℕ) (name : List ℕ) (sets : List Sets) (e : CommandError) → i < length names → get_or names i name ≡ name
     → AreRead contents (take i names) sets → IsFileError (contents name) name e → IsUnread contents names e
-not_read contents names i name sets error.Usage within at before h = absurd h
 not_read contents names i name sets (error.Argument text e) within at before h = absurd h
 not_read contents names i name sets error.NoMemory within at before h = tt
 not_read contents names i name sets error.Output within at before h = absurd h
@@ -158,7 +157,6 @@ stops_behind contents name names set file first (before, after, whole, says) =
 
 pub others_not_read : (contents : List ℕ → Option Text) (name : List ℕ) (names : List (List ℕ)) (set : Sets) (e : CommandError) → ReadsFile (contents name) name (Ok set)
     → IsUnread contents names e → IsUnread contents (name ∷ names) e
-others_not_read contents name names set error.Usage first h = absurd h
 others_not_read contents name names set (error.Argument text e) first h = absurd h
 others_not_read contents name names set error.NoMemory first h = tt
 others_not_read contents name names set error.Output first h = absurd h

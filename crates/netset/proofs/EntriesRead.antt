@@ -135,7 +135,6 @@ file_behind contents names name old new before adds texts h =
 -- a file that is not read
 pub file_fault : (contents : List ℕ → Option Text) (names before after : List (List ℕ)) (name : List ℕ) (old : List Entry) (e : CommandError)
     → names ≡ before ++ name ∷ after → AreToldEntries contents before old → IsFileFault (contents name) name e → IsUnchecked contents names e
-file_fault contents names before after name old error.Usage whole fine h = absurd h
 file_fault contents names before after name old (error.Argument text e) whole fine h = absurd h
 file_fault contents names before after name old error.NoMemory whole fine h = tt
 file_fault contents names before after name old error.Output whole fine h = absurd h

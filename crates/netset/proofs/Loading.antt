@@ -109,7 +109,6 @@ module _ (contents : List ℕ → Option Text) (kind : Kind) (files : List (Bor 
       at_drop_more (λ k. k) names i name (within_bytes files i within) ∙ ap (λ (k : List ℕ). k ∷ drop (i + 1) names) is_named
 
   error_at : (e : CommandError) → IsLoadError (name ∷ []) e → IsLoadError (drop i names) e
-  error_at error.Usage h = h
   error_at (error.Argument text e) h = h
   error_at (error.Line file number e) h = h
   error_at (error.Input file) (after, is) =

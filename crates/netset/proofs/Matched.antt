@@ -195,7 +195,6 @@ rest_gone s t u block next more r (before, whole, split) wrote =
 -- what is not yet written is written, or not all of it
 pub stops_by : (e : CommandError) (s t : State) (block : List ℕ) (w : Result (Unit {0}) OutputFailed) → e ≢ error.Output → Writes s t block w
     → Stops e s t block (Err (ended_by e w))
-stops_by error.Usage s t block w other wrote = (w, wrote, refl)
 stops_by (error.Argument text e) s t block w other wrote = (w, wrote, refl)
 stops_by (error.Line name n e) s t block w other wrote = (w, wrote, refl)
 stops_by (error.Input name) s t block w other wrote = (w, wrote, refl)
@@ -406,7 +405,6 @@ module _ (P : List ℕ → Result Bool LineError → Type 0) (what : Written) wh
 
   pub unread : (file : List ℕ) (known left : Option (List ℕ)) (s t u : State) (number count : ℕ) (block : List ℕ) (e : CommandError) (r : Result Verdict CommandError)
       → s.failed ≡ false → IsUnreadable file e → Streamed known left s t number count block → Stops e t u block r → Streams P what file known s u r
-  unread file known left s t u number count block error.Usage r fine h st stops = absurd h
   unread file known left s t u number count block (error.Argument text e) r fine h st stops = absurd h
   unread file known left s t u number count block (error.Line name n e) r fine h st stops = absurd h
   unread file known left s t u number count block (error.Input name) r fine h st (w, wrote, is) =
@@ -504,7 +502,6 @@ module _ (P : List ℕ → Result Bool LineError → Type 0) (what : Written) wh
   pub lost : (file : List ℕ) (known left next : Option (List ℕ)) (s t u v : State) (number count : ℕ) (block rest part : List ℕ) (more : Bool) (e : CommandError)
       (r : Result Verdict CommandError) → s.failed ≡ false → Streamed known left s t number count block → IfSome left (λ text. IsNextLine text part more next)
       → (lines_of_part part more ≡ part ∷ []) × IsLost P what file number part t u block rest e → Stops e u v rest r → Streams P what file known s v r
-  lost file known left next s t u v number count block rest part more error.Usage r fine st n h stops = absurd h.1
   lost file known left next s t u v number count block rest part more (error.Argument text e) r fine st n h stops = absurd h.1
   lost file known left next s t u v number count block rest part more (error.Input name) r fine st n h stops = absurd h.1
   lost file known left next s t u v number count block rest part more error.NoMemory r fine st n h stops = absurd h.1
@@ -539,7 +536,6 @@ known_match P Q f what known text answer verdict is h =
 
 stop_same : (P Q : List ℕ → Result Bool LineError → Type 0) → ((line : List ℕ) (r : Result Bool LineError) → P line r → Q line r) → (read left : List (List ℕ)) (e : CommandError)
     → IsStop (IsErrorBy P) read left e → IsStop (IsErrorBy Q) read left e
-stop_same P Q f read left error.Usage h = tt
 stop_same P Q f read left (error.Argument text e) h = tt
 stop_same P Q f read left (error.Line name number e) (place, line, after, is, bad) = (place, line, after, is, f line (Err e) bad)
 stop_same P Q f read left (error.Input name) h = tt

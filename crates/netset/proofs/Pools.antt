@@ -1,20 +1,19 @@
 -- The first free network of a pool.
-use Rattle.std.proofs.Common.{◌≡◌, ◌≢◌, sym, ◌∙◌, ap, [], drop, get_or, inr, ℕ, ◌≤◌, List, ◌∷◌, Option, Result}
+use Rattle.std.proofs.Common.{◌≡◌, inr, ℕ, ◌≤◌, List, ◌∷◌, Option, Result}
 use Rattle.cidr.specs.declared.family.Family.{Family}
 use Rattle.cidr_io.specs.Writing.{State, Answered}
 use Rattle.cidr_io.specs.declared.sink.OutputFailed.{OutputFailed}
 use Rattle.cidr_sets.specs.Sets.{IsSetOf}
 use Rattle.netset.specs.Answering.{AreRead}
-use Rattle.netset.specs.Combining.{IsMade, name_of}
-use Rattle.netset.specs.Commands.{Lists, NotIn, Diff, Free, Check, Match, Look, Single, Help, Version, IsRequest, IsUsage, Says}
+use Rattle.netset.specs.Combining.{IsMade}
+use Rattle.netset.specs.Commands.{Free, Says}
 use Rattle.netset.specs.Free.{IsFreeText}
 use Rattle.cidr_lists.specs.Lists.{Text}
 use Rattle.netset.specs.Program.{AnswersRequest, by_output}
 use Rattle.cidr_lists.specs.Sets.{HasAddress, networks_of}
-use Rattle.netset.specs.Single.{IsNumber, IsSingle, SingleRequest}
+use Rattle.netset.specs.Single.{IsNumber}
 use Rattle.netset.specs.declared.output.answers.Verdict.{Verdict}
 use Rattle.netset.specs.declared.errors.CommandError.{CommandError}
-use Rattle.netset.specs.declared.commands.operations.Operation.{Operation}
 use Rattle.netset.specs.declared.commands.operations.Operation.TheVariants.{Minus}
 use Rattle.cidr_lists.specs.declared.sets.Sets.{Sets}
 use Rattle.netset.proofs.Combining.{has_same, made_same}
@@ -47,21 +46,3 @@ free_written contents pool len used n read rest answer verdict s t w r number ar
       written,
       is,
     )
-
--- no request has these words
-pub no_request : (words : List (List ℕ)) (name : List ℕ) (files : List (List ℕ)) → words ≡ name ∷ files → ((operation : Operation) → name ≢ name_of operation)
-    → files ≢ [] → ((request : SingleRequest) → ¬ (IsSingle words request)) → ((net : List ℕ) (fs : List (List ℕ)) → ¬ (IsRequest words (NotIn net fs)))
-    → ((old new : List ℕ) → ¬ (IsRequest words (Diff old new))) → ((pool len : List ℕ) (used : List (List ℕ)) → ¬ (IsRequest words (Free pool len used)))
-    → ((fs : List (List ℕ)) → ¬ (IsRequest words (Check fs)))
-    → ((options : List (List ℕ)) (list file : List ℕ) → ¬ (IsRequest words (Match options list file)))
-    → ((table file : List ℕ) → ¬ (IsRequest words (Look table file))) → IsUsage words
-no_request words name files is unnamed some single not_in diff free check match look (Lists operation fs) h = unnamed operation (ap (λ (k : List (List ℕ)). get_or k 0 []) (sym is ∙ h.0))
-no_request words name files is unnamed some single not_in diff free check match look (NotIn net fs) h = not_in net fs h
-no_request words name files is unnamed some single not_in diff free check match look (Diff old new) h = diff old new h
-no_request words name files is unnamed some single not_in diff free check match look (Free pool len used) h = free pool len used h
-no_request words name files is unnamed some single not_in diff free check match look (Check fs) h = check fs h
-no_request words name files is unnamed some single not_in diff free check match look (Match options list file) h = match options list file h
-no_request words name files is unnamed some single not_in diff free check match look (Look table file) h = look table file h
-no_request words name files is unnamed some single not_in diff free check match look (Single request) h = single request h
-no_request words name files is unnamed some single not_in diff free check match look Help h = some (ap (drop 1) (sym is ∙ h))
-no_request words name files is unnamed some single not_in diff free check match look Version h = some (ap (drop 1) (sym is ∙ h))

@@ -1,18 +1,20 @@
 -- Runs with options of reading.
-use Rattle.std.proofs.Common.{◌≡◌, refl, sym, ◌∙◌, subst, inl, inr, ℕ, ◌<◌, ◌++◌, Bool, true, false, List, [], Option, Result, Err}
+use Rattle.std.proofs.Common.{◌≡◌, refl, sym, ◌∙◌, ap, subst, inl, inr, ℕ, ◌<◌, ◌++◌, Bool, true, false, List, [], Option, Result, Ok, Err}
 use Rattle.std.proofs.lemmas.Bool.{true≢false}
 use Rattle.std.specs.Bool.{Decides}
 use Rattle.std.specs.List.{count_by}
-use Rattle.cidr_io.specs.Writing.{State}
+use Rattle.cidr_io.specs.Writing.{State, Says as Tells}
 use Rattle.netset.specs.Causes.{Cause, MayFail}
-use Rattle.netset.specs.Commands.{Request, IsRequest, MayRead, input_name, lists_of, others_of, reading_of, reading_options, without_options}
+use Rattle.netset.specs.Arguments.{Parts, and_then, line_parts, line_request, part_request, read_request}
+use Rattle.netset.specs.Commands.{Request, input_name, lists_of, others_of, reading_of}
 use Rattle.netset.specs.Keeping.{kind_of}
 use Rattle.cidr_lists.specs.Lists.{Text}
 use Rattle.netset.specs.Matching.{is_word}
 use Rattle.netset.specs.Loading.{IsLoaded, IsUnloaded}
-use Rattle.netset.specs.Program.{AnswersRequest, IsCaused, IsReadTwice, IsWrong, KeepsGoing, Reports, RunsArguments, RunsOnce, RunsRequest, RunsWords, TellsFaults, status_of, contents_by}
+use Rattle.netset.specs.Program.{AnswersRequest, IsCaused, IsReadTwice, IsWrong, KeepsGoing, Reports, RunsFound, RunsOnce, RunsRequest, TellsFaults, status_of, contents_by}
 use Rattle.netset.specs.declared.output.answers.Verdict.{Verdict}
 use Rattle.netset.specs.declared.commands.Reading.{Reading}
+use Rattle.netset.specs.declared.commands.table.Verb.{Verb}
 use Rattle.netset.specs.declared.errors.CommandError.{CommandError}
 use Rattle.netset.specs.declared.errors.CommandError.TheVariants as error
 use Rattle.netset.specs.declared.input.keeping.Kept.{Kept}
@@ -59,17 +61,31 @@ pub argument_first : (contents : List ℕ → Option Text) (request : Request) (
 argument_first contents request refused closed out s u e status wrong says is = inl (e, wrong, (refl, says, is))
 
 -- ---- arguments
-pub run_words : (reading : Reading) (contents : List ℕ → Option (List ℕ)) (refused : Bool) (words rest : List (List ℕ)) (closed : Bool) (out new s t : State) (status : ℕ)
-    → reading ≡ reading_of (reading_options words) → rest ≡ without_options words → RunsWords reading contents refused rest closed out new s t status
-    → RunsArguments contents refused words closed out new s t status
-run_words reading contents refused words rest closed out new s t status asked left h =
-    inl (subst (λ (k : Reading). RunsWords k contents refused (without_options words) closed out new s t status) asked
-    (subst (λ (k : List (List ℕ)). RunsWords reading contents refused k closed out new s t status) left h))
+-- what was found in the parts of a line was found in the line
+pub found_parts : (words : List (List ℕ)) (verb : Verb) (parts : Parts) → line_parts words ≡ Ok (verb, parts) → line_request words ≡ read_request verb parts
+found_parts words verb parts is = ap (λ (r : Result (Verb × Parts) (List ℕ)). and_then r (λ line. read_request line.0 line.1)) is
 
-pub run_request : (reading : Reading) (contents : List ℕ → Option (List ℕ)) (refused : Bool) (words : List (List ℕ)) (request : Request) (closed : Bool) (out new s t : State) (status : ℕ)
-    → IsRequest words request × MayRead reading request → RunsOnce reading contents refused request closed out new s t status
-    → RunsWords reading contents refused words closed out new s t status
-run_request reading contents refused words request closed out new s t status is h = inr (request, is.0, is.1, h)
+-- no parts, or no request
+pub found_none : (words : List (List ℕ)) (line : List ℕ) → line_parts words ≡ Err line → line_request words ≡ Err line
+found_none words line is = ap (λ (r : Result (Verb × Parts) (List ℕ)). and_then r (λ found. read_request found.0 found.1)) is
+
+pub read_none : (verb : Verb) (parts : Parts) (line : List ℕ) → part_request verb parts ≡ Err line → read_request verb parts ≡ Err line
+read_none verb parts line is = ap (λ (r : Result Request (List ℕ)). and_then r (λ request. Ok (reading_of parts.options, request))) is
+
+pub read_one : (verb : Verb) (parts : Parts) (reading : Reading) (request : Request) → part_request verb parts ≡ Ok request → reading ≡ reading_of parts.options
+    → read_request verb parts ≡ Ok (reading, request)
+read_one verb parts reading request is read =
+    ap (λ (r : Result Request (List ℕ)). and_then r (λ request. Ok (reading_of parts.options, request))) is ∙ ap (λ (k : Reading). Ok (k, request)) (sym read)
+
+pub run_found : (found other : Result (Reading × Request) (List ℕ)) (contents : List ℕ → Option (List ℕ)) (refused closed : Bool) (out new s t : State) (status : ℕ)
+    → found ≡ other → RunsFound other contents refused closed out new s t status → RunsFound found contents refused closed out new s t status
+run_found found other contents refused closed out new s t status is h =
+    subst (λ (k : Result (Reading × Request) (List ℕ)). RunsFound k contents refused closed out new s t status) (sym is) h
+
+pub run_misused : (found : Result (Reading × Request) (List ℕ)) (line : List ℕ) (contents : List ℕ → Option (List ℕ)) (refused closed : Bool) (out s t : State) (status : ℕ)
+    → found ≡ Err line → Tells s t line → status ≡ 2 → RunsFound found contents refused closed out out s t status
+run_misused found line contents refused closed out s t status is says ends =
+    run_found found (Err line) contents refused closed out out s t status is (inl (refl, says, ends))
 
 pub run_once : (reading : Reading) (contents : List ℕ → Option (List ℕ)) (refused : Bool) (request : Request) (closed : Bool) (out new s t : State) (status : ℕ) (twice : Bool) (names : List (List ℕ))
     → names ≡ lists_of request ++ others_of request → Decides twice (1 < count_by (is_word input_name) names) → twice ≡ false → RunsRequest reading (contents_by reading.host_bits contents) refused request closed out new s t status
@@ -81,7 +97,6 @@ run_once reading contents refused request closed out new s t status twice names 
 
 -- the standard input named twice is told whatever became of the output
 told_anyway : (closed : Bool) (e : CommandError) (s t : State) → IsReadTwice e → Reports false (Err e) s t → Reports closed (Err e) s t
-told_anyway closed error.Usage s t is says = absurd is
 told_anyway closed (error.Argument text why) s t is says = says
 told_anyway closed (error.Line name number why) s t is says = absurd is
 told_anyway closed (error.Input name) s t is says = absurd is

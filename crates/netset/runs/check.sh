@@ -5,8 +5,6 @@ set -euo pipefail
 export LC_ALL=C
 cd "$(dirname "$0")/.."
 
-usage=$'usage: netset merge|nets|not|ranges|count|check [FILE..] | not --in NET [FILE..] | minus|and A B.. | diff A B | free POOL LEN USED.. | match [--any] [-v] [-c] [-q] LIST [FILE] | look TABLE [FILE] | show HOST | split NET LEN | nth NET INDEX | --help | --version; --host-bits behind a command for lists of networks, -k behind one for lists\n'
-
 room=$(mktemp -d)
 trap 'rm -rf "$room"' EXIT
 differs=0
@@ -67,9 +65,9 @@ rows() {
     run 0 '' '' '' not --in 10.0.0.0/9 ten
     run 2 '' $'10.0.0.1/8: host bits set; the network is 10.0.0.0/8\n' '' not --in 10.0.0.1/8 missing
     run 2 '' $'missing: cannot be read\n' '' not --in ::/0 missing
-    run 2 '' "$usage" '' not --in
-    run 2 '' "$usage" '' not --in ::/0 -k
-    run 2 '' "$usage" '' not ten --in
+    run 2 '' $'NET is missing, see: netset help not\n' '' not --in
+    run 0 $'::/0\n' '' '' not --in ::/0 -k
+    run 2 '' $'NET is missing, see: netset help not\n' '' not ten --in
     run 0 $'10.0.0.1-10.0.0.6\n10.0.0.8\n::1-::2\n' '' \
         '10.0.0.1\n10.0.0.2/31\n::2\n10.0.0.4/31\n10.0.0.6\n10.0.0.8\n::1' ranges
     run 0 $'0.0.0.0-255.255.255.255\n::-ffff:ffff:ffff:ffff:ffff:ffff:ffff:ffff\n' '' \
@@ -77,23 +75,83 @@ rows() {
     run 0 $'10.0.0.0-11.255.255.255\n' '' '11.0.0.0/8' ranges ten -
     run 0 '' '' '' ranges
     run 2 '' $'-:1: \\xff: not UTF-8\n' '\xff' ranges
-    run 2 '' "$usage" '' ranges - -k
+    run 0 '' '' '' ranges - -k
     run 0 $'IPv4 0\nIPv6 0\n' '' '' count
     run 0 $'IPv4 257\nIPv6 1\n' '' '10.0.0.1\n10.0.1.0/24\n10.0.1.7\n::1' count
     run 0 $'IPv4 4294967296\nIPv6 340282366920938463463374607431768211456\n' '' '0.0.0.0/0\n::/0' count
     run 2 '' $'-:1: \\xff: not UTF-8\n' '\xff' count
-    run 2 '' "$usage" '' minus
-    run 2 '' "$usage" '' minus ten
-    run 2 '' "$usage" '' and ten
-    run 2 '' "$usage" '' and ten -k
-    run 2 '' "$usage" '' --help merge
-    run 2 '' "$usage" ''
-    run 2 '' "$usage" '' merged
-    run 2 '' "$usage" '' merge -x
-    run 2 '' "$usage" '' merge ten --help
-    run 2 '' "$usage" '' --help ten
-    run 2 '' "$usage" '' merge $'\xff'
+    run 2 '' $'A is missing, see: netset help minus\n' '' minus
+    run 2 '' $'B is missing, see: netset help minus\n' '' minus ten
+    run 2 '' $'B is missing, see: netset help and\n' '' and ten
+    run 2 '' $'B is missing, see: netset help and\n' '' and ten -k
+    run 2 '' $'COMMAND is missing, see: netset help\n' ''
+    run 2 '' $'merged: no such command, see: netset help\n' '' merged
+    run 2 '' $'-x: no such option, see: netset help merge\n' '' merge -x
+    run 2 '' $'ten: no such command, see: netset help\n' '' --help ten
+    run 2 '' $'an argument is not UTF-8, see: netset help\n' '' merge $'\xff'
     run 0 $'netset 0.1.0\n' '' '' --version
+}
+
+# Options before, behind and between operands, joined, with their values and ended, and the pages of help.
+rows_of_arguments() {
+    local page long missing=$', see: netset help match\n'
+    run 0 $'1\n' '' '10.0.0.1\n11.0.0.1\n::1' match -cv ten_and_eight -
+    run 0 $'2\n' '' '10.0.0.1\n11.0.0.1\n::1' match ten -vc
+    run 0 $'2\n' '' '10.0.0.1\n11.0.0.1\n::1' match -v ten -c -
+    run 0 $'2\n' '' '10.0.0.1\n11.0.0.1\n::1' match -v -- ten -
+    run 0 $'11.0.0.1\n' '' '10.0.0.1\n11.0.0.1' match -kv --host-bits hosts
+    run 2 '' "-vx: no such option$missing" '' match -vx ten
+    run 2 '' "-v-c: no such option$missing" '' match -v-c ten
+    run 2 '' "-xv: no such option$missing" '' match -xv
+    run 2 '' "LIST is missing$missing" '' match -v --
+    run 2 '' "--ANY: no such option$missing" '' match --ANY ten
+    run 2 '' "--any=: no such option$missing" '' match --any= ten
+    run 0 $'10.128.0.0/9\n' '' '10.0.0.0/9' not --in=10.0.0.0/8
+    run 0 $'10.128.0.0/9\n' '' '10.0.0.0/9' not - --in 10.0.0.0/8
+    run 0 $'10.128.0.0/9\n' '' '10.0.0.1/9' not - -k --in=10.0.0.0/8 --host-bits
+    run 0 $'10.128.0.0/9\n' '' '10.0.0.0/9' not --in=10.0.0.0/8 -- -
+    run 2 '' $'x=1: couldn\'t parse address in network: invalid IP address syntax\n' '' not --in=x=1
+    run 2 '' $'--: couldn\'t parse address in network: invalid IP address syntax\n' '' not --in -- ten
+    run 2 '' $'::/1: one argument too many, see: netset help not\n' '' not --in ::/0 --in=::/1
+    run 2 '' $'--inside: no such option, see: netset help not\n' '' not --inside ::/0
+    run 2 '' $'--host-bits=1: no such option, see: netset help merge\n' '' merge --host-bits=1
+    run 2 '' $'--in: no such option, see: netset help merge\n' '' merge --in ::/0
+    run 0 $'11.0.0.0/8\n' '' '' merge -- -list
+    run 0 $'10.0.0.0/7\n' '' '10.0.0.0/8' merge - -k -- -list
+    run 2 '' $'-list: no such option, see: netset help merge\n' '' merge -list
+    run 2 '' $'-k: cannot be read\n' '' merge -- -k
+    run 2 '' $'--: cannot be read\n' '' merge -- --
+    long=aaaaaaaaaaaaaaaaaaaaaaaaaaaaaaaaaaaaaaaa
+    run 2 '' "$long: no such command, see: netset help"$'\n' '' "$long"
+    run 2 '' "$long..: no such command, see: netset help"$'\n' '' "${long}a"
+    run 2 '' '\x1b[2J\x0adone: no such option, see: netset help merge'$'\n' '' merge $'-\e[2J\ndone'
+    page=$'netset merge [FILE..]   the shortest list of networks that has the addresses of all the lists
+--host-bits             a bit set behind the prefix of a network in a list is taken as unset,
+                        and is no error
+-k                      each line of a list in error is told, and not only the first\n'
+    run 0 "$page" '' '' help merge
+    run 0 "$page" '' '' --help merge
+    run 0 "$page" '' '' -h merge
+    run 0 "$page" '' '' merge --help
+    run 0 "$page" '' '' merge -h ten
+    run 0 "$page" '' '' merge -kh ten
+    page=$'netset --version        the version\n'
+    run 0 "$page" '' '' help --version
+    run 0 "$page" '' '' --version -h
+    page=$'netset help [COMMAND]   this page, or what it says of a command\n'
+    run 0 "$page" '' '' help help
+    run 0 "$page" '' '' help -h
+    run 0 "$page" '' '' -h --help
+    page=$("$program" help)$'\n'
+    [[ $page == "netset merge [FILE..] "*" or memory."$'\n' ]] || differs=1
+    run 0 "$page" '' '' help
+    run 0 "$page" '' '' --help
+    run 0 "$page" '' '' -h
+    run 2 '' $'merged: no such command, see: netset help\n' '' help merged
+    run 2 '' $'nets: one argument too many, see: netset help help\n' '' help merge nets
+    run 2 '' $'-x: no such option, see: netset help help\n' '' help -x
+    run 2 '' $'x: one argument too many, see: netset help --version\n' '' --version x
+    run 2 '' $': no such command, see: netset help\n' '' ''
 }
 
 # Lines that are ranges of addresses.
@@ -134,7 +192,7 @@ rows_of_input_twice() {
     run 2 '' "$twice" '10.0.0.0/8' match - -
     run 2 '' "$twice" '10.0.0.0/8' match -
     run 2 '' "$twice" '10.0.0.0/8 x' look -
-    run 2 '' "$usage" '10.0.0.0/8' diff - - -
+    run 2 '' $'-: one argument too many, see: netset help diff\n' '10.0.0.0/8' diff - - -
 }
 
 # What changes from a list to another.
@@ -147,11 +205,11 @@ rows_of_changes() {
     run 1 $'-10.0.0.0\n' '' '10.0.0.1\n10.0.0.2/31\n10.0.0.4/30' diff eight_addresses -
     run 2 '' $'bad:1: 10.0.0.0/x: couldn\'t parse length in network: invalid length text\n' '' diff ten bad
     run 2 '' $'missing: cannot be read\n' '' diff missing bad
-    run 2 '' "$usage" '' diff
-    run 2 '' "$usage" '' diff ten
-    run 2 '' "$usage" '' diff ten both -
-    run 2 '' "$usage" '' diff ten -k
-    run 2 '' "$usage" '' diff -x ten
+    run 2 '' $'A is missing, see: netset help diff\n' '' diff
+    run 2 '' $'B is missing, see: netset help diff\n' '' diff ten
+    run 2 '' $'-: one argument too many, see: netset help diff\n' '' diff ten both -
+    run 2 '' $'B is missing, see: netset help diff\n' '' diff ten -k
+    run 2 '' $'-x: no such option, see: netset help diff\n' '' diff -x ten
 }
 
 # The first free network of a pool.
@@ -166,9 +224,9 @@ rows_of_pools() {
     run 2 '' $'129: no prefix length inside the network\n' '' free ten 129 missing
     run 2 '' $'x: no prefix length inside the network\n' '' free missing x -
     run 2 '' $'missing: cannot be read\n' '' free ten 8 missing
-    run 2 '' "$usage" '' free ten 8
-    run 2 '' "$usage" '' free -x 8 ten
-    run 2 '' "$usage" '' free ten 8 both -k
+    run 2 '' $'USED is missing, see: netset help free\n' '' free ten 8
+    run 2 '' $'-x: no such option, see: netset help free\n' '' free -x 8 ten
+    run 1 '' '' '' free ten 8 both -k
 }
 
 # What is found in lists.
@@ -197,7 +255,7 @@ rows_of_findings() {
     run 2 '' $'bad:1: 10.0.0.0/x: couldn\'t parse length in network: invalid length text\n' '' check ten ten bad
     run 2 '' $'-:1: \\xff: not UTF-8\n' '\xff' check
     run 2 '' $'missing: cannot be read\n' '' check ten missing
-    run 2 '' "$usage" '' check -x
+    run 2 '' $'-x: no such option, see: netset help check\n' '' check -x
 }
 
 # The lines of a file by a list.
@@ -230,12 +288,12 @@ rows_of_matches() {
     run 2 '' $'missing: cannot be read\n' '' match missing bad
     run 2 '' $'missing: cannot be read\n' '' match ten missing
     run 2 '' $'.: cannot be read\n' '' match ten .
-    run 2 '' "$usage" '' match
-    run 2 '' "$usage" '' match -v
-    run 2 '' "$usage" '' match -x ten
-    run 2 '' "$usage" '' match ten -v
-    run 2 '' "$usage" '' match ten ten -
-    run 2 '' "$usage" '' match -- ten
+    run 2 '' $'LIST is missing, see: netset help match\n' '' match
+    run 2 '' $'LIST is missing, see: netset help match\n' '' match -v
+    run 2 '' $'-x: no such option, see: netset help match\n' '' match -x ten
+    run 1 '' '' '' match ten -v
+    run 2 '' $'-: one argument too many, see: netset help match\n' '' match ten ten -
+    run 1 '' '' '' match -- ten
 }
 
 # The longest networks of addresses.
@@ -264,10 +322,10 @@ rows_of_look_ups() {
     run 2 '' $'missing: cannot be read\n' '' look missing bad
     run 2 '' $'missing: cannot be read\n' '' look owners missing
     run 2 '' $'.: cannot be read\n' '' look owners .
-    run 2 '' "$usage" '' look
-    run 2 '' "$usage" '' look owners - -
-    run 2 '' "$usage" '' look -x
-    run 2 '' "$usage" '' look owners -k
+    run 2 '' $'TABLE is missing, see: netset help look\n' '' look
+    run 2 '' $'-: one argument too many, see: netset help look\n' '' look owners - -
+    run 2 '' $'-x: no such option, see: netset help look\n' '' look -x
+    run 1 '' '' '' look owners -k
 }
 
 # The lines of a file with an address of a list anywhere.
@@ -290,9 +348,9 @@ rows_of_logs() {
     run 1 '' '' '10.0.0.1\n' match -v --any ten
     run 2 '' $'bad:1: 10.0.0.0/x: couldn\'t parse length in network: invalid length text\n' '' match --any bad missing
     run 2 '' $'missing: cannot be read\n' '' match --any ten missing
-    run 2 '' "$usage" '' match ten --any
-    run 2 '' "$usage" '' match --anywhere ten
-    run 2 '' "$usage" '' match --any
+    run 1 '' '' '' match ten --any
+    run 2 '' $'--anywhere: no such option, see: netset help match\n' '' match --anywhere ten
+    run 2 '' $'LIST is missing, see: netset help match\n' '' match --any
 }
 
 # The commands on one host or network.
@@ -313,10 +371,11 @@ rows_of_one_network() {
     run 0 $'ffff:ffff:ffff:ffff:ffff:ffff:ffff:ffff\n' '' '' nth ::/0 340282366920938463463374607431768211455
     run 2 '' $'340282366920938463463374607431768211456: no index below 2^128\n' '' nth ::/0 \
         340282366920938463463374607431768211456
-    run 2 '' $'-1: no index below 2^128\n' '' nth ::/0 -1
-    run 2 '' "$usage" '' show
-    run 2 '' "$usage" '' split 192.0.2.0/24
-    run 2 '' "$usage" '' nth 192.0.2.0/24 1 2
+    run 2 '' $'-1: no index below 2^128\n' '' nth ::/0 -- -1
+    run 2 '' $'-1: no such option, see: netset help nth\n' '' nth ::/0 -1
+    run 2 '' $'HOST is missing, see: netset help show\n' '' show
+    run 2 '' $'LEN is missing, see: netset help split\n' '' split 192.0.2.0/24
+    run 2 '' $'2: one argument too many, see: netset help nth\n' '' nth 192.0.2.0/24 1 2
 }
 
 # Host bits of the networks of lists, set and cleared.
@@ -343,14 +402,14 @@ rows_of_host_bits() {
     run 2 '' $'-:2: 010.0.0.7/8: a leading zero in an octet\n' '10.0.0.7/8\n010.0.0.7/8' merge --host-bits
     run 2 '' $'-:1: 10.0.0.7/8: invalid IP address syntax\n' '10.0.0.7/8-10.0.0.9' merge --host-bits
     run 2 '' $'-:1: \\xff: not UTF-8\n' '\xff' merge --host-bits
-    run 2 '' "$usage" '' check --host-bits
-    run 2 '' "$usage" '' show --host-bits ::1
-    run 2 '' "$usage" '' show --host-bits
-    run 2 '' "$usage" '' --help --host-bits
-    run 2 '' "$usage" '' --host-bits merge
-    run 2 '' "$usage" '' merge ten --host-bits
-    run 2 '' "$usage" '' match -v --host-bits ten
-    run 2 '' "$usage" '' minus --host-bits ten
+    run 2 '' $'--host-bits: no such option, see: netset help check\n' '' check --host-bits
+    run 2 '' $'--host-bits: no such option, see: netset help show\n' '' show --host-bits ::1
+    run 2 '' $'--host-bits: no such option, see: netset help show\n' '' show --host-bits
+    run 2 '' $'--host-bits: no such option, see: netset help help\n' '' --help --host-bits
+    run 2 '' $'--host-bits: no such command, see: netset help\n' '' --host-bits merge
+    run 0 $'10.0.0.0/8\n' '' '' merge ten --host-bits
+    run 1 '' '' '' match -v --host-bits ten
+    run 2 '' $'B is missing, see: netset help minus\n' '' minus --host-bits ten
 }
 
 # Each line in error.
@@ -374,10 +433,10 @@ rows_of_all_errors() {
     run 2 '' "hosts:1: 10.0.0.7/8: $host" '' look -k hosts
     run 0 $'10.0.0.1 10.0.0.0/8\n' '' '10.0.0.1' look -k --host-bits hosts
     run 0 $'10.1.2.3 10.1.0.0/16 x  y \t; z\n' '' '10.1.2.3' look -k owners
-    run 2 '' "$usage" '' show -k ::1
-    run 2 '' "$usage" '' -k merge
-    run 2 '' "$usage" '' merge ten -k
-    run 2 '' "$usage" '' check -k --host-bits
+    run 2 '' $'-k: no such option, see: netset help show\n' '' show -k ::1
+    run 2 '' $'-k: no such command, see: netset help\n' '' -k merge
+    run 0 $'10.0.0.0/8\n' '' '' merge ten -k
+    run 2 '' $'--host-bits: no such option, see: netset help check\n' '' check -k --host-bits
 }
 
 # More than one block of 8192 bytes, in order.
@@ -528,6 +587,7 @@ printf '10.0.0.0/8 ten\n10.1.0.0/16\tfirst\r\n\n# 10.2.0.0/16 x\n10.1.0.0/16  x 
     >"$room/owners"
 : >"$room/nothing"
 printf '10.0.0.7/8\n' >"$room/hosts"
+printf '11.0.0.0/8\n' >"$room/-list"
 printf '10.0.0.1\n' >"$room/address"
 printf '10.0.0.1/8\n' >"$room/"$'two\nlines'
 seq 0 255 | awk '{ print "10.1." $1 ".0/24 " $1 }' >"$room/parts"
@@ -541,6 +601,7 @@ for build in netset netset.by-rattle; do
     cp "out/$build" "$program"
     chmod 755 "$program"
     rows
+    rows_of_arguments
     rows_of_ranges
     rows_of_input_twice
     rows_of_changes

@@ -19,7 +19,6 @@ use Rattle.netset.specs.declared.input.several.Several.{Several}
 
 -- why the file of this name is not read
 abbrev pub IsFileError : Option Text → List ℕ → CommandError → Type 0
-IsFileError contents name error.Usage = ⊥
 IsFileError contents name (error.Argument text e) = ⊥
 IsFileError contents name (error.Line file number e) = (file.now ≡ name) × ((text : Text) → contents ≡ Some text → IsFirstError text number e)
 IsFileError contents name (error.Input file) = file.now ≡ name

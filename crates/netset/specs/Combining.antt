@@ -1,5 +1,5 @@
 -- Several lists put together. `In` tells which addresses a list has.
-use Rattle.std.specs.Prelude.{ℕ, Bool, true, false, nat_lt, List, codes}
+use Rattle.std.specs.Prelude.{Bool, true, false, List}
 use Rattle.cidr.specs.declared.family.Family.{Family}
 use Rattle.netset.specs.declared.commands.operations.Operation.{Operation}
 use Rattle.netset.specs.declared.commands.operations.Operation.TheVariants.{Merge, Nets, Minus, And, Not, Ranges, Count}
@@ -8,22 +8,6 @@ use Rattle.cidr_lists.specs.declared.sets.Form.TheVariants as form
 use Rattle.cidr_lists.specs.declared.sets.Step.{Step}
 use Rattle.cidr_lists.specs.declared.sets.Step.TheVariants.{Union, Difference, Intersection}
 use Rattle.cidr_lists.specs.Combining.{SomeHas, AllHave, FirstAlone}
-
--- the word that asks for it
-abbrev pub name_of : Operation → List ℕ
-name_of Merge = codes "merge"
-name_of Nets = codes "nets"
-name_of Minus = codes "minus"
-name_of And = codes "and"
-name_of Not = codes "not"
-name_of Ranges = codes "ranges"
-name_of Count = codes "count"
-
--- whether it takes so many files: minus and and take two or more
-abbrev pub takes : Operation → ℕ → Bool
-takes Minus count = nat_lt 1 count
-takes And count = nat_lt 1 count
-takes operation count = true
 
 -- the address belongs to what is made of the lists
 abbrev pub IsMade : {X : Type 0} → (X → Family → List Bool → Type 0) → Operation → List X → Family → List Bool → Type 0

@@ -1,9 +1,13 @@
 -- The request that a command of the program is.
-use Rattle.std.specs.Prelude.{◌≡◌, ◌≢◌, ◌⊎◌, ℕ, Bool, true, false, List, [], ◌∷◌, length, codes, map}
-use Rattle.std.specs.List.{list_any}
-use Rattle.netset.specs.Commands.{Request, Lists, NotIn, Diff, Free, Check, Match, Look, Single as ASingle, Help, Version, is_option, is_reading_option}
-use Rattle.netset.specs.Combining.{takes}
-use Rattle.netset.specs.declared.commands.operations.Operation.{Operation}
+use Rattle.std.specs.Prelude.{◌≡◌, ℕ, Bool, true, List, map, Result, Ok, Err}
+use Rattle.netset.specs.Arguments.{Parts, joined, misuse_text}
+use Rattle.netset.specs.Commands.{Request, Lists, NotIn, Diff, Free, Check, Match, Look, Single as ASingle, Help, Version}
+use Rattle.netset.specs.Table.{texts}
+use Rattle.netset.specs.declared.commands.arguments.Next.{Next}
+use Rattle.netset.specs.declared.commands.arguments.Parts.{Parts as GivenParts}
+use Rattle.netset.specs.declared.errors.Misuse.{Misuse}
+use Rattle.netset.specs.declared.errors.UsageError.{UsageError}
+use Rattle.netset.specs.declared.errors.UsageError.TheVariants as wrong
 use Rattle.netset.specs.Single.{SingleRequest, Show, Split, Nth}
 use Rattle.netset.specs.declared.commands.Command.{Command}
 use Rattle.netset.specs.declared.commands.Command.TheVariants as command
@@ -26,19 +30,23 @@ request_of (command.Check files) = Check (map (λ file. file.now) files.now)
 request_of (command.Match options list file) = Match (map (λ w. w.now) options.now) list.now file.now
 request_of (command.Look table file) = Look table.now file.now
 request_of (command.Single single) = ASingle (single_request single)
-request_of command.Help = Help
+request_of (command.Help topic) = Help topic
 request_of command.Version = Version
 
--- the word is no request by itself that begins with -
-abbrev pub IsNoLoneWord : List ℕ → Type 0
-IsNoLoneWord word = (word ≢ codes "--help") × (word ≢ codes "--version")
+-- ---- what private functions promise of arguments
+-- the parts of words by their bytes
+abbrev pub parts_in : GivenParts → Parts
+parts_in parts = record { options = texts parts.options.items; values = texts parts.values.items; operands = texts parts.operands.items }
 
--- they are no files of the operation
-abbrev pub AreMisfits : Operation → List (List ℕ) → Type 0
-AreMisfits operation files = (list_any is_option files ≡ true) ⊎ (takes operation (length files) ≡ false)
+-- the line of a word that is wrong
+abbrev pub misuse_line : Misuse → List ℕ
+misuse_line misuse = misuse_text misuse.word.now misuse.why misuse.command.now
 
--- an option of reading stands behind the command
-abbrev pub has_reading_option : List (List ℕ) → Bool
-has_reading_option [] = false
-has_reading_option (command ∷ []) = false
-has_reading_option (command ∷ word ∷ words) = is_reading_option word
+-- arguments have an error: this line, or an allocation was refused
+abbrev pub IsUsageError : {A : Type 0} → Result A (List ℕ) → Bool → UsageError → Type 0
+IsUsageError found refused (wrong.Misuse misuse) = found ≡ Err (misuse_line misuse)
+IsUsageError found refused wrong.NoMemory = refused ≡ true
+
+-- what was to be added to parts stands behind them
+abbrev pub Adds : Parts → Parts → Result (Parts × Next) (List ℕ) → Next → Type 0
+Adds old new found next = (one : Parts) × (found ≡ Ok (one, next)) × (new ≡ joined old one)

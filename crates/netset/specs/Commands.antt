@@ -1,6 +1,6 @@
--- The commands, their arguments and what each answers.
-use Rattle.std.specs.Prelude.{◌≡◌, ℕ, ◌<◌, ◌≤◌, ◌==◌, nat_lt, Bool, true, false, if◌then◌else◌, ◌&&◌, ◌⊎◌, List, [], ◌∷◌, ◌++◌, length, drop, count_by, take_while, codes, Option, Some, ◌||◌}
-use Rattle.std.specs.List.{AllZip, list_all, list_any, prefix_len, slice_index}
+-- The requests and what each is answered with.
+use Rattle.std.specs.Prelude.{◌≡◌, ℕ, ◌<◌, ◌≤◌, Bool, if◌then◌else◌, List, [], ◌∷◌, ◌++◌, count_by, codes, Option, Some}
+use Rattle.std.specs.List.{AllZip}
 use Rattle.cidr.specs.either.IpText.{IsIpNetworkText}
 use Rattle.cidr.specs.declared.cidr.combined.IpCidr.{IpCidr}
 use Rattle.cidr.specs.declared.family.Family.{Family}
@@ -12,9 +12,10 @@ use Rattle.netset.specs.Look.{IsLook}
 use Rattle.cidr_lists.specs.Lists.{Text, ListSays, network_in, networks_in}
 use Rattle.cidr_lists.specs.Changes.{AreChanges, printed_changes}
 use Rattle.netset.specs.Changes.{AreSame}
-use Rattle.netset.specs.Combining.{form_of, name_of, takes, IsMade}
-use Rattle.netset.specs.Matching.{has, is_match_option, is_word, written_of, IsMatch, Picks}
-use Rattle.netset.specs.declared.program.TheConstants.{HELP}
+use Rattle.netset.specs.Combining.{form_of, IsMade}
+use Rattle.netset.specs.Matching.{has, is_word, written_of, IsMatch, Picks}
+use Rattle.netset.specs.Table.{help_text}
+use Rattle.netset.specs.declared.commands.table.Verb.{Verb}
 use Rattle.netset.specs.declared.commands.Reading.{Reading}
 use Rattle.cidr_lists.specs.declared.lines.HostBits.TheVariants.{Refused, Cleared}
 use Rattle.cidr_lists.specs.declared.sets.Form.{Form}
@@ -22,7 +23,7 @@ use Rattle.cidr_lists.specs.declared.sets.Form.TheVariants.{Networks}
 use Rattle.netset.specs.declared.commands.operations.Operation.{Operation}
 use Rattle.netset.specs.declared.commands.operations.Operation.TheVariants.{Minus, Not}
 use Rattle.cidr_lists.specs.Sets.{IsPrinted}
-use Rattle.netset.specs.Single.{SingleRequest, IsNumber, IsSingle, IsSingleAnswer}
+use Rattle.netset.specs.Single.{SingleRequest, IsNumber, IsSingleAnswer}
 use Rattle.netset.specs.declared.output.answers.Verdict.{Verdict}
 use Rattle.netset.specs.declared.output.answers.Verdict.TheVariants.{Yes}
 use Rattle.cidr_lists.specs.declared.changes.Sign.{Sign}
@@ -37,12 +38,8 @@ pub data Request : Type 0 where
   Match : List (List ℕ) → List ℕ → List ℕ → Request
   Look : List ℕ → List ℕ → Request
   Single : SingleRequest → Request
-  Help : Request
+  Help : Option Verb → Request
   Version : Request
-
--- - and something behind it
-abbrev pub is_option : List ℕ → Bool
-is_option word = nat_lt 1 (length word) && (slice_index word 0 == 45)
 
 -- the name of the standard input
 abbrev pub input_name : List ℕ
@@ -52,30 +49,6 @@ input_name = codes "-"
 abbrev pub read_files : List (List ℕ) → List (List ℕ)
 read_files [] = input_name ∷ []
 read_files (file ∷ files) = file ∷ files
-
--- the arguments are this request; no file has the name of an option
-abbrev pub IsRequest : List (List ℕ) → Request → Type 0
-IsRequest words (Lists operation files) =
-    (words ≡ name_of operation ∷ files) × (list_any is_option files ≡ false) × (takes operation (length files) ≡ true)
-IsRequest words (NotIn net files) =
-    (words ≡ codes "not" ∷ codes "--in" ∷ net ∷ files) × (list_any is_option files ≡ false)
-IsRequest words (Diff old new) =
-    (words ≡ codes "diff" ∷ old ∷ new ∷ []) × (is_option old ≡ false) × (is_option new ≡ false)
-IsRequest words (Free pool len used) = (words ≡ codes "free" ∷ pool ∷ len ∷ used)
-    × (is_option pool ≡ false) × (list_any is_option used ≡ false) × (nat_lt 0 (length used) ≡ true)
-IsRequest words (Check files) = (words ≡ codes "check" ∷ files) × (list_any is_option files ≡ false)
-IsRequest words (Match options list file) = (files : List (List ℕ)) × (words ≡ codes "match" ∷ (options ++ list ∷ files))
-    × (list_all is_match_option options ≡ true) × (is_option list ≡ false) × (list_any is_option files ≡ false)
-    × (read_files files ≡ file ∷ [])
-IsRequest words (Look table file) = ((words ≡ codes "look" ∷ table ∷ file ∷ []) ⊎ ((words ≡ codes "look" ∷ table ∷ []) × (file ≡ input_name)))
-    × (is_option table ≡ false) × (is_option file ≡ false)
-IsRequest words (Single request) = IsSingle words request
-IsRequest words Help = words ≡ codes "--help" ∷ []
-IsRequest words Version = words ≡ codes "--version" ∷ []
-
--- the arguments are no request
-abbrev pub IsUsage : List (List ℕ) → Type 0
-IsUsage words = (request : Request) → ¬ (IsRequest words request)
 
 -- ---- the files of a request
 -- the lists that it reads
@@ -99,45 +72,12 @@ others_of request = []
 abbrev pub ReadsInputTwice : Request → Type 0
 ReadsInputTwice request = 1 < count_by (is_word input_name) (lists_of request ++ others_of request)
 
--- ---- options of reading, which stand behind the command
-abbrev pub is_reading_option : List ℕ → Bool
-is_reading_option word = is_word (codes "--host-bits") word || is_word (codes "-k") word
-
--- those of the arguments
-abbrev pub reading_options : List (List ℕ) → List (List ℕ)
-reading_options [] = []
-reading_options (command ∷ words) = take_while is_reading_option words
-
--- the arguments without them
-abbrev pub without_options : List (List ℕ) → List (List ℕ)
-without_options [] = []
-without_options (command ∷ words) = command ∷ drop (prefix_len is_reading_option words) words
-
--- what they ask for
+-- how lists are read by these options
 abbrev pub reading_of : List (List ℕ) → Reading
 reading_of options = record {
   host_bits = if has (codes "--host-bits") options then Cleared else Refused;
   keeps_going = has (codes "-k") options;
 }
-
--- whether lists of networks are read: `check` reads hosts, and tells their host bits
-abbrev pub reads_networks : Request → Bool
-reads_networks (Check files) = false
-reads_networks (Single request) = false
-reads_networks Help = false
-reads_networks Version = false
-reads_networks request = true
-
--- whether lists are read
-abbrev pub reads_lists : Request → Bool
-reads_lists (Single request) = false
-reads_lists Help = false
-reads_lists Version = false
-reads_lists request = true
-
--- the lists of the request may be read this way
-abbrev pub MayRead : Reading → Request → Type 0
-MayRead reading request = (reading.host_bits ≡ Cleared → reads_networks request ≡ true) × (reading.keeps_going ≡ true → reads_lists request ≡ true)
 
 -- these are the lists of the files of these names
 abbrev pub AreTold : (List ℕ → Option Text) → List (List ℕ) → List Text → Type 0
@@ -183,10 +123,6 @@ abbrev pub IsMatchOf : List (List ℕ) → Text → List ℕ → List ℕ → Ve
 IsMatchOf options networks text answer verdict = (said : List (List IpCidr)) × ListSays networks said
     × IsMatch (Picks (has (codes "--any") options) (Says said) (has (codes "-v") options)) (written_of options) text answer verdict
 
--- what `--help` writes
-abbrev pub help_text : List ℕ
-help_text = HELP.now
-
 -- what `--version` writes
 abbrev pub version_text : List ℕ
 version_text = codes "netset 0.1.0\n"
@@ -208,5 +144,5 @@ IsAnswer contents (Match options list file) answer verdict =
 IsAnswer contents (Look table file) answer verdict =
     (rows text : Text) → contents table ≡ Some rows → contents file ≡ Some text → IsLook rows text.bytes answer verdict
 IsAnswer contents (Single request) answer verdict = IsSingleAnswer request answer verdict
-IsAnswer contents Help answer verdict = (answer ≡ help_text) × (verdict ≡ Yes)
+IsAnswer contents (Help topic) answer verdict = (answer ≡ help_text topic) × (verdict ≡ Yes)
 IsAnswer contents Version answer verdict = (answer ≡ version_text) × (verdict ≡ Yes)

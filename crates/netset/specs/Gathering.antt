@@ -25,7 +25,6 @@ lines_of_part part false = last_line part
 
 -- the file is not read further
 abbrev pub IsUnreadable : List ℕ → CommandError → Type 0
-IsUnreadable file error.Usage = ⊥
 IsUnreadable file (error.Argument text e) = ⊥
 IsUnreadable file (error.Line name number e) = ⊥
 IsUnreadable file (error.Input name) = name.now ≡ file
@@ -34,7 +33,6 @@ IsUnreadable file error.Output = ⊥
 
 -- a line is in error, and nothing is written; or the output failed at a line that is picked
 abbrev pub IsLost : (List ℕ → Result Bool LineError → Type 0) → Written → List ℕ → ℕ → List ℕ → State → State → List ℕ → List ℕ → CommandError → Type 0
-IsLost PicksLine what file number part old new block rest error.Usage = ⊥
 IsLost PicksLine what file number part old new block rest (error.Argument text e) = ⊥
 IsLost PicksLine what file number part old new block rest (error.Line name n e) =
     (name.now ≡ file) × (n ≡ number) × PicksLine part (Err e) × (new ≡ old) × (rest ≡ block)

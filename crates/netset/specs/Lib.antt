@@ -11,7 +11,9 @@ pub mod Findings
 pub mod Matching
 pub mod Look
 pub mod Combining
+pub mod Table
 pub mod Commands
+pub mod Arguments
 pub mod Command
 pub mod Unchecked
 pub mod Streaming

@@ -1,5 +1,5 @@
 -- The lines of a file whose first field lies in a list, or that have an address of it.
-use Rattle.std.specs.Prelude.{◌≡◌, ◌≢◌, ◌⊎◌, ℕ, Bool, true, false, if◌then◌else◌, List, [], length, codes, decimal, Option, Result, Ok, Err, ◌||◌}
+use Rattle.std.specs.Prelude.{◌≡◌, ◌≢◌, ◌⊎◌, ℕ, Bool, true, false, if◌then◌else◌, List, [], length, codes, decimal, Option, Result, Ok, Err}
 use Rattle.std.specs.Bool.{Decides}
 use Rattle.std.specs.List.{AllZip, flat_map, items_where_true, list_any}
 use Rattle.std.specs.Str.{bytes_eq}
@@ -24,11 +24,6 @@ use Rattle.cidr_lists.specs.Lists.{IsTooLong}
 -- the word is this one
 abbrev pub is_word : List ℕ → List ℕ → Bool
 is_word name word = bytes_eq word name
-
--- an option of `match`
-abbrev pub is_match_option : List ℕ → Bool
-is_match_option word =
-    ((is_word (codes "-v") word || is_word (codes "-c") word) || is_word (codes "-q") word) || is_word (codes "--any") word
 
 -- the option is given
 abbrev pub has : List ℕ → List (List ℕ) → Bool

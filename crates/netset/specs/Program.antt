@@ -9,7 +9,8 @@ use Rattle.cidr_io.specs.Shown.{excerpt, shown}
 use Rattle.cidr_io.specs.Writing.{State, Answered, Says as Tells}
 use Rattle.cidr_io.specs.declared.sink.OutputFailed.{OutputFailed}
 use Rattle.cidr_lists.specs.Lists.{Text, text_by, ListSays, IsFirstError}
-use Rattle.netset.specs.Commands.{Request, Lists, NotIn, Diff, Free, Check, Match, Look, Single, IsRequest, IsUsage, MayRead, ReadsInputTwice, input_name, lists_of, reading_of, reading_options, without_options, read_files, AreTold, IsAnswer, Says}
+use Rattle.netset.specs.Arguments.{line_request, misuse_text}
+use Rattle.netset.specs.Commands.{Request, Lists, NotIn, Diff, Free, Check, Match, Look, Single, ReadsInputTwice, input_name, lists_of, read_files, AreTold, IsAnswer, Says}
 use Rattle.netset.specs.Causes.{Cause, MayFail}
 use Rattle.netset.specs.Free.{IsBadLength}
 use Rattle.cidr_lists.specs.Faults.{AreTellings}
@@ -26,6 +27,7 @@ use Rattle.netset.specs.declared.commands.Reading.{Reading}
 use Rattle.cidr_lists.specs.declared.lines.HostBits.{HostBits}
 use Rattle.netset.specs.declared.output.answers.Verdict.{Verdict}
 use Rattle.netset.specs.declared.output.answers.Verdict.TheVariants.{Yes, No}
+use Rattle.netset.specs.declared.errors.Misfit.TheVariants.{NotText}
 use Rattle.netset.specs.declared.errors.CommandError.{CommandError}
 use Rattle.netset.specs.declared.errors.CommandError.TheVariants as error
 
@@ -107,10 +109,6 @@ IsCaused contents refused r = IfErr r (Cause (MayFail contents) refused)
 abbrev pub contents_by : HostBits → (List ℕ → Option (List ℕ)) → List ℕ → Option Text
 contents_by bits contents name = option_map (text_by bits) (contents name)
 
--- the arguments are no request, or one whose lists may not be read this way
-abbrev pub IsUsageBy : Reading → List (List ℕ) → Type 0
-IsUsageBy reading words = IsUsage words ⊎ ((request : Request) × IsRequest words request × ¬ (MayRead reading request))
-
 -- the message of an argument that is wrong
 abbrev pub argument_message : ArgumentError → List ℕ
 argument_message (bad.Network fault e) = fault_words fault (parse_message e)
@@ -120,7 +118,6 @@ argument_message bad.ReadTwice = codes "standard input can be read only once"
 
 -- the line that is written to standard error: an argument as its beginning is shown, and the name of a file in whole
 abbrev pub error_line : CommandError → List ℕ
-error_line error.Usage = codes "usage: netset merge|nets|not|ranges|count|check [FILE..] | not --in NET [FILE..] | minus|and A B.. | diff A B | free POOL LEN USED.. | match [--any] [-v] [-c] [-q] LIST [FILE] | look TABLE [FILE] | show HOST | split NET LEN | nth NET INDEX | --help | --version; --host-bits behind a command for lists of networks, -k behind one for lists\n"
 error_line (error.Argument text e) = excerpt text.now ++ (codes ": " ++ (argument_message e ++ codes "\n"))
 error_line (error.Line name number e) = fault_line name.now (number, e)
 error_line (error.Input name) = shown name.now ++ codes ": cannot be read\n"
@@ -195,22 +192,30 @@ RunsOnce reading contents refused request closed out new_out err new_err status 
     (ReadsInputTwice request × (e : CommandError) × IsReadTwice e × EndsWith e closed out new_out err new_err status)
     ⊎ (¬ (ReadsInputTwice request) × RunsRequest reading (contents_by reading.host_bits contents) refused request closed out new_out err new_err status)
 
--- what becomes of arguments without options of reading; others than those of a request are usage
-abbrev pub RunsWords : Reading → (List ℕ → Option (List ℕ)) → Bool → List (List ℕ) → Bool → State → State → State → State → ℕ → Type 0
-RunsWords reading contents refused words closed out new_out err new_err status =
-    (IsUsageBy reading words × EndsWith error.Usage closed out new_out err new_err status)
-    ⊎ ((request : Request) × IsRequest words request × MayRead reading request × RunsOnce reading contents refused request closed out new_out err new_err status)
+-- the words are no request: this line says why, and nothing else is written
+abbrev pub IsMisused : List ℕ → State → State → State → State → ℕ → Type 0
+IsMisused line out new_out err new_err status = (new_out ≡ out) × Tells err new_err line × (status ≡ 2)
 
--- the same of arguments with options of reading, or there was no memory for them
-abbrev pub RunsArguments : (List ℕ → Option (List ℕ)) → Bool → List (List ℕ) → Bool → State → State → State → State → ℕ → Type 0
-RunsArguments contents refused words closed out new_out err new_err status =
-    RunsWords (reading_of (reading_options words)) contents refused (without_options words) closed out new_out err new_err status
+-- what becomes of a request and how its lists are read, or of words that are none
+abbrev pub RunsLine : Result (Reading × Request) (List ℕ) → (List ℕ → Option (List ℕ)) → Bool → Bool → State → State → State → State → ℕ → Type 0
+RunsLine (Ok (reading, request)) contents refused closed out new_out err new_err status =
+    RunsOnce reading contents refused request closed out new_out err new_err status
+RunsLine (Err line) contents refused closed out new_out err new_err status = IsMisused line out new_out err new_err status
+
+-- the same, or there was no memory for the words
+abbrev pub RunsFound : Result (Reading × Request) (List ℕ) → (List ℕ → Option (List ℕ)) → Bool → Bool → State → State → State → State → ℕ → Type 0
+RunsFound found contents refused closed out new_out err new_err status =
+    RunsLine found contents refused closed out new_out err new_err status
     ⊎ ((refused ≡ true) × EndsWith error.NoMemory closed out new_out err new_err status)
+
+-- the line of arguments that are not UTF-8
+abbrev pub unreadable_line : List ℕ
+unreadable_line = misuse_text (codes "an argument") NotText []
 
 -- A run, from the arguments and the files to the exit status. `refused` tells whether an allocation was refused, and `closed` tells whether the output has failed since nobody
 -- reads it any more.
 abbrev pub Runs : Option (List (List ℕ)) → (List ℕ → Option (List ℕ)) → Bool → Bool → State → State → State → State → ℕ → Type 0
 Runs words contents refused closed out new_out err new_err status =
-    ((given : List (List ℕ)) × AreArguments words given × RunsArguments contents refused given closed out new_out err new_err status)
-    ⊎ ((AreUnreadable words × EndsWith error.Usage closed out new_out err new_err status)
+    ((given : List (List ℕ)) × AreArguments words given × RunsFound (line_request given) contents refused closed out new_out err new_err status)
+    ⊎ ((AreUnreadable words × IsMisused unreadable_line out new_out err new_err status)
     ⊎ ((refused ≡ true) × EndsWith error.NoMemory closed out new_out err new_err status))

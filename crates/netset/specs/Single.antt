@@ -29,12 +29,6 @@ pub data SingleRequest : Type 0 where
   Split : List ℕ → List ℕ → SingleRequest
   Nth : List ℕ → List ℕ → SingleRequest
 
--- the arguments are this request
-abbrev pub IsSingle : List (List ℕ) → SingleRequest → Type 0
-IsSingle words (Show host) = words ≡ codes "show" ∷ host ∷ []
-IsSingle words (Split net len) = words ≡ codes "split" ∷ net ∷ len ∷ []
-IsSingle words (Nth net place) = words ≡ codes "nth" ∷ net ∷ place ∷ []
-
 -- the string is this number in decimal, perhaps with a plus in front
 abbrev pub IsNumber : List ℕ → ℕ → Type 0
 IsNumber text n = IsNumeral 10 (without_leading_plus text) × (n ≡ digits_value 10 (without_leading_plus text))

@@ -21,7 +21,6 @@ IsUnchecked contents names e = ⊥
 -- ---- what private functions promise
 -- why the file of this name is not read
 abbrev pub IsFileFault : Option Text → List ℕ → CommandError → Type 0
-IsFileFault contents name error.Usage = ⊥
 IsFileFault contents name (error.Argument text e) = ⊥
 IsFileFault contents name (error.Line file number e) =
     (file.now ≡ name) × ((text : Text) → contents ≡ Some text → IsFirstFault name text.bytes number e)

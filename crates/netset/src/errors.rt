@@ -17,6 +17,53 @@ pub enum ReadError {
     NoMemory,
 }
 
+/// What is wrong with a word of the arguments.
+#[derive(Clone, Copy, Debug, Drop, PartialEq)]
+pub enum Misfit {
+    /// It is not UTF-8.
+    NotText,
+    /// It stands for the command, which is missing.
+    Unnamed,
+    /// There is no command of this name.
+    NoCommand,
+    /// The command has no such option.
+    NoOption,
+    /// It is the name of an operand or of a value that is missing.
+    Missing,
+    /// The command takes fewer operands or values.
+    Extra,
+}
+
+/// Why the arguments are no command.
+#[derive(Clone, Copy, Debug, Drop)]
+pub struct Misuse<'a> {
+    /// The first word that is wrong, or the name of what is missing.
+    pub word: &'a str,
+    pub why: Misfit,
+    /// The name of the command, or nothing where there is none.
+    pub command: &'a str,
+}
+
+/// Why there is no command to answer.
+#[derive(Debug, Drop)]
+pub enum UsageError<'a> {
+    /// The arguments are none.
+    Misuse(Misuse<'a>),
+    /// There is no memory for them.
+    NoMemory,
+}
+
+impl From<AllocError> for UsageError<'_> {
+    ghost use Rattle.std.specs.Prelude.{◌≡◌};
+    ghost use Rattle.netset.specs.declared.errors.UsageError.TheVariants.{NoMemory};
+
+    ghost from_gives = { λ _ e. e ≡ NoMemory };
+
+    fn from(_error: AllocError) -> Self {
+        UsageError::NoMemory
+    }
+}
+
 /// Why an argument is wrong.
 #[derive(Debug, Drop)]
 pub enum ArgumentError {
@@ -33,8 +80,6 @@ pub enum ArgumentError {
 /// Why a command gave no answer.
 #[derive(Debug, Drop)]
 pub enum CommandError<'a> {
-    /// The arguments are no command of the program; nothing was written.
-    Usage,
     /// The first argument that is wrong, and why; nothing was written.
     Argument(&'a str, ArgumentError),
     /// The first line in error of this file, from 1 on; nothing was written, but by `match` and `look` lines before it.

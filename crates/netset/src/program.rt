@@ -1,42 +1,42 @@
 //! A run of the program, from its arguments to its exit status.
-ghost use Rattle.std.specs.Prelude.{map, IfErr, MatchOption};
+ghost use Rattle.std.specs.Prelude.{map, IfErr, MatchOption, Ok};
 ghost use Rattle.std.specs.String.{string_bytes};
 ghost use Rattle.netset.specs.Causes.{Cause, MayFail};
 ghost use Rattle.netset.specs.Combining.{form_of};
-ghost use Rattle.netset.specs.Command.{request_of};
-ghost use Rattle.netset.specs.Commands.{IsRequest, Lists, MayRead};
+ghost use Rattle.netset.specs.Arguments.{line_request, read_request};
+ghost use Rattle.netset.specs.Command.{parts_in, request_of};
+ghost use Rattle.netset.specs.Commands.{Lists};
 ghost use Rattle.netset.specs.Sets.{Prints};
 ghost use Rattle.cidr_lists.specs.Sets.{networks_of};
 ghost use Rattle.netset.specs.declared.errors.CommandError.{CommandError};
-ghost use Rattle.netset.specs.Program.{AnswersRequest, IsCaused, IsReadTwice, IsUsageBy, IsWrong, KeepsGoing, Runs, RunsArguments};
+ghost use Rattle.netset.specs.Program.{AnswersRequest, IsCaused, IsReadTwice, IsWrong, KeepsGoing, Runs, RunsFound};
 
+use crate::commands::arguments::{Parts, command_of, line_parts};
 use crate::commands::changes::diff;
 use crate::commands::check::check;
 use crate::commands::combine::combination;
 use crate::commands::free::{free, length_of};
+use crate::commands::help::write_help;
 use crate::commands::inside::not_in;
 use crate::commands::look::look;
 use crate::commands::matching::matching;
 use crate::commands::operations::{Operation, form_of};
 use crate::commands::single::{answer_single, network_of};
-use crate::commands::{Command, Reading, command_of, name_input_twice, take_options};
-use crate::errors::{ArgumentError, CommandError};
+use crate::commands::table::Verb;
+use crate::commands::{Command, Reading, name_input_twice, reading_of};
+use crate::errors::{ArgumentError, CommandError, Misfit, Misuse, UsageError};
 use crate::input::files::{Files, ReadBy, Sources};
 use crate::input::keeping::{Loaded, load};
 use crate::input::several::read_several;
 use crate::output::answers::{Verdict, by_output};
 use crate::output::ranges::write_ranges;
-use crate::output::report::report;
+use crate::output::report::{report, report_misuse};
 use crate::output::sets::{write_counts, write_sets};
 use cidr_io::arguments::{Arguments, ReadError as Unreadable, borrowed, texts_of};
 use cidr_io::memory::Memory;
 use cidr_io::sink::{Output, OutputFailed, Sink};
 use cidr_io::writing::write_text;
 use cidr_lists::sets::{Form, Sets};
-
-/// The page of the commands.
-const HELP: &str =
-    "netset merge [FILE..]   the shortest list of networks that has the addresses of all the lists\nnetset nets [FILE..]    the same\nnetset minus A B..      the addresses of A that no other list has\nnetset and A B..        the addresses that each of the lists has\nnetset not [FILE..]     the addresses of IPv4 and those of IPv6 that no list has\nnetset not --in NET [FILE..]\n                        the addresses of a network that no list has\nnetset ranges [FILE..]  the longest ranges of the addresses of all the lists, FIRST-LAST\nnetset count [FILE..]   how many addresses of IPv4 and of IPv6 the lists have\nnetset diff A B         the networks that B adds to A, as +NET, and that it lacks, as -NET\nnetset free POOL LEN USED..\n                        the first network of this prefix length in the addresses of\n                        POOL that no list of USED has\nnetset check [FILE..]   what is found in the lists, whose lines may be hosts too: set host\n                        bits, other forms than the printed one, repeats, networks inside\n                        others, and halves of one network\nnetset match [--any] [-v] [-c] [-q] LIST [FILE]\n                        the lines of FILE whose first field lies in LIST, or with --any those\n                        that have an address of LIST anywhere; -v all the other lines,\n                        -c only their number, -q only the status\nnetset look TABLE [FILE]\n                        the longest network of each address of FILE in the lines\n                        NET VALUE of TABLE, and its value\nnetset show HOST        the network of a host: its ends, mask, length and family\nnetset split NET LEN    the networks of this prefix length inside a network\nnetset nth NET INDEX    the address of a network at an index, from 0 on\nnetset --help           this page\nnetset --version        the version\n\nA line of a list is a network, an address or a range FIRST-LAST, and may end in a comment\nfrom # or ; on. The file - is the standard input, which is also read where no file is named.\nWith --host-bits behind a command that reads lists, but check, a bit set behind the prefix of\na network in a list is taken as unset, and is no error.\nWith -k behind a command that reads lists each line in error is contents, and not only the first.\nStatus: 0 done, 1 none, a difference or findings, 2 usage, a wrong argument, a file that\ncannot be read or a line in error, 3 output or memory.\n";
 
 const VERSION: &str = "netset 0.1.0\n";
 
@@ -68,18 +68,6 @@ fn lists<'a, M: Memory, F: Sources, O: Sink>(
     by_output(Verdict::Yes, write_made(operation, &sets, out))
 }
 
-/// The command that the arguments are, if its lists may be read this way.
-fn command_by<'a>(reading: Reading, words: &'a [&'a str]) -> Option<Command<'a>>
-    ensures { MatchOption result (IsUsageBy reading (map (λ w. w.now) words.now))
-        (λ command. IsRequest (map (λ w. w.now) words.now) (request_of command) × MayRead reading (request_of command)) }
-{
-    let command = command_of(words)?;
-    if command.may_read(reading) {
-        return Some(command);
-    }
-    None
-}
-
 /// Answers a command.
 fn answer<'a, M: Memory, F: Sources, O: Sink>(
     memory: &mut M,
@@ -99,7 +87,7 @@ fn answer<'a, M: Memory, F: Sources, O: Sink>(
         Command::Match(options, list, file) => matching(memory, sources, options, list, file, out),
         Command::Look(table, file) => look(memory, sources, table, file, out),
         Command::Single(single) => answer_single(single, out),
-        Command::Help => by_output(Verdict::Yes, write_text(out, HELP)),
+        Command::Help(topic) => by_output(Verdict::Yes, write_help(topic, out)),
         Command::Version => by_output(Verdict::Yes, write_text(out, VERSION)),
     }
 }
@@ -124,7 +112,7 @@ fn wrong_argument<'a>(command: Command<'a>) -> Option<CommandError<'a>>
         | Command::Match(_, _, _)
         | Command::Look(_, _)
         | Command::Single(_)
-        | Command::Help
+        | Command::Help(_)
         | Command::Version => None,
     }
 }
@@ -165,24 +153,18 @@ fn read_twice<'a>() -> CommandError<'a>
     CommandError::Argument("-", ArgumentError::ReadTwice)
 }
 
-/// Answers the arguments as strings, reports and returns the exit status.
-fn answer_texts<M: Memory, F: Files, O: Output, E: Sink>(
+/// Answers a command whose lists are read this way, reports and returns the exit status.
+fn answer_once<'a, M: Memory, F: Files, O: Output, E: Sink>(
     memory: &mut M,
     files: &F,
-    texts: &[String],
+    reading: Reading,
+    command: Command<'a>,
     out: &mut O,
     err: &mut E,
 ) -> u8
-    ensures { RunsArguments (F.contents files.now) (M.refused memory.new) (map string_bytes texts.now) (O.closed out.new) (O.Sink.state out.old) (O.Sink.state out.new)
+    ensures { RunsFound (Ok (reading, request_of command.entry)) (F.contents files.now) (M.refused memory.new) (O.closed out.new) (O.Sink.state out.old) (O.Sink.state out.new)
         (E.state err.old) (E.state err.new) result }
 {
-    let Ok(mut words) = borrowed(memory, texts) else {
-        return report(&Err(CommandError::NoMemory), false, err);
-    };
-    let reading = take_options(&mut words);
-    let Some(command) = command_by(reading, words.as_slice()) else {
-        return report(&Err(CommandError::Usage), false, err);
-    };
     let Ok(names) = command.files(memory) else {
         return report(&Err(CommandError::NoMemory), false, err);
     };
@@ -200,6 +182,55 @@ fn answer_texts<M: Memory, F: Files, O: Output, E: Sink>(
     report(&answered, out.is_closed(), err)
 }
 
+/// Answers a command and the parts of the words behind it, reports and returns the exit status.
+fn answer_parts<M: Memory, F: Files, O: Output, E: Sink>(
+    memory: &mut M,
+    files: &F,
+    verb: Verb,
+    parts: &Parts<'_>,
+    out: &mut O,
+    err: &mut E,
+) -> u8
+    ensures { RunsFound (read_request verb (parts_in parts.now)) (F.contents files.now) (M.refused memory.new) (O.closed out.new) (O.Sink.state out.old) (O.Sink.state out.new)
+        (E.state err.old) (E.state err.new) result }
+{
+    match command_of(verb, parts) {
+        Ok(command) => {
+            let reading = reading_of(parts.options.as_slice());
+            answer_once(memory, files, reading, command, out, err)
+        }
+        Err(misuse) => report_misuse(&misuse, err),
+    }
+}
+
+/// Answers the arguments as strings, reports and returns the exit status.
+fn answer_texts<M: Memory, F: Files, O: Output, E: Sink>(
+    memory: &mut M,
+    files: &F,
+    texts: &[String],
+    out: &mut O,
+    err: &mut E,
+) -> u8
+    ensures { RunsFound (line_request (map string_bytes texts.now)) (F.contents files.now) (M.refused memory.new) (O.closed out.new) (O.Sink.state out.old) (O.Sink.state out.new)
+        (E.state err.old) (E.state err.new) result }
+{
+    let Ok(words) = borrowed(memory, texts) else {
+        return report(&Err(CommandError::NoMemory), false, err);
+    };
+    match line_parts(memory, words.as_slice()) {
+        Ok((verb, parts)) => answer_parts(memory, files, verb, &parts, out, err),
+        Err(UsageError::Misuse(misuse)) => report_misuse(&misuse, err),
+        Err(UsageError::NoMemory) => report(&Err(CommandError::NoMemory), false, err),
+    }
+}
+
+/// What is wrong with arguments that are not UTF-8.
+const NOT_TEXT: Misuse<'static> = Misuse {
+    word: "an argument",
+    why: Misfit::NotText,
+    command: "",
+};
+
 /// Answers the arguments on `out`, writes the line that belongs to the answer, if there is one, to `err`, and returns
 /// the exit status: 0 for an answer, 1 for none, no or findings, 2 for usage, a file that can't be read and a line in error, 3 where the output
 /// failed or there is no memory. Where nobody reads the output any more, there is no such line.
@@ -215,7 +246,7 @@ pub fn program<M: Memory, A: Arguments, F: Files, O: Output, E: Sink>(
 {
     match texts_of(memory, arguments) {
         Ok(texts) => answer_texts(memory, files, texts.as_slice(), out, err),
-        Err(Unreadable::NotText) => report(&Err(CommandError::Usage), false, err),
+        Err(Unreadable::NotText) => report_misuse(&NOT_TEXT, err),
         Err(Unreadable::NoMemory) => report(&Err(CommandError::NoMemory), false, err),
     }
 }

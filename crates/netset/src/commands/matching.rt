@@ -39,7 +39,7 @@ pub enum Written {
 }
 
 /// Whether an option is given.
-fn has(options: &[&str], name: &str) -> bool
+pub fn has(options: &[&str], name: &str) -> bool
     ensures { result ≡ has name.now (map (λ w. w.now) options.now) }
 {
     options.contains(&name)

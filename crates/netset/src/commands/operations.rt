@@ -1,7 +1,6 @@
 //! What is made of lists.
-ghost use Rattle.std.specs.Prelude.{◌≡◌, ◌≢◌, MatchOption};
-ghost use Rattle.netset.specs.Combining.{form_of, name_of, step_of, takes, turns};
-ghost use Rattle.netset.specs.declared.commands.operations.Operation.{Operation};
+ghost use Rattle.std.specs.Prelude.{◌≡◌};
+ghost use Rattle.netset.specs.Combining.{form_of, step_of, turns};
 
 use cidr_lists::sets::{Form, Step};
 
@@ -22,48 +21,6 @@ pub enum Operation {
     Ranges,
     /// The number of the addresses of all lists.
     Count,
-}
-
-/// The operation of a name.
-pub fn operation_of(name: &str) -> Option<Operation>
-    ensures { MatchOption result ((operation : Operation) → name.now ≢ name_of operation) (λ operation. name.now ≡ name_of operation) }
-{
-    if name == "merge" {
-        return Some(Operation::Merge);
-    }
-    if name == "nets" {
-        return Some(Operation::Nets);
-    }
-    if name == "minus" {
-        return Some(Operation::Minus);
-    }
-    if name == "and" {
-        return Some(Operation::And);
-    }
-    if name == "not" {
-        return Some(Operation::Not);
-    }
-    if name == "ranges" {
-        return Some(Operation::Ranges);
-    }
-    if name == "count" {
-        return Some(Operation::Count);
-    }
-    None
-}
-
-/// Whether an operation takes so many files.
-pub fn takes(operation: Operation, count: usize) -> bool
-    ensures { result ≡ takes operation count }
-{
-    match operation {
-        Operation::Merge
-        | Operation::Nets
-        | Operation::Not
-        | Operation::Ranges
-        | Operation::Count => true,
-        Operation::Minus | Operation::And => count > 1,
-    }
 }
 
 /// Whether it has the addresses that are not there after all steps.

@@ -1,5 +1,5 @@
 //! The commands on one host or network.
-ghost use Rattle.std.specs.Prelude.{◌≡◌, ◌≤◌, ◌^◌, ℕ, List, Option, map, MatchOption, MatchResult};
+ghost use Rattle.std.specs.Prelude.{◌≡◌, ◌≤◌, ◌^◌, ℕ, List, Option, MatchOption, MatchResult};
 ghost use Rattle.std.specs.Bool.{Decides};
 ghost use Rattle.std.specs.List.{flat_map};
 ghost use Rattle.cidr.specs.either.IpHost.{host_network};
@@ -11,7 +11,7 @@ ghost use Rattle.netset.specs.Command.{single_request};
 ghost use Rattle.netset.specs.Commands.{Single as ASingle};
 ghost use Rattle.cidr_lists.specs.Lists.{Text};
 ghost use Rattle.netset.specs.Program.{AnswersRequest, IsBadArgument};
-ghost use Rattle.netset.specs.Single.{SingleRequest, Show, Split, Nth, IsSingle, IsNumber, HasNone, IsNoNetwork, network_lines, family_name as name_of, subnet_line};
+ghost use Rattle.netset.specs.Single.{Show, Split, Nth, IsNumber, HasNone, IsNoNetwork, network_lines, family_name as name_of, subnet_line};
 
 use crate::errors::{ArgumentError, CommandError};
 use crate::output::answers::{Verdict, by_output};
@@ -32,19 +32,6 @@ pub enum Single<'a> {
     Split(&'a str, &'a str),
     /// The address of a network at an index.
     Nth(&'a str, &'a str),
-}
-
-/// The command on one host or network that the arguments are.
-pub fn single_of<'a>(words: &[&'a str]) -> Option<Single<'a>>
-    ensures { MatchOption result ((request : SingleRequest) → ¬ (IsSingle (map (λ w. w.now) words.now) request))
-        (λ single. IsSingle (map (λ w. w.now) words.now) (single_request single)) }
-{
-    match words {
-        [name, host] if *name == "show" => Some(Single::Show(host)),
-        [name, net, len] if *name == "split" => Some(Single::Split(net, len)),
-        [name, net, place] if *name == "nth" => Some(Single::Nth(net, place)),
-        _ => None,
-    }
 }
 
 /// The name of a family.

@@ -1,13 +1,10 @@
 //! Telling every line in error of the lists of a command, in the pass that reads them.
-ghost use Rattle.std.specs.Prelude.{◌≡◌, ◌++◌, ℕ, List, Option, Some, map, MatchResult, IfErr, IfOk, IfSome, OnErr, true};
+ghost use Rattle.std.specs.Prelude.{◌≡◌, ◌++◌, ℕ, List, Option, Some, map, MatchResult, IfErr, IfSome, true};
 ghost use Rattle.netset.specs.Causes.{Cause, MayFail, ReadCause, TextFails};
-ghost use Rattle.netset.specs.Command.{request_of};
-ghost use Rattle.netset.specs.Commands.{lists_of, others_of};
-ghost use Rattle.netset.specs.Keeping.{AddsBy, AllSaid, AreKept, IsNone, KeepsLine, KeepsLines, KeepsList, kind_of};
+ghost use Rattle.netset.specs.Keeping.{AddsBy, AllSaid, AreKept, IsNone, KeepsLine, KeepsLines, KeepsList};
 ghost use Rattle.cidr_lists.specs.Lists.{Text, lines_of};
 ghost use Rattle.netset.specs.Loading.{IsLoaded, IsUnloaded};
 
-use crate::commands::Command;
 use crate::errors::{CommandError, ReadError};
 use crate::input::files::Sources;
 use crate::input::table::unread;
@@ -22,7 +19,7 @@ use cidr_lists::entries::{Entry, Place};
 use cidr_lists::lines::{HostBits, Kind};
 use cidr_lists::lists::Lists;
 use cidr_lists::rows::Rows;
-use std::alloc::{AllocError, Global};
+use std::alloc::Global;
 use std::marker::Model;
 
 /// What the lines of a list say, those in error left out.
@@ -159,68 +156,6 @@ fn keep_list<'a, M: Memory, F: Sources, E: Sink>(
     match kept {
         Ok(kept) => Ok(kept),
         Err(e) => Err(unread(file, e)),
-    }
-}
-
-impl<'a> Command<'a> {
-    /// The lists that are read.
-    pub fn lists<M: Memory>(&self, memory: &mut M) -> Result<Vec<&'a str>, AllocError>
-        ensures names { IfOk result (λ names. map (λ name. name.now) names.items ≡ lists_of (request_of self.now)) }
-        ensures refused { OnErr result (M.refused memory.new ≡ true) }
-    {
-        let listed = self.list_names(memory.alloc());
-        memory.watch(listed)
-    }
-
-    /// The lists that are read.
-    fn list_names(&self, alloc: Global) -> Result<Vec<&'a str>, AllocError>
-        ensures { IfOk result (λ names. map (λ name. name.now) names.items ≡ lists_of (request_of self.now)) }
-    {
-        let mut names = Vec::new(alloc);
-        match self {
-            Command::Lists(_, files) | Command::NotIn(_, files) | Command::Check(files) => {
-                if files.is_empty() {
-                    names.push("-")?;
-                }
-                names.extend_from_slice(files)?;
-            }
-            Command::Diff(old, new) => {
-                names.push(*old)?;
-                names.push(*new)?;
-            }
-            Command::Free(pool, _, used) => {
-                names.push(*pool)?;
-                names.extend_from_slice(used)?;
-            }
-            Command::Match(_, list, _) | Command::Look(list, _) => names.push(*list)?,
-            Command::Single(_) | Command::Help | Command::Version => {}
-        }
-        Ok(names)
-    }
-
-    /// The files that are read: the lists, and another one behind them.
-    pub fn files<M: Memory>(&self, memory: &mut M) -> Result<Vec<&'a str>, AllocError>
-        ensures names { IfOk result (λ names. map (λ name. name.now) names.items
-            ≡ lists_of (request_of self.now) ++ others_of (request_of self.now)) }
-        ensures refused { OnErr result (M.refused memory.new ≡ true) }
-    {
-        let mut names = self.lists(memory)?;
-        match self {
-            Command::Match(_, _, file) | Command::Look(_, file) => memory.push(&mut names, *file)?,
-            _ => {}
-        }
-        Ok(names)
-    }
-
-    /// What the lines of the lists are.
-    pub fn kind(&self) -> Kind
-        ensures { result ≡ kind_of (request_of self.now) }
-    {
-        match self {
-            Command::Check(_) => Kind::Hosts,
-            Command::Look(_, _) => Kind::Rows,
-            _ => Kind::Networks,
-        }
     }
 }
 

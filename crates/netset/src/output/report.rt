@@ -5,9 +5,11 @@ ghost use Rattle.cidr_io.specs.Collecting.{Collects, HasSaid};
 ghost use Rattle.cidr_io.specs.Shown.{part_text, shown};
 ghost use Rattle.cidr_io.specs.Writing.{Answered, Says, State};
 ghost use Rattle.cidr_lists.specs.Messages.{fault_line};
+ghost use Rattle.netset.specs.Arguments.{misfit_text};
+ghost use Rattle.netset.specs.Command.{misuse_line};
 ghost use Rattle.netset.specs.Program.{Reports, ReportsUnless, argument_message, error_line, is_closed_pipe, status_of};
 
-use crate::errors::{ArgumentError, CommandError};
+use crate::errors::{ArgumentError, CommandError, Misfit, Misuse};
 use crate::output::answers::Verdict;
 use arrayvec::ArrayString;
 use cidr_io::block::Block;
@@ -15,9 +17,6 @@ use cidr_io::shown::{Part, excerpt};
 use cidr_io::sink::{OutputFailed, Sink};
 use cidr_lists::errors::{LineError, fault_words};
 use itoa::Buffer;
-
-const USAGE: &str =
-    "usage: netset merge|nets|not|ranges|count|check [FILE..] | not --in NET [FILE..] | minus|and A B.. | diff A B | free POOL LEN USED.. | match [--any] [-v] [-c] [-q] LIST [FILE] | look TABLE [FILE] | show HOST | split NET LEN | nth NET INDEX | --help | --version; --host-bits behind a command for lists of networks, -k behind one for lists\n";
 
 /// The message of an argument that is wrong.
 fn argument_message(error: &ArgumentError) -> ArrayString<99>
@@ -34,7 +33,11 @@ fn argument_message(error: &ArgumentError) -> ArrayString<99>
 }
 
 /// Appends strings to a block, behind one another.
-fn push_texts<S: Sink>(block: &mut Block, out: &mut S, texts: &[&str]) -> Result<(), OutputFailed>
+pub fn push_texts<S: Sink>(
+    block: &mut Block,
+    out: &mut S,
+    texts: &[&str],
+) -> Result<(), OutputFailed>
     ensures { Collects (S.state out.old) (S.state out.new) block.old block.new (flat_map (λ text. text.now) texts.now) result }
 {
     for text in texts {
@@ -114,7 +117,6 @@ fn say<E: Sink>(error: &CommandError<'_>, err: &mut E)
     ensures { Says (E.state err.old) (E.state err.new) (error_line error.now) }
 {
     let _ = match error {
-        CommandError::Usage => write_line(err, &[USAGE]),
         CommandError::Argument(text, e) => write_line(
             err,
             &[
@@ -158,10 +160,7 @@ fn status_of(error: &CommandError<'_>) -> u8
     ensures { result ≡ status_of (Err error.now) }
 {
     match error {
-        CommandError::Usage
-        | CommandError::Argument(_, _)
-        | CommandError::Line(_, _, _)
-        | CommandError::Input(_) => 2,
+        CommandError::Argument(_, _) | CommandError::Line(_, _, _) | CommandError::Input(_) => 2,
         CommandError::NoMemory | CommandError::Output => 3,
     }
 }
@@ -181,4 +180,38 @@ pub fn report<E: Sink>(answer: &Result<Verdict, CommandError<'_>>, closed: bool,
             status_of(error)
         }
     }
+}
+
+/// What is wrong with a word.
+fn misfit_text(why: Misfit) -> ArrayString<48>
+    ensures { result.bytes ≡ misfit_text why }
+{
+    let mut text = ArrayString::new();
+    match why {
+        Misfit::NotText => text.push_str(" is not UTF-8, see: netset help"),
+        Misfit::Unnamed => text.push_str(" is missing, see: netset help"),
+        Misfit::NoCommand => text.push_str(": no such command, see: netset help"),
+        Misfit::NoOption => text.push_str(": no such option, see: netset help "),
+        Misfit::Missing => text.push_str(" is missing, see: netset help "),
+        Misfit::Extra => text.push_str(": one argument too many, see: netset help "),
+    }
+    text
+}
+
+/// Writes the line of arguments that are no command, as far as the sink takes it, and returns the exit status.
+pub fn report_misuse<E: Sink>(misuse: &Misuse<'_>, err: &mut E) -> u8
+    ensures status { result ≡ 2 }
+    ensures says { Says (E.state err.old) (E.state err.new) (misuse_line misuse.now) }
+{
+    let Misuse { word, why, command } = misuse;
+    let _ = write_line(
+        err,
+        &[
+            excerpt(word).as_str(),
+            misfit_text(*why).as_str(),
+            command,
+            "\n",
+        ],
+    );
+    2
 }

@@ -1,7 +1,8 @@
 use Rattle.std.proofs.Common.{inr, refl}
 use Rattle.netset.specs.Causes.{MayFail}
 use Rattle.netset.specs.Command.{single_request}
-use Rattle.netset.specs.Commands.{help_text, version_text}
+use Rattle.netset.specs.Commands.{version_text}
+use Rattle.netset.specs.Table.{help_text}
 use Rattle.netset.specs.declared.output.answers.Verdict.TheVariants.{Yes}
 use Rattle.netset.proofs.Causes.{output_cause, single_cause}
 use Rattle.netset.proofs.program.answer.Goals as goal
@@ -31,11 +32,12 @@ pub returns-in-Single-clause-answers : goal.returns-in-Single-clause-answers
 returns-in-Single-clause-answers g c = rw c.in-Single.is (c.answer_single.ensures (g.F.Sources.contents c.args.sources.now))
 
 pub returns-in-Help-clause-answers : goal.returns-in-Help-clause-answers
-returns-in-Help-clause-answers g c = rw c.in-Help.is (inr (help_text, Yes, c.write_text.result, (refl, refl), c.write_text.ensures, c.by_output.ensures))
+returns-in-Help-clause-answers g c =
+    rw c.in-Help.is (inr (help_text c.in-Help.topic, Yes, c.write_help.result, (refl, refl), c.write_help.ensures, c.by_output.ensures))
 
 pub returns-in-Version-clause-answers : goal.returns-in-Version-clause-answers
 returns-in-Version-clause-answers g c =
-    rw c.in-Version.is (inr (version_text, Yes, c.write_text-in-Version.result, (refl, refl), c.write_text-in-Version.ensures, c.by_output-in-Version.ensures))
+    rw c.in-Version.is (inr (version_text, Yes, c.write_text.result, (refl, refl), c.write_text.ensures, c.by_output-in-Version.ensures))
 
 pub returns-in-Lists-clause-cause : goal.returns-in-Lists-clause-cause
 returns-in-Lists-clause-cause g c = c.lists.ensures.cause

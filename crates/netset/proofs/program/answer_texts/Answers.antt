@@ -1,53 +1,19 @@
-use Rattle.std.proofs.Common.{inl, inr, map}
+use Rattle.std.proofs.Common.{map}
 use Rattle.std.specs.String.{string_bytes}
-use Rattle.netset.specs.Command.{request_of}
-use Rattle.netset.proofs.Arguments.{bytes_of}
-use Rattle.netset.proofs.Running.{run_none, run_once, run_request, run_words}
+use Rattle.netset.specs.Command.{misuse_line, parts_in}
+use Rattle.netset.proofs.Running.{found_none, found_parts, run_found, run_misused}
 use Rattle.netset.proofs.program.answer_texts.Goals as goal
 
-pub returns-then-name_input_twice : goal.returns-then-name_input_twice
-returns-then-name_input_twice g c =
-    run_words c.take_options-reading.result (g.F.Files.contents c.args.files.now) (g.M.Memory.refused c.files.new.memory) (map string_bytes c.args.texts.now) (bytes_of c.take_options-reading.new.words.items)
-    (g.O.Output.closed c.args.out.now) (g.O.Sink.state c.args.out.now) (g.O.Sink.state c.args.out.now) (g.E.Sink.state c.args.err.now)
-    (g.E.Sink.state c.report-then-name_input_twice.new.err) c.report-then-name_input_twice.result
-    (rw c.in-Ok.ensures.slices at c.take_options-reading.ensures.asked) (rw c.in-Ok.ensures.slices at c.take_options-reading.ensures.rest)
-    (run_request c.take_options-reading.result (g.F.Files.contents c.args.files.now) (g.M.Memory.refused c.files.new.memory) (bytes_of c.take_options-reading.new.words.items) (request_of c.in-Some.command)
-    (g.O.Output.closed c.args.out.now) (g.O.Sink.state c.args.out.now) (g.O.Sink.state c.args.out.now) (g.E.Sink.state c.args.err.now)
-    (g.E.Sink.state c.report-then-name_input_twice.new.err) c.report-then-name_input_twice.result
-    (rw c.as_slice.ensures.value at c.in-Some.ensures)
-    (run_none c.take_options-reading.result (g.F.Files.contents c.args.files.now) (g.M.Memory.refused c.files.new.memory) (request_of c.in-Some.command) (g.O.Output.closed c.args.out.now)
-    (g.O.Sink.state c.args.out.now) (g.E.Sink.state c.args.err.now) (g.E.Sink.state c.report-then-name_input_twice.new.err)
-    c.report-then-name_input_twice.result c.name_input_twice.result (bytes_of c.in-Ok-files.names.items) c.read_twice.result c.in-Ok-files.ensures.names
-    (rw c.as_slice-2.ensures.value at c.name_input_twice.ensures) c.if-name_input_twice.true c.read_twice.ensures
-    c.report-then-name_input_twice.ensures.says c.report-then-name_input_twice.ensures.status))
+pub returns-in-Ok-line_parts : goal.returns-in-Ok-line_parts
+returns-in-Ok-line_parts g c =
+    run_found _ _ (g.F.Files.contents c.args.files.now) (g.M.Memory.refused c.answer_parts.new.memory) (g.O.Output.closed c.answer_parts.new.out)
+    (g.O.Sink.state c.args.out.now) (g.O.Sink.state c.answer_parts.new.out) (g.E.Sink.state c.args.err.now) (g.E.Sink.state c.answer_parts.new.err) c.answer_parts.result
+    (found_parts (map string_bytes c.args.texts.now) c.in-Ok-line_parts.verb (parts_in c.in-Ok-line_parts.parts)
+    (rw (c.as_slice.ensures.value, c.in-Ok.ensures.slices) at c.in-Ok-line_parts.ensures)) c.answer_parts.ensures
 
-pub returns-then-reading : goal.returns-then-reading
-returns-then-reading g c =
-    run_words c.take_options-reading.result (g.F.Files.contents c.args.files.now) (g.M.Memory.refused c.keep_going.new.memory) (map string_bytes c.args.texts.now) (bytes_of c.take_options-reading.new.words.items)
-    (g.O.Output.closed c.keep_going.new.out) (g.O.Sink.state c.args.out.now) (g.O.Sink.state c.keep_going.new.out) (g.E.Sink.state c.args.err.now)
-    (g.E.Sink.state c.keep_going.new.err) c.keep_going.result
-    (rw c.in-Ok.ensures.slices at c.take_options-reading.ensures.asked) (rw c.in-Ok.ensures.slices at c.take_options-reading.ensures.rest)
-    (run_request c.take_options-reading.result (g.F.Files.contents c.args.files.now) (g.M.Memory.refused c.keep_going.new.memory) (bytes_of c.take_options-reading.new.words.items) (request_of c.in-Some.command)
-    (g.O.Output.closed c.keep_going.new.out) (g.O.Sink.state c.args.out.now) (g.O.Sink.state c.keep_going.new.out) (g.E.Sink.state c.args.err.now)
-    (g.E.Sink.state c.keep_going.new.err) c.keep_going.result
-    (rw c.as_slice.ensures.value at c.in-Some.ensures)
-    (run_once c.take_options-reading.result (g.F.Files.contents c.args.files.now) (g.M.Memory.refused c.keep_going.new.memory) (request_of c.in-Some.command) (g.O.Output.closed c.keep_going.new.out)
-    (g.O.Sink.state c.args.out.now) (g.O.Sink.state c.keep_going.new.out) (g.E.Sink.state c.args.err.now) (g.E.Sink.state c.keep_going.new.err)
-    c.keep_going.result c.name_input_twice.result (bytes_of c.in-Ok-files.names.items) c.in-Ok-files.ensures.names
-    (rw c.as_slice-2.ensures.value at c.name_input_twice.ensures) c.if-name_input_twice.false (inl (c.if-reading.true, c.keep_going.ensures))))
-
-pub returns : goal.returns
-returns g c =
-    run_words c.take_options-reading.result (g.F.Files.contents c.args.files.now) (g.M.Memory.refused c.answer-answered.new.memory) (map string_bytes c.args.texts.now) (bytes_of c.take_options-reading.new.words.items)
-    (g.O.Output.closed c.answer-answered.new.out) (g.O.Sink.state c.args.out.now) (g.O.Sink.state c.answer-answered.new.out) (g.E.Sink.state c.args.err.now)
-    (g.E.Sink.state c.report-2.new.err) c.report-2.result
-    (rw c.in-Ok.ensures.slices at c.take_options-reading.ensures.asked) (rw c.in-Ok.ensures.slices at c.take_options-reading.ensures.rest)
-    (run_request c.take_options-reading.result (g.F.Files.contents c.args.files.now) (g.M.Memory.refused c.answer-answered.new.memory) (bytes_of c.take_options-reading.new.words.items) (request_of c.in-Some.command)
-    (g.O.Output.closed c.answer-answered.new.out) (g.O.Sink.state c.args.out.now) (g.O.Sink.state c.answer-answered.new.out) (g.E.Sink.state c.args.err.now)
-    (g.E.Sink.state c.report-2.new.err) c.report-2.result
-    (rw c.as_slice.ensures.value at c.in-Some.ensures)
-    (run_once c.take_options-reading.result (g.F.Files.contents c.args.files.now) (g.M.Memory.refused c.answer-answered.new.memory) (request_of c.in-Some.command) (g.O.Output.closed c.answer-answered.new.out)
-    (g.O.Sink.state c.args.out.now) (g.O.Sink.state c.answer-answered.new.out) (g.E.Sink.state c.args.err.now) (g.E.Sink.state c.report-2.new.err)
-    c.report-2.result c.name_input_twice.result (bytes_of c.in-Ok-files.names.items) c.in-Ok-files.ensures.names
-    (rw c.as_slice-2.ensures.value at c.name_input_twice.ensures) c.if-name_input_twice.false
-    (inr (c.if-reading.false, c.answer-answered.result, c.answer-answered.ensures.answers, c.answer-answered.ensures.cause, rw c.is_closed.ensures at c.report-2.ensures.says, c.report-2.ensures.status))))
+pub returns-in-Err-Misuse : goal.returns-in-Err-Misuse
+returns-in-Err-Misuse g c =
+    run_misused _ (misuse_line c.in-Err-Misuse.misuse) (g.F.Files.contents c.args.files.now) (g.M.Memory.refused c.line_parts.new.memory) (g.O.Output.closed c.args.out.now)
+    (g.O.Sink.state c.args.out.now) (g.E.Sink.state c.args.err.now) (g.E.Sink.state c.report_misuse.new.err) c.report_misuse.result
+    (found_none (map string_bytes c.args.texts.now) (misuse_line c.in-Err-Misuse.misuse)
+    (rw (c.as_slice.ensures.value, c.in-Ok.ensures.slices, c.in-Err-Misuse.field-0-is) at c.in-Err-Misuse.ensures)) c.report_misuse.ensures.says c.report_misuse.ensures.status

@@ -1,7 +1,7 @@
 use Rattle.std.proofs.Common.{inr}
 use Rattle.netset.specs.Command.{request_of}
 use Rattle.netset.proofs.Arguments.{bytes_of}
-use Rattle.netset.proofs.Running.{argument_first, no_line_in_error, no_names, not_loaded}
+use Rattle.netset.proofs.Running.{argument_first, lines_in_error, no_line_in_error, no_names, not_loaded}
 use Rattle.netset.proofs.program.keep_going.Goals as goal
 
 pub returns-in_default-lists : goal.returns-in_default-lists
@@ -10,6 +10,15 @@ returns-in_default-lists g c = inr (
   no_names (g.F.Sources.contents c.args.sources.now) (request_of c.args.command) (g.M.Memory.refused c.lists.new.memory) (g.O.Output.closed c.args.out.now)
       (g.O.Sink.state c.args.out.now) (g.E.Sink.state c.args.err.now) (g.E.Sink.state c.report-in_default-lists.new.err) c.report-in_default-lists.result
       c.in_default-lists.ensures.refused c.report-in_default-lists.ensures.says c.report-in_default-lists.ensures.status,
+)
+
+pub returns-in-Ok-default-true : goal.returns-in-Ok-default-true
+returns-in-Ok-default-true g c = inr (
+  c.in_default.ensures,
+  lines_in_error (g.F.Sources.contents c.args.sources.now) (request_of c.args.command) c.kind.result (bytes_of c.in-Ok.names.items)
+      (g.M.Memory.refused c.load.new.memory) (g.O.Output.closed c.args.out.now) (g.O.Sink.state c.args.out.now)
+      (g.E.Sink.state c.args.err.now) (g.E.Sink.state c.load.new.err) c.kind.ensures c.in-Ok.ensures.names c.in-Ok-default-true.field-0-0.items
+      (rw (c.as_slice.ensures.value, c.in-Ok-default-true.field-0-1-test) at c.in-Ok-default-true.ensures.loads),
 )
 
 pub returns-in-Ok-default-false : goal.returns-in-Ok-default-false

@@ -1,5 +1,5 @@
 use Rattle.std.proofs.Common.{◌∙◌}
-use Rattle.netset.proofs.MatchArguments.{any_of}
+use Rattle.netset.proofs.Arguments.{any_of}
 use Rattle.netset.proofs.commands.matching.has.Goals as goal
 
 pub returns : goal.returns

@@ -1,8 +1,5 @@
 use Rattle.netset.proofs.output.report.say.Goals as goal
 
-pub returns-in-Usage : goal.returns-in-Usage
-returns-in-Usage g c = rw c.in-Usage.is (c.write_line.result, c.write_line.ensures)
-
 pub returns-in-Line : goal.returns-in-Line
 returns-in-Line g c =
     rw c.in-Line.is (c.write_message.result, rw (c.fault_parts.ensures, c.format.ensures.text, c.as_str-in-Line.ensures.value, c.message.ensures) at c.write_message.ensures)
@@ -19,4 +16,4 @@ returns-in-Output g c = rw c.in-Output.is (c.write_line-in-Output.result, c.writ
 
 pub returns-in-Argument : goal.returns-in-Argument
 returns-in-Argument g c =
-    rw c.in-Argument.is (c.write_line-in-Argument.result, rw (c.as_str.ensures.value, c.excerpt.ensures.text, c.as_str-in-Argument.ensures.value, c.argument_message.ensures) at c.write_line-in-Argument.ensures)
+    rw c.in-Argument.is (c.write_line.result, rw (c.as_str.ensures.value, c.excerpt.ensures.text, c.as_str-in-Argument.ensures.value, c.argument_message.ensures) at c.write_line.ensures)
