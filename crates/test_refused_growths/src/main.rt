@@ -57,10 +57,12 @@ fn main(rt: HostRuntime) -> io::Result<()> {
         ("sets of two sets", sets::algebra(rt.alloc())),
         ("insert and remove of a set", sets::changes(rt.alloc())),
         ("remove of a part", sets::part(rt.alloc())),
+        ("insert in place of others", sets::joins(rt.alloc())),
         ("from_range", sets::range(rt.alloc())),
         ("access lists", rules::access_lists(rt.alloc())),
         ("smallest tables", forwarding::smallest(rt.alloc())),
         ("a forwarding table", ranges::forwarding_table(rt.alloc())),
+        ("a set made ready", ranges::ready_set(rt.alloc())),
     ];
     for (call, held) in rows {
         println!(rt; "{call}: {}", outcome(held))?;

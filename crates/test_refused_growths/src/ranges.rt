@@ -1,6 +1,7 @@
-//! Forwarding tables whose allocations are refused.
+//! Forwarding tables and sets made ready, whose allocations are refused.
 use cidr::{Ipv6Addr, Ipv6Cidr};
-use cidr_fib::{ForwardingError, ForwardingTable};
+use cidr_fib::{ForwardingError, ForwardingTable, ReadySet};
+use cidr_sets::NetworkSet;
 use cidr_table::LpmTable;
 use std::alloc::{AllocError, Global};
 
@@ -52,4 +53,40 @@ pub fn forwarding_table(alloc: Global) -> Result<bool, AllocError> {
         held &= ready.find(&host(i * 2 + 1)).is_none();
     }
     Ok(held && ready.table().len() == ROWS as usize)
+}
+
+/// The set of three of these hosts, none beside another.
+fn three_hosts(alloc: Global) -> Result<NetworkSet<Ipv6Cidr>, AllocError> {
+    let networks = [host(0), host(2), host(4)];
+    match NetworkSet::from_networks(alloc, &networks) {
+        Ok(set) => Ok(set),
+        Err(_) => NetworkSet::from_networks(alloc, &networks),
+    }
+}
+
+/// A set made ready, once more where that is refused for want of memory.
+fn set_made_ready(
+    alloc: Global,
+    set: &NetworkSet<Ipv6Cidr>,
+) -> Result<ReadySet<Ipv6Cidr>, AllocError> {
+    match ReadySet::new(alloc, set) {
+        Ok(ready) => return Ok(ready),
+        Err(ForwardingError::NoMemory) => {}
+        Err(_) => return Err(AllocError),
+    }
+    match ReadySet::new(alloc, set) {
+        Ok(ready) => Ok(ready),
+        Err(_) => Err(AllocError),
+    }
+}
+
+/// Whether a set of three hosts is made ready, and has these and not those behind them.
+pub fn ready_set(alloc: Global) -> Result<bool, AllocError> {
+    let set = three_hosts(alloc)?;
+    let ready = set_made_ready(alloc, &set)?;
+    let mut held = set.len() == 3;
+    for i in 0..3_u32 {
+        held &= ready.contains(&host(i * 2)) && !ready.contains(&host(i * 2 + 1));
+    }
+    Ok(held)
 }

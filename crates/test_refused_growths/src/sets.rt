@@ -128,6 +128,13 @@ pub fn part(alloc: Global) -> Result<bool, AllocError> {
     Ok(held && set.len() == 18 && !set.overlaps(&part))
 }
 
+/// Whether networks that take the place of others need no memory: the other half of one, and one around another.
+pub fn joins(alloc: Global) -> Result<bool, AllocError> {
+    let mut set = set_of(alloc, &[block(TEN, 9), block(ELEVEN, 9)])?;
+    let held = set.insert(block(UPPER, 9)).is_ok() && set.insert(block(ELEVEN, 8)).is_ok();
+    Ok(held && are_blocks(set.as_slice(), &[(TEN, 7)]))
+}
+
 /// Whether a range is a set of four networks.
 pub fn range(alloc: Global) -> Result<bool, AllocError> {
     let (first, last) = (Ipv4Addr::from_bits(TEN + 1), Ipv4Addr::from_bits(TEN + 6));
