@@ -13,7 +13,7 @@ use Rattle.cidr_io.specs.declared.sink.OutputFailed.{OutputFailed}
 use Rattle.cidr_io.specs.Writing.{State}
 use Rattle.netset.specs.Causes.{Cause, AreTooMany, LookCause, MayFail, ReadCause, TextFails}
 use Rattle.netset.specs.Commands.{Single as ASingle}
-use Rattle.netset.specs.Gathering.{IsLost, Stops, ended_by}
+use Rattle.netset.specs.Gathering.{IsLost, Stops, ended_by, told_behind}
 use Rattle.cidr_lists.specs.Lists.{Text, is_line_feed, kept_of, lines_of}
 use Rattle.netset.specs.LookUps.{unread}
 use Rattle.netset.specs.Program.{AnswersRequest, IsBadArgument, by_output}
@@ -158,6 +158,12 @@ stop_cause F refused (error.Argument text e) s t block r (w, wrote, is) h = ende
 stop_cause F refused (error.Line name number e) s t block r (w, wrote, is) h = ended_cause F refused (error.Line name number e) w r is h
 stop_cause F refused (error.Input name) s t block r (w, wrote, is) h = ended_cause F refused (error.Input name) w r is h
 stop_cause F refused error.NoMemory s t block r (w, wrote, is) h = ended_cause F refused error.NoMemory w r is h
+
+pub behind_cause : (F : List ℕ → Type 0) (refused : Bool) (file : Bor (List ℕ)) (long : Option ℕ) (r : Result Verdict CommandError) → IfErr r (Cause F refused)
+    → IfErr (told_behind file long r) (Cause F refused)
+behind_cause F refused file None r h = h
+behind_cause F refused file (Some n) (Ok verdict) h = tt
+behind_cause F refused file (Some n) (Err e) h = h
 
 pub take_cause : (F : List ℕ → Type 0) (refused : Bool) (P : List ℕ → Result Bool LineError → Type 0) (what : Written) (file : List ℕ) (number : ℕ) (part : List ℕ)
     (old new : State) (block rest : List ℕ) (e : CommandError) → IsLost P what file number part old new block rest e → Cause F refused e

@@ -1,7 +1,7 @@
 -- Lines that are picked of a file.
-use Rattle.std.proofs.Common.{◌≡◌, ◌≢◌, ◌↔◌, refl, sym, ◌∙◌, ap, subst, inl, inr, ℕ, ◌+◌, ◌<◌, ◌≤◌, Bool, true, false, not, if◌then◌else◌, List, [], ◌∷◌, ◌++◌, length, arith, codes, Option, Some, None, Result, Ok, Err, Decides, append_assoc, length-append}
+use Rattle.std.proofs.Common.{◌≡◌, ◌≢◌, ◌⊎◌, ◌↔◌, refl, sym, ◌∙◌, ap, subst, inl, inr, ℕ, ◌+◌, ◌<◌, ◌≤◌, Bool, true, false, not, if◌then◌else◌, List, [], ◌∷◌, ◌++◌, length, arith, codes, Option, Some, None, Result, Ok, Err, Decides, Bor, append_assoc, length-append}
 use Rattle.std.specs.Option.{IfSome}
-use Rattle.std.specs.List.{AllZip, flat_map, items_where_true, slice_split}
+use Rattle.std.specs.List.{AllByRecursion, AllZip, flat_map, items_where_true, slice_split}
 use Rattle.std.proofs.lemmas.Bool.{true≢false}
 use Rattle.std.proofs.lemmas.List.{append-nil, flat_map_more, length-map}
 use Rattle.std.proofs.lemmas.List.Concat.{flat_map-append}
@@ -9,7 +9,7 @@ use Rattle.std.proofs.lemmas.List.Splits.{length-slice_split}
 use Rattle.cidr.specs.either.IpNetwork.{network_family, network_prefix}
 use Rattle.cidr.specs.declared.cidr.combined.IpCidr.{IpCidr}
 use Rattle.cidr.specs.declared.family.Family.{Family}
-use Rattle.cidr_io.specs.Writing.{State, Whole, Part, Writes}
+use Rattle.cidr_io.specs.Writing.{Answered, State, Whole, Part, Writes}
 use Rattle.cidr_io.specs.declared.sink.OutputFailed.{OutputFailed}
 use Rattle.cidr_io.proofs.Chains.{answered, part_none, then_writes}
 use Rattle.netset.specs.Answering.{HasAddresses, ReadsFile}
@@ -17,13 +17,13 @@ use Rattle.cidr_io.specs.Collecting.{Collects, Holds}
 use Rattle.netset.specs.Causes.{TextFails}
 use Rattle.netset.specs.Combining.{Turned}
 use Rattle.netset.specs.Commands.{Match, Says}
-use Rattle.netset.specs.Gathering.{Finishes, IsCounted, IsDone, IsLost, IsUnreadable, Stops, Streams, TakesPart, ended_by, lines_of_part, rest_written}
-use Rattle.cidr_lists.specs.Lists.{Text, is_line_feed, kept_of, lines_of}
+use Rattle.netset.specs.Gathering.{Finishes, IsCounted, IsDone, IsLost, IsUnreadable, NotesLong, Stops, Streams, TakesPart, ended_by, lines_of_part, rest_written, told_behind}
+use Rattle.cidr_lists.specs.Lists.{IsTooLong, Text, is_line_feed, kept_of, lines_of}
 use Rattle.cidr_lists.specs.Within.{AreWithin, HasOneIn, LiesIn}
-use Rattle.netset.specs.Matching.{ArePicked, ArePickedBy, IsCutAt, IsEnough, IsErrorBy, IsMatch, Picks, PicksAnywhere, PicksBy, PicksByField, all_written, has, line_written, written_of}
+use Rattle.netset.specs.Matching.{ArePicked, ArePickedBy, IsEndedBy, IsEnough, IsErrorBy, IsFirstLong, IsLongOrLost, IsMatch, Picks, PicksAnywhere, PicksBy, PicksByField, all_written, has, line_written, written_of}
 use Rattle.cidr_lists.specs.Lines.{last_line, lines_among, lines_in}
 use Rattle.cidr_lists.specs.Fields.{FieldSays}
-use Rattle.netset.specs.Program.{AnswersRequest}
+use Rattle.netset.specs.Program.{AnswersRequest, by_output}
 use Rattle.netset.specs.Reading.{IsNextLine}
 use Rattle.cidr_lists.specs.Sets.{HasAddress}
 use Rattle.netset.specs.Streaming.{IsOfFile, IsStop, IsWritten, ReadTo}
@@ -32,6 +32,7 @@ use Rattle.netset.specs.declared.output.answers.Verdict.TheVariants.{Yes, No}
 use Rattle.netset.specs.declared.errors.CommandError.{CommandError}
 use Rattle.netset.specs.declared.errors.CommandError.TheVariants as error
 use Rattle.cidr_lists.specs.declared.errors.LineError.{LineError}
+use Rattle.cidr_lists.specs.declared.errors.LineError.TheVariants.{TooLong}
 use Rattle.netset.specs.declared.commands.matching.Gathered.{Gathered}
 use Rattle.netset.specs.declared.commands.matching.Written.{Written}
 use Rattle.netset.specs.declared.commands.matching.Written.TheVariants as written
@@ -71,6 +72,46 @@ part_read text part false next n = (
   λ e. refl,
   λ e. absurd (true≢false (sym e)),
 )
+
+-- ---- the first line that is too long
+-- no line of these is too long
+abbrev AreShort : List (List ℕ) → Type 0
+AreShort lines = AllByRecursion (λ line. ¬ (IsTooLong line)) lines
+
+both_short : (xs ys : List (List ℕ)) → AreShort xs → AreShort ys → AreShort (xs ++ ys)
+both_short [] ys h k = k
+both_short (x ∷ xs) ys h k = (h.0, both_short xs ys h.1 k)
+
+part_long : (part : List ℕ) (more : Bool) → IsTooLong part → lines_of_part part more ≡ part ∷ []
+part_long part true long = refl
+part_long [] false long = absurd (omega (arith, long))
+part_long (byte ∷ part) false long = refl
+
+part_short : (part : List ℕ) (more : Bool) → ¬ (IsTooLong part) → AreShort (lines_of_part part more)
+part_short part true short = (short, tt)
+part_short [] false short = tt
+part_short (byte ∷ part) false short = (short, tt)
+
+long_none : (read : List (List ℕ)) (number : ℕ) (part : List ℕ) (more : Bool) (now : Option ℕ) → number ≡ length read + 1 → AreShort read
+    → (IsTooLong part × (now ≡ Some number)) ⊎ (¬ (IsTooLong part) × (now ≡ None)) → IsFirstLong (read ++ lines_of_part part more) now
+long_none read number part more now at short (inl (long, is)) =
+    rw (is, part_long part more long) (read, part, [], refl, at, long, short)
+long_none read number part more now at short (inr (fits, is)) =
+    rw is (both_short read (lines_of_part part more) short (part_short part more fits))
+
+long_on : (read : List (List ℕ)) (number : ℕ) (part : List ℕ) (more : Bool) (long now : Option ℕ) → number ≡ length read + 1 → IsFirstLong read long
+    → NotesLong number part long now → IsFirstLong (read ++ lines_of_part part more) now
+long_on read number part more None now at short notes = long_none read number part more now at short notes
+long_on read number part more (Some n) now at (before, line, after, split, place, bad, short) is =
+    rw is (
+      before,
+      line,
+      after ++ lines_of_part part more,
+      ap (λ (k : List (List ℕ)). k ++ lines_of_part part more) split ∙ append_assoc before (line ∷ after) (lines_of_part part more),
+      place,
+      bad,
+      short,
+    )
 
 -- ---- lines that are picked
 zip_both : {A B : Type 0} (P : A → B → Type 0) (xs ys : List A) (ms ns : List B) → AllZip P xs ms → AllZip P ys ns → AllZip P (xs ++ ys) (ms ++ ns)
@@ -228,7 +269,7 @@ module _ (P : List ℕ → Result Bool LineError → Type 0) (what : Written) (f
 
 module _ (P : List ℕ → Result Bool LineError → Type 0) (what : Written) where
   -- the lines before this number were read
-  pub record Passed (text : List ℕ) (left : Option (List ℕ)) (number : ℕ) (picked : List (List ℕ)) : Type 0 where
+  pub record Passed (text : List ℕ) (left : Option (List ℕ)) (number : ℕ) (picked : List (List ℕ)) (long : Option ℕ) : Type 0 where
     pub rest : List ℕ
     pub known : left ≡ Some rest
     pub read : List (List ℕ)
@@ -236,34 +277,36 @@ module _ (P : List ℕ → Result Bool LineError → Type 0) (what : Written) wh
     pub size : length rest ≤ length text
     pub place : number ≡ length read + 1
     pub are : ArePicked P read picked
+    pub first : IsFirstLong read long
 
-  pub record Streamed (known left : Option (List ℕ)) (s t : State) (number count : ℕ) (block : List ℕ) : Type 0 where
+  pub record Streamed (known left : Option (List ℕ)) (s t : State) (number count : ℕ) (block : List ℕ) (long : Option ℕ) : Type 0 where
     pub picked : List (List ℕ)
     pub collected : Holds s t block (flat_map (line_written what) picked)
     pub counted : count ≡ length picked
     pub few : count < number
-    pub passed : IfSome known (λ text. Passed text left number picked)
+    pub passed : IfSome known (λ text. Passed text left number picked long)
 
   -- the part of this number was taken too
-  pub record Reached (text : List ℕ) (next : Option (List ℕ)) (number : ℕ) (more : Bool) (picked : List (List ℕ)) : Type 0 where
+  pub record Reached (text : List ℕ) (next : Option (List ℕ)) (number : ℕ) (more : Bool) (picked : List (List ℕ)) (long : Option ℕ) : Type 0 where
     pub read : List (List ℕ)
     pub after : List (List ℕ)
     pub to : ReadTo (ArePicked P) (lines_in text) read after picked
+    pub first : IsFirstLong read long
     pub over : more ≡ false → after ≡ []
-    pub on : more ≡ true → Passed text next (number + 1) picked
+    pub on : more ≡ true → Passed text next (number + 1) picked long
 
-  pub record Taken (known next : Option (List ℕ)) (s t : State) (number count : ℕ) (block : List ℕ) (more : Bool) : Type 0 where
+  pub record Taken (known next : Option (List ℕ)) (s t : State) (number count : ℕ) (block : List ℕ) (more : Bool) (long : Option ℕ) : Type 0 where
     pub picked : List (List ℕ)
     pub collected : Holds s t block (flat_map (line_written what) picked)
     pub counted : count ≡ length picked
     pub few : count < number + 1
-    pub reached : IfSome known (λ text. Reached text next number more picked)
+    pub reached : IfSome known (λ text. Reached text next number more picked long)
 
-  nothing_passed : (known : Option (List ℕ)) → IfSome known (λ text. Passed text known 1 [])
+  nothing_passed : (known : Option (List ℕ)) → IfSome known (λ text. Passed text known 1 [] None)
   nothing_passed None = tt
-  nothing_passed (Some text) = record { rest = text; known = refl; read = []; lines = refl; size = omega arith; place = refl; are = none_picked P }
+  nothing_passed (Some text) = record { rest = text; known = refl; read = []; lines = refl; size = omega arith; place = refl; are = none_picked P; first = tt }
 
-  pub started : (known : Option (List ℕ)) (s : State) (count : ℕ) (block : List ℕ) → count ≡ 0 → block ≡ [] → Streamed known known s s 1 count block
+  pub started : (known : Option (List ℕ)) (s : State) (count : ℕ) (block : List ℕ) → count ≡ 0 → block ≡ [] → Streamed known known s s 1 count block None
   started known s count block zero none = record {
     picked = [];
     collected = subst (λ (k : List ℕ). Holds s s k []) (sym none) (nothing_held s);
@@ -272,19 +315,21 @@ module _ (P : List ℕ → Result Bool LineError → Type 0) (what : Written) wh
     passed = nothing_passed known;
   }
 
-  reached_by : (known left next : Option (List ℕ)) (number : ℕ) (part : List ℕ) (more : Bool) (picked one : List (List ℕ))
-      → IfSome known (λ text. Passed text left number picked) → IfSome left (λ text. IsNextLine text part more next)
-      → ArePicked P (lines_of_part part more) one → IfSome known (λ text. Reached text next number more (picked ++ one))
-  reached_by None left next number part more picked one p n k = tt
-  reached_by (Some text) left next number part more picked one p n k =
+  reached_by : (known left next : Option (List ℕ)) (number : ℕ) (part : List ℕ) (more : Bool) (picked one : List (List ℕ)) (long now : Option ℕ)
+      → IfSome known (λ text. Passed text left number picked long) → IfSome left (λ text. IsNextLine text part more next)
+      → ArePicked P (lines_of_part part more) one → NotesLong number part long now → IfSome known (λ text. Reached text next number more (picked ++ one) now)
+  reached_by None left next number part more picked one long now p n k notes = tt
+  reached_by (Some text) left next number part more picked one long now p n k notes =
       let (after, lines, over, on) = part_read p.rest part more next (rw p.known at n) in
       let all : lines_in text ≡ (p.read ++ lines_of_part part more) ++ after =
       p.lines ∙ (ap (λ (z : List (List ℕ)). p.read ++ z) lines ∙ sym (append_assoc p.read (lines_of_part part more) after)) in
       let are : ArePicked P (p.read ++ lines_of_part part more) (picked ++ one) = picked_both P p.read (lines_of_part part more) picked one p.are k in
+      let first : IsFirstLong (p.read ++ lines_of_part part more) now = long_on p.read number part more long now p.place p.first notes in
       record {
         read = p.read ++ lines_of_part part more;
         after = after;
         to = record { lines = all; are = are };
+        first = first;
         over = over;
         on = λ e.
             let (rest, known, is, less) = on e in
@@ -296,36 +341,37 @@ module _ (P : List ℕ → Result Bool LineError → Type 0) (what : Written) wh
               size = omega (arith, p.size, less);
               place = omega (arith, p.place, length-append p.read (lines_of_part part more), ap (λ (b : Bool). length (lines_of_part part b)) e);
               are = are;
+              first = first;
             };
       }
 
-  pub take_on : (file : List ℕ) (known left next : Option (List ℕ)) (s t u : State) (number : ℕ) (part : List ℕ) (more : Bool) (before after : Gathered)
-      → Streamed known left s t number before.count before.block → IfSome left (λ text. IsNextLine text part more next)
-      → TakesPart P what file number part more t u before after (Ok tt) → Taken known next s u number after.count after.block more
-  take_on file known left next s t u number part more before after st n (one, are, count, few, collects) = record {
+  pub take_on : (file : List ℕ) (known left next : Option (List ℕ)) (s t u : State) (number : ℕ) (part : List ℕ) (more : Bool) (before after : Gathered) (long now : Option ℕ)
+      → Streamed known left s t number before.count before.block long → IfSome left (λ text. IsNextLine text part more next) → NotesLong number part long now
+      → TakesPart P what file number part more t u before after (Ok tt) → Taken known next s u number after.count after.block more now
+  take_on file known left next s t u number part more before after long now st n notes (one, are, count, few, collects) = record {
     picked = st.picked ++ one;
     collected = subst (Holds s u after.block) (sym (flat_map-append (line_written what) st.picked one))
         (held_then s t u before.block after.block (flat_map (line_written what) st.picked) (flat_map (line_written what) one) st.collected collects);
     counted = omega (arith, count, st.counted, length-append st.picked one);
     few = omega (arith, count, few, st.few);
-    reached = reached_by known left next number part more st.picked one st.passed n are;
+    reached = reached_by known left next number part more st.picked one long now st.passed n are notes;
   }
 
-  passed_on : (known next : Option (List ℕ)) (number : ℕ) (more : Bool) (picked : List (List ℕ)) → more ≡ true
-      → IfSome known (λ text. Reached text next number more picked) → IfSome known (λ text. Passed text next (number + 1) picked)
-  passed_on None next number more picked e r = tt
-  passed_on (Some text) next number more picked e r = r.on e
+  passed_on : (known next : Option (List ℕ)) (number : ℕ) (more : Bool) (picked : List (List ℕ)) (long : Option ℕ) → more ≡ true
+      → IfSome known (λ text. Reached text next number more picked long) → IfSome known (λ text. Passed text next (number + 1) picked long)
+  passed_on None next number more picked long e r = tt
+  passed_on (Some text) next number more picked long e r = r.on e
 
-  pub go_on : (known next : Option (List ℕ)) (s t : State) (number count : ℕ) (block : List ℕ) (more done : Bool) → Decides done (IsDone what more count)
-      → done ≡ false → Taken known next s t number count block more → Streamed known next s t (number + 1) count block
-  go_on known next s t number count block true done d e k = record {
+  pub go_on : (known next : Option (List ℕ)) (s t : State) (number count : ℕ) (block : List ℕ) (more done : Bool) (long : Option ℕ) → Decides done (IsDone what more count)
+      → done ≡ false → Taken known next s t number count block more long → Streamed known next s t (number + 1) count block long
+  go_on known next s t number count block true done long d e k = record {
     picked = k.picked;
     collected = k.collected;
     counted = k.counted;
     few = k.few;
-    passed = passed_on known next number true k.picked refl k.reached;
+    passed = passed_on known next number true k.picked long refl k.reached;
   }
-  go_on known next s t number count block false done d e k = absurd (true≢false (sym (d.1 (inl refl)) ∙ e))
+  go_on known next s t number count block false done long d e k = absurd (true≢false (sym (d.1 (inl refl)) ∙ e))
 
   -- ---- the end
   some_picked : (picked : List (List ℕ)) (count : ℕ) → count ≡ length picked → 0 < count → picked ≢ []
@@ -339,21 +385,35 @@ module _ (P : List ℕ → Result Bool LineError → Type 0) (what : Written) wh
   by_count picked count Yes is h = some_picked picked count is h
   by_count picked count No is h = no_picked picked count is h
 
-  matched_whole : (known next : Option (List ℕ)) (number count : ℕ) (more : Bool) (picked : List (List ℕ)) (verdict : Verdict) → IsDone what more count
-      → count ≡ length picked → IsCounted count verdict → IfSome known (λ text. Reached text next number more picked)
-      → IfSome known (λ text. IsMatch P what text (all_written what picked) verdict)
-  matched_whole None next number count more picked verdict done is h r = tt
-  matched_whole (Some text) next number count more picked verdict done is h r =
+  matched_whole : (known next : Option (List ℕ)) (number count : ℕ) (more : Bool) (picked : List (List ℕ)) (long : Option ℕ) (verdict : Verdict) → IsDone what more count
+      → count ≡ length picked → IsCounted count verdict → IfSome known (λ text. Reached text next number more picked long)
+      → IfSome known (λ text. IsMatch P what text long (all_written what picked) verdict)
+  matched_whole None next number count more picked long verdict done is h r = tt
+  matched_whole (Some text) next number count more picked long verdict done is h r =
       let enough : IsEnough what r.after picked = elim done [
         | inl e ↦ inl (r.over e)
         | inr (nothing, some) ↦ inr (nothing, some_picked picked count is some)
       ] in
-      (r.read, r.after, picked, r.to, enough, refl, by_count picked count verdict is h)
+      (r.read, r.after, picked, r.to, r.first, enough, refl, by_count picked count verdict is h)
 
-  pub ended : (file : List ℕ) (known next : Option (List ℕ)) (s t u : State) (number : ℕ) (gathered : Gathered) (more done : Bool) (r : Result Verdict CommandError)
+  match_but : (known : Option (List ℕ)) (answer : List ℕ) (n : ℕ) (verdict : Verdict) (e : CommandError) → IfSome known (λ text. IsMatch P what text (Some n) answer verdict)
+      → IsLongOrLost n e → IfSome known (λ text. IsEndedBy P what text answer e)
+  match_but None answer n verdict e match of = tt
+  match_but (Some text) answer n verdict e match of = inr (n, verdict, match, of)
+
+  -- the first line that is too long is told behind the answer
+  told_too : (file : Bor (List ℕ)) (known : Option (List ℕ)) (s u : State) (answer : List ℕ) (long : Option ℕ) (verdict : Verdict) (w : Result (Unit {0}) OutputFailed)
+      → IfSome known (λ text. IsMatch P what text long answer verdict) → Answered s u answer w → Streams P what file.now known s u (told_behind file long (by_output verdict w))
+  told_too file known s u answer None verdict w match wrote = inl (answer, verdict, w, match, wrote, refl)
+  told_too file known s u answer (Some n) verdict (Ok a) match wrote =
+      inr (error.Line file n TooLong, refl, refl, answer, wrote, match_but known answer n verdict (error.Line file n TooLong) match (refl, refl))
+  told_too file known s u answer (Some n) verdict (Err f) match wrote =
+      inr (error.Output, refl, tt, answer, wrote, match_but known answer n verdict error.Output match tt)
+
+  pub ended : (file : Bor (List ℕ)) (known next : Option (List ℕ)) (s t u : State) (number : ℕ) (gathered : Gathered) (more done : Bool) (long : Option ℕ) (r : Result Verdict CommandError)
       → Decides done (IsDone what more gathered.count) → done ≡ true → s.failed ≡ false
-      → Taken known next s t number gathered.count gathered.block more → Finishes what t u gathered r → Streams P what file known s u r
-  ended file known next s t u number gathered more done r d e fine k (verdict, w, counted, writes, is) =
+      → Taken known next s t number gathered.count gathered.block more long → Finishes what t u gathered r → Streams P what file.now known s u (told_behind file long r)
+  ended file known next s t u number gathered more done long r d e fine k (verdict, w, counted, writes, is) =
       let (before, whole, split) = k.collected in
       let rest : List ℕ = rest_written what gathered.count in
       let all : before ++ (gathered.block ++ rest) ≡ all_written what k.picked =
@@ -361,29 +421,24 @@ module _ (P : List ℕ → Result Bool LineError → Type 0) (what : Written) wh
       ∙ (ap (λ (n : ℕ). flat_map (line_written what) k.picked ++ rest_written what n) k.counted ∙ sym (all_split what k.picked))) in
       let wrote : Writes s u (all_written what k.picked) w =
       subst (λ (z : List ℕ). Writes s u z w) all (then_writes s t u before (gathered.block ++ rest) w whole writes) in
-      inl (
-        all_written what k.picked,
-        verdict,
-        w,
-        matched_whole known next number gathered.count more k.picked verdict (d.0 e) k.counted counted k.reached,
-        answered s u (all_written what k.picked) w fine wrote,
-        is,
-      )
+      rw is (told_too file known s u (all_written what k.picked) long verdict w
+      (matched_whole known next number gathered.count more k.picked long verdict (d.0 e) k.counted counted k.reached)
+      (answered s u (all_written what k.picked) w fine wrote))
 
   -- ---- a file that is not read to its end
-  cut_here : (known left : Option (List ℕ)) (number : ℕ) (picked : List (List ℕ)) (e : CommandError)
-      → ((read after : List (List ℕ)) → IsStop (IsErrorBy P) read after e) → IfSome known (λ text. Passed text left number picked)
-      → IfSome known (λ text. IsCutAt P what text (flat_map (line_written what) picked) e)
-  cut_here None left number picked e stops p = tt
-  cut_here (Some text) left number picked e stops p =
-      (picked, (p.read, lines_in p.rest, record { lines = p.lines; are = p.are }, stops p.read (lines_in p.rest)), refl)
+  cut_here : (known left : Option (List ℕ)) (number : ℕ) (picked : List (List ℕ)) (long : Option ℕ) (e : CommandError)
+      → ((read after : List (List ℕ)) → IsStop (IsErrorBy P) read after e) → IfSome known (λ text. Passed text left number picked long)
+      → IfSome known (λ text. IsEndedBy P what text (flat_map (line_written what) picked) e)
+  cut_here None left number picked long e stops p = tt
+  cut_here (Some text) left number picked long e stops p =
+      inl (picked, (p.read, lines_in p.rest, record { lines = p.lines; are = p.are }, stops p.read (lines_in p.rest)), refl)
 
   -- what is not yet written is written
   stopped : (file : List ℕ) (known : Option (List ℕ)) (s t u : State) (block : List ℕ) (picked : List (List ℕ)) (e : CommandError)
       (w : Result (Unit {0}) OutputFailed) (r : Result Verdict CommandError) → s.failed ≡ false → IsOfFile file e
       → ((text : List ℕ) → Whole s u text × (u.failed ≡ false) → IsWritten s u text e) → Holds s t block (flat_map (line_written what) picked) → Writes t u block w
-      → r ≡ Err (ended_by e w) → IfSome known (λ text. IsCutAt P what text (flat_map (line_written what) picked) e)
-      → IfSome known (λ text. IsCutAt P what text (flat_map (line_written what) picked) error.Output) → Streams P what file known s u r
+      → r ≡ Err (ended_by e w) → IfSome known (λ text. IsEndedBy P what text (flat_map (line_written what) picked) e)
+      → IfSome known (λ text. IsEndedBy P what text (flat_map (line_written what) picked) error.Output) → Streams P what file known s u r
   stopped file known s t u block picked e (Ok a) r fine of goes collected wrote is cut lost = inr (
     e,
     is,
@@ -403,37 +458,37 @@ module _ (P : List ℕ → Result Bool LineError → Type 0) (what : Written) wh
     lost,
   )
 
-  pub unread : (file : List ℕ) (known left : Option (List ℕ)) (s t u : State) (number count : ℕ) (block : List ℕ) (e : CommandError) (r : Result Verdict CommandError)
-      → s.failed ≡ false → IsUnreadable file e → Streamed known left s t number count block → Stops e t u block r → Streams P what file known s u r
-  unread file known left s t u number count block (error.Argument text e) r fine h st stops = absurd h
-  unread file known left s t u number count block (error.Line name n e) r fine h st stops = absurd h
-  unread file known left s t u number count block (error.Input name) r fine h st (w, wrote, is) =
+  pub unread : (file : List ℕ) (known left : Option (List ℕ)) (s t u : State) (number count : ℕ) (block : List ℕ) (long : Option ℕ) (e : CommandError) (r : Result Verdict CommandError)
+      → s.failed ≡ false → IsUnreadable file e → Streamed known left s t number count block long → Stops e t u block r → Streams P what file known s u r
+  unread file known left s t u number count block long (error.Argument text e) r fine h st stops = absurd h
+  unread file known left s t u number count block long (error.Line name n e) r fine h st stops = absurd h
+  unread file known left s t u number count block long (error.Input name) r fine h st (w, wrote, is) =
       stopped file known s t u block st.picked (error.Input name) w r fine h (λ text all. all) st.collected wrote is
-      (cut_here known left number st.picked (error.Input name) (λ _ _. tt) st.passed)
-      (cut_here known left number st.picked error.Output (λ _ _. tt) st.passed)
-  unread file known left s t u number count block error.NoMemory r fine h st (w, wrote, is) =
+      (cut_here known left number st.picked long (error.Input name) (λ _ _. tt) st.passed)
+      (cut_here known left number st.picked long error.Output (λ _ _. tt) st.passed)
+  unread file known left s t u number count block long error.NoMemory r fine h st (w, wrote, is) =
       stopped file known s t u block st.picked error.NoMemory w r fine tt (λ text all. all) st.collected wrote is
-      (cut_here known left number st.picked error.NoMemory (λ _ _. tt) st.passed)
-      (cut_here known left number st.picked error.Output (λ _ _. tt) st.passed)
-  unread file known left s t u number count block error.Output r fine h st stops = absurd h
+      (cut_here known left number st.picked long error.NoMemory (λ _ _. tt) st.passed)
+      (cut_here known left number st.picked long error.Output (λ _ _. tt) st.passed)
+  unread file known left s t u number count block long error.Output r fine h st stops = absurd h
 
   -- what is left is told too
-  pub left_known : (known left : Option (List ℕ)) (s t : State) (number count : ℕ) (block : List ℕ) → Streamed known left s t number count block → KnownOf known left
-  left_known None left s t number count block st = tt
-  left_known (Some text) left s t number count block st = (st.passed.rest, st.passed.known, st.passed.size)
+  pub left_known : (known left : Option (List ℕ)) (s t : State) (number count : ℕ) (block : List ℕ) (long : Option ℕ) → Streamed known left s t number count block long → KnownOf known left
+  left_known None left s t number count block long st = tt
+  left_known (Some text) left s t number count block long st = (st.passed.rest, st.passed.known, st.passed.size)
 
   -- there are more lines than numbers
-  pub numbers_used : (known left : Option (List ℕ)) (s t : State) (number count : ℕ) (block : List ℕ) → Streamed known left s t number count block
+  pub numbers_used : (known left : Option (List ℕ)) (s t : State) (number count : ℕ) (block : List ℕ) (long : Option ℕ) → Streamed known left s t number count block long
       → 18446744073709551615 ≤ number → TextFails known
-  numbers_used None left s t number count block st most = tt
-  numbers_used (Some text) left s t number count block st most =
+  numbers_used None left s t number count block long st most = tt
+  numbers_used (Some text) left s t number count block long st most =
       enough_bytes text (more_parts 18446744073709551614 text
       (longer_than 18446744073709551614 (lines_in text) st.passed.read (lines_in st.passed.rest) number st.passed.lines st.passed.place most))
 
   -- what was collected is written before more is read, or not all of it
-  pub caught_up : (known left : Option (List ℕ)) (s t u : State) (number count after : ℕ) (block next : List ℕ) → after ≡ count → Collects t u block next [] (Ok tt)
-      → Streamed known left s t number count block → Streamed known left s u number after next
-  caught_up known left s t u number count after block next same more st = record {
+  pub caught_up : (known left : Option (List ℕ)) (s t u : State) (number count after : ℕ) (block next : List ℕ) (long : Option ℕ) → after ≡ count → Collects t u block next [] (Ok tt)
+      → Streamed known left s t number count block long → Streamed known left s u number after next long
+  caught_up known left s t u number count after block next long same more st = record {
     picked = st.picked;
     collected = subst (Holds s u next) (append-nil (flat_map (line_written what) st.picked))
         (held_then s t u block next (flat_map (line_written what) st.picked) [] st.collected more);
@@ -442,9 +497,9 @@ module _ (P : List ℕ → Result Bool LineError → Type 0) (what : Written) wh
     passed = st.passed;
   }
 
-  pub unwritten : (file : List ℕ) (known left : Option (List ℕ)) (s t u : State) (number count : ℕ) (block : List ℕ) → s.failed ≡ false → Part t u (block ++ [])
-      → Streamed known left s t number count block → Streams P what file known s u (Err error.Output)
-  unwritten file known left s t u number count block fine part st = inr (
+  pub unwritten : (file : List ℕ) (known left : Option (List ℕ)) (s t u : State) (number count : ℕ) (block : List ℕ) (long : Option ℕ) → s.failed ≡ false → Part t u (block ++ [])
+      → Streamed known left s t number count block long → Streams P what file known s u (Err error.Output)
+  unwritten file known left s t u number count block long fine part st = inr (
     error.Output,
     refl,
     tt,
@@ -453,21 +508,22 @@ module _ (P : List ℕ → Result Bool LineError → Type 0) (what : Written) wh
       subst (Part s u) (append-nil (flat_map (line_written what) st.picked)) (held_lost s t u block (flat_map (line_written what) st.picked) [] st.collected part),
       λ before. absurd (true≢false (sym before ∙ fine)),
     ),
-    cut_here known left number st.picked error.Output (λ _ _. tt) st.passed,
+    cut_here known left number st.picked long error.Output (λ _ _. tt) st.passed,
   )
 
   pub failed_before : (file : List ℕ) (known : Option (List ℕ)) (s : State) → s.failed ≡ true → Streams P what file known s s (Err error.Output)
   failed_before file known s failed =
-      inr (error.Output, refl, tt, [], (part_none s [] failed, λ _. refl), cut_here known known 1 [] error.Output (λ _ _. tt) (nothing_passed known))
+      inr (error.Output, refl, tt, [], (part_none s [] failed, λ _. refl), cut_here known known 1 [] None error.Output (λ _ _. tt) (nothing_passed known))
 
-  cut_at_line : (known left next : Option (List ℕ)) (number : ℕ) (part : List ℕ) (more : Bool) (picked : List (List ℕ)) (e : CommandError)
-      → lines_of_part part more ≡ part ∷ [] → IfSome left (λ text. IsNextLine text part more next) → IfSome known (λ text. Passed text left number picked)
+  cut_at_line : (known left next : Option (List ℕ)) (number : ℕ) (part : List ℕ) (more : Bool) (picked : List (List ℕ)) (long : Option ℕ) (e : CommandError)
+      → lines_of_part part more ≡ part ∷ [] → IfSome left (λ text. IsNextLine text part more next) → IfSome known (λ text. Passed text left number picked long)
       → ((read after : List (List ℕ)) → number ≡ length read + 1 → IsStop (IsErrorBy P) read (part ∷ after) e)
-      → IfSome known (λ text. IsCutAt P what text (flat_map (line_written what) picked) e)
-  cut_at_line None left next number part more picked e one n p stops = tt
-  cut_at_line (Some text) left next number part more picked e one n p stops =
+      → IfSome known (λ text. IsEndedBy P what text (flat_map (line_written what) picked) e)
+  cut_at_line None left next number part more picked long e one n p stops = tt
+  cut_at_line (Some text) left next number part more picked long e one n p stops =
       let (after, lines, over, on) = part_read p.rest part more next (rw p.known at n) in
-      let here : lines_in p.rest ≡ part ∷ after = lines ∙ ap (λ (z : List (List ℕ)). z ++ after) one in (
+      let here : lines_in p.rest ≡ part ∷ after = lines ∙ ap (λ (z : List (List ℕ)). z ++ after) one in
+      inl (
         picked,
         (
           p.read,
@@ -478,14 +534,15 @@ module _ (P : List ℕ → Result Bool LineError → Type 0) (what : Written) wh
         refl,
       )
 
-  cut_behind : (known left next : Option (List ℕ)) (number : ℕ) (part : List ℕ) (more : Bool) (picked : List (List ℕ)) (e : CommandError)
+  cut_behind : (known left next : Option (List ℕ)) (number : ℕ) (part : List ℕ) (more : Bool) (picked : List (List ℕ)) (long : Option ℕ) (e : CommandError)
       → lines_of_part part more ≡ part ∷ [] → P part (Ok true) → ((read after : List (List ℕ)) → IsStop (IsErrorBy P) read after e)
-      → IfSome left (λ text. IsNextLine text part more next) → IfSome known (λ text. Passed text left number picked)
-      → IfSome known (λ text. IsCutAt P what text (flat_map (line_written what) (picked ++ part ∷ [])) e)
-  cut_behind None left next number part more picked e one h stops n p = tt
-  cut_behind (Some text) left next number part more picked e one h stops n p =
+      → IfSome left (λ text. IsNextLine text part more next) → IfSome known (λ text. Passed text left number picked long)
+      → IfSome known (λ text. IsEndedBy P what text (flat_map (line_written what) (picked ++ part ∷ [])) e)
+  cut_behind None left next number part more picked long e one h stops n p = tt
+  cut_behind (Some text) left next number part more picked long e one h stops n p =
       let (after, lines, over, on) = part_read p.rest part more next (rw p.known at n) in
-      let here : lines_in p.rest ≡ part ∷ after = lines ∙ ap (λ (z : List (List ℕ)). z ++ after) one in (
+      let here : lines_in p.rest ≡ part ∷ after = lines ∙ ap (λ (z : List (List ℕ)). z ++ after) one in
+      inl (
         picked ++ part ∷ [],
         (
           p.read ++ part ∷ [],
@@ -499,20 +556,20 @@ module _ (P : List ℕ → Result Bool LineError → Type 0) (what : Written) wh
         refl,
       )
 
-  pub lost : (file : List ℕ) (known left next : Option (List ℕ)) (s t u v : State) (number count : ℕ) (block rest part : List ℕ) (more : Bool) (e : CommandError)
-      (r : Result Verdict CommandError) → s.failed ≡ false → Streamed known left s t number count block → IfSome left (λ text. IsNextLine text part more next)
+  pub lost : (file : List ℕ) (known left next : Option (List ℕ)) (s t u v : State) (number count : ℕ) (block rest part : List ℕ) (more : Bool) (long : Option ℕ) (e : CommandError)
+      (r : Result Verdict CommandError) → s.failed ≡ false → Streamed known left s t number count block long → IfSome left (λ text. IsNextLine text part more next)
       → (lines_of_part part more ≡ part ∷ []) × IsLost P what file number part t u block rest e → Stops e u v rest r → Streams P what file known s v r
-  lost file known left next s t u v number count block rest part more (error.Argument text e) r fine st n h stops = absurd h.1
-  lost file known left next s t u v number count block rest part more (error.Input name) r fine st n h stops = absurd h.1
-  lost file known left next s t u v number count block rest part more error.NoMemory r fine st n h stops = absurd h.1
-  lost file known left next s t u v number count block rest part more (error.Line name m e) r fine st n (one, (same, place, bad, still, kept)) (w, wrote, is) =
+  lost file known left next s t u v number count block rest part more long (error.Argument text e) r fine st n h stops = absurd h.1
+  lost file known left next s t u v number count block rest part more long (error.Input name) r fine st n h stops = absurd h.1
+  lost file known left next s t u v number count block rest part more long error.NoMemory r fine st n h stops = absurd h.1
+  lost file known left next s t u v number count block rest part more long (error.Line name m e) r fine st n (one, (same, place, bad, still, kept)) (w, wrote, is) =
       let collected : Holds s u rest (flat_map (line_written what) st.picked) =
       subst (λ (z : State). Holds s z rest (flat_map (line_written what) st.picked)) (sym still)
       (subst (λ (k : List ℕ). Holds s t k (flat_map (line_written what) st.picked)) (sym kept) st.collected) in
       stopped file known s u v rest st.picked (error.Line name m e) w r fine same (λ text all. all) collected wrote is
-      (cut_at_line known left next number part more st.picked (error.Line name m e) one n st.passed (λ read after at. (place ∙ at, part, after, refl, bad)))
-      (cut_at_line known left next number part more st.picked error.Output one n st.passed (λ _ _ _. tt))
-  lost file known left next s t u v number count block rest part more error.Output r fine st n (one, (picks, failed)) (still, is) =
+      (cut_at_line known left next number part more st.picked long (error.Line name m e) one n st.passed (λ read after at. (place ∙ at, part, after, refl, bad)))
+      (cut_at_line known left next number part more st.picked long error.Output one n st.passed (λ _ _ _. tt))
+  lost file known left next s t u v number count block rest part more long error.Output r fine st n (one, (picks, failed)) (still, is) =
       let text : List ℕ = flat_map (line_written what) st.picked in
       inr (
         error.Output,
@@ -524,15 +581,18 @@ module _ (P : List ℕ → Result Bool LineError → Type 0) (what : Written) wh
               (subst (Part s u) (flat_map_more (line_written what) [] st.picked part) (held_lost s t u block text (line_written what part) st.collected failed)),
           λ before. absurd (true≢false (sym before ∙ fine)),
         ),
-        cut_behind known left next number part more st.picked error.Output one picks (λ _ _. tt) n st.passed,
+        cut_behind known left next number part more st.picked long error.Output one picks (λ _ _. tt) n st.passed,
       )
 
 -- ---- by the bytes of the files
+match_same : (P Q : List ℕ → Result Bool LineError → Type 0) → ((line : List ℕ) (r : Result Bool LineError) → P line r → Q line r) → (what : Written) (text answer : List ℕ) (long : Option ℕ)
+    (verdict : Verdict) → IsMatch P what text long answer verdict → IsMatch Q what text long answer verdict
+match_same P Q f what text answer long verdict (read, left, picked, to, first, enough, written, by) =
+    (read, left, picked, record { lines = to.lines; are = picked_same P Q f read picked to.are }, first, enough, written, by)
+
 known_match : (P Q : List ℕ → Result Bool LineError → Type 0) → ((line : List ℕ) (r : Result Bool LineError) → P line r → Q line r) → (what : Written) (known : Option (List ℕ)) (text answer : List ℕ) (verdict : Verdict)
-    → known ≡ Some text → IfSome known (λ k. IsMatch P what k answer verdict) → IsMatch Q what text answer verdict
-known_match P Q f what known text answer verdict is h =
-    let (read, left, picked, to, enough, written, by) = (rw is at h) in
-    (read, left, picked, record { lines = to.lines; are = picked_same P Q f read picked to.are }, enough, written, by)
+    → known ≡ Some text → IfSome known (λ k. IsMatch P what k None answer verdict) → IsMatch Q what text None answer verdict
+known_match P Q f what known text answer verdict is h = match_same P Q f what text answer None verdict (rw is at h)
 
 stop_same : (P Q : List ℕ → Result Bool LineError → Type 0) → ((line : List ℕ) (r : Result Bool LineError) → P line r → Q line r) → (read left : List (List ℕ)) (e : CommandError)
     → IsStop (IsErrorBy P) read left e → IsStop (IsErrorBy Q) read left e
@@ -542,12 +602,15 @@ stop_same P Q f read left (error.Input name) h = tt
 stop_same P Q f read left error.NoMemory h = tt
 stop_same P Q f read left error.Output h = tt
 
+cut_same : (P Q : List ℕ → Result Bool LineError → Type 0) → ((line : List ℕ) (r : Result Bool LineError) → P line r → Q line r) → (what : Written) (text answer : List ℕ) (e : CommandError)
+    → IsEndedBy P what text answer e → IsEndedBy Q what text answer e
+cut_same P Q f what text answer e (inl (picked, (read, left, to, stops), written)) =
+    inl (picked, (read, left, record { lines = to.lines; are = picked_same P Q f read picked to.are }, stop_same P Q f read left e stops), written)
+cut_same P Q f what text answer e (inr (n, verdict, match, of)) = inr (n, verdict, match_same P Q f what text answer (Some n) verdict match, of)
+
 known_cut : (P Q : List ℕ → Result Bool LineError → Type 0) → ((line : List ℕ) (r : Result Bool LineError) → P line r → Q line r) → (what : Written) (known : Option (List ℕ)) (text answer : List ℕ) (e : CommandError)
-    → known ≡ Some text → IfSome known (λ k. IsCutAt P what k answer e) → IsCutAt Q what text answer e
-known_cut P Q f what known text answer e is h =
-    let (picked, cut, written) = (rw is at h) in
-    let (read, left, to, stops) = cut in
-    (picked, (read, left, record { lines = to.lines; are = picked_same P Q f read picked to.are }, stop_same P Q f read left e stops), written)
+    → known ≡ Some text → IfSome known (λ k. IsEndedBy P what k answer e) → IsEndedBy Q what text answer e
+known_cut P Q f what known text answer e is h = cut_same P Q f what text answer e (rw is at h)
 
 pub matched : (contents : List ℕ → Option Text) (options : List (List ℕ)) (list file : List ℕ) (sets : Sets) (known : Option (List ℕ)) (s t : State) (r : Result Verdict CommandError)
     → ReadsFile (contents list) list (Ok sets) → ((text : Text) → contents file ≡ Some text → known ≡ Some text.bytes)

@@ -471,7 +471,12 @@ rows_of_long_lines() {
     run 2 '' "-:1: $told" "$long x" look - owners
     run 0 "$fits"$'\n' '' "$fits" match ten
     run 2 $'10.0.0.2\n' "-:2: $told" "10.0.0.2\n$long\n10.0.0.1" match ten
-    run 2 $'10.0.0.2\n' "-:2: $told" "10.0.0.2\n$long\n10.0.0.1" match --any ten
+    run 2 $'10.0.0.2\n10.0.0.1\n' "-:2: $told" "10.0.0.2\n$long\n10.0.0.1\n$long" match --any ten
+    run 2 $'11.0.0.1\n' "-:1: $told" "$long\n11.0.0.1\n10.0.0.1" match --any -v ten
+    run 2 $'2\n' "-:2: $told" "10.0.0.2\n$long\n10.0.0.1" match -c --any ten
+    run 2 '' "-:1: $told" "$long\n10.0.0.1" match --any -q ten
+    run 0 '' '' "10.0.0.1\n$long" match --any -q ten
+    run 0 "$fits"$'\n' '' "$fits" match --any ten
     run 2 '' "-:1: $told" "$long" match - ten
 }
 

@@ -1,5 +1,5 @@
 -- The requests and what each is answered with.
-use Rattle.std.specs.Prelude.{◌≡◌, ℕ, ◌<◌, ◌≤◌, Bool, if◌then◌else◌, List, [], ◌∷◌, ◌++◌, count_by, codes, Option, Some}
+use Rattle.std.specs.Prelude.{◌≡◌, ℕ, ◌<◌, ◌≤◌, Bool, if◌then◌else◌, List, [], ◌∷◌, ◌++◌, count_by, codes, Option, Some, None}
 use Rattle.std.specs.List.{AllZip}
 use Rattle.cidr.specs.either.IpText.{IsIpNetworkText}
 use Rattle.cidr.specs.declared.cidr.combined.IpCidr.{IpCidr}
@@ -118,10 +118,10 @@ IsFree n texts answer verdict = (said : List (List (List IpCidr))) × AllZip Lis
     × (sets : Family → List (List Bool)) × ((family : Family) → IsSetOf 129 (IsMade Says Minus said family) (sets family))
     × IsFreeText sets n answer verdict
 
--- the lines of a file that a list picks
+-- the lines of a file that a list picks, where no line that was read is too long
 abbrev pub IsMatchOf : List (List ℕ) → Text → List ℕ → List ℕ → Verdict → Type 0
 IsMatchOf options networks text answer verdict = (said : List (List IpCidr)) × ListSays networks said
-    × IsMatch (Picks (has (codes "--any") options) (Says said) (has (codes "-v") options)) (written_of options) text answer verdict
+    × IsMatch (Picks (has (codes "--any") options) (Says said) (has (codes "-v") options)) (written_of options) text None answer verdict
 
 -- what `--version` writes
 abbrev pub version_text : List ℕ

@@ -1,11 +1,13 @@
 -- What functions that pick lines of a file promise.
-use Rattle.std.specs.Prelude.{◌≡◌, ◌⊎◌, ℕ, ◌+◌, ◌<◌, ◌≤◌, Bool, true, false, List, [], ◌∷◌, ◌++◌, length, decimal, Option, IfSome, Result, Ok, Err}
+use Rattle.std.specs.Prelude.{◌≡◌, ◌⊎◌, ℕ, ◌+◌, ◌<◌, ◌≤◌, Bool, true, false, List, [], ◌∷◌, ◌++◌, length, decimal, Option, Some, None, IfSome, Result, Ok, Err}
+use Rattle.std.specs.Borrow.{Bor}
 use Rattle.std.specs.List.{flat_map}
 use Rattle.cidr_io.specs.Writing.{State, Part, Writes, Answered}
 use Rattle.cidr_io.specs.declared.sink.OutputFailed.{OutputFailed}
 use Rattle.cidr_io.specs.Collecting.{Collects}
-use Rattle.netset.specs.Matching.{ArePicked, IsCutAt, IsMatch, line_written}
+use Rattle.netset.specs.Matching.{ArePicked, IsEndedBy, IsMatch, line_written}
 use Rattle.cidr_lists.specs.Lines.{last_line}
+use Rattle.cidr_lists.specs.Lists.{IsTooLong}
 use Rattle.cidr_lists.specs.Printing.{line}
 use Rattle.netset.specs.Program.{by_output}
 use Rattle.netset.specs.Streaming.{IsCutShort}
@@ -14,6 +16,7 @@ use Rattle.netset.specs.declared.output.answers.Verdict.TheVariants.{Yes, No}
 use Rattle.netset.specs.declared.errors.CommandError.{CommandError}
 use Rattle.netset.specs.declared.errors.CommandError.TheVariants as error
 use Rattle.cidr_lists.specs.declared.errors.LineError.{LineError}
+use Rattle.cidr_lists.specs.declared.errors.LineError.TheVariants.{TooLong}
 use Rattle.netset.specs.declared.commands.matching.Gathered.{Gathered}
 use Rattle.netset.specs.declared.commands.matching.Written.{Written}
 use Rattle.netset.specs.declared.commands.matching.Written.TheVariants as written
@@ -80,9 +83,20 @@ Stops e old new block r = (w : Result (Unit {0}) OutputFailed) × Writes old new
 abbrev pub IsDone : Written → Bool → ℕ → Type 0
 IsDone what more count = (more ≡ false) ⊎ ((what ≡ written.Nothing) × (0 < count))
 
+-- the first line that is too long of some lines and this one, which has this number
+abbrev pub NotesLong : ℕ → List ℕ → Option ℕ → Option ℕ → Type 0
+NotesLong number line None now = (IsTooLong line × (now ≡ Some number)) ⊎ (¬ (IsTooLong line) × (now ≡ None))
+NotesLong number line (Some n) now = now ≡ Some n
+
+-- the answer of a file, or the first of its lines that is too long, if one is
+abbrev pub told_behind : Bor (List ℕ) → Option ℕ → Result Verdict CommandError → Result Verdict CommandError
+told_behind file None r = r
+told_behind file (Some n) (Ok verdict) = Err (error.Line file n TooLong)
+told_behind file (Some n) (Err e) = Err e
+
 -- what becomes of a file that is read line by line, of which these bytes are known
 abbrev pub Streams : (List ℕ → Result Bool LineError → Type 0) → Written → List ℕ → Option (List ℕ) → State → State → Result Verdict CommandError → Type 0
 Streams PicksLine what file known old new r =
     ((answer : List ℕ) × (verdict : Verdict) × (w : Result (Unit {0}) OutputFailed)
-    × IfSome known (λ text. IsMatch PicksLine what text answer verdict) × Answered old new answer w × (r ≡ by_output verdict w))
-    ⊎ IsCutShort (λ answer e. IfSome known (λ text. IsCutAt PicksLine what text answer e)) file old new r
+    × IfSome known (λ text. IsMatch PicksLine what text None answer verdict) × Answered old new answer w × (r ≡ by_output verdict w))
+    ⊎ IsCutShort (λ answer e. IfSome known (λ text. IsEndedBy PicksLine what text answer e)) file old new r

@@ -1,7 +1,7 @@
 -- The lines of a file whose first field lies in a list, or that have an address of it.
-use Rattle.std.specs.Prelude.{◌≡◌, ◌≢◌, ◌⊎◌, ℕ, Bool, true, false, if◌then◌else◌, List, [], length, codes, decimal, Option, Result, Ok, Err}
+use Rattle.std.specs.Prelude.{◌≡◌, ◌≢◌, ◌⊎◌, ℕ, Bool, true, false, if◌then◌else◌, List, [], ◌∷◌, ◌++◌, length, codes, decimal, Option, Some, None, Result, Ok, Err, ◌+◌}
 use Rattle.std.specs.Bool.{Decides}
-use Rattle.std.specs.List.{AllZip, flat_map, items_where_true, list_any}
+use Rattle.std.specs.List.{AllByRecursion, AllZip, flat_map, items_where_true, list_any}
 use Rattle.std.specs.Str.{bytes_eq}
 use Rattle.cidr.specs.declared.cidr.combined.IpCidr.{IpCidr}
 use Rattle.cidr.specs.declared.family.Family.{Family}
@@ -11,6 +11,7 @@ use Rattle.netset.specs.Streaming.{IsCut, ReadTo}
 use Rattle.netset.specs.declared.output.answers.Verdict.{Verdict}
 use Rattle.netset.specs.declared.output.answers.Verdict.TheVariants.{Yes, No}
 use Rattle.netset.specs.declared.errors.CommandError.{CommandError}
+use Rattle.netset.specs.declared.errors.CommandError.TheVariants as error
 use Rattle.cidr_lists.specs.declared.errors.LineError.{LineError}
 use Rattle.cidr_lists.specs.declared.errors.LineError.TheVariants.{TooLong}
 use Rattle.netset.specs.declared.commands.matching.Written.{Written}
@@ -40,7 +41,7 @@ PicksByField IsIn inverted line (Ok picked) =
     (said : Option IpCidr) × FieldSays line said × Decides picked (Turned inverted (LiesIn IsIn said))
 PicksByField IsIn inverted line (Err e) = IsBadField line e
 
--- whether a line is picked: if it has an address of the list, or with -v if it has none; no line is in error
+-- whether a line is picked: if it has an address of the list, or with -v if it has none; no such line is in error
 abbrev pub PicksAnywhere : (Family → List Bool → Type 0) → Bool → List ℕ → Result Bool LineError → Type 0
 PicksAnywhere IsIn inverted line (Ok picked) = Decides picked (Turned inverted (HasOneIn IsIn line))
 PicksAnywhere IsIn inverted line (Err e) = ⊥
@@ -50,9 +51,15 @@ abbrev pub PicksBy : Bool → (Family → List Bool → Type 0) → Bool → Lis
 PicksBy true IsIn inverted line r = PicksAnywhere IsIn inverted line r
 PicksBy false IsIn inverted line r = PicksByField IsIn inverted line r
 
--- the same of any line: one that is too long is in error
+-- what becomes of a line that is too long: with --any it is passed over, and else it is in error
+abbrev pub passed_over : Bool → Result Bool LineError
+passed_over true = Ok false
+passed_over false = Err TooLong
+
+-- the same of any line
 abbrev pub Picks : Bool → (Family → List Bool → Type 0) → Bool → List ℕ → Result Bool LineError → Type 0
-Picks anywhere IsIn inverted line r = ((r ≡ Err TooLong) × IsTooLong line) ⊎ (¬ (IsTooLong line) × PicksBy anywhere IsIn inverted line r)
+Picks anywhere IsIn inverted line r =
+    ((r ≡ passed_over anywhere) × IsTooLong line) ⊎ (¬ (IsTooLong line) × PicksBy anywhere IsIn inverted line r)
 
 -- the line is in error, and this is its error
 abbrev pub IsErrorBy : (List ℕ → Result Bool LineError → Type 0) → List ℕ → LineError → Type 0
@@ -84,13 +91,34 @@ abbrev pub ArePickedBy : List (List ℕ) → Verdict → Type 0
 ArePickedBy picked Yes = picked ≢ []
 ArePickedBy picked No = picked ≡ []
 
--- what is written of a text, and whether a line of it was picked
-abbrev pub IsMatch : (List ℕ → Result Bool LineError → Type 0) → Written → List ℕ → List ℕ → Verdict → Type 0
-IsMatch PicksLine what text answer verdict = (read left picked : List (List ℕ))
-    × ReadTo (ArePicked PicksLine) (lines_in text) read left picked
+-- the first of these lines that is too long, by its number from 1 on, if one is
+abbrev pub IsFirstLong : List (List ℕ) → Option ℕ → Type 0
+IsFirstLong lines None = AllByRecursion (λ line. ¬ (IsTooLong line)) lines
+IsFirstLong lines (Some n) = (before : List (List ℕ)) × (line : List ℕ) × (after : List (List ℕ)) × (lines ≡ before ++ line ∷ after)
+    × (n ≡ length before + 1) × IsTooLong line × AllByRecursion (λ line. ¬ (IsTooLong line)) before
+
+-- what is written of a text, the first of the lines that were read that is too long, if one is, and whether a line was picked
+abbrev pub IsMatch : (List ℕ → Result Bool LineError → Type 0) → Written → List ℕ → Option ℕ → List ℕ → Verdict → Type 0
+IsMatch PicksLine what text long answer verdict = (read left picked : List (List ℕ))
+    × ReadTo (ArePicked PicksLine) (lines_in text) read left picked × IsFirstLong read long
     × IsEnough what left picked × (answer ≡ all_written what picked) × ArePickedBy picked verdict
 
 -- the text was not read to its end, for this reason, and this belongs to the lines that were picked
 abbrev pub IsCutAt : (List ℕ → Result Bool LineError → Type 0) → Written → List ℕ → List ℕ → CommandError → Type 0
 IsCutAt PicksLine what text answer e = (picked : List (List ℕ))
     × IsCut (ArePicked PicksLine) (IsErrorBy PicksLine) (lines_in text) picked e × (answer ≡ flat_map (line_written what) picked)
+
+-- the error is that this line is too long, or that the output has failed
+abbrev pub IsLongOrLost : ℕ → CommandError → Type 0
+IsLongOrLost n (error.Line name number e) = (number ≡ n) × (e ≡ TooLong)
+IsLongOrLost n error.Output = Unit {0}
+IsLongOrLost n e = ⊥
+
+-- the text was answered, but for lines that are too long, and the first of these is the error
+abbrev pub IsMatchBut : (List ℕ → Result Bool LineError → Type 0) → Written → List ℕ → List ℕ → CommandError → Type 0
+IsMatchBut PicksLine what text answer e =
+    (n : ℕ) × (verdict : Verdict) × IsMatch PicksLine what text (Some n) answer verdict × IsLongOrLost n e
+
+-- either
+abbrev pub IsEndedBy : (List ℕ → Result Bool LineError → Type 0) → Written → List ℕ → List ℕ → CommandError → Type 0
+IsEndedBy PicksLine what text answer e = IsCutAt PicksLine what text answer e ⊎ IsMatchBut PicksLine what text answer e

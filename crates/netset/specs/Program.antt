@@ -17,7 +17,7 @@ use Rattle.cidr_lists.specs.Faults.{AreTellings}
 use Rattle.netset.specs.Keeping.{IsBegun, IsLoadError, kind_of}
 use Rattle.cidr_lists.specs.Messages.{fault_line, fault_words}
 use Rattle.netset.specs.Look.{IsLookCut, IsUnreadTable}
-use Rattle.netset.specs.Matching.{has, written_of, IsCutAt, Picks}
+use Rattle.netset.specs.Matching.{has, written_of, IsEndedBy, Picks}
 use Rattle.netset.specs.Streaming.{IsCutShort}
 use Rattle.netset.specs.Single.{IsBadSingle, IsNoNetwork, IsNumber}
 use Rattle.netset.specs.Unchecked.{IsUnchecked}
@@ -82,11 +82,11 @@ AnswersWhole contents request old new r =
     ⊎ ((answer : List ℕ) × (verdict : Verdict) × (written : Result (Unit {0}) OutputFailed) × IsAnswer contents request answer verdict
     × Answered old new answer written × (r ≡ by_output verdict written))
 
--- what belongs to the lines that `match` has read of its file, if it was not read to its end
+-- what belongs to the lines that `match` has read of its file, if it was not read to its end, or has lines that are too long
 abbrev pub IsMatchUntil : (List ℕ → Option Text) → List (List ℕ) → List ℕ → List ℕ → List ℕ → CommandError → Type 0
 IsMatchUntil contents options list file answer e = (networks text : Text) → contents list ≡ Some networks → contents file ≡ Some text
     → (said : List (List IpCidr)) × ListSays networks said
-    × IsCutAt (Picks (has (codes "--any") options) (Says said) (has (codes "-v") options)) (written_of options) text.bytes answer e
+    × IsEndedBy (Picks (has (codes "--any") options) (Says said) (has (codes "-v") options)) (written_of options) text.bytes answer e
 
 -- the same of `look`
 abbrev pub IsLookUntil : (List ℕ → Option Text) → List ℕ → List ℕ → List ℕ → CommandError → Type 0

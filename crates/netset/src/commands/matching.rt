@@ -6,8 +6,8 @@ ghost use Rattle.cidr_io.specs.Writing.{Writes};
 ghost use Rattle.cidr_io.specs.Collecting.{Collects};
 ghost use Rattle.netset.specs.Causes.{Cause, MayFail, TextFails};
 ghost use Rattle.netset.specs.Commands.{Match};
-ghost use Rattle.netset.specs.Gathering.{Finishes, IsCounted, IsDone, IsUnreadable, Stops, Streams, TakesPart, lines_of_part, rest_written};
-ghost use Rattle.netset.specs.Matching.{Picks, PicksByField, has, line_written, written_of};
+ghost use Rattle.netset.specs.Gathering.{Finishes, IsCounted, IsDone, IsUnreadable, NotesLong, Stops, Streams, TakesPart, lines_of_part, rest_written, told_behind};
+ghost use Rattle.netset.specs.Matching.{Picks, PicksByField, has, line_written, passed_over, written_of};
 ghost use Rattle.netset.specs.Program.{AnswersRequest};
 ghost use Rattle.netset.specs.Reading.{IsNextLine};
 ghost use Rattle.cidr_lists.specs.Sets.{HasAddress};
@@ -82,12 +82,53 @@ impl Matcher<'_> {
         ensures { Picks self.now.anywhere (HasAddress self.now.sets.now) self.now.inverted line.now result }
     {
         if is_too_long(line) {
-            return Err(LineError::TooLong);
+            return passed_over(self.anywhere);
         }
         if self.anywhere {
             return Ok(is_picked(self.inverted, self.sets.have_one(line)));
         }
         self.picks_by_field(line)
+    }
+}
+
+/// What becomes of a line that is too long: with `--any` it is passed over, and else it is in error.
+fn passed_over(anywhere: bool) -> Result<bool, LineError>
+    ensures { result ≡ passed_over anywhere }
+{
+    if anywhere {
+        return Ok(false);
+    }
+    Err(LineError::TooLong)
+}
+
+/// The first line that is too long, where this was the first of those before, and this line has this number.
+fn first_long(long: Option<u64>, number: u64, line: &[u8]) -> Option<u64>
+    ensures { NotesLong number line.now long result }
+{
+    match long {
+        Some(first) => Some(first),
+        None => if is_too_long(line) {
+            Some(number)
+        } else {
+            None
+        },
+    }
+}
+
+/// The answer of a file, or the first of its lines that is too long, if one is.
+fn told_behind<'a>(
+    file: &'a str,
+    long: Option<u64>,
+    answer: Result<Verdict, CommandError<'a>>,
+) -> Result<Verdict, CommandError<'a>>
+    ensures { result ≡ told_behind file.entry long answer.entry }
+{
+    match long {
+        None => answer,
+        Some(number) => match answer {
+            Ok(_) => Err(CommandError::Line(file, number, LineError::TooLong)),
+            Err(e) => Err(e),
+        },
     }
 }
 
@@ -271,8 +312,9 @@ fn next_part<'a, M: Memory, R: Source + Drop>(
     }
 }
 
-/// Reads a file line by line, and writes the lines that are picked, also those before a line in error. An output that
-/// has failed before gets nothing.
+/// Reads a file line by line, and writes the lines that are picked, also those before a line in error. With `--any` a
+/// line that is too long is passed over, and the first such line is the error behind the others. An output that has
+/// failed before gets nothing.
 fn stream<'a, M: Memory, R: Source + Drop, S: Sink>(
     memory: &mut M,
     matcher: &Matcher<'_>,
@@ -288,6 +330,7 @@ fn stream<'a, M: Memory, R: Source + Drop, S: Sink>(
         return Err(CommandError::Output);
     }
     let mut gathered = Gathered::new();
+    let mut long = None;
     for number in 1..u64::MAX {
         let Ok(()) = gathered.catch_up(reader, out) else {
             return Err(CommandError::Output);
@@ -296,12 +339,13 @@ fn stream<'a, M: Memory, R: Source + Drop, S: Sink>(
             Ok(has_more) => has_more,
             Err(e) => return gathered.stop(e, out),
         };
+        long = first_long(long, number, reader.line());
         match gathered.take(matcher, file, number, reader.line(), has_more, out) {
             Ok(()) => {}
             Err(e) => return gathered.stop(e, out),
         }
         if gathered.is_done(matcher.written, has_more) {
-            return gathered.finish(matcher.written, out);
+            return told_behind(file, long, gathered.finish(matcher.written, out));
         }
     }
     gathered.stop(CommandError::Input(file), out)

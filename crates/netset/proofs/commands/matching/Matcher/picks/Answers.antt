@@ -1,11 +1,11 @@
-use Rattle.std.proofs.Common.{refl, inl, inr}
+use Rattle.std.proofs.Common.{inl, inr}
 use Rattle.cidr_lists.specs.Sets.{HasAddress}
 use Rattle.netset.proofs.LinesRead.{fits}
 use Rattle.netset.proofs.Matched.{picks_anywhere}
 use Rattle.netset.proofs.commands.matching.Matcher.picks.Goals as goal
 
 pub returns-then-is_too_long : goal.returns-then-is_too_long
-returns-then-is_too_long c = inl (refl, c.is_too_long.ensures.0 c.if-is_too_long.true)
+returns-then-is_too_long c = inl (c.passed_over.ensures, c.is_too_long.ensures.0 c.if-is_too_long.true)
 
 pub returns-then-self : goal.returns-then-self
 returns-then-self c = inr (
