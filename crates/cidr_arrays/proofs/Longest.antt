@@ -10,8 +10,8 @@ use Rattle.cidr.specs.model.Bits.{bits, number}
 use Rattle.cidr.specs.model.Network.{BeginsWith}
 use Rattle.cidr.specs.laws.BitLaws.{length-bits, number-bits, bits-append}
 use Rattle.cidr_table.specs.Prefixes.{IsLongestMatch}
-use Rattle.cidr_arrays.specs.Arrays.{AreNetworks, IsNetwork, last_of, network_bits, row_of}
-use Rattle.cidr_arrays.specs.Passing.{IsIn, IsLast, at}
+use Rattle.cidr_arrays.specs.Arrays.{AreAscendingNetworks, IsNetwork, last_number_in, prefix_bits, row_of}
+use Rattle.cidr_arrays.specs.Passing.{HasNumber, IsLastWithNumber, at}
 use Rattle.cidr_arrays.proofs.Numbers.{nests}
 
 module _ (w : ℕ) where
@@ -23,7 +23,7 @@ module _ (w : ℕ) where
       let front = bits l (x / 2 ^ k) in
       ap (λ n. take l (bits n x)) e ∙ (ap (take l) (bits-append l k x) ∙ (ap (λ n. take n (front ++ bits k x)) (sym (length-bits l (x / 2 ^ k))) ∙ take-append_seam front (bits k x)))
 
-  pub length_network : (key : ℕ × ℕ) → key.1 ≤ w → length (network_bits w key) ≡ key.1
+  pub length_network : (key : ℕ × ℕ) → key.1 ≤ w → length (prefix_bits w key) ≡ key.1
   length_network key le = ap length (first_bits key.1 key.0 le) ∙ length-bits key.1 (key.0 / 2 ^ (w - key.1))
 
   module _ (key : ℕ × ℕ) (good : IsNetwork w key) (address : ℕ) (within : address < 2 ^ w) where
@@ -31,7 +31,7 @@ module _ (w : ℕ) where
     first = omega (arith, div-add-mod' key.0 (2 ^ (w - key.1)), good.host)
 
     -- an address of the network begins with its bits
-    pub begins : (key.0 ≤ address) → (address ≤ last_of w key) → BeginsWith (bits w address) (network_bits w key)
+    pub begins : (key.0 ≤ address) → (address ≤ last_number_in w key) → BeginsWith (bits w address) (prefix_bits w key)
     begins low high =
         let s = 2 ^ (w - key.1) in
         let some : 0 < s = pow_pos (w - key.1) in
@@ -42,7 +42,7 @@ module _ (w : ℕ) where
         ∙ (first_bits key.1 address good.fits ∙ (ap (bits key.1) same ∙ sym (first_bits key.1 key.0 good.fits)))
 
     -- and what begins with them is one
-    pub inside : BeginsWith (bits w address) (network_bits w key) → (key.0 ≤ address) × (address ≤ last_of w key)
+    pub inside : BeginsWith (bits w address) (prefix_bits w key) → (key.0 ≤ address) × (address ≤ last_number_in w key)
     inside b =
         let s = 2 ^ (w - key.1) in
         let some : 0 < s = pow_pos (w - key.1) in
@@ -56,20 +56,20 @@ module _ (w : ℕ) where
         let up : address / s * s ≡ key.0 / s * s = ap (λ x. x * s) same in
         (omega (arith, div-add-mod' address s, up, first), omega (arith, div-add-mod' address s, up, first, mod_below address s some))
 
-module _ (w : ℕ) (networks : List (ℕ × ℕ)) (good : AreNetworks w networks) (address : ℕ) (within : address < 2 ^ w) where
+module _ (w : ℕ) (networks : List (ℕ × ℕ)) (good : AreAscendingNetworks w networks) (address : ℕ) (within : address < 2 ^ w) where
   key_at : (key : ℕ × ℕ) (c : Contains networks key) → at w networks c.0 ≡ key
   key_at key c = get_or_default networks c.0 (0, 0) key c.1 ∙ c.2
 
-  in_at : (key : ℕ × ℕ) (c : Contains networks key) → BeginsWith (bits w address) (network_bits w key) → IsIn w networks (at w networks c.0) address
-  in_at key c b = inside w (at w networks c.0) (good.each c.0 c.1) address within (subst (λ k. BeginsWith (bits w address) (network_bits w k)) (sym (key_at key c)) b)
+  in_at : (key : ℕ × ℕ) (c : Contains networks key) → BeginsWith (bits w address) (prefix_bits w key) → HasNumber w networks (at w networks c.0) address
+  in_at key c b = inside w (at w networks c.0) (good.each c.0 c.1) address within (subst (λ k. BeginsWith (bits w address) (prefix_bits w k)) (sym (key_at key c)) b)
 
-  pub longest : (end : ℕ) → IsLast w networks (length networks) address end → IsLongestMatch (network_bits w) (bits w address) networks (row_of end)
+  pub longest : (end : ℕ) → IsLastWithNumber w networks (length networks) address end → IsLongestMatch (prefix_bits w) (bits w address) networks (row_of end)
   longest zero known = λ key c b. absurd (omega (arith, known.before c.0 c.1 (in_at key c b)))
   longest (suc i) known =
       let one : suc i - 1 ≡ i = omega arith in
       let h = known.here (omega arith) in
       let l : i < length networks = omega (arith, h.0) in
-      let here : IsIn w networks (at w networks i) address = subst (λ j. IsIn w networks (at w networks j) address) one h.1 in
+      let here : HasNumber w networks (at w networks i) address = subst (λ j. HasNumber w networks (at w networks j) address) one h.1 in
       record {
         key = at w networks i;
         here = slice_get-get_or networks i (0, 0) l;
@@ -77,9 +77,9 @@ module _ (w : ℕ) (networks : List (ℕ × ℕ)) (good : AreNetworks w networks
         longest = λ other c b.
             let other_in = in_at other c b in
             let before : c.0 < suc i = known.before c.0 c.1 other_in in
-            let size : length (network_bits w other) ≡ other.1 = length_network w other (subst (λ k. k.1 ≤ w) (key_at other c) (good.each c.0 c.1).fits) in
+            let size : length (prefix_bits w other) ≡ other.1 = length_network w other (subst (λ k. k.1 ≤ w) (key_at other c) (good.each c.0 c.1).fits) in
             let same : other.1 ≡ (at w networks c.0).1 = sym (ap (λ k. k.1) (key_at other c)) in
-            let size_i : length (network_bits w (at w networks i)) ≡ (at w networks i).1 = length_network w (at w networks i) (good.each i l).fits in
+            let size_i : length (prefix_bits w (at w networks i)) ≡ (at w networks i).1 = length_network w (at w networks i) (good.each i l).fits in
             elim (cases_eq c.0 i) [
               | inl e ↦ omega (arith, size, same, size_i, ap (λ j. (at w networks j).1) e)
               | inr n ↦
@@ -89,7 +89,7 @@ module _ (w : ℕ) (networks : List (ℕ × ℕ)) (good : AreNetworks w networks
       }
 
   -- and no other answer says so
-  pub unique : (answer end : ℕ) → IsLongestMatch (network_bits w) (bits w address) networks (row_of answer) → IsLast w networks (length networks) address end
+  pub unique : (answer end : ℕ) → IsLongestMatch (prefix_bits w) (bits w address) networks (row_of answer) → IsLastWithNumber w networks (length networks) address end
       → answer ≡ end
   unique zero end m known = elim (cases_eq end 0) [
     | inl z ↦ sym z
@@ -102,8 +102,8 @@ module _ (w : ℕ) (networks : List (ℕ × ℕ)) (good : AreNetworks w networks
   unique (suc i) end m known =
       let l : i < length networks = slice_get_within networks i m.key m.here in
       let key_is : at w networks i ≡ m.key = get_or_from_slice_get networks i m.key (0, 0) m.here in
-      let inside_i : IsIn w networks (at w networks i) address =
-      inside w (at w networks i) (good.each i l) address within (subst (λ k. BeginsWith (bits w address) (network_bits w k)) (sym key_is) m.begins) in
+      let inside_i : HasNumber w networks (at w networks i) address =
+      inside w (at w networks i) (good.each i l) address within (subst (λ k. BeginsWith (bits w address) (prefix_bits w k)) (sym key_is) m.begins) in
       let before : i < end = known.before i l inside_i in
       let h = known.here (omega arith) in
       let l' : end - 1 < length networks = omega (arith, h.0) in
@@ -113,8 +113,8 @@ module _ (w : ℕ) (networks : List (ℕ × ℕ)) (good : AreNetworks w networks
         | inr n ↦
             let nested = nests w (at w networks i) last (good.each i l) (good.each (end - 1) l') (good.ascending i (end - 1) (omega arith) l') (omega (arith, h.1.0, inside_i.1)) in
             let no_longer = m.longest last (end - 1, l', get_or_default networks (end - 1) last (0, 0) l') (begins w last (good.each (end - 1) l') address within h.1.0 h.1.1) in
-            let size : length (network_bits w last) ≡ last.1 = length_network w last (good.each (end - 1) l').fits in
-            let size_i : length (network_bits w m.key) ≡ (at w networks i).1 = ap (λ k. length (network_bits w k)) (sym key_is) ∙ length_network w (at w networks i) (good.each i l).fits in
+            let size : length (prefix_bits w last) ≡ last.1 = length_network w last (good.each (end - 1) l').fits in
+            let size_i : length (prefix_bits w m.key) ≡ (at w networks i).1 = ap (λ k. length (prefix_bits w k)) (sym key_is) ∙ length_network w (at w networks i) (good.each i l).fits in
             absurd (omega (arith, no_longer, size, size_i, nested.0))
       ]
 
@@ -128,6 +128,6 @@ row_of_none answer none = ap row_of (sym none)
 
 -- a longest match is one of the networks
 pub row_within : (w : ℕ) (networks : List (ℕ × ℕ)) (address : List Bool) (answer : ℕ)
-    → IsLongestMatch (network_bits w) address networks (row_of answer) → answer ≤ length networks
+    → IsLongestMatch (prefix_bits w) address networks (row_of answer) → answer ≤ length networks
 row_within w networks address zero m = omega arith
 row_within w networks address (suc row) m = omega (arith, slice_get_within networks row m.key m.here)

@@ -3,7 +3,7 @@ use Rattle.std.proofs.Common.{◌≡◌, sym, subst, ◌∙◌, ap, arith, inl, 
 use Rattle.std.proofs.lemmas.Bool.{cases_eq, cases_lt}
 use Rattle.std.proofs.lemmas.List.{get_or-map, length-map}
 use Rattle.std.proofs.lemmas.Nat.{pow_pos, pow-add, mod-pow-add, div-add-mod', mul-le, mod-mul-add, shr_high}
-use Rattle.cidr_arrays.specs.Arrays.{AreNetworksUpTo, IsNetwork, Precedes, last_of, networks_of}
+use Rattle.cidr_arrays.specs.Arrays.{AreNetworksUpTo, IsNetwork, Precedes, last_number_in, key_networks}
 use Rattle.cidr_arrays.specs.declared.key.Key.{Key}
 
 -- one multiple more is no further than the next
@@ -48,8 +48,8 @@ ends_within w a n =
     multiples s a.0 (2 ^ w) n.host all n.within
 
 -- of two that ascend, the later lies in the earlier, and is longer, or is behind it
-pub nests : (w : ℕ) (a b : ℕ × ℕ) → IsNetwork w a → IsNetwork w b → Precedes a b → b.0 ≤ last_of w a
-    → (a.1 < b.1) × (last_of w b ≤ last_of w a)
+pub nests : (w : ℕ) (a b : ℕ × ℕ) → IsNetwork w a → IsNetwork w b → Precedes a b → b.0 ≤ last_number_in w a
+    → (a.1 < b.1) × (last_number_in w b ≤ last_number_in w a)
 nests w a b na nb order touch =
     let some_a : 0 < 2 ^ (w - a.1) = pow_pos (w - a.1) in
     let some_b : 0 < 2 ^ (w - b.1) = pow_pos (w - b.1) in
@@ -124,11 +124,11 @@ pub no_networks : (w : ℕ) (networks : List (ℕ × ℕ)) → AreNetworksUpTo w
 no_networks w networks = record { each = λ i l. absurd (omega arith); ascending = λ i k lt l. absurd (omega arith) }
 
 -- the network of a key
-pub length_networks : {W : Type 0} (value : W → ℕ) (keys : List (Key W)) → length (networks_of value keys) ≡ length keys
+pub length_networks : {W : Type 0} (value : W → ℕ) (keys : List (Key W)) → length (key_networks value keys) ≡ length keys
 length_networks {W} value keys = length-map keys (λ (k : Key W). (value k.address, k.len))
 
 pub network_at : {W : Type 0} (value : W → ℕ) (keys : List (Key W)) (j : ℕ) (key : Key W) → key ≡ get_or keys j key → j < length keys
-    → get_or (networks_of value keys) j (0, 0) ≡ (value key.address, key.len)
+    → get_or (key_networks value keys) j (0, 0) ≡ (value key.address, key.len)
 network_at {W} value keys j key is l =
     let f : Key W → ℕ × ℕ = λ k. (value k.address, k.len) in
     get_or-map f keys j key (0, 0) l ∙ ap f (sym is)

@@ -2,9 +2,9 @@
 use Rattle.std.proofs.Common.{◌≡◌, sym, ◌∙◌, ap, subst, arith, inl, inr, ℕ, ◌+◌, ◌-◌, ◌^◌, ◌<◌, ◌≤◌, List, Some, length, get_or, slice_get}
 use Rattle.std.proofs.lemmas.Bool.{cases_eq, cases_lt}
 use Rattle.std.proofs.lemmas.Option.{get_or_from_slice_get, none-some, slice_get-get_or, slice_get_past, slice_get_within}
-use Rattle.cidr_arrays.specs.Arrays.{AreNetworks, AreRanges, IsRangeOf}
+use Rattle.cidr_arrays.specs.Arrays.{AreAscendingNetworks, AreMatchRanges, IsRangeOf}
 use Rattle.cidr_arrays.specs.Faults.{IsFirstOther, IsSameRange}
-use Rattle.cidr_arrays.specs.Passing.{AreSoFar, HasRange, IsEdge, IsLast}
+use Rattle.cidr_arrays.specs.Passing.{AreSoFar, HasRange, IsEdge, IsLastWithNumber}
 use Rattle.cidr_arrays.proofs.Longest.{unique}
 use Rattle.cidr_arrays.proofs.Steps.{changed}
 use Rattle.cidr_arrays.proofs.Written.{last_known, none_yet, one_more_there}
@@ -22,18 +22,18 @@ one_range starts number i k a b = elim (cases_lt i k) [
 module _ (w : ℕ) (networks : List (ℕ × ℕ)) where
   -- whatever arrays the networks have, their first ranges are those of these arrays
   abbrev pub AreFirst : (starts answers : List ℕ) (count start : ℕ) → Type 0
-  AreFirst starts answers count start = (starts' answers' : List ℕ) → AreRanges w networks starts' answers'
+  AreFirst starts answers count start = (starts' answers' : List ℕ) → AreMatchRanges w networks starts' answers'
       → AreSoFar w networks starts' answers' count start × (count ≤ length starts') × ((k : ℕ) → k < count → IsSameRange starts answers starts' answers' k)
 
-module _ (w : ℕ) (networks : List (ℕ × ℕ)) (good : AreNetworks w networks) where
-  module _ (starts answers : List ℕ) (all : AreRanges w networks starts answers) (count start : ℕ)
+module _ (w : ℕ) (networks : List (ℕ × ℕ)) (good : AreAscendingNetworks w networks) where
+  module _ (starts answers : List ℕ) (all : AreMatchRanges w networks starts answers) (count start : ℕ)
       (far : AreSoFar w networks starts answers count start) (fits : start ≤ 2 ^ w) where
     -- the start of a range is in it
     own : (k : ℕ) → k < length starts → IsRangeOf starts (get_or starts k 0) k
     own k l = record { within = l; from = omega arith; last = λ i lt l'. all.ordered.ascending k i lt l' }
 
     -- a range has the answer of each of its addresses
-    told : (k address end : ℕ) → address < 2 ^ w → IsRangeOf starts address k → IsLast w networks (length networks) address end → get_or answers k 0 ≡ end
+    told : (k address end : ℕ) → address < 2 ^ w → IsRangeOf starts address k → IsLastWithNumber w networks (length networks) address end → get_or answers k 0 ≡ end
     told k address end l r known = unique w networks good address l (get_or answers k 0) end (all.matches address k l r) known
 
     -- the next range begins no earlier
@@ -51,7 +51,7 @@ module _ (w : ℕ) (networks : List (ℕ × ℕ)) (good : AreNetworks w networks
     ]
 
     -- and with the start, if that is no address of the last range
-    pub next : (answer : ℕ) → count ≤ length starts → (0 < start → IsEdge w networks start) → start < 2 ^ w → IsLast w networks (length networks) start answer
+    pub next : (answer : ℕ) → count ≤ length starts → (0 < start → IsEdge w networks start) → start < 2 ^ w → IsLastWithNumber w networks (length networks) start answer
         → HasRange starts answers count start answer
     next answer upto edge less here = elim (cases_eq count (length starts)) [
       | inl e ↦ absurd (in_last (omega (arith, all.ordered.some)) (λ i lt l. absurd (omega arith)))
@@ -88,7 +88,7 @@ module _ (w : ℕ) (networks : List (ℕ × ℕ)) (good : AreNetworks w networks
       (first : AreFirst w networks starts answers count start) (edge : 0 < start → IsEdge w networks start) (less : start < 2 ^ w) where
     -- and so is the next one, if these have it
     pub first_more : (end : ℕ) → HasRange starts answers count start answer → start < end → end ≤ 2 ^ w
-        → ((address : ℕ) → start ≤ address → address < end → IsLast w networks (length networks) address answer) → AreFirst w networks starts answers (count + 1) end
+        → ((address : ℕ) → start ≤ address → address < end → IsLastWithNumber w networks (length networks) address answer) → AreFirst w networks starts answers (count + 1) end
     first_more end there lt fits range = λ starts' answers' all.
         let old = first starts' answers' all in
         let has = next starts' answers' all count start old.0 (omega arith) answer old.1 edge less (range start (omega arith) lt) in (
@@ -102,7 +102,7 @@ module _ (w : ℕ) (networks : List (ℕ × ℕ)) (good : AreNetworks w networks
         )
 
     -- if they don't have it, it is the first other one
-    pub other : ¬ (HasRange starts answers count start answer) → IsLast w networks (length networks) start answer
+    pub other : ¬ (HasRange starts answers count start answer) → IsLastWithNumber w networks (length networks) start answer
         → IsFirstOther w networks starts answers (Some count)
     other lacks here = λ starts' answers' all.
         let old = first starts' answers' all in

@@ -2,14 +2,14 @@
 use Rattle.std.proofs.Common.{◌≡◌, ◌≢◌, sym, ◌∙◌, ap, subst, arith, inl, inr, ℕ, ◌+◌, ◌-◌, ◌^◌, ◌<◌, ◌≤◌, List, length, get_or}
 use Rattle.std.proofs.lemmas.Bool.{cases_eq, cases_lt}
 use Rattle.std.proofs.lemmas.Nat.{pow_pos}
-use Rattle.cidr_arrays.specs.Arrays.{AreNetworks, last_of}
-use Rattle.cidr_arrays.specs.Passing.{IsEdge, IsIn, IsLast, IsPassing, at}
+use Rattle.cidr_arrays.specs.Arrays.{AreAscendingNetworks, last_number_in}
+use Rattle.cidr_arrays.specs.Passing.{IsEdge, HasNumber, IsLastWithNumber, IsPassing, at}
 use Rattle.cidr_arrays.proofs.Numbers.{ends_within, nests, no_earlier}
 
-module _ (w : ℕ) (networks : List (ℕ × ℕ)) (good : AreNetworks w networks) where
+module _ (w : ℕ) (networks : List (ℕ × ℕ)) (good : AreAscendingNetworks w networks) where
   -- the later networks are all behind the address
-  complete : (b address end : ℕ) → b ≤ length networks → IsLast w networks b address end
-      → ((j : ℕ) → b ≤ j → j < length networks → address < (at w networks j).0) → IsLast w networks (length networks) address end
+  complete : (b address end : ℕ) → b ≤ length networks → IsLastWithNumber w networks b address end
+      → ((j : ℕ) → b ≤ j → j < length networks → address < (at w networks j).0) → IsLastWithNumber w networks (length networks) address end
   complete b address end places known later = record {
     before = λ j l inside. elim (cases_lt j b) [
       | inl lt ↦ known.before j lt inside
@@ -29,7 +29,7 @@ module _ (w : ℕ) (networks : List (ℕ × ℕ)) (good : AreNetworks w networks
   passed : (b start address : ℕ) (lasts ends : List ℕ) (depth : ℕ) → IsPassing w networks b start lasts ends depth
       → start ≤ address → address ≤ get_or lasts (depth - 1) 0
       → ((j : ℕ) → b ≤ j → j < length networks → address < (at w networks j).0)
-      → IsLast w networks (length networks) address (get_or ends (depth - 1) 0)
+      → IsLastWithNumber w networks (length networks) address (get_or ends (depth - 1) 0)
   passed b start address lasts ends depth g from to later =
       complete b address (get_or ends (depth - 1) 0) g.places
       (g.answers (depth - 1) address (omega (arith, g.some)) from to (λ l. absurd (omega (arith, g.some)))) later
@@ -66,14 +66,14 @@ module _ (w : ℕ) (networks : List (ℕ × ℕ)) (good : AreNetworks w networks
   -- and the range that ends there has its answer
   pub closed_range : (b start last : ℕ) (lasts ends : List ℕ) (depth : ℕ) → IsPassing w networks b start lasts ends depth
       → last ≡ get_or lasts (depth - 1) 0 → (b < length networks → last < (at w networks b).0)
-      → (address : ℕ) → start ≤ address → address < last + 1 → IsLast w networks (length networks) address (get_or ends (depth - 1) 0)
+      → (address : ℕ) → start ≤ address → address < last + 1 → IsLastWithNumber w networks (length networks) address (get_or ends (depth - 1) 0)
   closed_range b start last lasts ends depth g is_last next address from to =
       passed b start address lasts ends depth g from (omega arith) (λ j le l. omega (arith, next (omega arith), from_next b j le l))
 
   module _ (b start : ℕ) (lasts ends : List ℕ) (depth : ℕ) (g : IsPassing w networks b start lasts ends depth)
       (some : b < length networks) (inside : (at w networks b).0 ≤ get_or lasts (depth - 1) 0) where
     -- the next network lies in the last open one, and is longer
-    within_open : (last_of w (at w networks b) ≤ get_or lasts (depth - 1) 0) × (depth ≤ (at w networks b).1 + 1)
+    within_open : (last_number_in w (at w networks b) ≤ get_or lasts (depth - 1) 0) × (depth ≤ (at w networks b).1 + 1)
     within_open = elim (cases_lt 0 (depth - 1)) [
       | inl more ↦
           let o = g.opened (depth - 1) more (omega arith) in
@@ -92,7 +92,7 @@ module _ (w : ℕ) (networks : List (ℕ × ℕ)) (good : AreNetworks w networks
     room = omega (arith, within_open.1, (good.each b some).fits)
 
     -- the next network is opened
-    pub opened : (last : ℕ) (lasts' ends' : List ℕ) → last ≡ last_of w (at w networks b)
+    pub opened : (last : ℕ) (lasts' ends' : List ℕ) → last ≡ last_number_in w (at w networks b)
         → ((p : ℕ) → p < depth → get_or lasts' p 0 ≡ get_or lasts p 0) → ((p : ℕ) → p < depth → get_or ends' p 0 ≡ get_or ends p 0)
         → get_or lasts' depth 0 ≡ last → get_or ends' depth 0 ≡ b + 1
         → IsPassing w networks (b + 1) (at w networks b).0 lasts' ends' (depth + 1)
@@ -120,7 +120,7 @@ module _ (w : ℕ) (networks : List (ℕ × ℕ)) (good : AreNetworks w networks
                 record {
                   some = omega arith;
                   upto = omega arith;
-                  last_is = ap (λ i. get_or lasts' i 0) e ∙ (new ∙ (is_last ∙ sym (ap (λ i. last_of w (at w networks i)) at_b)));
+                  last_is = ap (λ i. get_or lasts' i 0) e ∙ (new ∙ (is_last ∙ sym (ap (λ i. last_number_in w (at w networks i)) at_b)));
                   deep = omega (arith, within_open.1, ap (λ i. (at w networks i).1) at_b);
                 }
             | inr n ↦
@@ -130,7 +130,7 @@ module _ (w : ℕ) (networks : List (ℕ × ℕ)) (good : AreNetworks w networks
                 record {
                   some = omega (arith, o.some);
                   upto = omega (arith, o.upto);
-                  last_is = same p (omega arith) ∙ (o.last_is ∙ sym (ap (λ i. last_of w (at w networks i)) at_same));
+                  last_is = same p (omega arith) ∙ (o.last_is ∙ sym (ap (λ i. last_number_in w (at w networks i)) at_same));
                   deep = omega (arith, o.deep, ap (λ i. (at w networks i).1) at_same);
                 }
           ];
@@ -138,10 +138,10 @@ module _ (w : ℕ) (networks : List (ℕ × ℕ)) (good : AreNetworks w networks
             | inl e ↦
                 let up : get_or ends' p 0 ≡ b + 1 = ap (λ i. get_or ends' i 0) e ∙ new_end in
                 let at_b : get_or ends' p 0 - 1 ≡ b = omega arith in
-                let here : IsIn w networks (at w networks b) address = (from, omega (arith, ap (λ i. get_or lasts' i 0) e, new, is_last)) in
+                let here : HasNumber w networks (at w networks b) address = (from, omega (arith, ap (λ i. get_or lasts' i 0) e, new, is_last)) in
                 record {
                   before = λ j lt h. omega arith;
-                  here = λ _. (omega arith, subst (λ i. IsIn w networks (at w networks i) address) (sym at_b) here);
+                  here = λ _. (omega arith, subst (λ i. HasNumber w networks (at w networks i) address) (sym at_b) here);
                 }
             | inr n ↦
                 let behind : last < address = elim (cases_eq (p + 1) depth) [
@@ -153,12 +153,12 @@ module _ (w : ℕ) (networks : List (ℕ × ℕ)) (good : AreNetworks w networks
                 let up : get_or ends' p 0 ≡ get_or ends p 0 = same_end p (omega arith) in
                 record {
                   before = λ j lt h. elim (cases_eq j b) [
-                    | inl e ↦ absurd (omega (arith, h.1, ap (λ i. last_of w (at w networks i)) e, is_last))
+                    | inl e ↦ absurd (omega (arith, h.1, ap (λ i. last_number_in w (at w networks i)) e, is_last))
                     | inr m ↦ omega (arith, up, old.before j (omega arith) h)
                   ];
                   here = λ positive'.
                       let k = old.here (omega arith) in
-                      (omega (arith, k.0), subst (λ i. IsIn w networks (at w networks (i - 1)) address) (sym up) k.1);
+                      (omega (arith, k.0), subst (λ i. HasNumber w networks (at w networks (i - 1)) address) (sym up) k.1);
                 }
           ];
           reaching = omega (arith, ap (λ i. get_or lasts' i 0) one_more, new);
@@ -167,7 +167,7 @@ module _ (w : ℕ) (networks : List (ℕ × ℕ)) (good : AreNetworks w networks
 
     -- and the range that ends there has the answer of the last open one
     pub opened_range : (address : ℕ) → start ≤ address → address < (at w networks b).0
-        → IsLast w networks (length networks) address (get_or ends (depth - 1) 0)
+        → IsLastWithNumber w networks (length networks) address (get_or ends (depth - 1) 0)
     opened_range address from to =
         passed b start address lasts ends depth g from (omega arith) (λ j le l. omega (arith, from_next b j le l))
 
@@ -192,16 +192,16 @@ module _ (w : ℕ) (networks : List (ℕ × ℕ)) (good : AreNetworks w networks
   -- where the last open network ends with the addresses, all behind the start have its answer
   pub ended : (b start : ℕ) (lasts ends : List ℕ) (depth : ℕ) → IsPassing w networks b start lasts ends depth
       → length networks ≤ b → 2 ^ w - 1 ≤ get_or lasts (depth - 1) 0
-      → (address : ℕ) → start ≤ address → address < 2 ^ w → IsLast w networks (length networks) address (get_or ends (depth - 1) 0)
+      → (address : ℕ) → start ≤ address → address < 2 ^ w → IsLastWithNumber w networks (length networks) address (get_or ends (depth - 1) 0)
   ended b start lasts ends depth g all most address from to =
       passed b start address lasts ends depth g from (omega arith) (λ j le l. absurd (omega arith))
 
   -- where a network begins, or has ended, the last one that has the address is another than before
-  pub changed : (address end end' : ℕ) → 0 < address → IsEdge w networks address → IsLast w networks (length networks) (address - 1) end
-      → IsLast w networks (length networks) address end' → end ≢ end'
+  pub changed : (address end end' : ℕ) → 0 < address → IsEdge w networks address → IsLastWithNumber w networks (length networks) (address - 1) end
+      → IsLastWithNumber w networks (length networks) address end' → end ≢ end'
   changed address end end' some edge before here = λ same.
       let j = edge.place in
-      let before_at = subst (λ e. IsLast w networks (length networks) (address - 1) e) same before in
+      let before_at = subst (λ e. IsLastWithNumber w networks (length networks) (address - 1) e) same before in
       elim edge.edge [
         | inl first ↦
             let earlier : j < end' = here.before j edge.within (omega arith, omega arith) in
@@ -212,7 +212,7 @@ module _ (w : ℕ) (networks : List (ℕ × ℕ)) (good : AreNetworks w networks
             let last = here.here (omega arith) in
             let last_before = before_at.here (omega arith) in
             elim (cases_eq j (end' - 1)) [
-              | inl e ↦ absurd (omega (arith, last.1.1, ap (λ i. last_of w (at w networks i)) e))
+              | inl e ↦ absurd (omega (arith, last.1.1, ap (λ i. last_number_in w (at w networks i)) e))
               | inr n ↦
                   let nested = nests w (at w networks j) (at w networks (end' - 1)) (good.each j edge.within) (good.each (end' - 1) (omega (arith, last.0)))
                   (good.ascending j (end' - 1) (omega arith) (omega (arith, last.0))) (omega (arith, last_before.1.0)) in

@@ -2,8 +2,8 @@
 use Rattle.std.proofs.Common.{◌≡◌, refl, sym, ◌∙◌, ap, subst, arith, inl, inr, ℕ, ◌+◌, ◌-◌, ◌^◌, ◌<◌, ◌≤◌, List, length, get_or, take, take_all}
 use Rattle.std.proofs.lemmas.Bool.{cases_eq}
 use Rattle.std.proofs.lemmas.List.{length-take-le, get_or-take}
-use Rattle.cidr_arrays.specs.Arrays.{AreNetworks, AreRanges}
-use Rattle.cidr_arrays.specs.Passing.{AreSoFar, HasRange, IsEdge, IsLast, IsPut}
+use Rattle.cidr_arrays.specs.Arrays.{AreAscendingNetworks, AreMatchRanges}
+use Rattle.cidr_arrays.specs.Passing.{AreSoFar, HasRange, IsEdge, IsLastWithNumber, IsPut}
 use Rattle.cidr_arrays.proofs.Longest.{longest}
 use Rattle.cidr_arrays.proofs.Steps.{changed}
 
@@ -26,15 +26,15 @@ module _ (w : ℕ) (networks : List (ℕ × ℕ)) where
 
   -- the address before the start has the last answer
   pub last_known : (starts answers : List ℕ) (count start : ℕ) → AreSoFar w networks starts answers count start → (k : ℕ) → k + 1 ≡ count
-      → IsLast w networks (length networks) (start - 1) (get_or answers k 0)
+      → IsLastWithNumber w networks (length networks) (start - 1) (get_or answers k 0)
   last_known starts answers count start h k last =
       let below = h.below k (omega arith) in
       h.known k (start - 1) (omega arith) (omega arith) (omega arith) (λ i lt l. absurd (omega arith))
 
   -- the arrays have one range more
-  pub one_more : AreNetworks w networks → (starts answers starts' answers' : List ℕ) (count start start' answer : ℕ)
+  pub one_more : AreAscendingNetworks w networks → (starts answers starts' answers' : List ℕ) (count start start' answer : ℕ)
       → (0 < start → IsEdge w networks start) → AreSoFar w networks starts answers count start → IsPut starts starts' count start → IsPut answers answers' count answer → start < start'
-      → ((address : ℕ) → start ≤ address → address < start' → IsLast w networks (length networks) address answer)
+      → ((address : ℕ) → start ≤ address → address < start' → IsLastWithNumber w networks (length networks) address answer)
       → AreSoFar w networks starts' answers' (count + 1) start'
   one_more good starts answers starts' answers' count start start' answer edge h put_start put_answer lt range =
       let old = λ (k : ℕ) (l : k < count). put_start.others k (λ e. absurd (omega arith)) in
@@ -62,28 +62,28 @@ module _ (w : ℕ) (networks : List (ℕ × ℕ)) where
               (sym (put_answer.others k (λ z. absurd (omega arith))) ∙ (same ∙ put_answer.others (k + 1) (λ z. absurd (omega arith))))
         ];
         known = λ k address l from to last. elim (cases_eq k count) [
-          | inl e ↦ subst (λ a. IsLast w networks (length networks) address a) (sym (ap (λ i. get_or answers' i 0) e ∙ put_answer.put)) (range address (omega (arith, new k e)) to)
+          | inl e ↦ subst (λ a. IsLastWithNumber w networks (length networks) address a) (sym (ap (λ i. get_or answers' i 0) e ∙ put_answer.put)) (range address (omega (arith, new k e)) to)
           | inr n ↦
               let known' = h.known k address (omega arith) (omega (arith, old k (omega arith)))
               (omega (arith, last count (omega arith) (omega arith), put_start.put))
               (λ i lt' l'. omega (arith, old i l', last i lt' (omega arith))) in
-              subst (λ a. IsLast w networks (length networks) address a) (sym (put_answer.others k n)) known'
+              subst (λ a. IsLastWithNumber w networks (length networks) address a) (sym (put_answer.others k n)) known'
         ];
       }
 
   -- the arrays as they were, where they have the range already
-  pub one_more_there : AreNetworks w networks → (starts answers : List ℕ) (count start start' answer : ℕ)
+  pub one_more_there : AreAscendingNetworks w networks → (starts answers : List ℕ) (count start start' answer : ℕ)
       → (0 < start → IsEdge w networks start) → AreSoFar w networks starts answers count start → HasRange starts answers count start answer → start < start'
-      → ((address : ℕ) → start ≤ address → address < start' → IsLast w networks (length networks) address answer)
+      → ((address : ℕ) → start ≤ address → address < start' → IsLastWithNumber w networks (length networks) address answer)
       → AreSoFar w networks starts answers (count + 1) start'
   one_more_there good starts answers count start start' answer edge h there lt range =
       one_more good starts answers starts answers count start start' answer edge h
       (record { put = there.1; others = λ k n. refl; same = refl }) (record { put = there.2; others = λ k n. refl; same = refl }) lt range
 
 -- all ranges are in the arrays
-pub are_ranges : (w : ℕ) (networks : List (ℕ × ℕ)) (starts answers : List ℕ) (count : ℕ) → AreNetworks w networks → 0 < count
+pub are_ranges : (w : ℕ) (networks : List (ℕ × ℕ)) (starts answers : List ℕ) (count : ℕ) → AreAscendingNetworks w networks → 0 < count
     → count ≤ length starts → count ≤ length answers → AreSoFar w networks starts answers count (2 ^ w)
-    → AreRanges w networks (take count starts) (take count answers)
+    → AreMatchRanges w networks (take count starts) (take count answers)
 are_ranges w networks starts answers count good some fits_starts fits_answers h =
     let size : length (take count starts) ≡ count = length-take-le count starts fits_starts in
     let size_answers : length (take count answers) ≡ count = length-take-le count answers fits_answers in
@@ -102,14 +102,14 @@ are_ranges w networks starts answers count good some fits_starts fits_answers h 
           let l : k < count = omega (arith, r.within) in
           let known = h.known k address l (omega (arith, same k l, r.from)) fits (λ i lt l'. omega (arith, same i l', r.last i lt (omega arith))) in
           longest w networks good address fits (get_or (take count answers) k 0)
-          (subst (λ a. IsLast w networks (length networks) address a) (sym (get_or-take count answers k 0 l)) known);
+          (subst (λ a. IsLastWithNumber w networks (length networks) address a) (sym (get_or-take count answers k 0 l)) known);
     }
 
 -- and no others are
-pub whole_ranges : (w : ℕ) (networks : List (ℕ × ℕ)) (starts answers : List ℕ) (count : ℕ) → AreNetworks w networks → 0 < count
+pub whole_ranges : (w : ℕ) (networks : List (ℕ × ℕ)) (starts answers : List ℕ) (count : ℕ) → AreAscendingNetworks w networks → 0 < count
     → count ≡ length starts → length answers ≡ length starts → AreSoFar w networks starts answers count (2 ^ w)
-    → AreRanges w networks starts answers
+    → AreMatchRanges w networks starts answers
 whole_ranges w networks starts answers count good some all both h =
     let part = are_ranges w networks starts answers count good some (omega arith) (omega arith) h in
-    subst (λ xs. AreRanges w networks xs answers) (take_all count starts (omega arith))
-    (subst (λ xs. AreRanges w networks (take count starts) xs) (take_all count answers (omega arith)) part)
+    subst (λ xs. AreMatchRanges w networks xs answers) (take_all count starts (omega arith))
+    (subst (λ xs. AreMatchRanges w networks (take count starts) xs) (take_all count answers (omega arith)) part)

@@ -15,12 +15,12 @@ pub record IsNetwork (w : ℕ) (network : ℕ × ℕ) : Type 0 where
   pub host : network.0 % 2 ^ (w - network.1) ≡ 0
 
 -- the bits that its addresses begin with
-abbrev pub network_bits : ℕ → ℕ × ℕ → List Bool
-network_bits w network = take network.1 (bits w network.0)
+abbrev pub prefix_bits : ℕ → ℕ × ℕ → List Bool
+prefix_bits w network = take network.1 (bits w network.0)
 
 -- the number of the last address
-abbrev pub last_of : ℕ → ℕ × ℕ → ℕ
-last_of w network = network.0 + (2 ^ (w - network.1) - 1)
+abbrev pub last_number_in : ℕ → ℕ × ℕ → ℕ
+last_number_in w network = network.0 + (2 ^ (w - network.1) - 1)
 
 -- the order of a table: by first address, and then by length
 abbrev pub Precedes : ℕ × ℕ → ℕ × ℕ → Type 0
@@ -32,13 +32,13 @@ pub record AreNetworksUpTo (w : ℕ) (networks : List (ℕ × ℕ)) (bound : ℕ
   pub ascending : (i k : ℕ) → i < k → k < bound → Precedes (slice_index_or networks i (0, 0)) (slice_index_or networks k (0, 0))
 
 -- all are networks and ascend
-abbrev pub AreNetworks : ℕ → List (ℕ × ℕ) → Type 0
-AreNetworks w networks = AreNetworksUpTo w networks (length networks)
+abbrev pub AreAscendingNetworks : ℕ → List (ℕ × ℕ) → Type 0
+AreAscendingNetworks w networks = AreNetworksUpTo w networks (length networks)
 
 -- the first that is no network or doesn't come behind the one before it, or none
 abbrev pub IsFirstRefused : ℕ → List (ℕ × ℕ) → Option ℕ → Type 0
 IsFirstRefused w networks (Some i) = (i < length networks) × AreNetworksUpTo w networks i × ¬ (AreNetworksUpTo w networks (i + 1))
-IsFirstRefused w networks None = AreNetworks w networks
+IsFirstRefused w networks None = AreAscendingNetworks w networks
 
 -- ---- ranges
 -- the last range that begins at most with the number
@@ -64,27 +64,27 @@ row_of (suc row) = Some row
 
 -- ranges whose answers are the longest matches of their addresses (RFC 1812, 5.2.4.3), and as few as that takes: the answers of
 -- two side by side differ
-pub record AreRanges (w : ℕ) (networks : List (ℕ × ℕ)) (starts answers : List ℕ) : Type 0 where
+pub record AreMatchRanges (w : ℕ) (networks : List (ℕ × ℕ)) (starts answers : List ℕ) : Type 0 where
   pub ordered : AreStarts starts
   pub both : length answers ≡ length starts
   pub fits : (k : ℕ) → k < length starts → slice_index_or starts k 0 < 2 ^ w
   pub changes : (k : ℕ) → k + 1 < length starts → slice_index_or answers k 0 ≢ slice_index_or answers (k + 1) 0
   pub matches : (address k : ℕ) → address < 2 ^ w → IsRangeOf starts address k
-      → IsLongestMatch (network_bits w) (bits w address) networks (row_of (slice_index_or answers k 0))
+      → IsLongestMatch (prefix_bits w) (bits w address) networks (row_of (slice_index_or answers k 0))
 
 -- arrays of networks: their ranges, and a first level
 pub record Represents (w : ℕ) (networks : List (ℕ × ℕ)) (starts answers level : List ℕ) (shift : ℕ) : Type 0 where
-  pub keys : AreNetworks w networks
-  pub ranges : AreRanges w networks starts answers
+  pub keys : AreAscendingNetworks w networks
+  pub ranges : AreMatchRanges w networks starts answers
   pub entries : IsFirstLevel starts level shift
 
 -- the networks of keys, as an array has them
-abbrev pub networks_of : {W : Type 0} → (W → ℕ) → List (Key W) → List (ℕ × ℕ)
-networks_of {W} value keys = map (λ (key : Key W). (value key.address, key.len)) keys
+abbrev pub key_networks : {W : Type 0} → (W → ℕ) → List (Key W) → List (ℕ × ℕ)
+key_networks {W} value keys = map (λ (key : Key W). (value key.address, key.len)) keys
 
 -- why ranges are not built: too many networks; or else one is refused; or else there is no room for twice as many and one more
 abbrev pub IsBuildRefused : ℕ → List (ℕ × ℕ) → (starts answers : ℕ) → BuildError → Type 0
 IsBuildRefused w networks starts answers TooMany = 2 ^ 31 ≤ length networks
 IsBuildRefused w networks starts answers (Refused place) = (length networks < 2 ^ 31) × IsFirstRefused w networks (Some place)
 IsBuildRefused w networks starts answers NoRoom =
-    (length networks < 2 ^ 31) × AreNetworks w networks × ((starts < 2 * length networks + 1) ⊎ (answers < 2 * length networks + 1))
+    (length networks < 2 ^ 31) × AreAscendingNetworks w networks × ((starts < 2 * length networks + 1) ⊎ (answers < 2 * length networks + 1))

@@ -1,6 +1,6 @@
 -- What is wrong with arrays: the first thing.
 use Rattle.std.specs.Prelude.{◌≡◌, ◌≢◌, ℕ, ◌*◌, ◌^◌, ◌<◌, ◌≤◌, List, Option, Some, None, length, slice_get, slice_index_or}
-use Rattle.cidr_arrays.specs.Arrays.{AreNetworks, AreRanges, IsFirstLevel, IsFirstRefused, IsRangeOf}
+use Rattle.cidr_arrays.specs.Arrays.{AreAscendingNetworks, AreMatchRanges, IsFirstLevel, IsFirstRefused, IsRangeOf}
 use Rattle.cidr_arrays.specs.declared.checking.Fault.{Fault}
 use Rattle.cidr_arrays.specs.declared.checking.Fault.TheVariants.{TooMany, Counts, Shift, Refused, Range, Entry}
 
@@ -10,9 +10,9 @@ IsSameRange starts answers starts' answers' k = (slice_get starts k ≡ slice_ge
 
 -- the first range that is another than in the arrays of the networks, or none
 abbrev pub IsFirstOther : ℕ → List (ℕ × ℕ) → (starts answers : List ℕ) → Option ℕ → Type 0
-IsFirstOther w networks starts answers (Some place) = (starts' answers' : List ℕ) → AreRanges w networks starts' answers'
+IsFirstOther w networks starts answers (Some place) = (starts' answers' : List ℕ) → AreMatchRanges w networks starts' answers'
     → ((k : ℕ) → k < place → IsSameRange starts answers starts' answers' k) × ¬ (IsSameRange starts answers starts' answers' place)
-IsFirstOther w networks starts answers None = AreRanges w networks starts answers
+IsFirstOther w networks starts answers None = AreMatchRanges w networks starts answers
 
 -- the first entry that is not the range of its number, or none
 abbrev pub IsFirstWrong : (starts level : List ℕ) (shift : ℕ) → Option ℕ → Type 0
@@ -32,7 +32,7 @@ IsFault w networks starts answers level shift Shift = (length networks < 2 ^ 31)
 IsFault w networks starts answers level shift (Refused place) =
     AreSizes w (length networks) (length starts) (length answers) shift × IsFirstRefused w networks (Some place)
 IsFault w networks starts answers level shift (Range place) =
-    AreSizes w (length networks) (length starts) (length answers) shift × AreNetworks w networks × IsFirstOther w networks starts answers (Some place)
+    AreSizes w (length networks) (length starts) (length answers) shift × AreAscendingNetworks w networks × IsFirstOther w networks starts answers (Some place)
 IsFault w networks starts answers level shift (Entry place) =
-    AreSizes w (length networks) (length starts) (length answers) shift × AreNetworks w networks × AreRanges w networks starts answers
+    AreSizes w (length networks) (length starts) (length answers) shift × AreAscendingNetworks w networks × AreMatchRanges w networks starts answers
     × IsFirstWrong starts level shift (Some place)

@@ -1,31 +1,31 @@
 -- What the pass over networks keeps: the last network that has an address, among the first `bound`.
 use Rattle.std.specs.Prelude.{◌≡◌, ◌≢◌, ℕ, ◌+◌, ◌-◌, ◌^◌, ◌<◌, ◌≤◌, ◌⊎◌, List, length, slice_index_or}
-use Rattle.cidr_arrays.specs.Arrays.{AreStarts, IsFirstLevel, last_of}
+use Rattle.cidr_arrays.specs.Arrays.{AreStarts, IsFirstLevel, last_number_in}
 
 module _ (w : ℕ) (networks : List (ℕ × ℕ)) where
   abbrev pub at : ℕ → ℕ × ℕ
   at j = slice_index_or networks j (0, 0)
 
   -- the network has the address
-  abbrev pub IsIn : ℕ × ℕ → ℕ → Type 0
-  IsIn network address = (network.0 ≤ address) × (address ≤ last_of w network)
+  abbrev pub HasNumber : ℕ × ℕ → ℕ → Type 0
+  HasNumber network address = (network.0 ≤ address) × (address ≤ last_number_in w network)
 
   -- of the first `bound` networks, those that have the address stand before `end`, and the one before `end` has it
-  pub record IsLast (bound address end : ℕ) : Type 0 where
-    pub before : (j : ℕ) → j < bound → IsIn (at j) address → j < end
-    pub here : 0 < end → (end ≤ bound) × IsIn (at (end - 1)) address
+  pub record IsLastWithNumber (bound address end : ℕ) : Type 0 where
+    pub before : (j : ℕ) → j < bound → HasNumber (at j) address → j < end
+    pub here : 0 < end → (end ≤ bound) × HasNumber (at (end - 1)) address
 
   -- a network begins with the address, or has ended with the one before it
   pub record IsEdge (address : ℕ) : Type 0 where
     pub place : ℕ
     pub within : place < length networks
-    pub edge : (address ≡ (at place).0) ⊎ (address ≡ last_of w (at place) + 1)
+    pub edge : (address ≡ (at place).0) ⊎ (address ≡ last_number_in w (at place) + 1)
 
   -- the network before `end` is open at place p
   pub record IsOpen (bound p last end : ℕ) : Type 0 where
     pub some : 0 < end
     pub upto : end ≤ bound
-    pub last_is : last ≡ last_of w (at (end - 1))
+    pub last_is : last ≡ last_number_in w (at (end - 1))
     pub deep : p ≤ (at (end - 1)).1 + 1
 
   -- the range that begins with `start`, behind which no address but those of networks from `bound` on has another end than
@@ -39,7 +39,7 @@ module _ (w : ℕ) (networks : List (ℕ × ℕ)) where
     pub nested : (p q : ℕ) → p ≤ q → q < depth → slice_index_or lasts q 0 ≤ slice_index_or lasts p 0
     pub opened : (p : ℕ) → 0 < p → p < depth → IsOpen bound p (slice_index_or lasts p 0) (slice_index_or ends p 0)
     pub answers : (p address : ℕ) → p < depth → start ≤ address → address ≤ slice_index_or lasts p 0
-        → (p + 1 < depth → slice_index_or lasts (p + 1) 0 < address) → IsLast bound address (slice_index_or ends p 0)
+        → (p + 1 < depth → slice_index_or lasts (p + 1) 0 < address) → IsLastWithNumber bound address (slice_index_or ends p 0)
     pub reaching : start ≤ slice_index_or lasts (depth - 1) 0 + 1
     pub ahead : (j : ℕ) → bound ≤ j → j < length networks → start ≤ (at j).0
 
@@ -51,7 +51,7 @@ module _ (w : ℕ) (networks : List (ℕ × ℕ)) where
     pub ascending : (i k : ℕ) → i < k → k < count → slice_index_or starts i 0 < slice_index_or starts k 0
     pub changes : (k : ℕ) → k + 1 < count → slice_index_or answers k 0 ≢ slice_index_or answers (k + 1) 0
     pub known : (k address : ℕ) → k < count → slice_index_or starts k 0 ≤ address → address < start
-        → ((i : ℕ) → k < i → i < count → address < slice_index_or starts i 0) → IsLast (length networks) address (slice_index_or answers k 0)
+        → ((i : ℕ) → k < i → i < count → address < slice_index_or starts i 0) → IsLastWithNumber (length networks) address (slice_index_or answers k 0)
 
 -- the arrays have a range at the place, and this one
 abbrev pub HasRange : (starts answers : List ℕ) (place start answer : ℕ) → Type 0

@@ -1,7 +1,7 @@
 //! The ranges of networks, written into arrays of the caller.
 ghost use Rattle.std.specs.Prelude.{◌≡◌, ℕ, ◌+◌, ◌*◌, ◌^◌, ◌<◌, ◌≤◌, List, length, map, take, IfOk, IfErr, OnErr};
-ghost use Rattle.cidr_arrays.specs.Arrays.{AreNetworks, AreRanges, IsFirstRefused, IsBuildRefused, networks_of};
-ghost use Rattle.cidr_arrays.specs.Passing.{AreSoFar, IsEdge, IsLast, IsPut};
+ghost use Rattle.cidr_arrays.specs.Arrays.{AreAscendingNetworks, AreMatchRanges, IsFirstRefused, IsBuildRefused, key_networks};
+ghost use Rattle.cidr_arrays.specs.Passing.{AreSoFar, IsEdge, IsLastWithNumber, IsPut};
 
 use crate::key::Key;
 use crate::pass::{goes_on, started};
@@ -36,9 +36,9 @@ pub fn build<W: Word>(
     ensures room { IfOk result (λ count. count ≤ 2 * length keys.now + 1) }
     ensures starts { IfOk result (λ count. count ≤ length starts.new) }
     ensures answers { IfOk result (λ count. count ≤ length answers.new) }
-    ensures keys { IfOk result (λ _. AreNetworks W.width (networks_of W.value keys.now)) }
-    ensures ranges { IfOk result (λ count. AreRanges W.width (networks_of W.value keys.now) (map W.value (take count starts.new)) (take count answers.new)) }
-    ensures refused { IfErr result (IsBuildRefused W.width (networks_of W.value keys.now) (length starts.old) (length answers.old)) }
+    ensures keys { IfOk result (λ _. AreAscendingNetworks W.width (key_networks W.value keys.now)) }
+    ensures ranges { IfOk result (λ count. AreMatchRanges W.width (key_networks W.value keys.now) (map W.value (take count starts.new)) (take count answers.new)) }
+    ensures refused { IfErr result (IsBuildRefused W.width (key_networks W.value keys.now) (length starts.old) (length answers.old)) }
     ensures unchanged { OnErr result ((starts.new ≡ starts.old) × (answers.new ≡ answers.old)) }
     ensures long { IfOk result (λ _. (2 * length keys.now + 1 ≤ length starts.old) × (2 * length keys.now + 1 ≤ length answers.old)) }
 {
@@ -60,7 +60,7 @@ pub fn build<W: Word>(
 /// The index of the first key, counted from 0, that is no network or doesn't come after the one before it, or `None`
 /// where all are networks in their order. One pass over the keys: O(n).
 pub fn first_refused<W: Word>(keys: &[Key<W>]) -> Option<usize>
-    ensures { IsFirstRefused W.width (networks_of W.value keys.now) result }
+    ensures { IsFirstRefused W.width (key_networks W.value keys.now) result }
 {
     for place in 0..keys.len() {
         if !keys[place].is_network() {
@@ -75,13 +75,13 @@ pub fn first_refused<W: Word>(keys: &[Key<W>]) -> Option<usize>
 
 /// Writes the ranges, and returns how many there are.
 fn written<W: Word>(keys: &[Key<W>], starts: &mut [W], answers: &mut [u32]) -> usize
-    requires keys { AreNetworks W.width (networks_of W.value keys.now) }
+    requires keys { AreAscendingNetworks W.width (key_networks W.value keys.now) }
     requires few { length keys.now < 2 ^ 31 }
     requires starts { 2 * length keys.now + 1 ≤ length starts.old }
     requires answers { 2 * length keys.now + 1 ≤ length answers.old }
     ensures some { 0 < result }
     ensures room { result ≤ 2 * length keys.now + 1 }
-    ensures ranges { AreSoFar W.width (networks_of W.value keys.now) (map W.value starts.new) answers.new result (2 ^ W.width) }
+    ensures ranges { AreSoFar W.width (key_networks W.value keys.now) (map W.value starts.new) answers.new result (2 ^ W.width) }
 {
     let mut pass = started(keys);
     let mut count = 0;
@@ -109,9 +109,10 @@ fn put_range<W: Word>(
     requires starts { count < length starts.old }
     requires answers { count < length answers.old }
     ensures room { result ≤ count + 1 }
-    ensures ranges { (networks : List (ℕ × ℕ)) → AreNetworks W.width networks → (0 < start → IsEdge W.width networks start)
+    ensures ranges { (networks : List (ℕ × ℕ)) → AreAscendingNetworks W.width networks → (0 < start → IsEdge W.width networks start)
         → AreSoFar W.width networks (map W.value starts.old) answers.old count start → start ≤ end
-        → ((address : ℕ) → start ≤ address → address < end → IsLast W.width networks (length networks) address answer)
+        → ((address : ℕ) → start ≤ address → address < end → IsLastWithNumber W.width networks
+        (length networks) address answer)
         → AreSoFar W.width networks (map W.value starts.new) answers.new result end }
 {
     if end <= start {

@@ -1,6 +1,6 @@
 //! Whether arrays are those of keys.
 ghost use Rattle.std.specs.Prelude.{◌≡◌, ◌↔◌, ◌+◌, ◌^◌, ◌<◌, ◌≤◌, ◌⊎◌, None, length, map, IfOk, IfErr, IfSome, IsTrue};
-ghost use Rattle.cidr_arrays.specs.Arrays.{AreNetworks, AreStarts, Represents, networks_of};
+ghost use Rattle.cidr_arrays.specs.Arrays.{AreAscendingNetworks, AreStarts, Represents, key_networks};
 ghost use Rattle.cidr_arrays.specs.Faults.{IsFault, IsFirstOther, IsFirstWrong};
 ghost use Rattle.cidr_arrays.specs.Passing.{HasRange};
 
@@ -39,8 +39,8 @@ pub fn check<W: Word>(
     level: &[u32],
     shift: u32,
 ) -> Result<(), Fault>
-    ensures represented { IfOk result (λ _. Represents W.width (networks_of W.value keys.now) (map W.value starts.now) answers.now level.now shift) }
-    ensures refused { IfErr result (IsFault W.width (networks_of W.value keys.now) (map W.value starts.now) answers.now level.now shift) }
+    ensures represented { IfOk result (λ _. Represents W.width (key_networks W.value keys.now) (map W.value starts.now) answers.now level.now shift) }
+    ensures refused { IfErr result (IsFault W.width (key_networks W.value keys.now) (map W.value starts.now) answers.now level.now shift) }
 {
     if keys.len() >= 1 << 31 {
         return Err(Fault::TooMany);
@@ -65,10 +65,10 @@ pub fn check<W: Word>(
 
 /// The index of the first range that is another than the keys have.
 fn first_other<W: Word>(keys: &[Key<W>], starts: &[W], answers: &[u32]) -> Option<usize>
-    requires keys { AreNetworks W.width (networks_of W.value keys.now) }
+    requires keys { AreAscendingNetworks W.width (key_networks W.value keys.now) }
     requires few { length keys.now < 2 ^ 31 }
     requires both { length answers.now ≡ length starts.now }
-    ensures { IsFirstOther W.width (networks_of W.value keys.now) (map W.value starts.now) answers.now result }
+    ensures { IsFirstOther W.width (key_networks W.value keys.now) (map W.value starts.now) answers.now result }
 {
     let mut pass = started(keys);
     let mut count = 0;

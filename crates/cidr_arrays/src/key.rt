@@ -1,6 +1,6 @@
 //! Networks, as arrays have them.
 ghost use Rattle.std.specs.Prelude.{◌≡◌, ◌↔◌, ◌-◌, ◌^◌, ◌≤◌, IsTrue, length};
-ghost use Rattle.cidr_arrays.specs.Arrays.{IsNetwork, Precedes, last_of};
+ghost use Rattle.cidr_arrays.specs.Arrays.{IsNetwork, Precedes, last_number_in};
 
 use crate::word::Word;
 
@@ -39,7 +39,7 @@ impl<W: Word> Key<W> {
     /// The number of its last address.
     pub(crate) fn last(&self) -> u128
         requires { IsNetwork W.width (W.value self.now.address, self.now.len) }
-        ensures { result ≡ last_of W.width (W.value self.now.address, self.now.len) }
+        ensures { result ≡ last_number_in W.width (W.value self.now.address, self.now.len) }
     {
         self.address.number() + ones(W::width() - self.len)
     }

@@ -1,7 +1,7 @@
 //! The pass over networks that ascend, which comes to one range after the other.
 ghost use Rattle.std.specs.Prelude.{◌≡◌, ℕ, ◌+◌, ◌-◌, ◌*◌, ◌^◌, ◌<◌, ◌≤◌, length, slice_index_or, false, true};
-ghost use Rattle.cidr_arrays.specs.Arrays.{AreNetworks, networks_of};
-ghost use Rattle.cidr_arrays.specs.Passing.{IsEdge, IsLast, IsPassing};
+ghost use Rattle.cidr_arrays.specs.Arrays.{AreAscendingNetworks, key_networks};
+ghost use Rattle.cidr_arrays.specs.Passing.{IsEdge, IsLastWithNumber, IsPassing};
 
 use crate::key::{Key, ones};
 use crate::word::Word;
@@ -26,8 +26,8 @@ pub(crate) struct Pass {
 
 /// The pass before the first key.
 pub(crate) fn started<W: Word>(keys: &[Key<W>]) -> Pass
-    requires { AreNetworks W.width (networks_of W.value keys.now) }
-    ensures passing { IsPassing W.width (networks_of W.value keys.now) result.place result.start result.lasts result.ends result.depth }
+    requires { AreAscendingNetworks W.width (key_networks W.value keys.now) }
+    ensures passing { IsPassing W.width (key_networks W.value keys.now) result.place result.start result.lasts result.ends result.depth }
     ensures start { result.start ≡ 0 }
     ensures place { result.place ≡ 0 }
     ensures depth { result.depth ≡ 1 }
@@ -46,16 +46,16 @@ pub(crate) fn started<W: Word>(keys: &[Key<W>]) -> Pass
 /// Goes on to where the answer may change, or returns false where it is the same up to the last address. The answer of
 /// the addresses that it passes was that of the last open key.
 pub(crate) fn goes_on<W: Word>(keys: &[Key<W>], pass: &mut Pass) -> bool
-    requires keys { AreNetworks W.width (networks_of W.value keys.now) }
+    requires keys { AreAscendingNetworks W.width (key_networks W.value keys.now) }
     requires few { length keys.now < 2 ^ 32 }
-    requires passing { IsPassing W.width (networks_of W.value keys.now) pass.old.place pass.old.start pass.old.lasts pass.old.ends pass.old.depth }
-    ensures passing { result ≡ true → IsPassing W.width (networks_of W.value keys.now) pass.new.place pass.new.start pass.new.lasts pass.new.ends pass.new.depth }
-    ensures edge { result ≡ true → IsEdge W.width (networks_of W.value keys.now) pass.new.start }
+    requires passing { IsPassing W.width (key_networks W.value keys.now) pass.old.place pass.old.start pass.old.lasts pass.old.ends pass.old.depth }
+    ensures passing { result ≡ true → IsPassing W.width (key_networks W.value keys.now) pass.new.place pass.new.start pass.new.lasts pass.new.ends pass.new.depth }
+    ensures edge { result ≡ true → IsEdge W.width (key_networks W.value keys.now) pass.new.start }
     ensures further { result ≡ true → pass.old.start ≤ pass.new.start }
     ensures range { result ≡ true → (address : ℕ) → pass.old.start ≤ address → address < pass.new.start
-        → IsLast W.width (networks_of W.value keys.now) (length (networks_of W.value keys.now)) address (slice_index_or pass.old.ends (pass.old.depth - 1) 0) }
+        → IsLastWithNumber W.width (key_networks W.value keys.now) (length (key_networks W.value keys.now)) address (slice_index_or pass.old.ends (pass.old.depth - 1) 0) }
     ensures rest { result ≡ false → (address : ℕ) → pass.old.start ≤ address → address < 2 ^ W.width
-        → IsLast W.width (networks_of W.value keys.now) (length (networks_of W.value keys.now)) address (slice_index_or pass.old.ends (pass.old.depth - 1) 0) }
+        → IsLastWithNumber W.width (key_networks W.value keys.now) (length (key_networks W.value keys.now)) address (slice_index_or pass.old.ends (pass.old.depth - 1) 0) }
     ensures steps { result ≡ true → pass.new.depth + 2 * pass.old.place + 1 ≡ pass.old.depth + 2 * pass.new.place }
     ensures left { result ≡ true → pass.old.place ≤ pass.new.place }
 {

@@ -2,7 +2,7 @@
 ghost use Rattle.std.specs.Prelude.{◌≡◌, ℕ, ◌+◌, ◌-◌, ◌<◌, ◌≤◌, ◌⊎◌, List, length, map, slice_index_or, IfSome};
 ghost use Rattle.cidr.specs.model.Bits.{bits};
 ghost use Rattle.cidr_table.specs.Prefixes.{IsLongestMatch};
-ghost use Rattle.cidr_arrays.specs.Arrays.{IsRangeOf, Represents, network_bits, row_of};
+ghost use Rattle.cidr_arrays.specs.Arrays.{IsRangeOf, Represents, prefix_bits, row_of};
 ghost use Rattle.cidr_arrays.specs.Passing.{IsSearchable};
 
 use crate::word::{Index, Word};
@@ -27,7 +27,7 @@ pub fn lookup<W: Word>(
     ensures within { IfSome result (λ row. row < rows) }
     ensures longest { (networks : List (ℕ × ℕ)) → length networks ≡ rows
         → Represents W.width networks (map W.value starts.now) answers.now level.now shift
-        → IsLongestMatch (network_bits W.width) (bits W.width (W.value address)) networks result }
+        → IsLongestMatch (prefix_bits W.width) (bits W.width (W.value address)) networks result }
 {
     longest_match(starts, answers, level, shift, rows, address)
 }
@@ -45,7 +45,7 @@ pub fn longest_match<W: Word, I: Index>(
     ensures within { IfSome result (λ row. row < rows) }
     ensures longest { (networks : List (ℕ × ℕ)) → length networks ≡ rows
         → Represents W.width networks (map W.value starts.now) (map I.place answers.now) (map I.place level.now) shift
-        → IsLongestMatch (network_bits W.width) (bits W.width (W.value address)) networks result }
+        → IsLongestMatch (prefix_bits W.width) (bits W.width (W.value address)) networks result }
 {
     address.number();
     if starts.is_empty() {

@@ -7,17 +7,17 @@ use Rattle.cidr.specs.either.IpNetwork.{any_bits}
 use Rattle.cidr.specs.declared.cidr.any.AnyIpCidr.{AnyIpCidr}
 use Rattle.cidr_table.specs.Cover.{Covers, IsFull}
 use Rattle.cidr_sets.specs.Sets.{IsSetOf}
-use Rattle.cidr_c.specs.Calls.{IsAnswer}
-use Rattle.cidr_c.specs.Batches.{AreNetworks, bits_in}
+use Rattle.cidr_c.specs.Calls.{IsYesOrNo}
+use Rattle.cidr_c.specs.Batches.{AreNetworkValues, bits_in}
 use Rattle.cidr_c.specs.Lookups.{AreAnswered, AreContained}
-use Rattle.cidr_c.specs.Values.{IsNetwork, network_in}
+use Rattle.cidr_c.specs.Values.{IsNetworkValue, network_in}
 use Rattle.cidr_c.specs.declared.values.CValue.{CValue}
 
 -- the first n are answered
 abbrev pub AreFirst : (AnyIpCidr → ℕ → Type 0) → ℕ → List CValue → List ℕ → Type 0
 AreFirst Answers n asked out =
     (i : ℕ) (v : CValue) → i < n → slice_get asked i ≡ Some v
-    → IsNetwork v × (answer : ℕ) × (slice_get out i ≡ Some answer) × Answers (network_in v) answer
+    → IsNetworkValue v × (answer : ℕ) × (slice_get out i ≡ Some answer) × Answers (network_in v) answer
 
 slice_get-set_here : (out : List ℕ) (n a : ℕ) → n < length out → slice_get (set out n a) n ≡ Some a
 slice_get-set_here out n a h =
@@ -34,13 +34,13 @@ slice_get-set_other out n i a other =
     ]
 
 pub one_more : (Answers : AnyIpCidr → ℕ → Type 0) (n : ℕ) (d : CValue) (asked : List CValue) (out : List ℕ) (a : ℕ)
-    → AreFirst Answers n asked out → n < length out → IsNetwork (get_or asked n d) → Answers (network_in (get_or asked n d)) a
+    → AreFirst Answers n asked out → n < length out → IsNetworkValue (get_or asked n d) → Answers (network_in (get_or asked n d)) a
     → AreFirst Answers (n + 1) asked (set out n a)
 one_more Answers n d asked out a first fits here answers i v lt found =
     elim (cases_eq i n) [
       | inl e ↦
           let same : get_or asked n d ≡ v = ap (λ (k : ℕ). get_or asked k d) (sym e) ∙ get_or_from_slice_get asked i v d found in
-          (subst IsNetwork same here, a, ap (slice_get (set out n a)) e ∙ slice_get-set_here out n a fits, subst (λ (w : CValue). Answers (network_in w) a) same answers)
+          (subst IsNetworkValue same here, a, ap (slice_get (set out n a)) e ∙ slice_get-set_here out n a fits, subst (λ (w : CValue). Answers (network_in w) a) same answers)
       | inr other ↦
           let old = first i v (omega (arith, lt, other)) found in
           (old.0, old.1, slice_get-set_other out n i a other ∙ old.2, old.3)
@@ -50,13 +50,13 @@ pub all : (Answers : AnyIpCidr → ℕ → Type 0) (n : ℕ) (asked : List CValu
     → AreAnswered Answers asked out
 all Answers n asked out past first i v found = first i v (omega (arith, past, slice_get_within asked i v found)) found
 
-pub contained : (values asked : List CValue) (set : List AnyIpCidr) (old out : List ℕ) (n : ℕ) → AreNetworks values
+pub contained : (values asked : List CValue) (set : List AnyIpCidr) (old out : List ℕ) (n : ℕ) → AreNetworkValues values
     → IsSetOf 129 (Covers (bits_in values)) (map any_bits set) → length asked ≤ n
-    → AreFirst (λ n answer. IsAnswer answer (IsFull 129 (map any_bits set) (any_bits n))) n asked out
+    → AreFirst (λ n answer. IsYesOrNo answer (IsFull 129 (map any_bits set) (any_bits n))) n asked out
     → drop (length asked) out ≡ drop (length asked) old → AreContained values asked old out 0
 contained values asked set old out n fine is_set past first behind = record {
   networks = λ _. fine;
-  answers = λ _. all (λ n answer. IsAnswer answer (IsFull 129 (bits_in values) (any_bits n))) n asked out past
+  answers = λ _. all (λ n answer. IsYesOrNo answer (IsFull 129 (bits_in values) (any_bits n))) n asked out past
       (λ i v lt found.
       let old = first i v lt found in (
         old.0,

@@ -12,7 +12,7 @@ use Rattle.cidr_table.proofs.LastPlaces.{placed_push}
 use Rattle.cidr_table.proofs.LastRows.{EndsAt, last_row}
 use Rattle.cidr_table.proofs.MapLaws.{contains_cases, contains_nothing}
 use Rattle.cidr_c.specs.Lookups.{AreMatched, AreIndexed, IsLongestIndex, IsRowIndex}
-use Rattle.cidr_c.specs.Batches.{AreNetworks}
+use Rattle.cidr_c.specs.Batches.{AreNetworkValues}
 use Rattle.cidr_c.specs.Values.{network_in}
 use Rattle.cidr_c.specs.declared.values.CValue.{CValue}
 use Rattle.cidr_c.proofs.Answering.{AreFirst, all}
@@ -82,7 +82,7 @@ longest_index ns rows asked index last (inr none) = inr (
       (subst (λ l. Contains l key) (sym (keys_placed 0 ns)) c),
 )
 
-pub matched : (values asked : List CValue) (rows : List (AnyIpCidr × ℕ)) (old out : List ℕ) (n : ℕ) → AreNetworks values
+pub matched : (values asked : List CValue) (rows : List (AnyIpCidr × ℕ)) (old out : List ℕ) (n : ℕ) → AreNetworkValues values
     → AreIndexed (map network_in values) rows → length asked ≤ n → AreFirst (IsRowIndex rows) n asked out
     → drop (length asked) out ≡ drop (length asked) old → AreMatched values asked old out 0
 matched values asked rows old out n fine last past first behind = record {

@@ -14,36 +14,36 @@ use Rattle.std.proofs.lemmas.List.Concat.{flat_map-append}
 use Rattle.cidr.specs.either.IpText.{any_network_text}
 use Rattle.cidr.specs.texts.Printed.{plain_text}
 use Rattle.cidr_c.proofs.NetworkLists.{networks_more}
-use Rattle.cidr_c.specs.Batches.{AreNetworks}
-use Rattle.cidr_c.specs.Values.{IsNetwork, network_in}
+use Rattle.cidr_c.specs.Batches.{AreNetworkValues}
+use Rattle.cidr_c.specs.Values.{IsNetworkValue, network_in}
 use Rattle.cidr_c.specs.Codes.{parse_code}
-use Rattle.cidr_c.specs.Lines.{lines_of, is_line_feed, Says, IsFirstLine, IsLineRead, AreLinesRead, lines_in}
+use Rattle.cidr_c.specs.Lines.{lines_between_feeds, is_line_feed, SpellsNetwork, IsFirstLine, IsLineRead, AreLinesRead, printed_lines}
 use Rattle.cidr_c.specs.declared.values.CValue.{CValue}
 
 -- the lines that are left
 abbrev pub lines_left : List ℕ → Bool → List (List ℕ)
-lines_left rest true = lines_of rest
+lines_left rest true = lines_between_feeds rest
 lines_left rest false = []
 
 -- the first n lines are read, and the others are left
 pub record AreSoFar (text rest : List ℕ) (more : Bool) (old : List CValue) (n : ℕ) (out : List CValue) : Type 0 where
   pub done : List (List ℕ)
-  pub split : lines_of text ≡ done ++ lines_left rest more
+  pub split : lines_between_feeds text ≡ done ++ lines_left rest more
   pub count : n ≡ length done
   pub fits : n ≤ length out
   pub kept : length out ≡ length old
-  pub said : AllZip Says done (take n out)
+  pub said : AllZip SpellsNetwork done (take n out)
   pub behind : drop n out ≡ drop n old
 
 pub none_yet : (text : List ℕ) (out : List CValue) → AreSoFar text text true out 0 out
 none_yet text out = record { done = []; split = refl; count = refl; fits = omega arith; kept = refl; said = tt; behind = refl }
 
-left_behind : (rest line behind : List ℕ) (more : Bool) → IsFirstLine rest line behind more → lines_of rest ≡ line ∷ lines_left behind more
+left_behind : (rest line behind : List ℕ) (more : Bool) → IsFirstLine rest line behind more → lines_between_feeds rest ≡ line ∷ lines_left behind more
 left_behind rest line behind true first = first.0
 left_behind rest line behind false first = first
 
-says_more : (done : List (List ℕ)) (values : List CValue) (line : List ℕ) (value : CValue) → AllZip Says done values → Says line value
-    → AllZip Says (done ++ line ∷ []) (values ++ value ∷ [])
+says_more : (done : List (List ℕ)) (values : List CValue) (line : List ℕ) (value : CValue) → AllZip SpellsNetwork done values → SpellsNetwork line value
+    → AllZip SpellsNetwork (done ++ line ∷ []) (values ++ value ∷ [])
 says_more [] [] line value said here = (here, tt)
 says_more [] (v ∷ values) line value said here = absurd said
 says_more (d ∷ done) [] line value said here = absurd said
@@ -61,17 +61,17 @@ line_at (d ∷ done) line others = line_at done line others
 
 module _ (text rest : List ℕ) (old : List CValue) (n : ℕ) (out : List CValue) (so_far : AreSoFar text rest true old n out)
     (line behind : List ℕ) (more : Bool) (first : IsFirstLine rest line behind more) where
-  next_split : lines_of text ≡ so_far.done ++ line ∷ lines_left behind more
+  next_split : lines_between_feeds text ≡ so_far.done ++ line ∷ lines_left behind more
   next_split = so_far.split ∙ ap (λ (t : List (List ℕ)). so_far.done ++ t) (left_behind rest line behind more first)
 
-  front : take n (lines_of text) ≡ so_far.done
+  front : take n (lines_between_feeds text) ≡ so_far.done
   front =
       ap (take n) next_split ∙ (ap (λ (k : ℕ). take k (so_far.done ++ line ∷ lines_left behind more)) so_far.count
       ∙ take-append_seam so_far.done (line ∷ lines_left behind more))
 
-  said_so_far : (new : List CValue) → take n new ≡ take n out → AllZip Says (take n (lines_of text)) (take n new)
+  said_so_far : (new : List CValue) → take n new ≡ take n out → AllZip SpellsNetwork (take n (lines_between_feeds text)) (take n new)
   said_so_far new same =
-      subst (λ (t : List (List ℕ)). AllZip Says t (take n new)) (sym front) (subst (AllZip Says so_far.done) (sym same) so_far.said)
+      subst (λ (t : List (List ℕ)). AllZip SpellsNetwork t (take n new)) (sym front) (subst (AllZip SpellsNetwork so_far.done) (sym same) so_far.said)
 
   -- a line that was read
   pub one_more : (new : List CValue) (code : ℕ) → code ≡ 0 → IsLineRead line n out new code → AreSoFar text behind more old (n + 1) new
@@ -83,7 +83,8 @@ module _ (text rest : List ℕ) (old : List CValue) (n : ℕ) (out : List CValue
         count = omega (arith, so_far.count, length-append so_far.done (line ∷ []));
         fits = omega (arith, same, fits);
         kept = same ∙ so_far.kept;
-        said = subst (AllZip Says (so_far.done ++ line ∷ [])) (sym (ap (take (n + 1)) is ∙ take_more_set out n value fits)) (says_more so_far.done (take n out) line value so_far.said (read.value ok));
+        said = subst (AllZip SpellsNetwork (so_far.done ++ line ∷ [])) (sym (ap (take (n + 1)) is ∙ take_more_set out n value fits))
+            (says_more so_far.done (take n out) line value so_far.said (read.value ok));
         behind =
             ap (drop (n + 1)) is ∙ (drop-set-lt (n + 1) out n value (omega arith)
             ∙ (sym (drop-drop 1 n out) ∙ (ap (drop 1) so_far.behind ∙ drop-drop 1 n old)));
@@ -117,10 +118,10 @@ module _ (text rest : List ℕ) (old : List CValue) (n : ℕ) (out : List CValue
 pub all_read : (text rest : List ℕ) (old : List CValue) (n : ℕ) (out : List CValue) → AreSoFar text rest false old n out
     → AreLinesRead text old out n 0
 all_read text rest old n out so_far =
-    let all : lines_of text ≡ so_far.done = so_far.split ∙ append-nil so_far.done in
+    let all : lines_between_feeds text ≡ so_far.done = so_far.split ∙ append-nil so_far.done in
     record {
       fits = omega (arith, so_far.fits, so_far.kept);
-      said = subst (λ (t : List (List ℕ)). AllZip Says t (take n out))
+      said = subst (λ (t : List (List ℕ)). AllZip SpellsNetwork t (take n out))
           (sym (ap (take n) all ∙ (ap (λ (k : ℕ). take k so_far.done) so_far.count ∙ take-length so_far.done))) so_far.said;
       behind = so_far.behind;
       all = λ _. rw all so_far.count;
@@ -173,28 +174,28 @@ line_put at out ys text same fits =
     )
 
 line_more : (values : List CValue) (i : ℕ) (d : CValue) → i < length values
-    → lines_in (take (i + 1) values) ≡ lines_in (take i values) ++ (any_network_text plain_text (network_in (get_or values i d)) ++ 10 ∷ [])
+    → printed_lines (take (i + 1) values) ≡ printed_lines (take i values) ++ (any_network_text plain_text (network_in (get_or values i d)) ++ 10 ∷ [])
 line_more values i d lt =
     let f : CValue → List ℕ = λ v. any_network_text plain_text (network_in v) ++ 10 ∷ [] in
-    ap lines_in (take_more values i d lt) ∙ (flat_map-append f (take i values) (get_or values i d ∷ [])
-    ∙ ap (λ (t : List ℕ). lines_in (take i values) ++ t) (append-nil (f (get_or values i d))))
+    ap printed_lines (take_more values i d lt) ∙ (flat_map-append f (take i values) (get_or values i d ∷ [])
+    ∙ ap (λ (t : List ℕ). printed_lines (take i values) ++ t) (append-nil (f (get_or values i d))))
 
 -- a value more that is no network
-pub no_network_more : (values : List CValue) (i : ℕ) (d : CValue) → i < length values → ¬ (IsNetwork (get_or values i d))
-    → ¬ (AreNetworks (take (i + 1) values))
+pub no_network_more : (values : List CValue) (i : ℕ) (d : CValue) → i < length values → ¬ (IsNetworkValue (get_or values i d))
+    → ¬ (AreNetworkValues (take (i + 1) values))
 no_network_more values i d lt none all =
     let size : length (take (i + 1) values) ≡ i + 1 = length-take-le (i + 1) values (omega (arith, lt)) in
-    none (subst IsNetwork (get_or-take (i + 1) values i d (omega arith)) (all i d (omega (arith, size))))
+    none (subst IsNetworkValue (get_or-take (i + 1) values i d (omega arith)) (all i d (omega (arith, size))))
 
-module _ (values : List CValue) (i end : ℕ) (out : List ℕ) (within : end ≤ length out) (so_far : take end out ≡ lines_in (take i values)) where
+module _ (values : List CValue) (i end : ℕ) (out : List ℕ) (within : end ≤ length out) (so_far : take end out ≡ printed_lines (take i values)) where
   -- the lines that are printed have room
-  pub lines_fit : length (lines_in (take i values)) ≤ length out
+  pub lines_fit : length (printed_lines (take i values)) ≤ length out
   lines_fit = omega (arith, length-take-le end out within, ap length so_far, within)
 
   -- one line more has none
-  pub line_over : (d : CValue) (text : List ℕ) → i < length values → AreNetworks (take i values) → IsNetwork (get_or values i d)
+  pub line_over : (d : CValue) (text : List ℕ) → i < length values → AreNetworkValues (take i values) → IsNetworkValue (get_or values i d)
       → text ≡ any_network_text plain_text (network_in (get_or values i d)) → length out ≤ end + length text
-      → AreNetworks (take (i + 1) values) × (length out < length (lines_in (take (i + 1) values)))
+      → AreNetworkValues (take (i + 1) values) × (length out < length (printed_lines (take (i + 1) values)))
   line_over d text lt fine here is past =
       let line : List ℕ = any_network_text plain_text (network_in (get_or values i d)) in (
         (networks_more values i d (map network_in (take i values)) lt fine refl here).0,
@@ -205,17 +206,17 @@ module _ (values : List CValue) (i end : ℕ) (out : List ℕ) (within : end ≤
           ap length so_far,
           ap length is,
           ap length (line_more values i d lt),
-          length-append (lines_in (take i values)) (line ++ 10 ∷ []),
+          length-append (printed_lines (take i values)) (line ++ 10 ∷ []),
           length-append line (10 ∷ []),
         ),
       )
 
 -- one line more
 pub line_printed : (values : List CValue) (i : ℕ) (d : CValue) (text out new : List ℕ) (end next : ℕ) → i < length values
-    → AreNetworks (take i values) → take end out ≡ lines_in (take i values)
-    → IsNetwork (get_or values i d) → text ≡ any_network_text plain_text (network_in (get_or values i d))
+    → AreNetworkValues (take i values) → take end out ≡ printed_lines (take i values)
+    → IsNetworkValue (get_or values i d) → text ≡ any_network_text plain_text (network_in (get_or values i d))
     → (next ≤ length new) × (take next new ≡ take end out ++ (text ++ 10 ∷ []))
-    → (next ≤ length new) × AreNetworks (take (i + 1) values) × (take next new ≡ lines_in (take (i + 1) values))
+    → (next ≤ length new) × AreNetworkValues (take (i + 1) values) × (take next new ≡ printed_lines (take (i + 1) values))
 line_printed values i d text out new end next lt fine so_far here is put =
     let more = networks_more values i d (map network_in (take i values)) lt fine refl here in
-    (put.0, more.0, put.1 ∙ (ap (λ (t : List ℕ). t ++ (text ++ 10 ∷ [])) so_far ∙ (ap (λ (t : List ℕ). lines_in (take i values) ++ (t ++ 10 ∷ [])) is ∙ sym (line_more values i d lt))))
+    (put.0, more.0, put.1 ∙ (ap (λ (t : List ℕ). t ++ (text ++ 10 ∷ [])) so_far ∙ (ap (λ (t : List ℕ). printed_lines (take i values) ++ (t ++ 10 ∷ [])) is ∙ sym (line_more values i d lt))))

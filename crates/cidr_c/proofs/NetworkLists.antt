@@ -8,21 +8,21 @@ use Rattle.cidr.specs.either.IpNetwork.{any_bits}
 use Rattle.cidr.specs.declared.cidr.any.AnyIpCidr.{AnyIpCidr}
 use Rattle.cidr_table.specs.Cover.{Covers}
 use Rattle.cidr_sets.specs.Sets.{IsSetOf, IsUnion, IsIntersection, IsDifference, IsSymmetricDifference}
-use Rattle.cidr_c.specs.Batches.{AreNetworks, bits_in, IsLeft, IsPut, IsDelivered}
-use Rattle.cidr_c.specs.Values.{IsNetwork, network_in}
+use Rattle.cidr_c.specs.Batches.{AreNetworkValues, bits_in, IsLeft, IsPutInRoom, IsDelivered}
+use Rattle.cidr_c.specs.Values.{IsNetworkValue, network_in}
 use Rattle.cidr_c.specs.declared.values.CValue.{CValue}
 
-only_one : (v : CValue) → IsNetwork v → AreNetworks (v ∷ [])
+only_one : (v : CValue) → IsNetworkValue v → AreNetworkValues (v ∷ [])
 only_one v h zero d lt = h
 only_one v h (suc k) d lt = absurd (omega (arith, lt))
 
 -- one network more
 pub networks_more : (vs : List CValue) (i : ℕ) (d : CValue) (ns : List AnyIpCidr) → i < length vs
-    → AreNetworks (take i vs) → ns ≡ map network_in (take i vs) → IsNetwork (get_or vs i d)
-    → AreNetworks (take (i + 1) vs) × (ns ++ network_in (get_or vs i d) ∷ [] ≡ map network_in (take (i + 1) vs))
+    → AreNetworkValues (take i vs) → ns ≡ map network_in (take i vs) → IsNetworkValue (get_or vs i d)
+    → AreNetworkValues (take (i + 1) vs) × (ns ++ network_in (get_or vs i d) ∷ [] ≡ map network_in (take (i + 1) vs))
 networks_more vs i d ns h fine same here =
     let e = take_more vs i d h in (
-      rw e (All-append IsNetwork (take i vs) (get_or vs i d ∷ []) fine (only_one (get_or vs i d) here)),
+      rw e (All-append IsNetworkValue (take i vs) (get_or vs i d ∷ []) fine (only_one (get_or vs i d) here)),
       rw (e, map-append network_in (take i vs) (get_or vs i d ∷ []), same) refl,
     )
 
@@ -30,15 +30,15 @@ networks_more vs i d ns h fine same here =
 pub bits_of : (vs : List CValue) (ns : List AnyIpCidr) → ns ≡ map network_in vs → map any_bits ns ≡ bits_in vs
 bits_of vs ns e = ap (map any_bits) e ∙ map-map any_bits network_in vs
 
-pub set_read : (vs : List CValue) (ns set : List AnyIpCidr) → AreNetworks vs → ns ≡ map network_in vs
+pub set_read : (vs : List CValue) (ns set : List AnyIpCidr) → AreNetworkValues vs → ns ≡ map network_in vs
     → IsSetOf 129 (Covers (map any_bits ns)) (map any_bits set) → length set ≤ length ns
-    → AreNetworks vs × IsSetOf 129 (Covers (bits_in vs)) (map any_bits set) × (length set ≤ length vs)
+    → AreNetworkValues vs × IsSetOf 129 (Covers (bits_in vs)) (map any_bits set) × (length set ≤ length vs)
 set_read vs ns set fine e is_set fits = (fine, rw (← bits_of vs ns e) is_set, rw (← (ap length e ∙ length-map vs network_in)) fits)
 
 -- what is put is what the set has
 pub left : (old new : List CValue) (set shown : List AnyIpCidr) (count n : ℕ) → shown ≡ set → n ≡ length set
-    → AreNetworks old × IsSetOf 129 (Covers (bits_in old)) (map any_bits set) × (length set ≤ length old)
-    → AreNetworks (take (length shown) new) → map network_in (take (length shown) new) ≡ shown
+    → AreNetworkValues old × IsSetOf 129 (Covers (bits_in old)) (map any_bits set) × (length set ≤ length old)
+    → AreNetworkValues (take (length shown) new) → map network_in (take (length shown) new) ≡ shown
     → drop (length shown) new ≡ drop (length shown) old → IsLeft (IsSetOf 129 (Covers (bits_in old))) old new count n 0
 left old new set shown count n same is read fine put behind = record {
   networks = λ _. read.0;
@@ -108,9 +108,9 @@ if_ok P Q (Err e) more h = h
 
 -- a set of two lists, in the caller's room
 pub delivered : {E : Type 0} (these those : List CValue) (Holds : List (List Bool) → Type 0) (r : Result (List AnyIpCidr) E)
-    (old new : List CValue) (count n code : ℕ) → AreNetworks these × AreNetworks those
+    (old new : List CValue) (count n code : ℕ) → AreNetworkValues these × AreNetworkValues those
     → IfOk r (λ set. Holds (map any_bits set)) → IsDelivered r old new count n code
-    → IsPut these those Holds old new count n code
+    → IsPutInRoom these those Holds old new count n code
 delivered these those Holds (Ok set) old new count n code fine holds (inl done) = record {
   networks = λ _. fine;
   fits = λ _. rw done.1 done.2;

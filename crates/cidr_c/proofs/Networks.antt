@@ -6,11 +6,11 @@ use Rattle.cidr.specs.model.Bits.{bits}
 use Rattle.cidr.specs.model.Network.{BeginsWith, width_of, zeros, network_from}
 use Rattle.cidr.specs.either.IpNetwork.{any_bits}
 use Rattle.cidr.specs.declared.cidr.any.AnyIpCidr.{AnyIpCidr}
-use Rattle.cidr_c.specs.Calls.{IsAnswer}
+use Rattle.cidr_c.specs.Calls.{IsYesOrNo}
 use Rattle.cidr.specs.declared.family.Family.{Family}
 use Rattle.cidr.specs.declared.errors.NetworkParseError.{NetworkParseError}
 use Rattle.cidr.specs.declared.cidr.any.AnyIpCidr.TheVariants.{V4, V6}
-use Rattle.cidr_c.specs.Values.{number_in, IsLow, IsNetwork, network_in}
+use Rattle.cidr_c.specs.Values.{number_in, IsLow, IsNetworkValue, network_in}
 use Rattle.cidr_c.specs.declared.values.CValue.{CValue}
 
 -- no bit of the address after the prefix is set
@@ -32,36 +32,36 @@ pub ipv6_in_value : (v : CValue) → v.tag < 255 → 64 ≤ v.tag → network_in
 ipv6_in_value v any h = grind (arith, nat_tests)
 
 pub ipv4_network : (v : CValue) (a p : List Bool) → v.tag < 64 → IsLow v → a ≡ bits 32 v.low
-    → IsFirst 32 v.tag a × (p ≡ take v.tag a) → IsNetwork v × (V4 p ≡ network_in v)
+    → IsFirst 32 v.tag a × (p ≡ take v.tag a) → IsNetworkValue v × (V4 p ≡ network_in v)
 ipv4_network v a p h low e made =
     let bare = rw e at made in
     (inr (inl ((bare.0.0, low), bare.0.1)), rw (ipv4_in_value v h) (ap V4 bare.1))
 
-pub no_ipv4 : (v : CValue) (a : List Bool) → v.tag < 64 → a ≡ bits 32 v.low → (IsFirst 32 v.tag a → ⊥) → IsNetwork v → ⊥
+pub no_ipv4 : (v : CValue) (a : List Bool) → v.tag < 64 → a ≡ bits 32 v.low → (IsFirst 32 v.tag a → ⊥) → IsNetworkValue v → ⊥
 no_ipv4 v a h e none (inl any) = omega (arith, any.0)
 no_ipv4 v a h e none (inr (inl low)) = none (low.0.0, rw e low.1)
 no_ipv4 v a h e none (inr (inr high)) = omega (arith, high.0.0)
 
 pub ipv6_network : (v : CValue) (a p : List Bool) → v.tag ≢ 255 → 64 ≤ v.tag → a ≡ bits 128 (number_in v)
-    → IsFirst 128 (v.tag - 64) a × (p ≡ take (v.tag - 64) a) → IsNetwork v × (V6 p ≡ network_in v)
+    → IsFirst 128 (v.tag - 64) a × (p ≡ take (v.tag - 64) a) → IsNetworkValue v × (V6 p ≡ network_in v)
 ipv6_network v a p any h e made =
     let bare = rw e at made in
     let fits : v.tag ≤ 192 = omega (arith, bare.0.0) in
     (inr (inr ((h, fits), bare.0.1)), rw (ipv6_in_value v (omega arith) h) (ap V6 bare.1))
 
 pub no_ipv6 : (v : CValue) (a : List Bool) → v.tag ≢ 255 → 64 ≤ v.tag → a ≡ bits 128 (number_in v)
-    → (IsFirst 128 (v.tag - 64) a → ⊥) → IsNetwork v → ⊥
+    → (IsFirst 128 (v.tag - 64) a → ⊥) → IsNetworkValue v → ⊥
 no_ipv6 v a any h e none (inl whole) = any whole.0
 no_ipv6 v a any h e none (inr (inl low)) = omega (arith, low.0.0)
 no_ipv6 v a any h e none (inr (inr high)) =
     let fits : v.tag - 64 ≤ 128 = omega (arith, high.0.1) in
     none (fits, rw e high.1)
 
-pub contained : (v w : CValue) (n m : AnyIpCidr) (code : ℕ) → IsNetwork v × (n ≡ network_in v) → IsNetwork w × (m ≡ network_in w)
-    → IsAnswer code (BeginsWith (any_bits m) (any_bits n))
-    → IsAnswer code (IsNetwork v × IsNetwork w × BeginsWith (any_bits (network_in w)) (any_bits (network_in v)))
+pub contained : (v w : CValue) (n m : AnyIpCidr) (code : ℕ) → IsNetworkValue v × (n ≡ network_in v) → IsNetworkValue w × (m ≡ network_in w)
+    → IsYesOrNo code (BeginsWith (any_bits m) (any_bits n))
+    → IsYesOrNo code (IsNetworkValue v × IsNetworkValue w × BeginsWith (any_bits (network_in w)) (any_bits (network_in v)))
 contained v w n m code one other is =
-    let told : IsAnswer code (BeginsWith (any_bits (network_in w)) (any_bits (network_in v))) =
-    subst (λ x. IsAnswer code (BeginsWith (any_bits x) (any_bits (network_in v)))) other.1
-    (subst (λ x. IsAnswer code (BeginsWith (any_bits m) (any_bits x))) one.1 is) in
+    let told : IsYesOrNo code (BeginsWith (any_bits (network_in w)) (any_bits (network_in v))) =
+    subst (λ x. IsYesOrNo code (BeginsWith (any_bits x) (any_bits (network_in v)))) other.1
+    (subst (λ x. IsYesOrNo code (BeginsWith (any_bits m) (any_bits x))) one.1 is) in
     (told.0, (λ is_one. (one.0, other.0, told.1.0 is_one), λ all. told.1.1 all.2))

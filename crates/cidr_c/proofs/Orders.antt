@@ -14,7 +14,7 @@ use Rattle.cidr.specs.either.IpAddress.{ip_address_bits}
 use Rattle.cidr.specs.either.IpHost.{host_address, host_parts}
 use Rattle.cidr_c.specs.Codes.{order_code}
 use Rattle.cidr_c.specs.Orders.{IsCompared, IsTotal, field_order, host_value_order, network_order}
-use Rattle.cidr_c.specs.Values.{IsHost, IsNetwork, host_in, network_in}
+use Rattle.cidr_c.specs.Values.{IsHostValue, IsNetworkValue, host_in, network_in}
 use Rattle.cidr_c.specs.declared.values.CValue.{CValue}
 
 network_order_total : IsTotalOrder network_order
@@ -91,11 +91,11 @@ module _ (IsValue : CValue → Type 0) (order : CValue → CValue → Ordering) 
     ];
   }
 
-pub networks_total : IsTotal (IsCompared IsNetwork network_order)
-networks_total = compared_total IsNetwork network_order network_order_total
+pub networks_total : IsTotal (IsCompared IsNetworkValue network_order)
+networks_total = compared_total IsNetworkValue network_order network_order_total
 
-pub hosts_total : IsTotal (IsCompared IsHost host_value_order)
-hosts_total = compared_total IsHost host_value_order host_value_order_total
+pub hosts_total : IsTotal (IsCompared IsHostValue host_value_order)
+hosts_total = compared_total IsHostValue host_value_order host_value_order_total
 
 -- ---- what a comparison shows, by which of the two values the call takes
 module _ {IsValue : CValue → Type 0} {order : CValue → CValue → Ordering} (one other : CValue) (code : ℕ) where
@@ -134,8 +134,8 @@ module _ {IsValue : CValue → Type 0} {order : CValue → CValue → Ordering} 
 
 pub ruleset comparisons = (both_taken, first_taken, second_taken, none_taken)
 
-pub networks_compared : (v w : CValue) (n m : AnyIpCidr) (code : ℕ) → IsNetwork v × (n ≡ network_in v) → IsNetwork w × (m ≡ network_in w)
-    → code ≡ order_code (bit_cmp (any_bits n) (any_bits m)) → IsCompared IsNetwork network_order v w code
+pub networks_compared : (v w : CValue) (n m : AnyIpCidr) (code : ℕ) → IsNetworkValue v × (n ≡ network_in v) → IsNetworkValue w × (m ≡ network_in w)
+    → code ≡ order_code (bit_cmp (any_bits n) (any_bits m)) → IsCompared IsNetworkValue network_order v w code
 networks_compared v w n m code one other is =
     both_taken v w code one.0 other.0 (is ∙ ap₂ (λ a b. order_code (bit_cmp (any_bits a) (any_bits b))) one.1 other.1)
 

@@ -2,14 +2,14 @@
 use Rattle.std.proofs.Common.{◌≡◌, ℕ, ◌+◌, ◌<◌, List, [], ◌∷◌, ◌++◌, length, map, take, get_or, set, inl, inr, sym, ap, ap₂, ◌∙◌, arith, subst}
 use Rattle.std.proofs.lemmas.Bool.{cases_eq}
 use Rattle.std.proofs.lemmas.List.{take_more, map-append, get_or-map, get_or-set_same, get_or-set_other}
-use Rattle.cidr_arrays.specs.Arrays.{networks_of}
+use Rattle.cidr_arrays.specs.Arrays.{key_networks}
 use Rattle.cidr_arrays.specs.declared.key.Key.{Key}
 use Rattle.cidr_c.specs.declared.values.CValue.{CValue}
 
 -- one key more
 pub keys_more : {A : Type 0} (value : A → ℕ) (pair : CValue → ℕ × ℕ) (vs : List CValue) (i : ℕ) (d : CValue) (keys : List (Key A)) (key : Key A)
-    → i < length vs → networks_of value keys ≡ map pair (take i vs) → value key.address ≡ (pair (get_or vs i d)).0
-    → key.len ≡ (pair (get_or vs i d)).1 → networks_of value (keys ++ key ∷ []) ≡ map pair (take (i + 1) vs)
+    → i < length vs → key_networks value keys ≡ map pair (take i vs) → value key.address ≡ (pair (get_or vs i d)).0
+    → key.len ≡ (pair (get_or vs i d)).1 → key_networks value (keys ++ key ∷ []) ≡ map pair (take (i + 1) vs)
 keys_more {A} value pair vs i d keys key h same address len =
     let one : (value key.address, key.len) ≡ pair (get_or vs i d) = ap₂ (λ (a b : ℕ). (a, b)) address len in
     map-append (λ (k : Key A). (value k.address, k.len)) keys (key ∷ [])

@@ -5,12 +5,12 @@ use Rattle.cidr.specs.declared.cidr.any.AnyIpCidr.{AnyIpCidr}
 use Rattle.cidr_table.specs.Cover.{Covers}
 use Rattle.cidr_sets.specs.Sets.{IsSetOf}
 use Rattle.cidr_c.specs.Codes.{no_memory, no_room, no_value}
-use Rattle.cidr_c.specs.Values.{IsNetwork, network_in}
+use Rattle.cidr_c.specs.Values.{IsNetworkValue, network_in}
 use Rattle.cidr_c.specs.declared.values.CValue.{CValue}
 
 -- each value is a network
-abbrev pub AreNetworks : List CValue → Type 0
-AreNetworks values = All IsNetwork values
+abbrev pub AreNetworkValues : List CValue → Type 0
+AreNetworkValues values = All IsNetworkValue values
 
 -- the networks that they are, by their bits
 abbrev pub bits_in : List CValue → List (List Bool)
@@ -19,25 +19,25 @@ bits_in values = map (λ v. any_bits (network_in v)) values
 -- what is left of the caller's networks: the first `count` of them are networks for which Holds is true, and what is
 -- behind them stays; or there is an error, and all is as it was
 pub record IsLeft (Holds : List (List Bool) → Type 0) (old new : List CValue) (count count_new : ℕ) (code : ℕ) : Type 0 where
-  pub networks : code ≡ 0 → AreNetworks old
+  pub networks : code ≡ 0 → AreNetworkValues old
   pub fits : code ≡ 0 → count_new ≤ length old
-  pub left : code ≡ 0 → AreNetworks (take count_new new)
+  pub left : code ≡ 0 → AreNetworkValues (take count_new new)
   pub holds : code ≡ 0 → Holds (bits_in (take count_new new))
   pub behind : code ≡ 0 → drop count_new new ≡ drop count_new old
-  pub value : code ≡ no_value → ¬ (AreNetworks old)
+  pub value : code ≡ no_value → ¬ (AreNetworkValues old)
   pub codes : (code ≡ 0) ⊎ ((code ≡ no_value) ⊎ (code ≡ no_memory))
   pub stays : code ≢ 0 → (new ≡ old) × (count_new ≡ count)
 
 -- the set of two lists of networks in the caller's room, of which the first `count` are networks for which Holds is true;
 -- and what is behind them stays; or there is an error, and the room is as it was. Where there is too little of it, the
 -- count tells how many networks the set has
-pub record IsPut (these those : List CValue) (Holds : List (List Bool) → Type 0) (old new : List CValue) (count count_new : ℕ)
+pub record IsPutInRoom (these those : List CValue) (Holds : List (List Bool) → Type 0) (old new : List CValue) (count count_new : ℕ)
     (code : ℕ) : Type 0 where
-  pub networks : code ≡ 0 → AreNetworks these × AreNetworks those
+  pub networks : code ≡ 0 → AreNetworkValues these × AreNetworkValues those
   pub fits : code ≡ 0 → count_new ≤ length old
-  pub left : code ≡ 0 → AreNetworks (take count_new new)
+  pub left : code ≡ 0 → AreNetworkValues (take count_new new)
   pub holds : code ≡ 0 → Holds (bits_in (take count_new new))
-  pub value : code ≡ no_value → ¬ (AreNetworks these × AreNetworks those)
+  pub value : code ≡ no_value → ¬ (AreNetworkValues these × AreNetworkValues those)
   pub behind : code ≡ 0 → drop count_new new ≡ drop count_new old
   pub room : code ≡ no_room → (length old < count_new) × (set : List (List Bool)) × Holds set × (count_new ≡ length set)
   pub codes : (code ≡ 0) ⊎ ((code ≡ no_value) ⊎ ((code ≡ no_room) ⊎ (code ≡ no_memory)))
@@ -47,18 +47,18 @@ pub record IsPut (these those : List CValue) (Holds : List (List Bool) → Type 
 -- the set of the addresses of some values that are networks, or the number of the error
 abbrev pub IsSetRead : List CValue → Result (List AnyIpCidr) ℕ → Type 0
 IsSetRead values (Ok set) =
-    AreNetworks values × IsSetOf 129 (Covers (bits_in values)) (map any_bits set) × (length set ≤ length values)
-IsSetRead values (Err code) = ((code ≡ no_value) × ¬ (AreNetworks values)) ⊎ (code ≡ no_memory)
+    AreNetworkValues values × IsSetOf 129 (Covers (bits_in values)) (map any_bits set) × (length set ≤ length values)
+IsSetRead values (Err code) = ((code ≡ no_value) × ¬ (AreNetworkValues values)) ⊎ (code ≡ no_memory)
 
 -- the same of two lists
 abbrev pub AreSetsRead : List CValue → List CValue → Result (List AnyIpCidr × List AnyIpCidr) ℕ → Type 0
 AreSetsRead these those (Ok (one, other)) = IsSetRead these (Ok one) × IsSetRead those (Ok other)
-AreSetsRead these those (Err code) = ((code ≡ no_value) × ¬ (AreNetworks these × AreNetworks those)) ⊎ (code ≡ no_memory)
+AreSetsRead these those (Err code) = ((code ≡ no_value) × ¬ (AreNetworkValues these × AreNetworkValues those)) ⊎ (code ≡ no_memory)
 
 -- a set in the caller's room, or the number of the error
 abbrev pub IsDelivered : {E : Type 0} → Result (List AnyIpCidr) E → List CValue → List CValue → ℕ → ℕ → ℕ → Type 0
 IsDelivered (Ok set) old new count count_new code =
-    ((code ≡ 0) × (count_new ≡ length set) × (length set ≤ length old) × AreNetworks (take count_new new)
+    ((code ≡ 0) × (count_new ≡ length set) × (length set ≤ length old) × AreNetworkValues (take count_new new)
     × (map network_in (take count_new new) ≡ set) × (drop count_new new ≡ drop count_new old))
     ⊎ ((code ≡ no_room) × (count_new ≡ length set) × (length old < length set) × (new ≡ old))
 IsDelivered (Err e) old new count count_new code = (code ≡ no_memory) × (new ≡ old) × (count_new ≡ count)

@@ -15,13 +15,13 @@ pub record IsRead {A E : Type 0} (Reads : List ℕ → Result A E → Type 0) (c
 
 -- printing a string: its length is returned, and where the room has more bytes than that, it is there with a 0 behind;
 -- else the room stays as it was
-pub record IsPrinted (text old new : List ℕ) (len : ℕ) : Type 0 where
+pub record IsPrintedInto (text old new : List ℕ) (len : ℕ) : Type 0 where
   pub count : len ≡ length text
   pub fits : length text < length old → new ≡ text ++ (0 ∷ drop (suc (length text)) old)
   pub cut : length old ≤ length text → new ≡ old
 
 -- the same for bytes, with no 0 behind
-pub record IsWritten (bytes old new : List ℕ) (len : ℕ) : Type 0 where
+pub record IsWrittenInto (bytes old new : List ℕ) (len : ℕ) : Type 0 where
   pub count : len ≡ length bytes
   pub fits : length bytes ≤ length old → new ≡ bytes ++ drop (length bytes) old
   pub cut : length old < length bytes → new ≡ old
@@ -31,7 +31,7 @@ abbrev pub IsUnprinted : List ℕ → List ℕ → ℕ → Type 0
 IsUnprinted old new len = (len ≡ 0) × (new ≡ old)
 
 -- making a value of another: 0 and the value; or the number of the error, and then the value that was there stays
-pub record IsMade {A : Type 0} (IsTaken : Type 0) (IsValue : CValue → Type 0) (value_in : CValue → A) (a : A)
+pub record IsConverted {A : Type 0} (IsTaken : Type 0) (IsValue : CValue → Type 0) (value_in : CValue → A) (a : A)
     (old new : CValue) (code : ℕ) : Type 0 where
   pub made : IsTaken → (code ≡ 0) × IsValue new × (value_in new ≡ a)
   pub refused : ¬ IsTaken → (code ≡ no_value) × (new ≡ old)
@@ -52,5 +52,5 @@ pub record IsReadBytes {A : Type 0} (Reads : List ℕ → Result (A × ℕ) Comp
   pub stays : code ≢ 0 → (new ≡ old) × (used_new ≡ used)
 
 -- 1 for yes and 0 for no
-abbrev pub IsAnswer : ℕ → Type 0 → Type 0
-IsAnswer code Holds = (code ≤ 1) × ((code ≡ 1) ↔ Holds)
+abbrev pub IsYesOrNo : ℕ → Type 0 → Type 0
+IsYesOrNo code Holds = (code ≤ 1) × ((code ≡ 1) ↔ Holds)

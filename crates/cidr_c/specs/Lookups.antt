@@ -6,34 +6,34 @@ use Rattle.cidr_table.specs.Cover.{IsFull}
 use Rattle.cidr_table.specs.LastRows.{AreLastRows}
 use Rattle.cidr_table.specs.Loading.{placed}
 use Rattle.cidr_table.specs.Prefixes.{IsLongestAt, IsLongestMatch, IsLookedUp}
-use Rattle.cidr_c.specs.Batches.{AreNetworks, bits_in}
-use Rattle.cidr_c.specs.Calls.{IsAnswer}
+use Rattle.cidr_c.specs.Batches.{AreNetworkValues, bits_in}
+use Rattle.cidr_c.specs.Calls.{IsYesOrNo}
 use Rattle.cidr_c.specs.Codes.{no_memory, no_room, no_value}
-use Rattle.cidr_c.specs.Values.{IsNetwork, network_in}
+use Rattle.cidr_c.specs.Values.{IsNetworkValue, network_in}
 use Rattle.cidr_c.specs.declared.values.CValue.{CValue}
 
 -- for each of the asked values, which is a network, its answer stands at the same index
 abbrev pub AreAnswered : (AnyIpCidr → ℕ → Type 0) → List CValue → List ℕ → Type 0
 AreAnswered Answers asked out =
     (i : ℕ) (v : CValue) → slice_get asked i ≡ Some v
-    → IsNetwork v × (answer : ℕ) × (slice_get out i ≡ Some answer) × Answers (network_in v) answer
+    → IsNetworkValue v × (answer : ℕ) × (slice_get out i ≡ Some answer) × Answers (network_in v) answer
 
 -- where there is no error, each asked value has its answer; when each error comes: first for a value that is no network,
 -- then for too little room, then for an asked value; nothing is written but for the last; and what is behind the answers
 -- stays
 pub record AreAllAnswered (Answers : AnyIpCidr → ℕ → Type 0) (values asked : List CValue) (old out : List ℕ) (code : ℕ) : Type 0 where
-  pub networks : code ≡ 0 → AreNetworks values
+  pub networks : code ≡ 0 → AreNetworkValues values
   pub answers : code ≡ 0 → AreAnswered Answers asked out
-  pub value : code ≡ no_value → ¬ (AreNetworks values) ⊎ ((length asked ≤ length out) × ¬ (AreNetworks asked))
-  pub room : code ≡ no_room → AreNetworks values × (length out < length asked)
+  pub value : code ≡ no_value → ¬ (AreNetworkValues values) ⊎ ((length asked ≤ length out) × ¬ (AreNetworkValues asked))
+  pub room : code ≡ no_room → AreNetworkValues values × (length out < length asked)
   pub codes : (code ≡ 0) ⊎ ((code ≡ no_value) ⊎ ((code ≡ no_room) ⊎ (code ≡ no_memory)))
   pub behind : drop (length asked) out ≡ drop (length asked) old
   pub stays : (code ≡ no_room) ⊎ (code ≡ no_memory) → out ≡ old
-  pub refused : ¬ (AreNetworks values) → out ≡ old
+  pub refused : ¬ (AreNetworkValues values) → out ≡ old
 
 -- each answer is whether all addresses of the asked network are in the networks
 abbrev pub AreContained : List CValue → List CValue → List ℕ → List ℕ → ℕ → Type 0
-AreContained values = AreAllAnswered (λ n answer. IsAnswer answer (IsFull 129 (bits_in values) (any_bits n))) values
+AreContained values = AreAllAnswered (λ n answer. IsYesOrNo answer (IsFull 129 (bits_in values) (any_bits n))) values
 
 -- the index that stands for none
 abbrev pub no_index : ℕ

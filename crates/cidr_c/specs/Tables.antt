@@ -2,7 +2,7 @@
 use Rattle.std.specs.Prelude.{◌≡◌, ◌≢◌, ◌⊎◌, ℕ, ◌+◌, ◌-◌, ◌*◌, ◌^◌, ◌<◌, ◌≤◌, ◌==◌, nat_lt, if◌then◌else◌, List, drop, length, map, slice_index_or, take, Some, None}
 use Rattle.cidr.specs.model.Bits.{bits}
 use Rattle.cidr_table.specs.Prefixes.{IsLongestMatch}
-use Rattle.cidr_arrays.specs.Arrays.{AreNetworks, IsFirstRefused, Represents, network_bits}
+use Rattle.cidr_arrays.specs.Arrays.{AreAscendingNetworks, IsFirstRefused, Represents, prefix_bits}
 use Rattle.cidr_arrays.specs.Faults.{IsFault}
 use Rattle.cidr_arrays.specs.declared.checking.Fault.{Fault}
 use Rattle.cidr_arrays.specs.declared.checking.Fault.TheVariants.{TooMany, Counts, Shift, Refused, Range, Entry}
@@ -42,7 +42,7 @@ pub record IsBuilt {A : Type 0} (w : ℕ) (value : A → ℕ) (networks : List (
   pub shifted : code ≡ wrong_shift → (length networks < 2 ^ 31) × (w ≤ shift)
   pub refused : code ≡ no_value → (length networks < 2 ^ 31) × (shift < w) × IsFirstRefused w networks (Some count_new)
   pub room : code ≡ no_room → (length networks < 2 ^ 31) × (shift < w)
-      × AreNetworks w networks × (count_new ≡ room_of (length networks)) × ((length starts < count_new) ⊎ (length answers < count_new))
+      × AreAscendingNetworks w networks × (count_new ≡ room_of (length networks)) × ((length starts < count_new) ⊎ (length answers < count_new))
   pub codes : (code ≡ 0) ⊎ ((code ≡ too_many) ⊎ ((code ≡ wrong_shift) ⊎ ((code ≡ no_memory) ⊎ ((code ≡ no_value) ⊎ (code ≡ no_room)))))
   pub stays : (code ≡ too_many) ⊎ ((code ≡ wrong_shift) ⊎ (code ≡ no_memory))
       → (count_new ≡ count)
@@ -70,12 +70,12 @@ no_row = 2 ^ 32 - 1
 -- the row of the longest match of an address (RFC 1812, 5.2.4.3), or that which stands for none
 abbrev pub IsRow : ℕ → List (ℕ × ℕ) → ℕ → ℕ → Type 0
 IsRow w networks address row =
-    IsLongestMatch (network_bits w) (bits w address) networks (Some row)
-    ⊎ ((row ≡ no_row) × IsLongestMatch (network_bits w) (bits w address) networks None)
+    IsLongestMatch (prefix_bits w) (bits w address) networks (Some row)
+    ⊎ ((row ≡ no_row) × IsLongestMatch (prefix_bits w) (bits w address) networks None)
 
 -- what is found in any arrays: one of the rows, or that which stands for none; and in those of networks the longest match
 -- of an address of the family, and none of any other value
-pub record IsFound (w : ℕ) (starts answers level : List ℕ) (shift rows : ℕ) (asked : ℕ × ℕ) (row : ℕ) : Type 0 where
+pub record IsRowFound (w : ℕ) (starts answers level : List ℕ) (shift rows : ℕ) (asked : ℕ × ℕ) (row : ℕ) : Type 0 where
   pub within : (row < rows) ⊎ (row ≡ no_row)
   pub other : asked.1 ≢ w → row ≡ no_row
   pub longest : asked.1 ≡ w → (networks : List (ℕ × ℕ)) → length networks ≡ rows → Represents w networks starts answers level shift
@@ -85,7 +85,7 @@ pub record IsFound (w : ℕ) (starts answers level : List ℕ) (shift rows : ℕ
 pub record AreFound (w : ℕ) (starts answers level : List ℕ) (shift rows : ℕ) (asked : List (ℕ × ℕ)) (old out : List ℕ) (code : ℕ)
     : Type 0 where
   pub rows_of : code ≡ 0 → (i : ℕ) → i < length asked
-      → IsFound w starts answers level shift rows (slice_index_or asked i (0, 0)) (slice_index_or out i 0)
+      → IsRowFound w starts answers level shift rows (slice_index_or asked i (0, 0)) (slice_index_or out i 0)
   pub behind : drop (length asked) out ≡ drop (length asked) old
   pub room : code ≡ no_room → (length out < length asked) × (out ≡ old)
   pub fits : code ≡ 0 → length asked ≤ length out

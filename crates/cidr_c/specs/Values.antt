@@ -33,8 +33,8 @@ abbrev pub IsIpv6 : CValue → Type 0
 IsIpv6 v = (64 ≤ v.tag) × (v.tag ≤ 192)
 
 -- a host: an address and a prefix length
-abbrev pub IsHost : CValue → Type 0
-IsHost v = IsIpv4 v ⊎ IsIpv6 v
+abbrev pub IsHostValue : CValue → Type 0
+IsHostValue v = IsIpv4 v ⊎ IsIpv6 v
 
 -- the host that such a value is
 abbrev pub host_in : CValue → IpInet
@@ -43,16 +43,16 @@ host_in v =
     else host.V6 (host_of (bits 128 (number_in v)) (v.tag - 64))
 
 -- an address: a host of full prefix length, 32 or 128
-abbrev pub IsAddress : CValue → Type 0
-IsAddress v = ((v.tag ≡ 32) × IsLow v) ⊎ (v.tag ≡ 192)
+abbrev pub IsAddressValue : CValue → Type 0
+IsAddressValue v = ((v.tag ≡ 32) × IsLow v) ⊎ (v.tag ≡ 192)
 
 -- the address that such a value is, or that of a host
 abbrev pub address_in : CValue → IpAddr
 address_in v = if nat_lt v.tag 64 then address.V4 (bits 32 v.low) else address.V6 (bits 128 (number_in v))
 
 -- a network: `Any`, whose tag is 255 and whose halves are zero, or a host with no bit after the prefix set
-abbrev pub IsNetwork : CValue → Type 0
-IsNetwork v =
+abbrev pub IsNetworkValue : CValue → Type 0
+IsNetworkValue v =
     ((v.tag ≡ 255) × (v.high ≡ 0) × (v.low ≡ 0))
     ⊎ ((IsIpv4 v × (drop v.tag (bits 32 v.low) ≡ zeros (32 - v.tag)))
     ⊎ (IsIpv6 v × (drop (v.tag - 64) (bits 128 (number_in v)) ≡ zeros (128 - (v.tag - 64)))))

@@ -1,6 +1,6 @@
 //! Many networks at once.
 ghost use Rattle.std.specs.Prelude.{◌≡◌, ◌⊎◌, ◌≤◌, drop, length, map, take, MatchResult};
-ghost use Rattle.cidr_c.specs.Batches.{AreNetworks};
+ghost use Rattle.cidr_c.specs.Batches.{AreNetworkValues};
 ghost use Rattle.cidr_c.specs.Codes.{no_memory, no_value};
 ghost use Rattle.cidr_c.specs.Values.{network_in};
 
@@ -12,8 +12,8 @@ use std::alloc::Global;
 /// The networks that values are, or the number of the error.
 pub fn networks_of(alloc: Global, values: &[CValue]) -> Result<Vec<AnyIpCidr>, u32>
     ensures { MatchResult result
-        (λ networks. AreNetworks values.now × (networks.items ≡ map network_in values.now))
-        (λ code. ((code ≡ no_value) × ¬ (AreNetworks values.now)) ⊎ (code ≡ no_memory)) }
+        (λ networks. AreNetworkValues values.now × (networks.items ≡ map network_in values.now))
+        (λ code. ((code ≡ no_value) × ¬ (AreNetworkValues values.now)) ⊎ (code ≡ no_memory)) }
 {
     let Ok(mut networks) = Vec::with_capacity(alloc, values.len()) else {
         return Err(NO_MEMORY);
@@ -32,7 +32,7 @@ pub fn networks_of(alloc: Global, values: &[CValue]) -> Result<Vec<AnyIpCidr>, u
 /// Puts networks to the front of a room for values.
 pub fn put(networks: &[AnyIpCidr], out: &mut [CValue])
     requires { length networks.now ≤ length out.old }
-    ensures networks { AreNetworks (take (length networks.now) out.new) }
+    ensures networks { AreNetworkValues (take (length networks.now) out.new) }
     ensures values { map network_in (take (length networks.now) out.new) ≡ networks.now }
     ensures behind { drop (length networks.now) out.new ≡ drop (length networks.now) out.old }
 {

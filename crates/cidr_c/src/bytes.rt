@@ -4,7 +4,7 @@ ghost use Rattle.cidr.specs.bytes.CompactRefusal.{Both, IsAnyBytesRefused, IsHos
 ghost use Rattle.cidr.specs.either.IpHost.{IsIpHost};
 ghost use Rattle.cidr.specs.either.IpNetwork.{IsAnyNetwork};
 ghost use Rattle.cidr_c.specs.Calls.{IsReadBytes};
-ghost use Rattle.cidr_c.specs.Values.{IsHost, IsNetwork, host_in, network_in};
+ghost use Rattle.cidr_c.specs.Values.{IsHostValue, IsNetworkValue, host_in, network_in};
 
 use crate::codes::{OK, compact_code};
 use crate::values::{CValue, put_host, put_network};
@@ -14,7 +14,7 @@ use cidr::{AnyIpCidr, IpInet};
 /// error.
 #[unsafe(no_mangle)]
 pub extern "C" fn pcidr_network_from_bytes(bytes: &[u8], out: &mut CValue, used: &mut usize) -> u32
-    ensures { IsReadBytes (ReadsCompact IsAnyNetwork any_network_bytes IsAnyBytesRefused) IsNetwork network_in
+    ensures { IsReadBytes (ReadsCompact IsAnyNetwork any_network_bytes IsAnyBytesRefused) IsNetworkValue network_in
         bytes.now out.old out.new used.old used.new result }
 {
     match AnyIpCidr::from_compact(bytes) {
@@ -30,7 +30,7 @@ pub extern "C" fn pcidr_network_from_bytes(bytes: &[u8], out: &mut CValue, used:
 /// Reads the host whose compact bytes come first, and how many they are: 0 and both, or the number of the first error.
 #[unsafe(no_mangle)]
 pub extern "C" fn pcidr_host_from_bytes(bytes: &[u8], out: &mut CValue, used: &mut usize) -> u32
-    ensures { IsReadBytes (ReadsCompact IsIpHost ip_host_bytes (IsHostBytesRefused Both)) IsHost host_in
+    ensures { IsReadBytes (ReadsCompact IsIpHost ip_host_bytes (IsHostBytesRefused Both)) IsHostValue host_in
         bytes.now out.old out.new used.old used.new result }
 {
     match IpInet::from_compact(bytes) {

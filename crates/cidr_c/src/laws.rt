@@ -4,13 +4,13 @@ ghost use Rattle.cidr_arrays.specs.declared.word.Halves.{Halves};
 ghost use Rattle.cidr_c.specs.Codes.{no_memory};
 ghost use Rattle.cidr_c.specs.Orders.{IsCompared, IsTotal, host_value_order, network_order};
 ghost use Rattle.cidr_c.specs.Tables.{IsBuilt, IsChecked, ipv4_number, ipv6_number};
-ghost use Rattle.cidr_c.specs.Values.{IsHost, IsNetwork};
+ghost use Rattle.cidr_c.specs.Values.{IsHostValue, IsNetworkValue};
 
 /// What `pcidr_compare` and `pcidr_compare_hosts` return is a total order of all values, whatever their fields are.
 #[tactic(auto, using(crate::proofs::Orders::networks_total, crate::proofs::Orders::hosts_total))]
 fn comparing_is_a_total_order()
-    ensures networks { IsTotal (IsCompared IsNetwork network_order) }
-    ensures hosts { IsTotal (IsCompared IsHost host_value_order) }
+    ensures networks { IsTotal (IsCompared IsNetworkValue network_order) }
+    ensures hosts { IsTotal (IsCompared IsHostValue host_value_order) }
 {}
 
 /// Arrays that were built are accepted, where they are checked with the same networks and there is memory for that.

@@ -3,8 +3,8 @@ ghost use Rattle.std.specs.Prelude.{◌≡◌, ◌⊎◌, map, IfOk, MatchResult
 ghost use Rattle.cidr.specs.either.IpNetwork.{any_bits};
 ghost use Rattle.cidr_table.specs.Cover.{IsFull};
 ghost use Rattle.cidr_table.specs.Loading.{placed};
-ghost use Rattle.cidr_c.specs.Batches.{AreNetworks};
-ghost use Rattle.cidr_c.specs.Calls.{IsAnswer};
+ghost use Rattle.cidr_c.specs.Batches.{AreNetworkValues};
+ghost use Rattle.cidr_c.specs.Calls.{IsYesOrNo};
 ghost use Rattle.cidr_c.specs.Codes.{no_memory, no_value};
 ghost use Rattle.cidr_c.specs.Lookups.{AreContained, AreIndexed, AreMatched, IsRowIndex};
 ghost use Rattle.cidr_c.specs.Values.{network_in};
@@ -49,7 +49,7 @@ pub extern "C" fn pcidr_contains_each(
 
 /// 1 where the set has all addresses of the network, and 0 where not.
 fn held(set: &NetworkSet<AnyIpCidr>, network: &AnyIpCidr) -> u8
-    ensures { IsAnswer result (IsFull 129 (map any_bits set.now) (any_bits network.now)) }
+    ensures { IsYesOrNo result (IsFull 129 (map any_bits set.now) (any_bits network.now)) }
 {
     if set.contains(network) { 1 } else { 0 }
 }
@@ -89,8 +89,8 @@ pub extern "C" fn pcidr_longest_match_each(
 /// The table of networks, each with its last index, or the number of the error.
 fn table_of(alloc: Global, values: &[CValue]) -> Result<LpmTable<AnyIpCidr, usize>, u32>
     ensures { MatchResult result
-        (λ table. AreNetworks values.now × AreIndexed (map network_in values.now) table.rows)
-        (λ code. ((code ≡ no_value) × ¬ (AreNetworks values.now)) ⊎ (code ≡ no_memory)) }
+        (λ table. AreNetworkValues values.now × AreIndexed (map network_in values.now) table.rows)
+        (λ code. ((code ≡ no_value) × ¬ (AreNetworkValues values.now)) ⊎ (code ≡ no_memory)) }
 {
     let networks = networks_of(alloc, values)?;
     match with_indexes(alloc, networks.as_slice()) {

@@ -6,10 +6,10 @@ ghost use Rattle.cidr.specs.model.Host.{first_host};
 ghost use Rattle.cidr.specs.either.IpHost.{IpWrapsDown, IpWrapsUp, host_address, host_at, host_network, ip_stepped_down, ip_stepped_up};
 ghost use Rattle.cidr.specs.either.IpNetwork.{address_by, any_bits, any_of};
 ghost use Rattle.cidr.specs.declared.cidr.any.AnyIpCidr.TheVariants.{V4, V6};
-ghost use Rattle.cidr_c.specs.Calls.{IsAnswer, IsMade, IsStepped};
+ghost use Rattle.cidr_c.specs.Calls.{IsYesOrNo, IsConverted, IsStepped};
 ghost use Rattle.cidr_c.specs.Orders.{IsCompared, field_order, host_value_order, network_order};
 ghost use Rattle.cidr_c.specs.Codes.{order_code};
-ghost use Rattle.cidr_c.specs.Values.{IsAddress, IsHost, IsNetwork, address_in, host_in, host_order, network_in};
+ghost use Rattle.cidr_c.specs.Values.{IsAddressValue, IsHostValue, IsNetworkValue, address_in, host_in, host_order, network_in};
 
 use crate::codes::{NO_VALUE, OK, WRAPPED, order_code};
 use crate::values::{
@@ -23,8 +23,8 @@ use std::cmp::Ordering;
 /// The first address of the network of a host.
 #[unsafe(no_mangle)]
 pub extern "C" fn pcidr_first_by_value(host: CValue, out: &mut CValue) -> u32
-    ensures { IsMade (IsHost host) IsAddress address_in (address_by first_of (host_network (host_in host)))
-        out.old out.new result }
+    ensures { IsConverted (IsHostValue host) IsAddressValue address_in
+        (address_by first_of (host_network (host_in host))) out.old out.new result }
 {
     let Some(host) = host_of(&host) else {
         return NO_VALUE;
@@ -36,8 +36,8 @@ pub extern "C" fn pcidr_first_by_value(host: CValue, out: &mut CValue) -> u32
 /// The last address of the network of a host.
 #[unsafe(no_mangle)]
 pub extern "C" fn pcidr_last_by_value(host: CValue, out: &mut CValue) -> u32
-    ensures { IsMade (IsHost host) IsAddress address_in (address_by last_of (host_network (host_in host)))
-        out.old out.new result }
+    ensures { IsConverted (IsHostValue host) IsAddressValue address_in
+        (address_by last_of (host_network (host_in host))) out.old out.new result }
 {
     let Some(host) = host_of(&host) else {
         return NO_VALUE;
@@ -49,8 +49,8 @@ pub extern "C" fn pcidr_last_by_value(host: CValue, out: &mut CValue) -> u32
 /// The mask of the network of a host, as an address.
 #[unsafe(no_mangle)]
 pub extern "C" fn pcidr_mask_by_value(host: CValue, out: &mut CValue) -> u32
-    ensures { IsMade (IsHost host) IsAddress address_in (address_by mask_of (host_network (host_in host)))
-        out.old out.new result }
+    ensures { IsConverted (IsHostValue host) IsAddressValue address_in
+        (address_by mask_of (host_network (host_in host))) out.old out.new result }
 {
     let Some(host) = host_of(&host) else {
         return NO_VALUE;
@@ -62,7 +62,8 @@ pub extern "C" fn pcidr_mask_by_value(host: CValue, out: &mut CValue) -> u32
 /// The address of a host.
 #[unsafe(no_mangle)]
 pub extern "C" fn pcidr_address_by_value(host: CValue, out: &mut CValue) -> u32
-    ensures { IsMade (IsHost host) IsAddress address_in (host_address (host_in host)) out.old out.new result }
+    ensures { IsConverted (IsHostValue host) IsAddressValue address_in (host_address (host_in host))
+        out.old out.new result }
 {
     let Some(host) = host_of(&host) else {
         return NO_VALUE;
@@ -74,7 +75,7 @@ pub extern "C" fn pcidr_address_by_value(host: CValue, out: &mut CValue) -> u32
 /// The network of a host.
 #[unsafe(no_mangle)]
 pub extern "C" fn pcidr_network_by_value(host: CValue, out: &mut CValue) -> u32
-    ensures { IsMade (IsHost host) IsNetwork network_in (any_of (host_network (host_in host)))
+    ensures { IsConverted (IsHostValue host) IsNetworkValue network_in (any_of (host_network (host_in host)))
         out.old out.new result }
 {
     let Some(host) = host_of(&host) else {
@@ -87,7 +88,7 @@ pub extern "C" fn pcidr_network_by_value(host: CValue, out: &mut CValue) -> u32
 /// 1 where the value is a network, as each address is, and 0 where not.
 #[unsafe(no_mangle)]
 pub extern "C" fn pcidr_check(value: &CValue) -> u32
-    ensures { IsAnswer result (IsNetwork value.now) }
+    ensures { IsYesOrNo result (IsNetworkValue value.now) }
 {
     match network_of(value) {
         Some(_) => 1,
@@ -100,7 +101,7 @@ pub extern "C" fn pcidr_check(value: &CValue) -> u32
 #[tactic(auto, using(crate::proofs::Networks::contained))]
 #[unsafe(no_mangle)]
 pub extern "C" fn pcidr_contains(outer: &CValue, inner: &CValue) -> u32
-    ensures { IsAnswer result (IsNetwork outer.now × IsNetwork inner.now
+    ensures { IsYesOrNo result (IsNetworkValue outer.now × IsNetworkValue inner.now
         × BeginsWith (any_bits (network_in inner.now)) (any_bits (network_in outer.now))) }
 {
     if is_ipv4(outer) && is_ipv4(inner) {
@@ -122,7 +123,7 @@ pub extern "C" fn pcidr_contains(outer: &CValue, inner: &CValue) -> u32
 /// 1 where the first network contains the second, and 0 where not.
 #[inline(always)]
 fn ipv4_answer(outer: &Ipv4Cidr, inner: &Ipv4Cidr) -> u32
-    ensures { IsAnswer result (BeginsWith (any_bits (V4 inner.now)) (any_bits (V4 outer.now))) }
+    ensures { IsYesOrNo result (BeginsWith (any_bits (V4 inner.now)) (any_bits (V4 outer.now))) }
 {
     u32::from(outer.contains_cidr(inner))
 }
@@ -130,14 +131,14 @@ fn ipv4_answer(outer: &Ipv4Cidr, inner: &Ipv4Cidr) -> u32
 /// The same for IPv6.
 #[inline(always)]
 fn ipv6_answer(outer: &Ipv6Cidr, inner: &Ipv6Cidr) -> u32
-    ensures { IsAnswer result (BeginsWith (any_bits (V6 inner.now)) (any_bits (V6 outer.now))) }
+    ensures { IsYesOrNo result (BeginsWith (any_bits (V6 inner.now)) (any_bits (V6 outer.now))) }
 {
     u32::from(outer.contains_cidr(inner))
 }
 
 /// The same for networks of any family.
 fn any_answer(outer: &AnyIpCidr, inner: &AnyIpCidr) -> u32
-    ensures { IsAnswer result (BeginsWith (any_bits inner.now) (any_bits outer.now)) }
+    ensures { IsYesOrNo result (BeginsWith (any_bits inner.now) (any_bits outer.now)) }
 {
     if outer.contains_cidr(inner) { 1 } else { 0 }
 }
@@ -164,7 +165,7 @@ fn compared_fields(one: &CValue, other: &CValue) -> u32
 #[tactic(auto, using(crate::proofs::Orders::network_comparisons))]
 #[unsafe(no_mangle)]
 pub extern "C" fn pcidr_compare(one: &CValue, other: &CValue) -> u32
-    ensures { IsCompared IsNetwork network_order one.now other.now result }
+    ensures { IsCompared IsNetworkValue network_order one.now other.now result }
 {
     if is_ipv4(one) && is_ipv4(other) {
         if let (Some(one), Some(other)) = (ipv4_network(one), ipv4_network(other)) {
@@ -198,7 +199,7 @@ fn compared_hosts(one: &IpInet, other: &IpInet) -> u32
 #[tactic(auto, using(crate::proofs::Orders::comparisons))]
 #[unsafe(no_mangle)]
 pub extern "C" fn pcidr_compare_hosts(one: &CValue, other: &CValue) -> u32
-    ensures { IsCompared IsHost host_value_order one.now other.now result }
+    ensures { IsCompared IsHostValue host_value_order one.now other.now result }
 {
     match (host_of(one), host_of(other)) {
         (Some(one), Some(other)) => compared_hosts(&one, &other),
@@ -212,7 +213,7 @@ pub extern "C" fn pcidr_compare_hosts(one: &CValue, other: &CValue) -> u32
 /// last address, it goes on from the first, and the number of `WRAPPED` is returned.
 #[unsafe(no_mangle)]
 pub extern "C" fn pcidr_step_up_by_value(host: CValue, high: u64, low: u64, out: &mut CValue) -> u32
-    ensures { IsStepped (IsHost host) (IpWrapsUp (host_in host) (high * 2 ^ 64 + low)) IsHost host_in
+    ensures { IsStepped (IsHostValue host) (IpWrapsUp (host_in host) (high * 2 ^ 64 + low)) IsHostValue host_in
         (ip_stepped_up (host_in host) (high * 2 ^ 64 + low)) out.old out.new result }
 {
     let Some(host) = host_of(&host) else {
@@ -231,7 +232,7 @@ pub extern "C" fn pcidr_step_down_by_value(
     low: u64,
     out: &mut CValue,
 ) -> u32
-    ensures { IsStepped (IsHost host) (IpWrapsDown (host_in host) (high * 2 ^ 64 + low)) IsHost host_in
+    ensures { IsStepped (IsHostValue host) (IpWrapsDown (host_in host) (high * 2 ^ 64 + low)) IsHostValue host_in
         (ip_stepped_down (host_in host) (high * 2 ^ 64 + low)) out.old out.new result }
 {
     let Some(host) = host_of(&host) else {
@@ -246,8 +247,8 @@ pub extern "C" fn pcidr_step_down_by_value(
 /// 2^64 + low: a walk by position. Beyond the last address it goes on as a step does.
 #[unsafe(no_mangle)]
 pub extern "C" fn pcidr_at_by_value(host: CValue, high: u64, low: u64, out: &mut CValue) -> u32
-    ensures { IsStepped (IsHost host)
-        (IpWrapsUp (host_at first_host (host_network (host_in host))) (high * 2 ^ 64 + low)) IsHost host_in
+    ensures { IsStepped (IsHostValue host)
+        (IpWrapsUp (host_at first_host (host_network (host_in host))) (high * 2 ^ 64 + low)) IsHostValue host_in
         (ip_stepped_up (host_at first_host (host_network (host_in host))) (high * 2 ^ 64 + low))
         out.old out.new result }
 {

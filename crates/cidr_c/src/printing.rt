@@ -4,16 +4,16 @@ ghost use Rattle.cidr.specs.bytes.Compact.{any_network_bytes, ip_host_bytes};
 ghost use Rattle.cidr.specs.either.IpText.{any_network_text, ip_host_text};
 ghost use Rattle.cidr.specs.texts.Printed.{forced_host_text, forced_text, plain_host_text, plain_text};
 ghost use Rattle.cidr.specs.texts.PrintedAddress.{ip_text};
-ghost use Rattle.cidr_c.specs.Calls.{IsPrinted, IsUnprinted, IsWritten};
+ghost use Rattle.cidr_c.specs.Calls.{IsPrintedInto, IsUnprinted, IsWrittenInto};
 ghost use Rattle.cidr_c.specs.Codes.{message};
-ghost use Rattle.cidr_c.specs.Values.{IsAddress, IsHost, IsNetwork, address_in, host_in, network_in};
+ghost use Rattle.cidr_c.specs.Values.{IsAddressValue, IsHostValue, IsNetworkValue, address_in, host_in, network_in};
 
 use crate::codes::message;
 use crate::values::{CValue, address_of, host_of, network_of};
 
 /// Writes a string with a 0 behind, if there is room for both, and returns its length.
 pub fn print(text: &str, out: &mut [u8]) -> usize
-    ensures { IsPrinted text.now out.old out.new result }
+    ensures { IsPrintedInto text.now out.old out.new result }
 {
     let bytes = text.as_bytes();
     if bytes.len() < out.len() {
@@ -25,7 +25,7 @@ pub fn print(text: &str, out: &mut [u8]) -> usize
 
 /// Writes bytes, if there is room for them, and returns how many they are.
 fn write(bytes: &[u8], out: &mut [u8]) -> usize
-    ensures { IsWritten bytes.now out.old out.new result }
+    ensures { IsWrittenInto bytes.now out.old out.new result }
 {
     if bytes.len() <= out.len() {
         out[..bytes.len()].copy_from_slice(bytes);
@@ -36,8 +36,9 @@ fn write(bytes: &[u8], out: &mut [u8]) -> usize
 /// Writes an address as a string, and returns its length, at most 39; 0 where the value is no address.
 #[unsafe(no_mangle)]
 pub extern "C" fn pcidr_print_address(address: &CValue, out: &mut [u8]) -> usize
-    ensures address { IsAddress address.now → IsPrinted (ip_text (address_in address.now)) out.old out.new result }
-    ensures other { ¬ (IsAddress address.now) → IsUnprinted out.old out.new result }
+    ensures address { IsAddressValue address.now → IsPrintedInto (ip_text (address_in address.now))
+        out.old out.new result }
+    ensures other { ¬ (IsAddressValue address.now) → IsUnprinted out.old out.new result }
 {
     match address_of(address) {
         Some(address) => print(address.to_text().as_str(), out),
@@ -49,9 +50,9 @@ pub extern "C" fn pcidr_print_address(address: &CValue, out: &mut [u8]) -> usize
 /// host.
 #[unsafe(no_mangle)]
 pub extern "C" fn pcidr_print_host(host: &CValue, out: &mut [u8]) -> usize
-    ensures host { IsHost host.now →
-        IsPrinted (ip_host_text plain_host_text (host_in host.now)) out.old out.new result }
-    ensures other { ¬ (IsHost host.now) → IsUnprinted out.old out.new result }
+    ensures host { IsHostValue host.now →
+        IsPrintedInto (ip_host_text plain_host_text (host_in host.now)) out.old out.new result }
+    ensures other { ¬ (IsHostValue host.now) → IsUnprinted out.old out.new result }
 {
     match host_of(host) {
         Some(host) => print(host.to_text().as_str(), out),
@@ -63,9 +64,9 @@ pub extern "C" fn pcidr_print_host(host: &CValue, out: &mut [u8]) -> usize
 /// where the value is no host.
 #[unsafe(no_mangle)]
 pub extern "C" fn pcidr_print_host_with_length(host: &CValue, out: &mut [u8]) -> usize
-    ensures host { IsHost host.now →
-        IsPrinted (ip_host_text forced_host_text (host_in host.now)) out.old out.new result }
-    ensures other { ¬ (IsHost host.now) → IsUnprinted out.old out.new result }
+    ensures host { IsHostValue host.now →
+        IsPrintedInto (ip_host_text forced_host_text (host_in host.now)) out.old out.new result }
+    ensures other { ¬ (IsHostValue host.now) → IsUnprinted out.old out.new result }
 {
     match host_of(host) {
         Some(host) => print(host.with_length().to_text().as_str(), out),
@@ -77,9 +78,9 @@ pub extern "C" fn pcidr_print_host_with_length(host: &CValue, out: &mut [u8]) ->
 /// no network.
 #[unsafe(no_mangle)]
 pub extern "C" fn pcidr_print_network(network: &CValue, out: &mut [u8]) -> usize
-    ensures network { IsNetwork network.now →
-        IsPrinted (any_network_text plain_text (network_in network.now)) out.old out.new result }
-    ensures other { ¬ (IsNetwork network.now) → IsUnprinted out.old out.new result }
+    ensures network { IsNetworkValue network.now →
+        IsPrintedInto (any_network_text plain_text (network_in network.now)) out.old out.new result }
+    ensures other { ¬ (IsNetworkValue network.now) → IsUnprinted out.old out.new result }
 {
     match network_of(network) {
         Some(network) => print(network.to_text().as_str(), out),
@@ -91,9 +92,9 @@ pub extern "C" fn pcidr_print_network(network: &CValue, out: &mut [u8]) -> usize
 /// where the value is no network.
 #[unsafe(no_mangle)]
 pub extern "C" fn pcidr_print_network_with_length(network: &CValue, out: &mut [u8]) -> usize
-    ensures network { IsNetwork network.now →
-        IsPrinted (any_network_text forced_text (network_in network.now)) out.old out.new result }
-    ensures other { ¬ (IsNetwork network.now) → IsUnprinted out.old out.new result }
+    ensures network { IsNetworkValue network.now →
+        IsPrintedInto (any_network_text forced_text (network_in network.now)) out.old out.new result }
+    ensures other { ¬ (IsNetworkValue network.now) → IsUnprinted out.old out.new result }
 {
     match network_of(network) {
         Some(network) => print(network.with_length().to_text().as_str(), out),
@@ -104,9 +105,9 @@ pub extern "C" fn pcidr_print_network_with_length(network: &CValue, out: &mut [u
 /// Writes the compact bytes of a network, and returns how many they are: 1, 5 or 17; 0 where the value is no network.
 #[unsafe(no_mangle)]
 pub extern "C" fn pcidr_network_to_bytes(network: &CValue, out: &mut [u8]) -> usize
-    ensures network { IsNetwork network.now →
-        IsWritten (any_network_bytes (network_in network.now)) out.old out.new result }
-    ensures other { ¬ (IsNetwork network.now) → IsUnprinted out.old out.new result }
+    ensures network { IsNetworkValue network.now →
+        IsWrittenInto (any_network_bytes (network_in network.now)) out.old out.new result }
+    ensures other { ¬ (IsNetworkValue network.now) → IsUnprinted out.old out.new result }
 {
     match network_of(network) {
         Some(network) => write(network.to_compact().as_slice(), out),
@@ -117,8 +118,8 @@ pub extern "C" fn pcidr_network_to_bytes(network: &CValue, out: &mut [u8]) -> us
 /// Writes the compact bytes of a host, and returns how many they are: 5 or 17; 0 where the value is no host.
 #[unsafe(no_mangle)]
 pub extern "C" fn pcidr_host_to_bytes(host: &CValue, out: &mut [u8]) -> usize
-    ensures host { IsHost host.now → IsWritten (ip_host_bytes (host_in host.now)) out.old out.new result }
-    ensures other { ¬ (IsHost host.now) → IsUnprinted out.old out.new result }
+    ensures host { IsHostValue host.now → IsWrittenInto (ip_host_bytes (host_in host.now)) out.old out.new result }
+    ensures other { ¬ (IsHostValue host.now) → IsUnprinted out.old out.new result }
 {
     match host_of(host) {
         Some(host) => write(host.to_compact().as_slice(), out),
@@ -129,7 +130,7 @@ pub extern "C" fn pcidr_host_to_bytes(host: &CValue, out: &mut [u8]) -> usize
 /// Writes the message of an error, and returns its length, at most 60; 0 for a number that is none.
 #[unsafe(no_mangle)]
 pub extern "C" fn pcidr_message(code: u32, out: &mut [u8]) -> usize
-    ensures { IsPrinted (message code) out.old out.new result }
+    ensures { IsPrintedInto (message code) out.old out.new result }
 {
     print(message(code), out)
 }

@@ -8,7 +8,7 @@ ghost use Rattle.cidr.specs.texts.ShortText.{IsShortIpText, ReadsShort};
 ghost use Rattle.cidr.specs.declared.errors.NetworkParseError.TheVariants as parse_error;
 ghost use Rattle.cidr_c.specs.Calls.{IsRead};
 ghost use Rattle.cidr_c.specs.Codes.{address_code, parse_code};
-ghost use Rattle.cidr_c.specs.Values.{IsAddress, IsHost, IsNetwork, address_in, host_in, network_in};
+ghost use Rattle.cidr_c.specs.Values.{IsAddressValue, IsHostValue, IsNetworkValue, address_in, host_in, network_in};
 
 use crate::codes::{NOT_ADDRESS, NOT_UTF8, OK, parse_code};
 use crate::values::{CValue, put_address, put_host, put_network};
@@ -19,7 +19,7 @@ use std::str::FromStr;
 /// Reads an address: 0 and the address in `out`, or the number of the error.
 #[unsafe(no_mangle)]
 pub extern "C" fn pcidr_read_address(text: &[u8], out: &mut CValue) -> u32
-    ensures { IsRead (Reads IsIpText ip_error) address_code IsAddress address_in text.now out.old out.new result }
+    ensures { IsRead (Reads IsIpText ip_error) address_code IsAddressValue address_in text.now out.old out.new result }
 {
     let Ok(text) = str::from_utf8(text) else {
         return NOT_UTF8;
@@ -37,7 +37,8 @@ pub extern "C" fn pcidr_read_address(text: &[u8], out: &mut CValue) -> u32
 /// decimal, octal or hexadecimal, of which the last fills the octets that are missing.
 #[unsafe(no_mangle)]
 pub extern "C" fn pcidr_read_loose_address(text: &[u8], out: &mut CValue) -> u32
-    ensures { IsRead (Reads IsLooseIpText ip_error) address_code IsAddress address_in text.now out.old out.new result }
+    ensures { IsRead (Reads IsLooseIpText ip_error) address_code IsAddressValue address_in text.now
+        out.old out.new result }
 {
     let Ok(text) = str::from_utf8(text) else {
         return NOT_UTF8;
@@ -54,7 +55,7 @@ pub extern "C" fn pcidr_read_loose_address(text: &[u8], out: &mut CValue) -> u32
 /// Reads a host, an address with or without a prefix length: 0 and the host in `out`, or the number of the first error.
 #[unsafe(no_mangle)]
 pub extern "C" fn pcidr_read_host(text: &[u8], out: &mut CValue) -> u32
-    ensures { IsRead ReadsIpHost parse_code IsHost host_in text.now out.old out.new result }
+    ensures { IsRead ReadsIpHost parse_code IsHostValue host_in text.now out.old out.new result }
 {
     let Ok(text) = str::from_utf8(text) else {
         return NOT_UTF8;
@@ -71,7 +72,7 @@ pub extern "C" fn pcidr_read_host(text: &[u8], out: &mut CValue) -> u32
 /// Reads a network, or `any`: 0 and the network in `out`, or the number of the first error.
 #[unsafe(no_mangle)]
 pub extern "C" fn pcidr_read_network(text: &[u8], out: &mut CValue) -> u32
-    ensures { IsRead ReadsAnyNetwork parse_code IsNetwork network_in text.now out.old out.new result }
+    ensures { IsRead ReadsAnyNetwork parse_code IsNetworkValue network_in text.now out.old out.new result }
 {
     let Ok(text) = str::from_utf8(text) else {
         return NOT_UTF8;
@@ -90,7 +91,7 @@ pub extern "C" fn pcidr_read_network(text: &[u8], out: &mut CValue) -> u32
 #[unsafe(no_mangle)]
 pub extern "C" fn pcidr_read_short_network(text: &[u8], out: &mut CValue) -> u32
     ensures { IsRead (ReadsAny (ReadsShort (Reads IsShortIpText (parse_error.AddrParseError ip_error)) ReadsIpNetwork))
-        parse_code IsNetwork network_in text.now out.old out.new result }
+        parse_code IsNetworkValue network_in text.now out.old out.new result }
 {
     let Ok(text) = str::from_utf8(text) else {
         return NOT_UTF8;

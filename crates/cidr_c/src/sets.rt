@@ -3,7 +3,7 @@ ghost use Rattle.std.specs.Prelude.{map, take};
 ghost use Rattle.cidr.specs.either.IpNetwork.{any_bits};
 ghost use Rattle.cidr_table.specs.Cover.{Covers};
 ghost use Rattle.cidr_sets.specs.Sets.{IsDifference, IsIntersection, IsSetOf, IsSymmetricDifference, IsUnion};
-ghost use Rattle.cidr_c.specs.Batches.{AreSetsRead, IsDelivered, IsLeft, IsPut, IsSetRead, bits_in};
+ghost use Rattle.cidr_c.specs.Batches.{AreSetsRead, IsDelivered, IsLeft, IsPutInRoom, IsSetRead, bits_in};
 
 use crate::batches::{networks_of, put};
 use crate::codes::{NO_MEMORY, NO_ROOM, OK};
@@ -81,7 +81,7 @@ pub extern "C" fn pcidr_union(
     out: &mut [CValue],
     count: &mut usize,
 ) -> u32
-    ensures { IsPut these.now those.now (IsUnion 129 (bits_in these.now) (bits_in those.now))
+    ensures { IsPutInRoom these.now those.now (IsUnion 129 (bits_in these.now) (bits_in those.now))
         out.old out.new count.old count.new result }
 {
     match both_of(alloc, these, those) {
@@ -100,7 +100,7 @@ pub extern "C" fn pcidr_intersection(
     out: &mut [CValue],
     count: &mut usize,
 ) -> u32
-    ensures { IsPut these.now those.now (IsIntersection 129 (bits_in these.now) (bits_in those.now))
+    ensures { IsPutInRoom these.now those.now (IsIntersection 129 (bits_in these.now) (bits_in those.now))
         out.old out.new count.old count.new result }
 {
     match both_of(alloc, these, those) {
@@ -119,7 +119,7 @@ pub extern "C" fn pcidr_difference(
     out: &mut [CValue],
     count: &mut usize,
 ) -> u32
-    ensures { IsPut these.now those.now (IsDifference 129 (bits_in these.now) (bits_in those.now))
+    ensures { IsPutInRoom these.now those.now (IsDifference 129 (bits_in these.now) (bits_in those.now))
         out.old out.new count.old count.new result }
 {
     match both_of(alloc, these, those) {
@@ -138,7 +138,7 @@ pub extern "C" fn pcidr_symmetric_difference(
     out: &mut [CValue],
     count: &mut usize,
 ) -> u32
-    ensures { IsPut these.now those.now (IsSymmetricDifference 129 (bits_in these.now) (bits_in those.now))
+    ensures { IsPutInRoom these.now those.now (IsSymmetricDifference 129 (bits_in these.now) (bits_in those.now))
         out.old out.new count.old count.new result }
 {
     match both_of(alloc, these, those) {
@@ -169,7 +169,7 @@ pub extern "C" fn pcidr_union_in_place(
     count: &mut usize,
     others: &[CValue],
 ) -> u32
-    ensures { IsPut (take count.old networks.old) others.now
+    ensures { IsPutInRoom (take count.old networks.old) others.now
         (IsUnion 129 (bits_in (take count.old networks.old)) (bits_in others.now))
         networks.old networks.new count.old count.new result }
 {
@@ -189,7 +189,7 @@ pub extern "C" fn pcidr_intersection_in_place(
     count: &mut usize,
     others: &[CValue],
 ) -> u32
-    ensures { IsPut (take count.old networks.old) others.now
+    ensures { IsPutInRoom (take count.old networks.old) others.now
         (IsIntersection 129 (bits_in (take count.old networks.old)) (bits_in others.now))
         networks.old networks.new count.old count.new result }
 {
@@ -209,7 +209,7 @@ pub extern "C" fn pcidr_difference_in_place(
     count: &mut usize,
     others: &[CValue],
 ) -> u32
-    ensures { IsPut (take count.old networks.old) others.now
+    ensures { IsPutInRoom (take count.old networks.old) others.now
         (IsDifference 129 (bits_in (take count.old networks.old)) (bits_in others.now))
         networks.old networks.new count.old count.new result }
 {

@@ -1,7 +1,7 @@
 //! Look-up tables in arrays of the caller.
 ghost use Rattle.std.specs.Prelude.{◌≡◌, ◌≢◌, ◌<◌, ℕ, map, IfOk, MatchOption};
-ghost use Rattle.cidr_arrays.specs.Arrays.{networks_of};
-ghost use Rattle.cidr_c.specs.Tables.{AreFound, IsBuilt, IsChecked, IsFound, fault_code, ipv4_number, ipv4_pair, ipv6_number, ipv6_pair, room_of};
+ghost use Rattle.cidr_arrays.specs.Arrays.{key_networks};
+ghost use Rattle.cidr_c.specs.Tables.{AreFound, IsBuilt, IsChecked, IsRowFound, fault_code, ipv4_number, ipv4_pair, ipv6_number, ipv6_pair, room_of};
 
 use crate::codes::{NO_MEMORY, NO_ROOM, NO_TABLE, NO_VALUE, OK, SHIFT, TOO_MANY};
 use crate::values::CValue;
@@ -83,7 +83,7 @@ fn address_in<W: Family>(value: &CValue) -> Option<W>
 
 /// Values as keys.
 fn keys_in<W: Family>(alloc: Global, values: &[CValue]) -> Result<Vec<Key<W>>, AllocError>
-    ensures { IfOk result (λ keys. networks_of W.value keys.items ≡ map W.pair values.now) }
+    ensures { IfOk result (λ keys. key_networks W.value keys.items ≡ map W.pair values.now) }
 {
     let mut keys = Vec::with_capacity(alloc, values.len())?;
     for value in values {
@@ -101,7 +101,7 @@ fn put_table<W: Word>(
     shift: u32,
     count: &mut usize,
 ) -> u32
-    ensures built { IsBuilt W.width W.value (networks_of W.value keys.now) starts.new answers.new level.new shift count.old count.new result }
+    ensures built { IsBuilt W.width W.value (key_networks W.value keys.now) starts.new answers.new level.new shift count.old count.new result }
     ensures stays { result ≢ 0 → (starts.new ≡ starts.old) × (answers.new ≡ answers.old) × (level.new ≡ level.old) }
 {
     if keys.len() >= 1 << 31 {
@@ -138,7 +138,7 @@ fn row_in<W: Family>(
     rows: u32,
     asked: &CValue,
 ) -> u32
-    ensures { IsFound W.width (map W.value starts.now) answers.now level.now shift rows (W.pair asked.now) result }
+    ensures { IsRowFound W.width (map W.value starts.now) answers.now level.now shift rows (W.pair asked.now) result }
 {
     let Some(address) = address_in(asked) else {
         return NO_ROW;
@@ -191,7 +191,7 @@ fn check_code<W: Word>(
     level: &[u32],
     shift: u32,
 ) -> u32
-    ensures { IsChecked W.width (networks_of W.value keys.now) (map W.value starts.now) answers.now level.now shift result }
+    ensures { IsChecked W.width (key_networks W.value keys.now) (map W.value starts.now) answers.now level.now shift result }
 {
     match check(keys, starts, answers, level, shift) {
         Ok(()) => OK,
@@ -301,7 +301,8 @@ pub extern "C" fn pcidr_ipv4_table_lookup(
     rows: u32,
     address: &CValue,
 ) -> u32
-    ensures { IsFound 32 (map ipv4_number starts.now) answers.now level.now shift rows (ipv4_pair address.now) result }
+    ensures { IsRowFound 32 (map ipv4_number starts.now) answers.now level.now shift rows
+        (ipv4_pair address.now) result }
 {
     row_in(starts, answers, level, shift, rows, address)
 }
@@ -316,7 +317,8 @@ pub extern "C" fn pcidr_ipv6_table_lookup(
     rows: u32,
     address: &CValue,
 ) -> u32
-    ensures { IsFound 128 (map ipv6_number starts.now) answers.now level.now shift rows (ipv6_pair address.now) result }
+    ensures { IsRowFound 128 (map ipv6_number starts.now) answers.now level.now shift rows
+        (ipv6_pair address.now) result }
 {
     row_in(starts, answers, level, shift, rows, address)
 }

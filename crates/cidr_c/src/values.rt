@@ -2,7 +2,7 @@
 ghost use Rattle.std.specs.Prelude.{◌≡◌, ◌<◌, ◌≤◌, ◌^◌, ◌↔◌, IsTrue, MatchOption};
 ghost use Rattle.cidr.specs.model.Bits.{bits};
 ghost use Rattle.cidr.specs.declared.cidr.any.AnyIpCidr.TheVariants.{V4, V6};
-ghost use Rattle.cidr_c.specs.Values.{IsLow, IsAddress, IsHost, IsNetwork, address_in, host_in, network_in, number_in};
+ghost use Rattle.cidr_c.specs.Values.{IsLow, IsAddressValue, IsHostValue, IsNetworkValue, address_in, host_in, network_in, number_in};
 
 use cidr::{AnyIpCidr, IpAddr, IpInet, Ipv4Addr, Ipv4Cidr, Ipv4Inet, Ipv6Addr, Ipv6Cidr, Ipv6Inet};
 
@@ -65,8 +65,8 @@ pub fn is_ipv6(value: &CValue) -> bool
 /// The IPv4 network that a value with the tag of an IPv4 prefix length is, if it is one.
 #[inline(always)]
 pub fn ipv4_network(value: &CValue) -> Option<Ipv4Cidr>
-    ensures { value.now.tag < 64 → MatchOption result (¬ (IsNetwork value.now))
-        (λ network. IsNetwork value.now × (V4 network ≡ network_in value.now)) }
+    ensures { value.now.tag < 64 → MatchOption result (¬ (IsNetworkValue value.now))
+        (λ network. IsNetworkValue value.now × (V4 network ≡ network_in value.now)) }
 {
     if value.tag > 32 {
         return None;
@@ -81,8 +81,8 @@ pub fn ipv4_network(value: &CValue) -> Option<Ipv4Cidr>
 /// The IPv6 network that a value with the tag of an IPv6 prefix length is, if it is one.
 #[inline(always)]
 pub fn ipv6_network(value: &CValue) -> Option<Ipv6Cidr>
-    ensures { 64 ≤ value.now.tag → value.now.tag < 255 → MatchOption result (¬ (IsNetwork value.now))
-        (λ network. IsNetwork value.now × (V6 network ≡ network_in value.now)) }
+    ensures { 64 ≤ value.now.tag → value.now.tag < 255 → MatchOption result (¬ (IsNetworkValue value.now))
+        (λ network. IsNetworkValue value.now × (V6 network ≡ network_in value.now)) }
 {
     if value.tag < IPV6 {
         return None;
@@ -96,8 +96,8 @@ pub fn ipv6_network(value: &CValue) -> Option<Ipv6Cidr>
 /// The network that a value is, if it is one.
 #[inline(always)]
 pub fn network_of(value: &CValue) -> Option<AnyIpCidr>
-    ensures { MatchOption result (¬ (IsNetwork value.now))
-        (λ network. IsNetwork value.now × (network ≡ network_in value.now)) }
+    ensures { MatchOption result (¬ (IsNetworkValue value.now))
+        (λ network. IsNetworkValue value.now × (network ≡ network_in value.now)) }
 {
     if value.tag == ANY {
         if value.high != 0 || value.low != 0 {
@@ -116,7 +116,8 @@ pub fn network_of(value: &CValue) -> Option<AnyIpCidr>
 /// The host that a value is, if it is one.
 #[inline(always)]
 pub fn host_of(value: &CValue) -> Option<IpInet>
-    ensures { MatchOption result (¬ (IsHost value.now)) (λ host. IsHost value.now × (host ≡ host_in value.now)) }
+    ensures { MatchOption result (¬ (IsHostValue value.now))
+        (λ host. IsHostValue value.now × (host ≡ host_in value.now)) }
 {
     if value.tag < IPV6 {
         if value.tag > 32 {
@@ -136,8 +137,8 @@ pub fn host_of(value: &CValue) -> Option<IpInet>
 
 /// The address that a value is, if it is one.
 pub fn address_of(value: &CValue) -> Option<IpAddr>
-    ensures { MatchOption result (¬ (IsAddress value.now))
-        (λ address. IsAddress value.now × (address ≡ address_in value.now)) }
+    ensures { MatchOption result (¬ (IsAddressValue value.now))
+        (λ address. IsAddressValue value.now × (address ≡ address_in value.now)) }
 {
     if value.tag == 32 {
         let address = ipv4_in(value)?;
@@ -180,7 +181,7 @@ fn put_ipv6(address: Ipv6Addr, tag: u8, out: &mut CValue)
 /// Makes the value a network.
 #[inline(always)]
 pub fn put_network(network: &AnyIpCidr, out: &mut CValue)
-    ensures is_network { IsNetwork out.new }
+    ensures is_network { IsNetworkValue out.new }
     ensures network { network_in out.new ≡ network.now }
 {
     match network {
@@ -203,7 +204,7 @@ pub fn put_network(network: &AnyIpCidr, out: &mut CValue)
 /// Makes the value a host.
 #[inline(always)]
 pub fn put_host(host: &IpInet, out: &mut CValue)
-    ensures is_host { IsHost out.new }
+    ensures is_host { IsHostValue out.new }
     ensures host { host_in out.new ≡ host.now }
 {
     match host {
@@ -215,7 +216,7 @@ pub fn put_host(host: &IpInet, out: &mut CValue)
 /// Makes the value an address.
 #[inline(always)]
 pub fn put_address(address: &IpAddr, out: &mut CValue)
-    ensures is_address { IsAddress out.new }
+    ensures is_address { IsAddressValue out.new }
     ensures address { address_in out.new ≡ address.now }
 {
     match address {

@@ -7,13 +7,13 @@ use Rattle.std.specs.Iterator.{UpTo, at_most, item_count, MakesProgress}
 use Rattle.std.specs.Iterator.SizeHint.{IsExactHint}
 use Rattle.cidr.specs.model.Bits.{bits}
 use Rattle.cidr.specs.declared.family.Family.{Family}
-use Rattle.cidr_ext.specs.Subnets.{subnets_from, subnets_left, count_of, IsSubnetAt, NoSubnetAt}
+use Rattle.cidr_ext.specs.Subnets.{subnets_from, subnets_left, index_count, IsSubnetAt, NoSubnetAt}
 
 module _ (f : Family) (p : List Bool) (n : ℕ) where
   abbrev at : ℕ → Family × List Bool
   at i = (f, p ++ bits (n - length p) i)
 
-  pub length-left : (ends : Option (ℕ × ℕ)) → length (subnets_left f p n ends) ≡ count_of ends
+  pub length-left : (ends : Option (ℕ × ℕ)) → length (subnets_left f p n ends) ≡ index_count ends
   length-left None = refl
   length-left (Some (a, b)) = length-map-range_with_len at a (b + 1 - a)
 
@@ -67,9 +67,9 @@ module _ (f : Family) (p : List Bool) (n : ℕ) where
 
 -- ---- how many are left
 pub exact_hint : (ends : Option (ℕ × ℕ)) (f : Family) (p : List Bool) (n : ℕ) (hint : ℕ × Option ℕ) (now : List (Family × List Bool)) → subnets_left f p n ends ≡ now
-    → IsExactHint hint (count_of ends) → IsExactHint hint (length now)
+    → IsExactHint hint (index_count ends) → IsExactHint hint (length now)
 exact_hint ends f p n hint now view is =
-    let same : count_of ends ≡ length now = sym (length-left f p n ends) ∙ ap length view in
+    let same : index_count ends ≡ length now = sym (length-left f p n ends) ∙ ap length view in
     rw (sym same) is
 
 pub hint_low : (hint : ℕ × Option ℕ) (m : ℕ) → IsExactHint hint m → hint.0 ≤ m
@@ -104,13 +104,13 @@ module _ (f : Family) (p : List Bool) (n : ℕ) (ends : Option (ℕ × ℕ)) (m 
       sym (ap (drop m) (sym view ∙ ap (subnets_left f p n) was) ∙ drop-map (at f p n) m (range_with_len a (b + 1 - a))
       ∙ ap (map (at f p n)) (drop_range m a (b + 1 - a) (omega arith)) ∙ ap (λ k. subnets_from f p n (a + m) k) rest)
 
-  pub skips_all : count_of ends ≤ m → [] ≡ drop m now
+  pub skips_all : index_count ends ≤ m → [] ≡ drop m now
   skips_all few = sym (drop_all m now (omega (arith, ap length view, length-left f p n ends)))
 
-pub count_some : (ends : Option (ℕ × ℕ)) (a b m : ℕ) → ends ≡ Some (a, b) → b - a < m → count_of ends ≤ m
+pub count_some : (ends : Option (ℕ × ℕ)) (a b m : ℕ) → ends ≡ Some (a, b) → b - a < m → index_count ends ≤ m
 count_some ends a b m e h = rw e (omega arith)
 
-pub count_none : (ends : Option (ℕ × ℕ)) (m : ℕ) → ends ≡ None → count_of ends ≤ m
+pub count_none : (ends : Option (ℕ × ℕ)) (m : ℕ) → ends ≡ None → index_count ends ≤ m
 count_none ends m e = rw e (omega arith)
 
 pub nth_given : {X A : Type 0} (view : A → X) (m : ℕ) (old mid new : List X) (r : Option A) → mid ≡ drop m old

@@ -8,7 +8,7 @@ use Rattle.cidr.specs.model.Network.{zeros, first_of, BeginsWith, network_from}
 use Rattle.cidr.specs.laws.BitLaws.{bits-append, bits-cat, bits_high, bits-number, length-bits, number-bits, number-lt}
 use Rattle.cidr.specs.declared.family.Family.TheVariants.{Ipv4, Ipv6}
 use Rattle.cidr.specs.declared.errors.NetworkParseError.{NetworkParseError}
-use Rattle.cidr_ext.specs.InsideIpv6.{IsBehind, mapped_front, nat64_front}
+use Rattle.cidr_ext.specs.InsideIpv6.{IsIpv4Behind, mapped_front, nat64_front}
 use Rattle.cidr_ext.proofs.Indexes.{made_of}
 
 -- ---- a list of j + k bits, in front and behind
@@ -42,7 +42,7 @@ module _ (a : List Bool) (front len n : ℕ) (fits : front < 2 ^ len) (within : 
       let top : n / 2 ^ (128 - len) < 2 ^ len = shr_below n len (128 - len) (rw width (omega arith)) in
       other (sym (number-bits len (n / 2 ^ (128 - len)) top) ∙ ap number same ∙ number-bits len front fits)
 
-  pub behind : n / 2 ^ (128 - len) ≡ front → (x : ℕ) → x ≡ n / 2 ^ (96 - len) % 2 ^ 32 → (inner : List Bool) → inner ≡ bits 32 x → IsBehind (bits len front) a inner
+  pub behind : n / 2 ^ (128 - len) ≡ front → (x : ℕ) → x ≡ n / 2 ^ (96 - len) % 2 ^ 32 → (inner : List Bool) → inner ≡ bits 32 x → IsIpv4Behind (bits len front) a inner
   behind h x e inner is =
       let tail : drop len a ≡ bits (128 - len) n = back_bits len (128 - len) a (omega arith) ∙ ap (bits (128 - len)) (sym value) in
       let wide : 128 - len ≡ 32 + (96 - len) = omega arith in
@@ -62,7 +62,7 @@ nat64_bits = refl
 
 -- all that is behind 96 bits
 module _ (a front : List Bool) (n : ℕ) (is : bits 96 n ≡ front) (many : length front ≡ 96) (size : length a ≡ 128) where
-  pub all_behind : (r : Option (List Bool)) → MatchOption r (¬ (BeginsWith a (bits 96 n))) (IsBehind (bits 96 n) a) → MatchOption r (¬ (BeginsWith a front)) (λ inner. a ≡ front ++ inner)
+  pub all_behind : (r : Option (List Bool)) → MatchOption r (¬ (BeginsWith a (bits 96 n))) (IsIpv4Behind (bits 96 n) a) → MatchOption r (¬ (BeginsWith a front)) (λ inner. a ≡ front ++ inner)
   all_behind None h = λ b. h (subst (BeginsWith a) (sym is) b)
   all_behind (Some inner) h =
       let begins : BeginsWith a front = subst (BeginsWith a) is h.0 in
@@ -70,12 +70,12 @@ module _ (a front : List Bool) (n : ℕ) (is : bits 96 n ≡ front) (many : leng
       let whole : take 32 (drop (length front) a) ≡ drop (length front) a = take_all 32 (drop (length front) a) (omega (arith, length-drop (length front) a)) in
       sym (take-append-drop (length front) a) ∙ ap₂ (λ x y. x ++ y) begins (sym (rest ∙ whole))
 
-pub mapped_behind : (a : List Bool) → length a ≡ 128 → (r : Option (List Bool)) → MatchOption r (¬ (BeginsWith a (bits 96 65535))) (IsBehind (bits 96 65535) a)
+pub mapped_behind : (a : List Bool) → length a ≡ 128 → (r : Option (List Bool)) → MatchOption r (¬ (BeginsWith a (bits 96 65535))) (IsIpv4Behind (bits 96 65535) a)
     → MatchOption r (¬ (BeginsWith a mapped_front)) (λ inner. a ≡ mapped_front ++ inner)
 mapped_behind a size r h = all_behind a mapped_front 65535 mapped_bits refl size r h
 
 pub nat64_behind : (a : List Bool) → length a ≡ 128 → (r : Option (List Bool))
-    → MatchOption r (¬ (BeginsWith a (bits 96 0x0064_ff9b_0000_0000_0000_0000))) (IsBehind (bits 96 0x0064_ff9b_0000_0000_0000_0000) a)
+    → MatchOption r (¬ (BeginsWith a (bits 96 0x0064_ff9b_0000_0000_0000_0000))) (IsIpv4Behind (bits 96 0x0064_ff9b_0000_0000_0000_0000) a)
     → MatchOption r (¬ (BeginsWith a nat64_front)) (λ inner. a ≡ nat64_front ++ inner)
 nat64_behind a size r h = all_behind a nat64_front 0x0064_ff9b_0000_0000_0000_0000 nat64_bits (nat64_length) size r h
   where

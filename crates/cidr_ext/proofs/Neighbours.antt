@@ -12,7 +12,7 @@ use Rattle.cidr.specs.declared.family.Family.{Family}
 use Rattle.cidr.specs.model.Host.{Host, host_of, stepped_up, stepped_down, host_part, WrapsUp, WrapsDown}
 use Rattle.cidr.specs.model.Network.{width_of, zeros, ones, first_of, network_from}
 use Rattle.cidr.specs.laws.BitLaws.{length-bits, number-bits, number-lt, number-append, bits-number, bits-zero, bits-ones, bits-cat}
-use Rattle.cidr_ext.specs.Subnets.{IsNext}
+use Rattle.cidr_ext.specs.Subnets.{IsNextNetwork}
 use Rattle.cidr_ext.proofs.Indexes.{number-zeros, network_made}
 
 number-first_of : (w : ℕ) (p : List Bool) → number (first_of w p) ≡ number p * 2 ^ (w - length p)
@@ -62,7 +62,7 @@ module _ (w : ℕ) (p : List Bool) (within : length p ≤ w) where
       let sum : host_part (host_of (first_of w p) 0) + 2 ^ (w - length p) ≡ (number p + 1) * 2 ^ (w - length p) = omega (arith, whole_part, one_more) in
       ap (λ x. bits (w - 0) (x % 2 ^ (w - 0))) sum ∙ counted_bits w (length p) (number p + 1) within (next_fits h)
 
-  pub is_next : ¬ (WrapsUp w (host_of (first_of w p) 0) (2 ^ (w - length p))) → IsNext p (bits (length p) (number p + 1))
+  pub is_next : ¬ (WrapsUp w (host_of (first_of w p) 0) (2 ^ (w - length p))) → IsNextNetwork p (bits (length p) (number p + 1))
   is_next h = (length-bits (length p) (number p + 1), number-bits (length p) (number p + 1) (next_fits h))
 
   pub first_wraps : WrapsDown (host_of (first_of w p) 0) (2 ^ (w - length p)) → p ≡ zeros (length p)
@@ -110,7 +110,7 @@ module _ (w : ℕ) (p : List Bool) (within : length p ≤ w) where
       let below = number-lt p in
       ap (bits (w - 0)) (back_sum more) ∙ counted_bits w (length p) (number p - 1) within (omega arith)
 
-  pub is_previous : ¬ (WrapsDown (host_of (first_of w p) 0) (2 ^ (w - length p))) → IsNext (bits (length p) (number p - 1)) p
+  pub is_previous : ¬ (WrapsDown (host_of (first_of w p) 0) (2 ^ (w - length p))) → IsNextNetwork (bits (length p) (number p - 1)) p
   is_previous h =
       let more = not_first h in
       let below = number-lt p in
@@ -144,25 +144,25 @@ module _ {C : Type 0} (family_of : C → Family) (prefix : C → List Bool) (f :
   pub next_made : (n : ℕ) (a : List Bool) (r : Result C NetworkParseError) (o : Option C)
       → n ≡ length p → stepped ≡ stepped_up (width_of f1) host step → (IsTrue wraps ↔ WrapsUp (width_of f1) host step) → wraps ≡ false → f3 ≡ f2
       → a ≡ stepped.address → seen prefix r ≡ network_from f3 a n → IfOk r (λ c. family_of c ≡ f3) → o ≡ result_ok r
-      → MatchOption o (p ≡ ones (length p)) (λ c. (family_of c ≡ f) × IsNext p (prefix c))
+      → MatchOption o (p ≡ ones (length p)) (λ c. (family_of c ≡ f) × IsNextNetwork p (prefix c))
   next_made n a r o len going tells not three by made same ok =
       let some = goes_on WrapsUp tells not in
       let q = bits (length p) (number p + 1) in
       let address : a ≡ q ++ zeros (width_of f - length p) =
       by ∙ ap (λ x. x.address) (going ∙ moved stepped_up) ∙ next_address (width_of f) p within some in
       network_made family_of prefix f (length p) q f3 a r o (length-bits (length p) (number p + 1)) within address (three ∙ two ∙ one)
-      (made ∙ ap (network_from f3 a) len) same ok (p ≡ ones (length p)) (λ c. (family_of c ≡ f) × IsNext p (prefix c))
+      (made ∙ ap (network_from f3 a) len) same ok (p ≡ ones (length p)) (λ c. (family_of c ≡ f) × IsNextNetwork p (prefix c))
       (λ c is bits_are. (is, rw bits_are (is_next (width_of f) p within some)))
 
   pub previous_made : (n : ℕ) (a : List Bool) (r : Result C NetworkParseError) (o : Option C)
       → n ≡ length p → stepped ≡ stepped_down (width_of f1) host step → (IsTrue wraps ↔ WrapsDown host step) → wraps ≡ false → f3 ≡ f2
       → a ≡ stepped.address → seen prefix r ≡ network_from f3 a n → IfOk r (λ c. family_of c ≡ f3) → o ≡ result_ok r
-      → MatchOption o (p ≡ zeros (length p)) (λ c. (family_of c ≡ f) × IsNext (prefix c) p)
+      → MatchOption o (p ≡ zeros (length p)) (λ c. (family_of c ≡ f) × IsNextNetwork (prefix c) p)
   previous_made n a r o len going tells not three by made same ok =
       let some = goes_on (λ w. WrapsDown) tells not in
       let q = bits (length p) (number p - 1) in
       let address : a ≡ q ++ zeros (width_of f - length p) =
       by ∙ ap (λ x. x.address) (going ∙ moved stepped_down) ∙ previous_address (width_of f) p within some in
       network_made family_of prefix f (length p) q f3 a r o (length-bits (length p) (number p - 1)) within address (three ∙ two ∙ one)
-      (made ∙ ap (network_from f3 a) len) same ok (p ≡ zeros (length p)) (λ c. (family_of c ≡ f) × IsNext (prefix c) p)
+      (made ∙ ap (network_from f3 a) len) same ok (p ≡ zeros (length p)) (λ c. (family_of c ≡ f) × IsNextNetwork (prefix c) p)
       (λ c is bits_are. (is, rw bits_are (is_previous (width_of f) p within some)))

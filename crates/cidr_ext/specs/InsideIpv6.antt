@@ -16,5 +16,5 @@ abbrev pub nat64_front : List Bool
 nat64_front = bits 32 0x0064_ff9b ++ zeros 64
 
 -- the address begins with these bits, and the 32 bits behind them are the IPv4 address
-abbrev pub IsBehind : List Bool → List Bool → List Bool → Type 0
-IsBehind front a inner = BeginsWith a front × (inner ≡ take 32 (drop (length front) a))
+abbrev pub IsIpv4Behind : List Bool → List Bool → List Bool → Type 0
+IsIpv4Behind front a inner = BeginsWith a front × (inner ≡ take 32 (drop (length front) a))

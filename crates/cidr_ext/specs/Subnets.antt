@@ -15,8 +15,8 @@ abbrev pub NoSubnetAt : ℕ → List Bool → ℕ → ℕ → Type 0
 NoSubnetAt w network n i = (n < length network) ⊎ (w < n) ⊎ (2 ^ (n - length network) ≤ i)
 
 -- the network of the same length that follows
-abbrev pub IsNext : List Bool → List Bool → Type 0
-IsNext network next = (length next ≡ length network) × (number next ≡ number network + 1)
+abbrev pub IsNextNetwork : List Bool → List Bool → Type 0
+IsNextNetwork network next = (length next ≡ length network) × (number next ≡ number network + 1)
 
 -- ---- one by one
 -- as many of the networks of n bits as `count` says, ascending from index `first` on; the family tells one of IPv4 from
@@ -44,6 +44,6 @@ AscendEachOnce inner = (i j : ℕ) (p q : Family × List Bool) → i < j → sli
     → bit_cmp p.1 q.1 ≡ Less
 
 -- how many indexes there are from one to another
-abbrev pub count_of : Option (ℕ × ℕ) → ℕ
-count_of None = 0
-count_of (Some (first, last)) = last + 1 - first
+abbrev pub index_count : Option (ℕ × ℕ) → ℕ
+index_count None = 0
+index_count (Some (first, last)) = last + 1 - first

@@ -38,16 +38,16 @@ abbrev pub behind_slash : List ℕ → List ℕ
 behind_slash text = after_first (is_byte slash) text
 
 -- the addresses before the slash: of a range both ends
-abbrev pub addresses_of : List ℕ → List (List ℕ)
-addresses_of text = slice_split (is_byte hyphen) (before_slash text)
+abbrev pub address_texts : List ℕ → List (List ℕ)
+address_texts text = slice_split (is_byte hyphen) (before_slash text)
 
 -- the groups of an address: what stands between its colons
-abbrev pub groups_of : List ℕ → List (List ℕ)
-groups_of address = slice_split (is_byte colon) address
+abbrev pub group_texts : List ℕ → List (List ℕ)
+group_texts address = slice_split (is_byte colon) address
 
 -- the octets of a group: what stands between its dots
-abbrev pub octets_of : List ℕ → List (List ℕ)
-octets_of group = slice_split (is_byte dot) group
+abbrev pub octet_texts : List ℕ → List (List ℕ)
+octet_texts group = slice_split (is_byte dot) group
 
 -- one decimal digit or more
 abbrev pub is_number : List ℕ → Bool
@@ -57,7 +57,7 @@ is_number text = not (length text == 0) && all_ascii_digits text
 -- one only in an address without colons
 abbrev pub is_dotted : List ℕ → List ℕ → Bool
 is_dotted address group =
-    list_all is_number (octets_of group) && (list_any (is_byte dot) group || not (list_any (is_byte colon) address))
+    list_all is_number (octet_texts group) && (list_any (is_byte dot) group || not (list_any (is_byte colon) address))
 
 -- ---- faults of a group of an address
 -- an octet with a zero before other digits
@@ -65,18 +65,18 @@ abbrev pub begins_with_zero : List ℕ → Bool
 begins_with_zero octet = nat_lt 1 (length octet) && (slice_index octet 0 == digit_zero)
 
 abbrev pub has_leading_zero : List ℕ → List ℕ → Bool
-has_leading_zero address group = is_dotted address group && list_any begins_with_zero (octets_of group)
+has_leading_zero address group = is_dotted address group && list_any begins_with_zero (octet_texts group)
 
 -- a number above 255
 abbrev pub is_above_255 : List ℕ → Bool
 is_above_255 octet = is_number octet && nat_lt 255 (digits_value 10 octet)
 
 abbrev pub has_large_number : List ℕ → List ℕ → Bool
-has_large_number address group = is_dotted address group && list_any is_above_255 (octets_of group)
+has_large_number address group = is_dotted address group && list_any is_above_255 (octet_texts group)
 
 -- fewer or more than four octets
 abbrev pub has_other_count : List ℕ → List ℕ → Bool
-has_other_count address group = is_dotted address group && not (length (octets_of group) == 4)
+has_other_count address group = is_dotted address group && not (length (octet_texts group) == 4)
 
 -- more than four hexadecimal digits
 abbrev pub is_long : List ℕ → List ℕ → Bool
@@ -85,7 +85,7 @@ is_long address group =
 
 -- a group of an address of the string passes the test
 abbrev pub some_group : (List ℕ → List ℕ → Bool) → List ℕ → Bool
-some_group test text = list_any (λ address. list_any (test address) (groups_of address)) (addresses_of text)
+some_group test text = list_any (λ address. list_any (test address) (group_texts address)) (address_texts text)
 
 -- ---- faults of a string
 -- the string is a network mask or a host mask (`MaskText`)

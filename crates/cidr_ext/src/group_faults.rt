@@ -4,7 +4,7 @@ ghost use Rattle.std.specs.List.{list_all, list_any};
 ghost use Rattle.std.specs.Str.{all_ascii_digits};
 ghost use Rattle.std.specs.Char.{is_ascii_hexdigit};
 ghost use Rattle.cidr.specs.texts.Ipv4Text.{dot};
-ghost use Rattle.cidr_ext.specs.TextFaults.{before_slash, begins_with_zero, group_test, groups_of, is_above_255, is_byte, is_dotted, is_long, is_number, octets_of, some_group};
+ghost use Rattle.cidr_ext.specs.TextFaults.{before_slash, begins_with_zero, group_test, group_texts, is_above_255, is_byte, is_dotted, is_long, is_number, octet_texts, some_group};
 
 /// What may be wrong with a group.
 #[derive(Clone, Copy)]
@@ -38,7 +38,7 @@ fn has(text: &str, byte: u8) -> bool
 
 /// Whether each octet of a group is a number.
 fn has_numbers_alone(group: &str) -> bool
-    ensures { result ≡ list_all is_number (octets_of group.now) }
+    ensures { result ≡ list_all is_number (octet_texts group.now) }
 {
     group.split('.').all(|octet| is_number(octet))
 }
@@ -67,14 +67,14 @@ fn is_above_255(octet: &str) -> bool
 
 /// Whether an octet of a group has a zero before other digits.
 fn has_leading_zero(group: &str) -> bool
-    ensures { result ≡ list_any begins_with_zero (octets_of group.now) }
+    ensures { result ≡ list_any begins_with_zero (octet_texts group.now) }
 {
     group.split('.').any(|octet| begins_with_zero(octet))
 }
 
 /// Whether an octet of a group is a number above 255.
 fn has_large_number(group: &str) -> bool
-    ensures { result ≡ list_any is_above_255 (octets_of group.now) }
+    ensures { result ≡ list_any is_above_255 (octet_texts group.now) }
 {
     group.split('.').any(|octet| is_above_255(octet))
 }
@@ -92,7 +92,7 @@ fn dot_count(group: &str) -> usize
 
 /// Whether a group has four octets.
 fn has_four_octets(group: &str) -> bool
-    ensures { result ≡ (length (octets_of group.now) == 4) }
+    ensures { result ≡ (length (octet_texts group.now) == 4) }
 {
     dot_count(group) == 3
 }
@@ -125,7 +125,7 @@ fn group_has(fault: GroupFault, address: &str, group: &str) -> bool
 
 /// Whether a group of an address has the fault.
 fn address_has(fault: GroupFault, address: &str) -> bool
-    ensures { result ≡ list_any (group_test fault address.now) (groups_of address.now) }
+    ensures { result ≡ list_any (group_test fault address.now) (group_texts address.now) }
 {
     address
         .split(':')

@@ -2,7 +2,7 @@
 ghost use Rattle.std.specs.Prelude.{◌≡◌, ◌^◌, ◌<◌, ◌≤◌, ◌++◌, length, MatchOption};
 ghost use Rattle.cidr.specs.model.Bits.{bits};
 ghost use Rattle.cidr.specs.model.Network.{BeginsWith};
-ghost use Rattle.cidr_ext.specs.InsideIpv6.{IsBehind, mapped_front, nat64_front, six_to_four_front};
+ghost use Rattle.cidr_ext.specs.InsideIpv6.{IsIpv4Behind, mapped_front, nat64_front, six_to_four_front};
 
 use cidr::{Address, Cidr, Ipv4Addr, Ipv4Cidr, Ipv6Addr, Ipv6Cidr};
 
@@ -37,7 +37,7 @@ pub trait Ipv6AddrExt: Address {
     /// ```
     fn to_ipv4_6to4(&self) -> Option<Ipv4Addr>
         ensures { MatchOption result (¬ (BeginsWith (Self.bits self.now) six_to_four_front))
-            (IsBehind six_to_four_front (Self.bits self.now)) };
+            (IsIpv4Behind six_to_four_front (Self.bits self.now)) };
 
     /// The IPv4 address that stands in an address with the well-known prefix of translation (NAT64), 64:ff9b::/96
     /// (RFC 6052, 2.1), or `None` for any other one. Prefixes of an operator's own are not known.
@@ -116,7 +116,8 @@ impl Ipv6CidrExt for Ipv6Cidr {
 fn ipv4_behind(address: Ipv6Addr, front: u128, len: u8) -> Option<Ipv4Addr>
     requires within { (0 < len) × (len ≤ 96) }
     requires fits { front < 2 ^ len }
-    ensures found { MatchOption result (¬ (BeginsWith address (bits len front))) (IsBehind (bits len front) address) }
+    ensures found { MatchOption result (¬ (BeginsWith address (bits len front)))
+        (IsIpv4Behind (bits len front) address) }
     ensures width { length address ≡ 128 }
 {
     let number = address.to_bits();

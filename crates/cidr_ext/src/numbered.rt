@@ -3,7 +3,7 @@ ghost use Rattle.std.specs.Prelude.{◌≡◌, ◌-◌, ◌^◌, ◌<◌, ◌≤
 ghost use Rattle.cidr.specs.model.Host.{host_of};
 ghost use Rattle.cidr.specs.model.Network.{BeginsWith, first_of, ones, width_of, zeros};
 ghost use Rattle.cidr_ext.specs.Inside.{host_mask_of, IsAddressAt, usable_of};
-ghost use Rattle.cidr_ext.specs.Subnets.{HasExactlySubnets, IsNext, IsSubnetAt, NoSubnetAt, subnets_of};
+ghost use Rattle.cidr_ext.specs.Subnets.{HasExactlySubnets, IsNextNetwork, IsSubnetAt, NoSubnetAt, subnets_of};
 
 use crate::address::AddressExt;
 use crate::shifts::{fits, greatest, shifted};
@@ -58,7 +58,7 @@ pub trait CidrExt: Cidr {
     fn next_network(&self) -> Option<Self>
         ensures { MatchOption result (Self.prefix self.now ≡ ones (length (Self.prefix self.now)))
             (λ next. (Self.family_of next ≡ Self.family_of self.now) ×
-            IsNext (Self.prefix self.now) (Self.prefix next)) };
+            IsNextNetwork (Self.prefix self.now) (Self.prefix next)) };
 
     /// The network of the same length that this one follows, or `None` for the first one of its length and family.
     ///
@@ -68,7 +68,7 @@ pub trait CidrExt: Cidr {
     fn previous_network(&self) -> Option<Self>
         ensures { MatchOption result (Self.prefix self.now ≡ zeros (length (Self.prefix self.now)))
             (λ previous. (Self.family_of previous ≡ Self.family_of self.now) ×
-            IsNext (Self.prefix previous) (Self.prefix self.now)) };
+            IsNextNetwork (Self.prefix previous) (Self.prefix self.now)) };
 
     /// The host mask, the inverse of the mask: as many unset bits as the prefix length says, then set ones.
     ///

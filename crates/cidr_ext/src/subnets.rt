@@ -4,7 +4,7 @@ ghost use Rattle.std.specs.Iterator.{YieldsFirstBy, YieldsLastBy, item_count, Up
 ghost use Rattle.std.specs.Iterator.SizeHint.{IsExactHint, IsWithinCount};
 ghost use Rattle.cidr.specs.model.Network.{width_of};
 ghost use Rattle.cidr.specs.model.Views.{in_family};
-ghost use Rattle.cidr_ext.specs.Subnets.{count_of, subnets_of};
+ghost use Rattle.cidr_ext.specs.Subnets.{index_count, subnets_of};
 
 use crate::address::AddressExt;
 use crate::numbered::CidrExt;
@@ -149,7 +149,7 @@ where
 /// Both bounds on how many indexes there are from the first to the last.
 fn hint(ends: Option<(u128, u128)>) -> (usize, Option<usize>)
     requires { IfSome ends (λ e. e.0 ≤ e.1) }
-    ensures { IsExactHint result (count_of ends) }
+    ensures { IsExactHint result (index_count ends) }
 {
     match ends {
         Some((first, last)) => match usize::try_from(last - first) {

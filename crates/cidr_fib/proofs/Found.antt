@@ -18,8 +18,8 @@ use Rattle.cidr.specs.model.Network.{BeginsWith}
 use Rattle.cidr_table.specs.Prefixes.{IsLongestRow}
 use Rattle.cidr_table.proofs.Insides.{key_at}
 use Rattle.cidr_table.proofs.Matching.{shorter}
-use Rattle.cidr_fib.specs.Ranges.{AreAnswers, AreCodes, IsAnswer, IsFound, last_leading}
-use Rattle.cidr_fib.specs.Growth.{IsUpTo, AreRanges, AreFilled}
+use Rattle.cidr_fib.specs.Ranges.{AreMatchCodes, AreCodes, IsMatchCode, IsRangeCode, last_leading}
+use Rattle.cidr_fib.specs.Growth.{IsUpTo, AreRangeEnds, HaveAllNumbers}
 use Rattle.cidr_fib.proofs.Leadings.{leading_begins}
 
 -- what lies in a network's numbers has as many bits
@@ -68,8 +68,8 @@ module _ {C : Type 0} (cmp : C → C → Ordering) (bits : C → List Bool)
 
   -- the codes of ranges are answers
   pub answers : (starts ends codes : List ℕ) → IsStrictlySortedBy cmp (keys_of rows) → length ends ≡ length starts
-      → AreRanges bits (keys_of rows) (length rows) starts ends → AreFilled bits (keys_of rows) (length rows) starts ends
-      → AreCodes bits rows ends codes → AreAnswers bits rows starts codes
+      → AreRangeEnds bits (keys_of rows) (length rows) starts ends → HaveAllNumbers bits (keys_of rows) (length rows) starts ends
+      → AreCodes bits rows ends codes → AreMatchCodes bits rows starts codes
   answers starts ends codes sorted both ranges filled coded a k within =
       let end = get_or ends k 0 in
       let code = coded k (omega (arith, within.within)) in
@@ -96,9 +96,9 @@ module _ {C : Type 0} (cmp : C → C → Ordering) (bits : C → List Bool)
 
 -- a code that is found is the answer
 pub found_answer : {C : Type 0} (bits : C → List Bool) (rows : List (C × ℕ)) (starts codes : List ℕ) (a : List Bool) (first last code : ℕ)
-    → AreAnswers bits rows starts codes → first ≡ leading a → last ≡ last_leading a → IsFound starts codes first last code
-    → ¬ (code ≡ 2 ^ 32 - 2) → IsAnswer bits rows a code
+    → AreMatchCodes bits rows starts codes → first ≡ leading a → last ≡ last_leading a → IsRangeCode starts codes first last code
+    → ¬ (code ≡ 2 ^ 32 - 2) → IsMatchCode bits rows a code
 found_answer bits rows starts codes a first last code all is_first is_last (inl e) other = absurd (other e)
 found_answer bits rows starts codes a first last code all is_first is_last (inr h) other =
     let r = h.1 in
-    subst (λ n. IsAnswer bits rows a n) (sym h.2) (all a h.0 (record { within = r.within; from = omega (arith, r.from); to = omega (arith, r.to) }))
+    subst (λ n. IsMatchCode bits rows a n) (sym h.2) (all a h.0 (record { within = r.within; from = omega (arith, r.from); to = omega (arith, r.to) }))

@@ -5,7 +5,7 @@ use Rattle.std.proofs.lemmas.List.{get_or_default, get_or-append_right, get_or_a
 use Rattle.cidr.specs.model.BitString.{leading}
 use Rattle.cidr.specs.model.Network.{BeginsWith}
 use Rattle.cidr_fib.specs.Ranges.{last_leading}
-use Rattle.cidr_fib.specs.Growth.{IsUpTo, IsFilled, AreRanges, AreFilled, IsGrowing, IsBegun, IsAscending, IsLastOf}
+use Rattle.cidr_fib.specs.Growth.{IsUpTo, HasAllNumbers, AreRangeEnds, HaveAllNumbers, IsGrowing, IsRangeBegun, StartsAscend, IsLastOf}
 use Rattle.cidr_fib.proofs.Leadings.{leading_below}
 
 -- past the end
@@ -22,11 +22,11 @@ last_of_more xs x i e =
 
 module _ {C : Type 0} (bits : C → List Bool) (keys : List C) where
   -- a range that begins behind the others, before the keys of which it is the first
-  begun : (b b' number up : ℕ) (starts ends starts' ends' : List ℕ) → AreRanges bits keys b starts ends
+  begun : (b b' number up : ℕ) (starts ends starts' ends' : List ℕ) → AreRangeEnds bits keys b starts ends
       → ((k : ℕ) → k < length starts → get_or starts k 0 ≤ number)
       → ((any : C) (a : List Bool) (j : ℕ) → j < b' → BeginsWith a (bits (get_or keys j any)) → leading a < number → j < b)
-      → IsUpTo bits keys b' number (2 ^ 64) up → IsBegun number up starts ends starts' ends'
-      → AreRanges bits keys b' starts' ends'
+      → IsUpTo bits keys b' number (2 ^ 64) up → IsRangeBegun number up starts ends starts' ends'
+      → AreRangeEnds bits keys b' starts' ends'
   begun b b' number up starts ends starts' ends' ranges upto later last r k l any a low high j lj h = elim (cases_lt (k + 1) (length starts')) [
     | inl lt ↦
         let same = r.same_start k lt in
@@ -54,7 +54,7 @@ module _ {C : Type 0} (bits : C → List Bool) (keys : List C) where
 
   -- fewer numbers
   filled_less : (b b' from from' to to' end end' : ℕ) → b ≤ b' → from ≤ from' → to' ≤ to → end' ≡ end
-      → IsFilled bits keys b from to end → IsFilled bits keys b' from' to' end'
+      → HasAllNumbers bits keys b from to end → HasAllNumbers bits keys b' from' to' end'
   filled_less b b' from from' to to' end end' le low high same f any some =
       let h = f any (omega arith) in
       let key : leading (bits (get_or keys (end' - 1) any)) ≡ leading (bits (get_or keys (end - 1) any)) = ap (λ e. leading (bits (get_or keys (e - 1) any))) same in
@@ -63,10 +63,10 @@ module _ {C : Type 0} (bits : C → List Bool) (keys : List C) where
 
   -- the key before the last end has the numbers of the last range so far
   begun_filled : (b b' number up : ℕ) (starts ends starts' ends' : List ℕ) → b ≤ b'
-      → ((k : ℕ) → k + 1 < length starts → IsFilled bits keys b (get_or starts k 0) (get_or starts (k + 1) 0) (get_or ends k 0))
-      → IsFilled bits keys b (get_or starts (length starts - 1) 0) number (get_or ends (length starts - 1) 0)
-      → IsBegun number up starts ends starts' ends'
-      → (k : ℕ) → k + 1 < length starts' → IsFilled bits keys b' (get_or starts' k 0) (get_or starts' (k + 1) 0) (get_or ends' k 0)
+      → ((k : ℕ) → k + 1 < length starts → HasAllNumbers bits keys b (get_or starts k 0) (get_or starts (k + 1) 0) (get_or ends k 0))
+      → HasAllNumbers bits keys b (get_or starts (length starts - 1) 0) number (get_or ends (length starts - 1) 0)
+      → IsRangeBegun number up starts ends starts' ends'
+      → (k : ℕ) → k + 1 < length starts' → HasAllNumbers bits keys b' (get_or starts' k 0) (get_or starts' (k + 1) 0) (get_or ends' k 0)
   begun_filled b b' number up starts ends starts' ends' le filled last r k l = elim (cases_lt (k + 1) (length starts)) [
     | inl lt ↦ filled_less b b' (get_or starts k 0) (get_or starts' k 0) (get_or starts (k + 1) 0) (get_or starts' (k + 1) 0) (get_or ends k 0) (get_or ends' k 0)
         le (omega (arith, r.same_start k l)) (omega (arith, r.next k l, get_or_default starts (k + 1) (2 ^ 64) 0 lt)) (r.same_end k l) (filled k lt)
@@ -81,9 +81,9 @@ module _ {C : Type 0} (bits : C → List Bool) (keys : List C) where
   ]
 
   -- the starts still ascend
-  begun_ascending : (number up : ℕ) (starts ends starts' ends' : List ℕ) → IsAscending starts
-      → ((k : ℕ) → k < length starts → get_or starts k 0 ≤ number) → IsBegun number up starts ends starts' ends'
-      → IsAscending starts'
+  begun_ascending : (number up : ℕ) (starts ends starts' ends' : List ℕ) → StartsAscend starts
+      → ((k : ℕ) → k < length starts → get_or starts k 0 ≤ number) → IsRangeBegun number up starts ends starts' ends'
+      → StartsAscend starts'
   begun_ascending number up starts ends starts' ends' old upto r i k le l = elim (cases_lt (k + 1) (length starts')) [
     | inl lt ↦ omega (arith, r.within, r.same_start k lt, r.same_start i (omega arith), old i k le (omega (arith, r.within)))
     | inr past ↦
@@ -106,7 +106,7 @@ module _ {C : Type 0} (bits : C → List Bool) (keys : List C) where
   -- the last open key is closed
   pub closed : (b last up : ℕ) (starts ends lasts ups starts' ends' lasts' ups' : List ℕ) → IsGrowing bits keys b starts ends lasts ups
       → 2 ≤ length lasts → last ≡ get_or lasts (length lasts - 1) 0 → up ≡ get_or ups (length lasts - 2) 0
-      → get_or starts (length starts - 1) 0 ≤ last + 1 → IsBegun (last + 1) up starts ends starts' ends'
+      → get_or starts (length starts - 1) 0 ≤ last + 1 → IsRangeBegun (last + 1) up starts ends starts' ends'
       → lasts' ≡ take (length lasts - 1) lasts → ups' ≡ take (length lasts - 1) ups
       → IsGrowing bits keys b starts' ends' lasts' ups'
   closed b last up starts ends lasts ups starts' ends' lasts' ups' g two is_last is_up le r el eu =
@@ -149,7 +149,7 @@ module _ {C : Type 0} (bits : C → List Bool) (keys : List C) where
       → ((any : C) (a : List Bool) → BeginsWith a (bits (get_or keys b any)) → (first ≤ leading a) × (leading a ≤ last))
       → ((any : C) → leading (bits (get_or keys b any)) ≤ first) → ((any : C) → last ≡ last_leading (bits (get_or keys b any)))
       → first ≤ last → get_or starts (length starts - 1) 0 ≤ first → last ≤ get_or lasts (length lasts - 1) 0
-      → IsBegun first (b + 1) starts ends starts' ends' → lasts' ≡ lasts ++ last ∷ [] → ups' ≡ ups ++ (b + 1) ∷ []
+      → IsRangeBegun first (b + 1) starts ends starts' ends' → lasts' ≡ lasts ++ last ∷ [] → ups' ≡ ups ++ (b + 1) ∷ []
       → IsGrowing bits keys (b + 1) starts' ends' lasts' ups'
   added b first last starts ends lasts ups starts' ends' lasts' ups' g key own exact some in_order inside r el eu =
       let size : length lasts' ≡ length lasts + 1 = omega (arith, ap length el, length-append lasts (last ∷ [])) in
@@ -253,7 +253,7 @@ module _ {C : Type 0} (bits : C → List Bool) (keys : List C) where
         rw (zero_p, zero_q) (omega arith);
   }
     where
-      alone : IsAscending (0 ∷ [])
+      alone : StartsAscend (0 ∷ [])
       alone zero k le l = omega arith
       alone (suc i) k le l = absurd (omega arith)
 
@@ -263,7 +263,7 @@ module _ {C : Type 0} (bits : C → List Bool) (keys : List C) where
 
   -- where the open keys end with the numbers
   pub all_filled : (b : ℕ) (starts ends lasts ups : List ℕ) → IsGrowing bits keys b starts ends lasts ups
-      → 2 ^ 64 - 1 ≤ get_or lasts (length lasts - 1) 0 → AreFilled bits keys b starts ends
+      → 2 ^ 64 - 1 ≤ get_or lasts (length lasts - 1) 0 → HaveAllNumbers bits keys b starts ends
   all_filled b starts ends lasts ups g most k l = elim (cases_lt (k + 1) (length starts)) [
     | inl lt ↦ rw (get_or_default starts (k + 1) (2 ^ 64) 0 lt) (g.filled k lt)
     | inr past ↦

@@ -2,12 +2,12 @@
 use Rattle.std.proofs.Common.{◌≡◌, ◌∙◌, ap, arith, inl, inr, ℕ, ◌+◌, ◌-◌, ◌*◌, ◌/◌, ◌%◌, ◌^◌, ◌<◌, ◌≤◌, List, [], ◌∷◌, ◌++◌, length, map, get_or, length-append}
 use Rattle.std.proofs.lemmas.Bool.{cases_lt}
 use Rattle.std.proofs.lemmas.List.{get_or-map, get_or_append_left, length-map}
-use Rattle.cidr_fib.specs.Growth.{IsAscending}
-use Rattle.cidr_fib.specs.Ranges.{AreFirsts, AreParted, IsRangeOf}
+use Rattle.cidr_fib.specs.Growth.{StartsAscend}
+use Rattle.cidr_fib.specs.Ranges.{AreFirsts, AreParted, IsRangeOfAll}
 use Rattle.cidr_fib.proofs.Growth.{last_of_more, none_past}
 
 -- starts ascend as their numbers do
-pub starts_ascend : (starts : List ℕ) → IsAscending (map (λ start. start * 2 ^ 32) starts) → IsAscending starts
+pub starts_ascend : (starts : List ℕ) → StartsAscend (map (λ start. start * 2 ^ 32) starts) → StartsAscend starts
 starts_ascend starts ascending i k le l =
     let f = λ (start : ℕ). start * 2 ^ 32 in
     let size : length (map f starts) ≡ length starts = length-map starts f in
@@ -33,7 +33,7 @@ pub is_range : (starts firsts lows : List ℕ) (p from to end first last : ℕ) 
     → first / 2 ^ 48 ≡ p → last / 2 ^ 48 ≡ p
     → (from < end → get_or lows (end - 1) 0 ≤ first / 2 ^ 32 % 2 ^ 16)
     → (end < to → last / 2 ^ 32 % 2 ^ 16 < get_or lows end 0)
-    → IsRangeOf (map (λ start. start * 2 ^ 32) starts) first last (end - 1)
+    → IsRangeOfAll (map (λ start. start * 2 ^ 32) starts) first last (end - 1)
 is_range starts firsts lows p from to end first last parted few is_from is_to some above below within fits is_first is_last upto next =
     let f = λ (start : ℕ). start * 2 ^ 32 in
     let m = λ (start : ℕ). start % 2 ^ 16 in

@@ -11,7 +11,7 @@ use Rattle.cidr.specs.model.BitString.{leading}
 use Rattle.cidr.specs.model.Network.{zeros}
 use Rattle.cidr.specs.laws.BitLaws.{number-lt}
 use Rattle.cidr_fib.specs.Ranges.{last_leading}
-use Rattle.cidr_fib.specs.Growth.{IsGrowing, last_of}
+use Rattle.cidr_fib.specs.Growth.{IsGrowing, last_or_zero}
 use Rattle.cidr_fib.proofs.Leadings.{wide, no_number, ends_within, leading_ends}
 
 ascend : (n w : ℕ) (p q : List Bool) → w ≤ n → bit_cmp p q ≡ Less → number (take w (p ++ zeros n)) ≤ number (take w (q ++ zeros n))
@@ -92,15 +92,15 @@ module _ {C : Type 0} (cmp : C → C → Ordering) (bits : C → List Bool)
 
   -- the next key is in the last open key that it begins in
   pub inside_open : (b first last : ℕ) (starts ends lasts ups : List ℕ) → IsGrowing bits keys b starts ends lasts ups → b < length keys
-      → first ≡ leading (bits (get_or keys b any)) → last ≡ last_leading (bits (get_or keys b any)) → first ≤ last_of lasts → last ≤ last_of lasts
+      → first ≡ leading (bits (get_or keys b any)) → last ≡ last_leading (bits (get_or keys b any)) → first ≤ last_or_zero lasts → last ≤ last_or_zero lasts
   inside_open b first last starts ends lasts ups g l is_first is_last reached = elim (cases_lt 0 (length lasts - 1)) [
     | inl more ↦
         let opened = g.open_keys (length lasts - 1) more (omega arith) in
         let end = get_or ups (length lasts - 1) 0 in
-        let own : last_of lasts ≡ last_leading (bits (get_or keys (end - 1) any)) = opened.2 any in
+        let own : last_or_zero lasts ≡ last_leading (bits (get_or keys (end - 1) any)) = opened.2 any in
         omega (arith, own, keys_nest (end - 1) b (omega (arith, opened.0, opened.1)) l (omega (arith, own)))
     | inr one ↦
         let at : length lasts - 1 ≡ 0 = omega arith in
-        let first_is : last_of lasts ≡ 2 ^ 64 - 1 = ap (λ i. get_or lasts i 0) at ∙ g.open_first in
+        let first_is : last_or_zero lasts ≡ 2 ^ 64 - 1 = ap (λ i. get_or lasts i 0) at ∙ g.open_first in
         omega (arith, first_is, leading_ends (bits (get_or keys b any)))
   ]

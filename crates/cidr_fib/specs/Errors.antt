@@ -8,10 +8,10 @@ module _ {C : Type 0} where
   is_too_large row = nat_le (2 ^ 32 - 2) row.1
 
   -- too many rows; or else the index of the first value that is too large; or else no memory
-  abbrev pub IsRefused : List (C × ℕ) → ForwardingError → Type 0
-  IsRefused rows TooManyRows = 2 ^ 32 - 1 ≤ length rows
-  IsRefused rows (TooLarge place) = (length rows < 2 ^ 32 - 1) × (position is_too_large rows ≡ Some place)
-  IsRefused rows NoMemory = (length rows < 2 ^ 32 - 1) × (position is_too_large rows ≡ None)
+  abbrev pub AreRowsRefused : List (C × ℕ) → ForwardingError → Type 0
+  AreRowsRefused rows TooManyRows = 2 ^ 32 - 1 ≤ length rows
+  AreRowsRefused rows (TooLarge place) = (length rows < 2 ^ 32 - 1) × (position is_too_large rows ≡ Some place)
+  AreRowsRefused rows NoMemory = (length rows < 2 ^ 32 - 1) × (position is_too_large rows ≡ None)
 
 -- of a set: too many networks, or no memory
 abbrev pub IsSetRefused : {C : Type 0} → List C → ForwardingError → Type 0

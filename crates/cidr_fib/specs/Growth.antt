@@ -7,12 +7,12 @@ use Rattle.cidr_fib.specs.declared.ranges.Growing.{Growing}
 use Rattle.cidr_fib.specs.Ranges.{last_leading, numbers}
 
 -- no start is below one before it
-abbrev pub IsAscending : List ℕ → Type 0
-IsAscending starts = (i k : ℕ) → i ≤ k → k < length starts → slice_index_or starts i 0 ≤ slice_index_or starts k 0
+abbrev pub StartsAscend : List ℕ → Type 0
+StartsAscend starts = (i k : ℕ) → i ≤ k → k < length starts → slice_index_or starts i 0 ≤ slice_index_or starts k 0
 
 -- the last number of a list, or 0
-abbrev pub last_of : List ℕ → ℕ
-last_of xs = slice_index_or xs (length xs - 1) 0
+abbrev pub last_or_zero : List ℕ → ℕ
+last_or_zero xs = slice_index_or xs (length xs - 1) 0
 
 module _ {C : Type 0} (bits : C → List Bool) (keys : List C) where
   -- of the first `bound` keys, those that begin bits of these numbers stand before `end`
@@ -21,19 +21,19 @@ module _ {C : Type 0} (bits : C → List Bool) (keys : List C) where
       → (j : ℕ) → j < bound → BeginsWith a (bits (slice_index_or keys j any)) → j < end
 
   -- the key before `end` has all these numbers
-  abbrev pub IsFilled : (bound from to end : ℕ) → Type 0
-  IsFilled bound from to end = (any : C) → 0 < end
+  abbrev pub HasAllNumbers : (bound from to end : ℕ) → Type 0
+  HasAllNumbers bound from to end = (any : C) → 0 < end
       → (end ≤ bound) × (leading (bits (slice_index_or keys (end - 1) any)) ≤ from) × (to ≤ last_leading (bits (slice_index_or keys (end - 1) any)) + 1)
 
   -- each range has the end before which those keys stand that begin bits of its numbers
-  abbrev pub AreRanges : (bound : ℕ) → List ℕ → List ℕ → Type 0
-  AreRanges bound starts ends = (k : ℕ) → k < length starts
+  abbrev pub AreRangeEnds : (bound : ℕ) → List ℕ → List ℕ → Type 0
+  AreRangeEnds bound starts ends = (k : ℕ) → k < length starts
       → IsUpTo bound (slice_index_or starts k 0) (slice_index_or starts (k + 1) (2 ^ 64)) (slice_index_or ends k 0)
 
   -- and the key before that end has all its numbers
-  abbrev pub AreFilled : (bound : ℕ) → List ℕ → List ℕ → Type 0
-  AreFilled bound starts ends = (k : ℕ) → k < length starts
-      → IsFilled bound (slice_index_or starts k 0) (slice_index_or starts (k + 1) (2 ^ 64)) (slice_index_or ends k 0)
+  abbrev pub HaveAllNumbers : (bound : ℕ) → List ℕ → List ℕ → Type 0
+  HaveAllNumbers bound starts ends = (k : ℕ) → k < length starts
+      → HasAllNumbers bound (slice_index_or starts k 0) (slice_index_or starts (k + 1) (2 ^ 64)) (slice_index_or ends k 0)
 
   -- the key before the end has this last number
   abbrev pub IsLastOf : (bound last end : ℕ) → Type 0
@@ -44,9 +44,9 @@ module _ {C : Type 0} (bits : C → List Bool) (keys : List C) where
   pub record IsGrowing (bound : ℕ) (starts ends open_lasts open_ends : List ℕ) : Type 0 where
     pub some : 0 < length starts
     pub both : length ends ≡ length starts
-    pub ranges : AreRanges bound starts ends
-    pub filled : (k : ℕ) → k + 1 < length starts → IsFilled bound (slice_index_or starts k 0) (slice_index_or starts (k + 1) 0) (slice_index_or ends k 0)
-    pub ascending : IsAscending starts
+    pub ranges : AreRangeEnds bound starts ends
+    pub filled : (k : ℕ) → k + 1 < length starts → HasAllNumbers bound (slice_index_or starts k 0) (slice_index_or starts (k + 1) 0) (slice_index_or ends k 0)
+    pub ascending : StartsAscend starts
     pub top : slice_index_or ends (length starts - 1) 0 ≡ slice_index_or open_ends (length open_lasts - 1) 0
     pub open_some : 0 < length open_lasts
     pub open_both : length open_ends ≡ length open_lasts
@@ -55,12 +55,12 @@ module _ {C : Type 0} (bits : C → List Bool) (keys : List C) where
     pub opened : (p : ℕ) → p + 1 < length open_lasts
         → IsUpTo bound (slice_index_or open_lasts (p + 1) 0 + 1) (2 ^ 64) (slice_index_or open_ends p 0)
     pub open_filled : (p : ℕ) → p < length open_lasts
-        → IsFilled bound (slice_index_or starts (length starts - 1) 0) (slice_index_or open_lasts p 0 + 1) (slice_index_or open_ends p 0)
+        → HasAllNumbers bound (slice_index_or starts (length starts - 1) 0) (slice_index_or open_lasts p 0 + 1) (slice_index_or open_ends p 0)
     pub reaching : (p : ℕ) → p < length open_lasts → slice_index_or starts (length starts - 1) 0 ≤ slice_index_or open_lasts p 0 + 1
     pub nested : (p q : ℕ) → p ≤ q → q < length open_lasts → slice_index_or open_lasts q 0 ≤ slice_index_or open_lasts p 0
 
 -- the ranges with one more, from the number on, which is the last
-pub record IsBegun (number up : ℕ) (starts ends starts' ends' : List ℕ) : Type 0 where
+pub record IsRangeBegun (number up : ℕ) (starts ends starts' ends' : List ℕ) : Type 0 where
   pub some : 0 < length starts'
   pub within : length starts' ≤ length starts + 1
   pub both : length ends' ≡ length starts'

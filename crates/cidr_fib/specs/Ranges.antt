@@ -18,7 +18,7 @@ abbrev pub last_leading : List Bool → ℕ
 last_leading p = leading p + (2 ^ (64 - length p) - 1)
 
 -- the range has all numbers from the first to the last
-pub record IsRangeOf (starts : List ℕ) (first last k : ℕ) : Type 0 where
+pub record IsRangeOfAll (starts : List ℕ) (first last k : ℕ) : Type 0 where
   pub within : k < length starts
   pub from : slice_index_or starts k 0 ≤ first
   pub to : last < slice_index_or starts (k + 1) (2 ^ 64)
@@ -37,11 +37,11 @@ pub record AreParted (starts firsts lows : List ℕ) : Type 0 where
 -- the entry of a part of 2 ^ 46 numbers: the code of a range that has them all, or none of the codes that are kept so
 abbrev pub IsEntry : (starts codes : List ℕ) (part entry : ℕ) → Type 0
 IsEntry starts codes part entry = ((2 ^ 31 ≤ entry) × (entry < 2 ^ 32 - 1))
-    ⊎ ((k : ℕ) × IsRangeOf starts (part * 2 ^ 46) (part * 2 ^ 46 + (2 ^ 46 - 1)) k × (entry ≡ slice_index_or codes k 0))
+    ⊎ ((k : ℕ) × IsRangeOfAll starts (part * 2 ^ 46) (part * 2 ^ 46 + (2 ^ 46 - 1)) k × (entry ≡ slice_index_or codes k 0))
 
 -- that of each part
-abbrev pub AreEntries : (starts codes entries : List ℕ) → Type 0
-AreEntries starts codes entries = (p : ℕ) → p < length entries → IsEntry starts codes p (slice_index_or entries p 0)
+abbrev pub ArePartEntries : (starts codes entries : List ℕ) → Type 0
+ArePartEntries starts codes entries = (p : ℕ) → p < length entries → IsEntry starts codes p (slice_index_or entries p 0)
 
 -- ranges with these starts and codes
 abbrev pub AreCoded : (starts codes : List ℕ) → Ranges → Type 0
@@ -49,27 +49,27 @@ AreCoded starts codes (Whole ranges) = (numbers ranges.starts ≡ starts) × (ra
 AreCoded starts codes (Parted ranges) = (ranges.codes.items ≡ codes)
     × ((narrow : List ℕ) × (map (λ start. start * 2 ^ 32) narrow ≡ starts) × AreParted narrow ranges.firsts.items ranges.lows.items)
 AreCoded starts codes (Marked ranges) = (map (λ start. start * 2 ^ 32) ranges.starts.items ≡ starts) × (ranges.codes.items ≡ codes)
-    × AreEntries starts codes ranges.parts.entries.items
+    × ArePartEntries starts codes ranges.parts.entries.items
 
 -- the code of a range of these numbers, or the one that says nothing
-abbrev pub IsFound : (starts codes : List ℕ) (first last code : ℕ) → Type 0
-IsFound starts codes first last code =
-    (code ≡ 2 ^ 32 - 2) ⊎ ((k : ℕ) × IsRangeOf starts first last k × (code ≡ slice_index_or codes k 0))
+abbrev pub IsRangeCode : (starts codes : List ℕ) (first last code : ℕ) → Type 0
+IsRangeCode starts codes first last code =
+    (code ≡ 2 ^ 32 - 2) ⊎ ((k : ℕ) × IsRangeOfAll starts first last k × (code ≡ slice_index_or codes k 0))
 
 module _ {C : Type 0} (bits : C → List Bool) (rows : List (C × ℕ)) where
   -- what a code says of the longest match of a look-up key: its value, or that there is none; 2 ^ 32 - 2 says nothing
-  pub record IsAnswer (asked : List Bool) (code : ℕ) : Type 0 where
+  pub record IsMatchCode (asked : List Bool) (code : ℕ) : Type 0 where
     pub some : code < 2 ^ 32 - 2 → IsValueLookedUp bits asked rows (Some code)
     pub none : code ≡ 2 ^ 32 - 1 → IsValueLookedUp bits asked rows None
 
   -- the code of each range is the answer for the look-up keys that have no number outside of it
-  abbrev pub AreAnswers : (starts codes : List ℕ) → Type 0
-  AreAnswers starts codes = (asked : List Bool) (k : ℕ) → IsRangeOf starts (leading asked) (last_leading asked) k
-      → IsAnswer asked (slice_index_or codes k 0)
+  abbrev pub AreMatchCodes : (starts codes : List ℕ) → Type 0
+  AreMatchCodes starts codes = (asked : List Bool) (k : ℕ) → IsRangeOfAll starts (leading asked) (last_leading asked) k
+      → IsMatchCode asked (slice_index_or codes k 0)
 
   -- ranges whose codes are such answers
   abbrev pub HaveAnswers : Ranges → Type 0
-  HaveAnswers ranges = (starts : List ℕ) × (codes : List ℕ) × AreCoded starts codes ranges × AreAnswers starts codes
+  HaveAnswers ranges = (starts : List ℕ) × (codes : List ℕ) × AreCoded starts codes ranges × AreMatchCodes starts codes
 
   -- the code of a range by how many rows there are up to that of its longest match, or 0 where there is none: the value
   -- of that row only where its key has at most 64 bits

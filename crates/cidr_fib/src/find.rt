@@ -3,9 +3,9 @@ ghost use Rattle.std.specs.Prelude.{◌≡◌, ℕ, ◌-◌, ◌*◌, ◌^◌, �
 ghost use Rattle.std.specs.List.Sorted.{IsStrictlySortedBy};
 ghost use Rattle.std.specs.Map.{keys_of};
 ghost use Rattle.cidr_table.specs.Prefixes.{IsValueLookedUp};
-ghost use Rattle.cidr_fib.specs.Errors.{is_too_large, IsRefused};
-ghost use Rattle.cidr_fib.specs.Growth.{IsAscending};
-ghost use Rattle.cidr_fib.specs.Ranges.{numbers, AreCoded, HaveAnswers, IsFound};
+ghost use Rattle.cidr_fib.specs.Errors.{is_too_large, AreRowsRefused};
+ghost use Rattle.cidr_fib.specs.Growth.{StartsAscend};
+ghost use Rattle.cidr_fib.specs.Ranges.{numbers, AreCoded, HaveAnswers, IsRangeCode};
 
 use crate::codes::{NOTHING, SEARCH, put_codes};
 use crate::error::ForwardingError;
@@ -43,7 +43,7 @@ pub(crate) fn answers_of<C: NetworkBits + Copy>(
     table: &LpmTable<C, u32>,
 ) -> Result<Ranges, ForwardingError>
     ensures answers { IfOk result (λ ranges. HaveAnswers C.bits table.now.rows ranges) }
-    ensures refused { IfErr result (IsRefused table.now.rows) }
+    ensures refused { IfErr result (AreRowsRefused table.now.rows) }
 {
     let rows = table.iter().as_slice();
     if rows.len() >= u32::MAX as usize {
@@ -117,7 +117,7 @@ impl Ranges {
         codes: Vec<u32>,
         rows: usize,
     ) -> Result<Ranges, AllocError>
-        requires { IsAscending (numbers starts) }
+        requires { StartsAscend (numbers starts) }
         ensures { IfOk result (λ ranges. AreCoded (numbers starts) codes.items ranges) }
     {
         match starts {
@@ -133,7 +133,7 @@ impl Ranges {
         codes: Vec<u32>,
         rows: usize,
     ) -> Result<Ranges, AllocError>
-        requires { IsAscending starts.items }
+        requires { StartsAscend starts.items }
         ensures { IfOk result (λ ranges. AreCoded (map (λ start. start * 2 ^ 32) starts.items) codes.items ranges) }
     {
         if MarkedRanges::fits(starts.as_slice(), rows) {
@@ -162,7 +162,8 @@ impl Ranges {
     /// The code of the range that has all numbers from the first to the last, or `SEARCH` where none is found.
     #[inline(always)]
     fn code(&self, first: u64, last: u64) -> u32
-        ensures { (starts codes : List ℕ) → AreCoded starts codes self.now → IsFound starts codes first last result }
+        ensures { (starts codes : List ℕ) → AreCoded starts codes self.now
+            → IsRangeCode starts codes first last result }
     {
         match self {
             Ranges::Whole(ranges) => ranges.code(first, last),
@@ -176,7 +177,7 @@ impl WholeRanges {
     /// The code of the range that has all numbers from the first to the last, or `SEARCH` where none is found.
     #[inline(always)]
     fn code(&self, first: u64, last: u64) -> u32
-        ensures { IsFound (numbers self.now.starts) self.now.codes.items first last result }
+        ensures { IsRangeCode (numbers self.now.starts) self.now.codes.items first last result }
     {
         let codes = self.codes.as_slice();
         match &self.starts {
@@ -191,7 +192,7 @@ impl WholeRanges {
 /// The code of the range that has all numbers from the first to the last, or `SEARCH` where none is found.
 #[inline(always)]
 fn code_by<N: Start>(starts: &[N], codes: &[u32], level: &FirstLevel, first: u64, last: u64) -> u32
-    ensures { IsFound (map N.value starts.now) codes.now first last result }
+    ensures { IsRangeCode (map N.value starts.now) codes.now first last result }
 {
     code_at(starts, codes, level.find(starts, first), first, last)
 }

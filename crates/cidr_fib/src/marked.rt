@@ -1,6 +1,6 @@
 //! Many ranges that nearly all begin where a network of 24 bits does: bits tell which of these they are.
 ghost use Rattle.std.specs.Prelude.{◌≡◌, ◌-◌, ◌*◌, ◌^◌, ◌<◌, ◌↔◌, ◌⊎◌, map, IfOk, IsTrue};
-ghost use Rattle.cidr_fib.specs.Ranges.{AreEntries, IsEntry, IsFound};
+ghost use Rattle.cidr_fib.specs.Ranges.{ArePartEntries, IsEntry, IsRangeCode};
 
 use crate::codes::{NOTHING, SEARCH};
 use crate::level::last_upto;
@@ -63,7 +63,7 @@ impl MarkedRanges {
         ensures starts { IfOk result (λ ranges. ranges.starts.items ≡ starts.items) }
         ensures codes { IfOk result (λ ranges. ranges.codes.items ≡ codes.items) }
         ensures entries { IfOk result (λ ranges.
-            AreEntries (map (λ start. start * 2 ^ 32) starts.items) codes.items ranges.parts.entries.items) }
+            ArePartEntries (map (λ start. start * 2 ^ 32) starts.items) codes.items ranges.parts.entries.items) }
     {
         let parts = AllParts::of(alloc, starts.as_slice(), codes.as_slice())?;
         Ok(MarkedRanges {
@@ -76,8 +76,8 @@ impl MarkedRanges {
     /// The code of the range that has all numbers from the first to the last, or `SEARCH` where none is found.
     #[inline(always)]
     pub(crate) fn code(&self, first: u64, last: u64) -> u32
-        ensures { AreEntries (map (λ start. start * 2 ^ 32) self.now.starts.items) self.now.codes.items self.now.parts.entries.items
-            → IsFound (map (λ start. start * 2 ^ 32) self.now.starts.items) self.now.codes.items first last result }
+        ensures { ArePartEntries (map (λ start. start * 2 ^ 32) self.now.starts.items) self.now.codes.items self.now.parts.entries.items
+            → IsRangeCode (map (λ start. start * 2 ^ 32) self.now.starts.items) self.now.codes.items first last result }
     {
         let part = (first / SIZE) as usize;
         let Some(entry) = self.parts.entries.get(part) else {
@@ -105,7 +105,7 @@ impl MarkedRanges {
 impl AllParts {
     /// Those of the ranges with these starts and codes.
     fn of(alloc: Global, starts: &[u32], codes: &[u32]) -> Result<AllParts, AllocError>
-        ensures { IfOk result (λ parts. AreEntries (map (λ start. start * 2 ^ 32) starts.now) codes.now parts.entries.items) }
+        ensures { IfOk result (λ parts. ArePartEntries (map (λ start. start * 2 ^ 32) starts.now) codes.now parts.entries.items) }
     {
         let mut entries = Vec::with_capacity(alloc, PARTS)?;
         let mut marks = Vec::with_capacity(alloc, PARTS)?;

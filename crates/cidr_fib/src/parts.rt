@@ -1,7 +1,7 @@
 //! Many ranges that begin with numbers of 32 bits: the first 16 bits choose a part, and the others are kept.
 ghost use Rattle.std.specs.Prelude.{◌≡◌, ℕ, ◌+◌, ◌-◌, ◌*◌, ◌/◌, ◌%◌, ◌^◌, ◌<◌, ◌≤◌, List, length, map, slice_index_or, IfOk, IsTrue};
-ghost use Rattle.cidr_fib.specs.Growth.{IsAscending};
-ghost use Rattle.cidr_fib.specs.Ranges.{AreFirsts, AreParted, IsFound, IsRangeOf};
+ghost use Rattle.cidr_fib.specs.Growth.{StartsAscend};
+ghost use Rattle.cidr_fib.specs.Ranges.{AreFirsts, AreParted, IsRangeCode, IsRangeOfAll};
 
 use crate::codes::SEARCH;
 use std::alloc::{AllocError, Global};
@@ -33,7 +33,7 @@ impl PartedRanges {
         starts: &[u32],
         codes: Vec<u32>,
     ) -> Result<PartedRanges, AllocError>
-        requires ascending { IsAscending starts.now }
+        requires ascending { StartsAscend starts.now }
         requires few { length starts.now < 2 ^ 32 }
         ensures parted { IfOk result (λ ranges. AreParted starts.now ranges.firsts.items ranges.lows.items) }
         ensures codes { IfOk result (λ ranges. ranges.codes.items ≡ codes.items) }
@@ -51,7 +51,7 @@ impl PartedRanges {
     #[inline(always)]
     pub(crate) fn code(&self, first: u64, last: u64) -> u32
         ensures { (starts : List ℕ) → AreParted starts self.now.firsts.items self.now.lows.items
-            → IsFound (map (λ start. start * 2 ^ 32) starts) self.now.codes.items first last result }
+            → IsRangeCode (map (λ start. start * 2 ^ 32) starts) self.now.codes.items first last result }
     {
         let part = (first >> 48) as usize;
         let Some(from) = self.firsts.get(part) else {
@@ -78,7 +78,7 @@ impl PartedRanges {
 
 /// For each part, and behind the last, how many starts come before it.
 fn firsts_of(alloc: Global, starts: &[u32]) -> Result<Vec<u32>, AllocError>
-    requires ascending { IsAscending starts.now }
+    requires ascending { StartsAscend starts.now }
     requires few { length starts.now < 2 ^ 32 }
     ensures { IfOk result (λ firsts. AreFirsts starts.now firsts.items) }
 {
@@ -93,7 +93,7 @@ fn firsts_of(alloc: Global, starts: &[u32]) -> Result<Vec<u32>, AllocError>
 
 /// The first index from one on whose start is at least the number, or how many starts there are.
 fn first_from(starts: &[u32], from: usize, number: u64) -> usize
-    requires ascending { IsAscending starts.now }
+    requires ascending { StartsAscend starts.now }
     requires from { from ≤ length starts.now }
     requires less { (i : ℕ) → i < from → slice_index_or starts.now i 0 < number }
     ensures within { result ≤ length starts.now }
@@ -196,7 +196,7 @@ fn has_all(lows: &[u16], from: usize, to: usize, end: usize, first: u64, last: u
         → first / 2 ^ 48 + 1 < length firsts
         → slice_index_or firsts (first / 2 ^ 48) 0 ≡ from
         → slice_index_or firsts (first / 2 ^ 48 + 1) 0 ≡ to
-        → IsRangeOf (map (λ start. start * 2 ^ 32) starts) first last (end - 1) }
+        → IsRangeOfAll (map (λ start. start * 2 ^ 32) starts) first last (end - 1) }
 {
     if first >> 48 != last >> 48 {
         return false;

@@ -3,7 +3,7 @@ ghost use Rattle.std.specs.Prelude.{◌≡◌, ℕ, ◌+◌, ◌-◌, ◌^◌, �
 ghost use Rattle.std.specs.List.Sorted.{IsStrictlySortedBy};
 ghost use Rattle.std.specs.Map.{keys_of};
 ghost use Rattle.cidr.specs.model.BitString.{leading};
-ghost use Rattle.cidr_fib.specs.Growth.{AreRanges, AreFilled, AreGrowing, IsAscending, IsBegun, last_of};
+ghost use Rattle.cidr_fib.specs.Growth.{AreRangeEnds, HaveAllNumbers, AreGrowing, StartsAscend, IsRangeBegun, last_or_zero};
 ghost use Rattle.cidr_fib.specs.Ranges.{last_leading, numbers};
 
 use crate::starts::Starts;
@@ -40,9 +40,9 @@ pub(crate) fn ranges_of<C: NetworkBits + Copy>(
     requires sorted { IsStrictlySortedBy C.cmp (keys_of rows.now) }
     requires few { length rows.now < 2 ^ 32 - 1 }
     ensures both { IfOk result (λ ranges. length ranges.ends.items ≡ length (numbers ranges.starts)) }
-    ensures ascending { IfOk result (λ ranges. IsAscending (numbers ranges.starts)) }
-    ensures ranges { IfOk result (λ ranges. AreRanges C.bits (keys_of rows.now) (length rows.now) (numbers ranges.starts) ranges.ends.items) }
-    ensures filled { IfOk result (λ ranges. AreFilled C.bits (keys_of rows.now) (length rows.now) (numbers ranges.starts) ranges.ends.items) }
+    ensures ascending { IfOk result (λ ranges. StartsAscend (numbers ranges.starts)) }
+    ensures ranges { IfOk result (λ ranges. AreRangeEnds C.bits (keys_of rows.now) (length rows.now) (numbers ranges.starts) ranges.ends.items) }
+    ensures filled { IfOk result (λ ranges. HaveAllNumbers C.bits (keys_of rows.now) (length rows.now) (numbers ranges.starts) ranges.ends.items) }
 {
     let mut growing = Growing::new(alloc, rows.len(), are_narrow(rows))?;
     for place in 0..rows.len() {
@@ -96,9 +96,9 @@ fn add<C: NetworkBits + Copy>(
     requires place { place < length rows.now }
     requires few { place + 1 < 2 ^ 32 }
     requires growing { AreGrowing C.bits rows.now place growing.old }
-    requires ahead { (any : C) → last_of (numbers growing.old.starts) ≤ leading (C.bits (slice_index_or (keys_of rows.now) place any)) }
+    requires ahead { (any : C) → last_or_zero (numbers growing.old.starts) ≤ leading (C.bits (slice_index_or (keys_of rows.now) place any)) }
     ensures growing { OnOk result (AreGrowing C.bits rows.now (place + 1) growing.new) }
-    ensures start { OnOk result ((any : C) → last_of (numbers growing.new.starts) ≡ leading (C.bits (slice_index_or (keys_of rows.now) place any))) }
+    ensures start { OnOk result ((any : C) → last_or_zero (numbers growing.new.starts) ≡ leading (C.bits (slice_index_or (keys_of rows.now) place any))) }
 {
     let row = &rows[place];
     let first = row.0.first_bits();
@@ -121,8 +121,8 @@ fn close<C: NetworkBits + Copy>(
 ) -> Result<(), AllocError>
     requires { AreGrowing C.bits rows.now place growing.old }
     ensures growing { OnOk result (AreGrowing C.bits rows.now place growing.new) }
-    ensures closed { OnOk result (number ≤ last_of growing.new.open_lasts.items) }
-    ensures start { OnOk result (last_of (numbers growing.old.starts) ≤ number → last_of (numbers growing.new.starts) ≤ number) }
+    ensures closed { OnOk result (number ≤ last_or_zero growing.new.open_lasts.items) }
+    ensures start { OnOk result (last_or_zero (numbers growing.old.starts) ≤ number → last_or_zero (numbers growing.new.starts) ≤ number) }
 {
     loop {
         let count = growing.open_lasts.len();
@@ -150,7 +150,8 @@ fn begin(
 ) -> Result<(), AllocError>
     requires some { 0 < length (numbers starts.old) }
     requires both { length ends.old.items ≡ length (numbers starts.old) }
-    ensures { OnOk result (IsBegun start end (numbers starts.old) ends.old.items (numbers starts.new) ends.new.items) }
+    ensures { OnOk result
+        (IsRangeBegun start end (numbers starts.old) ends.old.items (numbers starts.new) ends.new.items) }
 {
     if starts.last() == start {
         let last = ends.len() - 1;

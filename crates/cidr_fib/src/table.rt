@@ -1,7 +1,7 @@
 //! Forwarding tables, each with the table that it is made of.
 ghost use Rattle.std.specs.Prelude.{◌≡◌, IfOk, IfErr};
 ghost use Rattle.cidr_table.specs.Prefixes.{IsValueLookedUp};
-ghost use Rattle.cidr_fib.specs.Errors.{IsRefused};
+ghost use Rattle.cidr_fib.specs.Errors.{AreRowsRefused};
 
 use crate::error::ForwardingError;
 use crate::find::{Ranges, answers_of, found};
@@ -52,7 +52,7 @@ impl<C: NetworkBits + Copy> ForwardingTable<C> {
     ) -> Result<Self, (LpmTable<C, u32>, ForwardingError)>
         ensures ok { IfOk result (λ ready. ready ≡ table) }
         ensures err { IfErr result (λ refused. refused.0 ≡ table) }
-        ensures refused { IfErr result (λ refused. IsRefused table.rows refused.1) }
+        ensures refused { IfErr result (λ refused. AreRowsRefused table.rows refused.1) }
     {
         match answers_of(alloc, &table) {
             Ok(ranges) => Ok(ForwardingTable { table, ranges }),

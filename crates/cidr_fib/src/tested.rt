@@ -1,6 +1,6 @@
 //! The code of a range at a place that may be wrong: it is tested.
 ghost use Rattle.std.specs.Prelude.{map, IsTrue};
-ghost use Rattle.cidr_fib.specs.Ranges.{IsFound, IsRangeOf};
+ghost use Rattle.cidr_fib.specs.Ranges.{IsRangeCode, IsRangeOfAll};
 
 use crate::codes::SEARCH;
 use crate::starts::Start;
@@ -14,7 +14,7 @@ pub(crate) fn code_at<N: Start>(
     first: u64,
     last: u64,
 ) -> u32
-    ensures { IsFound (map N.value starts.now) codes.now first last result }
+    ensures { IsRangeCode (map N.value starts.now) codes.now first last result }
 {
     if !has_all(starts, at, first, last) {
         return SEARCH;
@@ -28,7 +28,7 @@ pub(crate) fn code_at<N: Start>(
 /// Whether a range has all numbers from the first to the last.
 #[inline(always)]
 pub(crate) fn has_all<N: Start>(starts: &[N], at: usize, first: u64, last: u64) -> bool
-    ensures { IsTrue result → IsRangeOf (map N.value starts.now) first last at }
+    ensures { IsTrue result → IsRangeOfAll (map N.value starts.now) first last at }
 {
     if at >= starts.len() || !starts[at].is_upto(first) {
         return false;

@@ -2,25 +2,25 @@
 use Rattle.std.proofs.Common.{◌≡◌, refl, sym, ◌∙◌, ap, ap₂, subst, arith, ℕ, zero, suc, ◌+◌, ◌*◌, ◌^◌, ◌<◌, ◌≤◌, List, [], ◌∷◌, ◌++◌, length, get_or, map, drop}
 use Rattle.std.proofs.lemmas.List.{append-nil, drop_at, length-append, length-map}
 use Rattle.std.specs.List.{zip}
-use Rattle.cidr_arrays.specs.Arrays.{Represents, networks_of}
+use Rattle.cidr_arrays.specs.Arrays.{Represents, key_networks}
 use Rattle.cidr_arrays.specs.declared.key.Key.{Key}
 use Rattle.cidr_arrays.proofs.Longest.{row_within}
 use Rattle.cidr_arrays.proofs.Numbers.{length_networks}
 use Rattle.cidr.specs.model.Bits.{bits}
-use Rattle.cidr_files.specs.Contents.{AreContents, HasRows, addresses_of, counts_of, head_of, lengths_of, parts_written}
-use Rattle.cidr_files.specs.Layout.{IsLaidOut, behind, counts_in, header, ipv4_counts, ipv4_parts, ipv4_sizes, ipv6_counts, ipv6_parts, ipv6_sizes, magic, parts_of, room_of, sizes_of, version, wide_words, words}
+use Rattle.cidr_files.specs.Contents.{AreContents, HasRows, key_addresses, counts_of, head_of, lengths_of, parts_written}
+use Rattle.cidr_files.specs.Layout.{IsLaidOut, bytes_behind, counts_in, header, ipv4_counts, ipv4_parts, ipv4_sizes, ipv6_counts, ipv6_parts, ipv6_sizes, magic, parts_by_size, padded_room, sizes_of, version, wide_words, words}
 use Rattle.cidr_files.specs.Spelling.{length-spelled, length-wide_bytes, length-word_bytes, spells_wide, spells_words, wide_bytes, word_bytes, words-spelled}
-use Rattle.cidr_files.specs.Tables.{AreOffsets, IsFile, IsSmall, IsTable, networks_in}
-use Rattle.cidr_files.specs.Written.{AreBelow, joined, spelled}
+use Rattle.cidr_files.specs.Tables.{AreOffsets, IsFile, IsSmall, IsStoredTable, stored_networks}
+use Rattle.cidr_files.specs.Written.{AreBelow, joined_parts, spelled}
 use Rattle.cidr_files.specs.declared.contents.Contents.{Contents}
 use Rattle.cidr_files.specs.declared.layout.Counts.{Counts}
 use Rattle.cidr_files.proofs.Joined.{behind-joined, length-joined, parts_of-joined}
 
 module _ (a b : Counts) (ipv4 ipv6 : List (List ℕ)) (bytes : List ℕ) (below : AreBelow (2 ^ 32) (head_of a b))
-    (is : bytes ≡ spelled word_bytes (head_of a b) ++ (joined ipv4 ++ joined ipv6))
+    (is : bytes ≡ spelled word_bytes (head_of a b) ++ (joined_parts ipv4 ++ joined_parts ipv6))
     (sizes_a : map length ipv4 ≡ sizes_of 4 a) (sizes_b : map length ipv6 ≡ sizes_of 16 b) where
-  words_are : words bytes ≡ head_of a b ++ words (joined ipv4 ++ joined ipv6)
-  words_are = ap words is ∙ words-spelled (head_of a b) below (joined ipv4 ++ joined ipv6)
+  words_are : words bytes ≡ head_of a b ++ words (joined_parts ipv4 ++ joined_parts ipv6)
+  words_are = ap words is ∙ words-spelled (head_of a b) below (joined_parts ipv4 ++ joined_parts ipv6)
 
   pub counts_a : ipv4_counts bytes ≡ a
   counts_a = ap (λ ws. counts_in ws 4) words_are
@@ -37,15 +37,15 @@ module _ (a b : Counts) (ipv4 ipv6 : List (List ℕ)) (bytes : List ℕ) (below 
   head_size : length (spelled word_bytes (head_of a b)) ≡ header
   head_size = length-spelled word_bytes 4 length-word_bytes (head_of a b)
 
-  behind_head : drop header bytes ≡ joined ipv4 ++ joined ipv6
-  behind_head = ap (drop header) is ∙ drop_at (spelled word_bytes (head_of a b)) (joined ipv4 ++ joined ipv6) header head_size
+  behind_head : drop header bytes ≡ joined_parts ipv4 ++ joined_parts ipv6
+  behind_head = ap (drop header) is ∙ drop_at (spelled word_bytes (head_of a b)) (joined_parts ipv4 ++ joined_parts ipv6) header head_size
 
   pub parts_a : ipv4_parts bytes ≡ ipv4
-  parts_a = ap₂ parts_of size_a behind_head ∙ parts_of-joined ipv4 (joined ipv6)
+  parts_a = ap₂ parts_by_size size_a behind_head ∙ parts_of-joined ipv4 (joined_parts ipv6)
 
   pub parts_b : ipv6_parts bytes ≡ ipv6
   parts_b =
-      ap₂ parts_of size_b (ap₂ behind size_a behind_head ∙ (behind-joined ipv4 (joined ipv6) ∙ sym (append-nil (joined ipv6))))
+      ap₂ parts_by_size size_b (ap₂ bytes_behind size_a behind_head ∙ (behind-joined ipv4 (joined_parts ipv6) ∙ sym (append-nil (joined_parts ipv6))))
       ∙ parts_of-joined ipv6 []
 
   pub laid_out : IsLaidOut bytes
@@ -53,28 +53,28 @@ module _ (a b : Counts) (ipv4 ipv6 : List (List ℕ)) (bytes : List ℕ) (below 
     magic_is = ap (λ ws. get_or ws 0 0) words_are;
     version_is = ap (λ ws. get_or ws 1 0) words_are;
     long =
-        let rest = length-append (joined ipv4) (joined ipv6) in
-        let all = ap length is ∙ length-append (spelled word_bytes (head_of a b)) (joined ipv4 ++ joined ipv6) in
-        let rooms : room_of (ipv4_sizes bytes) + room_of (ipv6_sizes bytes) ≡ length (joined ipv4) + length (joined ipv6) =
-        ap₂ (λ x y. room_of x + room_of y) size_a size_b ∙ sym (ap₂ (λ x y. x + y) (length-joined ipv4) (length-joined ipv6)) in
+        let rest = length-append (joined_parts ipv4) (joined_parts ipv6) in
+        let all = ap length is ∙ length-append (spelled word_bytes (head_of a b)) (joined_parts ipv4 ++ joined_parts ipv6) in
+        let rooms : padded_room (ipv4_sizes bytes) + padded_room (ipv6_sizes bytes) ≡ length (joined_parts ipv4) + length (joined_parts ipv6) =
+        ap₂ (λ x y. padded_room x + padded_room y) size_a size_b ∙ sym (ap₂ (λ x y. x + y) (length-joined ipv4) (length-joined ipv6)) in
         omega (arith, all, rest, rooms, head_size);
   }
 
 -- ---- the parts of a table
 -- networks are their addresses and their lengths
-zip-networks : {W : Type 0} (value : W → ℕ) (keys : List (Key W)) → zip (addresses_of value keys) (lengths_of keys) ≡ networks_of value keys
+zip-networks : {W : Type 0} (value : W → ℕ) (keys : List (Key W)) → zip (key_addresses value keys) (lengths_of keys) ≡ key_networks value keys
 zip-networks value [] = refl
 zip-networks value (key ∷ keys) = ap (λ rest. (value key.address, key.len) ∷ rest) (zip-networks value keys)
 
 -- the address of each key is that of a network, and so is its length
 address-network : {W : Type 0} (value : W → ℕ) (keys : List (Key W)) (i : ℕ) → i < length keys
-    → get_or (addresses_of value keys) i 0 ≡ (get_or (networks_of value keys) i (0, 0)).0
+    → get_or (key_addresses value keys) i 0 ≡ (get_or (key_networks value keys) i (0, 0)).0
 address-network value [] i l = absurd (omega arith)
 address-network value (key ∷ keys) zero l = refl
 address-network value (key ∷ keys) (suc i) l = address-network value keys i (omega arith)
 
 length-network : {W : Type 0} (value : W → ℕ) (keys : List (Key W)) (i : ℕ) → i < length keys
-    → get_or (lengths_of keys) i 0 ≡ (get_or (networks_of value keys) i (0, 0)).1
+    → get_or (lengths_of keys) i 0 ≡ (get_or (key_networks value keys) i (0, 0)).1
 length-network value [] i l = absurd (omega arith)
 length-network value (key ∷ keys) zero l = refl
 length-network value (key ∷ keys) (suc i) l = length-network value keys i (omega arith)
@@ -83,7 +83,7 @@ module _ {W : Type 0} (w : ℕ) (value : W → ℕ) (contents : Contents W) (goo
   pub starts_below : AreBelow (2 ^ w) (map value contents.starts.now)
   starts_below = λ k l. good.arrays.ranges.fits k l
 
-  pub addresses_below : AreBelow (2 ^ w) (addresses_of value contents.rows.now.keys.now)
+  pub addresses_below : AreBelow (2 ^ w) (key_addresses value contents.rows.now.keys.now)
   addresses_below = λ k l.
       let within : k < length contents.rows.now.keys.now = omega (arith, length-map contents.rows.now.keys.now (λ (key : Key W). value key.address)) in
       omega (
@@ -111,7 +111,7 @@ module _ {W : Type 0} (w : ℕ) (value : W → ℕ) (contents : Contents W) (goo
       (record { within = within; from = omega arith; last = λ i lt l'. good.arrays.ranges.ordered.ascending k i lt l' }) in
       omega (
         arith,
-        row_within w (networks_of value contents.rows.now.keys.now) (bits w start) (get_or contents.answers.now k 0) found,
+        row_within w (key_networks value contents.rows.now.keys.now) (bits w start) (get_or contents.answers.now k 0) found,
         length_networks value contents.rows.now.keys.now,
         good.rows,
       )
@@ -133,23 +133,23 @@ module _ {W : Type 0} (w : ℕ) (value : W → ℕ) (contents : Contents W) (goo
         ap₂ ◌∷◌ (length-spelled bytes size long (map value c.starts.now) ∙ ap (λ n. size * n) (length-map c.starts.now value))
         (ap₂ ◌∷◌ (word c.answers.now ∙ ap (λ n. 4 * n) (good.arrays.ranges.both ∙ length-map c.starts.now value))
         (ap₂ ◌∷◌ (word c.level.now)
-        (ap₂ ◌∷◌ (length-spelled bytes size long (addresses_of value c.rows.now.keys.now) ∙ ap (λ n. size * n) (length-map c.rows.now.keys.now (λ (key : Key W). value key.address)))
+        (ap₂ ◌∷◌ (length-spelled bytes size long (key_addresses value c.rows.now.keys.now) ∙ ap (λ n. size * n) (length-map c.rows.now.keys.now (λ (key : Key W). value key.address)))
         (ap₂ ◌∷◌ (length-map c.rows.now.keys.now (λ (key : Key W). key.len))
         (ap₂ ◌∷◌ (word c.rows.now.offsets.now ∙ ap (λ n. 4 * n) good.offsets.many) refl)))))
 
     pub has_rows : HasRows numbers (parts_written value bytes contents) value contents.rows.now
     has_rows = record {
       networks_are =
-          ap (λ xs. zip xs (lengths_of contents.rows.now.keys.now)) (spells (addresses_of value contents.rows.now.keys.now) addresses_below)
+          ap (λ xs. zip xs (lengths_of contents.rows.now.keys.now)) (spells (key_addresses value contents.rows.now.keys.now) addresses_below)
           ∙ zip-networks value contents.rows.now.keys.now;
       offsets_are = spells_words contents.rows.now.offsets.now offsets_below;
       values_are = refl;
     }
 
-    pub is_table : IsTable w numbers (parts_written value bytes contents) contents.shift
+    pub is_table : IsStoredTable w numbers (parts_written value bytes contents) contents.shift
     is_table =
         let h = has_rows in
-        let count : length (networks_in numbers (parts_written value bytes contents)) ≡ length contents.rows.now.keys.now =
+        let count : length (stored_networks numbers (parts_written value bytes contents)) ≡ length contents.rows.now.keys.now =
         ap length h.networks_are ∙ length_networks value contents.rows.now.keys.now in
         let a : numbers (spelled bytes (map value contents.starts.now)) ≡ map value contents.starts.now = spells (map value contents.starts.now) starts_below in
         let b = spells_words contents.answers.now answers_below in
@@ -157,9 +157,9 @@ module _ {W : Type 0} (w : ℕ) (value : W → ℕ) (contents : Contents W) (goo
         record {
           arrays =
               subst (λ (xs : List (ℕ × ℕ)). Represents w xs (numbers (spelled bytes (map value contents.starts.now))) (words (spelled word_bytes contents.answers.now)) (words (spelled word_bytes contents.level.now)) contents.shift) (sym h.networks_are)
-              (subst (λ (xs : List ℕ). Represents w (networks_of value contents.rows.now.keys.now) xs (words (spelled word_bytes contents.answers.now)) (words (spelled word_bytes contents.level.now)) contents.shift) (sym a)
-              (subst (λ (xs : List ℕ). Represents w (networks_of value contents.rows.now.keys.now) (map value contents.starts.now) xs (words (spelled word_bytes contents.level.now)) contents.shift) (sym b)
-              (subst (λ (xs : List ℕ). Represents w (networks_of value contents.rows.now.keys.now) (map value contents.starts.now) contents.answers.now xs contents.shift) (sym d)
+              (subst (λ (xs : List ℕ). Represents w (key_networks value contents.rows.now.keys.now) xs (words (spelled word_bytes contents.answers.now)) (words (spelled word_bytes contents.level.now)) contents.shift) (sym a)
+              (subst (λ (xs : List ℕ). Represents w (key_networks value contents.rows.now.keys.now) (map value contents.starts.now) xs (words (spelled word_bytes contents.level.now)) contents.shift) (sym b)
+              (subst (λ (xs : List ℕ). Represents w (key_networks value contents.rows.now.keys.now) (map value contents.starts.now) contents.answers.now xs contents.shift) (sym d)
               good.arrays)));
           offsets =
               subst (λ (n : ℕ). AreOffsets (words (spelled word_bytes contents.rows.now.offsets.now)) n (length contents.rows.now.values.now)) (sym count)
@@ -202,7 +202,7 @@ module _ {A B : Type 0} (value_a : A → ℕ) (value_b : B → ℕ) (ipv4 : Cont
       (below_more bound 0 (0 ∷ words_a) (omega arith) (below_more bound 0 words_a (omega arith) tail_a)))
 
   module _ (bytes : List ℕ) (is : bytes ≡ spelled word_bytes (head_of (counts_of ipv4) (counts_of ipv6))
-      ++ (joined (parts_written value_a word_bytes ipv4) ++ joined (parts_written value_b wide_bytes ipv6))) where
+      ++ (joined_parts (parts_written value_a word_bytes ipv4) ++ joined_parts (parts_written value_b wide_bytes ipv6))) where
     pub is_file : IsFile bytes × IsSmall bytes × HasRows words (ipv4_parts bytes) value_a ipv4.rows.now × HasRows wide_words (ipv6_parts bytes) value_b ipv6.rows.now
     is_file =
         let a = counts_of ipv4 in
@@ -223,8 +223,8 @@ module _ {A B : Type 0} (value_a : A → ℕ) (value_b : B → ℕ) (ipv4 : Cont
         let has6 : HasRows wide_words (ipv6_parts bytes) value_b ipv6.rows.now = subst (λ (ps : List (List ℕ)). HasRows wide_words ps value_b ipv6.rows.now) (sym e6) h6 in (
           record {
             laid_out = laid_out a b p4 p6 bytes head_below is s4 s6;
-            ipv4 = subst (λ (ps : List (List ℕ)). IsTable 32 words ps (ipv4_counts bytes).shift) (sym e4) (subst (λ (n : ℕ). IsTable 32 words p4 n) (sym shift4) t4);
-            ipv6 = subst (λ (ps : List (List ℕ)). IsTable 128 wide_words ps (ipv6_counts bytes).shift) (sym e6) (subst (λ (n : ℕ). IsTable 128 wide_words p6 n) (sym shift6) t6);
+            ipv4 = subst (λ (ps : List (List ℕ)). IsStoredTable 32 words ps (ipv4_counts bytes).shift) (sym e4) (subst (λ (n : ℕ). IsStoredTable 32 words p4 n) (sym shift4) t4);
+            ipv6 = subst (λ (ps : List (List ℕ)). IsStoredTable 128 wide_words ps (ipv6_counts bytes).shift) (sym e6) (subst (λ (n : ℕ). IsStoredTable 128 wide_words p6 n) (sym shift6) t6);
           },
           record {
             ipv4_rows = omega (arith, ap length has4.networks_are, length_networks value_a ipv4.rows.now.keys.now, good_a.rows);

@@ -1,8 +1,8 @@
 -- Parts that are written one behind the other are cut into these parts again.
 use Rattle.std.proofs.Common.{◌≡◌, refl, ◌∙◌, ap, ap₂, arith, ℕ, ◌+◌, ◌%◌, List, [], ◌∷◌, ◌++◌, append_assoc, length, map, drop, take, replicate}
 use Rattle.std.proofs.lemmas.List.{drop_at, length-append, length-replicate, take_at}
-use Rattle.cidr_files.specs.Layout.{behind, padded, parts_of, room_of}
-use Rattle.cidr_files.specs.Written.{filled, free, joined}
+use Rattle.cidr_files.specs.Layout.{bytes_behind, padded, parts_by_size, padded_room}
+use Rattle.cidr_files.specs.Written.{filled, free, joined_parts}
 
 filled_up : (n : ℕ) → n + free n ≡ padded n
 filled_up n = omega arith
@@ -23,23 +23,23 @@ drop-filled : (part rest : List ℕ) → drop (padded (length part)) (filled par
 drop-filled part rest = drop_at (filled part) rest (padded (length part)) (length-filled part)
 
 -- many, and what lies behind them
-pub parts_of-joined : (parts : List (List ℕ)) (rest : List ℕ) → parts_of (map length parts) (joined parts ++ rest) ≡ parts
+pub parts_of-joined : (parts : List (List ℕ)) (rest : List ℕ) → parts_by_size (map length parts) (joined_parts parts ++ rest) ≡ parts
 parts_of-joined [] rest = refl
 parts_of-joined (part ∷ parts) rest =
-    ap (parts_of (map length (part ∷ parts))) (append_assoc (filled part) (joined parts) rest)
-    ∙ ap₂ ◌∷◌ (take-filled part (joined parts ++ rest))
-    (ap (parts_of (map length parts)) (drop-filled part (joined parts ++ rest)) ∙ parts_of-joined parts rest)
+    ap (parts_by_size (map length (part ∷ parts))) (append_assoc (filled part) (joined_parts parts) rest)
+    ∙ ap₂ ◌∷◌ (take-filled part (joined_parts parts ++ rest))
+    (ap (parts_by_size (map length parts)) (drop-filled part (joined_parts parts ++ rest)) ∙ parts_of-joined parts rest)
 
-pub behind-joined : (parts : List (List ℕ)) (rest : List ℕ) → behind (map length parts) (joined parts ++ rest) ≡ rest
+pub behind-joined : (parts : List (List ℕ)) (rest : List ℕ) → bytes_behind (map length parts) (joined_parts parts ++ rest) ≡ rest
 behind-joined [] rest = refl
 behind-joined (part ∷ parts) rest =
-    ap (behind (map length (part ∷ parts))) (append_assoc (filled part) (joined parts) rest)
-    ∙ (ap (behind (map length parts)) (drop-filled part (joined parts ++ rest)) ∙ behind-joined parts rest)
+    ap (bytes_behind (map length (part ∷ parts))) (append_assoc (filled part) (joined_parts parts) rest)
+    ∙ (ap (bytes_behind (map length parts)) (drop-filled part (joined_parts parts ++ rest)) ∙ behind-joined parts rest)
 
-pub length-joined : (parts : List (List ℕ)) → length (joined parts) ≡ room_of (map length parts)
+pub length-joined : (parts : List (List ℕ)) → length (joined_parts parts) ≡ padded_room (map length parts)
 length-joined [] = refl
 length-joined (part ∷ parts) =
-    length-append (filled part) (joined parts) ∙ ap₂ (λ a b. a + b) (length-filled part) (length-joined parts)
+    length-append (filled part) (joined_parts parts) ∙ ap₂ (λ a b. a + b) (length-filled part) (length-joined parts)
 
 -- ---- what is written at a multiple of 8
 free_behind : (at size : ℕ) → at % 8 ≡ 0 → free (at + size) ≡ free size

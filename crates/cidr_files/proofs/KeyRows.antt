@@ -4,7 +4,7 @@ use Rattle.std.proofs.lemmas.Bool.{cases_eq}
 use Rattle.std.proofs.lemmas.List.{get_or-map, length-map, map_push, take_more}
 use Rattle.std.proofs.lemmas.Slice.Zip.{get_or-zip, length-zip}
 use Rattle.std.specs.List.{zip}
-use Rattle.cidr_arrays.specs.Arrays.{networks_of}
+use Rattle.cidr_arrays.specs.Arrays.{key_networks}
 use Rattle.cidr_arrays.specs.declared.key.Key.{Key}
 use Rattle.cidr_files.specs.Contents.{lengths_of}
 
@@ -14,9 +14,9 @@ many addresses lengths i l l' = omega (arith, length-zip addresses lengths)
 
 -- one key more
 pub keys_more : {A : Type 0} (value : A → ℕ) (addresses : List A) (lengths : List ℕ) (i : ℕ) (d : A) (keys : List (Key A)) (key : Key A)
-    → i < length addresses → i < length lengths → networks_of value keys ≡ take i (zip (map value addresses) lengths)
+    → i < length addresses → i < length lengths → key_networks value keys ≡ take i (zip (map value addresses) lengths)
     → key.address ≡ get_or addresses i d → key.len ≡ get_or lengths i 0
-    → networks_of value (keys ++ key ∷ []) ≡ take (i + 1) (zip (map value addresses) lengths)
+    → key_networks value (keys ++ key ∷ []) ≡ take (i + 1) (zip (map value addresses) lengths)
 keys_more {A} value addresses lengths i d keys key l l' same address len =
     let numbers = map value addresses in
     let l'' : i < length numbers = omega (arith, length-map addresses value) in

@@ -1,10 +1,10 @@
 -- What is written in a file.
 use Rattle.std.specs.Prelude.{◌≡◌, ℕ, ◌^◌, ◌<◌, List, [], ◌∷◌, length, map}
-use Rattle.cidr_arrays.specs.Arrays.{Represents, networks_of}
+use Rattle.cidr_arrays.specs.Arrays.{Represents, key_networks}
 use Rattle.cidr_arrays.specs.declared.key.Key.{Key}
 use Rattle.cidr_files.specs.Layout.{magic, version}
 use Rattle.cidr_files.specs.Spelling.{word_bytes}
-use Rattle.cidr_files.specs.Tables.{AreOffsets, networks_in, offsets_in, part_at}
+use Rattle.cidr_files.specs.Tables.{AreOffsets, stored_networks, offsets_in, part_at}
 use Rattle.cidr_files.specs.Written.{spelled}
 use Rattle.cidr_files.specs.declared.contents.Contents.{Contents}
 use Rattle.cidr_files.specs.declared.contents.Rows.{Rows}
@@ -12,7 +12,7 @@ use Rattle.cidr_files.specs.declared.layout.Counts.{Counts}
 
 -- they are a table that a check takes, and each count fits in a word
 pub record AreContents {W : Type 0} (w : ℕ) (value : W → ℕ) (contents : Contents W) : Type 0 where
-  pub arrays : Represents w (networks_of value contents.rows.now.keys.now) (map value contents.starts.now) contents.answers.now contents.level.now contents.shift
+  pub arrays : Represents w (key_networks value contents.rows.now.keys.now) (map value contents.starts.now) contents.answers.now contents.level.now contents.shift
   pub offsets : AreOffsets contents.rows.now.offsets.now (length contents.rows.now.keys.now) (length contents.rows.now.values.now)
   pub rows : length contents.rows.now.keys.now < 2 ^ 31
   pub ranges : length contents.starts.now < 2 ^ 32
@@ -22,7 +22,7 @@ pub record AreContents {W : Type 0} (w : ℕ) (value : W → ℕ) (contents : Co
 
 -- the parts of a table have the rows
 pub record HasRows {W : Type 0} (numbers : List ℕ → List ℕ) (parts : List (List ℕ)) (value : W → ℕ) (rows : Rows W) : Type 0 where
-  pub networks_are : networks_in numbers parts ≡ networks_of value rows.keys.now
+  pub networks_are : stored_networks numbers parts ≡ key_networks value rows.keys.now
   pub offsets_are : offsets_in parts ≡ rows.offsets.now
   pub values_are : part_at parts 6 ≡ rows.values.now
 
@@ -44,8 +44,8 @@ head_of ipv4 ipv6 =
     ∷ ipv6.rows ∷ ipv6.ranges ∷ ipv6.entries ∷ ipv6.shift ∷ ipv6.values ∷ 0 ∷ []
 
 -- the numbers of the addresses of keys, and their lengths
-abbrev pub addresses_of : {W : Type 0} → (W → ℕ) → List (Key W) → List ℕ
-addresses_of {W} value keys = map (λ (key : Key W). value key.address) keys
+abbrev pub key_addresses : {W : Type 0} → (W → ℕ) → List (Key W) → List ℕ
+key_addresses {W} value keys = map (λ (key : Key W). value key.address) keys
 
 abbrev pub lengths_of : {W : Type 0} → List (Key W) → List ℕ
 lengths_of {W} keys = map (λ (key : Key W). key.len) keys
@@ -56,7 +56,7 @@ parts_written {W} value bytes contents =
     spelled bytes (map value contents.starts.now)
     ∷ spelled word_bytes contents.answers.now
     ∷ spelled word_bytes contents.level.now
-    ∷ spelled bytes (addresses_of value contents.rows.now.keys.now)
+    ∷ spelled bytes (key_addresses value contents.rows.now.keys.now)
     ∷ lengths_of contents.rows.now.keys.now
     ∷ spelled word_bytes contents.rows.now.offsets.now
     ∷ contents.rows.now.values.now ∷ []

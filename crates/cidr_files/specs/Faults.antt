@@ -2,7 +2,7 @@
 use Rattle.std.specs.Prelude.{◌≡◌, ◌≢◌, ℕ, ◌<◌, List, length, ⊤}
 use Rattle.cidr_arrays.specs.Faults as arrays
 use Rattle.cidr_files.specs.Layout.{IsLaidOut, ipv4_counts, ipv4_parts, ipv6_counts, ipv6_parts, magic, size_of, version, wide_words, word_at, words}
-use Rattle.cidr_files.specs.Tables.{AreArrays, AreOffsets, IsTable, networks_in, offsets_in, part_at}
+use Rattle.cidr_files.specs.Tables.{AreArrays, AreOffsets, IsStoredTable, stored_networks, offsets_in, part_at}
 use Rattle.cidr_files.specs.declared.faults.Fault.{Fault}
 use Rattle.cidr_files.specs.declared.faults.Fault.TheVariants.{Magic, Version, Short, Long, Ipv4, Ipv6}
 use Rattle.cidr_files.specs.declared.faults.TableFault.{TableFault}
@@ -12,18 +12,18 @@ use Rattle.cidr_files.specs.declared.faults.TableFault.TheVariants.{Arrays, Offs
 -- may be refused whatever they are
 abbrev pub IsTableFault : ℕ → (List ℕ → List ℕ) → List (List ℕ) → ℕ → TableFault → Type 0
 IsTableFault w numbers parts shift (Arrays fault) =
-    arrays.IsFault w (networks_in numbers parts) (numbers (part_at parts 0)) (words (part_at parts 1)) (words (part_at parts 2)) shift fault
+    arrays.IsFault w (stored_networks numbers parts) (numbers (part_at parts 0)) (words (part_at parts 1)) (words (part_at parts 2)) shift fault
 IsTableFault w numbers parts shift Offsets =
-    AreArrays w numbers parts shift × ¬ (AreOffsets (offsets_in parts) (length (networks_in numbers parts)) (length (part_at parts 6)))
+    AreArrays w numbers parts shift × ¬ (AreOffsets (offsets_in parts) (length (stored_networks numbers parts)) (length (part_at parts 6)))
 IsTableFault w numbers parts shift NoMemory = ⊤
 
 -- why the bytes are no file, each where those before it don't hold
-abbrev pub IsFault : List ℕ → Fault → Type 0
-IsFault bytes Magic = word_at bytes 0 ≢ magic
-IsFault bytes (Version other) = (word_at bytes 0 ≡ magic) × (word_at bytes 1 ≡ other) × (other ≢ version)
-IsFault bytes Short = (word_at bytes 0 ≡ magic) × (word_at bytes 1 ≡ version) × (length bytes < size_of bytes)
-IsFault bytes Long = (word_at bytes 0 ≡ magic) × (word_at bytes 1 ≡ version) × (size_of bytes < length bytes)
-IsFault bytes (Ipv4 fault) = IsLaidOut bytes × IsTableFault 32 words (ipv4_parts bytes) (ipv4_counts bytes).shift fault
-IsFault bytes (Ipv6 fault) =
-    IsLaidOut bytes × IsTable 32 words (ipv4_parts bytes) (ipv4_counts bytes).shift
+abbrev pub IsFaultOfBytes : List ℕ → Fault → Type 0
+IsFaultOfBytes bytes Magic = word_at bytes 0 ≢ magic
+IsFaultOfBytes bytes (Version other) = (word_at bytes 0 ≡ magic) × (word_at bytes 1 ≡ other) × (other ≢ version)
+IsFaultOfBytes bytes Short = (word_at bytes 0 ≡ magic) × (word_at bytes 1 ≡ version) × (length bytes < size_of bytes)
+IsFaultOfBytes bytes Long = (word_at bytes 0 ≡ magic) × (word_at bytes 1 ≡ version) × (size_of bytes < length bytes)
+IsFaultOfBytes bytes (Ipv4 fault) = IsLaidOut bytes × IsTableFault 32 words (ipv4_parts bytes) (ipv4_counts bytes).shift fault
+IsFaultOfBytes bytes (Ipv6 fault) =
+    IsLaidOut bytes × IsStoredTable 32 words (ipv4_parts bytes) (ipv4_counts bytes).shift
     × IsTableFault 128 wide_words (ipv6_parts bytes) (ipv6_counts bytes).shift fault

@@ -32,19 +32,19 @@ abbrev pub padded : ℕ → ℕ
 padded size = (size + 7) / 8 * 8
 
 -- the parts of these sizes, one behind the other
-abbrev pub parts_of : List ℕ → List ℕ → List (List ℕ)
-parts_of [] bytes = []
-parts_of (size ∷ sizes) bytes = take size bytes ∷ parts_of sizes (drop (padded size) bytes)
+abbrev pub parts_by_size : List ℕ → List ℕ → List (List ℕ)
+parts_by_size [] bytes = []
+parts_by_size (size ∷ sizes) bytes = take size bytes ∷ parts_by_size sizes (drop (padded size) bytes)
 
 -- what lies behind them
-abbrev pub behind : List ℕ → List ℕ → List ℕ
-behind [] bytes = bytes
-behind (size ∷ sizes) bytes = behind sizes (drop (padded size) bytes)
+abbrev pub bytes_behind : List ℕ → List ℕ → List ℕ
+bytes_behind [] bytes = bytes
+bytes_behind (size ∷ sizes) bytes = bytes_behind sizes (drop (padded size) bytes)
 
 -- the room that they take
-abbrev pub room_of : List ℕ → ℕ
-room_of [] = 0
-room_of (size ∷ sizes) = padded size + room_of sizes
+abbrev pub padded_room : List ℕ → ℕ
+padded_room [] = 0
+padded_room (size ∷ sizes) = padded size + padded_room sizes
 
 -- ---- the header
 -- the bytes 89 43 49 44, which begin no UTF-8 text
@@ -91,14 +91,14 @@ ipv6_sizes bytes = sizes_of 16 (ipv6_counts bytes)
 
 -- the parts of the two tables
 abbrev pub ipv4_parts : List ℕ → List (List ℕ)
-ipv4_parts bytes = parts_of (ipv4_sizes bytes) (drop header bytes)
+ipv4_parts bytes = parts_by_size (ipv4_sizes bytes) (drop header bytes)
 
 abbrev pub ipv6_parts : List ℕ → List (List ℕ)
-ipv6_parts bytes = parts_of (ipv6_sizes bytes) (behind (ipv4_sizes bytes) (drop header bytes))
+ipv6_parts bytes = parts_by_size (ipv6_sizes bytes) (bytes_behind (ipv4_sizes bytes) (drop header bytes))
 
 -- how long the file is
 abbrev pub size_of : List ℕ → ℕ
-size_of bytes = header + room_of (ipv4_sizes bytes) + room_of (ipv6_sizes bytes)
+size_of bytes = header + padded_room (ipv4_sizes bytes) + padded_room (ipv6_sizes bytes)
 
 -- it begins with the magic word and the version, and is as long as its header says
 pub record IsLaidOut (bytes : List ℕ) : Type 0 where

@@ -20,5 +20,5 @@ unfoldable pub filled : List ℕ → List ℕ
 filled part = part ++ replicate (free (length part)) 0
 
 -- parts one behind the other
-abbrev pub joined : List (List ℕ) → List ℕ
-joined parts = flat_map filled parts
+abbrev pub joined_parts : List (List ℕ) → List ℕ
+joined_parts parts = flat_map filled parts

@@ -1,9 +1,9 @@
 //! Whether the parts of a file are tables.
 ghost use Rattle.std.specs.Prelude.{◌≡◌, ◌↔◌, ◌^◌, ◌<◌, map, zip, IfErr, IfOk, IsTrue};
-ghost use Rattle.cidr_arrays.specs.Arrays.{networks_of};
-ghost use Rattle.cidr_files.specs.Faults.{IsFault, IsTableFault};
+ghost use Rattle.cidr_arrays.specs.Arrays.{key_networks};
+ghost use Rattle.cidr_files.specs.Faults.{IsFaultOfBytes, IsTableFault};
 ghost use Rattle.cidr_files.specs.Layout.{words};
-ghost use Rattle.cidr_files.specs.Tables.{AreOffsets, IsCut, IsFile, IsTable, parts_in};
+ghost use Rattle.cidr_files.specs.Tables.{AreOffsets, IsTableCutFrom, IsFile, IsStoredTable, parts_in};
 
 use crate::family::{Family, Ipv4Bytes, Ipv6Bytes};
 use crate::faults::{Fault, TableFault};
@@ -16,8 +16,8 @@ use std::alloc::{AllocError, Global};
 /// in its order.
 pub fn checked(alloc: Global, bytes: &[u8]) -> Result<Table<'_>, Fault>
     ensures file { IfOk result (λ _. IsFile bytes.now) }
-    ensures cut { IfOk result (IsCut bytes.now) }
-    ensures refused { IfErr result (IsFault bytes.now) }
+    ensures cut { IfOk result (IsTableCutFrom bytes.now) }
+    ensures refused { IfErr result (IsFaultOfBytes bytes.now) }
 {
     let table = open(bytes)?;
     if let Err(fault) = check::<Ipv4Bytes>(alloc, &table.ipv4) {
@@ -32,7 +32,7 @@ pub fn checked(alloc: Global, bytes: &[u8]) -> Result<Table<'_>, Fault>
 /// Whether the parts are a table: the arrays are those of the keys, and the values lie one behind the other. It asks for
 /// memory for the keys, the answers and the first level.
 pub fn check<W: Family>(alloc: Global, part: &Part<'_>) -> Result<(), TableFault>
-    ensures table { IfOk result (λ _. IsTable W.width W.numbers (parts_in part.now) part.now.shift) }
+    ensures table { IfOk result (λ _. IsStoredTable W.width W.numbers (parts_in part.now) part.now.shift) }
     ensures refused { IfErr result (IsTableFault W.width W.numbers (parts_in part.now) part.now.shift) }
 {
     let starts = W::addresses(part.starts);
@@ -68,7 +68,7 @@ fn keys_of<W: Word>(
     addresses: &[W],
     lengths: &[u8],
 ) -> Result<Vec<Key<W>>, AllocError>
-    ensures { IfOk result (λ keys. networks_of W.value keys.items ≡ zip (map W.value addresses.now) lengths.now) }
+    ensures { IfOk result (λ keys. key_networks W.value keys.items ≡ zip (map W.value addresses.now) lengths.now) }
 {
     let count = addresses.len().min(lengths.len());
     let mut keys = Vec::with_capacity(alloc, count)?;

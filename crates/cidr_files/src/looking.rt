@@ -3,9 +3,9 @@ ghost use Rattle.std.specs.Prelude.{◌≡◌, ◌↔◌, ℕ, ◌+◌, ◌^◌,
 ghost use Rattle.cidr.specs.model.Bits.{bits};
 ghost use Rattle.cidr.specs.model.Network.{BeginsWith};
 ghost use Rattle.cidr_table.specs.Prefixes.{IsLongestMatch};
-ghost use Rattle.cidr_arrays.specs.Arrays.{network_bits};
+ghost use Rattle.cidr_arrays.specs.Arrays.{prefix_bits};
 ghost use Rattle.cidr_files.specs.Layout.{words};
-ghost use Rattle.cidr_files.specs.Tables.{AreArrays, AreOffsets, networks_in, offsets_in, part_at, parts_in, value_in};
+ghost use Rattle.cidr_files.specs.Tables.{AreArrays, AreOffsets, stored_networks, offsets_in, part_at, parts_in, value_in};
 
 use crate::family::Family;
 use crate::layout::Part;
@@ -17,13 +17,13 @@ use cidr_arrays::{Index, longest_match};
 /// Whatever the bytes are, it reads nothing outside of them, and the row is one of them. It is the longest match in parts
 /// that [`check`](crate::check) accepted.
 pub fn lookup<'a, W: Family>(part: &Part<'a>, address: W) -> Option<(usize, &'a [u8])>
-    ensures within { IfSome result (λ found. found.0 < length (networks_in W.numbers (parts_in part.now))) }
+    ensures within { IfSome result (λ found. found.0 < length (stored_networks W.numbers (parts_in part.now))) }
     ensures longest { IfSome result (λ found. AreArrays W.width W.numbers (parts_in part.now) part.now.shift
-        → IsLongestMatch (network_bits W.width) (bits W.width (W.value address)) (networks_in W.numbers (parts_in part.now)) (Some found.0)) }
+        → IsLongestMatch (prefix_bits W.width) (bits W.width (W.value address)) (stored_networks W.numbers (parts_in part.now)) (Some found.0)) }
     ensures none { result ≡ None → AreArrays W.width W.numbers (parts_in part.now) part.now.shift
-        → IsLongestMatch (network_bits W.width) (bits W.width (W.value address)) (networks_in W.numbers (parts_in part.now)) None }
+        → IsLongestMatch (prefix_bits W.width) (bits W.width (W.value address)) (stored_networks W.numbers (parts_in part.now)) None }
     ensures value { IfSome result (λ found.
-        AreOffsets (offsets_in (parts_in part.now)) (length (networks_in W.numbers (parts_in part.now))) (length (part_at (parts_in part.now) 6))
+        AreOffsets (offsets_in (parts_in part.now)) (length (stored_networks W.numbers (parts_in part.now))) (length (part_at (parts_in part.now) 6))
         → found.1.now ≡ value_in (parts_in part.now) found.0) }
 {
     let row = row_of(part, address)?;
@@ -33,8 +33,8 @@ pub fn lookup<'a, W: Family>(part: &Part<'a>, address: W) -> Option<(usize, &'a 
 /// Whether an address is in one of the networks.
 pub fn has<W: Family>(part: &Part<'_>, address: W) -> bool
     ensures { AreArrays W.width W.numbers (parts_in part.now) part.now.shift
-        → (IsTrue result ↔ ((network : ℕ × ℕ) × Contains (networks_in W.numbers (parts_in part.now)) network
-        × BeginsWith (bits W.width (W.value address)) (network_bits W.width network))) }
+        → (IsTrue result ↔ ((network : ℕ × ℕ) × Contains (stored_networks W.numbers (parts_in part.now)) network
+        × BeginsWith (bits W.width (W.value address)) (prefix_bits W.width network))) }
 {
     match row_of(part, address) {
         Some(_) => true,
@@ -45,10 +45,10 @@ pub fn has<W: Family>(part: &Part<'_>, address: W) -> bool
 /// The row of the longest network that an address is in.
 #[inline(always)]
 fn row_of<W: Family>(part: &Part<'_>, address: W) -> Option<usize>
-    ensures within { IfSome result (λ row. row < length (networks_in W.numbers (parts_in part.now))) }
+    ensures within { IfSome result (λ row. row < length (stored_networks W.numbers (parts_in part.now))) }
     ensures short { IfSome result (λ row. row < 2 ^ 63) }
     ensures longest { AreArrays W.width W.numbers (parts_in part.now) part.now.shift
-        → IsLongestMatch (network_bits W.width) (bits W.width (W.value address)) (networks_in W.numbers (parts_in part.now)) result }
+        → IsLongestMatch (prefix_bits W.width) (bits W.width (W.value address)) (stored_networks W.numbers (parts_in part.now)) result }
 {
     let starts = W::addresses(part.starts);
     let (answers, _) = part.answers.as_chunks::<4>();

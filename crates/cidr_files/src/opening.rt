@@ -1,8 +1,8 @@
 //! The header of a file, and the parts that it tells of.
 ghost use Rattle.std.specs.Prelude.{◌≡◌, ◌+◌, ◌^◌, ◌<◌, ◌≤◌, drop, length, take, None, IfErr, IfOk, IfSome};
-ghost use Rattle.cidr_files.specs.Faults.{IsFault};
-ghost use Rattle.cidr_files.specs.Layout.{IsLaidOut, behind, counts_at, padded, parts_of, room_of, sizes_of, word_at};
-ghost use Rattle.cidr_files.specs.Tables.{IsCut, parts_in};
+ghost use Rattle.cidr_files.specs.Faults.{IsFaultOfBytes};
+ghost use Rattle.cidr_files.specs.Layout.{IsLaidOut, bytes_behind, counts_at, padded, parts_by_size, padded_room, sizes_of, word_at};
+ghost use Rattle.cidr_files.specs.Tables.{IsTableCutFrom, parts_in};
 
 use crate::faults::Fault;
 use crate::layout::{Counts, Part, Table};
@@ -20,8 +20,8 @@ const HEADER: usize = 64;
 /// `Magic`, `Version`, and `Short` or `Long`.
 pub fn open(bytes: &[u8]) -> Result<Table<'_>, Fault>
     ensures laid_out { IfOk result (λ _. IsLaidOut bytes.now) }
-    ensures cut { IfOk result (IsCut bytes.now) }
-    ensures refused { IfErr result (IsFault bytes.now) }
+    ensures cut { IfOk result (IsTableCutFrom bytes.now) }
+    ensures refused { IfErr result (IsFaultOfBytes bytes.now) }
 {
     if word_at(bytes, 0) != MAGIC {
         return Err(Fault::Magic);
@@ -48,11 +48,12 @@ pub fn open(bytes: &[u8]) -> Result<Table<'_>, Fault>
 /// The parts of a table whose addresses have so many bytes, and what lies behind them; `None` where the bytes are too few.
 fn part_of<'a>(bytes: &'a [u8], size: usize, counts: &Counts) -> Option<(Part<'a>, &'a [u8])>
     requires { size ≤ 16 }
-    ensures parts { IfSome result (λ found. parts_in found.0 ≡ parts_of (sizes_of size counts.now) bytes.now) }
+    ensures parts { IfSome result (λ found. parts_in found.0 ≡ parts_by_size (sizes_of size counts.now) bytes.now) }
     ensures shift { IfSome result (λ found. found.0.shift ≡ counts.now.shift) }
-    ensures rest { IfSome result (λ found. found.1.now ≡ behind (sizes_of size counts.now) bytes.now) }
-    ensures left { IfSome result (λ found. length found.1.now + room_of (sizes_of size counts.now) ≡ length bytes.now) }
-    ensures none { result ≡ None → length bytes.now < room_of (sizes_of size counts.now) }
+    ensures rest { IfSome result (λ found. found.1.now ≡ bytes_behind (sizes_of size counts.now) bytes.now) }
+    ensures left { IfSome result
+        (λ found. length found.1.now + padded_room (sizes_of size counts.now) ≡ length bytes.now) }
+    ensures none { result ≡ None → length bytes.now < padded_room (sizes_of size counts.now) }
 {
     let rows = counts.rows as usize;
     let ranges = counts.ranges as usize;

@@ -1,11 +1,11 @@
 //! Files of tables, written.
 ghost use Rattle.std.specs.Prelude.{◌≡◌, ◌+◌, ◌%◌, ◌^◌, ◌<◌, ◌++◌, length, map, replicate, IfOk, OnOk};
 ghost use Rattle.std.specs.Int.{from_le_bytes, w32};
-ghost use Rattle.cidr_files.specs.Contents.{AreContents, HasRows, addresses_of, head_of, lengths_of, parts_written};
+ghost use Rattle.cidr_files.specs.Contents.{AreContents, HasRows, key_addresses, head_of, lengths_of, parts_written};
 ghost use Rattle.cidr_files.specs.Layout.{ipv4_parts, ipv6_parts, wide_word, wide_words, words};
 ghost use Rattle.cidr_files.specs.Spelling.{word_bytes};
 ghost use Rattle.cidr_files.specs.Tables.{IsFile, IsSmall};
-ghost use Rattle.cidr_files.specs.Written.{AreBelow, filled, free, joined, spelled};
+ghost use Rattle.cidr_files.specs.Written.{AreBelow, filled, free, joined_parts, spelled};
 
 use crate::contents::{Contents, counts_of};
 use crate::family::{Family, Ipv4Bytes, Ipv6Bytes};
@@ -67,7 +67,7 @@ fn put_head(out: &mut Vec<u8>, ipv4: &Counts, ipv6: &Counts) -> Result<(), Alloc
 fn put_contents<W: Family>(out: &mut Vec<u8>, contents: &Contents<'_, W>) -> Result<(), AllocError>
     requires aligned { length out.old.items % 8 ≡ 0 }
     requires lengths { AreBelow 256 (lengths_of contents.now.rows.now.keys.now) }
-    ensures parts { OnOk result (out.new.items ≡ out.old.items ++ joined (parts_written W.value W.bytes_of contents.now)) }
+    ensures parts { OnOk result (out.new.items ≡ out.old.items ++ joined_parts (parts_written W.value W.bytes_of contents.now)) }
     ensures aligned { OnOk result (length out.new.items % 8 ≡ 0) }
 {
     put_address_part(out, contents.starts)?;
@@ -105,7 +105,7 @@ fn put_word_part(out: &mut Vec<u8>, words: &[u32]) -> Result<(), AllocError>
 /// Writes the part of the addresses of keys.
 fn put_key_part<W: Family>(out: &mut Vec<u8>, keys: &[Key<W>]) -> Result<(), AllocError>
     requires { length out.old.items % 8 ≡ 0 }
-    ensures part { OnOk result (out.new.items ≡ out.old.items ++ filled (spelled W.bytes_of (addresses_of W.value keys.now))) }
+    ensures part { OnOk result (out.new.items ≡ out.old.items ++ filled (spelled W.bytes_of (key_addresses W.value keys.now))) }
     ensures aligned { OnOk result (length out.new.items % 8 ≡ 0) }
 {
     put_keys(out, keys)?;
@@ -148,7 +148,7 @@ fn put_addresses<W: Family>(out: &mut Vec<u8>, addresses: &[W]) -> Result<(), Al
 
 /// Writes the bytes of the addresses of keys.
 fn put_keys<W: Family>(out: &mut Vec<u8>, keys: &[Key<W>]) -> Result<(), AllocError>
-    ensures { OnOk result (out.new.items ≡ out.old.items ++ spelled W.bytes_of (addresses_of W.value keys.now)) }
+    ensures { OnOk result (out.new.items ≡ out.old.items ++ spelled W.bytes_of (key_addresses W.value keys.now)) }
 {
     for i in 0..keys.len() {
         W::put(keys[i].address.number(), out)?;

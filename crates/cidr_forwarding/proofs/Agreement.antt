@@ -6,7 +6,7 @@ use Rattle.std.specs.List.Sorted.{IsStrictlySortedBy}
 use Rattle.std.specs.Option.{option_eq}
 use Rattle.std.proofs.lemmas.Bool.{cases_lt}
 use Rattle.cidr.specs.model.Network.{HasWidth}
-use Rattle.cidr_table.specs.CoverAddresses.{IsIpAddress}
+use Rattle.cidr_table.specs.CoverAddresses.{IsIpAddressBits}
 use Rattle.cidr_table.specs.Prefixes.{IsValueLookedUp}
 use Rattle.cidr_forwarding.specs.Forwarding.{in_bits, AreNetworksOf, AreIpRows, ForwardSame}
 use Rattle.cidr_forwarding.specs.Trees.{own, below, Region, Even, Halves, region, all_are, agree}
@@ -201,8 +201,8 @@ module _ {C V : Type 0} (bits : C → List Bool) (eq : V → V → Bool) (decide
       by : (u : ℕ) → u ≡ 128 → (result ≡ true) ↔ ForwardSame bits (HasWidth w) rows others
       by u f = decided u f (HasWidth w) (fits_of bits u f rows node w l h) (fits_of bits u f others node' w l k)
 
-  pub decided_ip : AreIpRows bits rows → AreIpRows bits others → (result ≡ true) ↔ ForwardSame bits IsIpAddress rows others
+  pub decided_ip : AreIpRows bits rows → AreIpRows bits others → (result ≡ true) ↔ ForwardSame bits IsIpAddressBits rows others
   decided_ip h k = by 128 refl
     where
-      by : (u : ℕ) → u ≡ 128 → (result ≡ true) ↔ ForwardSame bits IsIpAddress rows others
-      by u f = decided u f IsIpAddress (fits_both bits u f rows node h) (fits_both bits u f others node' k)
+      by : (u : ℕ) → u ≡ 128 → (result ≡ true) ↔ ForwardSame bits IsIpAddressBits rows others
+      by u f = decided u f IsIpAddressBits (fits_both bits u f rows node h) (fits_both bits u f others node' k)

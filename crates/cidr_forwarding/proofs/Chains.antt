@@ -4,7 +4,7 @@ use Rattle.std.proofs.Common.{◌≡◌, ℕ, suc, ◌+◌, ◌<◌, ◌≤◌, 
 use Rattle.std.specs.Bool.{Decides}
 use Rattle.std.specs.List.{filter}
 use Rattle.cidr_forwarding.specs.Trees.{Region, Even, Halves, own, below, under, deeper, region}
-use Rattle.cidr_forwarding.specs.Choices.{or_else, not_of, united, has, shared, joined, candidates, pick, fill, put}
+use Rattle.cidr_forwarding.specs.Choices.{or_else, not_of, united, is_listed, shared, joined_candidates, candidates, pick, fill, put}
 use Rattle.cidr_forwarding.specs.Plans.{behind}
 use Rattle.cidr_forwarding.proofs.Members.{has_first, has_cases, has_later, has_left, has_right, has_either, has_kept, kept_has, none_in}
 use Rattle.cidr_forwarding.proofs.Regions.{decided, in_either}
@@ -21,23 +21,23 @@ module _ {X : Type 0} (same : X → X → Bool) (decides : (x y : X) → Decides
   -- ---- no candidate stands twice
   abbrev Unique : List X → Type 0
   Unique [] = Unit {0}
-  Unique (x ∷ xs) = (has same xs x ≡ false) × Unique xs
+  Unique (x ∷ xs) = (is_listed same xs x ≡ false) × Unique xs
 
   not_true : (b : Bool) → (b ≡ true → ⊥) → b ≡ false
   not_true true n = absurd (n refl)
   not_true false n = refl
 
-  not_kept : (test : X → Bool) (xs : List X) (x : X) → has same xs x ≡ false → has same (filter test xs) x ≡ false
-  not_kept test xs x n = not_true (has same (filter test xs) x) (λ h. true≢false (sym ((kept_has same decides test xs x h).1) ∙ n))
+  not_kept : (test : X → Bool) (xs : List X) (x : X) → is_listed same xs x ≡ false → is_listed same (filter test xs) x ≡ false
+  not_kept test xs x n = not_true (is_listed same (filter test xs) x) (λ h. true≢false (sym ((kept_has same decides test xs x h).1) ∙ n))
 
-  not_either : (xs ys : List X) (x : X) → has same xs x ≡ false → has same ys x ≡ false → has same (xs ++ ys) x ≡ false
-  not_either xs ys x n m = not_true (has same (xs ++ ys) x) (λ h. elim (has_either same decides xs ys x h) [
+  not_either : (xs ys : List X) (x : X) → is_listed same xs x ≡ false → is_listed same ys x ≡ false → is_listed same (xs ++ ys) x ≡ false
+  not_either xs ys x n m = not_true (is_listed same (xs ++ ys) x) (λ h. elim (has_either same decides xs ys x h) [
     | inl k ↦ true≢false (sym k ∙ n)
     | inr k ↦ true≢false (sym k ∙ m)
   ])
 
-  not_later : (x : X) (xs : List X) (y : X) → has same (x ∷ xs) y ≡ false → has same xs y ≡ false
-  not_later x xs y n = not_true (has same xs y) (λ h. true≢false (sym (has_later same decides x xs y h) ∙ n))
+  not_later : (x : X) (xs : List X) (y : X) → is_listed same (x ∷ xs) y ≡ false → is_listed same xs y ≡ false
+  not_later x xs y n = not_true (is_listed same xs y) (λ h. true≢false (sym (has_later same decides x xs y h) ∙ n))
 
   unique_filter : (test : X → Bool) (xs : List X) → Unique xs → Unique (filter test xs)
   unique_filter test [] u = tt
@@ -46,26 +46,26 @@ module _ {X : Type 0} (same : X → X → Bool) (decides : (x y : X) → Decides
     | false ↦ unique_filter test xs u.1
   ]
 
-  unique_append : (xs ys : List X) → Unique xs → Unique ys → ((x : X) → has same xs x ≡ true → has same ys x ≡ false) → Unique (xs ++ ys)
+  unique_append : (xs ys : List X) → Unique xs → Unique ys → ((x : X) → is_listed same xs x ≡ true → is_listed same ys x ≡ false) → Unique (xs ++ ys)
   unique_append [] ys u v n = v
   unique_append (x ∷ xs) ys u v n = (
     not_either xs ys x u.0 (n x (has_first same decides x xs)),
     unique_append xs ys u.1 v (λ z h. n z (has_later same decides x xs z h)),
   )
 
-  not_shared : (xs ys : List X) → shared same xs ys ≡ [] → (x : X) → has same xs x ≡ true → has same ys x ≡ false
-  not_shared xs ys e x h = not_true (has same ys x) (λ k. none_in same decides (shared same xs ys) x e (has_kept same decides (has same ys) xs x k h))
+  not_shared : (xs ys : List X) → shared same xs ys ≡ [] → (x : X) → is_listed same xs x ≡ true → is_listed same ys x ≡ false
+  not_shared xs ys e x h = not_true (is_listed same ys x) (λ k. none_in same decides (shared same xs ys) x e (has_kept same decides (is_listed same ys) xs x k h))
 
   unique_or : (l other : List X) → Unique l → Unique other → Unique (or_else l other)
   unique_or [] other u v = v
   unique_or (x ∷ l) other u v = u
 
-  unique_joined : (xs ys : List X) → Unique xs → Unique ys → Unique (joined same free xs ys)
+  unique_joined : (xs ys : List X) → Unique xs → Unique ys → Unique (joined_candidates same free xs ys)
   unique_joined xs ys u v = elim (shared same xs ys) as (λ l. shared same xs ys ≡ l → Unique (or_else l (united free xs ys))) [
     | [] ↦ λ e.
         let all : Unique (xs ++ ys) = unique_append xs ys u v (not_shared xs ys e) in
         unique_or (filter (not_of free) (xs ++ ys)) (xs ++ ys) (unique_filter (not_of free) (xs ++ ys) all) all
-    | x ∷ l ↦ λ e. subst Unique e (unique_filter (has same ys) xs u)
+    | x ∷ l ↦ λ e. subst Unique e (unique_filter (is_listed same ys) xs u)
   ] refl
 
   unique_candidates : (t : Region X) → Unique (candidates same free t)
@@ -74,70 +74,70 @@ module _ {X : Type 0} (same : X → X → Bool) (decides : (x y : X) → Decides
 
   -- ---- beside a half of one value
   module _ (o : X) where
-    just_has : has same (o ∷ []) o ≡ true
+    just_has : is_listed same (o ∷ []) o ≡ true
     just_has = has_first same decides o []
 
-    has_just : (x : X) → has same (o ∷ []) x ≡ true → o ≡ x
+    has_just : (x : X) → is_listed same (o ∷ []) x ≡ true → o ≡ x
     has_just x h = elim (has_cases same decides o [] x h) [ inl e ↦ e | inr k ↦ absurd (true≢false (sym k)) ]
 
-    not_just : (xs : List X) → has same xs o ≡ false → shared same xs (o ∷ []) ≡ []
+    not_just : (xs : List X) → is_listed same xs o ≡ false → shared same xs (o ∷ []) ≡ []
     not_just [] n = refl
-    not_just (x ∷ xs) n = elim (has same (o ∷ []) x) as (λ b. has same (o ∷ []) x ≡ b → cond b (x ∷ shared same xs (o ∷ [])) (shared same xs (o ∷ [])) ≡ []) [
-      | true ↦ λ h. absurd (true≢false (sym (subst (λ z. has same (z ∷ xs) o ≡ true) (has_just x h) (has_first same decides o xs)) ∙ n))
+    not_just (x ∷ xs) n = elim (is_listed same (o ∷ []) x) as (λ b. is_listed same (o ∷ []) x ≡ b → cond b (x ∷ shared same xs (o ∷ [])) (shared same xs (o ∷ [])) ≡ []) [
+      | true ↦ λ h. absurd (true≢false (sym (subst (λ z. is_listed same (z ∷ xs) o ≡ true) (has_just x h) (has_first same decides o xs)) ∙ n))
       | false ↦ λ h. not_just xs (not_later x xs o n)
     ] refl
 
-    only_one : (xs : List X) → Unique xs → has same xs o ≡ true → shared same xs (o ∷ []) ≡ o ∷ []
+    only_one : (xs : List X) → Unique xs → is_listed same xs o ≡ true → shared same xs (o ∷ []) ≡ o ∷ []
     only_one [] u h = absurd (true≢false (sym h))
-    only_one (x ∷ xs) u h = elim (has same (o ∷ []) x) as (λ b. has same (o ∷ []) x ≡ b → cond b (x ∷ shared same xs (o ∷ [])) (shared same xs (o ∷ [])) ≡ o ∷ []) [
+    only_one (x ∷ xs) u h = elim (is_listed same (o ∷ []) x) as (λ b. is_listed same (o ∷ []) x ≡ b → cond b (x ∷ shared same xs (o ∷ [])) (shared same xs (o ∷ [])) ≡ o ∷ []) [
       | true ↦ λ k.
           let e : o ≡ x = has_just x k in
-          ap₂ (λ y l. y ∷ l) (sym e) (not_just xs (subst (λ z. has same xs z ≡ false) (sym e) u.0))
+          ap₂ (λ y l. y ∷ l) (sym e) (not_just xs (subst (λ z. is_listed same xs z ≡ false) (sym e) u.0))
       | false ↦ λ k. elim (has_cases same decides x xs o h) as (λ _. shared same xs (o ∷ []) ≡ o ∷ []) [
-        | inl e ↦ absurd (true≢false (sym (subst (λ z. has same (o ∷ []) z ≡ true) (sym e) just_has) ∙ k))
+        | inl e ↦ absurd (true≢false (sym (subst (λ z. is_listed same (o ∷ []) z ≡ true) (sym e) just_has) ∙ k))
         | inr m ↦ only_one xs u.1 m
       ]
     ] refl
 
-    one_low : (xs : List X) → Unique xs → has same xs o ≡ true → joined same free xs (o ∷ []) ≡ o ∷ []
+    one_low : (xs : List X) → Unique xs → is_listed same xs o ≡ true → joined_candidates same free xs (o ∷ []) ≡ o ∷ []
     one_low xs u h = ap (λ l. or_else l (united free xs (o ∷ []))) (only_one xs u h)
 
-    one_high : (xs : List X) → has same xs o ≡ true → joined same free (o ∷ []) xs ≡ o ∷ []
+    one_high : (xs : List X) → is_listed same xs o ≡ true → joined_candidates same free (o ∷ []) xs ≡ o ∷ []
     one_high xs h = ap (λ b. or_else (cond b (o ∷ []) []) (united free (o ∷ []) xs)) h
 
     abbrev pub Pins : List X → Type 0
-    Pins xs = (x : X) → has same xs x ≡ true → free x ≡ false → o ≡ x
+    Pins xs = (x : X) → is_listed same xs x ≡ true → free x ≡ false → o ≡ x
 
     pins_just : Pins (o ∷ [])
     pins_just x h n = has_just x h
 
-    here_low : (xs : List X) → Unique xs → Pins xs → has same (joined same free xs (o ∷ [])) o ≡ true
-    here_low xs u pins = elim (decided same decides free (has same xs o)) [
-      | inl h ↦ subst (λ l. has same l o ≡ true) (sym (one_low xs u h)) just_has
+    here_low : (xs : List X) → Unique xs → Pins xs → is_listed same (joined_candidates same free xs (o ∷ [])) o ≡ true
+    here_low xs u pins = elim (decided same decides free (is_listed same xs o)) [
+      | inl h ↦ subst (λ l. is_listed same l o ≡ true) (sym (one_low xs u h)) just_has
       | inr n ↦
-          subst (λ l. has same (or_else l (united free xs (o ∷ []))) o ≡ true) (sym (not_just xs n))
+          subst (λ l. is_listed same (or_else l (united free xs (o ∷ []))) o ≡ true) (sym (not_just xs n))
           (in_either same decides free xs (o ∷ []) o pins pins_just (has_right same decides xs (o ∷ []) o just_has))
     ]
 
-    here_high : (xs : List X) → Pins xs → has same (joined same free (o ∷ []) xs) o ≡ true
-    here_high xs pins = elim (decided same decides free (has same xs o)) [
-      | inl h ↦ subst (λ l. has same l o ≡ true) (sym (one_high xs h)) just_has
+    here_high : (xs : List X) → Pins xs → is_listed same (joined_candidates same free (o ∷ []) xs) o ≡ true
+    here_high xs pins = elim (decided same decides free (is_listed same xs o)) [
+      | inl h ↦ subst (λ l. is_listed same l o ≡ true) (sym (one_high xs h)) just_has
       | inr n ↦
-          subst (λ b. has same (or_else (cond b (o ∷ []) []) (united free (o ∷ []) xs)) o ≡ true) (sym n)
+          subst (λ b. is_listed same (or_else (cond b (o ∷ []) []) (united free (o ∷ []) xs)) o ≡ true) (sym n)
           (in_either same decides free (o ∷ []) xs o pins_just pins (has_left same decides (o ∷ []) xs o just_has))
     ]
 
     -- ---- where all rows share bits
-    one_step : (b : Bool) (u : Region X) → has same (candidates same free u) o ≡ true → candidates same free (walk o (b ∷ []) u) ≡ o ∷ []
+    one_step : (b : Bool) (u : Region X) → is_listed same (candidates same free u) o ≡ true → candidates same free (walk o (b ∷ []) u) ≡ o ∷ []
     one_step false u h = one_low (candidates same free u) (unique_candidates u) h
     one_step true u h = one_high (candidates same free u) h
 
     module _ (t : Region X) (pins : Pins (candidates same free t)) where
-      has_walk : (p : List Bool) (b : Bool) → has same (candidates same free (walk o (b ∷ p) t)) o ≡ true
+      has_walk : (p : List Bool) (b : Bool) → is_listed same (candidates same free (walk o (b ∷ p) t)) o ≡ true
       has_walk [] false = here_low (candidates same free t) (unique_candidates t) pins
       has_walk [] true = here_high (candidates same free t) pins
-      has_walk (d ∷ p) false = subst (λ l. has same l o ≡ true) (sym (one_step false (walk o (d ∷ p) t) (has_walk p d))) just_has
-      has_walk (d ∷ p) true = subst (λ l. has same l o ≡ true) (sym (one_step true (walk o (d ∷ p) t) (has_walk p d))) just_has
+      has_walk (d ∷ p) false = subst (λ l. is_listed same l o ≡ true) (sym (one_step false (walk o (d ∷ p) t) (has_walk p d))) just_has
+      has_walk (d ∷ p) true = subst (λ l. is_listed same l o ≡ true) (sym (one_step true (walk o (d ∷ p) t) (has_walk p d))) just_has
 
       -- of two bits or more
       pub one_candidate : (p : List Bool) → 2 ≤ length p → candidates same free (walk o p t) ≡ o ∷ []

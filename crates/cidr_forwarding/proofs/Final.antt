@@ -10,9 +10,9 @@ use Rattle.std.specs.Bool.{Decides}
 use Rattle.std.specs.Option.{option_eq}
 use Rattle.cidr.specs.model.Bits.{bit_cmp}
 use Rattle.cidr.specs.model.Network.{HasWidth}
-use Rattle.cidr_table.specs.CoverAddresses.{IsIpAddress}
+use Rattle.cidr_table.specs.CoverAddresses.{IsIpAddressBits}
 use Rattle.cidr_forwarding.specs.Forwarding.{in_bits, AreNetworksOf, AreIpRows, IsSmallest, IsSmallestHoled}
-use Rattle.cidr_forwarding.specs.Trees.{region, AreWithin}
+use Rattle.cidr_forwarding.specs.Trees.{region, AllFitWidth}
 use Rattle.cidr_forwarding.specs.Choices.{put, is_free}
 use Rattle.cidr_forwarding.specs.Plans.{tails, planned, IsNode, AreOf, put_rows}
 use Rattle.cidr_table.proofs.MapLaws.{contains_first, contains_later, contains_cases, contains_nothing}
@@ -81,7 +81,7 @@ module _ {C V : Type 0} (bits : C → List Bool) where
   unfolding planned
   planned_is d w c rows e = ap (λ n. region n c (tails bits d rows)) (sym e)
 
-  networks_within : (w : ℕ) (rows : List (C × V)) → AreNetworksOf bits w rows → AreWithin w (seen_as Some (in_bits bits rows))
+  networks_within : (w : ℕ) (rows : List (C × V)) → AreNetworksOf bits w rows → AllFitWidth w (seen_as Some (in_bits bits rows))
   networks_within w [] h = tt
   networks_within w (r ∷ rows) h = (h r (contains_first r rows), networks_within w rows (λ x m. h x (contains_later r x rows m)))
 
@@ -100,15 +100,15 @@ module _ {C V : Type 0} (bits : C → List Bool) where
     rows_ascend =
         subst (IsStrictlySortedBy bit_cmp) (ap keys_of (tails_seen rows) ∙ keys_seen Some (in_bits bits rows)) node.ascending
 
-    pub rows_within : AreWithin (suc u) seen
+    pub rows_within : AllFitWidth (suc u) seen
     rows_within =
         let e : 129 ≡ suc u = omega (arith, u_is) in
-        subst (λ w. AreWithin w seen) e (subst (AreWithin 129) (tails_seen rows) node.within)
+        subst (λ w. AllFitWidth w seen) e (subst (AllFitWidth 129) (tails_seen rows) node.within)
 
     pub fits_of : (w : ℕ) → w ≤ 129 → AreNetworksOf bits w rows → Fits (region (suc u) None seen) (HasWidth w)
     fits_of w l h = fits_width (suc u) w None seen (HasWidth w) (omega (arith, u_is)) (networks_within w rows h) (λ a e. e) (λ a e. e)
 
-    pub fits_both : AreIpRows bits rows → Fits (region (suc u) None seen) IsIpAddress
+    pub fits_both : AreIpRows bits rows → Fits (region (suc u) None seen) IsIpAddressBits
     fits_both h = fits_ip u None seen (omega (arith, u_is)) (are_ip rows h)
 
 module _ {C V : Type 0} (bits : C → List Bool) (eq : V → V → Bool) (decides : (x y : V) → Decides (eq x y) (x ≡ y)) where
@@ -132,9 +132,9 @@ module _ {C V : Type 0} (bits : C → List Bool) (eq : V → V → Bool) (decide
           is_smallest_holed eq decides IsAddress (suc u) (in_bits bits rows) (rows_ascend bits u u_is rows node) (rows_within bits u u_is rows node) fits in
           subst (IsSmallestHoled IsAddress (in_bits bits rows)) (sym (e ∙ put_is true)) s
 
-    kept_put : (holes : Bool) (w : ℕ) → AreNetworksOf bits w rows → AreWithin w (put_rows eq holes (planned bits 0 None rows) None)
+    kept_put : (holes : Bool) (w : ℕ) → AreNetworksOf bits w rows → AllFitWidth w (put_rows eq holes (planned bits 0 None rows) None)
     kept_put holes w h =
-        subst (AreWithin w) (sym (put_is holes))
+        subst (AllFitWidth w) (sym (put_is holes))
         (put_within (option_eq eq) (is_free holes) None w (region (suc u) None (seen_as Some (in_bits bits rows)))
         (low_region (suc u) w None (seen_as Some (in_bits bits rows)) (networks_within bits w rows h)) None)
 
@@ -162,11 +162,11 @@ module _ {C V : Type 0} (bits : C → List Bool) (eq : V → V → Bool) (decide
         by u f = smallest_at u f rows node (HasWidth w) (fits_of bits u f rows node w l h) out e
 
     pub smallest_ip : (out : List (List Bool × V)) → out ≡ strip (put_rows eq false (planned bits 0 None rows) None) → AreIpRows bits rows
-        → IsSmallest IsIpAddress (in_bits bits rows) out
+        → IsSmallest IsIpAddressBits (in_bits bits rows) out
     smallest_ip out e h = by 128 refl
       where
-        by : (u : ℕ) → u ≡ 128 → IsSmallest IsIpAddress (in_bits bits rows) out
-        by u f = smallest_at u f rows node IsIpAddress (fits_both bits u f rows node h) out e
+        by : (u : ℕ) → u ≡ 128 → IsSmallest IsIpAddressBits (in_bits bits rows) out
+        by u f = smallest_at u f rows node IsIpAddressBits (fits_both bits u f rows node h) out e
 
     pub holed_width : (out : List (List Bool × Option V)) → out ≡ put_rows eq true (planned bits 0 None rows) None → (w : ℕ) → w ≤ 129 → AreNetworksOf bits w rows
         → IsSmallestHoled (HasWidth w) (in_bits bits rows) out
@@ -176,14 +176,14 @@ module _ {C V : Type 0} (bits : C → List Bool) (eq : V → V → Bool) (decide
         by u f = holed_at u f rows node (HasWidth w) (fits_of bits u f rows node w l h) out e
 
     pub holed_ip : (out : List (List Bool × Option V)) → out ≡ put_rows eq true (planned bits 0 None rows) None → AreIpRows bits rows
-        → IsSmallestHoled IsIpAddress (in_bits bits rows) out
+        → IsSmallestHoled IsIpAddressBits (in_bits bits rows) out
     holed_ip out e h = by 128 refl
       where
-        by : (u : ℕ) → u ≡ 128 → IsSmallestHoled IsIpAddress (in_bits bits rows) out
-        by u f = holed_at u f rows node IsIpAddress (fits_both bits u f rows node h) out e
+        by : (u : ℕ) → u ≡ 128 → IsSmallestHoled IsIpAddressBits (in_bits bits rows) out
+        by u f = holed_at u f rows node IsIpAddressBits (fits_both bits u f rows node h) out e
 
     -- ---- of any table
-    networks_of : (some : List (C × V)) → AreWithin 129 (tails bits 0 some) → AreNetworksOf bits 129 some
+    networks_of : (some : List (C × V)) → AllFitWidth 129 (tails bits 0 some) → AreNetworksOf bits 129 some
     networks_of [] h row m = absurd (contains_nothing row m)
     networks_of (r ∷ some) h row m = elim (contains_cases r row some m) [
       | inl e ↦ subst (λ (x : C × V). length (bits x.0) ≤ 129) e h.0
@@ -215,7 +215,7 @@ module _ {C V : Type 0} (bits : C → List Bool) (eq : V → V → Bool) (decide
     pub smallest_kept : (out : List (C × V)) → in_bits bits out ≡ strip (put_rows eq false (planned bits 0 None rows) None) → (w : ℕ) → AreNetworksOf bits w rows
         → AreNetworksOf bits w out
     smallest_kept out e w h =
-        networks_from bits w out (subst (AreWithin w) (sym e) (strip_within w (put_rows eq false (planned bits 0 None rows) None) (kept_put 128 refl rows node false w h)))
+        networks_from bits w out (subst (AllFitWidth w) (sym e) (strip_within w (put_rows eq false (planned bits 0 None rows) None) (kept_put 128 refl rows node false w h)))
 
     pub smallest_kept_ip : (out : List (C × V)) → in_bits bits out ≡ strip (put_rows eq false (planned bits 0 None rows) None) → AreIpRows bits rows
         → AreIpRows bits out
@@ -224,7 +224,7 @@ module _ {C V : Type 0} (bits : C → List Bool) (eq : V → V → Bool) (decide
 
     pub holed_kept : (out : List (C × Option V)) → in_bits bits out ≡ put_rows eq true (planned bits 0 None rows) None → (w : ℕ) → AreNetworksOf bits w rows
         → AreNetworksOf bits w out
-    holed_kept out e w h = networks_from bits w out (subst (AreWithin w) (sym e) (kept_put 128 refl rows node true w h))
+    holed_kept out e w h = networks_from bits w out (subst (AllFitWidth w) (sym e) (kept_put 128 refl rows node true w h))
 
     pub holed_kept_ip : (out : List (C × Option V)) → in_bits bits out ≡ put_rows eq true (planned bits 0 None rows) None → AreIpRows bits rows → AreIpRows bits out
     holed_kept_ip out e h = ip_from bits out (subst AreIp (sym e) (kept_ip_put 128 refl rows node true h))

@@ -2,7 +2,7 @@
 use Rattle.std.proofs.Common.{◌≡◌, ℕ, ◌-◌, ◌<◌, ◌≤◌, Bool, true, List, [], ◌∷◌, ◌++◌, length, Option, refl, sym, ap, ap₂, ◌∙◌, arith, append_assoc, append-nil, length-append}
 use Rattle.std.proofs.lemmas.List.Elements.{filter-append}
 use Rattle.std.specs.List.{filter}
-use Rattle.cidr_forwarding.specs.Choices.{or_else, not_of, shared, united, joined, is_free}
+use Rattle.cidr_forwarding.specs.Choices.{or_else, not_of, shared, united, joined_candidates, is_free}
 use Rattle.cidr_forwarding.proofs.Steps.{part, part_kept}
 
 module _ {X : Type 0} where
@@ -27,14 +27,14 @@ none_are_holes (x ∷ l) = none_are_holes l
 module _ {X : Type 0} (same : X → X → Bool) (free : X → Bool) (old : List X) (s e os oe : ℕ) where
   abbrev pub IsJoined : List X → Type 0
   IsJoined now =
-      (now ≡ old ++ joined same free (part old s e) (part old os oe)) × (length now - length old ≡ length (joined same free (part old s e) (part old os oe)))
+      (now ≡ old ++ joined_candidates same free (part old s e) (part old os oe)) × (length now - length old ≡ length (joined_candidates same free (part old s e) (part old os oe)))
 
 module _ {X : Type 0} (same : X → X → Bool) (free : X → Bool) (old : List X) (s e os oe : ℕ) (o : s ≤ e) (h : e ≤ length old) (oo : os ≤ oe) (oh : oe ≤ length old)
     (v1 : List X) (first : v1 ≡ old ++ shared same (part old s e) (part old os oe)) where
-  joined_by : (now both : List X) → now ≡ old ++ both → joined same free (part old s e) (part old os oe) ≡ both → IsJoined same free old s e os oe now
+  joined_by : (now both : List X) → now ≡ old ++ both → joined_candidates same free (part old s e) (part old os oe) ≡ both → IsJoined same free old s e os oe now
   joined_by now both n b =
-      let m : now ≡ old ++ joined same free (part old s e) (part old os oe) = n ∙ ap (λ l. old ++ l) (sym b) in
-      (m, omega (arith, ap length m, length-append old (joined same free (part old s e) (part old os oe))))
+      let m : now ≡ old ++ joined_candidates same free (part old s e) (part old os oe) = n ∙ ap (λ l. old ++ l) (sym b) in
+      (m, omega (arith, ap length m, length-append old (joined_candidates same free (part old s e) (part old os oe))))
 
   pub joined_shared : length old < length v1 → IsJoined same free old s e os oe v1
   joined_shared more =

@@ -7,7 +7,7 @@ use Rattle.std.specs.declared.cmp.Ordering.TheVariants.{Less}
 use Rattle.cidr.specs.model.Bits.{bit_cmp}
 use Rattle.cidr_table.proofs.MapLaws.{contains_cases, contains_nothing}
 use Rattle.cidr_forwarding.specs.Trees.{Region, Even, Halves, under}
-use Rattle.cidr_forwarding.specs.Choices.{has, candidates, pick, fill, put}
+use Rattle.cidr_forwarding.specs.Choices.{is_listed, candidates, pick, fill, put}
 
 less_not_itself : (p : List Bool) → ¬ (bit_cmp p p ≡ Less)
 less_not_itself [] h = cc
@@ -96,7 +96,7 @@ module _ {X : Type 0} (same : X → X → Bool) (free : X → Bool) (none : X) w
       (above_none false (put same free none l c)) (above_none true (put same free none r c))
 
   put_ascends : (t : Region X) → ((x : X) → Ascend (fill same free none t x)) → (c : X) → Ascend (put same free none t c)
-  put_ascends t inside c = elim (has same (candidates same free t) c) as (λ b. Ascend (cond b (fill same free none t c)
+  put_ascends t inside c = elim (is_listed same (candidates same free t) c) as (λ b. Ascend (cond b (fill same free none t c)
       (([], pick same free none t) ∷ fill same free none t (pick same free none t)))) [
         | true ↦ inside c
         | false ↦ row_before (pick same free none t) (fill same free none t (pick same free none t)) (fill_below t (pick same free none t)) (inside (pick same free none t))

@@ -9,8 +9,8 @@ use Rattle.std.specs.declared.cmp.Ordering.{Ordering}
 use Rattle.std.specs.declared.cmp.Ordering.TheVariants.{Less}
 use Rattle.std.proofs.lemmas.List.Elements.{recursion_from_All}
 use Rattle.cidr.specs.model.Bits.{bit_cmp}
-use Rattle.cidr_forwarding.specs.Trees.{own, below, under, AreWithin, Region, Even, Halves, deeper, region}
-use Rattle.cidr_forwarding.specs.Choices.{joined, EndsIn, is_free, Measured, Fork, noted, counted}
+use Rattle.cidr_forwarding.specs.Trees.{own, below, under, AllFitWidth, Region, Even, Halves, deeper, region}
+use Rattle.cidr_forwarding.specs.Choices.{joined_candidates, EndsIn, is_free, Measured, Fork, noted, counted}
 use Rattle.std.specs.Option.{option_eq}
 use Rattle.cidr_forwarding.specs.Plans.{tails, planned, IsNode, AreDeep, NextIs, choices}
 use Rattle.cidr_forwarding.proofs.RowParts.{below_halves_false, below_halves_true}
@@ -38,11 +38,11 @@ module _ {X : Type 0} where
       ∙ ap (λ x. Halves (region w x lows) (region w x highs)) (sym s)
 
   -- ---- rows of two halves
-  within_high : (w : ℕ) (rows : List (List Bool × X)) → AreWithin (suc w) (under true rows) → AreWithin w rows
+  within_high : (w : ℕ) (rows : List (List Bool × X)) → AllFitWidth (suc w) (under true rows) → AllFitWidth w rows
   within_high w [] h = tt
   within_high w (r ∷ rows) h = (omega (arith, h.0), within_high w rows h.1)
 
-  within_low : (w : ℕ) (lows highs : List (List Bool × X)) → AreWithin (suc w) (under false lows ++ under true highs) → AreWithin w lows × AreWithin w highs
+  within_low : (w : ℕ) (lows highs : List (List Bool × X)) → AllFitWidth (suc w) (under false lows ++ under true highs) → AllFitWidth w lows × AllFitWidth w highs
   within_low w [] highs h = (tt, within_high w highs h)
   within_low w (r ∷ lows) highs h = let k = within_low w lows highs h.1 in ((omega (arith, h.0), k.0), k.1)
 
@@ -96,7 +96,7 @@ module _ {C V : Type 0} (bits : C → List Bool) where
       ascends [] h = tt
       ascends (r ∷ rows) h = (above r.0 rows h.0, ascends rows h.1)
 
-      fits : (rows : List (C × V)) → AllByRecursion (λ (r : C × V). length (bits r.0) ≤ 129) rows → AreWithin 129 (tails bits 0 rows)
+      fits : (rows : List (C × V)) → AllByRecursion (λ (r : C × V). length (bits r.0) ≤ 129) rows → AllFitWidth 129 (tails bits 0 rows)
       fits [] h = tt
       fits (r ∷ rows) h = (h.0, fits rows h.1)
 
@@ -144,11 +144,11 @@ module _ {C V : Type 0} (bits : C → List Bool) where
         lows_are highs_are
         (omega (arith, ap length parts, length_parts lows highs, length_tails d rest, some))
 
-    both_within : AreWithin (129 - (d + 1)) (tails bits (d + 1) (take n rest)) × AreWithin (129 - (d + 1)) (tails bits (d + 1) (drop n rest))
+    both_within : AllFitWidth (129 - (d + 1)) (tails bits (d + 1) (take n rest)) × AllFitWidth (129 - (d + 1)) (tails bits (d + 1) (drop n rest))
     both_within =
         within_low (129 - (d + 1)) (tails bits (d + 1) (take n rest)) (tails bits (d + 1) (drop n rest))
-        (subst (λ w. AreWithin w (under false (tails bits (d + 1) (take n rest)) ++ under true (tails bits (d + 1) (drop n rest)))) (sym left)
-        (subst (AreWithin (129 - d)) parts node.within))
+        (subst (λ w. AllFitWidth w (under false (tails bits (d + 1) (take n rest)) ++ under true (tails bits (d + 1) (drop n rest)))) (sym left)
+        (subst (AllFitWidth (129 - d)) parts node.within))
 
     both_ascend : Ascend (tails bits (d + 1) (take n rest)) × Ascend (tails bits (d + 1) (drop n rest))
     both_ascend = ascend_parts (tails bits (d + 1) (take n rest)) (tails bits (d + 1) (drop n rest)) (subst Ascend parts node.ascending)
@@ -165,7 +165,7 @@ module _ {V : Type 0} (eq : V → V → Bool) (holes : Bool) where
   unfolding choices
   choices_even x = refl
 
-  pub choices_halves : (l r : Region (Option V)) → choices eq holes (Halves l r) ≡ joined (option_eq eq) (is_free holes) (choices eq holes l) (choices eq holes r)
+  pub choices_halves : (l r : Region (Option V)) → choices eq holes (Halves l r) ≡ joined_candidates (option_eq eq) (is_free holes) (choices eq holes l) (choices eq holes r)
   unfolding choices
   choices_halves l r = refl
 
@@ -239,8 +239,8 @@ module _ {V : Type 0} (eq : V → V → Bool) (holes : Bool) where
       (v0 v1 v2 v3 : List (Option V)) (low high n : ℕ) (low_is : (low ≡ length (choices eq holes l)) × EndsIn (noted n_l) (choices eq holes l))
       (high_is : (high ≡ length (choices eq holes r)) × EndsIn (noted n_r) (choices eq holes r))
       (first : v1 ≡ v0 ++ noted n_r) (second : v2 ≡ v1 ++ noted n_l) (stop other : ℕ) (stop_is : stop ≡ length v2) (other_is : other ≡ length v1)
-      (last : (v3 ≡ v2 ++ joined (option_eq eq) (is_free holes) (part v2 (stop - low) stop) (part v2 (other - high) other))
-      × (n ≡ length (joined (option_eq eq) (is_free holes) (part v2 (stop - low) stop) (part v2 (other - high) other)))) where
+      (last : (v3 ≡ v2 ++ joined_candidates (option_eq eq) (is_free holes) (part v2 (stop - low) stop) (part v2 (other - high) other))
+      × (n ≡ length (joined_candidates (option_eq eq) (is_free holes) (part v2 (stop - low) stop) (part v2 (other - high) other)))) where
     low_part : part v2 (stop - low) stop ≡ choices eq holes l
     low_part =
         part_end v2 (choices eq holes l) (stop - low) stop (subst (λ v. EndsIn v (choices eq holes l)) (sym second) (ends_more v1 (noted n_l) (choices eq holes l) low_is.1))
@@ -253,8 +253,8 @@ module _ {V : Type 0} (eq : V → V → Bool) (holes : Bool) where
         ∙ part_end v1 (choices eq holes r) (other - high) other (subst (λ v. EndsIn v (choices eq holes r)) (sym first) (ends_more v0 (noted n_r) (choices eq holes r) high_is.1))
         other_is (omega (arith, high_is.0))
 
-    both : joined (option_eq eq) (is_free holes) (part v2 (stop - low) stop) (part v2 (other - high) other) ≡ choices eq holes t
-    both = ap₂ (joined (option_eq eq) (is_free holes)) low_part high_part ∙ sym (choices_halves eq holes l r) ∙ ap (choices eq holes) (sym is)
+    both : joined_candidates (option_eq eq) (is_free holes) (part v2 (stop - low) stop) (part v2 (other - high) other) ≡ choices eq holes t
+    both = ap₂ (joined_candidates (option_eq eq) (is_free holes)) low_part high_part ∙ sym (choices_halves eq holes l r) ∙ ap (choices eq holes) (sym is)
 
     pub measured_last : (n ≡ length (choices eq holes t)) × EndsIn (noted n_t) (choices eq holes t)
     measured_last = (

@@ -5,7 +5,7 @@ use Rattle.std.proofs.lemmas.List.{take-append-drop, get_or_at}
 use Rattle.std.specs.Bool.{Decides}
 use Rattle.std.specs.List.{AllByRecursion}
 use Rattle.cidr_forwarding.specs.Trees.{under, Region, Even, Halves}
-use Rattle.cidr_forwarding.specs.Choices.{has, head_or, pick, fill, EndsIn, is_free, Measured, Sole, Fork, Chain, noted, counted}
+use Rattle.cidr_forwarding.specs.Choices.{is_listed, head_or, pick, fill, EndsIn, is_free, Measured, Sole, Fork, Chain, noted, counted}
 use Rattle.std.specs.Option.{option_eq}
 use Rattle.cidr_forwarding.specs.Forwarding.{in_bits}
 use Rattle.cidr_forwarding.specs.Plans.{AreDeep, NextIs, AreOf, behind, choices, put_rows}
@@ -47,9 +47,9 @@ module _ {X : Type 0} (n_t : Measured X) where
 
 -- the only candidate is chosen
 pub only_chosen : {V : Type 0} → (same : Option V → Option V → Bool) (decides : (x y : Option V) → Decides (same x y) (x ≡ y)) (s : List (Option V)) (o w : Option V) → s ≡ o ∷ []
-    → o ≡ cond (has same s w) w (head_or None s)
+    → o ≡ cond (is_listed same s w) w (head_or None s)
 only_chosen same decides s o w e =
-    subst (λ l. o ≡ cond (has same l w) w (head_or None l)) (sym e)
+    subst (λ l. o ≡ cond (is_listed same l w) w (head_or None l)) (sym e)
     (elim (same o w) as (λ b. same o w ≡ b → o ≡ cond (cond b true false) w o) [ true ↦ λ h. (decides o w).0 h | false ↦ λ h. refl ] refl)
 
 -- ---- the rows that are put
@@ -57,13 +57,13 @@ unfoldable pub fill_rows : {V : Type 0} → (V → V → Bool) → Bool → Regi
 fill_rows eq holes t c = fill (option_eq eq) (is_free holes) None t c
 
 module _ {V : Type 0} (eq : V → V → Bool) (holes : Bool) where
-  pub put_held : (t : Region (Option V)) (c : Option V) → has (option_eq eq) (choices eq holes t) c ≡ true → put_rows eq holes t c ≡ fill_rows eq holes t c
+  pub put_held : (t : Region (Option V)) (c : Option V) → is_listed (option_eq eq) (choices eq holes t) c ≡ true → put_rows eq holes t c ≡ fill_rows eq holes t c
   unfolding put_rows fill_rows choices
   put_held t c h =
       ap (λ b. cond b (fill (option_eq eq) (is_free holes) None t c)
       (([], pick (option_eq eq) (is_free holes) None t) ∷ fill (option_eq eq) (is_free holes) None t (pick (option_eq eq) (is_free holes) None t))) h
 
-  pub put_new : (t : Region (Option V)) (c : Option V) → has (option_eq eq) (choices eq holes t) c ≡ false
+  pub put_new : (t : Region (Option V)) (c : Option V) → is_listed (option_eq eq) (choices eq holes t) c ≡ false
       → put_rows eq holes t c ≡ ([], head_or None (choices eq holes t)) ∷ fill_rows eq holes t (head_or None (choices eq holes t))
   unfolding put_rows fill_rows choices
   put_new t c h =
@@ -118,10 +118,10 @@ module _ {C V : Type 0} (bits : C → List Bool) (eq : V → V → Bool) (holes 
   abbrev pub IsBegun : Option V → List (C × Option V) → Type 0
   IsBegun value now = in_bits bits now ++ behind q (fill_rows eq holes t value) ≡ in_bits bits old ++ behind q (put_rows eq holes t wanted)
 
-  pub begun_held : (value : Option V) (now : List (C × Option V)) → has (option_eq eq) (choices eq holes t) wanted ≡ true → value ≡ wanted → now ≡ old → IsBegun value now
+  pub begun_held : (value : Option V) (now : List (C × Option V)) → is_listed (option_eq eq) (choices eq holes t) wanted ≡ true → value ≡ wanted → now ≡ old → IsBegun value now
   begun_held value now h v n = ap₂ (λ l x. in_bits bits l ++ behind q (fill_rows eq holes t x)) n v ∙ ap (λ l. in_bits bits old ++ behind q l) (sym (put_held eq holes t wanted h))
 
-  pub begun_new : (value : Option V) (now : List (C × Option V)) (network : C) → bits network ≡ q → has (option_eq eq) (choices eq holes t) wanted ≡ false
+  pub begun_new : (value : Option V) (now : List (C × Option V)) (network : C) → bits network ≡ q → is_listed (option_eq eq) (choices eq holes t) wanted ≡ false
       → value ≡ head_or None (choices eq holes t) → now ≡ old ++ (network, value) ∷ [] → IsBegun value now
   begun_new value now network b h v n =
       let e : in_bits bits now ≡ in_bits bits old ++ (q, value) ∷ [] =
@@ -132,14 +132,14 @@ module _ {C V : Type 0} (bits : C → List Bool) (eq : V → V → Bool) (holes 
 
   -- as the row is appended, or not
   pub begun : (s : List (Option V)) (value : Option V) (now : List (C × Option V)) (network : C) → s ≡ choices eq holes t → bits network ≡ q
-      → value ≡ cond (has (option_eq eq) s wanted) wanted (head_or None s)
-      → now ≡ old ++ cond (has (option_eq eq) s wanted) [] ((network, head_or None s) ∷ []) → IsBegun value now
-  begun s value now network is b v n = elim (decided (has (option_eq eq) s wanted)) [
-    | inl h ↦ begun_held value now (ap (λ l. has (option_eq eq) l wanted) (sym is) ∙ h) (v ∙ ap (λ c. cond c wanted (head_or None s)) h)
+      → value ≡ cond (is_listed (option_eq eq) s wanted) wanted (head_or None s)
+      → now ≡ old ++ cond (is_listed (option_eq eq) s wanted) [] ((network, head_or None s) ∷ []) → IsBegun value now
+  begun s value now network is b v n = elim (decided (is_listed (option_eq eq) s wanted)) [
+    | inl h ↦ begun_held value now (ap (λ l. is_listed (option_eq eq) l wanted) (sym is) ∙ h) (v ∙ ap (λ c. cond c wanted (head_or None s)) h)
         (n ∙ ap (λ c. old ++ cond c [] ((network, head_or None s) ∷ [])) h ∙ append-nil old)
     | inr h ↦
         let w : value ≡ head_or None s = v ∙ ap (λ c. cond c wanted (head_or None s)) h in
-        begun_new value now network b (ap (λ l. has (option_eq eq) l wanted) (sym is) ∙ h) (w ∙ ap (head_or None) is)
+        begun_new value now network b (ap (λ l. is_listed (option_eq eq) l wanted) (sym is) ∙ h) (w ∙ ap (head_or None) is)
         (n ∙ ap (λ c. old ++ cond c [] ((network, head_or None s) ∷ [])) h ∙ ap (λ x. old ++ (network, x) ∷ []) (sym w))
   ]
     where

@@ -1,9 +1,9 @@
 -- Rows as a forwarding by halves, and that the addresses of a width and those of both families fit it.
 use Rattle.std.proofs.Common.{◌≡◌, ℕ, zero, suc, ◌≤◌, Bool, true, false, List, [], ◌∷◌, length, refl, sym, ap, ap₂, ◌∙◌, subst, arith}
-use Rattle.cidr_table.specs.CoverAddresses.{IsIpAddress, IsIpNetwork}
+use Rattle.cidr_table.specs.CoverAddresses.{IsIpAddressBits, IsIpNetworkBits}
 use Rattle.cidr_forwarding.proofs.RowParts.{forward, forward_none}
 use Rattle.cidr_forwarding.proofs.Regions.{at, Fits}
-use Rattle.cidr_forwarding.specs.Trees.{Region, Halves, own, below_step, below, deeper, region, AreWithin}
+use Rattle.cidr_forwarding.specs.Trees.{Region, Halves, own, below_step, below, deeper, region, AllFitWidth}
 
 -- a list of as many bits
 some_bits : ℕ → List Bool
@@ -15,20 +15,20 @@ unfolding some_bits
 length_bits zero = refl
 length_bits (suc n) = ap suc (length_bits n)
 
-ip_within_row : (p : List Bool) → IsIpNetwork p → length p ≤ 129
+ip_within_row : (p : List Bool) → IsIpNetworkBits p → length p ≤ 129
 ip_within_row [] h = omega arith
 ip_within_row (false ∷ p) h = omega arith
 ip_within_row (true ∷ p) h = omega arith
 
 module _ {X : Type 0} where
-  within_step : (w : ℕ) (b : Bool) (p : List Bool) (x : X) (rest : List (List Bool × X)) → length p ≤ suc w → AreWithin w rest → AreWithin w (below_step b p x rest)
+  within_step : (w : ℕ) (b : Bool) (p : List Bool) (x : X) (rest : List (List Bool × X)) → length p ≤ suc w → AllFitWidth w rest → AllFitWidth w (below_step b p x rest)
   within_step w b [] x rest h k = k
   within_step w false (false ∷ p) x rest h k = (omega arith, k)
   within_step w false (true ∷ p) x rest h k = k
   within_step w true (false ∷ p) x rest h k = k
   within_step w true (true ∷ p) x rest h k = (omega arith, k)
 
-  pub within_below : (w : ℕ) (b : Bool) (rows : List (List Bool × X)) → AreWithin (suc w) rows → AreWithin w (below b rows)
+  pub within_below : (w : ℕ) (b : Bool) (rows : List (List Bool × X)) → AllFitWidth (suc w) rows → AllFitWidth w (below b rows)
   within_below w b [] h = tt
   within_below w b (r ∷ rows) h = within_step w b r.0 r.1 (below b rows) h.0 (within_below w b rows h.1)
 
@@ -36,7 +36,7 @@ module _ {X : Type 0} where
   none_step b [] x rest h e = e
   none_step b (d ∷ p) x rest h e = absurd (omega arith)
 
-  pub none_below : (b : Bool) (rows : List (List Bool × X)) → AreWithin 0 rows → below b rows ≡ []
+  pub none_below : (b : Bool) (rows : List (List Bool × X)) → AllFitWidth 0 rows → below b rows ≡ []
   none_below b [] h = refl
   none_below b (r ∷ rows) h = none_step b r.0 r.1 (below b rows) h.0 (none_below b rows h.1)
 
@@ -72,7 +72,7 @@ module _ {X : Type 0} where
   at_deeper [] (x ∷ highs) o l r IsAddress fits hl hr a m = at_halves [] (x ∷ highs) o l r IsAddress fits hl hr a m
   at_deeper (x ∷ lows) highs o l r IsAddress fits hl hr a m = at_halves (x ∷ lows) highs o l r IsAddress fits hl hr a m
 
-  pub at_region : (w : ℕ) (c : X) (rows : List (List Bool × X)) (IsAddress : List Bool → Type 0) → AreWithin w rows → Fits (region w c rows) IsAddress
+  pub at_region : (w : ℕ) (c : X) (rows : List (List Bool × X)) (IsAddress : List Bool → Type 0) → AllFitWidth w rows → Fits (region w c rows) IsAddress
       → (a : List Bool) → IsAddress a → at (region w c rows) a ≡ forward c rows a
   at_region zero c rows IsAddress h fits a m =
       empty_halves (own c rows) a ∙ ap₂ (λ lows highs. by_half (own c rows) lows highs a) (sym (none_below false rows h)) (sym (none_below true rows h))
@@ -90,7 +90,7 @@ module _ {X : Type 0} where
   fits_deeper [] (x ∷ highs) o l r IsAddress some n hl hr = (n, hl, hr)
   fits_deeper (x ∷ lows) highs o l r IsAddress some n hl hr = (n, hl, hr)
 
-  pub fits_width : (w v : ℕ) (c : X) (rows : List (List Bool × X)) (IsAddress : List Bool → Type 0) → v ≤ w → AreWithin v rows
+  pub fits_width : (w v : ℕ) (c : X) (rows : List (List Bool × X)) (IsAddress : List Bool → Type 0) → v ≤ w → AllFitWidth v rows
       → ((a : List Bool) → length a ≡ v → IsAddress a) → ((a : List Bool) → IsAddress a → length a ≡ v) → Fits (region w c rows) IsAddress
   fits_width zero v c rows IsAddress l h to from = (some_bits v, to (some_bits v) (length_bits v))
   fits_width (suc w) zero c rows IsAddress l h to from =
@@ -110,33 +110,33 @@ module _ {X : Type 0} where
   -- ---- of both families
   abbrev pub AreIp : List (List Bool × X) → Type 0
   AreIp [] = Unit {0}
-  AreIp (r ∷ rows) = IsIpNetwork r.0 × AreIp rows
+  AreIp (r ∷ rows) = IsIpNetworkBits r.0 × AreIp rows
 
-  low_step : (p : List Bool) (x : X) (rest : List (List Bool × X)) → IsIpNetwork p → AreWithin 32 rest → AreWithin 32 (below_step false p x rest)
+  low_step : (p : List Bool) (x : X) (rest : List (List Bool × X)) → IsIpNetworkBits p → AllFitWidth 32 rest → AllFitWidth 32 (below_step false p x rest)
   low_step [] x rest h k = k
   low_step (false ∷ p) x rest h k = (h, k)
   low_step (true ∷ p) x rest h k = k
 
-  pub low_within : (rows : List (List Bool × X)) → AreIp rows → AreWithin 32 (below false rows)
+  pub low_within : (rows : List (List Bool × X)) → AreIp rows → AllFitWidth 32 (below false rows)
   low_within [] h = tt
   low_within (r ∷ rows) h = low_step r.0 r.1 (below false rows) h.0 (low_within rows h.1)
 
-  high_step : (p : List Bool) (x : X) (rest : List (List Bool × X)) → IsIpNetwork p → AreWithin 128 rest → AreWithin 128 (below_step true p x rest)
+  high_step : (p : List Bool) (x : X) (rest : List (List Bool × X)) → IsIpNetworkBits p → AllFitWidth 128 rest → AllFitWidth 128 (below_step true p x rest)
   high_step [] x rest h k = k
   high_step (false ∷ p) x rest h k = k
   high_step (true ∷ p) x rest h k = (h, k)
 
-  pub high_within : (rows : List (List Bool × X)) → AreIp rows → AreWithin 128 (below true rows)
+  pub high_within : (rows : List (List Bool × X)) → AreIp rows → AllFitWidth 128 (below true rows)
   high_within [] h = tt
   high_within (r ∷ rows) h = high_step r.0 r.1 (below true rows) h.0 (high_within rows h.1)
 
-  pub fits_ip : (w : ℕ) (c : X) (rows : List (List Bool × X)) → 128 ≤ w → AreIp rows → Fits (region (suc w) c rows) IsIpAddress
+  pub fits_ip : (w : ℕ) (c : X) (rows : List (List Bool × X)) → 128 ≤ w → AreIp rows → Fits (region (suc w) c rows) IsIpAddressBits
   fits_ip w c rows l h =
-      fits_deeper (below false rows) (below true rows) (own c rows) (region w (own c rows) (below false rows)) (region w (own c rows) (below true rows)) IsIpAddress
+      fits_deeper (below false rows) (below true rows) (own c rows) (region w (own c rows) (below false rows)) (region w (own c rows) (below true rows)) IsIpAddressBits
       (false ∷ some_bits 32, length_bits 32) (λ m. m)
-      (fits_width w 32 (own c rows) (below false rows) (λ a. IsIpAddress (false ∷ a)) (omega arith) (low_within rows h) (λ a e. e) (λ a m. m))
-      (fits_width w 128 (own c rows) (below true rows) (λ a. IsIpAddress (true ∷ a)) l (high_within rows h) (λ a e. e) (λ a m. m))
+      (fits_width w 32 (own c rows) (below false rows) (λ a. IsIpAddressBits (false ∷ a)) (omega arith) (low_within rows h) (λ a e. e) (λ a m. m))
+      (fits_width w 128 (own c rows) (below true rows) (λ a. IsIpAddressBits (true ∷ a)) l (high_within rows h) (λ a e. e) (λ a m. m))
 
-  pub ip_within : (rows : List (List Bool × X)) → AreIp rows → AreWithin 129 rows
+  pub ip_within : (rows : List (List Bool × X)) → AreIp rows → AllFitWidth 129 rows
   ip_within [] h = tt
   ip_within (r ∷ rows) h = (ip_within_row r.0 h.0, ip_within rows h.1)

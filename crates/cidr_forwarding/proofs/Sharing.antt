@@ -9,7 +9,7 @@ use Rattle.std.specs.declared.cmp.Ordering.TheVariants.{Less}
 use Rattle.cidr.specs.model.Bits.{bit_cmp}
 use Rattle.cidr.specs.model.Network.{BeginsWith}
 use Rattle.cidr.specs.model.BitString.{IsSharedLength}
-use Rattle.cidr_forwarding.specs.Trees.{under, AreWithin, common, last_key, sharing}
+use Rattle.cidr_forwarding.specs.Trees.{under, AllFitWidth, common, last_key, sharing}
 use Rattle.cidr_forwarding.specs.Plans.{tails, IsNode, NextIs, AreOf, AreOfOne, behind}
 use Rattle.cidr_forwarding.proofs.Order.{Ascend}
 use Rattle.cidr_forwarding.proofs.Passes.{ascend_high, ascend_parts, whole_rest}
@@ -112,7 +112,7 @@ module _ {X : Type 0} where
       ascend_behind p rows ((ascend_parts (behind p rows) [] (subst Ascend e h)).0)
   ascend_behind (true ∷ p) rows h = ascend_behind p rows (ascend_high (behind p rows) (subst Ascend (sym (under_behind true p rows)) h))
 
-  pub within_behind : (p : List Bool) (w : ℕ) (rows : List (List Bool × X)) → AreWithin (length p + w) (behind p rows) → AreWithin w rows
+  pub within_behind : (p : List Bool) (w : ℕ) (rows : List (List Bool × X)) → AllFitWidth (length p + w) (behind p rows) → AllFitWidth w rows
   within_behind p w [] h = tt
   within_behind p w (r ∷ rows) h = (omega (arith, h.0, length-append p r.0), within_behind p w rows h.1)
 
@@ -196,7 +196,7 @@ module _ {C V : Type 0} (bits : C → List Bool) where
     pub more_fits : d < 129 → d + sharing (tails bits d rows) ≤ 129
     more_fits s = fits rows node.within
       where
-        fits : (rows : List (C × V)) → AreWithin (129 - d) (tails bits d rows) → d + sharing (tails bits d rows) ≤ 129
+        fits : (rows : List (C × V)) → AllFitWidth (129 - d) (tails bits d rows) → d + sharing (tails bits d rows) ≤ 129
         fits [] h = omega (arith, s)
         fits (r ∷ rows) h = let e = sharing_fits (tails bits d (r ∷ rows)) in omega (arith, s, h.0, e)
 
@@ -206,7 +206,7 @@ module _ {C V : Type 0} (bits : C → List Bool) where
         let e : 129 - d ≡ length more_bits + (129 - n) = omega (arith, s, length_more, more_fits s) in
         record {
           ascending = ascend_behind more_bits (tails bits n rows) (subst Ascend more_tails node.ascending);
-          within = within_behind more_bits (129 - n) (tails bits n rows) (subst (λ w. AreWithin w (behind more_bits (tails bits n rows))) e (subst (AreWithin (129 - d)) more_tails node.within));
+          within = within_behind more_bits (129 - n) (tails bits n rows) (subst (λ w. AllFitWidth w (behind more_bits (tails bits n rows))) e (subst (AllFitWidth (129 - d)) more_tails node.within));
         }
 
     pub more_of : (q : List Bool) → length q ≡ d → AreOf bits q rows → AreOf bits (q ++ more_bits) rows

@@ -14,7 +14,7 @@ use Rattle.cidr_forwarding.proofs.Fewest.{bound, exact, as_many, all_free}
 use Rattle.cidr_forwarding.proofs.Looking.{seen_as, length_seen, value_or, forwarded}
 use Rattle.cidr_forwarding.proofs.Shapes.{at_region}
 use Rattle.cidr_forwarding.proofs.Order.{Ascend, one_row, ascends}
-use Rattle.cidr_forwarding.specs.Trees.{region, AreWithin}
+use Rattle.cidr_forwarding.specs.Trees.{region, AllFitWidth}
 use Rattle.cidr_forwarding.specs.Choices.{is_free, put}
 
 -- ---- one longest row
@@ -83,7 +83,7 @@ module _ {V : Type 0} (same : V → V → Bool) (decides : (x y : V) → Decides
   both_none : (x y : Option V) → (is_free false) x ≡ false → (is_free false) y ≡ false → x ≡ y
   both_none x y h k = only_none x h ∙ sym (only_none y k)
 
-  module _ (IsAddress : List Bool → Type 0) (w : ℕ) (rows : List (List Bool × V)) (ascend : Ascend rows) (within : AreWithin w (seen_as Some rows))
+  module _ (IsAddress : List Bool → Type 0) (w : ℕ) (rows : List (List Bool × V)) (ascend : Ascend rows) (within : AllFitWidth w (seen_as Some rows))
       (fits : Fits (region w None (seen_as Some rows)) IsAddress) where
     rows_at : (a : List Bool) → IsAddress a → forward None (seen_as Some rows) a ≡ at (region w None (seen_as Some rows)) a
     rows_at a m = sym (at_region w None (seen_as Some rows) IsAddress within fits a m)
@@ -162,7 +162,7 @@ module _ {V : Type 0} (same : V → V → Bool) (decides : (x y : V) → Decides
       let g : h.1.0 ≡ f.0 = one_looked_up holed s a h.1.0 f.0 h.1.1 f.1 in
       h.2 ∙ (ap row_value (h.1.2 ∙ ap (option_map (λ (r : List Bool × Option V). r.1)) g) ∙ (sym (holed_value f.0) ∙ sym e))
 
-  module _ (IsAddress : List Bool → Type 0) (w : ℕ) (rows : List (List Bool × V)) (ascend : Ascend rows) (within : AreWithin w (seen_as Some rows))
+  module _ (IsAddress : List Bool → Type 0) (w : ℕ) (rows : List (List Bool × V)) (ascend : Ascend rows) (within : AllFitWidth w (seen_as Some rows))
       (fits : Fits (region w None (seen_as Some rows)) IsAddress) where
     unfoldable pub smallest_holed : List (List Bool × Option V)
     smallest_holed = put (option_eq same) (is_free true) None (region w None (seen_as Some rows)) None

@@ -13,22 +13,22 @@ use Rattle.std.specs.declared.cmp.Ordering.TheVariants.{Less, Equal, Greater}
 use Rattle.std.proofs.lemmas.Bool.{cases_lt}
 use Rattle.std.proofs.lemmas.List.Sorted.{Contains-permutation, IsPermutation-sym, searchable_from_sorted}
 use Rattle.cidr_table.proofs.MapLaws.{contains_first, contains_later, contains_cases, contains_nothing}
-use Rattle.cidr_forwarding.specs.Choices.{has}
+use Rattle.cidr_forwarding.specs.Choices.{is_listed}
 use Rattle.cidr_forwarding.proofs.Members.{has_first, has_cases, has_later}
 use Rattle.cidr_forwarding.proofs.Smallest.{decides_option}
 
 module _ {X : Type 0} (same : X → X → Bool) (decides : (x y : X) → Decides (same x y) (x ≡ y)) where
-  in_from_has : (values : List X) (x : X) → has same values x ≡ true → Contains values x
+  in_from_has : (values : List X) (x : X) → is_listed same values x ≡ true → Contains values x
   in_from_has [] x h = absurd (true≢false (sym h))
   in_from_has (y ∷ values) x h = elim (has_cases same decides y values x h) [
     | inl e ↦ subst (λ z. Contains (y ∷ values) z) e (contains_first y values)
     | inr k ↦ contains_later y x values (in_from_has values x k)
   ]
 
-  has_from_in : (values : List X) (x : X) → Contains values x → has same values x ≡ true
+  has_from_in : (values : List X) (x : X) → Contains values x → is_listed same values x ≡ true
   has_from_in [] x h = absurd (contains_nothing x h)
   has_from_in (y ∷ values) x h = elim (contains_cases y x values h) [
-    | inl e ↦ subst (λ z. has same (y ∷ values) z ≡ true) e (has_first same decides y values)
+    | inl e ↦ subst (λ z. is_listed same (y ∷ values) z ≡ true) e (has_first same decides y values)
     | inr k ↦ has_later same decides y values x (has_from_in values x k)
   ]
 
@@ -37,9 +37,9 @@ module _ {X : Type 0} (same : X → X → Bool) (decides : (x y : X) → Decides
   same_answer false true f g = g refl
   same_answer false false f g = refl
 
-  pub has_moved : (values moved : List X) → IsPermutation values moved → (x : X) → has same moved x ≡ has same values x
+  pub has_moved : (values moved : List X) → IsPermutation values moved → (x : X) → is_listed same moved x ≡ is_listed same values x
   has_moved values moved m x =
-      same_answer (has same moved x) (has same values x)
+      same_answer (is_listed same moved x) (is_listed same values x)
       (λ h. has_from_in values x (Contains-permutation moved values x (IsPermutation-sym values moved m) (in_from_has moved x h)))
       (λ h. has_from_in moved x (Contains-permutation values moved x m (in_from_has values x h)))
 
@@ -52,12 +52,12 @@ module _ {V : Type 0} (eq : V → V → Bool) (cmp : V → V → Ordering) (deci
   tied_same (Some x) (Some y) e = ap Some ((decides x y).0 (ties x y ∙ ap is_eq e))
 
   found : (values : List (Option V)) (x : Option V) (i : ℕ) → IsSearchInRange (Ok i) (length values)
-      → IsBinarySearchResult (λ y. option_cmp cmp y x) values (Ok i) → has (option_eq eq) values x ≡ true
+      → IsBinarySearchResult (λ y. option_cmp cmp y x) values (Ok i) → is_listed (option_eq eq) values x ≡ true
   found values x i within h =
       has_from_in (option_eq eq) (decides_option eq decides) values x (i, within, tied_same (get_or values i x) x (h x))
 
   not_found : (values : List (Option V)) (x : Option V) (i : ℕ) → IsSorted (option_cmp cmp) values
-      → IsBinarySearchResult (λ y. option_cmp cmp y x) values (Err i) → has (option_eq eq) values x ≡ true → ⊥
+      → IsBinarySearchResult (λ y. option_cmp cmp y x) values (Err i) → is_listed (option_eq eq) values x ≡ true → ⊥
   not_found values x i s h k =
       let parts = h (searchable_from_sorted (options_total total) (λ y. y) values x s) in
       let m = in_from_has (option_eq eq) (decides_option eq decides) values x k in
@@ -70,9 +70,9 @@ module _ {V : Type 0} (eq : V → V → Bool) (cmp : V → V → Ordering) (deci
 
   pub told_by_search : (values : List (Option V)) → IsSorted (option_cmp cmp) values → (x : Option V) (r : Result ℕ ℕ)
       → IsSearchInRange r (length values) → IsBinarySearchResult (λ y. option_cmp cmp y x) values r
-      → is_ok r ≡ has (option_eq eq) values x
+      → is_ok r ≡ is_listed (option_eq eq) values x
   told_by_search values s x (Ok i) within h = sym (found values x i within h)
-  told_by_search values s x (Err i) within h = elim (has (option_eq eq) values x) as (λ b. has (option_eq eq) values x ≡ b → false ≡ b) [
+  told_by_search values s x (Err i) within h = elim (is_listed (option_eq eq) values x) as (λ b. is_listed (option_eq eq) values x ≡ b → false ≡ b) [
     | true ↦ λ k. absurd (not_found values x i s h k)
     | false ↦ λ k. refl
   ] refl

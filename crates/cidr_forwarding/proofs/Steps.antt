@@ -3,7 +3,7 @@ use Rattle.std.proofs.Common.{◌≡◌, ℕ, suc, ◌+◌, ◌-◌, ◌<◌, �
 use Rattle.std.proofs.lemmas.List.{take-append-le, drop-append-le, get_or_append_left}
 use Rattle.std.proofs.lemmas.List.Elements.{filter_more}
 use Rattle.std.specs.List.{filter}
-use Rattle.cidr_forwarding.specs.Choices.{has, is_free, not_of}
+use Rattle.cidr_forwarding.specs.Choices.{is_listed, is_free, not_of}
 
 module _ {X : Type 0} where
   -- the values from start on, up to i
@@ -54,17 +54,17 @@ module _ {X : Type 0} where
 
 -- ---- whether a value is there
 module _ {X : Type 0} (same : X → X → Bool) (w : X) where
-  pub not_here : (xs : List X) (i : ℕ) (x : X) → i < length xs → x ≡ get_or xs i x → same x w ≡ false → has same (drop i xs) w ≡ has same (drop (i + 1) xs) w
+  pub not_here : (xs : List X) (i : ℕ) (x : X) → i < length xs → x ≡ get_or xs i x → same x w ≡ false → is_listed same (drop i xs) w ≡ is_listed same (drop (i + 1) xs) w
   not_here xs i x h e s =
       let n : suc i ≡ i + 1 = omega arith in
       let c : drop i xs ≡ x ∷ drop (i + 1) xs = drop-cons xs i x h ∙ ap₂ (λ y k. y ∷ drop k xs) (sym e) n in
-      ap (λ l. has same l w) c ∙ ap (λ b. cond b true (has same (drop (i + 1) xs) w)) s
+      ap (λ l. is_listed same l w) c ∙ ap (λ b. cond b true (is_listed same (drop (i + 1) xs) w)) s
 
-  pub is_here : (xs : List X) (i : ℕ) (x : X) → i < length xs → x ≡ get_or xs i x → same x w ≡ true → has same (drop i xs) w ≡ true
+  pub is_here : (xs : List X) (i : ℕ) (x : X) → i < length xs → x ≡ get_or xs i x → same x w ≡ true → is_listed same (drop i xs) w ≡ true
   is_here xs i x h e s =
       let n : suc i ≡ i + 1 = omega arith in
       let c : drop i xs ≡ x ∷ drop (i + 1) xs = drop-cons xs i x h ∙ ap₂ (λ y k. y ∷ drop k xs) (sym e) n in
-      ap (λ l. has same l w) c ∙ ap (λ b. cond b true (has same (drop (i + 1) xs) w)) s
+      ap (λ l. is_listed same l w) c ∙ ap (λ b. cond b true (is_listed same (drop (i + 1) xs) w)) s
 
 -- ---- a value that no row may have
 module _ {V : Type 0} where

@@ -27,26 +27,26 @@ module _ {X : Type 0} where
   one_if_empty (x ∷ xs) = 0
 
 module _ {X : Type 0} (same : X → X → Bool) where
-  abbrev pub has : List X → X → Bool
-  has [] x = false
-  has (y ∷ ys) x = cond (same y x) true (has ys x)
+  abbrev pub is_listed : List X → X → Bool
+  is_listed [] x = false
+  is_listed (y ∷ ys) x = cond (same y x) true (is_listed ys x)
 
   -- 1 where the value is no candidate: it takes a row
   abbrev pub extra : List X → X → ℕ
-  extra xs x = cond (has xs x) 0 1
+  extra xs x = cond (is_listed xs x) 0 1
 
   abbrev pub shared : List X → List X → List X
-  shared xs ys = filter (has ys) xs
+  shared xs ys = filter (is_listed ys) xs
 
   -- the candidates of a network: those of both halves, or if there are none those of either
-  abbrev pub joined : (X → Bool) → List X → List X → List X
-  joined free xs ys = or_else (shared xs ys) (united free xs ys)
+  abbrev pub joined_candidates : (X → Bool) → List X → List X → List X
+  joined_candidates free xs ys = or_else (shared xs ys) (united free xs ys)
 
 module _ {X : Type 0} (same : X → X → Bool) (free : X → Bool) where
   -- the values that cost no row if one of them is inherited
   abbrev pub candidates : Region X → List X
   candidates (Even x) = x ∷ []
-  candidates (Halves l r) = joined same free (candidates l) (candidates r)
+  candidates (Halves l r) = joined_candidates same free (candidates l) (candidates r)
 
 module _ {X : Type 0} where
   abbrev pub head_or : X → List X → X
@@ -61,12 +61,12 @@ module _ {X : Type 0} (same : X → X → Bool) (free : X → Bool) (none : X) w
   abbrev pub fill : Region X → X → List (List Bool × X)
   fill (Even v) c = []
   fill (Halves l r) c =
-      under false (cond (has same (candidates same free l) c) (fill l c) (([], pick l) ∷ fill l (pick l)))
-      ++ under true (cond (has same (candidates same free r) c) (fill r c) (([], pick r) ∷ fill r (pick r)))
+      under false (cond (is_listed same (candidates same free l) c) (fill l c) (([], pick l) ∷ fill l (pick l)))
+      ++ under true (cond (is_listed same (candidates same free r) c) (fill r c) (([], pick r) ∷ fill r (pick r)))
 
   -- the rows of a network, with one for itself if no candidate is inherited
   abbrev pub put : Region X → X → List (List Bool × X)
-  put t c = cond (has same (candidates same free t) c) (fill t c) (([], pick t) ∷ fill t (pick t))
+  put t c = cond (is_listed same (candidates same free t) c) (fill t c) (([], pick t) ∷ fill t (pick t))
 
 -- ---- what the first pass leaves of a network
 pub data Measured (X : Type 0) : Type 0 where

@@ -6,7 +6,7 @@ use Rattle.std.specs.List.{Contains}
 use Rattle.std.specs.List.Sorted.{IsStrictlySortedBy}
 use Rattle.std.specs.Map.{keys_of}
 use Rattle.cidr.specs.model.Bits.{bit_cmp}
-use Rattle.cidr_table.specs.CoverAddresses.{IsIpNetwork}
+use Rattle.cidr_table.specs.CoverAddresses.{IsIpNetworkBits}
 use Rattle.cidr_table.specs.Prefixes.{IsValueLookedUp}
 
 -- the value of a row that may be a hole: none where there is no row or where it is a hole
@@ -20,7 +20,7 @@ module _ {C V : Type 0} (bits : C → List Bool) where
   AreNetworksOf w rows = (row : C × V) → Contains rows row → length (bits row.0) ≤ w
 
   abbrev pub AreIpRows : List (C × V) → Type 0
-  AreIpRows rows = (row : C × V) → Contains rows row → IsIpNetwork (bits row.0)
+  AreIpRows rows = (row : C × V) → Contains rows row → IsIpNetworkBits (bits row.0)
 
   -- the rows as rows of lists of bits
   abbrev pub in_bits : List (C × V) → List (List Bool × V)

@@ -4,7 +4,7 @@ use Rattle.std.specs.List.Sorted.{IsStrictlySortedBy}
 use Rattle.std.specs.Map.{keys_of}
 use Rattle.std.specs.Option.{option_eq}
 use Rattle.cidr.specs.model.Bits.{bit_cmp}
-use Rattle.cidr_forwarding.specs.Trees.{Region, region, AreWithin}
+use Rattle.cidr_forwarding.specs.Trees.{Region, region, AllFitWidth}
 use Rattle.cidr_forwarding.specs.Choices.{candidates, put, is_free, Measured, measured_of}
 
 module _ {C V : Type 0} (bits : C → List Bool) where
@@ -20,7 +20,7 @@ module _ {C V : Type 0} (bits : C → List Bool) where
   -- rows of one network of so many bits
   pub record IsNode (depth : ℕ) (rows : List (C × V)) : Type 0 where
     pub ascending : IsStrictlySortedBy bit_cmp (keys_of (tails depth rows))
-    pub within : AreWithin (129 - depth) (tails depth rows)
+    pub within : AllFitWidth (129 - depth) (tails depth rows)
 
   -- the row's next bit is this one
   abbrev pub NextIs : ℕ → Bool → C × V → Type 0

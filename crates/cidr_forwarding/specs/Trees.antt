@@ -53,9 +53,9 @@ module _ {X : Type 0} where
   region (suc w) c rows =
       deeper (below false rows) (below true rows) (own c rows) (region w (own c rows) (below false rows)) (region w (own c rows) (below true rows))
 
-  abbrev pub AreWithin : ℕ → List (List Bool × X) → Type 0
-  AreWithin w [] = Unit {0}
-  AreWithin w (r ∷ rows) = (length r.0 ≤ w) × AreWithin w rows
+  abbrev pub AllFitWidth : ℕ → List (List Bool × X) → Type 0
+  AllFitWidth w [] = Unit {0}
+  AllFitWidth w (r ∷ rows) = (length r.0 ≤ w) × AllFitWidth w rows
 
   abbrev pub longer_step : List Bool → X → List (List Bool × X) → List (List Bool × X)
   longer_step [] x rest = rest

@@ -4,13 +4,13 @@ ghost use Rattle.std.specs.List.{filter};
 ghost use Rattle.std.specs.List.Sorted.{IsPermutation, IsSorted};
 ghost use Rattle.std.specs.Option.{option_eq, option_cmp};
 ghost use Rattle.cidr.specs.either.IpAddress.{TellsEqual};
-ghost use Rattle.cidr_forwarding.specs.Choices.{has, shared, joined, is_free, not_of, head_or};
+ghost use Rattle.cidr_forwarding.specs.Choices.{is_listed, shared, joined_candidates, is_free, not_of, head_or};
 
 use std::alloc::{AllocError, Global};
 
 /// Whether one of the values is this one.
 pub(crate) fn holds<V: Copy + Ord>(values: &[Option<V>], wanted: Option<V>) -> bool
-    ensures { result ≡ has (option_eq V.eq) values.now wanted }
+    ensures { result ≡ is_listed (option_eq V.eq) values.now wanted }
 {
     for value in values {
         if *value == wanted {
@@ -50,7 +50,7 @@ fn ascending<V: Copy + Ord>(
 fn holds_ascending<V: Copy + Ord>(values: &[Option<V>], wanted: Option<V>) -> bool
     requires tells { TellsEqual V.eq }
     requires sorted { IsSorted (option_cmp V.cmp) values.now }
-    ensures { result ≡ has (option_eq V.eq) values.now wanted }
+    ensures { result ≡ is_listed (option_eq V.eq) values.now wanted }
 {
     values.binary_search(&wanted).is_ok()
 }
@@ -184,7 +184,7 @@ pub(crate) fn join<V: Copy + Ord>(
     requires within { end ≤ length values.old.items }
     requires other_order { other_start ≤ other_end }
     requires other_within { other_end ≤ length values.old.items }
-    ensures { let both = joined (option_eq V.eq) (is_free holes)
+    ensures { let both = joined_candidates (option_eq V.eq) (is_free holes)
         (take (end - start) (drop start values.old.items)) (take (other_end - other_start) (drop other_start values.old.items)) in
         IfOk result (λ n. (values.new.items ≡ values.old.items ++ both) × (n ≡ length both)) }
 {

@@ -5,9 +5,9 @@ ghost use Rattle.std.specs.List.Sorted.{IsStrictlySortedBy};
 ghost use Rattle.std.specs.Map.{keys_of};
 ghost use Rattle.cidr.specs.either.IpAddress.{TellsEqual};
 ghost use Rattle.cidr.specs.model.Network.{HasWidth};
-ghost use Rattle.cidr_table.specs.CoverAddresses.{IsIpAddress};
+ghost use Rattle.cidr_table.specs.CoverAddresses.{IsIpAddressBits};
 ghost use Rattle.cidr_forwarding.specs.Forwarding.{in_bits, AreNetworksOf, AreIpRows, IsSmallest, IsSmallestHoled};
-ghost use Rattle.cidr_forwarding.specs.Choices.{EndsIn, has, head_or, noted, counted};
+ghost use Rattle.cidr_forwarding.specs.Choices.{EndsIn, is_listed, head_or, noted, counted};
 ghost use Rattle.cidr_forwarding.specs.Plans.{planned, measured, IsNode, AreDeep, AreOf, AreOfOne, behind, choices, put_rows};
 
 use crate::candidates::{first_of, holds, join};
@@ -25,7 +25,7 @@ pub(crate) fn smallest_rows<C: NetworkBits + Copy, V: Copy + Ord>(
     ensures width { IfOk result (λ smallest. (w : ℕ) → w ≤ 129 → AreNetworksOf C.bits w rows.now
         → IsSmallest (HasWidth w) (in_bits C.bits rows.now) (in_bits C.bits smallest.items)) }
     ensures ip { IfOk result (λ smallest. AreIpRows C.bits rows.now
-        → IsSmallest IsIpAddress (in_bits C.bits rows.now) (in_bits C.bits smallest.items)) }
+        → IsSmallest IsIpAddressBits (in_bits C.bits rows.now) (in_bits C.bits smallest.items)) }
     ensures kept { IfOk result (λ smallest. (w : ℕ) → AreNetworksOf C.bits w rows.now → AreNetworksOf C.bits w smallest.items) }
     ensures kept_ip { IfOk result (λ smallest. AreIpRows C.bits rows.now → AreIpRows C.bits smallest.items) }
     ensures sorted { IfOk result (λ smallest. IsStrictlySortedBy C.cmp (keys_of smallest.items)) }
@@ -52,7 +52,7 @@ pub(crate) fn smallest_holed<C: NetworkBits + Copy, V: Copy + Ord>(
     ensures width { IfOk result (λ smallest. (w : ℕ) → w ≤ 129 → AreNetworksOf C.bits w rows.now
         → IsSmallestHoled (HasWidth w) (in_bits C.bits rows.now) (in_bits C.bits smallest.items)) }
     ensures ip { IfOk result (λ smallest. AreIpRows C.bits rows.now
-        → IsSmallestHoled IsIpAddress (in_bits C.bits rows.now) (in_bits C.bits smallest.items)) }
+        → IsSmallestHoled IsIpAddressBits (in_bits C.bits rows.now) (in_bits C.bits smallest.items)) }
     ensures kept { IfOk result (λ smallest. (w : ℕ) → AreNetworksOf C.bits w rows.now → AreNetworksOf C.bits w smallest.items) }
     ensures kept_ip { IfOk result (λ smallest. AreIpRows C.bits rows.now → AreIpRows C.bits smallest.items) }
     ensures sorted { IfOk result (λ smallest. IsStrictlySortedBy C.cmp (keys_of smallest.items)) }
@@ -153,9 +153,9 @@ fn begin<C: NetworkBits + Copy, V: Copy + Ord>(
     network: C,
     out: &mut Vec<(C, Option<V>)>,
 ) -> Result<Option<V>, AllocError>
-    ensures value { IfOk result (λ value. value ≡ cond (has (option_eq V.eq) candidates.now wanted) wanted (head_or None candidates.now)) }
+    ensures value { IfOk result (λ value. value ≡ cond (is_listed (option_eq V.eq) candidates.now wanted) wanted (head_or None candidates.now)) }
     ensures rows { OnOk result (out.new.items ≡ out.old.items
-        ++ cond (has (option_eq V.eq) candidates.now wanted) [] ((network, head_or None candidates.now) ∷ [])) }
+        ++ cond (is_listed (option_eq V.eq) candidates.now wanted) [] ((network, head_or None candidates.now) ∷ [])) }
 {
     if holds(candidates, wanted) {
         return Ok(wanted);

@@ -3,7 +3,7 @@ ghost use Rattle.std.specs.Prelude.{◌≡◌, ◌↔◌, ℕ, ◌<◌, ◌≤�
 ghost use Rattle.std.specs.Option.{option_eq};
 ghost use Rattle.cidr.specs.either.IpAddress.{TellsEqual};
 ghost use Rattle.cidr.specs.model.Network.{HasWidth};
-ghost use Rattle.cidr_table.specs.CoverAddresses.{IsIpAddress};
+ghost use Rattle.cidr_table.specs.CoverAddresses.{IsIpAddressBits};
 ghost use Rattle.cidr_forwarding.specs.Forwarding.{AreNetworksOf, AreIpRows, ForwardSame};
 ghost use Rattle.cidr_forwarding.specs.Trees.{agree};
 ghost use Rattle.cidr_forwarding.specs.Plans.{planned, IsNode, AreDeep};
@@ -31,7 +31,7 @@ pub fn forwards_same<C: NetworkBits + Copy, V: Copy + Eq>(
     ensures width { (w : ℕ) → w ≤ 129 → AreNetworksOf C.bits w one.now.rows → AreNetworksOf C.bits w other.now.rows
         → (IsTrue result ↔ ForwardSame C.bits (HasWidth w) one.now.rows other.now.rows) }
     ensures ip { AreIpRows C.bits one.now.rows → AreIpRows C.bits other.now.rows
-        → (IsTrue result ↔ ForwardSame C.bits IsIpAddress one.now.rows other.now.rows) }
+        → (IsTrue result ↔ ForwardSame C.bits IsIpAddressBits one.now.rows other.now.rows) }
 {
     let rows = rows_of(one);
     let others = rows_of(other);

@@ -4,7 +4,7 @@ ghost use Rattle.std.specs.List.Sorted.{IsStrictlySortedBy};
 ghost use Rattle.std.specs.Map.{keys_of};
 ghost use Rattle.cidr.specs.either.IpAddress.{TellsEqual};
 ghost use Rattle.cidr.specs.model.Network.{HasWidth};
-ghost use Rattle.cidr_table.specs.CoverAddresses.{IsIpAddress};
+ghost use Rattle.cidr_table.specs.CoverAddresses.{IsIpAddressBits};
 ghost use Rattle.cidr_forwarding.specs.Forwarding.{in_bits, AreNetworksOf, AreIpRows, ForwardSame, ForwardSameHoled, IsSmallest, IsSmallestHoled};
 
 use crate::plan::{smallest_holed, smallest_rows};
@@ -37,11 +37,11 @@ pub trait SmallestTable<C: NetworkBits + Copy, V: Copy + Ord + Drop> {
         ensures width { IfOk result (λ smallest. (w : ℕ) → w ≤ 129 → AreNetworksOf C.bits w (rows self.now)
             → IsSmallest (HasWidth w) (in_bits C.bits (rows self.now)) (in_bits C.bits smallest.rows)) }
         ensures ip { IfOk result (λ smallest. AreIpRows C.bits (rows self.now)
-            → IsSmallest IsIpAddress (in_bits C.bits (rows self.now)) (in_bits C.bits smallest.rows)) }
+            → IsSmallest IsIpAddressBits (in_bits C.bits (rows self.now)) (in_bits C.bits smallest.rows)) }
         ensures lookups { IfOk result (λ smallest. (w : ℕ) → w ≤ 129 → AreNetworksOf C.bits w (rows self.now)
             → ForwardSame C.bits (HasWidth w) (rows self.now) smallest.rows) }
         ensures ip_lookups { IfOk result (λ smallest. AreIpRows C.bits (rows self.now)
-            → ForwardSame C.bits IsIpAddress (rows self.now) smallest.rows) }
+            → ForwardSame C.bits IsIpAddressBits (rows self.now) smallest.rows) }
         ensures kept { IfOk result (λ smallest. (w : ℕ) → AreNetworksOf C.bits w (rows self.now)
             → AreNetworksOf C.bits w smallest.rows) }
         ensures kept_ip { IfOk result (λ smallest. AreIpRows C.bits (rows self.now)
@@ -60,11 +60,11 @@ pub trait SmallestTable<C: NetworkBits + Copy, V: Copy + Ord + Drop> {
         ensures width { IfOk result (λ smallest. (w : ℕ) → w ≤ 129 → AreNetworksOf C.bits w (rows self.now)
             → IsSmallestHoled (HasWidth w) (in_bits C.bits (rows self.now)) (in_bits C.bits smallest.rows)) }
         ensures ip { IfOk result (λ smallest. AreIpRows C.bits (rows self.now)
-            → IsSmallestHoled IsIpAddress (in_bits C.bits (rows self.now)) (in_bits C.bits smallest.rows)) }
+            → IsSmallestHoled IsIpAddressBits (in_bits C.bits (rows self.now)) (in_bits C.bits smallest.rows)) }
         ensures lookups { IfOk result (λ smallest. (w : ℕ) → w ≤ 129 → AreNetworksOf C.bits w (rows self.now)
             → ForwardSameHoled C.bits (HasWidth w) (rows self.now) smallest.rows) }
         ensures ip_lookups { IfOk result (λ smallest. AreIpRows C.bits (rows self.now)
-            → ForwardSameHoled C.bits IsIpAddress (rows self.now) smallest.rows) }
+            → ForwardSameHoled C.bits IsIpAddressBits (rows self.now) smallest.rows) }
         ensures kept { IfOk result (λ smallest. (w : ℕ) → AreNetworksOf C.bits w (rows self.now)
             → AreNetworksOf C.bits w smallest.rows) }
         ensures kept_ip { IfOk result (λ smallest. AreIpRows C.bits (rows self.now)

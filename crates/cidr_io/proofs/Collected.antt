@@ -3,7 +3,7 @@ use Rattle.std.proofs.Common.{◌≡◌, refl, inl, inr, Bool, true, false, sym,
 use Rattle.std.specs.List.{flat_map}
 use Rattle.std.proofs.lemmas.List.{take_more, take_all, take-append-drop, append-nil}
 use Rattle.std.proofs.lemmas.List.Concat.{flat_map-append}
-use Rattle.cidr_io.specs.Writing.{State, Whole, Part, Writes, Says}
+use Rattle.cidr_io.specs.Writing.{State, Whole, Part, Writes, Tells}
 use Rattle.cidr_io.specs.declared.sink.OutputFailed.{OutputFailed}
 use Rattle.cidr_io.proofs.Chains.{answered, part_none, then_writes, whole_none, whole_whole, whole_part, part_more}
 use Rattle.cidr_io.specs.Collecting.{Collects, Holds, HasSaid}
@@ -111,11 +111,11 @@ said_past start s block rest text bytes failed (inr (part, same)) = inr (part_mo
 
 -- the last block
 pub said_all : (start s t : State) (block text : List ℕ) (r : Result (Unit {0}) OutputFailed) → s.failed ≡ false → HasSaid start s block text → Writes s t block r
-    → Says start t text
+    → Tells start t text
 said_all start s t block text r fine (inl (begun, (written, whole, is))) wrote =
     (r, answered start t text r begun (subst (λ (k : List ℕ). Writes start t k r) (sym is) (then_writes start s t written block r whole wrote)))
 said_all start s t block text r fine (inr (part, same)) wrote = absurd (both_ways s part.failed fine)
 
-pub said_part : (start s : State) (block text : List ℕ) → s.failed ≡ true → HasSaid start s block text → Says start s text
+pub said_part : (start s : State) (block text : List ℕ) → s.failed ≡ true → HasSaid start s block text → Tells start s text
 said_part start s block text failed (inl (begun, (written, whole, is))) = absurd (still_fine start s written begun whole failed)
 said_part start s block text failed (inr (part, same)) = (Err (record {}), (part, same))

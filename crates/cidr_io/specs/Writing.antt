@@ -42,5 +42,5 @@ Answered old new text (Ok _) = Whole old new text × (new.failed ≡ false)
 Answered old new text (Err e) = Part old new text × (old.failed ≡ true → new ≡ old)
 
 -- a line was written whole and flushed, or the sink has failed and a beginning of the line was written, none if it had failed before
-abbrev pub Says : State → State → List ℕ → Type 0
-Says old new line = (r : Result (Unit {0}) OutputFailed) × Answered old new line r
+abbrev pub Tells : State → State → List ℕ → Type 0
+Tells old new line = (r : Result (Unit {0}) OutputFailed) × Answered old new line r

@@ -3,7 +3,7 @@ ghost use Rattle.std.specs.Prelude.{◌≡◌, ◌↔◌, ◌++◌, List, ℕ, [
 ghost use Rattle.std.specs.List.{flat_map};
 ghost use Rattle.cidr_io.specs.Collecting.{Collects, HasSaid};
 ghost use Rattle.cidr_io.specs.Shown.{part_text, shown};
-ghost use Rattle.cidr_io.specs.Writing.{Answered, Says, State, Writes};
+ghost use Rattle.cidr_io.specs.Writing.{Answered, Tells, State, Writes};
 
 use crate::shown::{Part, shown_char};
 use crate::sink::{OutputFailed, Sink};
@@ -193,7 +193,7 @@ impl Block {
     /// Writes what is left of the lines, and flushes. A sink that has failed gets nothing.
     pub fn end<S: Sink>(&mut self, out: &mut S)
         ensures { (start : State) (text : List ℕ) → HasSaid start (S.state out.old) self.old text
-            → Says start (S.state out.new) text }
+            → Tells start (S.state out.new) text }
     {
         if !out.failed() {
             let _ = self.flush(out);

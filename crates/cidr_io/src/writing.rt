@@ -1,6 +1,6 @@
 //! Writing a whole string to a sink that may take it in parts.
 ghost use Rattle.std.specs.Prelude.{◌≡◌, []};
-ghost use Rattle.cidr_io.specs.Writing.{Writes, Answered, Says};
+ghost use Rattle.cidr_io.specs.Writing.{Writes, Answered, Tells};
 
 use crate::sink::{OutputFailed, Sink};
 
@@ -43,7 +43,7 @@ pub fn write_text<S: Sink>(out: &mut S, text: &str) -> Result<(), OutputFailed>
 
 /// Writes a line as `write_text` does, as far as the sink takes it: whether it does is known to the sink alone.
 pub fn say<E: Sink>(err: &mut E, line: &str)
-    ensures { Says (E.state err.old) (E.state err.new) line.now }
+    ensures { Tells (E.state err.old) (E.state err.new) line.now }
 {
     let _ = write_text(err, line);
 }

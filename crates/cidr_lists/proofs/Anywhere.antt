@@ -26,7 +26,7 @@ use Rattle.cidr.proofs.OctetReading.{four_joined}
 use Rattle.cidr.specs.laws.BitLaws.{length-bits}
 use Rattle.cidr.proofs.ShortGrammar.{length-octet_bits}
 use Rattle.cidr_lists.specs.Within.{AreWithin, HasOneIn, IsOneIn, LineHasOneIn, WordIsOneIn}
-use Rattle.cidr_lists.specs.Sets.{HasAddress, networks_of}
+use Rattle.cidr_lists.specs.Sets.{IsInSets, networks_of}
 use Rattle.cidr_lists.specs.Words.{IsBare, ends_word, is_dot, words_of}
 use Rattle.cidr_lists.specs.declared.sets.Sets.{Sets}
 
@@ -195,7 +195,7 @@ width_fits : (family : Family) → width_of family ≤ 129
 width_fits Ipv4 = omega arith
 width_fits Ipv6 = omega arith
 
-pub none_held : (sets : Sets) (family : Family) (line : List ℕ) → networks_of sets family ≡ [] → ¬ (LineHasOneIn (HasAddress sets) family line)
+pub none_held : (sets : Sets) (family : Family) (line : List ℕ) → networks_of sets family ≡ [] → ¬ (LineHasOneIn (IsInSets sets) family line)
 none_held sets family line none (word, among, (text, bare, (address, spells, within))) =
     let fits : length address ≤ 129 = omega (arith, address_width family text address spells, width_fits family) in
     let behind : List Bool = replicate (129 - length address) false in

@@ -14,7 +14,7 @@ use Rattle.cidr.specs.declared.family.Family.TheVariants.{Ipv4, Ipv6}
 use Rattle.cidr.specs.texts.Refusal.{Lacks}
 use Rattle.cidr_sets.specs.Ranges.{IsBetween}
 use Rattle.cidr_sets.specs.Sets.{IsSetOf}
-use Rattle.cidr_lists.specs.Lists.{IsFieldError, hyphen, network_in}
+use Rattle.cidr_lists.specs.Lists.{IsFieldError, hyphen, line_networks}
 use Rattle.cidr_lists.specs.Reading.{AddsContent, Grows, IsNoEnd, ReadsField}
 use Rattle.cidr_lists.specs.declared.errors.LineError.{LineError}
 use Rattle.cidr_lists.specs.declared.errors.LineError.TheVariants.{NoAddress}
@@ -41,19 +41,19 @@ is_nothing (b ∷ field) test is on =
     absurd (omega (arith, none))
 
 -- ---- the networks of one family
-pub in_v4 : (ps : List (List Bool)) → network_in Ipv4 (map (λ (p : List Bool). V4 p) ps) ≡ ps
+pub in_v4 : (ps : List (List Bool)) → line_networks Ipv4 (map (λ (p : List Bool). V4 p) ps) ≡ ps
 in_v4 [] = refl
 in_v4 (p ∷ ps) = ap (λ (k : List (List Bool)). p ∷ k) (in_v4 ps)
 
-pub in_v6 : (ps : List (List Bool)) → network_in Ipv6 (map (λ (p : List Bool). V6 p) ps) ≡ ps
+pub in_v6 : (ps : List (List Bool)) → line_networks Ipv6 (map (λ (p : List Bool). V6 p) ps) ≡ ps
 in_v6 [] = refl
 in_v6 (p ∷ ps) = ap (λ (k : List (List Bool)). p ∷ k) (in_v6 ps)
 
-pub not_in_v4 : (ps : List (List Bool)) → network_in Ipv4 (map (λ (p : List Bool). V6 p) ps) ≡ []
+pub not_in_v4 : (ps : List (List Bool)) → line_networks Ipv4 (map (λ (p : List Bool). V6 p) ps) ≡ []
 not_in_v4 [] = refl
 not_in_v4 (p ∷ ps) = not_in_v4 ps
 
-pub not_in_v6 : (ps : List (List Bool)) → network_in Ipv6 (map (λ (p : List Bool). V4 p) ps) ≡ []
+pub not_in_v6 : (ps : List (List Bool)) → line_networks Ipv6 (map (λ (p : List Bool). V4 p) ps) ≡ []
 not_in_v6 [] = refl
 not_in_v6 (p ∷ ps) = not_in_v6 ps
 
@@ -63,13 +63,13 @@ none_more old new more same none = same ∙ (sym (append-nil old) ∙ ap (λ (k 
 -- ---- what comes behind the networks before
 pub adds_nothing : (lists : Lists) → AddsContent Blank lists lists
 adds_nothing lists =
-    let grows : Grows lists lists (λ family. network_in family []) = elim [
+    let grows : Grows lists lists (λ family. line_networks family []) = elim [
       | Ipv4 ↦ sym (append-nil lists.v4.items)
       | Ipv6 ↦ sym (append-nil lists.v6.items)
     ] in
     ([], refl, grows)
 
-pub adds_network : {E : Type 0} (network : IpCidr) (old new : Lists) (r : Result (Unit {0}) E) → OnOk r (Grows old new (λ family. network_in family (network ∷ [])))
+pub adds_network : {E : Type 0} (network : IpCidr) (old new : Lists) (r : Result (Unit {0}) E) → OnOk r (Grows old new (λ family. line_networks family (network ∷ [])))
     → OnOk r (AddsContent (Network network) old new)
 adds_network network old new (Err e) h = tt
 adds_network network old new (Ok t) h = (network ∷ [], refl, h)
@@ -82,7 +82,7 @@ pub adds_v4 : {E : Type 0} (first last : List Bool) (old new : Lists) (r : Resul
 adds_v4 first last old new (Err e) h six = tt
 adds_v4 first last old new (Ok t) (range, set, four) six =
     let plain : IsSetOf 129 (IsBetween first last) range = rw (map-id range) at set in
-    let grows : Grows old new (λ family. network_in family (map (λ (p : List Bool). V4 p) range)) = elim [
+    let grows : Grows old new (λ family. line_networks family (map (λ (p : List Bool). V4 p) range)) = elim [
       | Ipv4 ↦ four ∙ ap (λ (k : List (List Bool)). old.v4.items ++ k) (sym (in_v4 range))
       | Ipv6 ↦ none_more old.v6.items new.v6.items _ six (not_in_v6 range)
     ] in
@@ -93,7 +93,7 @@ pub adds_v6 : {E : Type 0} (first last : List Bool) (old new : Lists) (r : Resul
 adds_v6 first last old new (Err e) h four = tt
 adds_v6 first last old new (Ok t) (range, set, six) four =
     let plain : IsSetOf 129 (IsBetween first last) range = rw (map-id range) at set in
-    let grows : Grows old new (λ family. network_in family (map (λ (p : List Bool). V6 p) range)) = elim [
+    let grows : Grows old new (λ family. line_networks family (map (λ (p : List Bool). V6 p) range)) = elim [
       | Ipv4 ↦ none_more old.v4.items new.v4.items _ four (not_in_v4 range)
       | Ipv6 ↦ six ∙ ap (λ (k : List (List Bool)). old.v6.items ++ k) (sym (in_v6 range))
     ] in

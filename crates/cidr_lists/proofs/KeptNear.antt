@@ -8,8 +8,8 @@ use Rattle.std.proofs.lemmas.List.Elements.{Contains-append_left, Contains-push,
 use Rattle.std.proofs.lemmas.Option.{none-some, same_Some, slice_get-get_or, slice_get_past, slice_get_within}
 use Rattle.cidr_ext.specs.Tree.{AreSiblings}
 use Rattle.cidr_table.proofs.MapLaws.{contains_nothing}
-use Rattle.cidr_lists.specs.Findings.{AreInside}
-use Rattle.cidr_lists.specs.Nearness.{AreKept, AreOthersSame, HasRow, IsChain, IsClosed, IsClosedHalf, IsLast, IsLeast, IsRowAround, IsRowHalf, IsRowNear, IsSameRow, PutsFirst, PutsHalf}
+use Rattle.cidr_lists.specs.Findings.{AreBitsInside}
+use Rattle.cidr_lists.specs.Nearness.{AreNearKept, AreOthersSame, HasRow, IsChain, IsClosed, IsClosedHalf, IsLast, IsLeast, IsRowAround, IsRowHalf, IsRowNear, IsSameRow, PutsFirst, PutsHalf}
 use Rattle.cidr_lists.specs.declared.near.Near.{Near}
 use Rattle.cidr_lists.proofs.Nested.{begins_same, not_inside_behind, sibling_same, siblings_apart, siblings_back}
 use Rattle.cidr_lists.proofs.OpenNetworks.{AreBefore, chain_last, closed_least, half_closed, least_more, least_new, least_same, open_chain, open_least, row_inside, same_index, same_network}
@@ -42,7 +42,7 @@ module _ {C : Type 0} (bits : C → List Bool) (determined : (a b : C) → bits 
   around_more : (network : C) (i : ℕ) (outer : Option ℕ) → Contains passed (network, i) → IsRowAround bits passed network outer → IsRowAround bits more network outer
   around_more network i None c none = λ other there. elim (Contains-push_cases passed row other there) [
     | inl here ↦ none other here
-    | inr same ↦ subst (λ (k : C × ℕ). ¬ (AreInside (bits network) (bits k.0))) same (not_inside_behind (bits network) (bits row.0) (before (network, i) c).0)
+    | inr same ↦ subst (λ (k : C × ℕ). ¬ (AreBitsInside (bits network) (bits k.0))) same (not_inside_behind (bits network) (bits row.0) (before (network, i) c).0)
   ]
   around_more network i (Some j) c (outer, least, inside, longest) = (
     outer,
@@ -51,7 +51,7 @@ module _ {C : Type 0} (bits : C → List Bool) (determined : (a b : C) → bits 
     λ other there within. elim (Contains-push_cases passed row other there) [
       | inl here ↦ longest other here within
       | inr same ↦ absurd (not_inside_behind (bits network) (bits row.0) (before (network, i) c).0
-          (subst (λ (k : C × ℕ). AreInside (bits network) (bits k.0)) (sym same) within))
+          (subst (λ (k : C × ℕ). AreBitsInside (bits network) (bits k.0)) (sym same) within))
     ],
   )
 
@@ -73,12 +73,12 @@ module _ {C : Type 0} (bits : C → List Bool) (determined : (a b : C) → bits 
   -- ---- a new network
   module _ (nest : List (C × ℕ)) (closed outer : Option (C × ℕ)) (last : IsLast nest outer) (h : IsClosed bits passed row.0 nest closed)
       (new : ¬ (HasRow passed row.0)) where
-    no_self : ¬ (AreInside (bits row.0) (bits row.0))
+    no_self : ¬ (AreBitsInside (bits row.0) (bits row.0))
     no_self inside = omega (arith, inside.1)
 
     around_new : (outer : Option (C × ℕ)) → IsLast nest outer → IsRowAround bits more row.0 (option_map (λ (r : C × ℕ). r.1) outer)
     around_new None none = λ other there inside. elim (Contains-push_cases passed row other there) [
-      | inr same ↦ no_self (subst (λ (k : C × ℕ). AreInside (bits row.0) (bits k.0)) (sym same) inside)
+      | inr same ↦ no_self (subst (λ (k : C × ℕ). AreBitsInside (bits row.0) (bits k.0)) (sym same) inside)
       | inl here ↦
           let (i, c) = h.closing.around other here inside.0 in
           contains_nothing (other.0, i) (subst (λ (k : List (C × ℕ)). Contains k (other.0, i)) none c)
@@ -89,7 +89,7 @@ module _ {C : Type 0} (bits : C → List Bool) (determined : (a b : C) → bits 
           still found.0 found.1 (open_least bits determined passed row nest closed h found there),
           row_inside bits determined passed row nest closed h new found there,
           λ other c inside. elim (Contains-push_cases passed row other c) [
-            | inr same ↦ absurd (no_self (subst (λ (k : C × ℕ). AreInside (bits row.0) (bits k.0)) (sym same) inside))
+            | inr same ↦ absurd (no_self (subst (λ (k : C × ℕ). AreBitsInside (bits row.0) (bits k.0)) (sym same) inside))
             | inl here ↦
                 let (i, left) = h.closing.around other here inside.0 in
                 elim (Contains-push_cases front found (other.0, i) (subst (λ (k : List (C × ℕ)). Contains k (other.0, i)) is left)) [
@@ -102,7 +102,7 @@ module _ {C : Type 0} (bits : C → List Bool) (determined : (a b : C) → bits 
         )
 
     -- what stands at the index of a network that was passed
-    module _ (near : List Near) (kept : AreKept bits passed near) (fits : row.1 < length near)
+    module _ (near : List Near) (kept : AreNearKept bits passed near) (fits : row.1 < length near)
         (one : (a b : C × ℕ) → Contains more a → Contains more b → a.1 ≡ b.1 → a.0 ≡ b.0) where
       behind : (other : C × ℕ) → Contains passed other → Contains more other
       behind other c = Contains-append_left passed (row ∷ []) other c
@@ -124,7 +124,7 @@ module _ {C : Type 0} (bits : C → List Bool) (determined : (a b : C) → bits 
       here half is = (least_new passed row new, λ _. (around_new outer last, is))
 
       pub kept_new : (half : Option ℕ) (put next : List Near) → IsClosedHalf bits closed row.0 half → put ≡ set near row.1 (found_near half)
-          → PutsHalf put half row.1 next → AreKept bits more next
+          → PutsHalf put half row.1 next → AreNearKept bits more next
       kept_new None put next none is puts other c = elim (Contains-push_cases passed row other c) [
         | inr same ↦
             let at : slice_get next row.1 ≡ Some (found_near None) =
@@ -213,8 +213,8 @@ module _ {C : Type 0} (bits : C → List Bool) (determined : (a b : C) → bits 
     least_again : IsLeast passed row.0 first
     least_again = open_least bits determined passed row nest closed h (row.0, first) open_again
 
-    pub kept_again : (near next : List Near) → AreKept bits passed near → ((a b : C × ℕ) → Contains more a → Contains more b → a.1 ≡ b.1 → a.0 ≡ b.0)
-        → PutsFirst near row.1 first next → AreKept bits more next
+    pub kept_again : (near next : List Near) → AreNearKept bits passed near → ((a b : C × ℕ) → Contains more a → Contains more b → a.1 ≡ b.1 → a.0 ≡ b.0)
+        → PutsFirst near row.1 first next → AreNearKept bits more next
     kept_again near next kept one (m, at_row, puts) other c = elim (cases_eq other.1 row.1) [
       | inl e ↦
           let is : other.0 ≡ row.0 = one other row c (Contains-push passed row) e in

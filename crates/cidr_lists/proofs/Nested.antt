@@ -10,7 +10,7 @@ use Rattle.cidr.specs.model.Bits.{bit_cmp}
 use Rattle.cidr.specs.model.Network.{BeginsWith}
 use Rattle.cidr_ext.specs.Tree.{AreSiblings}
 use Rattle.cidr_table.proofs.Beginnings.{begins_length, bits_exact, not_before}
-use Rattle.cidr_lists.specs.Findings.{AreInside}
+use Rattle.cidr_lists.specs.Findings.{AreBitsInside}
 
 -- ---- beginnings
 pub begins_same : (a p : List Bool) → a ≡ p → BeginsWith a p
@@ -25,7 +25,7 @@ begins_trans a p q h k =
     sym (take-take (length q) (length p) a fits) ∙ (ap (take (length q)) h ∙ k)
 
 -- what begins with others bits than its own is inside them
-pub strictly_inside : (a p : List Bool) → BeginsWith a p → a ≢ p → AreInside a p
+pub strictly_inside : (a p : List Bool) → BeginsWith a p → a ≢ p → AreBitsInside a p
 strictly_inside a p h other = elim (cases_lt (length p) (length a)) [
   | inl lt ↦ (h, lt)
   | inr le ↦ absurd (other (whole_begins a p h le))
@@ -55,7 +55,7 @@ equal_of Equal up down = refl
 equal_of Greater up down = absurd (up refl)
 
 -- a network is not inside one behind it
-pub not_inside_behind : (p q : List Bool) → bit_cmp p q ≢ Greater → ¬ (AreInside p q)
+pub not_inside_behind : (p q : List Bool) → bit_cmp p q ≢ Greater → ¬ (AreBitsInside p q)
 not_inside_behind p q up (h, short) =
     let same : p ≡ q = bits_exact p q (equal_of (bit_cmp p q) up (not_before p q h)) in
     omega (arith, short, ap length same)
@@ -107,7 +107,7 @@ sibling_same p q r (s, b, one, other) (t, c, first, second) =
     other ∙ (ap₂ (λ (k : List Bool) (z : Bool). k ++ not z ∷ []) same.0 same.1 ∙ sym second)
 
 -- what has one half inside it contains the other one
-pub around_halves : (p q outer : List Bool) → AreSiblings p q → AreInside q outer → BeginsWith p outer
+pub around_halves : (p q outer : List Bool) → AreSiblings p q → AreBitsInside q outer → BeginsWith p outer
 around_halves p q outer (parent, b, one, other) (h, short) =
     let size : length q ≡ length parent + 1 = ap length other ∙ length_push parent (not b) in
     let fits : length outer ≤ length parent = omega (arith, size, short) in

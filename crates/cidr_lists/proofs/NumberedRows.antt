@@ -19,8 +19,8 @@ use Rattle.cidr.specs.declared.cidr.combined.IpCidr.{IpCidr}
 use Rattle.cidr.specs.declared.cidr.combined.IpCidr.TheVariants.{V4, V6}
 use Rattle.cidr_ext.specs.Tree.{AreSiblings}
 use Rattle.cidr_table.proofs.MapLaws.{contains_nothing}
-use Rattle.cidr_lists.specs.Findings.{AreHalves, AreInside, IsInside}
-use Rattle.cidr_lists.specs.Nearness.{AreAscending, AreKept, AreNear, AreOthersSame, AreRows, AreRowsOf, IsAroundAt, IsFirstIndex, IsHalfAt, IsLast, IsLeast, IsNear, IsRowAround, IsRowHalf, IsRowNear}
+use Rattle.cidr_lists.specs.Findings.{AreHalves, AreBitsInside, IsInside}
+use Rattle.cidr_lists.specs.Nearness.{AreRowsInOrder, AreNearKept, AreNear, AreOthersSame, AreRows, AreRowsOf, IsAroundAt, IsFirstIndex, IsHalfAt, IsLast, IsLeast, IsNear, IsRowAround, IsRowHalf, IsRowNear}
 use Rattle.cidr_lists.specs.declared.near.Near.{Near}
 use Rattle.cidr_lists.proofs.Nested.{not_greater_back}
 use Rattle.cidr_lists.proofs.OpenNetworks.{AreBefore}
@@ -88,7 +88,7 @@ pair_up Equal m n h = (
 )
 
 pub ascending : {C : Type 0} (cmp : C → C → Ordering) (bits : C → List Bool) → IsTotalOrder cmp → ((x y : C) → cmp x y ≡ bit_cmp (bits x) (bits y))
-    → (rows : List (C × ℕ)) → IsSorted (λ (x y : C × ℕ). ordering_then (cmp x.0 y.0) (nat_cmp x.1 y.1)) rows → AreAscending bits rows
+    → (rows : List (C × ℕ)) → IsSorted (λ (x y : C × ℕ). ordering_then (cmp x.0 y.0) (nat_cmp x.1 y.1)) rows → AreRowsInOrder bits rows
 ascending {C} cmp bits o ordered rows sorted i j a b le at_i at_j =
     let total : IsTotalOrder (λ (x y : C × ℕ). ordering_then (cmp x.0 y.0) (nat_cmp x.1 y.1)) =
     then_total (on_total (λ (row : C × ℕ). row.0) o) (on_total (λ (row : C × ℕ). row.1) nat_cmp_total) in
@@ -122,7 +122,7 @@ module _ {C : Type 0} (rows : List (C × ℕ)) (place : ℕ) (row : C × ℕ) (h
     | inr is ↦ subst (Contains rows) is row_here
   ]
 
-  pub before_row : (bits : C → List Bool) → AreAscending bits rows → AreBefore bits (take place rows) row
+  pub before_row : (bits : C → List Bool) → AreRowsInOrder bits rows → AreBefore bits (take place rows) row
   before_row bits up other c =
       let lt : c.0 < place = omega (arith, c.1, length-take place rows) in
       let within : c.0 < length rows = omega (arith, c.1, length-take place rows) in
@@ -153,17 +153,17 @@ v4_no_v6 p q e = false≢true (front_bit _ _ (ap (λ (n : IpCidr). network_bits 
 -- what is known of a family's networks
 pub record IsFamily (of : List Bool → IpCidr) : Type 0 where
   pub apart : (p q : List Bool) → of p ≡ of q → p ≡ q
-  pub inside : (p : List Bool) (other : IpCidr) → IsInside (of p) other → (q : List Bool) × (other ≡ of q) × AreInside p q
-  pub are_inside : (p q : List Bool) → AreInside p q → IsInside (of p) (of q)
+  pub inside : (p : List Bool) (other : IpCidr) → IsInside (of p) other → (q : List Bool) × (other ≡ of q) × AreBitsInside p q
+  pub are_inside : (p q : List Bool) → AreBitsInside p q → IsInside (of p) (of q)
   pub size : (p : List Bool) → length (network_bits (of p)) ≡ length p + 1
   pub halves : (p : List Bool) (other : IpCidr) → AreHalves (of p) other → (q : List Bool) × (other ≡ of q) × AreSiblings p q
   pub are_halves : (p q : List Bool) → AreSiblings p q → AreHalves (of p) (of q)
 
-inside_v4 : (p : List Bool) (other : IpCidr) → IsInside (V4 p) other → (q : List Bool) × (other ≡ V4 q) × AreInside p q
+inside_v4 : (p : List Bool) (other : IpCidr) → IsInside (V4 p) other → (q : List Bool) × (other ≡ V4 q) × AreBitsInside p q
 inside_v4 p (V4 q) (h, short) = (q, refl, (ap (drop 1) h, omega (arith, short)))
 inside_v4 p (V6 q) (h, short) = absurd (false≢true (front_bit _ _ h))
 
-inside_v6 : (p : List Bool) (other : IpCidr) → IsInside (V6 p) other → (q : List Bool) × (other ≡ V6 q) × AreInside p q
+inside_v6 : (p : List Bool) (other : IpCidr) → IsInside (V6 p) other → (q : List Bool) × (other ≡ V6 q) × AreBitsInside p q
 inside_v6 p (V4 q) (h, short) = absurd (true≢false (front_bit _ _ h))
 inside_v6 p (V6 q) (h, short) = (q, refl, (ap (drop 1) h, omega (arith, short)))
 
@@ -238,8 +238,8 @@ module _ (of : List Bool → IpCidr) (family : IsFamily of) (networks : List IpC
 
 -- both families one after the other
 pub near_found : (networks : List IpCidr) (rows_v4 rows_v6 : List (List Bool × ℕ)) (start middle near : List Near) → length start ≡ length networks
-    → AreRowsOf V4 networks rows_v4 → AreRowsOf V6 networks rows_v6 → AreKept as_bits rows_v4 middle → AreOthersSame rows_v4 start middle
-    → AreKept as_bits rows_v6 near → AreOthersSame rows_v6 middle near → AreNear networks near
+    → AreRowsOf V4 networks rows_v4 → AreRowsOf V6 networks rows_v6 → AreNearKept as_bits rows_v4 middle → AreOthersSame rows_v4 start middle
+    → AreNearKept as_bits rows_v6 near → AreOthersSame rows_v6 middle near → AreNear networks near
 near_found networks rows_v4 rows_v6 start middle near size are_v4 are_v6 kept_v4 others_v4 kept_v6 others_v6 = record {
   size = others_v6.size ∙ (others_v4.size ∙ size);
   each = by_family;

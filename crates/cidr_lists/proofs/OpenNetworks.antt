@@ -10,7 +10,7 @@ use Rattle.cidr.specs.model.Network.{BeginsWith}
 use Rattle.cidr_ext.specs.Tree.{AreSiblings}
 use Rattle.cidr_table.proofs.Beginnings.{begins_between, begins_length}
 use Rattle.cidr_table.proofs.MapLaws.{contains_cases, contains_first, contains_later, contains_nothing}
-use Rattle.cidr_lists.specs.Findings.{AreInside}
+use Rattle.cidr_lists.specs.Findings.{AreBitsInside}
 use Rattle.cidr_lists.specs.Nearness.{AreOpen, ClosesAll, HasRow, IsChain, IsClosed, IsClosing, IsLast, IsLeast}
 use Rattle.cidr_lists.proofs.Nested.{around_halves, before_half, begins_same, begins_trans, less_unless_same, not_less_back, siblings_apart, strictly_inside}
 
@@ -66,20 +66,20 @@ module _ {C : Type 0} (bits : C → List Bool) where
   chain_front [] more h = tt
   chain_front (outer ∷ rows) more h = (λ row c. h.0 row (Contains-append_left rows more row c), chain_front rows more h.1)
 
-  pub chain_last : (rows : List (C × ℕ)) (last row : C × ℕ) → IsChain bits (rows ++ last ∷ []) → Contains rows row → AreInside (bits last.0) (bits row.0)
+  pub chain_last : (rows : List (C × ℕ)) (last row : C × ℕ) → IsChain bits (rows ++ last ∷ []) → Contains rows row → AreBitsInside (bits last.0) (bits row.0)
   chain_last [] last row h c = absurd (contains_nothing row c)
   chain_last (outer ∷ rows) last row h c = elim (contains_cases outer row rows c) [
-    | inl is ↦ subst (λ (k : C × ℕ). AreInside (bits last.0) (bits k.0)) is (h.0 last (Contains-push rows last))
+    | inl is ↦ subst (λ (k : C × ℕ). AreBitsInside (bits last.0) (bits k.0)) is (h.0 last (Contains-push rows last))
     | inr later ↦ chain_last rows last row h.1 later
   ]
 
-  pub chain_push : (rows : List (C × ℕ)) (last : C × ℕ) → IsChain bits rows → ((row : C × ℕ) → Contains rows row → AreInside (bits last.0) (bits row.0))
+  pub chain_push : (rows : List (C × ℕ)) (last : C × ℕ) → IsChain bits rows → ((row : C × ℕ) → Contains rows row → AreBitsInside (bits last.0) (bits row.0))
       → IsChain bits (rows ++ last ∷ [])
   chain_push [] last h inside = (λ row c. absurd (contains_nothing row c), tt)
   chain_push (outer ∷ rows) last h inside = (
     λ row c. elim (Contains-push_cases rows last row c) [
       | inl before ↦ h.0 row before
-      | inr is ↦ subst (λ (k : C × ℕ). AreInside (bits k.0) (bits outer.0)) is (inside outer (contains_first outer rows))
+      | inr is ↦ subst (λ (k : C × ℕ). AreBitsInside (bits k.0) (bits outer.0)) is (inside outer (contains_first outer rows))
     ],
     chain_push rows last h.1 (λ row c. inside row (contains_later outer row rows c)),
   )
@@ -126,9 +126,9 @@ module _ {C : Type 0} (bits : C → List Bool) (determined : (a b : C) → bits 
         earlier (Some first) one chain c siblings = elim (contains_cases first one [] c) [
           | inr none ↦ contains_nothing one none
           | inl is ↦
-              let inside : AreInside (bits first.0) (bits last.0) = chain_last bits (nest ++ last ∷ []) first last chain (Contains-push nest last) in
+              let inside : AreBitsInside (bits first.0) (bits last.0) = chain_last bits (nest ++ last ∷ []) first last chain (Contains-push nest last) in
               out (around_halves (bits row.0) (bits one.0) (bits last.0) siblings
-              (subst (λ (k : C × ℕ). AreInside (bits k.0) (bits last.0)) is inside))
+              (subst (λ (k : C × ℕ). AreBitsInside (bits k.0) (bits last.0)) is inside))
         ]
 
     -- the last open one contains the network, and so do those before it
@@ -178,7 +178,7 @@ module _ {C : Type 0} (bits : C → List Bool) (determined : (a b : C) → bits 
           (subst (λ (k : Option (C × ℕ)). Contains (option_to_list k) one) (sym is) (contains_first one [])))
 
       module _ (new : ¬ (HasRow passed row.0)) where
-        pub row_inside : (other : C × ℕ) → Contains nest other → AreInside (bits row.0) (bits other.0)
+        pub row_inside : (other : C × ℕ) → Contains nest other → AreBitsInside (bits row.0) (bits other.0)
         row_inside other c =
             strictly_inside (bits row.0) (bits other.0) (h.contain other c)
             (λ same. new (other.1, subst (λ (k : C). Contains passed (k, other.1)) (sym (determined row.0 other.0 same)) (open_least other c).0))

@@ -5,13 +5,13 @@ use Rattle.std.specs.Option.{IfSome, option_map}
 use Rattle.std.proofs.lemmas.List.{length-set, take_all}
 use Rattle.std.proofs.lemmas.Option.{none-some, same_Some}
 use Rattle.cidr_table.proofs.MapLaws.{contains_nothing}
-use Rattle.cidr_lists.specs.Nearness.{AreAscending, AreKept, AreOpen, AreOthersSame, AreRows, ClosesAll, HasRow, IsClosed, IsClosedHalf, IsLast, IsPassed, IsSameRow, PutsFirst, PutsHalf}
+use Rattle.cidr_lists.specs.Nearness.{AreRowsInOrder, AreNearKept, AreOpen, AreOthersSame, AreRows, ClosesAll, HasRow, IsClosed, IsClosedHalf, IsLast, IsPassed, IsSameRow, PutsFirst, PutsHalf}
 use Rattle.cidr_lists.specs.declared.near.Near.{Near}
 use Rattle.cidr_lists.proofs.KeptNear.{changed_more, kept_again, kept_new, none_changed, one_changed, open_again}
 use Rattle.cidr_lists.proofs.NumberedRows.{before_row, one_more_taken, one_taken, row_here, taken}
 use Rattle.cidr_lists.proofs.OpenNetworks.{AreBefore, closed_least, closing_started, left_open, new_network, none_open, opened}
 
-module _ {C : Type 0} (bits : C → List Bool) (determined : (a b : C) → bits a ≡ bits b → a ≡ b) (rows : List (C × ℕ)) (up : AreAscending bits rows)
+module _ {C : Type 0} (bits : C → List Bool) (determined : (a b : C) → bits a ≡ bits b → a ≡ b) (rows : List (C × ℕ)) (up : AreRowsInOrder bits rows)
     (place : ℕ) (row : C × ℕ) (here : slice_get rows place ≡ Some row) (near : List Near) (are : AreRows rows (length near))
     (old nest : List (C × ℕ)) (closed outer : Option (C × ℕ)) (passed : IsPassed bits (take place rows) near old)
     (closes : ClosesAll bits row.0 old nest closed) (last : IsLast nest outer) where
@@ -85,8 +85,8 @@ none_passed bits rows near nest none =
     (λ row c. absurd (contains_nothing row c), subst (AreOpen bits []) (sym none) (none_open bits))
 
 pub all_passed : {C : Type 0} (bits : C → List Bool) (rows : List (C × ℕ)) (place : ℕ) (near : List Near) (nest : List (C × ℕ)) → length rows ≤ place
-    → IsPassed bits (take place rows) near nest → AreKept bits rows near
-all_passed {C} bits rows place near nest past passed = subst (λ (k : List (C × ℕ)). AreKept bits k near) (take_all place rows past) passed.0
+    → IsPassed bits (take place rows) near nest → AreNearKept bits rows near
+all_passed {C} bits rows place near nest past passed = subst (λ (k : List (C × ℕ)). AreNearKept bits k near) (take_all place rows past) passed.0
 
 pub rows_still : {C : Type 0} (rows : List (C × ℕ)) (near now : List Near) → AreRows rows (length near) → AreOthersSame rows near now → AreRows rows (length now)
 rows_still rows near now are others = subst (AreRows rows) (sym others.size) are

@@ -22,7 +22,7 @@ use Rattle.cidr.proofs.EitherTexts.{one_ip_host, one_ip_network}
 use Rattle.cidr.proofs.NetworkPrinting.{host_plain, network_plain}
 use Rattle.cidr_table.specs.Cover.{AreNetworks}
 use Rattle.cidr_table.proofs.MapLaws.{contains_first, contains_later}
-use Rattle.cidr_lists.specs.Lists.{IsContent, IsNetworkBy, IsTooLong, LineSays, ListSays, hyphen, is_line_feed, kept_of, lines_of, most_bytes, network_in, networks_in, text_by, AreNetworks as AreOfContent}
+use Rattle.cidr_lists.specs.Lists.{IsContent, IsNetworkBy, IsTooLong, LineSays, ListSays, hyphen, is_line_feed, kept_of, lines_of, most_bytes, line_networks, networks_in, text_by, AreContentNetworks as AreOfContent}
 use Rattle.cidr_lists.specs.Printing.{line}
 use Rattle.cidr_lists.specs.ReadBack.{AreOfFamilies, SaysJust}
 use Rattle.cidr_lists.specs.Sets.{printed_networks, printed_sets}
@@ -200,14 +200,14 @@ module _ (bits : HostBits) (networks : Family → List (List Bool)) (fit : AreOf
 
   networks_all : (family : Family) → networks_in family all_said ≡ networks family
   networks_all Ipv4 =
-      flat_map-append (network_in Ipv4) (each bits Ipv4 (networks Ipv4)) (each bits Ipv6 (networks Ipv6) ++ [] ∷ [])
+      flat_map-append (line_networks Ipv4) (each bits Ipv4 (networks Ipv4)) (each bits Ipv6 (networks Ipv6) ++ [] ∷ [])
       ∙ (ap₂ (λ (a b : List (List Bool)). a ++ b) (own_v4 bits (networks Ipv4))
-      (flat_map-append (network_in Ipv4) (each bits Ipv6 (networks Ipv6)) ([] ∷ []) ∙ ap (λ (k : List (List Bool)). k ++ []) (none_v4 bits (networks Ipv6)))
+      (flat_map-append (line_networks Ipv4) (each bits Ipv6 (networks Ipv6)) ([] ∷ []) ∙ ap (λ (k : List (List Bool)). k ++ []) (none_v4 bits (networks Ipv6)))
       ∙ append-nil (networks Ipv4))
   networks_all Ipv6 =
-      flat_map-append (network_in Ipv6) (each bits Ipv4 (networks Ipv4)) (each bits Ipv6 (networks Ipv6) ++ [] ∷ [])
+      flat_map-append (line_networks Ipv6) (each bits Ipv4 (networks Ipv4)) (each bits Ipv6 (networks Ipv6) ++ [] ∷ [])
       ∙ (ap₂ (λ (a b : List (List Bool)). a ++ b) (none_v6 bits (networks Ipv4))
-      (flat_map-append (network_in Ipv6) (each bits Ipv6 (networks Ipv6)) ([] ∷ []) ∙ (append-nil (networks_in Ipv6 (each bits Ipv6 (networks Ipv6))) ∙ own_v6 bits (networks Ipv6))))
+      (flat_map-append (line_networks Ipv6) (each bits Ipv6 (networks Ipv6)) ([] ∷ []) ∙ (append-nil (networks_in Ipv6 (each bits Ipv6 (networks Ipv6))) ∙ own_v6 bits (networks Ipv6))))
 
   pub printed_read : SaysJust (text_by bits (printed_sets networks)) networks
   printed_read = (

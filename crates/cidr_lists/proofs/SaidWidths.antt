@@ -24,7 +24,7 @@ use Rattle.cidr_table.proofs.MapLaws.{contains_nothing}
 use Rattle.cidr_sets.specs.Ranges.{IsBetween}
 use Rattle.cidr_sets.specs.Sets.{IsSetOf}
 use Rattle.cidr_lists.specs.Combining.{SomeHas}
-use Rattle.cidr_lists.specs.Lists.{IsContent, IsNetworkBy, LineSays, ListSays, AreNetworks as AreOfContent, Text, lines_of, network_in, networks_in}
+use Rattle.cidr_lists.specs.Lists.{IsContent, IsNetworkBy, LineSays, ListSays, AreContentNetworks as AreOfContent, Text, lines_of, line_networks, networks_in}
 use Rattle.cidr_lists.specs.ReadBack.{AreOfFamilies, AreUnions}
 use Rattle.cidr_lists.specs.Texts.{SaysAddress}
 use Rattle.cidr_lists.specs.declared.lines.Content.{Content}
@@ -140,7 +140,7 @@ one_fits : (w : ℕ) (p : List Bool) → length p ≤ w → AreNetworks w (p ∷
 one_fits w p fits q (zero, within, is) = subst (λ (k : List Bool). length k ≤ w) is fits
 one_fits w p fits q (suc k, within, is) = absurd (omega (arith, within))
 
-narrow_tells : (family : Family) (network : IpCidr) → IsNarrow network → TellFirst (width_of family) (Covers (network_in family (network ∷ [])))
+narrow_tells : (family : Family) (network : IpCidr) → IsNarrow network → TellFirst (width_of family) (Covers (line_networks family (network ∷ [])))
 narrow_tells Ipv4 (V4 p) fits = covers_tell 32 (p ∷ []) (one_fits 32 p fits)
 narrow_tells Ipv4 (V6 p) fits = nothing_tells 32
 narrow_tells Ipv6 (V4 p) fits = nothing_tells 128
@@ -150,26 +150,26 @@ narrow_tells Ipv6 (V6 p) fits = covers_tell 128 (p ∷ []) (one_fits 128 p fits)
 at_networks : (w : ℕ) (networks others : List (List Bool)) → networks ≡ others → TellFirst w (Covers others) → TellFirst w (Covers networks)
 at_networks w networks others same = subst (λ (k : List (List Bool)). TellFirst w (Covers k)) (sym same)
 
-none_in : (family : Family) → network_in family [] ≡ []
+none_in : (family : Family) → line_networks family [] ≡ []
 none_in Ipv4 = refl
 none_in Ipv6 = refl
 
 content_tells : (bits : HostBits) (field : List ℕ) (content : Content) (said : List IpCidr) (family : Family) → IsContent bits field content
-    → AreOfContent content said → TellFirst (width_of family) (Covers (network_in family said))
+    → AreOfContent content said → TellFirst (width_of family) (Covers (line_networks family said))
 content_tells bits field Blank said family is are =
-    at_networks (width_of family) (network_in family said) [] (ap (network_in family) are ∙ none_in family) (nothing_tells (width_of family))
+    at_networks (width_of family) (line_networks family said) [] (ap (line_networks family) are ∙ none_in family) (nothing_tells (width_of family))
 content_tells bits field (Network network) said family is are =
-    at_networks (width_of family) (network_in family said) (network_in family (network ∷ [])) (ap (network_in family) are)
+    at_networks (width_of family) (line_networks family said) (line_networks family (network ∷ [])) (ap (line_networks family) are)
     (narrow_tells family network (network_narrow bits field network is))
 content_tells bits field (Ipv4Range first last) said Ipv4 ((front, back, split, low, high), up) (networks, set, are) =
-    at_networks 32 (network_in Ipv4 said) networks (ap (network_in Ipv4) are ∙ in_v4 networks)
+    at_networks 32 (line_networks Ipv4 said) networks (ap (line_networks Ipv4) are ∙ in_v4 networks)
     (range_tells 32 first last networks (omega arith) (address_width Ipv4 front first low) (address_width Ipv4 back last high) set)
 content_tells bits field (Ipv4Range first last) said Ipv6 is (networks, set, are) =
-    at_networks 128 (network_in Ipv6 said) [] (ap (network_in Ipv6) are ∙ not_in_v6 networks) (nothing_tells 128)
+    at_networks 128 (line_networks Ipv6 said) [] (ap (line_networks Ipv6) are ∙ not_in_v6 networks) (nothing_tells 128)
 content_tells bits field (Ipv6Range first last) said Ipv4 is (networks, set, are) =
-    at_networks 32 (network_in Ipv4 said) [] (ap (network_in Ipv4) are ∙ not_in_v4 networks) (nothing_tells 32)
+    at_networks 32 (line_networks Ipv4 said) [] (ap (line_networks Ipv4) are ∙ not_in_v4 networks) (nothing_tells 32)
 content_tells bits field (Ipv6Range first last) said Ipv6 ((front, back, split, low, high), up) (networks, set, are) =
-    at_networks 128 (network_in Ipv6 said) networks (ap (network_in Ipv6) are ∙ in_v6 networks)
+    at_networks 128 (line_networks Ipv6 said) networks (ap (line_networks Ipv6) are ∙ in_v6 networks)
     (range_tells 128 first last networks (omega arith) (address_width Ipv6 front first low) (address_width Ipv6 back last high) set)
 
 -- ---- what lists say
@@ -179,7 +179,7 @@ lines_tell bits family [] [] h = nothing_tells (width_of family)
 lines_tell bits family [] (s ∷ said) h = absurd h
 lines_tell bits family (line ∷ lines) [] h = absurd h
 lines_tell bits family (line ∷ lines) (s ∷ said) ((short, field, content, is_field, is, are), h) =
-    append_tells (width_of family) (network_in family s) (networks_in family said) (content_tells bits field content s family is are)
+    append_tells (width_of family) (line_networks family s) (networks_in family said) (content_tells bits field content s family is are)
     (lines_tell bits family lines said h)
 
 lists_tell : (family : Family) (texts : List Text) (lists : List (List (List IpCidr))) → AllZip ListSays texts lists

@@ -10,8 +10,8 @@ use Rattle.cidr.specs.declared.family.Family.TheVariants.{Ipv4, Ipv6}
 use Rattle.cidr_table.specs.Cover.{Covers, IsReduced, IsFull}
 use Rattle.cidr_sets.specs.Counts.{HaveCount}
 use Rattle.cidr_sets.specs.Sets.{IsComplement, IsSetOf}
-use Rattle.cidr_lists.specs.Sets.{Combined, Steps, HasAddress, count_of, networks_of}
-use Rattle.cidr_lists.specs.Lists.{network_in}
+use Rattle.cidr_lists.specs.Sets.{Combined, Steps, IsInSets, count_or_all, networks_of}
+use Rattle.cidr_lists.specs.Lists.{line_networks}
 use Rattle.cidr_lists.specs.Reading.{Grows, listed}
 use Rattle.cidr_lists.specs.declared.lists.Lists.{Lists as Networks}
 use Rattle.cidr_lists.specs.declared.sets.Step.{Step}
@@ -41,12 +41,12 @@ set_same P Q networks set f = record {
 
 -- the list of one network as a set
 pub network_set : (old new : Networks) (network : IpCidr) (sets : Sets) → old.v4.items ≡ [] → old.v6.items ≡ []
-    → Grows old new (λ family. network_in family (network ∷ [])) → ((family : Family) → IsSetOf 129 (Covers (listed new family)) (networks_of sets family))
-    → (family : Family) → IsSetOf 129 (Covers (network_in family (network ∷ []))) (networks_of sets family)
+    → Grows old new (λ family. line_networks family (network ∷ [])) → ((family : Family) → IsSetOf 129 (Covers (listed new family)) (networks_of sets family))
+    → (family : Family) → IsSetOf 129 (Covers (line_networks family (network ∷ []))) (networks_of sets family)
 network_set old new network sets four six grows set family =
     let none : (family : Family) → listed old family ≡ [] = elim [ Ipv4 ↦ four | Ipv6 ↦ six ] in
     subst (λ (k : List (List Bool)). IsSetOf 129 (Covers k) (networks_of sets family))
-    (grows family ∙ ap (λ (k : List (List Bool)). k ++ network_in family (network ∷ [])) (none family)) (set family)
+    (grows family ∙ ap (λ (k : List (List Bool)). k ++ line_networks family (network ∷ [])) (none family)) (set family)
 
 -- 2^128 in decimal
 pub last_digit : decimal (2 ^ 128) ≡ decimal 34028236692093846346337460743176821145 ++ 54 ∷ []
@@ -55,32 +55,32 @@ last_digit = decimal_step_wide (2 ^ 128) (lit≤ tt) (lit< tt)
 -- how many addresses a set has
 pub have_count : (width : ℕ) (networks : List (List Bool)) (count : Option ℕ)
     → MatchOption count (HaveCount width (map (λ (x : List Bool). x) networks) (2 ^ 128)) (HaveCount width (map (λ (x : List Bool). x) networks))
-    → HaveCount width networks (count_of count)
+    → HaveCount width networks (count_or_all count)
 have_count width networks None h = rw (map-id networks) at h
 have_count width networks (Some count) h = rw (map-id networks) at h
 
 -- ---- one set after the other
 combined_more : (step : Step) (P : Type 0) (xs : List Sets) (x : Sets) (family : Family) (a : List Bool)
-    → Steps step (Combined HasAddress step P xs family a) (HasAddress x family a) ↔ Combined HasAddress step P (xs ++ x ∷ []) family a
+    → Steps step (Combined IsInSets step P xs family a) (IsInSets x family a) ↔ Combined IsInSets step P (xs ++ x ∷ []) family a
 combined_more step P [] x family a = same _
-combined_more step P (y ∷ xs) x family a = combined_more step (Steps step P (HasAddress y family a)) xs x family a
+combined_more step P (y ∷ xs) x family a = combined_more step (Steps step P (IsInSets y family a)) xs x family a
 
 -- so far
 abbrev pub IsCombined : Step → Sets → List Sets → Sets → Type 0
-IsCombined step first others all = (family : Family) → IsSetOf 129 (λ a. Combined HasAddress step (HasAddress first family a) others family a) (networks_of all family)
+IsCombined step first others all = (family : Family) → IsSetOf 129 (λ a. Combined IsInSets step (IsInSets first family a) others family a) (networks_of all family)
 
 pub first_only : (step : Step) (first : Sets) → ((family : Family) → IsReduced 129 (networks_of first family)) → IsCombined step first [] first
-first_only step first reduced family = record { reduced = reduced family; exact = λ a wide. same (HasAddress first family a) }
+first_only step first reduced family = record { reduced = reduced family; exact = λ a wide. same (IsInSets first family a) }
 
 pub one_more : (step : Step) (first : Sets) (others : List Sets) (i : ℕ) (other all new : Sets) → i < length others → other ≡ get_or others i other
     → IsCombined step first (take i others) all
-    → ((family : Family) → IsSetOf 129 (λ a. Steps step (HasAddress all family a) (HasAddress other family a)) (networks_of new family))
+    → ((family : Family) → IsSetOf 129 (λ a. Steps step (IsInSets all family a) (IsInSets other family a)) (networks_of new family))
     → IsCombined step first (take (i + 1) others) new
 one_more step first others i other all new within is before stepped =
     let behind : IsCombined step first (take i others ++ other ∷ []) new = λ family.
     set_same _ _ (networks_of new family) (stepped family) (λ a wide.
-    chained _ _ _ (steps_same step _ _ (HasAddress other family a) _ ((before family).exact a wide) (same (HasAddress other family a)))
-    (combined_more step (HasAddress first family a) (take i others) other family a)) in
+    chained _ _ _ (steps_same step _ _ (IsInSets other family a) _ ((before family).exact a wide) (same (IsInSets other family a)))
+    (combined_more step (IsInSets first family a) (take i others) other family a)) in
     let P : List Sets → Type 0 = λ k. IsCombined step first k new in
     subst P (sym (take_more others i other within ∙ ap (λ (k : Sets). take i others ++ k ∷ []) (sym is))) behind
 

@@ -11,10 +11,10 @@ use Rattle.cidr.specs.declared.family.Family.{Family}
 use Rattle.cidr.specs.declared.family.Family.TheVariants.{Ipv4, Ipv6}
 use Rattle.cidr_sets.specs.Sets.{IsSetOf}
 use Rattle.cidr_table.specs.Cover.{Covers}
-use Rattle.cidr_lists.specs.Lists.{AreNetworks, HasBadField, IsContent, IsField, IsInError, LineSays, is_line_feed, kept_of, lines_of, most_bytes, network_in, networks_in, text_by}
+use Rattle.cidr_lists.specs.Lists.{AreContentNetworks, HasBadField, IsContent, IsField, IsInError, LineSays, is_line_feed, kept_of, lines_of, most_bytes, line_networks, networks_in, text_by}
 use Rattle.cidr_lists.specs.Reading.{Grows, listed}
 use Rattle.cidr_lists.specs.Sets.{networks_of}
-use Rattle.cidr_lists.specs.Texts.{AddsLine, HaveAddresses, HaveNetworks, IsListError}
+use Rattle.cidr_lists.specs.Texts.{AddsListLine, HaveAddresses, HaveNetworks, IsListError}
 use Rattle.cidr_lists.specs.declared.errors.LineError.{LineError}
 use Rattle.cidr_lists.specs.declared.errors.LineError.TheVariants.{TooLong}
 use Rattle.cidr_lists.specs.declared.errors.ListError.{ListError}
@@ -36,7 +36,7 @@ short_in_error bits line e fits bad =
     subst (λ (k : List ℕ). IsInError bits k e) (sym (kept_short line fits)) (inr ((λ long. omega (arith, fits, long)), bad))
 
 pub short_says : (bits : HostBits) (line field : List ℕ) (content : Content) (said : List IpCidr) → length line ≤ most_bytes → IsField line field
-    → IsContent bits field content → AreNetworks content said → LineSays bits (kept_of line) said
+    → IsContent bits field content → AreContentNetworks content said → LineSays bits (kept_of line) said
 short_says bits line field content said fits trimmed is are =
     subst (λ (k : List ℕ). LineSays bits k said) (sym (kept_short line fits)) ((λ long. omega (arith, fits, long)), field, content, trimmed, is, are)
 
@@ -90,14 +90,14 @@ module _ (bits : HostBits) (text : List ℕ) where
   }
 
   more_listed : (lists new : Lists) (said : List (List IpCidr)) (one : List IpCidr) → ((family : Family) → listed lists family ≡ networks_in family said)
-      → Grows lists new (λ family. network_in family one) → (family : Family) → listed new family ≡ networks_in family (said ++ one ∷ [])
+      → Grows lists new (λ family. line_networks family one) → (family : Family) → listed new family ≡ networks_in family (said ++ one ∷ [])
   more_listed lists new said one have grows family =
       grows family
-      ∙ (ap (λ (k : List (List Bool)). k ++ network_in family one) (have family) ∙ flat_map_more (network_in family) [] said one)
+      ∙ (ap (λ (k : List (List Bool)). k ++ line_networks family one) (have family) ∙ flat_map_more (line_networks family) [] said one)
 
   module _ (rest line : List ℕ) (n number : ℕ) (lists new : Lists) (is : n ≡ position_or_len is_line_feed rest) (cut : line ≡ take n rest)
       (up : ReadUpTo rest number lists) where
-    pub line_read : (next : List ℕ) → n < length rest → drop (n + 1) rest ≡ next → AddsLine bits (kept_of line) number lists new (Ok tt)
+    pub line_read : (next : List ℕ) → n < length rest → drop (n + 1) rest ≡ next → AddsListLine bits (kept_of line) number lists new (Ok tt)
         → ReadUpTo next (number + 1) new
     line_read next within behind (one, says, grows) =
         let kept = kept_of line in
@@ -114,7 +114,7 @@ module _ (bits : HostBits) (text : List ℕ) where
           have = more_listed lists new up.said one up.have grows;
         }
 
-    pub last_read : n ≡ length rest → AddsLine bits (kept_of line) number lists new (Ok tt) → HaveNetworks (text_by bits text) new
+    pub last_read : n ≡ length rest → AddsListLine bits (kept_of line) number lists new (Ok tt) → HaveNetworks (text_by bits text) new
     last_read all (one, says, grows) =
         let kept = kept_of line in
         let last : lines_of rest ≡ kept ∷ [] = cut_last rest n is all ∙ ap (λ (k : List ℕ). kept_of k ∷ []) (sym cut) in
@@ -125,7 +125,7 @@ module _ (bits : HostBits) (text : List ℕ) where
           more_listed lists new up.said one up.have grows,
         )
 
-    pub line_in_error : (e : ListError) → n ≤ length rest → AddsLine bits (kept_of line) number lists new (Err e) → IsListError (text_by bits text) e
+    pub line_in_error : (e : ListError) → n ≤ length rest → AddsListLine bits (kept_of line) number lists new (Err e) → IsListError (text_by bits text) e
     line_in_error NoMemory fits h = tt
     line_in_error (Line k e) fits h =
         let (after, first) = cut_any rest n is fits in

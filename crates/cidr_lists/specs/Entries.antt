@@ -48,8 +48,8 @@ abbrev pub HasNoHost : List ℕ → LineError → Type 0
 HasNoHost line e = IsBadLineBy IsNoHostField line e
 
 -- the first of these lines in error
-abbrev pub IsFirstFault : List ℕ → List ℕ → ℕ → LineError → Type 0
-IsFirstFault file text number e = IsFirstBad (AreEntries file 1) HasNoHost (lines_of text) number e
+abbrev pub IsFirstFaultyLine : List ℕ → List ℕ → ℕ → LineError → Type 0
+IsFirstFaultyLine file text number e = IsFirstBad (AreEntries file 1) HasNoHost (lines_of text) number e
 
 -- the entry that the field of a line has, if it has one, or its error
 abbrev pub ReadsEntry : List ℕ → ℕ → List ℕ → Result (Option Entry) LineError → Type 0

@@ -28,16 +28,16 @@ IsBadField line e = (field : List ℕ) × IsFirstField line field × ¬ (SaysNot
 
 -- ---- lines
 -- the first field of a string, up to white space, and the rest without white space at both ends
-abbrev pub AreParts : List ℕ → List ℕ → List ℕ → Type 0
-AreParts field first rest = IsFirstField field first × IsTrimAscii (drop (length first) field) rest
+abbrev pub AreFirstAndRest : List ℕ → List ℕ → List ℕ → Type 0
+AreFirstAndRest field first rest = IsFirstField field first × IsTrimAscii (drop (length first) field) rest
 
 -- those of a line without its comment, if there is anything
 abbrev pub IsSplit : List ℕ → List ℕ → List ℕ → Type 0
-IsSplit line first rest = (field : List ℕ) × IsField line field × (field ≢ []) × AreParts field first rest
+IsSplit line first rest = (field : List ℕ) × IsField line field × (field ≢ []) × AreFirstAndRest field first rest
 
 -- those of a row of a table: only a whole line is a comment there, so that a value may have any bytes
 abbrev pub IsRowSplit : List ℕ → List ℕ → List ℕ → Type 0
-IsRowSplit line first value = (field : List ℕ) × IsTrimAscii line field × ¬ (SaysNothing field) × AreParts field first value
+IsRowSplit line first value = (field : List ℕ) × IsTrimAscii line field × ¬ (SaysNothing field) × AreFirstAndRest field first value
 
 -- the line is blank or a comment
 abbrev pub IsNoRow : List ℕ → Type 0
@@ -64,6 +64,6 @@ abbrev pub IsBadLine : List ℕ → LineError → Type 0
 IsBadLine line e = IsBadLineBy HasBadAddress line e
 
 -- what the first field of a line says, or its error
-abbrev pub ReadsField : List ℕ → Result (Option IpCidr) LineError → Type 0
-ReadsField line (Ok said) = FieldSays line said
-ReadsField line (Err e) = IsBadField line e
+abbrev pub ReadsFirstField : List ℕ → Result (Option IpCidr) LineError → Type 0
+ReadsFirstField line (Ok said) = FieldSays line said
+ReadsFirstField line (Err e) = IsBadField line e

@@ -29,12 +29,12 @@ abbrev pub HasHostBits : IpInet → Type 0
 HasHostBits host = host_part (host_parts host) ≢ 0
 
 -- bits begin with the outer ones, and are longer
-abbrev pub AreInside : List Bool → List Bool → Type 0
-AreInside bits outer = BeginsWith bits outer × (length outer < length bits)
+abbrev pub AreBitsInside : List Bool → List Bool → Type 0
+AreBitsInside bits outer = BeginsWith bits outer × (length outer < length bits)
 
 -- a network is inside the outer one, and is not all of it
 abbrev pub IsInside : IpCidr → IpCidr → Type 0
-IsInside network outer = AreInside (network_bits network) (network_bits outer)
+IsInside network outer = AreBitsInside (network_bits network) (network_bits outer)
 
 -- both are the halves of one network, in either order
 abbrev pub AreHalves : IpCidr → IpCidr → Type 0

@@ -103,18 +103,18 @@ IsContent bits field (Ipv6Range first last) =
     AreEnds field (address.V6 first) (address.V6 last) × (bit_cmp first last ≢ Greater)
 
 -- its networks: for a range the shortest list that has exactly the addresses from the first to the last
-abbrev pub AreNetworks : Content → List IpCidr → Type 0
-AreNetworks Blank said = said ≡ []
-AreNetworks (Network network) said = said ≡ network ∷ []
-AreNetworks (Ipv4Range first last) said =
+abbrev pub AreContentNetworks : Content → List IpCidr → Type 0
+AreContentNetworks Blank said = said ≡ []
+AreContentNetworks (Network network) said = said ≡ network ∷ []
+AreContentNetworks (Ipv4Range first last) said =
     (networks : List (List Bool)) × IsSetOf 129 (IsBetween first last) networks × (said ≡ map (λ p. V4 p) networks)
-AreNetworks (Ipv6Range first last) said =
+AreContentNetworks (Ipv6Range first last) said =
     (networks : List (List Bool)) × IsSetOf 129 (IsBetween first last) networks × (said ≡ map (λ p. V6 p) networks)
 
 -- the line says these networks
 abbrev pub LineSays : HostBits → List ℕ → List IpCidr → Type 0
 LineSays bits line said = ¬ (IsTooLong line)
-    × (field : List ℕ) × (content : Content) × IsField line field × IsContent bits field content × AreNetworks content said
+    × (field : List ℕ) × (content : Content) × IsField line field × IsContent bits field content × AreContentNetworks content said
 
 -- ---- a line in error
 -- the string is no address of either family
@@ -177,13 +177,13 @@ abbrev pub IsFirstError : Text → ℕ → LineError → Type 0
 IsFirstError text number e = IsFirstBad (AllZip (LineSays text.host_bits)) (IsInError text.host_bits) (lines_of text.bytes) number e
 
 -- the networks of a family among those that a line says
-abbrev pub network_in : Family → List IpCidr → List (List Bool)
-network_in family [] = []
-network_in Ipv4 (V4 p ∷ said) = p ∷ network_in Ipv4 said
-network_in Ipv4 (V6 p ∷ said) = network_in Ipv4 said
-network_in Ipv6 (V4 p ∷ said) = network_in Ipv6 said
-network_in Ipv6 (V6 p ∷ said) = p ∷ network_in Ipv6 said
+abbrev pub line_networks : Family → List IpCidr → List (List Bool)
+line_networks family [] = []
+line_networks Ipv4 (V4 p ∷ said) = p ∷ line_networks Ipv4 said
+line_networks Ipv4 (V6 p ∷ said) = line_networks Ipv4 said
+line_networks Ipv6 (V4 p ∷ said) = line_networks Ipv6 said
+line_networks Ipv6 (V6 p ∷ said) = p ∷ line_networks Ipv6 said
 
 -- the networks of a family that the lines say
 abbrev pub networks_in : Family → List (List IpCidr) → List (List Bool)
-networks_in family said = flat_map (network_in family) said
+networks_in family said = flat_map (line_networks family) said

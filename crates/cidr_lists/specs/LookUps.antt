@@ -35,13 +35,13 @@ found_line address None = address ++ codes " -\n"
 found_line address (Some (network, value)) = address ++ (codes " " ++ (network ++ (gap value ++ (value ++ codes "\n"))))
 
 -- the network as it is printed
-abbrev pub shown : Family → List Bool × List ℕ → List ℕ × List ℕ
-shown family (p, value) = (plain_text family p, value)
+abbrev pub printed_row : Family → List Bool × List ℕ → List ℕ × List ℕ
+printed_row family (p, value) = (plain_text family p, value)
 
 -- the line that is written for a line, if it has an address
 abbrev pub look_line : Option LookUp → List ℕ
 look_line None = []
-look_line (Some look) = found_line (ip_text look.address) (option_map (shown (address_family look.address)) look.found)
+look_line (Some look) = found_line (ip_text look.address) (option_map (printed_row (address_family look.address)) look.found)
 
 -- whether the address has a network
 abbrev pub is_found : Option LookUp → Bool

@@ -8,7 +8,7 @@ use Rattle.cidr.specs.model.Network.{BeginsWith}
 use Rattle.cidr.specs.declared.cidr.combined.IpCidr.{IpCidr}
 use Rattle.cidr.specs.declared.cidr.combined.IpCidr.TheVariants.{V4, V6}
 use Rattle.cidr_ext.specs.Tree.{AreSiblings}
-use Rattle.cidr_lists.specs.Findings.{AreHalves, AreInside, IsInside}
+use Rattle.cidr_lists.specs.Findings.{AreHalves, AreBitsInside, IsInside}
 use Rattle.cidr_lists.specs.declared.near.Near.{Near}
 use Rattle.cidr_lists.specs.declared.near.Numbered.{Numbered}
 
@@ -60,8 +60,8 @@ abbrev pub HasRow : {C : Type 0} → List (C × ℕ) → C → Type 0
 HasRow {C} rows network = (i : ℕ) × Contains rows (network, i)
 
 -- the rows go up by network, and those of one network by index
-abbrev pub AreAscending : {C : Type 0} → (C → List Bool) → List (C × ℕ) → Type 0
-AreAscending {C} bits rows = (i j : ℕ) (a b : C × ℕ) → i ≤ j → slice_get rows i ≡ Some a → slice_get rows j ≡ Some b
+abbrev pub AreRowsInOrder : {C : Type 0} → (C → List Bool) → List (C × ℕ) → Type 0
+AreRowsInOrder {C} bits rows = (i j : ℕ) (a b : C × ℕ) → i ≤ j → slice_get rows i ≡ Some a → slice_get rows j ≡ Some b
     → (bit_cmp (bits a.0) (bits b.0) ≢ Greater) × (a.0 ≡ b.0 → a.1 ≤ b.1)
 
 -- the last row, or none where there are no rows
@@ -75,9 +75,9 @@ IsLeast {C} rows network i = Contains rows (network, i) × ((j : ℕ) → Contai
 
 -- that of the longest network that this one is inside, or none
 abbrev pub IsRowAround : {C : Type 0} → (C → List Bool) → List (C × ℕ) → C → Option ℕ → Type 0
-IsRowAround {C} bits rows network None = (row : C × ℕ) → Contains rows row → ¬ (AreInside (bits network) (bits row.0))
-IsRowAround {C} bits rows network (Some i) = (outer : C) × IsLeast rows outer i × AreInside (bits network) (bits outer)
-    × ((row : C × ℕ) → Contains rows row → AreInside (bits network) (bits row.0) → length (bits row.0) ≤ length (bits outer))
+IsRowAround {C} bits rows network None = (row : C × ℕ) → Contains rows row → ¬ (AreBitsInside (bits network) (bits row.0))
+IsRowAround {C} bits rows network (Some i) = (outer : C) × IsLeast rows outer i × AreBitsInside (bits network) (bits outer)
+    × ((row : C × ℕ) → Contains rows row → AreBitsInside (bits network) (bits row.0) → length (bits row.0) ≤ length (bits outer))
 
 -- that of the other half, or none
 abbrev pub IsRowHalf : {C : Type 0} → (C → List Bool) → List (C × ℕ) → C → Option ℕ → Type 0
@@ -90,8 +90,8 @@ IsRowNear bits rows row near = IsLeast rows row.0 near.first
     × (near.first ≡ row.1 → IsRowAround bits rows row.0 near.outer × IsRowHalf bits rows row.0 near.half)
 
 -- this is kept at the index of each row
-abbrev pub AreKept : {C : Type 0} → (C → List Bool) → List (C × ℕ) → List Near → Type 0
-AreKept {C} bits rows near =
+abbrev pub AreNearKept : {C : Type 0} → (C → List Bool) → List (C × ℕ) → List Near → Type 0
+AreNearKept {C} bits rows near =
     (row : C × ℕ) → Contains rows row → (one : Near) × (slice_get near row.1 ≡ Some one) × IsRowNear bits rows row one
 
 -- and at all other indices stands what stood there
@@ -104,7 +104,7 @@ pub record AreOthersSame {C : Type 0} (rows : List (C × ℕ)) (old new : List N
 abbrev pub IsChain : {C : Type 0} → (C → List Bool) → List (C × ℕ) → Type 0
 IsChain bits [] = Unit {0}
 IsChain {C} bits (outer ∷ rows) =
-    ((row : C × ℕ) → Contains rows row → AreInside (bits row.0) (bits outer.0)) × IsChain bits rows
+    ((row : C × ℕ) → Contains rows row → AreBitsInside (bits row.0) (bits outer.0)) × IsChain bits rows
 
 -- Of the rows passed these are open, each with the least index of its network: a chain that has what a network behind
 -- them all may be inside, and its other half.
@@ -120,7 +120,7 @@ pub record AreOpen {C : Type 0} (bits : C → List Bool) (passed nest : List (C 
 
 -- what the rows passed have left
 abbrev pub IsPassed : {C : Type 0} → (C → List Bool) → List (C × ℕ) → List Near → List (C × ℕ) → Type 0
-IsPassed bits passed near nest = AreKept bits passed near × AreOpen bits passed nest
+IsPassed bits passed near nest = AreNearKept bits passed near × AreOpen bits passed nest
 
 -- While a network closes open ones, of which this one was the last: those left have what it is inside, and they or the
 -- last one closed are its other half, if it is new.

@@ -3,7 +3,7 @@ use Rattle.std.specs.Prelude.{◌≡◌, ℕ, Bool, List, ◌++◌, Result, Matc
 use Rattle.cidr.specs.declared.cidr.combined.IpCidr.{IpCidr}
 use Rattle.cidr.specs.declared.family.Family.{Family}
 use Rattle.cidr.specs.declared.family.Family.TheVariants.{Ipv4, Ipv6}
-use Rattle.cidr_lists.specs.Lists.{IsField, IsContent, IsFieldError, IsNoAddressBy, AreNetworks, network_in}
+use Rattle.cidr_lists.specs.Lists.{IsField, IsContent, IsFieldError, IsNoAddressBy, AreContentNetworks, line_networks}
 use Rattle.cidr_lists.specs.declared.errors.LineError.{LineError}
 use Rattle.cidr_lists.specs.declared.errors.LineError.TheVariants.{NoAddress}
 use Rattle.cidr_lists.specs.declared.lines.Content.{Content}
@@ -34,4 +34,4 @@ Grows old new more = (family : Family) → listed new family ≡ listed old fami
 
 -- the networks of what a line says come behind those before
 abbrev pub AddsContent : Content → Lists → Lists → Type 0
-AddsContent content old new = (said : List IpCidr) × AreNetworks content said × Grows old new (λ family. network_in family said)
+AddsContent content old new = (said : List IpCidr) × AreContentNetworks content said × Grows old new (λ family. line_networks family said)

@@ -34,8 +34,8 @@ networks_of sets Ipv4 = sets.v4
 networks_of sets Ipv6 = sets.v6
 
 -- the address is in the set of its family
-abbrev pub HasAddress : Sets → Family → List Bool → Type 0
-HasAddress sets family a = Covers (networks_of sets family) a
+abbrev pub IsInSets : Sets → Family → List Bool → Type 0
+IsInSets sets family a = Covers (networks_of sets family) a
 
 -- how many addresses of each family, a line each
 abbrev pub printed_counts : (Family → ℕ) → List ℕ
@@ -63,9 +63,9 @@ IsPrinted Ranges sets text = (ranges : Family → List (List Bool × List Bool))
 IsPrinted Counts sets text = (count : Family → ℕ) × HaveCounts sets count × (text ≡ printed_counts count)
 
 -- all of IPv6 has more addresses than a `u128` has room for
-abbrev pub count_of : Option ℕ → ℕ
-count_of None = 2 ^ 128
-count_of (Some count) = count
+abbrev pub count_or_all : Option ℕ → ℕ
+count_or_all None = 2 ^ 128
+count_or_all (Some count) = count
 
 -- the first network of n bits that has only addresses of the sets, of IPv4 before IPv6, or none where there is none
 abbrev pub IsFreeOf : (Family → List (List Bool)) → ℕ → Option IpCidr → Type 0

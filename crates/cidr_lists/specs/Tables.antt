@@ -58,13 +58,13 @@ stored rows Ipv4 = rows.v4.items
 stored rows Ipv6 = rows.v6.items
 
 -- the values of rows lie in the bytes
-abbrev pub AreWithin : List ℕ → List (List Bool × Span) → Type 0
-AreWithin values rows = AllByRecursion (λ row. row.1.start + row.1.len ≤ length values) rows
+abbrev pub AreSpansWithin : List ℕ → List (List Bool × Span) → Type 0
+AreSpansWithin values rows = AllByRecursion (λ row. row.1.start + row.1.len ≤ length values) rows
 
 -- the rows that lines say
 pub record Stores (rows : Rows) (said : List (Option (IpCidr × List ℕ))) : Type 0 where
   pub same : (family : Family) → map (resolved rows.values.items) (stored rows family) ≡ rows_in family said
-  pub within : (family : Family) → AreWithin rows.values.items (stored rows family)
+  pub within : (family : Family) → AreSpansWithin rows.values.items (stored rows family)
 
 -- a value comes behind those before, and its row behind those of its family
 pub record Pushes (old new : Rows) (network : IpCidr) (value : List ℕ) : Type 0 where

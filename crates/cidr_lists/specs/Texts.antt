@@ -4,7 +4,7 @@ use Rattle.cidr.specs.declared.cidr.combined.IpCidr.{IpCidr}
 use Rattle.cidr.specs.declared.family.Family.{Family}
 use Rattle.cidr_table.specs.Cover.{Covers}
 use Rattle.cidr_sets.specs.Sets.{IsSetOf}
-use Rattle.cidr_lists.specs.Lists.{Text, IsFirstError, IsInError, LineSays, ListSays, network_in, networks_in}
+use Rattle.cidr_lists.specs.Lists.{Text, IsFirstError, IsInError, LineSays, ListSays, line_networks, networks_in}
 use Rattle.cidr_lists.specs.Reading.{Grows, listed}
 use Rattle.cidr_lists.specs.Sets.{networks_of}
 use Rattle.cidr_lists.specs.declared.errors.ListError.{ListError}
@@ -33,7 +33,7 @@ IsListError text NoMemory = Unit {0}
 
 -- ---- what private functions promise
 -- the networks that a line says come behind those before, or the line of this number is in error
-abbrev pub AddsLine : HostBits → List ℕ → ℕ → Lists → Lists → Result (Unit {0}) ListError → Type 0
-AddsLine bits line number old new (Ok _) = (said : List IpCidr) × LineSays bits line said × Grows old new (λ family. network_in family said)
-AddsLine bits line number old new (Err (Line n e)) = (n ≡ number) × IsInError bits line e
-AddsLine bits line number old new (Err NoMemory) = Unit {0}
+abbrev pub AddsListLine : HostBits → List ℕ → ℕ → Lists → Lists → Result (Unit {0}) ListError → Type 0
+AddsListLine bits line number old new (Ok _) = (said : List IpCidr) × LineSays bits line said × Grows old new (λ family. line_networks family said)
+AddsListLine bits line number old new (Err (Line n e)) = (n ≡ number) × IsInError bits line e
+AddsListLine bits line number old new (Err NoMemory) = Unit {0}

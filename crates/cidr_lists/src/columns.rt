@@ -3,7 +3,7 @@ ghost use Rattle.std.specs.Prelude.{◌≤◌, [], length, MatchOption, MatchRes
 ghost use Rattle.std.specs.Bool.{Decides};
 ghost use Rattle.cidr.specs.either.IpAddress.{IsIpText};
 ghost use Rattle.cidr_lists.specs.Lists.{IsField, IsFirstField, IsNetworkBy, SaysNothing};
-ghost use Rattle.cidr_lists.specs.Fields.{AreParts, IsNoAddressField, IsNoNetworkField, IsNoRow, IsRowSplit, IsSplit};
+ghost use Rattle.cidr_lists.specs.Fields.{AreFirstAndRest, IsNoAddressField, IsNoNetworkField, IsNoRow, IsRowSplit, IsSplit};
 
 use crate::errors::{BadText, LineError};
 use crate::lines::{HostBits, network_of, without_comment};
@@ -27,7 +27,7 @@ pub fn first_field(bytes: &[u8]) -> &[u8]
 
 /// The first field of a string, and what stands behind it.
 fn parts_of(field: &[u8]) -> (&[u8], &[u8])
-    ensures { AreParts field.now result.0.now result.1.now }
+    ensures { AreFirstAndRest field.now result.0.now result.1.now }
 {
     let first = first_field(field);
     let (_, rest) = field.split_at(first.len());

@@ -1,5 +1,5 @@
 //! What the first field of a line says.
-ghost use Rattle.cidr_lists.specs.Fields.{ReadsField};
+ghost use Rattle.cidr_lists.specs.Fields.{ReadsFirstField};
 
 use crate::columns::{first_field, network_in, says_nothing};
 use crate::errors::LineError;
@@ -12,7 +12,7 @@ use cidr::IpCidr;
 /// The errors are `NotUtf8` of the field, and then `NoNetwork` with the first error of parsing it: a set bit after the
 /// prefix is one.
 pub fn first_network(line: &[u8]) -> Result<Option<IpCidr>, LineError>
-    ensures { ReadsField line.now result }
+    ensures { ReadsFirstField line.now result }
 {
     let field = first_field(line);
     if says_nothing(field) {

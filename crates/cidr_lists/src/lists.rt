@@ -2,7 +2,7 @@
 ghost use Rattle.std.specs.Prelude.{◌≡◌, List, [], ◌∷◌, ◌++◌, map, OnOk};
 ghost use Rattle.cidr_sets.specs.Ranges.{IsBetween};
 ghost use Rattle.cidr_sets.specs.Sets.{IsSetOf};
-ghost use Rattle.cidr_lists.specs.Lists.{network_in};
+ghost use Rattle.cidr_lists.specs.Lists.{line_networks};
 ghost use Rattle.cidr_lists.specs.Reading.{AddsContent, Grows, listed};
 
 use crate::lines::Content;
@@ -34,7 +34,7 @@ impl Lists {
 
     /// Adds a network to those of its family.
     pub fn push(&mut self, network: &IpCidr) -> Result<(), AllocError>
-        ensures { OnOk result (Grows self.old self.new (λ family. network_in family (network.now ∷ []))) }
+        ensures { OnOk result (Grows self.old self.new (λ family. line_networks family (network.now ∷ []))) }
     {
         match network {
             IpCidr::V4(network) => self.v4.push(*network)?,

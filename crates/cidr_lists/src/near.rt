@@ -11,7 +11,7 @@ ghost use Rattle.std.specs.Option.{option_map};
 ghost use Rattle.cidr.specs.declared.cidr.combined.IpCidr.{IpCidr as Network};
 ghost use Rattle.cidr.specs.model.Network.{BeginsWith};
 ghost use Rattle.cidr_lists.specs.Findings.{entry_network};
-ghost use Rattle.cidr_lists.specs.Nearness.{AreAscending, AreKept, AreNear, AreNumbered, AreOthersSame, AreRows, ClosesAll, IsClosedHalf, IsLast, IsNear, IsPassed, IsSameRow, PutsFirst, PutsHalf};
+ghost use Rattle.cidr_lists.specs.Nearness.{AreRowsInOrder, AreNearKept, AreNear, AreNumbered, AreOthersSame, AreRows, ClosesAll, IsClosedHalf, IsLast, IsNear, IsPassed, IsSameRow, PutsFirst, PutsHalf};
 
 use crate::entries::{Entry, entry_at};
 use cidr::{IpCidr, Ipv4Cidr, Ipv6Cidr, NetworkBits};
@@ -54,7 +54,7 @@ fn number_networks(alloc: Global, entries: &[Entry<'_>]) -> Result<Numbered, All
 
 /// The rows by network, and those of one network by index.
 fn sorted<C: NetworkBits>(mut rows: Vec<(C, usize)>) -> Vec<(C, usize)>
-    ensures ascending { AreAscending C.bits result.items }
+    ensures ascending { AreRowsInOrder C.bits result.items }
     ensures same { (row : C × ℕ) → (Contains result.items row ↔ Contains rows.items row) }
 {
     rows.sort_unstable();
@@ -212,7 +212,7 @@ fn pass<C: NetworkExt>(
     place: usize,
 ) -> Result<(), AllocError>
     requires rows { AreRows rows.now (length near.old) }
-    requires ascending { AreAscending C.bits rows.now }
+    requires ascending { AreRowsInOrder C.bits rows.now }
     requires within { place < length rows.now }
     requires passed { IsPassed C.bits (take place rows.now) near.old nest.old.items }
     ensures passed { OnOk result (IsPassed C.bits (take (place + 1) rows.now) near.new nest.new.items) }
@@ -244,8 +244,8 @@ fn keep<C: NetworkExt>(
     rows: &[(C, usize)],
 ) -> Result<(), AllocError>
     requires rows { AreRows rows.now (length near.old) }
-    requires ascending { AreAscending C.bits rows.now }
-    ensures kept { OnOk result (AreKept C.bits rows.now near.new) }
+    requires ascending { AreRowsInOrder C.bits rows.now }
+    ensures kept { OnOk result (AreNearKept C.bits rows.now near.new) }
     ensures others { AreOthersSame rows.now near.old near.new }
 {
     let mut nest = Vec::new(alloc);

@@ -1,6 +1,6 @@
 //! Networks and addresses as they are printed.
 ghost use Rattle.std.specs.Prelude.{◌≡◌, ◌≤◌, ◌^◌, ℕ, List, length, Bool, decimal};
-ghost use Rattle.cidr_lists.specs.Sets.{count_of};
+ghost use Rattle.cidr_lists.specs.Sets.{count_or_all};
 ghost use Rattle.cidr.specs.model.Bits.{bit_eq};
 
 use arrayvec::ArrayString;
@@ -98,7 +98,7 @@ fn all_of_ipv6() -> ArrayString<41>
 
 /// A count in decimal, as `address_count` of a set has it: `None` is 2^128.
 pub fn count_text(count: Option<u128>) -> ArrayString<41>
-    ensures { result.bytes ≡ decimal (count_of count) }
+    ensures { result.bytes ≡ decimal (count_or_all count) }
 {
     match count {
         Some(count) => {

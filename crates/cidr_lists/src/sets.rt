@@ -4,10 +4,10 @@ ghost use Rattle.cidr.specs.declared.family.Family.{Family};
 ghost use Rattle.cidr_table.specs.Cover.{Covers, IsReduced};
 ghost use Rattle.cidr_sets.specs.Sets.{IsSetOf};
 ghost use Rattle.cidr_lists.specs.Reading.{listed};
-ghost use Rattle.cidr_lists.specs.Sets.{networks_of, Combined, Steps, HasAddress, IsFreeOf};
+ghost use Rattle.cidr_lists.specs.Sets.{networks_of, Combined, Steps, IsInSets, IsFreeOf};
 ghost use Rattle.std.specs.Bool.{Decides};
 ghost use Rattle.cidr_lists.specs.Within.{IsWithin, LiesIn};
-ghost use Rattle.cidr_lists.specs.Lists.{network_in};
+ghost use Rattle.cidr_lists.specs.Lists.{line_networks};
 
 use crate::lists::Lists;
 use cidr::{BitString, IpCidr, Ipv4Cidr, Ipv6Cidr, NetworkBits};
@@ -76,7 +76,7 @@ impl Sets {
     /// The addresses of a network. The error is that there is no memory.
     pub fn of_network(alloc: Global, network: &IpCidr) -> Result<Sets, AllocError>
         ensures { IfOk result (λ sets. (family : Family)
-            → IsSetOf 129 (Covers (network_in family (network.now ∷ []))) (networks_of sets family)) }
+            → IsSetOf 129 (Covers (line_networks family (network.now ∷ []))) (networks_of sets family)) }
     {
         let mut lists = Lists::new(alloc);
         lists.push(network)?;
@@ -92,7 +92,7 @@ impl Sets {
 
     /// Whether there are all addresses of a network. Binary search: O(log n).
     pub fn contains(&self, network: &IpCidr) -> bool
-        ensures { Decides result (IsWithin (HasAddress self.now) network.now) }
+        ensures { Decides result (IsWithin (IsInSets self.now) network.now) }
     {
         match network {
             IpCidr::V4(network) => self.v4.contains(network),
@@ -102,7 +102,7 @@ impl Sets {
 
     /// Whether there is a network, and all its addresses are there.
     pub fn have(&self, network: &Option<IpCidr>) -> bool
-        ensures { Decides result (LiesIn (HasAddress self.now) network.now) }
+        ensures { Decides result (LiesIn (IsInSets self.now) network.now) }
     {
         match network {
             Some(network) => self.contains(network),
@@ -136,7 +136,7 @@ impl Sets {
     /// that there is no memory, and both stay as they were.
     pub fn stepped(&self, step: Step, other: &Sets) -> Result<Sets, AllocError>
         ensures { IfOk result (λ sets. (family : Family)
-            → IsSetOf 129 (λ a. Steps step (HasAddress self.now family a) (HasAddress other.now family a))
+            → IsSetOf 129 (λ a. Steps step (IsInSets self.now family a) (IsInSets other.now family a))
             (networks_of sets family)) }
     {
         Ok(Sets {
@@ -149,7 +149,7 @@ impl Sets {
     /// there is no memory.
     pub fn complement(&self) -> Result<Sets, AllocError>
         ensures { IfOk result (λ sets. (family : Family)
-            → IsSetOf 129 (λ a. ¬ (HasAddress self.now family a)) (networks_of sets family)) }
+            → IsSetOf 129 (λ a. ¬ (IsInSets self.now family a)) (networks_of sets family)) }
     {
         Ok(Sets {
             v4: self.v4.complement_in(&Ipv4Cidr::null())?,
@@ -162,7 +162,7 @@ impl Sets {
 /// memory of each step. The error is that there is no memory.
 pub fn combined(step: Step, first: Sets, others: &[Sets]) -> Result<Sets, AllocError>
     ensures { IfOk result (λ sets. (family : Family)
-        → IsSetOf 129 (λ a. Combined HasAddress step (HasAddress first family a) others.now family a)
+        → IsSetOf 129 (λ a. Combined IsInSets step (IsInSets first family a) others.now family a)
         (networks_of sets family)) }
 {
     first.known();

@@ -9,7 +9,7 @@ ghost use Rattle.std.specs.List.{flat_map, position_or_len};
 ghost use Rattle.cidr_lists.specs.Lists.{is_line_feed, kept_of, text_by};
 ghost use Rattle.cidr_lists.specs.Printing.{line};
 ghost use Rattle.cidr_lists.specs.Sets.{IsPrinted, networks_of, printed_sets, range_line};
-ghost use Rattle.cidr_lists.specs.Texts.{AddsLine, HaveAddresses, HaveNetworks, IsListError};
+ghost use Rattle.cidr_lists.specs.Texts.{AddsListLine, HaveAddresses, HaveNetworks, IsListError};
 ghost use Rattle.cidr_lists.specs.declared.sets.Form.TheVariants.{Counts, Ranges as AsRanges};
 
 use crate::errors::{LineError, ListError};
@@ -51,7 +51,7 @@ fn add_line(
     line: &[u8],
     lists: &mut Lists,
 ) -> Result<(), ListError>
-    ensures { AddsLine host_bits (kept_of line.now) number lists.old lists.new result }
+    ensures { AddsListLine host_bits (kept_of line.now) number lists.old lists.new result }
 {
     if line.len() > MOST_BYTES {
         return Err(ListError::Line(number, LineError::TooLong));

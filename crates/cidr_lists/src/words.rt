@@ -6,7 +6,7 @@ ghost use Rattle.std.specs.Str.{IsAscii};
 ghost use Rattle.cidr.specs.texts.AddressText.{IsAddressText};
 ghost use Rattle.cidr.specs.texts.Ipv6Text.{colon};
 ghost use Rattle.cidr_lists.specs.Within.{HasOneIn, IsOneIn, LineHasOneIn, WordIsOneIn};
-ghost use Rattle.cidr_lists.specs.Sets.{HasAddress, networks_of};
+ghost use Rattle.cidr_lists.specs.Sets.{IsInSets, networks_of};
 ghost use Rattle.cidr_lists.specs.Words.{IsBare, ends_word, joins, without_dots};
 
 use crate::sets::Sets;
@@ -81,7 +81,7 @@ impl Sets {
     /// Whether a string is an address of this family that is there.
     fn have_text(&self, family: Family, text: &[u8]) -> bool
         requires { IsAscii text.now }
-        ensures { Decides result (IsOneIn (HasAddress self.now) family text.now) }
+        ensures { Decides result (IsOneIn (IsInSets self.now) family text.now) }
     {
         let Ok(text) = str::from_utf8(text) else {
             return false;
@@ -102,7 +102,7 @@ impl Sets {
     fn have_before_colon(&self, family: Family, word: &[u8]) -> bool
         requires { IsAscii word.now }
         ensures { Decides result ((text : List ℕ) × (word.now ≡ text ++ colon ∷ [])
-            × IsOneIn (HasAddress self.now) family text) }
+            × IsOneIn (IsInSets self.now) family text) }
     {
         match word.split_last() {
             Some((b':', front)) => self.have_text(family, front),
@@ -113,7 +113,7 @@ impl Sets {
     /// Whether a word is an address of this family that is there, with or without punctuation behind it.
     fn have_word(&self, family: Family, word: &[u8]) -> bool
         requires { IsAscii word.now }
-        ensures { Decides result (WordIsOneIn (HasAddress self.now) family word.now) }
+        ensures { Decides result (WordIsOneIn (IsInSets self.now) family word.now) }
     {
         if is_plain(family, word) {
             return false;
@@ -123,7 +123,7 @@ impl Sets {
 
     /// Whether a line has an address of this family that is there.
     fn have_one_of(&self, family: Family, line: &[u8]) -> bool
-        ensures { Decides result (LineHasOneIn (HasAddress self.now) family line.now) }
+        ensures { Decides result (LineHasOneIn (IsInSets self.now) family line.now) }
     {
         if self.lack(family) {
             return false;
@@ -149,7 +149,7 @@ impl Sets {
     ///
     /// It passes the line once for each family of which the sets have addresses, with a binary search for each address.
     pub fn have_one(&self, line: &[u8]) -> bool
-        ensures { Decides result (HasOneIn (HasAddress self.now) line.now) }
+        ensures { Decides result (HasOneIn (IsInSets self.now) line.now) }
     {
         self.have_one_of(Family::Ipv4, line) || self.have_one_of(Family::Ipv6, line)
     }

@@ -27,7 +27,7 @@ use Rattle.cidr_table.proofs.MapLaws.{contains_first, contains_later, contains_c
 use Rattle.cidr_table.proofs.Order.{less_not_itself}
 use Rattle.cidr_table.proofs.Reduced.{HoldNoOther}
 use Rattle.cidr_table.proofs.Stacks.{spread_from_reduced}
-use Rattle.cidr_sets.specs.AddressLists.{numbered, ends_of, addresses_of}
+use Rattle.cidr_sets.specs.AddressLists.{numbered, ends_of, addresses_in}
 use Rattle.cidr_sets.specs.Counts.{AreAddresses, HaveCount}
 use Rattle.cidr_sets.proofs.AddressWalks.{whole_ends, ends_are}
 
@@ -104,23 +104,23 @@ module _ (w : ℕ) where
   ]
 
   -- ---- several
-  pub in_all : (ps : List (List Bool)) (a : List Bool) → Contains (addresses_of w ps) a ↔ ((length a ≡ w) × Covers ps a)
+  pub in_all : (ps : List (List Bool)) (a : List Bool) → Contains (addresses_in w ps) a ↔ ((length a ≡ w) × Covers ps a)
   in_all [] a = (λ c. absurd (contains_nothing a c), λ h. absurd (contains_nothing h.1.0 h.1.1))
   in_all (p ∷ ps) a = (
-    λ c. elim (Contains-append_cases (numbered w (ends_of w p)) (addresses_of w ps) a c) [
+    λ c. elim (Contains-append_cases (numbered w (ends_of w p)) (addresses_in w ps) a c) [
       | inl d ↦ let h = (in_one p a).0 d in (h.0, (p, contains_first p ps, h.1))
       | inr d ↦ let h = (in_all ps a).0 d in (h.0, (h.1.0, contains_later p h.1.0 ps h.1.1, h.1.2))
     ],
     λ h. elim (contains_cases p h.1.0 ps h.1.1) [
-      | inl e ↦ Contains-append_left (numbered w (ends_of w p)) (addresses_of w ps) a ((in_one p a).1 (h.0, subst (BeginsWith a) (sym e) h.1.2))
-      | inr d ↦ Contains-append_right (numbered w (ends_of w p)) (addresses_of w ps) a ((in_all ps a).1 (h.0, (h.1.0, d, h.1.2)))
+      | inl e ↦ Contains-append_left (numbered w (ends_of w p)) (addresses_in w ps) a ((in_one p a).1 (h.0, subst (BeginsWith a) (sym e) h.1.2))
+      | inr d ↦ Contains-append_right (numbered w (ends_of w p)) (addresses_in w ps) a ((in_all ps a).1 (h.0, (h.1.0, d, h.1.2)))
     ],
   )
 
-  sorted_all : (ps : List (List Bool)) → IsStrictlySortedBy bit_cmp ps → HoldNoOther ps → IsStrictlySortedBy bit_cmp (addresses_of w ps)
+  sorted_all : (ps : List (List Bool)) → IsStrictlySortedBy bit_cmp ps → HoldNoOther ps → IsStrictlySortedBy bit_cmp (addresses_in w ps)
   sorted_all [] s apart = sorted_none
   sorted_all (p ∷ ps) s apart =
-      sorted_append (numbered w (ends_of w p)) (addresses_of w ps) (sorted_one p)
+      sorted_append (numbered w (ends_of w p)) (addresses_in w ps) (sorted_one p)
       (sorted_all ps (sorted_tail bit_cmp p ps s) (λ q r c d. apart q r (contains_later p q ps c) (contains_later p r ps d)))
       (λ a b c d.
       let h = (in_one p a).0 c in
@@ -130,7 +130,7 @@ module _ (w : ℕ) where
       let later = contains_later p q ps k.1.1 in
       before p q a b h.1 k.1.2 (first_less p ps s q k.1.1) (apart p q here later, apart q p later here))
 
-  pub are_all : (ps : List (List Bool)) → IsReduced 129 ps → AreAddresses w ps (addresses_of w ps)
+  pub are_all : (ps : List (List Bool)) → IsReduced 129 ps → AreAddresses w ps (addresses_in w ps)
   are_all ps h = record {
     ascending = sorted_all ps h.ascending (spread_from_reduced 129 ps h).apart;
     exact = in_all ps;
@@ -201,7 +201,7 @@ module _ (w : ℕ) where
   -- the first i networks have n addresses
   pub record IsPassed (ps : List (List Bool)) (i n : ℕ) : Type 0 where
     pub front : List (List Bool)
-    pub whole : addresses_of w ps ≡ front ++ addresses_of w (drop i ps)
+    pub whole : addresses_in w ps ≡ front ++ addresses_in w (drop i ps)
     pub size : length front ≡ n
 
   -- and a is none of these
@@ -216,14 +216,14 @@ module _ (w : ℕ) where
   unfolding passed_none
   passed_by_none ps a = record { passed = passed_none ps; none = contains_nothing a }
 
-  pub passed_all : (ps : List (List Bool)) (i n : ℕ) → length ps ≤ i → IsPassed ps i n → length (addresses_of w ps) ≡ n
+  pub passed_all : (ps : List (List Bool)) (i n : ℕ) → length ps ≤ i → IsPassed ps i n → length (addresses_in w ps) ≡ n
   passed_all ps i n over h =
-      let rest : addresses_of w (drop i ps) ≡ [] = ap (addresses_of w) (drop_all i ps over) in
+      let rest : addresses_in w (drop i ps) ≡ [] = ap (addresses_in w) (drop_all i ps over) in
       ap length (h.whole ∙ ap (λ t. h.front ++ t) rest ∙ append-nil h.front) ∙ h.size
 
-  pub passed_few : (ps : List (List Bool)) (i n : ℕ) → IsPassed ps i n → n ≤ length (addresses_of w ps)
+  pub passed_few : (ps : List (List Bool)) (i n : ℕ) → IsPassed ps i n → n ≤ length (addresses_in w ps)
   passed_few ps i n h =
-      let whole = ap length h.whole ∙ length-append h.front (addresses_of w (drop i ps)) in
+      let whole = ap length h.whole ∙ length-append h.front (addresses_in w (drop i ps)) in
       let size = h.size in
       omega arith
 
@@ -233,16 +233,16 @@ module _ (w : ℕ) where
     pub in_order : (first ≤ last) × (last < 2 ^ w)
     in_order = let e = ends_are w (f x) fits in (omega (arith, low, high, e.0), omega (arith, high, e.1))
 
-    rest : addresses_of w (drop i (map f xs)) ≡ numbered w (Some (first, last)) ++ addresses_of w (drop (i + 1) (map f xs))
+    rest : addresses_in w (drop i (map f xs)) ≡ numbered w (Some (first, last)) ++ addresses_in w (drop (i + 1) (map f xs))
     rest =
         let split : drop i (map f xs) ≡ f x ∷ drop (i + 1) (map f xs) =
         drop-map f i xs ∙ ap (map f) (drop_more xs i x here ∙ ap (λ y. y ∷ drop (i + 1) xs) (sym is))
         ∙ ap (λ t. f x ∷ t) (sym (drop-map f (i + 1) xs)) in
-        ap (addresses_of w) split
-        ∙ ap (λ e. numbered w e ++ addresses_of w (drop (i + 1) (map f xs)))
+        ap (addresses_in w) split
+        ∙ ap (λ e. numbered w e ++ addresses_in w (drop (i + 1) (map f xs)))
         (whole_ends w (f x) fits ∙ ap₂ (λ a b. Some (a, b)) (sym low) (sym high))
 
-    split : addresses_of w (map f xs) ≡ h.front ++ (numbered w (Some (first, last)) ++ addresses_of w (drop (i + 1) (map f xs)))
+    split : addresses_in w (map f xs) ≡ h.front ++ (numbered w (Some (first, last)) ++ addresses_in w (drop (i + 1) (map f xs)))
     split = h.whole ∙ ap (λ t. h.front ++ t) rest
 
     pub passed_more : (m : ℕ) → m ≡ n + (last - first + 1) → IsPassed (map f xs) (i + 1) m
@@ -251,12 +251,12 @@ module _ (w : ℕ) where
         let size = length-map-range_with_len (bits w) first (last + 1 - first) in
         record {
           front = h.front ++ numbered w (Some (first, last));
-          whole = split ∙ sym (append_assoc h.front (numbered w (Some (first, last))) (addresses_of w (drop (i + 1) (map f xs))));
+          whole = split ∙ sym (append_assoc h.front (numbered w (Some (first, last))) (addresses_in w (drop (i + 1) (map f xs))));
           size = omega (arith, length-append h.front (numbered w (Some (first, last))), size, h.size, e);
         }
 
     -- the addresses of this network have the next indexes
-    pub at_index : (k : ℕ) → k ≤ last - first → slice_get (addresses_of w (map f xs)) (n + k) ≡ Some (bits w (first + k))
+    pub at_index : (k : ℕ) → k ≤ last - first → slice_get (addresses_in w (map f xs)) (n + k) ≡ Some (bits w (first + k))
     at_index k within =
         let some = in_order.0 in
         let count = last + 1 - first in
@@ -265,8 +265,8 @@ module _ (w : ℕ) where
         let below : k < count = omega arith in
         let a = bits w (first + k) in
         let at : slice_get block k ≡ Some a = slice_get-get_or block k a (omega (arith, size)) ∙ ap (λ t. Some t) (get_or-map-range_with_len (bits w) first count k (first + k) a below refl) in
-        ap (λ t. slice_get t (n + k)) split ∙ at_behind h.front (block ++ addresses_of w (drop (i + 1) (map f xs))) n k h.size
-        ∙ at_front block (addresses_of w (drop (i + 1) (map f xs))) k a at
+        ap (λ t. slice_get t (n + k)) split ∙ at_behind h.front (block ++ addresses_in w (drop (i + 1) (map f xs))) n k h.size
+        ∙ at_front block (addresses_in w (drop (i + 1) (map f xs))) k a at
 
     module _ (reduced : IsReduced 129 (map f xs)) where
       pub index_fits : n + (last - first) ≤ last
@@ -276,7 +276,7 @@ module _ (w : ℕ) where
           let lt = e.1 in
           let to : first + (last - first) ≡ last = omega arith in
           let same : number (bits w (first + (last - first))) ≡ last = ap (λ t. number (bits w t)) to ∙ number-bits w last lt in
-          let r = index_below w (map f xs) (addresses_of w (map f xs)) (are_all w (map f xs) reduced) (n + (last - first)) (bits w (first + (last - first)))
+          let r = index_below w (map f xs) (addresses_in w (map f xs)) (are_all w (map f xs) reduced) (n + (last - first)) (bits w (first + (last - first)))
           (at_index (last - first) (omega arith)) in
           omega (arith, r, same)
 
@@ -306,7 +306,7 @@ module _ (w : ℕ) where
         pub not_there : number_a < first → ¬ (Contains h.front a) → ¬ (Covers (map f xs) a)
         not_there short none c =
             let block = numbered w (Some (first, last)) in
-            let later = addresses_of w (drop (i + 1) (map f xs)) in
+            let later = addresses_in w (drop (i + 1) (map f xs)) in
             let are = are_all w (map f xs) reduced in
             let sorted : IsStrictlySortedBy bit_cmp (block ++ later) = sorted_rest h.front (block ++ later) (subst (IsStrictlySortedBy bit_cmp) split are.ascending) in
             let inside : Contains (h.front ++ (block ++ later)) a = subst (λ t. Contains t a) split ((are.exact a).1 (size, c)) in
@@ -330,7 +330,7 @@ module _ (w : ℕ) where
             ]
 
         -- it is in it
-        pub found : first ≤ number_a → number_a ≤ last → slice_get (addresses_of w (map f xs)) (n + (number_a - first)) ≡ Some a
+        pub found : first ≤ number_a → number_a ≤ last → slice_get (addresses_in w (map f xs)) (n + (number_a - first)) ≡ Some a
         found down up =
             let to : first + (number_a - first) ≡ number_a = omega arith in
             at_index (number_a - first) (omega arith)
@@ -340,7 +340,7 @@ module _ (w : ℕ) where
   pub in_none : (ps : List (List Bool)) (i n : ℕ) (a : List Bool) (h : IsPassed ps i n) → length ps ≤ i → IsReduced 129 ps → length a ≡ w
       → ¬ (Contains h.front a) → ¬ (Covers ps a)
   in_none ps i n a h over reduced size none c =
-      let rest : addresses_of w (drop i ps) ≡ [] = ap (addresses_of w) (drop_all i ps over) in
+      let rest : addresses_in w (drop i ps) ≡ [] = ap (addresses_in w) (drop_all i ps over) in
       none (subst (λ t. Contains t a) (h.whole ∙ ap (λ t. h.front ++ t) rest ∙ append-nil h.front) (((are_all w ps reduced).exact a).1 (size, c)))
 
 -- ---- how many

@@ -13,7 +13,7 @@ use Rattle.cidr_table.proofs.Ascending.{sorted_push}
 use Rattle.cidr_table.proofs.Halves.{begins_begins, begins_itself, either_half, half_begins, parent_half}
 use Rattle.cidr_table.proofs.MapLaws.{contains_nothing}
 use Rattle.cidr_table.proofs.Reduced.{covers_more}
-use Rattle.cidr_sets.specs.Ranges.{IsBetween, IsFilled, IsOverfull, IsPart, IsWithin, Reaches, all_bits, most, side}
+use Rattle.cidr_sets.specs.Ranges.{IsBetween, IsFilled, IsOverfull, IsPart, IsBetweenEdges, Reaches, all_bits, most, side}
 use Rattle.cidr_sets.specs.Sets.{IsSetOf}
 use Rattle.cidr_sets.specs.Steps.{Ascend, IsBehind}
 use Rattle.cidr_sets.proofs.Addresses.{set_alike}
@@ -465,32 +465,32 @@ module _ (IsIn : List Bool → Type 0) (p : List Bool) (old : List (List Bool)) 
 
 -- ---- of a range
 module _ (f l : List Bool) (sf : length f ≤ 129) (sl : length l ≤ 129) where
-  pub none_within : (p : List Bool) → IsBehind p f ⊎ IsBehind l p → (a : List Bool) → BeginsWith a p → ¬ (IsWithin f l a)
+  pub none_within : (p : List Bool) → IsBehind p f ⊎ IsBehind l p → (a : List Bool) → BeginsWith a p → ¬ (IsBetweenEdges f l a)
   none_within p h a b r = elim h [
     | inl k ↦ none_reach false f p a (behind_first p f k) b r.0
     | inr k ↦ none_reach true l p a (behind_last p l k) b r.1
   ]
 
   pub all_within : (p : List Bool) → side false f p ≡ 1 → side true l p ≡ 1
-      → (a : List Bool) → length a ≡ 129 → BeginsWith a p → IsWithin f l a
+      → (a : List Bool) → length a ≡ 129 → BeginsWith a p → IsBetweenEdges f l a
   all_within p h k a la b = (all_reach false f p a h b (omega (arith, la, sf)), all_reach true l p a k b (omega (arith, la, sl)))
 
   pub not_all_within : (p : List Bool) → IsCutBy false f p ⊎ IsCutBy true l p
-      → ¬ ((a : List Bool) → length a ≡ 129 → BeginsWith a p → IsWithin f l a)
+      → ¬ ((a : List Bool) → length a ≡ 129 → BeginsWith a p → IsBetweenEdges f l a)
   not_all_within p h all = elim h [
     | inl k ↦ let (a, la, b, m) = one_misses false f p 129 k sf in m (all a la b).0
     | inr k ↦ let (a, la, b, m) = one_misses true l p 129 k sl in m (all a la b).1
   ]
 
-  within_between : (a : List Bool) → length a ≡ 129 → IsWithin f l a ↔ IsBetween f l a
+  within_between : (a : List Bool) → length a ≡ 129 → IsBetweenEdges f l a ↔ IsBetween f l a
   within_between a la = let told = between_reaches f l a (omega (arith, la, sf)) (omega (arith, la, sl)) in (told.1, told.0)
 
-  part_member : (x : List Bool) → IsPart (IsWithin f l) [] x → IsMemberOf (IsWithin f l) x
+  part_member : (x : List Bool) → IsPart (IsBetweenEdges f l) [] x → IsMemberOf (IsBetweenEdges f l) x
   part_member x r = record { within = r.within; full = r.full; widest = r.widest }
 
-  pub range_filled : (s : List (List Bool)) → IsFilled (IsWithin f l) [] [] s → IsSetOf 129 (IsBetween f l) s
-  range_filled s h = set_alike 129 (IsWithin f l) (IsBetween f l) s within_between
-      (set_of_members (IsWithin f l) s
+  pub range_filled : (s : List (List Bool)) → IsFilled (IsBetweenEdges f l) [] [] s → IsSetOf 129 (IsBetween f l) s
+  range_filled s h = set_alike 129 (IsBetweenEdges f l) (IsBetween f l) s within_between
+      (set_of_members (IsBetweenEdges f l) s
       (λ a la. (
         λ c. elim ((h.covers a la).0 c) [ inl d ↦ absurd (contains_nothing d.0 d.1) | inr d ↦ d.1 ],
         λ c. (h.covers a la).1 (inr (refl, c)),
@@ -498,10 +498,10 @@ module _ (f l : List Bool) (sf : length f ≤ 129) (sl : length l ≤ 129) where
       h.ascend
       (λ x c. elim (h.each x c) [ inl d ↦ absurd (contains_nothing x d) | inr d ↦ part_member x d ]))
 
-  pub range_overfull : (room : ℕ) → IsOverfull (IsWithin f l) [] [] room → (s : List (List Bool)) → IsSetOf 129 (IsBetween f l) s
+  pub range_overfull : (room : ℕ) → IsOverfull (IsBetweenEdges f l) [] [] room → (s : List (List Bool)) → IsSetOf 129 (IsBetween f l) s
       → room < length s
   range_overfull room k s h =
-      let fit = members_fit (IsWithin f l) s k.networks
-      (set_alike 129 (IsBetween f l) (IsWithin f l) s (λ a la. ((within_between a la).1, (within_between a la).0)) h) k.ascend
+      let fit = members_fit (IsBetweenEdges f l) s k.networks
+      (set_alike 129 (IsBetween f l) (IsBetweenEdges f l) s (λ a la. ((within_between a la).1, (within_between a la).0)) h) k.ascend
       (λ x c. elim (k.each x c) [ inl d ↦ absurd (contains_nothing x d) | inr d ↦ part_member x d ]) in
       omega (arith, fit, k.over)

@@ -20,7 +20,7 @@ use Rattle.cidr_table.proofs.Order.{halves_less, less_not_itself, lower_less, no
 use Rattle.cidr_table.proofs.Reduced.{HoldNoOther, covers_more, reduced_is_least}
 use Rattle.cidr_table.proofs.Stacks.{spread_from_reduced}
 use Rattle.cidr_sets.specs.Sets.{IsComplement, IsDifference}
-use Rattle.cidr_sets.specs.Steps.{Ascend, IsBehind, IsCut, IsOver, IsRest, IsSkipped}
+use Rattle.cidr_sets.specs.Steps.{Ascend, IsBehind, IsDifferenceStep, IsOver, IsRest, IsSkipped}
 use Rattle.cidr_sets.proofs.Addresses.{set_alike}
 use Rattle.cidr_sets.proofs.Algebra.{covers_within, some_address}
 use Rattle.cidr_sets.proofs.Members.{IsMemberOf, members_fit, set_of_members}
@@ -174,7 +174,7 @@ module _ (p : List Bool) (old : List (List Bool)) (ascend : Ascend old)
       ],
     )
 
-    pub cut_same : length f ≡ length p → IsCut p old old (f ∷ s) s
+    pub cut_same : length f ≡ length p → IsDifferenceStep p old old (f ∷ s) s
     cut_same size =
         let same : p ≡ f = same_length p f inside (omega (arith, size)) in
         record {
@@ -191,7 +191,7 @@ module _ (p : List Bool) (old : List (List Bool)) (ascend : Ascend old)
           fits = λ w n. (let m = scaled (w - length p) (length s) (length (f ∷ s)) (omega arith) in omega (arith, m));
         }
 
-    pub cut_covered : length f ≢ length p → IsCut p old old (f ∷ s) (f ∷ s)
+    pub cut_covered : length f ≢ length p → IsDifferenceStep p old old (f ∷ s) (f ∷ s)
     cut_covered larger = record {
       ascend = ascend;
       before = old_before;
@@ -209,7 +209,7 @@ module _ (p : List Bool) (old : List (List Bool)) (ascend : Ascend old)
     }
 
   -- all of it, where no other has an address of it
-  pub cut_whole : (s : List (List Bool)) → ((a : List Bool) → BeginsWith a p → ¬ (Covers s a)) → IsCut p old (old ++ p ∷ []) s s
+  pub cut_whole : (s : List (List Bool)) → ((a : List Bool) → BeginsWith a p → ¬ (Covers s a)) → IsDifferenceStep p old (old ++ p ∷ []) s s
   cut_whole s none = record {
     ascend = sorted_push old p ascend before;
     before = λ k h x c. elim (Contains-push_cases old p x c) [
@@ -240,7 +240,7 @@ rest_skipped : (p : List Bool) (others left : List (List Bool)) → IsSkipped p 
 rest_skipped p others left h = rest_suffix p others left h.suffix (λ a b. (h.covers a (not_after p a b)).0)
 
 -- a network that is left whole is one too many
-pub over_whole : (p : List Bool) (old others rest : List (List Bool)) (room : ℕ) → IsCut p old (old ++ p ∷ []) others rest
+pub over_whole : (p : List Bool) (old others rest : List (List Bool)) (room : ℕ) → IsDifferenceStep p old (old ++ p ∷ []) others rest
     → room ≤ length old → IsOver p old others room
 over_whole p old others rest room k full = record {
   networks = old ++ p ∷ [];
@@ -259,7 +259,7 @@ over_skipped p old others left room h k = record {
 }
 
 pub cut_skipped : (p : List Bool) (old new others left rest : List (List Bool)) → IsSkipped p others left
-    → IsCut p old new left rest → IsCut p old new others rest
+    → IsDifferenceStep p old new left rest → IsDifferenceStep p old new others rest
 cut_skipped p old new others left rest h k = record {
   ascend = k.ascend;
   before = k.before;
@@ -299,7 +299,7 @@ module _ (p f : List Bool) (s : List (List Bool)) (inside : BeginsWith f p) (sho
     each = λ x c. elim (k.each x c) [ inl d ↦ inl d | inr d ↦ inr (rest_half p f s false inside short x d) ];
   }
 
-  module _ (old mid rest : List (List Bool)) (lo : IsCut (p ++ false ∷ []) old mid (f ∷ s) rest) where
+  module _ (old mid rest : List (List Bool)) (lo : IsDifferenceStep (p ++ false ∷ []) old mid (f ∷ s) rest) where
     -- what is left of the upper half without the rest
     halves_each : (x : List Bool) → Contains mid x ⊎ IsRest (p ++ true ∷ []) rest x → Contains old x ⊎ IsRest p (f ∷ s) x
     halves_each x (inl c) = elim (lo.each x c) [ inl d ↦ inl d | inr d ↦ inr (rest_half p f s false inside short x d) ]
@@ -315,7 +315,7 @@ module _ (p f : List Bool) (s : List (List Bool)) (inside : BeginsWith f p) (sho
     }
 
 module _ (p f : List Bool) (s old mid new rest last : List (List Bool)) (inside : BeginsWith f p) (short : length p < length f)
-    (lo : IsCut (p ++ false ∷ []) old mid (f ∷ s) rest) (up : IsCut (p ++ true ∷ []) mid new rest last) (within : length p < 129) where
+    (lo : IsDifferenceStep (p ++ false ∷ []) old mid (f ∷ s) rest) (up : IsDifferenceStep (p ++ true ∷ []) mid new rest last) (within : length p < 129) where
   fewer : length last < length (f ∷ s)
   fewer = elim (either_half f p inside short) [
     | inl b ↦ omega (arith, lo.used f refl b, up.suffix.2)
@@ -353,7 +353,7 @@ module _ (p f : List Bool) (s old mid new rest last : List (List Bool)) (inside 
           suc_times : (v t : ℕ) → (v + 1) * t ≡ v * t + t
           suc_times v t = grind arith
 
-  pub cut_halves : IsCut p old new (f ∷ s) last
+  pub cut_halves : IsDifferenceStep p old new (f ∷ s) last
   cut_halves = record {
     ascend = up.ascend;
     before = λ k h. up.before k (inner_behind p (p ++ true ∷ []) k (half_begins p true) h);
@@ -454,7 +454,7 @@ module _ (these those : List (List Bool)) where
         (λ a la b n. (h.covers a la).1 (inr ((first_or_rest p ps a).1 (inl b), n)))
 
   pub cutting_more : IsReduced 129 these → IsReduced 129 those → (p : List Bool) (ps done new left rest : List (List Bool))
-      → IsCutting done (p ∷ ps) left → IsCut p done new left rest → IsCutting new ps rest
+      → IsCutting done (p ∷ ps) left → IsDifferenceStep p done new left rest → IsCutting new ps rest
   cutting_more hs ht p ps done new left rest h k =
       let behind_first : (q a : List Bool) → Contains ps q → BeginsWith a q → IsBehind p a = λ q a c b.
       let less = first_less p ps h.ascend_todo q c in
@@ -549,7 +549,7 @@ module _ (p : List Bool) (short : length p ≤ 129) (others : List (List Bool)) 
       let one = one_reduced p short in
       cutting_none (p ∷ []) others one.ascending (spread_from_reduced 129 (p ∷ []) one).apart h.ascending
 
-  pub complement_set : (new rest : List (List Bool)) → IsCut p [] new others rest → IsComplement 129 p others new
+  pub complement_set : (new rest : List (List Bool)) → IsDifferenceStep p [] new others rest → IsComplement 129 p others new
   complement_set new rest k =
       set_alike 129 (λ a. Covers (p ∷ []) a × ¬ (Covers others a)) (λ a. BeginsWith a p × ¬ (Covers others a)) new (λ a la. alike a)
       (cutting_set (p ∷ []) others new rest (cutting_more (p ∷ []) others (one_reduced p short) h p [] [] new others rest begun k))
@@ -567,7 +567,7 @@ longer p f inside outside = elim (cases_lt (length p) (length f)) [
   | inr le ↦ absurd (outside (subst (BeginsWith p) (sym (same_length f p inside le)) (begins_itself p)))
 ]
 
-pub cut_fits : (p : List Bool) (old new others rest : List (List Bool)) → IsCut p old new others rest → length old ≡ 0
+pub cut_fits : (p : List Bool) (old new others rest : List (List Bool)) → IsDifferenceStep p old new others rest → length old ≡ 0
     → (w : ℕ) → AreNetworks w others → length new ≤ w * length others + 1
 cut_fits p old new others rest h none w n =
     omega (arith, none, h.fits w n, mul-le (w - length p) (length others) w (length others) (omega arith) (omega arith))

@@ -17,7 +17,7 @@ use Rattle.cidr_table.proofs.Reduced.{HaveNoHalves, HoldNoOther, reduced_is_leas
 use Rattle.cidr_table.proofs.Stacks.{IsSpread, last_behind, reduced_from_spread, spread_from_reduced, spread_push}
 use Rattle.cidr_sets.specs.Edits.{IsAlone, IsBeside, IsHalf, IsParted}
 use Rattle.cidr_sets.specs.Sets.{IsDifference, IsUnion}
-use Rattle.cidr_sets.specs.Steps.{Ascend, IsBehind, IsCut}
+use Rattle.cidr_sets.specs.Steps.{Ascend, IsBehind, IsDifferenceStep}
 use Rattle.cidr_sets.proofs.Algebra.{covers_within}
 use Rattle.cidr_sets.proofs.Cuts.{member_of_rest}
 use Rattle.cidr_sets.proofs.Members.{IsMemberOf, set_of_members}
@@ -342,7 +342,7 @@ module _ (s : List (List Bool)) (h : IsReduced 129 s) (p : List Bool) (short : l
 
   -- ---- without a part of q, the network that p lies in
   module _ (q : List Bool) (these those new rest : List (List Bool)) (k : IsParted s q these those) (here : Contains s q)
-      (inside : BeginsWith p q) (cut : IsCut q [] new (p ∷ []) rest) where
+      (inside : BeginsWith p q) (cut : IsDifferenceStep q [] new (p ∷ []) rest) where
     abbrev IsLeft : List Bool → Type 0
     IsLeft a = Covers s a × ¬ (Covers (p ∷ []) a)
 

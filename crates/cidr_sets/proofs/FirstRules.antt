@@ -14,7 +14,7 @@ use Rattle.cidr_table.proofs.Beginnings.{begins_decides}
 use Rattle.cidr_table.proofs.MapLaws.{contains_first, contains_later, contains_cases, contains_nothing}
 use Rattle.cidr_table.proofs.Reduced.{covers_more}
 use Rattle.cidr_sets.specs.Sets.{IsSetOf, IsUnion, IsDifference, Meets}
-use Rattle.cidr_sets.specs.FirstRules.{IsFirst, IsPermitted, IsDeciding, AreDecidingRules, IsShadowed}
+use Rattle.cidr_sets.specs.FirstRules.{IsFirstRule, IsPermitted, IsDeciding, AreDecidingRules, IsShadowed}
 use Rattle.cidr_sets.specs.declared.access.Action.{Action}
 use Rattle.cidr_sets.specs.declared.access.Action.TheVariants.{Permit, Deny}
 use Rattle.cidr_sets.proofs.Addresses.{none_reduced, set_alike, one_list}
@@ -58,16 +58,16 @@ is_permit Permit = true
 is_permit Deny = false
 
 module _ (p : List Bool) (ps : List (List Bool)) (a : List Bool) where
-  first_here : BeginsWith a p → IsFirst (p ∷ ps) a 0
+  first_here : BeginsWith a p → IsFirstRule (p ∷ ps) a 0
   first_here b = ((p, refl, b), λ c. contains_nothing c.0 c.1)
 
-  first_begins : IsFirst (p ∷ ps) a 0 → BeginsWith a p
+  first_begins : IsFirstRule (p ∷ ps) a 0 → BeginsWith a p
   first_begins h = subst (BeginsWith a) (sym (same_Some p h.0.0 h.0.1)) h.0.2
 
-  first_behind : (i : ℕ) → ¬ (BeginsWith a p) → IsFirst ps a i → IsFirst (p ∷ ps) a (suc i)
+  first_behind : (i : ℕ) → ¬ (BeginsWith a p) → IsFirstRule ps a i → IsFirstRule (p ∷ ps) a (suc i)
   first_behind i n h = (h.0, λ c. h.1 (covers_later p (take i ps) a n c))
 
-  first_before : (i : ℕ) → IsFirst (p ∷ ps) a (suc i) → (¬ (BeginsWith a p)) × IsFirst ps a i
+  first_before : (i : ℕ) → IsFirstRule (p ∷ ps) a (suc i) → (¬ (BeginsWith a p)) × IsFirstRule ps a i
   first_before i h = (
     λ b. h.1 (p, contains_first p (take i ps), b),
     (h.0, λ c. h.1 (c.0, contains_later p c.0 (take i ps) c.1, c.2)),
@@ -75,7 +75,7 @@ module _ (p : List Bool) (ps : List (List Bool)) (a : List Bool) where
 
   -- ---- one rule before the others
   module _ (acts : List Action) where
-    permits_first : (i : ℕ) → IsFirst (p ∷ ps) a i → slice_get (Permit ∷ acts) i ≡ Some Permit → IsPermitted ps acts a ⊎ BeginsWith a p
+    permits_first : (i : ℕ) → IsFirstRule (p ∷ ps) a i → slice_get (Permit ∷ acts) i ≡ Some Permit → IsPermitted ps acts a ⊎ BeginsWith a p
     permits_first zero f e = inr (first_begins f)
     permits_first (suc i) f e = inl (i, (first_before i f).1, e)
 
@@ -91,7 +91,7 @@ module _ (p : List Bool) (ps : List (List Bool)) (a : List Bool) where
       λ h. permits_first h.0 h.1 h.2,
     )
 
-    denies_first : (i : ℕ) → IsFirst (p ∷ ps) a i → slice_get (Deny ∷ acts) i ≡ Some Permit → IsPermitted ps acts a × ¬ (BeginsWith a p)
+    denies_first : (i : ℕ) → IsFirstRule (p ∷ ps) a i → slice_get (Deny ∷ acts) i ≡ Some Permit → IsPermitted ps acts a × ¬ (BeginsWith a p)
     unfolding is_permit
     denies_first zero f e = absurd (false≢true (ap is_permit (same_Some Deny Permit e)))
     denies_first (suc i) f e = let k = first_before i f in ((i, k.1, e), k.0)
@@ -345,7 +345,7 @@ pub deciding_within : (w : ℕ) (ps : List (List Bool)) (p : List Bool) (i : ℕ
 deciding_within w ps p i d = let (a, la, b, f) = d in slice_get_within ps i f.0.0 f.0.1
 
 -- ---- which rules decide the addresses of the network at i
-first_exists : (ps : List (List Bool)) (a : List Bool) → Covers ps a → (j : ℕ) × IsFirst ps a j
+first_exists : (ps : List (List Bool)) (a : List Bool) → Covers ps a → (j : ℕ) × IsFirstRule ps a j
 first_exists [] a c = absurd (contains_nothing c.0 c.1)
 first_exists (p ∷ ps) a c = elim (begins_or a p) [
   | inl b ↦ (0, first_here p ps a b)
@@ -353,7 +353,7 @@ first_exists (p ∷ ps) a c = elim (begins_or a p) [
 ]
 
 module _ (ps : List (List Bool)) (i : ℕ) (p : List Bool) (there : slice_get ps i ≡ Some p) where
-  pub some_decides : (a : List Bool) → BeginsWith a p → (j : ℕ) × IsFirst ps a j
+  pub some_decides : (a : List Bool) → BeginsWith a p → (j : ℕ) × IsFirstRule ps a j
   some_decides a b = first_exists ps a (p, (i, slice_get_within ps i p there, get_or_from_slice_get ps i p p there), b)
 
   pub earlier_decides : (w j : ℕ) → IsShadowed w ps i → IsDeciding w ps p j → j < i
@@ -362,7 +362,7 @@ module _ (ps : List (List Bool)) (i : ℕ) (p : List Bool) (there : slice_get ps
       elim (cases_lt j i) [
         | inl lt ↦ lt
         | inr le ↦ elim (cases_lt i j) [
-          | inr ge ↦ let e : j ≡ i = omega (arith, le, ge) in absurd (sh.1 a la (subst (IsFirst ps a) e f))
+          | inr ge ↦ let e : j ≡ i = omega (arith, le, ge) in absurd (sh.1 a la (subst (IsFirstRule ps a) e f))
           | inl lt ↦
               let long = slice_get_within ps i p there in
               let size : i < length (take j ps) = omega (arith, length-take j ps, lt, long) in

@@ -15,7 +15,7 @@ use Rattle.cidr_table.proofs.Beginnings.{bits_same, begins_length, begins_betwee
 use Rattle.cidr_table.proofs.Halves.{either_half}
 use Rattle.cidr_table.proofs.MapLaws.{contains_first, contains_cases, contains_nothing}
 use Rattle.cidr_table.proofs.Order.{halves_less}
-use Rattle.cidr_sets.specs.Pools.{IsFree, IsFirstFree, IsBestFree, IsSmaller, IsRoom}
+use Rattle.cidr_sets.specs.Pools.{IsFreeNetwork, IsFirstFree, IsBestFree, IsSmaller, IsRoom}
 use Rattle.cidr_sets.proofs.Addresses.{covers_by, covers_to, map_contains, map_contained}
 
 -- ---- the lowest network in another
@@ -67,11 +67,11 @@ of_one q p b = (q, contains_first q [], b)
 
 module _ (IsNetwork : List Bool → Type 0) (n : ℕ) where
   module _ (q : List Bool) where
-    pub too_long : n < length q → (p : List Bool) → ¬ (IsFree IsNetwork (q ∷ []) n p)
+    pub too_long : n < length q → (p : List Bool) → ¬ (IsFreeNetwork IsNetwork (q ∷ []) n p)
     too_long short p h = omega (arith, short, h.len, begins_length p q (in_one q p h.inside))
 
     pub too_deep : (room : ℕ) → IsRoom IsNetwork q room → 0 < length q → length q + room < n
-        → (p : List Bool) → ¬ (IsFree IsNetwork (q ∷ []) n p)
+        → (p : List Bool) → ¬ (IsFreeNetwork IsNetwork (q ∷ []) n p)
     too_deep room law some deep p h = omega (arith, deep, h.len, law p h.network some (in_one q p h.inside))
 
     pub lowest_free : (x : List Bool) → length q ≤ n → x ≡ q ++ zeros (n - length q)
@@ -96,14 +96,14 @@ module _ (IsNetwork : List Bool → Type 0) (n : ℕ) where
     ],
   )
 
-  only_upper : 0 < n → ((p : List Bool) → ¬ (IsFree IsNetwork ((false ∷ []) ∷ []) n p)) → (y : List Bool)
-      → IsFree IsNetwork ([] ∷ []) n y → IsFree IsNetwork ((true ∷ []) ∷ []) n y
+  only_upper : 0 < n → ((p : List Bool) → ¬ (IsFreeNetwork IsNetwork ((false ∷ []) ∷ []) n p)) → (y : List Bool)
+      → IsFreeNetwork IsNetwork ([] ∷ []) n y → IsFreeNetwork IsNetwork ((true ∷ []) ∷ []) n y
   only_upper some none y k = elim (either_half y [] refl (omega (arith, some, k.len))) [
     | inl b ↦ absurd (none y (record { network = k.network; len = k.len; inside = of_one (false ∷ []) y b }))
     | inr b ↦ record { network = k.network; len = k.len; inside = of_one (true ∷ []) y b }
   ]
 
-  pub in_upper : 0 < n → ((p : List Bool) → ¬ (IsFree IsNetwork ((false ∷ []) ∷ []) n p)) → (r : Option (List Bool))
+  pub in_upper : 0 < n → ((p : List Bool) → ¬ (IsFreeNetwork IsNetwork ((false ∷ []) ∷ []) n p)) → (r : Option (List Bool))
       → IsFirstFree IsNetwork ((true ∷ []) ∷ []) n r → IsFirstFree IsNetwork ([] ∷ []) n r
   in_upper some none (Some x) h = (h.0, of_one [] x refl, λ y k. h.2 y (only_upper some none y k))
   in_upper some none None h = λ y k. h y (only_upper some none y k)
@@ -120,18 +120,18 @@ module _ (IsNetwork : List Bool → Type 0) (n : ℕ) where
   module _ {C : Type 0} (f : C → List Bool) (xs : List C) where
     -- nothing is free in the first i
     abbrev pub NoneBefore : ℕ → Type 0
-    NoneBefore i = (j : ℕ) (x : C) → j < i → get_or xs j x ≡ x → (p : List Bool) → ¬ (IsFree IsNetwork (f x ∷ []) n p)
+    NoneBefore i = (j : ℕ) (x : C) → j < i → get_or xs j x ≡ x → (p : List Bool) → ¬ (IsFreeNetwork IsNetwork (f x ∷ []) n p)
 
     pub none_more : (i : ℕ) (x : C) → i < length xs → x ≡ get_or xs i x → NoneBefore i
-        → ((p : List Bool) → ¬ (IsFree IsNetwork (f x ∷ []) n p)) → NoneBefore (i + 1)
+        → ((p : List Bool) → ¬ (IsFreeNetwork IsNetwork (f x ∷ []) n p)) → NoneBefore (i + 1)
     none_more i x here is before none j y lt e = elim (cases_eq j i) [
       | inl s ↦
           let same : x ≡ y = is ∙ get_or_default xs i x y here ∙ ap (λ k. get_or xs k y) (sym s) ∙ e in
-          subst (λ z. (p : List Bool) → ¬ (IsFree IsNetwork (f z ∷ []) n p)) same none
+          subst (λ z. (p : List Bool) → ¬ (IsFreeNetwork IsNetwork (f z ∷ []) n p)) same none
       | inr d ↦ before j y (omega (arith, lt)) e
     ]
 
-    pub none_at_all : (i : ℕ) → length xs ≤ i → NoneBefore i → (p : List Bool) → ¬ (IsFree IsNetwork (map f xs) n p)
+    pub none_at_all : (i : ℕ) → length xs ≤ i → NoneBefore i → (p : List Bool) → ¬ (IsFreeNetwork IsNetwork (map f xs) n p)
     none_at_all i all none p h =
         let (x, c, b) = covers_by f xs p h.inside in
         none c.0 x (omega (arith, all, c.1)) c.2 p (record { network = h.network; len = h.len; inside = of_one (f x) p b })
@@ -165,7 +165,7 @@ module _ (IsNetwork : List Bool → Type 0) (n : ℕ) where
     -- ---- the smallest that has one
     -- of the first i networks none that has one inside is smaller than this one
     abbrev pub NoneSmaller : ℕ → List Bool → Type 0
-    NoneSmaller i b = (j : ℕ) (y : C) → j < i → get_or xs j y ≡ y → (p : List Bool) → IsFree IsNetwork (f y ∷ []) n p
+    NoneSmaller i b = (j : ℕ) (y : C) → j < i → get_or xs j y ≡ y → (p : List Bool) → IsFreeNetwork IsNetwork (f y ∷ []) n p
         → (length (f y) < length b) ⊎ ((length (f y) ≡ length b) × (bit_cmp b (f y) ≢ Greater))
 
     -- the best of the first i, with the first network inside, or none
@@ -208,13 +208,13 @@ module _ (IsNetwork : List Bool → Type 0) (n : ℕ) where
 
       -- nothing is free in this one
       pub best_kept : (old : Option (C × C)) → IsBestSoFar i old
-          → ((p : List Bool) → ¬ (IsFree IsNetwork (f x ∷ []) n p)) → IsBestSoFar (i + 1) old
+          → ((p : List Bool) → ¬ (IsFreeNetwork IsNetwork (f x ∷ []) n p)) → IsBestSoFar (i + 1) old
       best_kept None h none = none_more i x here is h none
       best_kept (Some b) h none = (
         (h.0.0, omega (arith, h.0.1), omega (arith, here), h.0.3),
         h.1,
         λ j y lt e q u. elim (cases_eq j i) [
-          | inl s ↦ absurd (subst (λ z. (p : List Bool) → ¬ (IsFree IsNetwork (f z ∷ []) n p)) (same_at j y s e) none q u)
+          | inl s ↦ absurd (subst (λ z. (p : List Bool) → ¬ (IsFreeNetwork IsNetwork (f z ∷ []) n p)) (same_at j y s e) none q u)
           | inr d ↦ h.2 j y (omega (arith, lt)) e q u
         ],
       )
@@ -263,7 +263,7 @@ module _ (IsNetwork : List Bool → Type 0) (n : ℕ) where
         tightest = λ r q c u.
             let (y, d, e) = map_contained f xs r c in
             subst (λ z. (length z < length (f b)) ⊎ ((length z ≡ length (f b)) × (bit_cmp (f b) z ≢ Greater))) e
-            (h.2 d.0 y (omega (arith, all, d.1)) d.2 q (subst (λ z. IsFree IsNetwork (z ∷ []) n q) (sym e) u));
+            (h.2 d.0 y (omega (arith, all, d.1)) d.2 q (subst (λ z. IsFreeNetwork IsNetwork (z ∷ []) n q) (sym e) u));
       },
       h.1,
     )

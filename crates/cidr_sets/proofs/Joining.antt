@@ -15,7 +15,7 @@ use Rattle.cidr_table.specs.Cover.{Covers, IsReduced}
 use Rattle.cidr_table.proofs.MapLaws.{contains_cases, contains_first, contains_later, contains_nothing}
 use Rattle.cidr_table.proofs.Order.{less_not_itself}
 use Rattle.cidr_table.proofs.Stacks.{spread_from_reduced}
-use Rattle.cidr_sets.specs.Ranges.{AreRanges, IsBetween, IsGap, IsPadded, Reaches, all_bits, join, joined, touches}
+use Rattle.cidr_sets.specs.Ranges.{AreRanges, IsBetween, IsGap, IsPadded, Reaches, all_bits, join, joined_ranges, touches}
 use Rattle.cidr_sets.proofs.Algebra.{some_address}
 use Rattle.cidr_sets.proofs.Runs.{join_apart, join_touching, joined_more, true_or}
 use Rattle.cidr_sets.proofs.Sides.{between_reaches, both_sides, edge_reaches, filled_reaches, reaches_down, reaches_up}
@@ -238,9 +238,9 @@ module _ (p : List Bool) (small : length p ≤ 129) (ps : List (List Bool)) wher
 
 are_joined : (ps : List (List Bool))
     → ((i : ℕ) (p q : List Bool) → slice_get ps i ≡ Some p → slice_get ps (suc i) ≡ Some q → IsNext p q)
-    → ((p : List Bool) → Contains ps p → length p ≤ 129) → AreJoined ps (joined ps)
+    → ((p : List Bool) → Contains ps p → length p ≤ 129) → AreJoined ps (joined_ranges ps)
 are_joined [] spread short =
-    let e : joined [] ≡ [] = unfold joined in refl in
+    let e : joined_ranges [] ≡ [] = unfold joined_ranges in refl in
     subst (AreJoined []) (sym e) (record {
       exact = λ a la. (λ c. absurd (contains_nothing c.0 c.1), λ c. absurd (contains_nothing c.0 c.1));
       short = λ r c. absurd (contains_nothing r c);
@@ -250,7 +250,7 @@ are_joined [] spread short =
     })
 are_joined (p ∷ ps) spread short =
     subst (AreJoined (p ∷ ps)) (sym (joined_more p ps))
-    (step p (short p (contains_first p ps)) ps (joined ps) (λ q e. spread zero p q refl e)
+    (step p (short p (contains_first p ps)) ps (joined_ranges ps) (λ q e. spread zero p q refl e)
     (are_joined ps (λ i. spread (suc i)) (λ q c. short q (contains_later p q ps c))))
 
 -- ---- as addresses
@@ -345,8 +345,8 @@ module _ (F L : List Bool → List Bool) (law : (p : List Bool) → length p ≤
       )
 
   pub ranges_of_reduced : (ps : List (List Bool)) → IsReduced 129 ps
-      → AreRanges 129 (Covers ps) (map (λ (r : List Bool × List Bool). (F r.0, L r.1)) (joined ps))
-  ranges_of_reduced ps h = ranges_from ps (joined ps) (are_joined ps
+      → AreRanges 129 (Covers ps) (map (λ (r : List Bool × List Bool). (F r.0, L r.1)) (joined_ranges ps))
+  ranges_of_reduced ps h = ranges_from ps (joined_ranges ps) (are_joined ps
       (λ i p q e k.
       let within = slice_get_within ps (suc i) q k in
       let at_p = get_or_from_slice_get ps i p [] e in
@@ -361,8 +361,8 @@ module _ (F L : List Bool → List Bool) (law : (p : List Bool) → length p ≤
 -- ---- the ranges that are left
 module _ {C : Type 0} (F L : List Bool → List Bool) (g : C → List Bool) where
   pub no_ranges : (xs : List C) → length xs ≡ 0
-      → map {B = List Bool × List Bool} (λ (r : List Bool × List Bool). (F r.0, L r.1)) (joined (map g xs)) ≡ []
-  no_ranges [] e = unfold joined in refl
+      → map {B = List Bool × List Bool} (λ (r : List Bool × List Bool). (F r.0, L r.1)) (joined_ranges (map g xs)) ≡ []
+  no_ranges [] e = unfold joined_ranges in refl
   no_ranges (x ∷ xs) e = absurd (omega (arith, e))
 
 pub nothing : {X : Type 0} (xs : List X) → length xs ≡ 0 → xs ≡ []

@@ -13,7 +13,7 @@ use Rattle.cidr_table.specs.Cover.{Covers, parent}
 use Rattle.cidr_table.proofs.Beginnings.{begins_first, begins_length}
 use Rattle.cidr_table.proofs.Halves.{begins_begins, begins_both, begins_itself, parent_begins}
 use Rattle.cidr_table.proofs.MapLaws.{contains_cases, contains_first, contains_later, contains_nothing}
-use Rattle.cidr_sets.specs.Ranges.{AreBeginless, AreComplete, AreRanges, HaveEnds, IsBetween, IsGap, IsPadded, Reaches, join, joined, touches}
+use Rattle.cidr_sets.specs.Ranges.{AreBeginless, AreComplete, AreRanges, HaveEnds, IsBetween, IsGap, IsPadded, Reaches, join, joined_ranges, touches}
 use Rattle.cidr_sets.specs.Sets.{IsSetOf}
 use Rattle.cidr_sets.proofs.Algebra.{some_address}
 use Rattle.cidr_sets.proofs.Joining.{contained_map, pad}
@@ -255,11 +255,11 @@ join_of p ps (x ∷ rs) h r c = elim (true_or (touches p x.0)) [
   ]
 ]
 
-joined_of : (ps : List (List Bool)) (r : List Bool × List Bool) → Contains (joined ps) r → AreOf ps r
+joined_of : (ps : List (List Bool)) (r : List Bool × List Bool) → Contains (joined_ranges ps) r → AreOf ps r
 joined_of [] r c =
-    let is : joined [] ≡ [] = unfold joined in refl in
+    let is : joined_ranges [] ≡ [] = unfold joined_ranges in refl in
     absurd (contains_nothing r (subst (λ xs. Contains xs r) is c))
-joined_of (p ∷ ps) r c = join_of p ps (joined ps) (joined_of ps) r (subst (λ xs. Contains xs r) (joined_more p ps) c)
+joined_of (p ∷ ps) r c = join_of p ps (joined_ranges ps) (joined_of ps) r (subst (λ xs. Contains xs r) (joined_more p ps) c)
 
 -- what begins with an address is on one side of another one
 one_side : (up : Bool) (e x a b : List Bool) → (BeginsWith e x → BeginsWith x e) → BeginsWith a x → BeginsWith b x → Reaches up e a → Reaches up e b
@@ -323,13 +323,13 @@ module _ (IsAddress : List Bool → Type 0) (beginless : AreBeginless IsAddress)
 
     pub range_alone : (F L : List Bool → List Bool) → HaveEnds IsAddress F L
         → ((p : List Bool) → length p ≤ 129 → IsPadded false p (F p) × IsPadded true p (L p)) → bit_cmp first last ≢ Greater
-        → AreRanges 129 (Covers s) (map {B = List Bool × List Bool} (λ (r : List Bool × List Bool). (F r.0, L r.1)) (joined s))
-        → map {B = List Bool × List Bool} (λ (r : List Bool × List Bool). (F r.0, L r.1)) (joined s) ≡ (first, last) ∷ []
+        → AreRanges 129 (Covers s) (map {B = List Bool × List Bool} (λ (r : List Bool × List Bool). (F r.0, L r.1)) (joined_ranges s))
+        → map {B = List Bool × List Bool} (λ (r : List Bool × List Bool). (F r.0, L r.1)) (joined_ranges s) ≡ (first, last) ∷ []
     range_alone F L inner law ordered ranges =
         let ends : List Bool × List Bool → List Bool × List Bool = λ r. (F r.0, L r.1) in
-        let rs = map ends (joined s) in
+        let rs = map ends (joined_ranges s) in
         let addresses : (r : List Bool × List Bool) → Contains rs r → IsAddress r.0 × IsAddress r.1 = λ r c.
-        let (x, d, e) = contained_map ends (joined s) r c in
+        let (x, d, e) = contained_map ends (joined_ranges s) r c in
         let k = joined_of s x d in
         let (a, aa, ba) = has_address x.0 k.0 in
         let (b, ab, bb) = has_address x.1 k.1 in

@@ -7,7 +7,7 @@ use Rattle.std.specs.List.{slice_get}
 use Rattle.cidr.specs.model.BitString.{IsSharedLength}
 use Rattle.cidr.specs.model.Network.{BeginsWith}
 use Rattle.cidr_table.proofs.Halves.{length_half, next_bit, same_length}
-use Rattle.cidr_sets.specs.Ranges.{all_bits, join, joined, touches}
+use Rattle.cidr_sets.specs.Ranges.{all_bits, join, joined_ranges, touches}
 
 -- ---- whether no address is between two networks
 kept : (b : Bool) (t : List Bool) → all_bits b (b ∷ t) ≡ all_bits b t
@@ -135,33 +135,33 @@ join_begins p (r ∷ rs) = elim (true_or (touches p r.0)) [
   | inr e ↦ (p, r ∷ rs, join_apart p r rs e)
 ]
 
-pub joined_more : (p : List Bool) (ps : List (List Bool)) → joined (p ∷ ps) ≡ join p (joined ps)
-joined_more p ps = unfold joined in refl
+pub joined_more : (p : List Bool) (ps : List (List Bool)) → joined_ranges (p ∷ ps) ≡ join p (joined_ranges ps)
+joined_more p ps = unfold joined_ranges in refl
 
-pub begun_self : (p : List Bool) (ps : List (List Bool)) → joined (p ∷ ps) ≡ begun p (joined (p ∷ ps))
+pub begun_self : (p : List Bool) (ps : List (List Bool)) → joined_ranges (p ∷ ps) ≡ begun p (joined_ranges (p ∷ ps))
 begun_self p ps =
-    let (l, t, e) = join_begins p (joined ps) in
-    let is : joined (p ∷ ps) ≡ (p, l) ∷ t = joined_more p ps ∙ e in
-    let here : begun p (joined (p ∷ ps)) ≡ (p, l) ∷ t = ap (begun p) is ∙ (unfold begun in refl) in
+    let (l, t, e) = join_begins p (joined_ranges ps) in
+    let is : joined_ranges (p ∷ ps) ≡ (p, l) ∷ t = joined_more p ps ∙ e in
+    let here : begun p (joined_ranges (p ∷ ps)) ≡ (p, l) ∷ t = ap (begun p) is ∙ (unfold begun in refl) in
     is ∙ sym here
 
 pub begun_more : (f l n : List Bool) (ps : List (List Bool)) → touches l n ≡ true
-    → begun f (joined (l ∷ n ∷ ps)) ≡ begun f (joined (n ∷ ps))
+    → begun f (joined_ranges (l ∷ n ∷ ps)) ≡ begun f (joined_ranges (n ∷ ps))
 begun_more f l n ps touching =
-    let (k, t, e) = join_begins n (joined ps) in
-    let next : joined (n ∷ ps) ≡ (n, k) ∷ t = joined_more n ps ∙ e in
-    let all : joined (l ∷ n ∷ ps) ≡ (l, k) ∷ t = joined_more l (n ∷ ps) ∙ ap (join l) next ∙ join_touching l (n, k) t touching in
+    let (k, t, e) = join_begins n (joined_ranges ps) in
+    let next : joined_ranges (n ∷ ps) ≡ (n, k) ∷ t = joined_more n ps ∙ e in
+    let all : joined_ranges (l ∷ n ∷ ps) ≡ (l, k) ∷ t = joined_more l (n ∷ ps) ∙ ap (join l) next ∙ join_touching l (n, k) t touching in
     let same : begun f ((l, k) ∷ t) ≡ begun f ((n, k) ∷ t) = unfold begun in refl in
     ap (begun f) all ∙ same ∙ sym (ap (begun f) next)
 
 pub begun_end : (f l n : List Bool) (ps : List (List Bool)) → touches l n ≡ false
-    → begun f (joined (l ∷ n ∷ ps)) ≡ (f, l) ∷ joined (n ∷ ps)
+    → begun f (joined_ranges (l ∷ n ∷ ps)) ≡ (f, l) ∷ joined_ranges (n ∷ ps)
 begun_end f l n ps apart =
-    let (k, t, e) = join_begins n (joined ps) in
-    let next : joined (n ∷ ps) ≡ (n, k) ∷ t = joined_more n ps ∙ e in
-    let all : joined (l ∷ n ∷ ps) ≡ (l, l) ∷ (n, k) ∷ t = joined_more l (n ∷ ps) ∙ ap (join l) next ∙ join_apart l (n, k) t apart in
+    let (k, t, e) = join_begins n (joined_ranges ps) in
+    let next : joined_ranges (n ∷ ps) ≡ (n, k) ∷ t = joined_more n ps ∙ e in
+    let all : joined_ranges (l ∷ n ∷ ps) ≡ (l, l) ∷ (n, k) ∷ t = joined_more l (n ∷ ps) ∙ ap (join l) next ∙ join_apart l (n, k) t apart in
     let first : begun f ((l, l) ∷ (n, k) ∷ t) ≡ (f, l) ∷ (n, k) ∷ t = unfold begun in refl in
     ap (begun f) all ∙ first ∙ ap (λ x. (f, l) ∷ x) (sym next)
 
-pub begun_last : (f l : List Bool) → begun f (joined (l ∷ [])) ≡ (f, l) ∷ joined []
-begun_last f l = unfold begun in unfold joined in unfold join in refl
+pub begun_last : (f l : List Bool) → begun f (joined_ranges (l ∷ [])) ≡ (f, l) ∷ joined_ranges []
+begun_last f l = unfold begun in unfold joined_ranges in unfold join in refl

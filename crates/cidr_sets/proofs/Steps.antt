@@ -22,7 +22,7 @@ use Rattle.cidr_table.proofs.Members.{key_full}
 use Rattle.cidr_table.proofs.Order.{not_both}
 use Rattle.cidr_table.proofs.Reduced.{covers_more}
 use Rattle.cidr_sets.specs.Sets.{IsIntersection}
-use Rattle.cidr_sets.specs.Steps.{Ascend, IsIn, IsNext, IsShared}
+use Rattle.cidr_sets.specs.Steps.{Ascend, BeginsWithSome, IsUnionStep, IsIntersectionStep}
 use Rattle.cidr_sets.proofs.Algebra.{covers_within}
 use Rattle.cidr_sets.proofs.Members.{all_members}
 
@@ -63,7 +63,7 @@ one_ascends p = (tt, tt)
 
 -- ---- the first network of two lists
 module _ (p : List Bool) (ps : List (List Bool)) (hp : Ascend (p ∷ ps)) where
-  pub next_alone : IsNext (p ∷ ps) [] p ps []
+  pub next_alone : IsUnionStep (p ∷ ps) [] p ps []
   next_alone = record {
     covers = λ a. (
       λ c. elim c [
@@ -86,7 +86,7 @@ module _ (p : List Bool) (ps : List (List Bool)) (hp : Ascend (p ∷ ps)) where
   }
 
   module _ (q : List Bool) (qs : List (List Bool)) (hq : Ascend (q ∷ qs)) where
-    pub next_first : bit_cmp p q ≡ Less → IsNext (p ∷ ps) (q ∷ qs) p ps (q ∷ qs)
+    pub next_first : bit_cmp p q ≡ Less → IsUnionStep (p ∷ ps) (q ∷ qs) p ps (q ∷ qs)
     next_first less = record {
       covers = λ a. (
         λ c. elim c [
@@ -111,7 +111,7 @@ module _ (p : List Bool) (ps : List (List Bool)) (hp : Ascend (p ∷ ps)) where
       fewer = omega arith;
     }
 
-    pub next_both : p ≡ q → IsNext (p ∷ ps) (q ∷ qs) p ps qs
+    pub next_both : p ≡ q → IsUnionStep (p ∷ ps) (q ∷ qs) p ps qs
     next_both same = record {
       covers = λ a. (
         λ c. elim c [
@@ -137,7 +137,7 @@ module _ (p : List Bool) (ps : List (List Bool)) (hp : Ascend (p ∷ ps)) where
     }
 
     -- ---- the network that lies in the other
-    pub shared_first : BeginsWith p q → IsShared (p ∷ ps) (q ∷ qs) (Some p) ps (q ∷ qs)
+    pub shared_first : BeginsWith p q → IsIntersectionStep (p ∷ ps) (q ∷ qs) (Some p) ps (q ∷ qs)
     shared_first inside = record {
       covers = λ a. (
         λ c. elim ((first_or_rest p ps a).0 c.0) [ inl b ↦ inl b | inr d ↦ inr (d, c.1) ],
@@ -179,7 +179,7 @@ module _ (p : List Bool) (ps : List (List Bool)) (hp : Ascend (p ∷ ps)) where
     ]
 
     pub shared_none : ¬ (BeginsWith p q) → ¬ (BeginsWith q p) → bit_cmp p q ≡ Less
-        → IsShared (p ∷ ps) (q ∷ qs) None ps (q ∷ qs)
+        → IsIntersectionStep (p ∷ ps) (q ∷ qs) None ps (q ∷ qs)
     shared_none n m less =
         let apart = apart_from n m less in
         record {
@@ -205,7 +205,7 @@ module _ (p : List Bool) (ps : List (List Bool)) (hp : Ascend (p ∷ ps)) where
         by_order Equal e = absurd (m (subst (BeginsWith q) (sym (bits_exact p q e)) (begins_itself q)))
         by_order Greater e = turned p q e
 
-pub next_swap : (ls rs : List (List Bool)) (x : List Bool) (bs us : List (List Bool)) → IsNext ls rs x bs us → IsNext rs ls x us bs
+pub next_swap : (ls rs : List (List Bool)) (x : List Bool) (bs us : List (List Bool)) → IsUnionStep ls rs x bs us → IsUnionStep rs ls x us bs
 next_swap ls rs x bs us h = record {
   covers = λ a. (
     λ c. elim ((h.covers a).0 (swap c)) [ inl b ↦ inl b | inr d ↦ inr (swap d) ],
@@ -225,7 +225,7 @@ next_swap ls rs x bs us h = record {
     swap (inl p) = inr p
     swap (inr q) = inl q
 
-pub shared_swap : (ls rs : List (List Bool)) (x : Option (List Bool)) (bs us : List (List Bool)) → IsShared ls rs x bs us → IsShared rs ls x us bs
+pub shared_swap : (ls rs : List (List Bool)) (x : Option (List Bool)) (bs us : List (List Bool)) → IsIntersectionStep ls rs x bs us → IsIntersectionStep rs ls x us bs
 shared_swap ls rs x bs us h = record {
   covers = λ a. (
     λ c. elim ((h.covers a).0 (c.1, c.0)) [ inl b ↦ inl b | inr d ↦ inr (d.1, d.0) ],
@@ -265,7 +265,7 @@ module _ (these those : List (List Bool)) where
   }
 
   pub merged_more : (n : ℕ) (done left right bs us : List (List Bool)) (x : List Bool) → IsMerged n done left right
-      → IsNext left right x bs us → IsMerged (n + 1) (done ++ x ∷ []) bs us
+      → IsUnionStep left right x bs us → IsMerged (n + 1) (done ++ x ∷ []) bs us
   merged_more n done left right bs us x h k = record {
     covers = λ a. (
       λ c. elim ((h.covers a).0 c) [
@@ -336,7 +336,7 @@ module _ (these those : List (List Bool)) where
     within_right : (k : (y : List Bool) → Contains us y → Contains right y) (a : List Bool) → Covers us a → Covers right a
     within_right k a c = (c.0, k c.0 c.1, c.2)
 
-    pub sharing_more : (x : List Bool) → IsShared left right (Some x) bs us → IsSharing (n + 1) (done ++ x ∷ []) bs us
+    pub sharing_more : (x : List Bool) → IsIntersectionStep left right (Some x) bs us → IsSharing (n + 1) (done ++ x ∷ []) bs us
     sharing_more x k =
         let own = (k.covers x).1 (inl (begins_itself x)) in
         record {
@@ -370,12 +370,12 @@ module _ (these those : List (List Bool)) where
           some = λ lt. k.some;
         }
 
-    pub sharing_same : (x : Option (List Bool)) → x ≡ None → IsShared left right x bs us → IsSharing n done bs us
+    pub sharing_same : (x : Option (List Bool)) → x ≡ None → IsIntersectionStep left right x bs us → IsSharing n done bs us
     sharing_same x none k = record {
       covers = λ a. (
         λ c. elim ((h.covers a).0 c) [
           | inl d ↦ inl d
-          | inr d ↦ elim ((k.covers a).0 d) [ inl b ↦ absurd (subst (λ o. IsIn o a) none b) | inr e ↦ inr e ]
+          | inr d ↦ elim ((k.covers a).0 d) [ inl b ↦ absurd (subst (λ o. BeginsWithSome o a) none b) | inr e ↦ inr e ]
         ],
         λ c. (h.covers a).1 (elim c [ inl d ↦ inl d | inr d ↦ inr ((k.covers a).1 (inr d)) ]),
       );

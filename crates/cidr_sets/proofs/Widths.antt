@@ -7,12 +7,12 @@ use Rattle.std.proofs.lemmas.Option.{slice_get_within, get_or_from_slice_get}
 use Rattle.std.specs.List.{Contains}
 use Rattle.cidr.specs.model.Network.{BeginsWith}
 use Rattle.cidr_table.specs.Cover.{AreNetworks, Covers, IsReduced}
-use Rattle.cidr_table.specs.CoverAddresses.{AreIpNetworks, IsIpAddress, IsIpNetwork}
+use Rattle.cidr_table.specs.CoverAddresses.{AreIpNetworks, IsIpAddressBits, IsIpNetworkBits}
 use Rattle.cidr_table.proofs.Beginnings.{begins_first, begins_length}
 use Rattle.cidr_table.proofs.Halves.{begins_begins, begins_both, begins_itself}
 use Rattle.cidr_table.proofs.Members.{one_member}
 use Rattle.cidr_table.proofs.Stacks.{reduced_from_spread, spread_from_reduced}
-use Rattle.cidr_sets.specs.FirstRules.{IsFirst, IsPermitted}
+use Rattle.cidr_sets.specs.FirstRules.{IsFirstRule, IsPermitted}
 use Rattle.cidr_sets.specs.Sets.{IsSetOf}
 use Rattle.cidr_sets.specs.declared.access.Action.{Action}
 use Rattle.cidr_sets.proofs.Addresses.{covers_from_full}
@@ -43,7 +43,7 @@ module _ (networks : List (List Bool)) (a : List Bool) (none : SplitNone network
     | inl lt ↦ begins_both b a p h k (none p c (begins_both b p a k h (omega (arith, lt))))
   ]
 
-  first_alike : (b : List Bool) → BeginsWith b a → (i : ℕ) → IsFirst networks b i ↔ IsFirst networks a i
+  first_alike : (b : List Bool) → BeginsWith b a → (i : ℕ) → IsFirstRule networks b i ↔ IsFirstRule networks a i
   first_alike b h i = (
     λ f.
         let there : Contains networks f.0.0 = (i, slice_get_within networks i f.0.0 f.0.1, get_or_from_slice_get networks i f.0.0 f.0.0 f.0.1) in (
@@ -107,12 +107,12 @@ module _ (w v : ℕ) (networks set : List (List Bool)) (actions : List Action) (
   permitted_at = record { reduced = reduced_at w v set s.reduced set_short; exact = exact_at }
 
 -- ---- addresses of both families
-ip_short : (a : List Bool) → IsIpAddress a → length a ≤ 129
+ip_short : (a : List Bool) → IsIpAddressBits a → length a ≤ 129
 ip_short [] h = absurd h
 ip_short (false ∷ a) h = omega (arith, h)
 ip_short (true ∷ a) h = omega (arith, h)
 
-ip_whole : (a p : List Bool) → IsIpAddress a → IsIpNetwork p → BeginsWith p a → length p ≤ length a
+ip_whole : (a p : List Bool) → IsIpAddressBits a → IsIpNetworkBits p → BeginsWith p a → length p ≤ length a
 ip_whole [] p h n b = absurd h
 ip_whole (x ∷ a) [] h n b = omega arith
 ip_whole (false ∷ a) (false ∷ p) h n b = omega (arith, h, n)
@@ -121,7 +121,7 @@ ip_whole (false ∷ a) (true ∷ p) h n b = absurd (true≢false (ap (λ t. get_
 ip_whole (true ∷ a) (false ∷ p) h n b = absurd (false≢true (ap (λ t. get_or t 0 true) b))
 
 pub permitted_ip : (networks set : List (List Bool)) (actions : List Action) → AreIpNetworks networks
-    → IsSetOf 129 (IsPermitted networks actions) set → (a : List Bool) → IsIpAddress a
+    → IsSetOf 129 (IsPermitted networks actions) set → (a : List Bool) → IsIpAddressBits a
     → Covers set a ↔ IsPermitted networks actions a
 permitted_ip networks set actions short s a h =
     permitted_exactly networks a (λ p c b. ip_whole a p h (short p c) b) 129 actions set s (ip_short a h)

@@ -10,18 +10,18 @@ numbered w None = []
 numbered w (Some (first, last)) = map (bits w) (range_with_len first (last + 1 - first))
 
 -- both are numbers of addresses, and the first is not above the last
-abbrev pub AreEnds : ℕ → Option (ℕ × ℕ) → Type 0
-AreEnds w ends = IfSome ends (λ e. (e.0 ≤ e.1) × (e.1 < 2 ^ w))
+abbrev pub AreEndNumbers : ℕ → Option (ℕ × ℕ) → Type 0
+AreEndNumbers w ends = IfSome ends (λ e. (e.0 ≤ e.1) × (e.1 < 2 ^ w))
 
 -- the numbers of the first and the last address of a network, or none where it has more bits than an address
 abbrev pub ends_of : ℕ → List Bool → Option (ℕ × ℕ)
 ends_of w p = if nat_le (length p) w then Some (number (first_of w p), number (last_of w p)) else None
 
 -- those of one network after the other
-abbrev pub addresses_of : ℕ → List (List Bool) → List (List Bool)
-addresses_of w [] = []
-addresses_of w (p ∷ networks) = numbered w (ends_of w p) ++ addresses_of w networks
+abbrev pub addresses_in : ℕ → List (List Bool) → List (List Bool)
+addresses_in w [] = []
+addresses_in w (p ∷ networks) = numbered w (ends_of w p) ++ addresses_in w networks
 
 -- what is left of a network at the front, then of whole networks, and then of a network at the back
 abbrev pub left_of : ℕ → Option (ℕ × ℕ) → List (List Bool) → Option (ℕ × ℕ) → List (List Bool)
-left_of w front networks back = numbered w front ++ (addresses_of w networks ++ numbered w back)
+left_of w front networks back = numbered w front ++ (addresses_in w networks ++ numbered w back)

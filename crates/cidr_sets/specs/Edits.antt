@@ -4,7 +4,7 @@ use Rattle.std.specs.List.{Contains}
 use Rattle.std.specs.declared.cmp.Ordering.TheVariants.{Less}
 use Rattle.cidr.specs.model.Bits.{bit_cmp}
 use Rattle.cidr.specs.model.Network.{BeginsWith}
-use Rattle.cidr_table.specs.CoverStack.{AreHalves}
+use Rattle.cidr_table.specs.CoverStack.{AreHalvesInOrder}
 use Rattle.cidr_sets.specs.Steps.{Ascend, IsBehind}
 
 -- of the networks of s these come before p and those behind all that begins with it; the others lie in p
@@ -30,5 +30,5 @@ IsBeside r these those fewer rest =
 -- neither the last of these nor the first of those is the other half of a network that q is a half of
 abbrev pub IsAlone : List Bool → List (List Bool) → List (List Bool) → Type 0
 IsAlone q these those =
-    ((front : List (List Bool)) (x : List Bool) → these ≡ front ++ x ∷ [] → ¬ (AreHalves x q))
-    × ((x : List Bool) (rest : List (List Bool)) → those ≡ x ∷ rest → ¬ (AreHalves q x))
+    ((front : List (List Bool)) (x : List Bool) → these ≡ front ++ x ∷ [] → ¬ (AreHalvesInOrder x q))
+    × ((x : List Bool) (rest : List (List Bool)) → those ≡ x ∷ rest → ¬ (AreHalvesInOrder q x))

@@ -4,13 +4,13 @@ use Rattle.cidr.specs.model.Network.{FitsWidth}
 use Rattle.cidr.specs.either.IpNetwork.{any_bits, any_room}
 use Rattle.cidr.specs.declared.cidr.any.AnyIpCidr.{AnyIpCidr}
 use Rattle.cidr.specs.declared.cidr.any.AnyIpCidr.TheVariants.{Any, V4, V6}
-use Rattle.cidr_table.specs.CoverAddresses.{IsIpNetwork}
+use Rattle.cidr_table.specs.CoverAddresses.{IsIpNetworkBits}
 use Rattle.cidr_sets.specs.Pools.{IsRoom}
 
 pub plain_room : (w : ℕ) (q : List Bool) → IsRoom (FitsWidth w) q (w - length q)
 plain_room w q p h s b = omega (arith, h)
 
-pub any_room_exact : (q : AnyIpCidr) → IsRoom IsIpNetwork (any_bits q) (any_room q)
+pub any_room_exact : (q : AnyIpCidr) → IsRoom IsIpNetworkBits (any_bits q) (any_room q)
 any_room_exact Any p h s b = absurd (omega (arith, s))
 any_room_exact (V4 q) [] h s b = omega arith
 any_room_exact (V4 q) (false ∷ p) h s b = omega (arith, h)

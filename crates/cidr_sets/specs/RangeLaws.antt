@@ -3,13 +3,13 @@ use Rattle.std.proofs.Common.{◌≡◌, ℕ, ◌-◌, ◌≤◌, Bool, true, fa
 use Rattle.std.proofs.lemmas.Bool.{false≢true, true≢false}
 use Rattle.std.proofs.lemmas.List.{length-replicate, length-take, length-take-le, take_all}
 use Rattle.cidr.specs.model.Network.{HasWidth, first_of, last_of}
-use Rattle.cidr_table.specs.CoverAddresses.{IsIpAddress}
+use Rattle.cidr_table.specs.CoverAddresses.{IsIpAddressBits}
 use Rattle.cidr_sets.specs.Ranges.{AreBeginless, AreComplete, HaveEnds, IsPadded, any_first, any_last}
 
 pub plain_beginless : (w : ℕ) → AreBeginless (HasWidth w)
 plain_beginless w a b ha hb h = sym (take_all (length b) a (omega (arith, ha, hb))) ∙ h
 
-pub ip_beginless : AreBeginless IsIpAddress
+pub ip_beginless : AreBeginless IsIpAddressBits
 ip_beginless [] b ha hb h = absurd ha
 ip_beginless (x ∷ a) [] ha hb h = absurd hb
 ip_beginless (false ∷ a) (false ∷ b) ha hb h = ap (λ t. false ∷ t) (plain_beginless 32 a b ha hb (ap (drop 1) h))
@@ -22,7 +22,7 @@ plain_complete w fits a la =
     let len : length (take w a) ≡ w = length-take-le w a (omega (arith, la, fits)) in
     (take w a, len, ap (λ k. take k a) len)
 
-pub ip_complete : AreComplete IsIpAddress
+pub ip_complete : AreComplete IsIpAddressBits
 ip_complete [] la = absurd (omega (arith, la))
 ip_complete (false ∷ a) la =
     let len : length (take 32 a) ≡ 32 = length-take-le 32 a (omega (arith, la)) in
@@ -44,7 +44,7 @@ plain_inside w p a la b =
       omega (arith, length-append p (replicate (w - length p) true), length-replicate (w - length p) true, short),
     )
 
-pub any_inside : HaveEnds IsIpAddress any_first any_last
+pub any_inside : HaveEnds IsIpAddressBits any_first any_last
 any_inside [] a h b = (refl, refl)
 any_inside (x ∷ p) [] h b = absurd h
 any_inside (false ∷ p) (false ∷ a) h b = plain_inside 32 p a h (ap (drop 1) b)

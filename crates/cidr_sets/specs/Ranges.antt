@@ -86,9 +86,9 @@ unfoldable pub join : List Bool → List (List Bool × List Bool) → List (List
 join p [] = (p, p) ∷ []
 join p (r ∷ rs) = if touches p r.0 then (p, r.1) ∷ rs else (p, p) ∷ r ∷ rs
 
-unfoldable pub joined : List (List Bool) → List (List Bool × List Bool)
-joined [] = []
-joined (p ∷ ps) = join p (joined ps)
+unfoldable pub joined_ranges : List (List Bool) → List (List Bool × List Bool)
+joined_ranges [] = []
+joined_ranges (p ∷ ps) = join p (joined_ranges ps)
 
 -- ---- how the addresses of a network lie to an edge: the first of a range with the bit false, or the last with true
 -- none is in the range: 0; all are: 1; not all are, and the edge has this many bits behind the network's: one more
@@ -110,8 +110,8 @@ most (suc (suc m)) (suc zero) = suc m
 most (suc (suc m)) (suc (suc k)) = m + k
 
 -- the list is on the side of both edges
-abbrev pub IsWithin : List Bool → List Bool → List Bool → Type 0
-IsWithin first last a = Reaches true first a × Reaches false last a
+abbrev pub IsBetweenEdges : List Bool → List Bool → List Bool → Type 0
+IsBetweenEdges first last a = Reaches true first a × Reaches false last a
 
 -- a network whose addresses are all in the set, and not all of its parent, if it isn't p itself
 pub record IsPart (IsIn : List Bool → Type 0) (p x : List Bool) : Type 0 where

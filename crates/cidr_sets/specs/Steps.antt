@@ -11,7 +11,7 @@ abbrev pub Ascend : List (List Bool) → Type 0
 Ascend = IsStrictlySortedBy bit_cmp
 
 -- x is the first network of both lists, and behind it these are left
-pub record IsNext (ls rs : List (List Bool)) (x : List Bool) (bs us : List (List Bool)) : Type 0 where
+pub record IsUnionStep (ls rs : List (List Bool)) (x : List Bool) (bs us : List (List Bool)) : Type 0 where
   pub covers : (a : List Bool) → (Covers ls a ⊎ Covers rs a) ↔ (BeginsWith a x ⊎ (Covers bs a ⊎ Covers us a))
   pub here : Contains ls x ⊎ Contains rs x
   pub kept_left : (y : List Bool) → Contains bs y → Contains ls y
@@ -23,13 +23,13 @@ pub record IsNext (ls rs : List (List Bool)) (x : List Bool) (bs us : List (List
   pub fewer : length bs + length us < length ls + length rs
 
 -- the list begins with the network, if there is one
-abbrev pub IsIn : Option (List Bool) → List Bool → Type 0
-IsIn None a = ⊥
-IsIn (Some p) a = BeginsWith a p
+abbrev pub BeginsWithSome : Option (List Bool) → List Bool → Type 0
+BeginsWithSome None a = ⊥
+BeginsWithSome (Some p) a = BeginsWith a p
 
 -- what both lists have are the addresses of x, if it is one, and those that both have of what is left
-pub record IsShared (ls rs : List (List Bool)) (x : Option (List Bool)) (bs us : List (List Bool)) : Type 0 where
-  pub covers : (a : List Bool) → (Covers ls a × Covers rs a) ↔ (IsIn x a ⊎ (Covers bs a × Covers us a))
+pub record IsIntersectionStep (ls rs : List (List Bool)) (x : Option (List Bool)) (bs us : List (List Bool)) : Type 0 where
+  pub covers : (a : List Bool) → (Covers ls a × Covers rs a) ↔ (BeginsWithSome x a ⊎ (Covers bs a × Covers us a))
   pub here : (p : List Bool) → x ≡ Some p → Contains ls p ⊎ Contains rs p
   pub kept_left : (y : List Bool) → Contains bs y → Contains ls y
   pub kept_right : (y : List Bool) → Contains us y → Contains rs y
@@ -63,7 +63,7 @@ pub record IsOver (p : List Bool) (old others : List (List Bool)) (room : ℕ) :
   pub each : (x : List Bool) → Contains networks x → Contains old x ⊎ IsRest p others x
 
 -- behind the old networks stand those of the addresses of p that the others have not, and of the others the rest is left
-pub record IsCut (p : List Bool) (old new others rest : List (List Bool)) : Type 0 where
+pub record IsDifferenceStep (p : List Bool) (old new others rest : List (List Bool)) : Type 0 where
   pub ascend : Ascend new
   pub before : (k : List Bool) → IsBehind p k → (x : List Bool) → Contains new x → bit_cmp x k ≡ Less
   pub covers : (a : List Bool) → length a ≡ 129

@@ -5,7 +5,7 @@ ghost use Rattle.std.specs.List.{All, slice_get};
 ghost use Rattle.std.specs.List.Sorted.{IsStrictlyIncreasing};
 ghost use Rattle.cidr.specs.model.Network.{BeginsWith};
 ghost use Rattle.cidr_sets.specs.Sets.{IsSetOf};
-ghost use Rattle.cidr_sets.specs.FirstRules.{IsFirst, IsPermitted, IsDeciding, AreDecidingRules, IsShadowed};
+ghost use Rattle.cidr_sets.specs.FirstRules.{IsFirstRule, IsPermitted, IsDeciding, AreDecidingRules, IsShadowed};
 ghost use Rattle.cidr_sets.specs.declared.access.Action.{Action};
 ghost use Rattle.cidr_sets.specs.declared.access.Action.TheVariants.{Permit};
 
@@ -194,7 +194,7 @@ pub fn shadowed_by<C: NetworkBits + Copy>(
 /// ones. This function does nothing: after a call, a caller's proof has the law.
 pub fn shadowed_rules_are_decided_earlier()
     ensures some { (networks : List (List Bool)) (i : ℕ) (p a : List Bool) → slice_get networks i ≡ Some p
-        → BeginsWith a p → (j : ℕ) × IsFirst networks a j }
+        → BeginsWith a p → (j : ℕ) × IsFirstRule networks a j }
     ensures earlier { (w : ℕ) (networks : List (List Bool)) (i j : ℕ) (p : List Bool) → slice_get networks i ≡ Some p
         → IsShadowed w networks i → IsDeciding w networks p j → j < i }
 {}

@@ -5,7 +5,7 @@ ghost use Rattle.std.specs.Cmp.Lexicographic.{pointwise};
 ghost use Rattle.cidr.specs.either.IpAddress.{TellsEqual};
 ghost use Rattle.cidr_table.specs.Cover.{AreNetworks, Covers, CoverSame, IsFull};
 ghost use Rattle.cidr_table.specs.Cover.{IsReduced};
-ghost use Rattle.cidr_table.specs.CoverAddresses.{AreIpNetworks, IsIpAddress};
+ghost use Rattle.cidr_table.specs.CoverAddresses.{AreIpNetworks, IsIpAddressBits};
 ghost use Rattle.cidr_sets.specs.Counts.{AreAddresses};
 ghost use Rattle.cidr_sets.specs.FirstRules.{IsPermitted};
 ghost use Rattle.cidr_sets.specs.Ranges.{AreRanges, IsInSome};
@@ -60,5 +60,5 @@ pub fn permitted_sets_decide_addresses()
         → IsSetOf v (IsPermitted networks actions) set }
     ensures ip { (networks set : List (List Bool)) (actions : List Action) → AreIpNetworks networks
         → IsSetOf 129 (IsPermitted networks actions) set
-        → (a : List Bool) → IsIpAddress a → Covers set a ↔ IsPermitted networks actions a }
+        → (a : List Bool) → IsIpAddressBits a → Covers set a ↔ IsPermitted networks actions a }
 {}

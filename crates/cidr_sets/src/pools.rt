@@ -3,7 +3,7 @@ ghost use Rattle.std.specs.Prelude.{◌≡◌, ◌+◌, ◌-◌, ◌≤◌, ◌�
 ghost use Rattle.std.specs.Bool.{Decides};
 ghost use Rattle.std.specs.Option.{option_map};
 ghost use Rattle.cidr.specs.model.Network.{FitsWidth, zeros};
-ghost use Rattle.cidr_table.specs.CoverAddresses.{IsIpNetwork};
+ghost use Rattle.cidr_table.specs.CoverAddresses.{IsIpNetworkBits};
 ghost use Rattle.cidr_table.specs.Cover.{IsReduced};
 ghost use Rattle.cidr_sets.specs.Pools.{IsFirstFree, IsBestFree, IsRoom, IsSmaller};
 ghost use Rattle.cidr_sets.specs.PoolLaws.{plain_room, any_room_exact};
@@ -33,7 +33,7 @@ impl Subnets for Ipv6Cidr {
 }
 
 impl Subnets for AnyIpCidr {
-    ghost IsNetwork = { IsIpNetwork };
+    ghost IsNetwork = { IsIpNetworkBits };
 
     ghost deepest = { any_room_exact };
 }

@@ -6,7 +6,7 @@ ghost use Rattle.cidr.specs.model.Bits.{bit_cmp};
 ghost use Rattle.cidr.specs.model.Network.{BeginsWith, HasWidth, first_of, last_of};
 ghost use Rattle.cidr.specs.either.IpAddress.{ip_address_bits};
 ghost use Rattle.cidr_table.specs.Cover.{Covers, IsReduced};
-ghost use Rattle.cidr_table.specs.CoverAddresses.{IsIpAddress};
+ghost use Rattle.cidr_table.specs.CoverAddresses.{IsIpAddressBits};
 ghost use Rattle.cidr_sets.specs.Ranges.{AreBeginless, AreComplete, AreRanges, HaveEnds, IsBetween, IsPadded, Reaches, all_bits, any_first, any_last, touches};
 ghost use Rattle.cidr_sets.specs.RangeLaws.{plain_beginless, ip_beginless, plain_complete, ip_complete, plain_ends, any_ends, plain_inside, any_inside, v4_fits, v6_fits};
 ghost use Rattle.cidr_sets.specs.Sets.{IsSetOf};
@@ -129,7 +129,7 @@ impl Addressed for Ipv6Cidr {
 impl Addressed for AnyIpCidr {
     type Address = IpAddr;
 
-    ghost IsAddress = { IsIpAddress };
+    ghost IsAddress = { IsIpAddressBits };
 
     ghost address_bits = { ip_address_bits };
 
@@ -242,11 +242,12 @@ pub struct Ranges<'a, C: Addressed + Copy> {
 
 impl<'a, C: Addressed + Copy> Model for Ranges<'a, C> {
     ghost use Rattle.std.specs.Prelude.{List, Bool, map};
-    ghost use Rattle.cidr_sets.specs.Ranges.{joined};
+    ghost use Rattle.cidr_sets.specs.Ranges.{joined_ranges};
 
     ghost Value = { List (List Bool × List Bool) };
 
-    ghost view = { λ left. map (λ r. (C.first_bits r.0, C.last_bits r.1)) (joined (map C.bits left.networks.now)) };
+    ghost view = { λ left. map (λ r. (C.first_bits r.0, C.last_bits r.1))
+        (joined_ranges (map C.bits left.networks.now)) };
 }
 
 impl<'a, C: Addressed + Copy> Iterator for Ranges<'a, C> {

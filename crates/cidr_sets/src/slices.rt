@@ -11,8 +11,8 @@ ghost use Rattle.cidr.specs.model.Bits.{bit_cmp};
 ghost use Rattle.cidr.specs.model.Network.{BeginsWith};
 ghost use Rattle.cidr_table.specs.Cover.{AreNetworks, Covers, IsReduced};
 ghost use Rattle.cidr_sets.specs.Sets.{IsSetOf, IsUnion, IsIntersection, IsDifference, IsComplement};
-ghost use Rattle.cidr_sets.specs.Ranges.{IsBetween, IsFilled, IsOverfull, IsWithin, all_bits, most, side};
-ghost use Rattle.cidr_sets.specs.Steps.{Ascend, IsCut, IsNext, IsOver, IsShared};
+ghost use Rattle.cidr_sets.specs.Ranges.{IsBetween, IsFilled, IsOverfull, IsBetweenEdges, all_bits, most, side};
+ghost use Rattle.cidr_sets.specs.Steps.{Ascend, IsDifferenceStep, IsUnionStep, IsOver, IsIntersectionStep};
 
 use crate::ranges::{Addressed, all_from};
 use crate::rests::{half, is_passed, skip};
@@ -182,12 +182,12 @@ fn write_between<C: NetworkBits + Copy>(
     requires ascend { Ascend (map C.bits (take n out.old)) }
     requires before { (x : List Bool) → Contains (map C.bits (take n out.old)) x
         → bit_cmp x (C.bits network.now) ≡ Less }
-    ensures filled { IfSome result (λ count. IsFilled (IsWithin (C.bits first.now) (C.bits last.now))
+    ensures filled { IfSome result (λ count. IsFilled (IsBetweenEdges (C.bits first.now) (C.bits last.now))
         (C.bits network.now) (map C.bits (take n out.old)) (map C.bits (take count out.new))) }
     ensures fits { IfSome result (λ count. count ≤ n + most (side false (C.bits first.now) (C.bits network.now))
         (side true (C.bits last.now) (C.bits network.now))) }
     ensures within { IfSome result (λ count. count ≤ length out.old) }
-    ensures over { IfNone result (IsOverfull (IsWithin (C.bits first.now) (C.bits last.now))
+    ensures over { IfNone result (IsOverfull (IsBetweenEdges (C.bits first.now) (C.bits last.now))
         (C.bits network.now) (map C.bits (take n out.old)) (length out.old)) }
 {
     known(network);
@@ -264,7 +264,7 @@ fn write_rest<'a, C: NetworkBits + Copy>(
     requires ascend { Ascend (map C.bits (take n out.old)) }
     requires before { (x : List Bool) → Contains (map C.bits (take n out.old)) x
         → bit_cmp x (C.bits network.now) ≡ Less }
-    ensures cut { IfSome result (λ r. IsCut (C.bits network.now) (map C.bits (take n out.old))
+    ensures cut { IfSome result (λ r. IsDifferenceStep (C.bits network.now) (map C.bits (take n out.old))
         (map C.bits (take r.0 out.new)) (map C.bits others.now) (map C.bits r.1.now)) }
     ensures within { IfSome result (λ r. r.0 ≤ length out.old) }
     ensures over { IfNone result
@@ -336,7 +336,7 @@ pub(crate) fn next_of<'a, C: NetworkBits + Copy>(
     requires left { Ascend (map C.bits left.now) }
     requires right { Ascend (map C.bits right.now) }
     ensures { MatchOption result (length left.now + length right.now ≡ 0) (λ r.
-        IsNext (map C.bits left.now) (map C.bits right.now) (C.bits r.0.now) (map C.bits r.1.now) (map C.bits r.2.now)) }
+        IsUnionStep (map C.bits left.now) (map C.bits right.now) (C.bits r.0.now) (map C.bits r.1.now) (map C.bits r.2.now)) }
 {
     match left.split_first() {
         Some((first, behind)) => match right.split_first() {
@@ -363,7 +363,7 @@ pub(crate) fn next_shared<'a, C: NetworkBits + Copy>(
     requires left { Ascend (map C.bits left.now) }
     requires right { Ascend (map C.bits right.now) }
     ensures { MatchOption result ((length left.now ≡ 0) ⊎ (length right.now ≡ 0)) (λ r.
-        IsShared (map C.bits left.now) (map C.bits right.now) (option_map C.bits r.0) (map C.bits r.1.now)
+        IsIntersectionStep (map C.bits left.now) (map C.bits right.now) (option_map C.bits r.0) (map C.bits r.1.now)
         (map C.bits r.2.now)) }
 {
     let (first, behind) = left.split_first()?;

@@ -112,13 +112,13 @@ pub struct SetAddresses<'a, C: AddressSpace> {
 impl<'a, C: AddressSpace> Model for SetAddresses<'a, C> {
     ghost use Rattle.std.specs.Prelude.{List, Bool, map};
     ghost use Rattle.cidr.specs.model.Network.{width_of};
-    ghost use Rattle.cidr_sets.specs.AddressLists.{AreEnds, left_of};
+    ghost use Rattle.cidr_sets.specs.AddressLists.{AreEndNumbers, left_of};
 
     ghost Value = { List (List Bool) };
 
     ghost view = { λ it. left_of (width_of C.family) it.front (map C.bits it.networks.now) it.back };
 
-    ghost invariant = { λ it. AreEnds (width_of C.family) it.front × AreEnds (width_of C.family) it.back };
+    ghost invariant = { λ it. AreEndNumbers (width_of C.family) it.front × AreEndNumbers (width_of C.family) it.back };
 }
 
 impl<'a, C: AddressSpace> SetAddresses<'a, C> {

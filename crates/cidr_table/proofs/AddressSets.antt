@@ -4,7 +4,7 @@ use Rattle.std.proofs.lemmas.List.{take_at, length-replicate, length-take-le}
 use Rattle.std.specs.List.{Contains}
 use Rattle.cidr.specs.model.Network.{BeginsWith}
 use Rattle.cidr_table.specs.Cover.{Covers, CoverSame, AreNetworks}
-use Rattle.cidr_table.specs.CoverAddresses.{IsIpAddress, IsIpNetwork, AreIpNetworks, HoldSameIp}
+use Rattle.cidr_table.specs.CoverAddresses.{IsIpAddressBits, IsIpNetworkBits, AreIpNetworks, HoldSameIp}
 use Rattle.cidr_table.proofs.Halves.{begins_itself, begins_begins, begins_both}
 use Rattle.cidr_table.proofs.Beginnings.{begins_length}
 
@@ -69,19 +69,19 @@ pub covers_by_width : (w v : ℕ) (these those : List (List Bool)) → v ≤ w �
 covers_by_width w v these those within h k = by_addresses w (λ x. length x ≡ v) these those
     (fit_width w v these within h) (fit_width w v those within k)
 
-ip_within : (x : List Bool) → IsIpAddress x → length x ≤ 129
+ip_within : (x : List Bool) → IsIpAddressBits x → length x ≤ 129
 ip_within [] h = absurd h
 ip_within (false ∷ x) h = omega (arith, h)
 ip_within (true ∷ x) h = omega (arith, h)
 
-ip_some : (a : List Bool) → length a ≡ 129 → (x : List Bool) × IsIpAddress x × BeginsWith a x
+ip_some : (a : List Bool) → length a ≡ 129 → (x : List Bool) × IsIpAddressBits x × BeginsWith a x
 ip_some [] la = absurd (omega (arith, la))
 ip_some (false ∷ a) la =
     let e : length (take 32 a) ≡ 32 = length-take-le 32 a (omega (arith, la)) in
     (false ∷ take 32 a, e, ap (λ n. false ∷ take n a) e)
 ip_some (true ∷ a) la = (true ∷ a, omega (arith, la), begins_itself (true ∷ a))
 
-ip_shorter : (a x p : List Bool) → IsIpAddress x → BeginsWith a x → IsIpNetwork p → BeginsWith a p → length p ≤ length x
+ip_shorter : (a x p : List Bool) → IsIpAddressBits x → BeginsWith a x → IsIpNetworkBits p → BeginsWith a p → length p ≤ length x
 ip_shorter a [] p h b n k = absurd h
 ip_shorter a (b' ∷ x) [] h b n k = omega arith
 ip_shorter [] (b' ∷ x) (c ∷ p) h b n k = absurd (cc)
@@ -90,7 +90,7 @@ ip_shorter (y ∷ a) (true ∷ x) (true ∷ p) h b n k = omega (arith, h, n)
 ip_shorter (y ∷ a) (false ∷ x) (true ∷ p) h b n k = absurd (cc)
 ip_shorter (y ∷ a) (true ∷ x) (false ∷ p) h b n k = absurd (cc)
 
-fit_ip : (networks : List (List Bool)) → AreIpNetworks networks → FitAddresses 129 IsIpAddress networks
+fit_ip : (networks : List (List Bool)) → AreIpNetworks networks → FitAddresses 129 IsIpAddressBits networks
 fit_ip networks short = record {
   within = ip_within;
   some = ip_some;
@@ -99,10 +99,10 @@ fit_ip networks short = record {
 
 pub covers_by_ip : (these those : List (List Bool)) → AreIpNetworks these → AreIpNetworks those
     → CoverSame 129 these those ↔ HoldSameIp these those
-covers_by_ip these those h k = by_addresses 129 IsIpAddress these those (fit_ip these h) (fit_ip those k)
+covers_by_ip these those h k = by_addresses 129 IsIpAddressBits these those (fit_ip these h) (fit_ip those k)
 
 -- what begins a network of either family is one
-pub ip_beginning : (p q : List Bool) → IsIpNetwork p → BeginsWith p q → IsIpNetwork q
+pub ip_beginning : (p q : List Bool) → IsIpNetworkBits p → BeginsWith p q → IsIpNetworkBits q
 ip_beginning p [] n b = tt
 ip_beginning [] (c ∷ q) n b = absurd (cc)
 ip_beginning (false ∷ p) (false ∷ q) n b = omega (arith, n, begins_length (false ∷ p) (false ∷ q) b)

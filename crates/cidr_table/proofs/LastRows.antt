@@ -9,7 +9,7 @@ use Rattle.std.specs.List.Retain.{DedupsFrom, IsDeduped}
 use Rattle.std.specs.List.Sorted.{IsStrictlySortedBy}
 use Rattle.std.specs.Map.{keys_of}
 use Rattle.cidr_table.specs.LastRows.{IsLastRow, AreLastRows}
-use Rattle.cidr_table.specs.Sorting.{AreAscending, rows_of, AreKept}
+use Rattle.cidr_table.specs.Sorting.{AreAscending, rows_of, AreRowsKept}
 use Rattle.cidr_table.proofs.MapLaws.{contains_first, contains_later, contains_cases, contains_nothing, contains_key}
 use Rattle.cidr_table.proofs.Merging.{passed, filter_in, any_of, flipped, less_then}
 
@@ -98,7 +98,7 @@ module _ {C V : Type 0} (cmp : C → C → Ordering) (o : IsTotalOrder cmp) (exa
   same_end xs ys row e h = let (front, s) = end_shows xs row h in end_from ys row front (e ∙ s)
 
   -- the last rows are the same where the rows of each key are
-  pub last_of_kept : (old new kept : List (C × V)) → AreKept cmp old new → AreLastRows new kept → AreLastRows old kept
+  pub last_of_kept : (old new kept : List (C × V)) → AreRowsKept cmp old new → AreLastRows new kept → AreLastRows old kept
   last_of_kept old new kept k last row = (
     λ c. last_row old row (same_end new old row (sym (k row.0)) (end_of new row ((last row).0 c))),
     λ h. (last row).1 (last_row new row (same_end old new row (k row.0) (end_of old row h))),

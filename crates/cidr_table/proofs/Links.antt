@@ -16,7 +16,7 @@ use Rattle.cidr.specs.model.BitString.{IsSharedLength}
 use Rattle.cidr.specs.model.Network.{BeginsWith}
 use Rattle.cidr.specs.laws.BitLaws.{bit_cmp_total}
 use Rattle.cidr_table.specs.Above.{IsReached, AreLinks}
-use Rattle.cidr_table.specs.Places.{IsAt, IsGap}
+use Rattle.cidr_table.specs.Places.{IsAt, BelongsAt}
 use Rattle.cidr_table.specs.Prefixes.{IsLongestRow}
 use Rattle.cidr_table.proofs.Beginnings.{bits_same, begins_length, not_before, begins_between}
 use Rattle.cidr_table.proofs.Insides.{key_at}
@@ -80,7 +80,7 @@ module _ {C : Type 0} (cmp : C → C → Ordering) (bits : C → List Bool)
       let over : cmp asked (get_or keys j asked) ≡ Less = sym (o.congr (get_or keys i asked) asked (get_or keys j asked) h.equal) ∙ less in
       flipped (bits asked) (bits (get_or keys j any)) Less (sym (ordered asked (get_or keys j any)) ∙ rw (get_or_default keys j asked any (omega arith)) at over))
 
-  pub reached_gap : (any asked : C) (end i : ℕ) → end ≤ length keys → IsGap cmp keys asked end i
+  pub reached_gap : (any asked : C) (end i : ℕ) → end ≤ length keys → BelongsAt cmp keys asked end i
       → IsReached bits keys any (bits asked) end i
   reached_gap any asked end i fits h =
       let l = h.within in

@@ -13,7 +13,7 @@ use Rattle.std.specs.declared.cmp.Ordering.{Ordering}
 use Rattle.std.specs.declared.cmp.Ordering.TheVariants.{Less, Equal, Greater}
 use Rattle.cidr.specs.model.Bits.{bit_cmp}
 use Rattle.cidr.specs.model.Network.{BeginsWith}
-use Rattle.cidr_table.specs.Places.{IsAt, IsGap, IsShared}
+use Rattle.cidr_table.specs.Places.{IsAt, BelongsAt, IsShared}
 use Rattle.cidr_table.specs.Prefixes.{IsLongestAt}
 use Rattle.cidr_table.proofs.Beginnings.{bits_exact, bits_same, begins_length, begins_first, not_before}
 
@@ -71,7 +71,7 @@ module _ {C : Type 0} (cmp : C → C → Ordering) (o : IsTotalOrder cmp) (bits 
   -- a search that finds nothing leaves the rows before that place, and one length less
   pub not_found : (before now later end len spare d tries i : ℕ) (next : C) → 0 < len
       → Narrowed bits keys keys asked before now end len spare d → bits next ≡ take len (bits asked)
-      → IsGap cmp keys next end i → tries < spare → later ≤ now + tries + d
+      → BelongsAt cmp keys next end i → tries < spare → later ≤ now + tries + d
       → Narrowed bits keys keys asked before later i (len - 1) (spare - tries) d
   not_found before now later end len spare d tries i next some t cut h kept cost =
       let split : len * d ≡ (len - 1) * d + d = ap (λ k. k * d) (omega arith) ∙ (add-mul (len - 1) 1 d ∙ omega arith) in

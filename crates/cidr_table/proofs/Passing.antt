@@ -12,7 +12,7 @@ use Rattle.std.specs.declared.cmp.Ordering.{Ordering}
 use Rattle.std.specs.declared.cmp.Ordering.TheVariants.{Less}
 use Rattle.cidr.specs.model.Bits.{bit_cmp}
 use Rattle.cidr_table.specs.Cover.{Covers, CoverSame, IsLeastCover, parent}
-use Rattle.cidr_table.specs.CoverStack.{AreHalves, AreBefore, IsReduced, IsPushed}
+use Rattle.cidr_table.specs.CoverStack.{AreHalvesInOrder, AreBefore, IsReduced, IsPushed}
 use Rattle.cidr_table.proofs.Halves.{parent_half}
 use Rattle.cidr_table.proofs.Reduced.{same_itself, same_trans, back, least_alike, reduced_is_least, skip_covers, push_covers}
 use Rattle.cidr_table.proofs.Refinements.{exact}
@@ -69,7 +69,7 @@ module _ {C : Type 0} (f : C → List Bool) (out : List C) (n : ℕ) (some : 2 �
 
   -- the halves at the end become their network
   module _ (w : ℕ) (old : List (List Bool)) (h : IsMerging w old (map f (take n out))) (u v x : C)
-      (hu : u ≡ get_or out (n - 2) u) (hv : v ≡ get_or out (n - 1) v) (halves : AreHalves (f u) (f v))
+      (hu : u ≡ get_or out (n - 2) u) (hv : v ≡ get_or out (n - 1) v) (halves : AreHalvesInOrder (f u) (f v))
       (clipped : f x ≡ parent (f u)) where
     pub still_merging : IsMerging w old (map f (take (n - 1) (set out (n - 2) x)))
     still_merging =

@@ -11,7 +11,7 @@ use Rattle.std.specs.declared.cmp.Ordering.TheVariants.{Less, Equal, Greater}
 use Rattle.std.proofs.lemmas.List.{length-map}
 use Rattle.std.proofs.lemmas.Cmp.{tied_back, alike_right}
 use Rattle.std.proofs.lemmas.Map.Keys.{Less-from_sorted}
-use Rattle.cidr_table.specs.Places.{IsAt, IsGap}
+use Rattle.cidr_table.specs.Places.{IsAt, BelongsAt}
 use Rattle.cidr_table.specs.LentRows.{with_value_at}
 
 pub sorted_none : {C : Type 0} (cmp : C → C → Ordering) → IsStrictlySortedBy cmp []
@@ -32,12 +32,12 @@ module _ {C V : Type 0} (cmp : C → C → Ordering) (o : IsTotalOrder cmp) (k :
       → IsAt cmp (keys_of es) k (length es) i
   at_tail e es i h = record { within = omega (arith, h.within); equal = h.equal }
 
-  gap_tail : (e : C × V) (es : List (C × V)) (i : ℕ) → IsGap cmp (keys_of (e ∷ es)) k (length (e ∷ es)) (suc i)
-      → IsGap cmp (keys_of es) k (length es) i
+  gap_tail : (e : C × V) (es : List (C × V)) (i : ℕ) → BelongsAt cmp (keys_of (e ∷ es)) k (length (e ∷ es)) (suc i)
+      → BelongsAt cmp (keys_of es) k (length es) i
   gap_tail e es i h = record { within = omega (arith, h.within); before = λ j l. h.before (suc j) (omega arith); behind = λ j l m. h.behind (suc j) (omega arith) (omega arith) }
 
-  gap_first : (e : C × V) (es : List (C × V)) → IsGap cmp (keys_of (e ∷ es)) k (length (e ∷ es)) zero
-      → IsGap cmp (keys_of es) k (length es) zero
+  gap_first : (e : C × V) (es : List (C × V)) → BelongsAt cmp (keys_of (e ∷ es)) k (length (e ∷ es)) zero
+      → BelongsAt cmp (keys_of es) k (length es) zero
   gap_first e es h = record {
     within = omega arith;
     before = λ j l. absurd (omega arith);
@@ -82,20 +82,20 @@ module _ {C V : Type 0} (cmp : C → C → Ordering) (o : IsTotalOrder cmp) (k :
   write_at (e ∷ es) zero v s h = rw (tied_back o e.0 k h.equal) refl
   write_at (e ∷ es) (suc i) v s h = rw (head_before e es i s h) (ap (λ xs. e ∷ xs) (write_at es i v (sorted_tail e es s) (at_tail e es i h)))
 
-  pub insert_gap : (es : List (C × V)) (i : ℕ) (v : V) → IsGap cmp (keys_of es) k (length es) i
+  pub insert_gap : (es : List (C × V)) (i : ℕ) (v : V) → BelongsAt cmp (keys_of es) k (length es) i
       → insert es i (k, v) ≡ insert_entry cmp es k v
   insert_gap [] zero v h = refl
   insert_gap [] (suc i) v h = absurd (omega (arith, h.within))
   insert_gap (e ∷ es) zero v h = rw (back cmp o k e.0 Greater (h.behind 0 (omega arith) (omega arith))) refl
   insert_gap (e ∷ es) (suc i) v h = rw (back cmp o k e.0 Less (h.before 0 (omega arith))) (ap (λ xs. e ∷ xs) (insert_gap es i v (gap_tail e es i h)))
 
-  pub lookup_gap : (es : List (C × V)) (i : ℕ) → IsGap cmp (keys_of es) k (length es) i
+  pub lookup_gap : (es : List (C × V)) (i : ℕ) → BelongsAt cmp (keys_of es) k (length es) i
       → lookup (is_at (cmp k)) es ≡ None
   lookup_gap [] i h = refl
   lookup_gap (e ∷ es) zero h = rw (back cmp o k e.0 Greater (h.behind 0 (omega arith) (omega arith))) (lookup_gap es zero (gap_first e es h))
   lookup_gap (e ∷ es) (suc i) h = rw (back cmp o k e.0 Less (h.before 0 (omega arith))) (lookup_gap es i (gap_tail e es i h))
 
-  pub remove_gap : (es : List (C × V)) (i : ℕ) → IsGap cmp (keys_of es) k (length es) i
+  pub remove_gap : (es : List (C × V)) (i : ℕ) → BelongsAt cmp (keys_of es) k (length es) i
       → es ≡ remove_entry (is_at (cmp k)) es
   remove_gap [] i h = refl
   remove_gap (e ∷ es) zero h = rw (back cmp o k e.0 Greater (h.behind 0 (omega arith) (omega arith))) (ap (λ xs. e ∷ xs) (remove_gap es zero (gap_first e es h)))

@@ -5,7 +5,7 @@ use Rattle.std.specs.declared.cmp.Ordering.TheVariants.{Less}
 use Rattle.cidr.specs.model.Bits.{bit_cmp}
 use Rattle.cidr.specs.model.BitString.{IsSharedLength}
 use Rattle.cidr.specs.model.Network.{BeginsWith}
-use Rattle.cidr_table.specs.CoverStack.{AreHalves}
+use Rattle.cidr_table.specs.CoverStack.{AreHalvesInOrder}
 use Rattle.cidr_table.proofs.Halves.{same_length, next_bit, length_half, half_begins}
 use Rattle.cidr_table.proofs.Beginnings.{begins_length}
 use Rattle.cidr_table.proofs.Order.{less_not_itself, lower_less, last_bits}
@@ -20,7 +20,7 @@ last_bit p s h e =
     same_length p (s ++ b ∷ []) (next_bit p s h (omega arith)) (omega (arith, length_half s b))
 
 pub halves_from_shared : (n : ℕ) (p q : List Bool) → IsSharedLength p q n → bit_cmp p q ≡ Less → length p ≡ length q
-    → n + 1 ≡ length p → AreHalves p q
+    → n + 1 ≡ length p → AreHalvesInOrder p q
 halves_from_shared n p q is less e h =
     let (s, long, one, other) = is.shared in
     let b = get_or p (length s) false in
@@ -31,7 +31,7 @@ halves_from_shared n p q is less e h =
     (subst (λ x. bit_cmp p x ≡ Less) high less)) in
     (s, low ∙ ap (λ x. s ++ x ∷ []) bits.0, high ∙ ap (λ x. s ++ x ∷ []) bits.1)
 
-pub shared_from_halves : (n : ℕ) (p q : List Bool) → IsSharedLength p q n → AreHalves p q → n + 1 ≡ length p
+pub shared_from_halves : (n : ℕ) (p q : List Bool) → IsSharedLength p q n → AreHalvesInOrder p q → n + 1 ≡ length p
 shared_from_halves n p q is (s, low, high) =
     let one : BeginsWith p s = subst (λ x. BeginsWith x s) (sym low) (half_begins s false) in
     let other : BeginsWith q s = subst (λ x. BeginsWith x s) (sym high) (half_begins s true) in

@@ -9,7 +9,7 @@ use Rattle.std.specs.declared.cmp.Ordering.TheVariants.{Less}
 use Rattle.cidr.specs.model.Bits.{bit_cmp}
 use Rattle.cidr.specs.model.Network.{BeginsWith}
 use Rattle.cidr_table.specs.Cover.{Covers, CoverSame, AreNetworks}
-use Rattle.cidr_table.specs.CoverStack.{AreHalves, AreBefore, IsReduced, IsPushed}
+use Rattle.cidr_table.specs.CoverStack.{AreHalvesInOrder, AreBefore, IsReduced, IsPushed}
 use Rattle.cidr_table.proofs.Ascending.{sorted_front, sorted_push}
 use Rattle.cidr_table.proofs.Halves.{begins_itself, begins_begins, length_half, half_begins, parent_half}
 use Rattle.cidr_table.proofs.MapLaws.{contains_first}
@@ -95,7 +95,7 @@ module _ (w : ℕ) (s : List (List Bool)) (v : List Bool) (h : IsSpread w s) (be
   ]
 
   -- it is no half with the last, so with none
-  push_none : ((t : List (List Bool)) (u : List Bool) → s ≡ t ++ u ∷ [] → ¬ (AreHalves u v))
+  push_none : ((t : List (List Bool)) (u : List Bool) → s ≡ t ++ u ∷ [] → ¬ (AreHalvesInOrder u v))
       → HaveNoHalves (s ++ v ∷ [])
   push_none end q c d =
       let lower = q ++ false ∷ [] in
@@ -121,7 +121,7 @@ module _ (w : ℕ) (s : List (List Bool)) (v : List Bool) (h : IsSpread w s) (be
         ]
       ]
 
-  pub spread_push : length v ≤ w → ((t : List (List Bool)) (u : List Bool) → s ≡ t ++ u ∷ [] → ¬ (AreHalves u v))
+  pub spread_push : length v ≤ w → ((t : List (List Bool)) (u : List Bool) → s ≡ t ++ u ∷ [] → ¬ (AreHalvesInOrder u v))
       → IsSpread w (s ++ v ∷ [])
   spread_push within end = record {
     ascending = sorted_push s v h.ascending before;
@@ -134,7 +134,7 @@ module _ (w : ℕ) (s : List (List Bool)) (v : List Bool) (h : IsSpread w s) (be
   }
 
 module _ (w : ℕ) (s : List (List Bool)) (o : IsPushed w s) where
-  pub closed : ((t : List (List Bool)) (u : List Bool) → o.front ≡ t ++ u ∷ [] → ¬ (AreHalves u o.top)) → IsReduced w s
+  pub closed : ((t : List (List Bool)) (u : List Bool) → o.front ≡ t ++ u ∷ [] → ¬ (AreHalvesInOrder u o.top)) → IsReduced w s
   closed end =
       let h = spread_push w o.front o.top (spread_from_reduced w o.front o.reduced) o.before o.apart o.within end in
       subst (IsReduced w) (sym o.whole) (reduced_from_spread w (o.front ++ o.top ∷ []) h)
@@ -155,7 +155,7 @@ module _ (w : ℕ) (s : List (List Bool)) (o : IsPushed w s) where
     last_two = subst (λ x. bit_cmp u x ≡ Less) top_is
         (o.before u (subst (λ x. Contains x u) (sym front_is) (Contains-push t u)))
 
-    pub closed_apart : ¬ (AreHalves u v) → IsReduced w s
+    pub closed_apart : ¬ (AreHalvesInOrder u v) → IsReduced w s
     closed_apart n = closed (λ t' u' e h.
         let k : u' ≡ u = same_last t' t u' u (sym e ∙ front_is) in
         n (h.0, sym k ∙ h.1, sym top_is ∙ h.2))

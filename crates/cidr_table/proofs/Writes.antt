@@ -4,7 +4,7 @@ use Rattle.std.specs.Map.{keys_of, values_of}
 use Rattle.std.specs.Option.{option_map, OnSome, IfSome}
 use Rattle.cidr_table.specs.FiniteMap.{IsUnder, StoredRows}
 use Rattle.cidr_table.specs.Prefixes.{IsLongestRow, IsValueLookedUp}
-use Rattle.cidr_table.specs.Lends.{IsWritten, IsWrittenInLongest, IsWrittenAt}
+use Rattle.cidr_table.specs.Lends.{IsWrittenUnder, IsWrittenInLongest, IsWrittenAt}
 use Rattle.cidr_table.specs.LentRows.{with_value_at}
 use Rattle.cidr_table.proofs.MapLaws.{contains_key}
 
@@ -53,7 +53,7 @@ module _ {C V : Type 0} where
 
   -- a write under the key of the longest match
   pub longest_written : {X : Type 0} (bits : C → List Bool) (asked : List Bool) (old new : StoredRows C V) (row : C × V) (value : V) (now : X → V) (r : Option X)
-      → IsLongestRow bits asked old.rows row → IsUnder old.rows row.0 (option_map now r) → OnSome r (IsWritten old row.0 value new)
+      → IsLongestRow bits asked old.rows row → IsUnder old.rows row.0 (option_map now r) → OnSome r (IsWrittenUnder old row.0 value new)
       → IfSome r (λ lent. IsWrittenInLongest bits asked old (now lent) value new)
   longest_written bits asked old new row value now (Some lent) h u w = record { key = row.0; longest = longest_under bits asked old.rows row (now lent) h u; written = w }
   longest_written bits asked old new row value now None h u w = tt

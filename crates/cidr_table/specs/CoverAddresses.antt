@@ -4,21 +4,21 @@ use Rattle.std.specs.List.{Contains}
 use Rattle.cidr_table.specs.Cover.{Covers}
 
 -- 32 bits in IPv4 (RFC 791, 3.2), and 128 in IPv6 (RFC 4291, 2)
-abbrev pub IsIpAddress : List Bool → Type 0
-IsIpAddress [] = ⊥
-IsIpAddress (false ∷ a) = length a ≡ 32
-IsIpAddress (true ∷ a) = length a ≡ 128
+abbrev pub IsIpAddressBits : List Bool → Type 0
+IsIpAddressBits [] = ⊥
+IsIpAddressBits (false ∷ a) = length a ≡ 32
+IsIpAddressBits (true ∷ a) = length a ≡ 128
 
 -- a network of one family, or the one of all addresses, which has no bits
-abbrev pub IsIpNetwork : List Bool → Type 0
-IsIpNetwork [] = Unit {0}
-IsIpNetwork (false ∷ p) = length p ≤ 32
-IsIpNetwork (true ∷ p) = length p ≤ 128
+abbrev pub IsIpNetworkBits : List Bool → Type 0
+IsIpNetworkBits [] = Unit {0}
+IsIpNetworkBits (false ∷ p) = length p ≤ 32
+IsIpNetworkBits (true ∷ p) = length p ≤ 128
 
 -- each of them is such a network
 abbrev pub AreIpNetworks : List (List Bool) → Type 0
-AreIpNetworks networks = (p : List Bool) → Contains networks p → IsIpNetwork p
+AreIpNetworks networks = (p : List Bool) → Contains networks p → IsIpNetworkBits p
 
 -- the same addresses of both families are held
 abbrev pub HoldSameIp : List (List Bool) → List (List Bool) → Type 0
-HoldSameIp these those = (a : List Bool) → IsIpAddress a → Covers these a ↔ Covers those a
+HoldSameIp these those = (a : List Bool) → IsIpAddressBits a → Covers these a ↔ Covers those a

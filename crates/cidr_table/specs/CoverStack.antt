@@ -7,8 +7,8 @@ use Rattle.cidr_table.specs.Cover.{Covers}
 pub use Rattle.cidr_table.specs.Cover.{IsReduced}
 
 -- the two halves of one network, the lower first
-abbrev pub AreHalves : List Bool → List Bool → Type 0
-AreHalves lower upper = (q : List Bool) × (lower ≡ q ++ false ∷ []) × (upper ≡ q ++ true ∷ [])
+abbrev pub AreHalvesInOrder : List Bool → List Bool → Type 0
+AreHalvesInOrder lower upper = (q : List Bool) × (lower ≡ q ++ false ∷ []) × (upper ≡ q ++ true ∷ [])
 
 -- all networks come before k
 abbrev pub AreBefore : List (List Bool) → List Bool → Type 0

@@ -13,7 +13,7 @@ KeyMembers C = record { partial_cmp : C → C → Option Ordering; eq : C → C 
 
 module _ {C V : Type 0} where
   -- the table has this value under a key that it had: the other rows, the order of the keys and the room are as before
-  pub record IsWritten (old : StoredRows C V) (key : C) (value : V) (new : StoredRows C V) : Type 0 where
+  pub record IsWrittenUnder (old : StoredRows C V) (key : C) (value : V) (new : StoredRows C V) : Type 0 where
     pub rows : IsInserted old.rows key value new.rows
     pub keys : keys_of new.rows ≡ keys_of old.rows
     pub capacity : new.capacity ≡ old.capacity
@@ -22,7 +22,7 @@ module _ {C V : Type 0} where
   pub record IsWrittenInLongest (bits : C → List Bool) (asked : List Bool) (old : StoredRows C V) (before value : V) (new : StoredRows C V) : Type 0 where
     pub key : C
     pub longest : IsLongestRow bits asked old.rows (key, before)
-    pub written : IsWritten old key value new
+    pub written : IsWrittenUnder old key value new
 
   -- the same in the row at an index, which there is
   pub record IsWrittenAt (old : StoredRows C V) (place : ℕ) (value : V) (new : StoredRows C V) : Type 0 where
@@ -42,7 +42,7 @@ module _ (C V : RattleType) (key : KeyMembers C.Denot) where
 
     -- the key has the last value written through r, and at `None` the table stays as it is
     abbrev pub lends_get : C.Denot → Option (MutBor V.Denot) → Fml
-    lends_get asked r = LendsSo table_row V table r (λ new value. OnSome r (IsWritten table.now asked value new)) (λ new. new ≡ table.now)
+    lends_get asked r = LendsSo table_row V table r (λ new value. OnSome r (IsWrittenUnder table.now asked value new)) (λ new. new ≡ table.now)
 
     -- the row that a look-up gives has the last value written through r, and at `None` the table stays as it is
     abbrev pub lends_lookup : List Bool → Option (MutBor V.Denot) → Fml

@@ -40,8 +40,8 @@ placed n [] = []
 placed n (key ∷ keys) = (key, n) ∷ placed (n + 1) keys
 
 -- the prefixes up to the end, each with its index
-abbrev pub IsRead : {C : Type 0} → (C → List Bool) → ℕ → List ℕ → List (C × ℕ) → Type 0
-IsRead {C} bits w input rows = (keys : List C) × IsListed bits w keys [] input × (rows ≡ placed 0 keys)
+abbrev pub ArePlacedPrefixes : {C : Type 0} → (C → List Bool) → ℕ → List ℕ → List (C × ℕ) → Type 0
+ArePlacedPrefixes {C} bits w input rows = (keys : List C) × IsListed bits w keys [] input × (rows ≡ placed 0 keys)
 
 -- of the rows of one key that with the greatest index
 abbrev pub AreLast : {C : Type 0} → List (C × ℕ) → List (C × ℕ) → Type 0

@@ -11,7 +11,7 @@ module _ {C : Type 0} (cmp : C → C → Ordering) (keys : List C) (key : C) (en
     pub equal : cmp (slice_index_or keys i key) key ≡ Equal
 
   -- lesser keys stand before this index, and greater ones from it on
-  pub record IsGap (i : ℕ) : Type 0 where
+  pub record BelongsAt (i : ℕ) : Type 0 where
     pub within : i ≤ end
     pub before : (j : ℕ) → j < i → cmp (slice_index_or keys j key) key ≡ Less
     pub behind : (j : ℕ) → i ≤ j → j < end → cmp (slice_index_or keys j key) key ≡ Greater
@@ -19,7 +19,7 @@ module _ {C : Type 0} (cmp : C → C → Ordering) (keys : List C) (key : C) (en
   -- `Ok` of the index of an equal key, or `Err` of that where one belongs (std's `binary_search`)
   abbrev pub IsPlace : Result ℕ ℕ → Type 0
   IsPlace (Ok i) = IsAt i
-  IsPlace (Err i) = IsGap i
+  IsPlace (Err i) = BelongsAt i
 
 -- `Ok` of n where the key is the first n bits of the look-up key, and else `Err` of n where longer beginnings of that
 -- come after the key

@@ -2,7 +2,7 @@
 use Rattle.std.proofs.Common.{◌≡◌, ℕ, List, [], ◌∷◌, length, get_or, map, Bor, nat_eq, refl, sym, arith, true, false, Bool, IsTrue, ◌↔◌, ◌⊎◌, inl, inr, if◌then◌else◌, codes, ◌++◌, append_assoc}
 use Rattle.std.proofs.lemmas.Bool.Decides.{Decides-eqb}
 use Rattle.std.specs.Cmp.Lexicographic.{pointwise_decides}
-use Rattle.cidr_tool.specs.Answer.{line, show_lines}
+use Rattle.cidr_tool.specs.Answer.{named_line, show_lines}
 use lib.Pointwise.{pointwise}
 
 -- two words and three
@@ -29,12 +29,13 @@ six a b c d e f = simp (append_assoc)
 
 -- the lines of `show`, each appended to those before
 pub lines_appended : (network first last mask len family : List ℕ)
-    → ((((([] ++ line (codes "network ") network) ++ line (codes "first ") first) ++ line (codes "last ") last)
-    ++ line (codes "mask ") mask) ++ line (codes "length ") len) ++ line (codes "family ") family
+    → ((((([] ++ named_line (codes "network ") network) ++ named_line (codes "first ") first) ++ named_line (codes "last ") last)
+    ++ named_line (codes "mask ") mask) ++ named_line (codes "length ") len) ++ named_line (codes "family ") family
     ≡ show_lines network first last mask len family
 unfolding show_lines
 lines_appended network first last mask len family =
-    six (line (codes "network ") network) (line (codes "first ") first) (line (codes "last ") last) (line (codes "mask ") mask) (line (codes "length ") len) (line (codes "family ") family)
+    six (named_line (codes "network ") network) (named_line (codes "first ") first) (named_line (codes "last ") last) (named_line (codes "mask ") mask) (named_line (codes "length ") len)
+    (named_line (codes "family ") family)
 
 -- the answer to a question
 pub yes_or_no : (b : Bool) (P : Type 0) (agree deny text : List ℕ) → (IsTrue b ↔ P) → text ≡ (if b then agree else deny) → (P × (text ≡ agree)) ⊎ (¬ P × (text ≡ deny))

@@ -25,7 +25,7 @@ use Rattle.cidr.specs.declared.errors.NetworkParseError.{NetworkParseError}
 use Rattle.cidr.specs.declared.inet_iterator.driving.End.{End}
 use Rattle.cidr_tool.specs.Walking.{NamesEnds, walk_text}
 use Rattle.cidr_io.specs.Writing.{State}
-use Rattle.cidr_tool.specs.Writing.{Answered}
+use Rattle.cidr_tool.specs.Writing.{IsAnswerWritten}
 use Rattle.cidr_tool.specs.declared.errors.Fault.{Fault}
 use Rattle.cidr_tool.specs.declared.errors.Fault.TheVariants.{Network, Address}
 use Rattle.cidr_tool.specs.declared.errors.ToolError.{ToolError}
@@ -54,31 +54,31 @@ abbrev pub IsUsage : List (List ℕ) → Type 0
 IsUsage arguments = (request : Request) → ¬ (IsRequest arguments request)
 
 -- a line: its name, a space and its value
-abbrev pub line : List ℕ → List ℕ → List ℕ
-line name value = name ++ value ++ codes "\n"
+abbrev pub named_line : List ℕ → List ℕ → List ℕ
+named_line name value = name ++ value ++ codes "\n"
 
 -- the lines of `show`, from the strings of their values
 unfoldable pub show_lines : List ℕ → List ℕ → List ℕ → List ℕ → List ℕ → List ℕ → List ℕ
 show_lines network first last mask len family =
-    line (codes "network ") network ++ line (codes "first ") first ++ line (codes "last ") last
-    ++ line (codes "mask ") mask ++ line (codes "length ") len ++ line (codes "family ") family
+    named_line (codes "network ") network ++ named_line (codes "first ") first ++ named_line (codes "last ") last
+    ++ named_line (codes "mask ") mask ++ named_line (codes "length ") len ++ named_line (codes "family ") family
 
 -- the name of a family, as `show` writes it
-abbrev pub family_name : Family → List ℕ
-family_name Ipv4 = codes "Ipv4"
-family_name Ipv6 = codes "Ipv6"
+abbrev pub show_family : Family → List ℕ
+show_family Ipv4 = codes "Ipv4"
+show_family Ipv6 = codes "Ipv6"
 
 -- what `show` says of a network of either family
 abbrev pub ip_show_text : List ℕ → IpCidr → List ℕ
 ip_show_text text n =
     show_lines text (ip_text (address_by first_of n)) (ip_text (address_by last_of n)) (ip_text (address_by mask_of n))
-    (decimal (length (network_prefix n))) (family_name (network_family n))
+    (decimal (length (network_prefix n))) (show_family (network_family n))
 
 -- what `show` says of a network
 abbrev pub show_text : AnyIpCidr → List ℕ
 show_text network =
     let text = any_network_text plain_text network in
-    option_map_or (ip_show_text text) (specific network) (line (codes "network ") text)
+    option_map_or (ip_show_text text) (specific network) (named_line (codes "network ") text)
 
 -- what `cmp` says of an order
 abbrev pub order_text : Ordering → List ℕ
@@ -134,7 +134,7 @@ IsRefusal (Loose text) (Address e) = IsAddressRefused IsLooseIpText text e
 abbrev pub AnswersRequest : Request → State → State → Result (Unit {0}) ToolError → Type 0
 AnswersRequest request old new r =
     ((fault : Fault) × (r ≡ Err (Refused fault)) × IsRefusal request fault × (new ≡ old))
-    ⊎ ((text : List ℕ) × IsAnswer request text × Answered old new text r)
+    ⊎ ((text : List ℕ) × IsAnswer request text × IsAnswerWritten old new text r)
 
 -- What `run` answers: other arguments are usage, and nothing is written.
 abbrev pub Answers : List (List ℕ) → State → State → Result (Unit {0}) ToolError → Type 0

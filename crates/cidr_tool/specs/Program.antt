@@ -2,7 +2,7 @@
 use Rattle.std.specs.Prelude.{◌≡◌, ℕ, Bool, true, List, Option, Result, Err, ◌⊎◌}
 use Rattle.cidr_tool.specs.Answer.{Answers}
 use Rattle.cidr_io.specs.Arguments.{AreArguments, AreUnreadable}
-use Rattle.cidr_io.specs.Writing.{State, Says}
+use Rattle.cidr_io.specs.Writing.{State, Tells}
 use Rattle.cidr_tool.specs.Report.{Reports, status_of, no_memory_line}
 use Rattle.cidr_tool.specs.declared.errors.ToolError.{ToolError}
 use Rattle.cidr_tool.specs.declared.errors.ToolError.TheVariants.{Usage}
@@ -18,4 +18,4 @@ AnswersAll told old new r =
 abbrev pub Runs : Option (List (List ℕ)) → Bool → State → State → State → State → ℕ → Type 0
 Runs told refused out new_out err new_err status =
     ((r : Result (Unit {0}) ToolError) × AnswersAll told out new_out r × Reports r err new_err × (status ≡ status_of r))
-    ⊎ ((refused ≡ true) × (new_out ≡ out) × Says err new_err no_memory_line × (status ≡ 3))
+    ⊎ ((refused ≡ true) × (new_out ≡ out) × Tells err new_err no_memory_line × (status ≡ 3))

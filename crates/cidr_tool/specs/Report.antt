@@ -1,7 +1,7 @@
 -- The exit statuses, and what is written to standard error.
 use Rattle.std.specs.Prelude.{◌≡◌, ℕ, List, ◌++◌, codes, Result, Ok, Err}
 use Rattle.cidr.specs.texts.Messages.{parse_message, address_message}
-use Rattle.cidr_io.specs.Writing.{State, Says}
+use Rattle.cidr_io.specs.Writing.{State, Tells}
 use Rattle.cidr_tool.specs.declared.errors.Fault.{Fault}
 use Rattle.cidr_tool.specs.declared.errors.Fault.TheVariants.{Network, Address}
 use Rattle.cidr_tool.specs.declared.errors.ToolError.{ToolError}
@@ -38,6 +38,6 @@ refusal_line fault = message_of fault ++ codes "\n"
 -- what is written for an answer: nothing if it is done, and else one line
 abbrev pub Reports : Result (Unit {0}) ToolError → State → State → Type 0
 Reports (Ok _) old new = new ≡ old
-Reports (Err (Refused fault)) old new = Says old new (refusal_line fault)
-Reports (Err Usage) old new = Says old new usage_line
-Reports (Err Output) old new = Says old new output_line
+Reports (Err (Refused fault)) old new = Tells old new (refusal_line fault)
+Reports (Err Usage) old new = Tells old new usage_line
+Reports (Err Output) old new = Tells old new output_line

@@ -1,6 +1,6 @@
 //! The exit status, and what is written to standard error.
 ghost use Rattle.std.specs.Prelude.{◌≡◌};
-ghost use Rattle.cidr_io.specs.Writing.{Says};
+ghost use Rattle.cidr_io.specs.Writing.{Tells};
 ghost use Rattle.cidr_tool.specs.Report.{Reports, status_of, refusal_line, no_memory_line};
 
 use crate::errors::{Fault, ToolError};
@@ -29,7 +29,7 @@ fn refused_line(fault: &Fault) -> ArrayString<MOST_LINE>
 
 /// Writes the line of a refusal, as far as the sink takes it.
 fn say_refused<E: Sink>(err: &mut E, fault: &Fault)
-    ensures { Says (E.state err.old) (E.state err.new) (refusal_line fault.now) }
+    ensures { Tells (E.state err.old) (E.state err.new) (refusal_line fault.now) }
 {
     say(err, refused_line(fault).as_str());
 }
@@ -60,7 +60,7 @@ pub fn report<E: Sink>(answer: &Result<(), ToolError>, err: &mut E) -> u8
 /// Says that there is no memory for the arguments, and returns the exit status, which is that of a failed output.
 pub fn report_no_memory<E: Sink>(err: &mut E) -> u8
     ensures status { result ≡ 3 }
-    ensures says { Says (E.state err.old) (E.state err.new) no_memory_line }
+    ensures says { Tells (E.state err.old) (E.state err.new) no_memory_line }
 {
     say(err, "no memory\n");
     3

@@ -4,7 +4,7 @@ ghost use Rattle.std.specs.Char.{digit_char};
 ghost use Rattle.cidr.specs.model.Bits.{bit_cmp};
 ghost use Rattle.cidr.specs.either.IpNetwork.{any_bits};
 ghost use Rattle.cidr.specs.texts.PrintedAddress.{ip_text};
-ghost use Rattle.cidr_tool.specs.Answer.{Answers, AnswersRequest, Show, Holds, Compare, Walk, Bytes, Loose, line, show_text, ip_show_text, order_text, family_name as family_name_of, hex_byte, hex_text};
+ghost use Rattle.cidr_tool.specs.Answer.{Answers, AnswersRequest, Show, Holds, Compare, Walk, Bytes, Loose, named_line, show_text, ip_show_text, order_text, show_family, hex_byte, hex_text};
 
 use crate::commands::{Command, command_of};
 use crate::errors::ToolError;
@@ -45,7 +45,7 @@ type Shown = ArrayString<MOST_SHOWN>;
 /// Appends a line: a name and its value.
 fn push_line(text: &mut Shown, name: &str, value: &str)
     requires { length text.old.bytes + (length name.now + (length value.now + 1)) ≤ 211 }
-    ensures line { text.new.bytes ≡ text.old.bytes ++ line name.now value.now }
+    ensures line { text.new.bytes ≡ text.old.bytes ++ named_line name.now value.now }
     ensures len { length text.new.bytes ≡ length text.old.bytes + (length name.now + (length value.now + 1)) }
 {
     text.push_str(name);
@@ -82,7 +82,7 @@ fn shown_network(text: &str, network: &IpCidr) -> Shown
 
 /// The name of a family.
 fn family_name(family: Family) -> &'static str
-    ensures name { result.now ≡ family_name_of family }
+    ensures name { result.now ≡ show_family family }
     ensures len { length result.now ≡ 4 }
 {
     match family {

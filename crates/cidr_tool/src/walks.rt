@@ -4,7 +4,7 @@ ghost use Rattle.std.specs.List.{flat_map};
 ghost use Rattle.cidr.specs.either.IpAddress.{address_family, plain_bits};
 ghost use Rattle.cidr.specs.model.Views.{in_family};
 ghost use Rattle.cidr_tool.specs.Walking.{NamesEnds, letter, most_ends, answer_line, walk_text};
-ghost use Rattle.cidr_tool.specs.Writing.{Answered};
+ghost use Rattle.cidr_tool.specs.Writing.{IsAnswerWritten};
 ghost use Rattle.cidr.specs.declared.inet_iterator.driving.End.{End as AnEnd};
 
 use crate::errors::ToolError;
@@ -106,7 +106,7 @@ fn lines_of(answers: &[Option<IpAddr>]) -> WalkLines
 /// Writes the lines that answer calls at these ends of the walk over the network's addresses.
 pub fn write_walk<S: Sink>(network: &IpCidr, ends: &[End], out: &mut S) -> Result<(), ToolError>
     requires { length ends.now ≤ most_ends }
-    ensures { Answered (S.state out.old) (S.state out.new) (walk_text network.now ends.now) result }
+    ensures { IsAnswerWritten (S.state out.old) (S.state out.new) (walk_text network.now ends.now) result }
 {
     let mut places = [None; MOST_ENDS];
     let answers = &mut places[..ends.len()];

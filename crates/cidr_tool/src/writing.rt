@@ -1,5 +1,5 @@
 //! Writing an answer.
-ghost use Rattle.cidr_tool.specs.Writing.{Answered};
+ghost use Rattle.cidr_tool.specs.Writing.{IsAnswerWritten};
 
 use crate::errors::ToolError;
 use cidr_io::sink::Sink;
@@ -7,7 +7,7 @@ use cidr_io::writing;
 
 /// Writes a string and flushes. A sink that has failed before gets nothing.
 pub fn write_text<S: Sink>(out: &mut S, text: &str) -> Result<(), ToolError>
-    ensures { Answered (S.state out.old) (S.state out.new) text.now result }
+    ensures { IsAnswerWritten (S.state out.old) (S.state out.new) text.now result }
 {
     match writing::write_text(out, text) {
         Ok(()) => Ok(()),

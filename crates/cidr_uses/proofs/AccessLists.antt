@@ -8,7 +8,7 @@ use Rattle.std.specs.Bool.{Decides, beq}
 use Rattle.std.specs.List.{Contains, slice_get}
 use Rattle.std.specs.Option.{option_map}
 use Rattle.cidr.specs.model.Network.{BeginsWith}
-use Rattle.cidr_sets.specs.FirstRules.{IsFirst, IsDeciding, IsShadowed}
+use Rattle.cidr_sets.specs.FirstRules.{IsFirstRule, IsDeciding, IsShadowed}
 use Rattle.cidr_uses.specs.AccessList.{AreDeciders}
 
 pub first_contained : (xs : List ℕ) (i : ℕ) → Some i ≡ slice_get xs 0 → Contains xs i
@@ -21,7 +21,7 @@ none_contained (x ∷ xs) e i c = none-some x e
 
 module _ {R : Type 0} (f : R → List Bool) (xs : List R) (i : ℕ) (d : R) (here : i < length xs)
     (some : (networks : List (List Bool)) (i : ℕ) (p a : List Bool) → slice_get networks i ≡ Some p → BeginsWith a p
-    → (j : ℕ) × IsFirst networks a j)
+    → (j : ℕ) × IsFirstRule networks a j)
     (earlier : (w : ℕ) (networks : List (List Bool)) (i j : ℕ) (p : List Bool) → slice_get networks i ≡ Some p
     → IsShadowed w networks i → IsDeciding w networks p j → j < i) where
   abbrev network : List Bool

@@ -1,14 +1,14 @@
 -- The free networks of the difference of two sets.
 use Rattle.std.proofs.Common.{◌↔◌, ℕ, ◌≤◌, Bool, List, length, Option, Some, None}
 use Rattle.cidr_table.specs.Cover.{Covers, IsFull, IsReduced}
-use Rattle.cidr_sets.specs.Pools.{IsFree, IsFirstFree}
+use Rattle.cidr_sets.specs.Pools.{IsFreeNetwork, IsFirstFree}
 use Rattle.cidr_sets.specs.Sets.{IsDifference}
 use Rattle.cidr_uses.specs.FreeNetworks.{IsAvailable, IsFirstAvailable}
 use Rattle.cidr_uses.proofs.Aggregates.{begins_begins}
 
 module _ (IsNetwork : List Bool → Type 0) (n : ℕ) (pool used free : List (List Bool)) (h : IsDifference 129 pool used free)
     (one : (w : ℕ) (set : List (List Bool)) (p : List Bool) → IsReduced w set → length p ≤ w → IsFull w set p ↔ Covers set p) where
-  available_free : (q : List Bool) → IsAvailable IsNetwork pool used n q → IsFree IsNetwork free n q
+  available_free : (q : List Bool) → IsAvailable IsNetwork pool used n q → IsFreeNetwork IsNetwork free n q
   available_free q u = record {
     network = u.network;
     len = u.len;

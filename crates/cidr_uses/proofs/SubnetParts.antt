@@ -4,14 +4,14 @@ use Rattle.std.proofs.lemmas.List.{take-take}
 use Rattle.std.specs.List.{Contains}
 use Rattle.cidr.specs.declared.family.Family.{Family}
 use Rattle.cidr.specs.model.Network.{BeginsWith}
-use Rattle.cidr_uses.specs.Parts.{AreParts}
+use Rattle.cidr_uses.specs.Parts.{IsPartition}
 use Rattle.cidr_ext.specs.Subnets.{HasExactlySubnets}
 
 pair_one : (p q : Family × List Bool) → p.0 ≡ q.0 → p.1 ≡ q.1 → p ≡ q
 pair_one (x, y) (v, z) e f = cc
 
 pub are_parts : (family : Family) (w n : ℕ) (network : List Bool) (parts : List (Family × List Bool))
-    → HasExactlySubnets family network n parts → length network ≤ n → n ≤ w → AreParts w network parts
+    → HasExactlySubnets family network n parts → length network ≤ n → n ≤ w → IsPartition w network parts
 are_parts family w n network parts h low high a la b =
     let size : length (take n a) ≡ n = omega (arith, length-take n a) in
     let front : BeginsWith (take n a) network = take-take (length network) n a low ∙ b in
@@ -26,6 +26,6 @@ are_parts family w n network parts h low high a la b =
     )
 
 pub parts_of : (family : Family) (w n : ℕ) (network : List Bool) (r : Option (List (Family × List Bool)))
-    → IfSome r (HasExactlySubnets family network n) → IfSome r (λ _. (length network ≤ n) × (n ≤ w)) → IfSome r (AreParts w network)
+    → IfSome r (HasExactlySubnets family network n) → IfSome r (λ _. (length network ≤ n) × (n ≤ w)) → IfSome r (IsPartition w network)
 parts_of family w n network None h l = tt
 parts_of family w n network (Some parts) h l = are_parts family w n network parts h l.0 l.1

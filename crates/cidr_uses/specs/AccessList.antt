@@ -6,7 +6,7 @@ use Rattle.cidr.specs.either.IpNetwork.{any_bits}
 use Rattle.cidr.specs.model.Network.{BeginsWith}
 use Rattle.cidr.specs.declared.addr.ip.IpAddr.{IpAddr}
 use Rattle.cidr.specs.declared.cidr.any.AnyIpCidr.{AnyIpCidr}
-use Rattle.cidr_sets.specs.FirstRules.{IsFirst}
+use Rattle.cidr_sets.specs.FirstRules.{IsFirstRule}
 
 -- the address is in the entry's network: it has its family and begins with its bits, and every address matches `any`
 abbrev pub Matches : IpAddr → AnyIpCidr → Type 0
@@ -22,4 +22,4 @@ IsFirstMatch entries address i =
 pub record AreDeciders (w : ℕ) (networks : List (List Bool)) (i : ℕ) (deciders : List ℕ) : Type 0 where
   pub earlier : (j : ℕ) → Contains deciders j → j < i
   pub all : (p a : List Bool) → slice_get networks i ≡ Some p → length a ≡ w → BeginsWith a p
-      → (j : ℕ) × Contains deciders j × IsFirst networks a j
+      → (j : ℕ) × Contains deciders j × IsFirstRule networks a j

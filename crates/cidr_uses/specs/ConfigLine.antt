@@ -20,10 +20,10 @@ IsLineRefused line line_error.NotAllow = (text : List ℕ) → line ≢ verb ++ 
 IsLineRefused line (line_error.Network e) = (text : List ℕ) × (line ≡ verb ++ text) × IsIpRefused text e
 
 -- reading gives the network that the line allows, or where it allows none, the error
-abbrev pub ReadsLine : List ℕ → Result AnyIpCidr LineError → Type 0
-ReadsLine line r = MatchResult r (IsLine line) (λ e. IsLineRefused line e × ((n : AnyIpCidr) → ¬ (IsLine line n)))
+abbrev pub ReadsConfigLine : List ℕ → Result AnyIpCidr LineError → Type 0
+ReadsConfigLine line r = MatchResult r (IsLine line) (λ e. IsLineRefused line e × ((n : AnyIpCidr) → ¬ (IsLine line n)))
 
 -- the error's message
-abbrev pub line_message : LineError → List ℕ
-line_message line_error.NotAllow = codes "expected `allow NETWORK`"
-line_message (line_error.Network e) = codes "allow: " ++ parse_message e
+abbrev pub config_line_message : LineError → List ℕ
+config_line_message line_error.NotAllow = codes "expected `allow NETWORK`"
+config_line_message (line_error.Network e) = codes "allow: " ++ parse_message e

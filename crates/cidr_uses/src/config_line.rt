@@ -1,7 +1,7 @@
 //! A line of a configuration: `allow 10.0.0.0/8`, `allow 2001:db8::/32` or `allow any`.
 ghost use Rattle.std.specs.Prelude.{◌≡◌, IfOk};
 ghost use Rattle.std.specs.String.{string_bytes};
-ghost use Rattle.cidr_uses.specs.ConfigLine.{ReadsLine, line_message};
+ghost use Rattle.cidr_uses.specs.ConfigLine.{ReadsConfigLine, config_line_message};
 
 use cidr::AnyIpCidr;
 use cidr::errors::NetworkParseError;
@@ -20,9 +20,9 @@ pub enum LineError {
 
 impl fmt::Display for LineError {
     ghost use Rattle.std.specs.Prelude.{Some};
-    ghost use Rattle.cidr_uses.specs.ConfigLine.{line_message};
+    ghost use Rattle.cidr_uses.specs.ConfigLine.{config_line_message};
 
-    ghost output = { λ e. Some (line_message e) };
+    ghost output = { λ e. Some (config_line_message e) };
 
     fn fmt<W: fmt::Write>(&self, f: &mut fmt::Formatter<W>) -> fmt::Result {
         match self {
@@ -50,7 +50,7 @@ impl From<NetworkParseError> for LineError {
 /// Returns an error for a line that does not begin with `allow` and a blank, and then for a string after that which is
 /// no network, with the error of parsing the network: `allow 10.0.0.1/8` has a host part that is not zero.
 pub fn allowed_network(line: &str) -> Result<AnyIpCidr, LineError>
-    ensures { ReadsLine line.now result }
+    ensures { ReadsConfigLine line.now result }
 {
     match line.strip_prefix("allow ") {
         None => Err(LineError::NotAllow),
@@ -60,7 +60,7 @@ pub fn allowed_network(line: &str) -> Result<AnyIpCidr, LineError>
 
 /// The message of an error, as a string of its own.
 pub fn message(alloc: Global, error: &LineError) -> Result<String, AllocError>
-    ensures { IfOk result (λ text. string_bytes text ≡ line_message error.now) }
+    ensures { IfOk result (λ text. string_bytes text ≡ config_line_message error.now) }
 {
     format!(in alloc; "{error}")
 }

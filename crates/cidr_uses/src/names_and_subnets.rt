@@ -1,6 +1,6 @@
 //! Names in reverse DNS that read back, and the networks that a network is cut into.
 ghost use Rattle.std.specs.Prelude.{◌≡◌, IfSome, Some};
-ghost use Rattle.cidr_uses.specs.Parts.{AreParts};
+ghost use Rattle.cidr_uses.specs.Parts.{IsPartition};
 
 use cidr::{Ipv4Addr, Ipv4Cidr};
 use cidr_ext::laws::printed_name_is_read;
@@ -29,7 +29,7 @@ pub fn address_named(address: Ipv4Addr) -> Option<Ipv4Addr>
 
 /// The networks of one length that a network is cut into: each of its addresses is in exactly one of them.
 pub fn parts(network: &Ipv4Cidr, len: u8) -> Option<Subnets<Ipv4Cidr>>
-    ensures { IfSome result (λ parts. AreParts 32 network.now parts) }
+    ensures { IfSome result (λ parts. IsPartition 32 network.now parts) }
 {
     network.subnets(len)
 }

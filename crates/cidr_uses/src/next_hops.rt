@@ -1,7 +1,7 @@
 //! Next hops by a forwarding table, whose values are indices of a list.
 ghost use Rattle.std.specs.Prelude.{◌≡◌, ℕ, List, Option, IfErr, IfOk, slice_get};
 ghost use Rattle.std.specs.Option.{option_and_then};
-ghost use Rattle.cidr_fib.specs.Errors.{IsRefused};
+ghost use Rattle.cidr_fib.specs.Errors.{AreRowsRefused};
 ghost use Rattle.cidr_table.specs.LastRows.{AreLastRows};
 ghost use Rattle.cidr_table.specs.Prefixes.{IsValueLookedUp};
 
@@ -32,7 +32,7 @@ pub fn value_of_rows<C: NetworkBits + Copy>(
 ) -> Result<Option<u32>, ForwardingError>
     ensures value { IfOk result (λ value. (table : List (C × ℕ)) × AreLastRows rows.items table
         × IsValueLookedUp C.bits (C.bits asked.now) table value) }
-    ensures refused { IfErr result (λ error. (table : List (C × ℕ)) × AreLastRows rows.items table × IsRefused table error) }
+    ensures refused { IfErr result (λ error. (table : List (C × ℕ)) × AreLastRows rows.items table × AreRowsRefused table error) }
 {
     let ready = match ForwardingTable::new(alloc, LpmTable::from_rows(rows)) {
         Ok(ready) => ready,

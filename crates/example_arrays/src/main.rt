@@ -4,7 +4,7 @@
 ghost use Rattle.std.specs.Prelude.{IfOk, IsOk};
 ghost use Rattle.cidr.specs.model.Bits.{bits};
 ghost use Rattle.cidr_table.specs.Prefixes.{IsLongestMatch};
-ghost use Rattle.cidr_arrays.specs.Arrays.{network_bits, networks_of};
+ghost use Rattle.cidr_arrays.specs.Arrays.{prefix_bits, key_networks};
 
 use cidr::Ipv4Addr;
 use cidr_arrays::{BuildError, Fault, Key, build, check, lookup};
@@ -53,7 +53,7 @@ fn longest_match(
     answers: &mut [u32],
     address: Ipv4Addr,
 ) -> Result<Option<usize>, BuildError>
-    ensures { IfOk result (IsLongestMatch (network_bits 32) address (networks_of (λ number. number) keys.now)) }
+    ensures { IfOk result (IsLongestMatch (prefix_bits 32) address (key_networks (λ number. number) keys.now)) }
 {
     let count = build(keys, starts, answers)?;
     Ok(lookup(
@@ -73,7 +73,7 @@ fn checked_match(
     answers: &[u32],
     address: Ipv4Addr,
 ) -> Result<Option<usize>, Fault>
-    ensures { IfOk result (IsLongestMatch (network_bits 32) address (networks_of (λ number. number) keys.now)) }
+    ensures { IfOk result (IsLongestMatch (prefix_bits 32) address (key_networks (λ number. number) keys.now)) }
 {
     check(keys, starts, answers, &[], 0)?;
     Ok(lookup(starts, answers, &[], 0, keys.len(), address.to_bits()))

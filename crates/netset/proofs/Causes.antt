@@ -11,7 +11,7 @@ use Rattle.cidr_io.specs.declared.lines.ReadError.TheVariants.{Failed}
 use Rattle.cidr_io.specs.declared.lines.ReadError.TheVariants as no_line
 use Rattle.cidr_io.specs.declared.sink.OutputFailed.{OutputFailed}
 use Rattle.cidr_io.specs.Writing.{State}
-use Rattle.netset.specs.Causes.{Cause, AreTooMany, LookCause, MayFail, ReadCause, TextFails}
+use Rattle.netset.specs.Causes.{Cause, AreTooMany, LookCause, FileMayFail, ReadCause, TextFails}
 use Rattle.netset.specs.Commands.{Single as ASingle}
 use Rattle.netset.specs.Gathering.{IsLost, Stops, ended_by, told_behind}
 use Rattle.cidr_lists.specs.Lists.{Text, is_line_feed, kept_of, lines_of}
@@ -87,23 +87,23 @@ fails_there None left opens h = tt
 fails_there (Some text) left opens h = subst TextFails (opens text refl) h
 
 pub file_fails : (contents : List ℕ → Option Text) (name : List ℕ) (left : Option (List ℕ)) → ((text : Text) → contents name ≡ Some text → left ≡ Some text.bytes)
-    → TextFails left → MayFail contents name
+    → TextFails left → FileMayFail contents name
 file_fails contents name left opens h = fails_there (contents name) left opens h
 
 pub whole_fails : (contents : List ℕ → Option Text) (name : List ℕ) (left : Option (List ℕ)) → ((text : Text) → contents name ≡ Some text → left ≡ Some text.bytes)
-    → left ≡ None → MayFail contents name
+    → left ≡ None → FileMayFail contents name
 whole_fails contents name left opens h = file_fails contents name left opens (subst TextFails (sym h) tt)
 
 pub whole_read : (left : Option (List ℕ)) (text bytes : List ℕ) → left ≡ Some text → IfSome left (λ text. bytes ≡ text) → bytes ≡ text
 whole_read left text bytes is h = subst (λ (k : Option (List ℕ)). IfSome k (λ text. bytes ≡ text)) is h
 
 pub file_cause : (contents : List ℕ → Option Text) (file : Bor (List ℕ)) (left : Option (List ℕ)) (refused : Bool) (e : ReadError)
-    → ((text : Text) → contents file.now ≡ Some text → left ≡ Some text.bytes) → ReadCause (TextFails left) refused e → Cause (MayFail contents) refused (unread file e)
+    → ((text : Text) → contents file.now ≡ Some text → left ≡ Some text.bytes) → ReadCause (TextFails left) refused e → Cause (FileMayFail contents) refused (unread file e)
 file_cause contents file left refused (Line number e) opens h = tt
 file_cause contents file left refused Input opens h = file_fails contents file.now left opens h
 file_cause contents file left refused NoMemory opens h = h
 
-pub not_opened : (contents : List ℕ → Option Text) (name : List ℕ) → contents name ≡ None → MayFail contents name
+pub not_opened : (contents : List ℕ → Option Text) (name : List ℕ) → contents name ≡ None → FileMayFail contents name
 not_opened contents name is = subst (λ (k : Option Text). IfSome k (λ text. AreTooMany text.bytes)) (sym is) tt
 
 pub cause_weaker : (F G : List ℕ → Type 0) (refused : Bool) (e : CommandError) → ((name : List ℕ) → F name → G name) → Cause F refused e → Cause G refused e
@@ -121,10 +121,10 @@ causes_weaker F G refused (Err e) f h = cause_weaker F G refused e f h
 -- a file that is read line by line
 pub file_causes : (contents : List ℕ → Option Text) (file : List ℕ) (left : Option (List ℕ)) (refused : Bool) (r : Result Verdict CommandError)
     → ((text : Text) → contents file ≡ Some text → left ≡ Some text.bytes) → IfErr r (Cause (λ name. (name ≡ file) × TextFails left) refused)
-    → IfErr r (Cause (MayFail contents) refused)
+    → IfErr r (Cause (FileMayFail contents) refused)
 file_causes contents file left refused r opens h =
-    causes_weaker (λ name. (name ≡ file) × TextFails left) (MayFail contents) refused r
-    (λ name k. subst (MayFail contents) (sym k.0) (file_fails contents file left opens k.1)) h
+    causes_weaker (λ name. (name ≡ file) × TextFails left) (FileMayFail contents) refused r
+    (λ name k. subst (FileMayFail contents) (sym k.0) (file_fails contents file left opens k.1)) h
 
 -- ---- an answer
 pub output_cause : (F : List ℕ → Type 0) (refused : Bool) (verdict : Verdict) (w : Result (Unit {0}) OutputFailed) (r : Result Verdict CommandError)

@@ -18,7 +18,7 @@ use Rattle.cidr_table.proofs.MapLaws.{contains_first, contains_later}
 use Rattle.netset.specs.Answering.{ReadsFile, changed}
 use Rattle.cidr_lists.specs.Changes.{AreMerged, adds_first, merged, network_with, printed_changes, signed}
 use Rattle.netset.specs.Changes.{AreSame}
-use Rattle.cidr_lists.specs.Sets.{Steps, HasAddress, networks_of}
+use Rattle.cidr_lists.specs.Sets.{Steps, IsInSets, networks_of}
 use Rattle.netset.specs.Commands.{Diff}
 use Rattle.cidr_lists.specs.Lists.{Text, networks_in}
 use Rattle.netset.specs.Program.{AnswersRequest, by_output}
@@ -161,8 +161,8 @@ something_changed added lacking h = elim (none_or_some (changed added lacking Ip
 -- ---- what is written is what has changed from one list to the other
 pub diff_written : (contents : List ℕ → Option Text) (a b : List ℕ) (old new added lacking : Sets) (s t : State) (verdict : Verdict)
     (w : Result (Unit {0}) OutputFailed) (r : Result Verdict CommandError) → ReadsFile (contents a) a (Ok old) → ReadsFile (contents b) b (Ok new)
-    → ((family : Family) → IsSetOf 129 (λ p. Steps Difference (HasAddress new family p) (HasAddress old family p)) (networks_of added family))
-    → ((family : Family) → IsSetOf 129 (λ p. Steps Difference (HasAddress old family p) (HasAddress new family p)) (networks_of lacking family))
+    → ((family : Family) → IsSetOf 129 (λ p. Steps Difference (IsInSets new family p) (IsInSets old family p)) (networks_of added family))
+    → ((family : Family) → IsSetOf 129 (λ p. Steps Difference (IsInSets old family p) (IsInSets new family p)) (networks_of lacking family))
     → AreSame (changed added lacking) verdict → Answered s t (printed_changes (changed added lacking)) w → r ≡ by_output verdict w
     → AnswersRequest contents (Diff a b) s t r
 diff_written contents a b old new added lacking s t verdict w r first second more less same written is =

@@ -11,10 +11,10 @@ use Rattle.cidr_io.specs.declared.sink.OutputFailed.{OutputFailed}
 use Rattle.netset.specs.Answering.{AreRead, HasAddresses}
 use Rattle.cidr_lists.specs.Combining.{AllHave, FirstAlone, SomeHas}
 use Rattle.netset.specs.Combining.{IsMade, Turned, form_of, step_of, turns}
-use Rattle.cidr_lists.specs.Sets.{Combined, Steps, HasAddress, networks_of, printed_sets}
+use Rattle.cidr_lists.specs.Sets.{Combined, Steps, IsInSets, networks_of, printed_sets}
 use Rattle.netset.specs.Commands.{Lists, NotIn, Says, read_files}
 use Rattle.netset.specs.Program.{AnswersRequest, by_output}
-use Rattle.cidr_lists.specs.Lists.{Text, network_in}
+use Rattle.cidr_lists.specs.Lists.{Text, line_networks}
 use Rattle.netset.specs.Sets.{Prints}
 use Rattle.netset.specs.declared.output.answers.Verdict.{Verdict}
 use Rattle.netset.specs.declared.output.answers.Verdict.TheVariants.{Yes}
@@ -103,7 +103,7 @@ module _ {X : Type 0} (In : X → Family → List Bool → Type 0) (family : Fam
   made_by Count x xs = by_unions (In x family a) xs
 
 pub has_same : (said : List (List (List IpCidr))) (sets : List Sets) (family : Family) (a : List Bool) → length a ≡ 129 → AllZip HasAddresses said sets
-    → AllZip (λ x y. HasAddress x family a ↔ Says y family a) sets said
+    → AllZip (λ x y. IsInSets x family a ↔ Says y family a) sets said
 has_same [] [] family a wide h = tt
 has_same [] (y ∷ sets) family a wide h = absurd h
 has_same (x ∷ said) [] family a wide h = absurd h
@@ -112,7 +112,7 @@ has_same (x ∷ said) (y ∷ sets) family a wide h = ((h.0 family).exact a wide,
 -- what is made of the sets is what is made of the lists
 pub lists_written : (contents : List ℕ → Option Text) (operation : Operation) (files : List (List ℕ)) (read : List Sets) (sets : Sets) (s t : State)
     (w : Result (Unit {0}) OutputFailed) (r : Result Verdict CommandError) → AreRead contents (read_files files) read
-    → ((family : Family) → IsSetOf 129 (IsMade HasAddress operation read family) (networks_of sets family)) → Prints (form_of operation) s t (networks_of sets) w
+    → ((family : Family) → IsSetOf 129 (IsMade IsInSets operation read family) (networks_of sets family)) → Prints (form_of operation) s t (networks_of sets) w
     → r ≡ by_output Yes w → AnswersRequest contents (Lists operation files) s t r
 lists_written contents operation files read sets s t w r are made (text, printed, written) is =
     inr (
@@ -122,7 +122,7 @@ lists_written contents operation files read sets s t w r are made (text, printed
       (
         λ texts told_so.
             let (said, says, has) = are texts told_so in
-            (said, says, (networks_of sets, (λ family. set_same _ _ (networks_of sets family) (made family) (λ a wide. made_same HasAddress Says operation read said family a (has_same said read family a wide has))), printed)),
+            (said, says, (networks_of sets, (λ family. set_same _ _ (networks_of sets family) (made family) (λ a wide. made_same IsInSets Says operation read said family a (has_same said read family a wide has))), printed)),
         refl,
       ),
       written,
@@ -132,9 +132,9 @@ lists_written contents operation files read sets s t w r are made (text, printed
 -- what both a network and the rest of the lists have
 pub not_in_written : (contents : List ℕ → Option Text) (net : List ℕ) (files : List (List ℕ)) (network : IpCidr) (read : List Sets) (rest whole sets : Sets)
     (s t : State) (w : Result (Unit {0}) OutputFailed) (r : Result Verdict CommandError) → IsIpNetworkText net network → AreRead contents (read_files files) read
-    → ((family : Family) → IsSetOf 129 (IsMade HasAddress Not read family) (networks_of rest family))
-    → ((family : Family) → IsSetOf 129 (Covers (network_in family (network ∷ []))) (networks_of whole family))
-    → ((family : Family) → IsSetOf 129 (λ a. Steps Intersection (HasAddress whole family a) (HasAddress rest family a)) (networks_of sets family))
+    → ((family : Family) → IsSetOf 129 (IsMade IsInSets Not read family) (networks_of rest family))
+    → ((family : Family) → IsSetOf 129 (Covers (line_networks family (network ∷ []))) (networks_of whole family))
+    → ((family : Family) → IsSetOf 129 (λ a. Steps Intersection (IsInSets whole family a) (IsInSets rest family a)) (networks_of sets family))
     → Answered s t (printed_sets (networks_of sets)) w → r ≡ by_output Yes w → AnswersRequest contents (NotIn net files) s t r
 not_in_written contents net files network read rest whole sets s t w r parsed are made one both written is =
     inr (
@@ -152,7 +152,7 @@ not_in_written contents net files network read rest whole sets s t w r parsed ar
                 networks_of sets,
                 λ family. set_same _ _ (networks_of sets family) (both family) (λ a wide.
                     steps_same Intersection _ _ _ _ ((one family).exact a wide)
-                    (chained _ _ _ ((made family).exact a wide) (made_same HasAddress Says Not read said family a (has_same said read family a wide has)))),
+                    (chained _ _ _ ((made family).exact a wide) (made_same IsInSets Says Not read said family a (has_same said read family a wide has)))),
                 refl,
               ),
             ),
@@ -165,31 +165,31 @@ not_in_written contents net files network read rest whole sets s t w r parsed ar
 -- ---- what an operation makes
 turned_kept : (operation : Operation) (step : Step) (turned : Bool) (first : Sets) (others items : List Sets) (a : List Bool) (family : Family) → step ≡ step_of operation
     → turned ≡ turns operation → turned ≡ false → others ≡ items
-    → Combined HasAddress step (HasAddress first family a) others family a ↔ Turned (turns operation) (Combined HasAddress (step_of operation) (HasAddress first family a) items family a)
+    → Combined IsInSets step (IsInSets first family a) others family a ↔ Turned (turns operation) (Combined IsInSets (step_of operation) (IsInSets first family a) items family a)
 turned_kept operation step turned first others items a family by is off whole =
     let kept : turns operation ≡ false = sym is ∙ off in
-    rw (kept, ← by, ← whole) (same (Combined HasAddress step (HasAddress first family a) others family a))
+    rw (kept, ← by, ← whole) (same (Combined IsInSets step (IsInSets first family a) others family a))
 
 turned_away : (operation : Operation) (step : Step) (turned : Bool) (first : Sets) (others items : List Sets) (all : Sets) (a : List Bool) (family : Family)
     → step ≡ step_of operation → turned ≡ turns operation → turned ≡ true → others ≡ items
-    → (HasAddress all family a ↔ Combined HasAddress step (HasAddress first family a) others family a)
-    → (¬ (HasAddress all family a)) ↔ Turned (turns operation) (Combined HasAddress (step_of operation) (HasAddress first family a) items family a)
+    → (IsInSets all family a ↔ Combined IsInSets step (IsInSets first family a) others family a)
+    → (¬ (IsInSets all family a)) ↔ Turned (turns operation) (Combined IsInSets (step_of operation) (IsInSets first family a) items family a)
 turned_away operation step turned first others items all a family by is on whole exact =
     let away : turns operation ≡ true = sym is ∙ on in
-    rw (away, ← by, ← whole) (turned_same true (HasAddress all family a) (Combined HasAddress step (HasAddress first family a) others family a) exact)
+    rw (away, ← by, ← whole) (turned_same true (IsInSets all family a) (Combined IsInSets step (IsInSets first family a) others family a) exact)
 
 pub made_kept : (operation : Operation) (step : Step) (turned : Bool) (first : Sets) (others items : List Sets) (all : Sets) → step ≡ step_of operation
     → turned ≡ turns operation → turned ≡ false → others ≡ items → IsCombined step first others all
-    → (family : Family) → IsSetOf 129 (IsMade HasAddress operation (first ∷ items) family) (networks_of all family)
+    → (family : Family) → IsSetOf 129 (IsMade IsInSets operation (first ∷ items) family) (networks_of all family)
 made_kept operation step turned first others items all by is off whole h family =
     set_same _ _ (networks_of all family) (h family) (λ a wide.
-    chained _ _ _ (turned_kept operation step turned first others items a family by is off whole) (made_by HasAddress family a operation first items))
+    chained _ _ _ (turned_kept operation step turned first others items a family by is off whole) (made_by IsInSets family a operation first items))
 
 pub made_turned : (operation : Operation) (step : Step) (turned : Bool) (first : Sets) (others items : List Sets) (all sets : Sets) → step ≡ step_of operation
     → turned ≡ turns operation → turned ≡ true → others ≡ items → IsCombined step first others all
-    → ((family : Family) → IsSetOf 129 (λ a. ¬ (HasAddress all family a)) (networks_of sets family))
-    → (family : Family) → IsSetOf 129 (IsMade HasAddress operation (first ∷ items) family) (networks_of sets family)
+    → ((family : Family) → IsSetOf 129 (λ a. ¬ (IsInSets all family a)) (networks_of sets family))
+    → (family : Family) → IsSetOf 129 (IsMade IsInSets operation (first ∷ items) family) (networks_of sets family)
 made_turned operation step turned first others items all sets by is on whole h set family =
     set_same _ _ (networks_of sets family) (set family) (λ a wide.
     chained _ _ _ (turned_away operation step turned first others items all a family by is on whole ((h family).exact a wide))
-    (made_by HasAddress family a operation first items))
+    (made_by IsInSets family a operation first items))

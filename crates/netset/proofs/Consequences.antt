@@ -1,7 +1,7 @@
 -- What follows from the contract of a run for a run that ends with status 0.
 use Rattle.std.proofs.Common.{◌≡◌, refl, sym, ◌∙◌, ap, subst, inl, inr, ℕ, ◌≤◌, Bool, List, [], ◌∷◌, ◌++◌, Option, Some, Result, Ok, Err}
 use Rattle.std.specs.Result.{result_unwrap_or}
-use Rattle.cidr_io.specs.Writing.{State, Whole, Answered, Says as Tells}
+use Rattle.cidr_io.specs.Writing.{State, Whole, Answered, Tells}
 use Rattle.cidr_io.specs.declared.sink.OutputFailed.{OutputFailed}
 use Rattle.cidr.specs.either.IpText.{IsIpNetworkText}
 use Rattle.cidr.specs.declared.cidr.combined.IpCidr.{IpCidr}
@@ -9,7 +9,7 @@ use Rattle.netset.specs.Arguments.{line_request}
 use Rattle.netset.specs.Commands.{Request, Lists, NotIn, Diff, Free, Check, Match, Look, Single as ASingle, Help, Version, AreTold, IsAnswer, IsDiff, IsFree, IsMadeOf, IsMatchOf, IsNotIn, read_files}
 use Rattle.cidr_lists.specs.Lists.{Text}
 use Rattle.netset.specs.Look.{IsLook}
-use Rattle.netset.specs.Program.{AnswersRequest, AnswersWhole, IsRefused, KeepsGoing, Reports, Runs, RunsFound, RunsRequest, by_output, status_of, contents_by}
+use Rattle.netset.specs.Program.{AnswersRequest, AnswersWhole, IsRequestRefused, KeepsGoing, Reports, Runs, RunsFound, RunsRequest, by_output, status_of, contents_by}
 use Rattle.netset.specs.Findings.{IsCheck}
 use Rattle.netset.specs.Single.{SingleRequest, IsNumber, IsSingleAnswer}
 use Rattle.netset.specs.Table.{help_text}
@@ -36,7 +36,7 @@ yes_done (Err (error.Input name)) h = cc
 yes_done (Err error.NoMemory) h = cc
 yes_done (Err error.Output) h = cc
 
-never_refused : (contents : List ℕ → Option Text) (request : Request) → ¬ (IsRefused contents request (Ok Yes))
+never_refused : (contents : List ℕ → Option Text) (request : Request) → ¬ (IsRequestRefused contents request (Ok Yes))
 never_refused contents request h = h
 
 written_whole : (out new : State) (answer : List ℕ) (verdict : Verdict) (w : Result (Unit {0}) OutputFailed) → Ok Yes ≡ by_output verdict w → Answered out new answer w

@@ -10,7 +10,7 @@ use Rattle.cidr.specs.texts.Printed.{plain_host_text}
 use Rattle.cidr.specs.declared.inet.combined.IpInet.{IpInet}
 use Rattle.cidr_table.proofs.MapLaws.{contains_first}
 use Rattle.netset.specs.Entries.{AddsEntries, AddsEntry, HasAdded, IsLineFault, IsTextFault, CopiesEntries, IsCopyIn}
-use Rattle.cidr_lists.specs.Entries.{AreAllEntries, AreEntries, IsFirstFault, LineHas}
+use Rattle.cidr_lists.specs.Entries.{AreAllEntries, AreEntries, IsFirstFaultyLine, LineHas}
 use Rattle.cidr_lists.specs.Lists.{Text, lines_of}
 use Rattle.netset.specs.Reading.{IsStopped}
 use Rattle.netset.specs.Unchecked.{AddsFileEntries, AreToldEntries, IsFileFault, IsUnchecked}
@@ -146,7 +146,7 @@ file_fault contents names before after name old (error.Line file number e) whole
   after,
   whole ∙ ap (λ (k : List ℕ). before ++ k ∷ after) (sym h.0),
   λ texts are. (old, fine texts are),
-  λ text is. subst (λ (k : List ℕ). IsFirstFault k text.bytes number e) (sym h.0) (h.1 text (ap contents (sym h.0) ∙ is)),
+  λ text is. subst (λ (k : List ℕ). IsFirstFaultyLine k text.bytes number e) (sym h.0) (h.1 text (ap contents (sym h.0) ∙ is)),
 )
 
 -- the same of the files behind a first one

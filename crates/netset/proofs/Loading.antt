@@ -2,12 +2,12 @@
 use Rattle.std.proofs.Common.{◌≡◌, refl, sym, ◌∙◌, ap, subst, arith, Bor, ℕ, ◌+◌, ◌<◌, ◌≤◌, zero, suc, Bool, true, false, List, [], ◌∷◌, ◌++◌, length, take, drop, get_or, Option, Some, None, Ok, Err, ◌||◌}
 use Rattle.std.specs.Option.{IfSome}
 use Rattle.std.proofs.lemmas.List.{append-nil, take_all, take-append-drop, at_drop_more, get_or-map}
-use Rattle.cidr_io.specs.Writing.{State, Says as Tells}
+use Rattle.cidr_io.specs.Writing.{State, Tells}
 use Rattle.netset.specs.Commands.{AreTold}
 use Rattle.netset.specs.Keeping.{AllSaid, AreKept, HasTold, IsAny, IsBegun, IsLoadError, KeepsList}
 use Rattle.cidr_lists.specs.Faults.{AreTellings}
 use Rattle.cidr_lists.specs.Lists.{Text, lines_of}
-use Rattle.netset.specs.Loading.{IsLoaded, IsUnloaded}
+use Rattle.netset.specs.Loading.{AreListsLoaded, IsUnloaded}
 use Rattle.netset.specs.declared.errors.CommandError.{CommandError}
 use Rattle.netset.specs.declared.errors.CommandError.TheVariants as error
 use Rattle.netset.specs.declared.input.keeping.Kept.{Kept}
@@ -28,7 +28,7 @@ pub none_begun : (contents : List ℕ → Option Text) (kind : Kind) (names : Li
 none_begun contents kind [] = refl
 none_begun contents kind (name ∷ names) = λ text is. ([], lines_of text.bytes, refl, [], refl, refl)
 
-pub none_loaded : (contents : List ℕ → Option Text) (kind : Kind) (s : State) (lists : List Kept) → lists ≡ [] → IsLoaded contents kind [] s s lists false
+pub none_loaded : (contents : List ℕ → Option Text) (kind : Kind) (s : State) (lists : List Kept) → lists ≡ [] → AreListsLoaded contents kind [] s s lists false
 none_loaded contents kind s lists none = ([], none_told contents kind s, refl, λ _. subst (AreKept contents) (sym none) tt)
 
 any_more : (a b : Bool) (xs ys : List ℕ) → IsAny a xs → IsAny b ys → IsAny (a || b) (xs ++ ys)
@@ -65,7 +65,7 @@ said_told contents lists name (Some said) kept h = h contents kept
 
 -- one list more
 module _ (contents : List ℕ → Option Text) (kind : Kind) (names : List (List ℕ)) (name : List ℕ) (s t u : State) (lists : List Kept) (found bad : Bool)
-    (last : Kept) (loaded : IsLoaded contents kind names s t lists found) (named : last.name.now ≡ name)
+    (last : Kept) (loaded : AreListsLoaded contents kind names s t lists found) (named : last.name.now ≡ name)
     (kept : KeepsList (contents name) kind name t u (Ok (last.said, bad))) where
   told_behind : (texts : List Text) → AreTold contents (names ++ name ∷ []) texts → AreTellings kind (names ++ name ∷ []) texts (loaded.0 ++ kept.0)
   told_behind texts h =
@@ -75,7 +75,7 @@ module _ (contents : List ℕ → Option Text) (kind : Kind) (names : List (List
       (subst (λ (k : List ℕ). AreTellings kind (names ++ name ∷ []) (front ++ text ∷ []) (loaded.0 ++ k)) (sym same)
       (tellings_behind kind names front name text loaded.0 errors (loaded.1.1 front are) are_errors))
 
-  list_loaded : IsLoaded contents kind (names ++ name ∷ []) s u (lists ++ last ∷ []) (found || bad)
+  list_loaded : AreListsLoaded contents kind (names ++ name ∷ []) s u (lists ++ last ∷ []) (found || bad)
   list_loaded = (
     loaded.0 ++ kept.0,
     (tells_more s t u loaded.0 kept.0 loaded.1.0 kept.1, told_behind),
@@ -87,7 +87,7 @@ module _ (contents : List ℕ → Option Text) (kind : Kind) (names : List (List
 
 -- the same of files by their names
 module _ (contents : List ℕ → Option Text) (kind : Kind) (files : List (Bor (List ℕ))) (i : ℕ) (d : Bor (List ℕ)) (s t : State) (lists : List Kept) (found : Bool)
-    (within : i < length files) (loaded : IsLoaded contents kind (take i (bytes_of files)) s t lists found) where
+    (within : i < length files) (loaded : AreListsLoaded contents kind (take i (bytes_of files)) s t lists found) where
   abbrev names : List (List ℕ)
   names = bytes_of files
 
@@ -98,9 +98,9 @@ module _ (contents : List ℕ → Option Text) (kind : Kind) (files : List (Bor 
   is_named = get_or-map (λ (w : Bor (List ℕ)). w.now) files i d name within
 
   pub file_loaded : (u : State) (bad : Bool) (last : Kept) → last.name ≡ get_or files i d → KeepsList (contents name) kind name t u (Ok (last.said, bad))
-      → IsLoaded contents kind (take (i + 1) names) s u (lists ++ last ∷ []) (found || bad)
+      → AreListsLoaded contents kind (take (i + 1) names) s u (lists ++ last ∷ []) (found || bad)
   file_loaded u bad last named kept =
-      subst (λ (k : List (List ℕ)). IsLoaded contents kind k s u (lists ++ last ∷ []) (found || bad))
+      subst (λ (k : List (List ℕ)). AreListsLoaded contents kind k s u (lists ++ last ∷ []) (found || bad))
       (sym (next_taken names i name (within_bytes files i within) is_named))
       (list_loaded contents kind (take i names) name s t u lists found bad last loaded (ap (λ (k : Bor (List ℕ)). k.now) named) kept)
 
@@ -132,7 +132,7 @@ module _ (contents : List ℕ → Option Text) (kind : Kind) (files : List (Bor 
 
 -- there is no memory for a list that was read
 pub not_kept : (contents : List ℕ → Option Text) (kind : Kind) (files : List (Bor (List ℕ))) (i : ℕ) (s t : State) (lists : List Kept) (found : Bool)
-    → IsLoaded contents kind (take i (bytes_of files)) s t lists found → IsUnloaded contents kind (bytes_of files) s t error.NoMemory
+    → AreListsLoaded contents kind (take i (bytes_of files)) s t lists found → IsUnloaded contents kind (bytes_of files) s t error.NoMemory
 not_kept contents kind files i s t lists found loaded = (
   take i (bytes_of files),
   drop i (bytes_of files),
@@ -146,6 +146,6 @@ not_kept contents kind files i s t lists found loaded = (
 )
 
 pub all_loaded : (contents : List ℕ → Option Text) (kind : Kind) (files : List (Bor (List ℕ))) (i : ℕ) (s t : State) (lists : List Kept) (found : Bool)
-    → length files ≤ i → IsLoaded contents kind (take i (bytes_of files)) s t lists found → IsLoaded contents kind (bytes_of files) s t lists found
+    → length files ≤ i → AreListsLoaded contents kind (take i (bytes_of files)) s t lists found → AreListsLoaded contents kind (bytes_of files) s t lists found
 all_loaded contents kind files i s t lists found past h =
-    subst (λ (k : List (List ℕ)). IsLoaded contents kind k s t lists found) (take_all i (bytes_of files) (omega (arith, same_length files))) h
+    subst (λ (k : List (List ℕ)). AreListsLoaded contents kind k s t lists found) (take_all i (bytes_of files) (omega (arith, same_length files))) h

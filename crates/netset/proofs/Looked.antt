@@ -19,9 +19,9 @@ use Rattle.cidr_io.specs.Collecting.{Collects}
 use Rattle.netset.specs.Commands.{Look}
 use Rattle.cidr_lists.specs.Lists.{IsTooLong, Text, lines_of}
 use Rattle.cidr_lists.specs.Fields.{IsBadLine, IsSplit}
-use Rattle.cidr_lists.specs.LookUps.{LineLooks, LookUp, found_line, is_found, look_line, shown}
+use Rattle.cidr_lists.specs.LookUps.{LineLooks, LookUp, found_line, is_found, look_line, printed_row}
 use Rattle.netset.specs.Look.{TellsFound}
-use Rattle.netset.specs.LookUps.{AreFirst, EndsReading, IsErrorAt, LooksAll, LooksLine, LooksLines, LooksUp, PushesFound, ReadsTable, unread, verdict_of}
+use Rattle.netset.specs.LookUps.{AreFirstSaid, EndsReading, IsErrorAt, LooksAll, LooksLine, LooksLines, LooksUp, PushesFound, ReadsTable, unread, verdict_of}
 use Rattle.cidr_lists.specs.Tables.{kept, resolved, value_at}
 use Rattle.netset.specs.Program.{AnswersRequest}
 use Rattle.netset.specs.Reading.{IsNextLine, IsStopped}
@@ -49,13 +49,13 @@ same_some f (Some x) = refl
 pub looks_up : (table : Family → List (List Bool × List ℕ)) (address : IpAddr) (row : Option (List Bool × List ℕ)) (printed : Option (List ℕ × List ℕ))
     (s t : State) (block rest : List ℕ) (r : Result Bool OutputFailed)
     → IsLookedUp (λ (p : List Bool). p) (plain_bits address) (table (address_family address)) row
-    → printed ≡ option_map (shown (address_family address)) row → PushesFound (ip_text address) printed s t block rest r
+    → printed ≡ option_map (printed_row (address_family address)) row → PushesFound (ip_text address) printed s t block rest r
     → LooksUp table address s t block rest r
 looks_up table address row printed s t block rest (Ok found) looked is pushed = (
   row,
   looked,
   subst (λ (k : Option (List ℕ × List ℕ)). Collects s t block rest (found_line (ip_text address) k) (Ok tt)) is pushed.0,
-  pushed.1 ∙ (ap (λ (k : Option (List ℕ × List ℕ)). is_some k) is ∙ same_some (shown (address_family address)) row),
+  pushed.1 ∙ (ap (λ (k : Option (List ℕ × List ℕ)). is_some k) is ∙ same_some (printed_row (address_family address)) row),
 )
 looks_up table address row printed s t block rest (Err e) looked is pushed = (
   row,
@@ -65,7 +65,7 @@ looks_up table address row printed s t block rest (Err e) looked is pushed = (
 
 -- what is printed of a row, by the row and by its value
 printed_value : (family : Family) (values : List ℕ) (found : Option (List Bool × Span))
-    → option_map (λ (row : List Bool × Span). (plain_text family row.0, value_at values row.1)) found ≡ option_map (shown family) (option_map (resolved values) found)
+    → option_map (λ (row : List Bool × Span). (plain_text family row.0, value_at values row.1)) found ≡ option_map (printed_row family) (option_map (resolved values) found)
 printed_value family values None = refl
 printed_value family values (Some row) = refl
 
@@ -194,12 +194,12 @@ looked_at_all table contents left next s t u b c d found hit after number line m
 
 -- ---- where the lines end early
 first_read : (table : Family → List (List Bool × List ℕ)) (contents left : Option (List ℕ)) (looks : List (Option LookUp)) (number : ℕ)
-    → IfSome contents (λ text. Passed (LineLooks table) text left looks number) → IfSome contents (λ text. AreFirst (LineLooks table) text looks)
+    → IfSome contents (λ text. Passed (LineLooks table) text left looks number) → IfSome contents (λ text. AreFirstSaid (LineLooks table) text looks)
 first_read table None left looks number p = tt
 first_read table (Some text) left looks number p = first_passed (LineLooks table) text left looks number p
 
 stopped_read : (table : Family → List (List Bool × List ℕ)) (contents : Option (List ℕ)) (looks : List (Option LookUp)) (e : ReadError) → IsStopped e
-    → IfSome contents (λ text. AreFirst (LineLooks table) text looks) → IfSome contents (λ text. EndsReading table text looks e)
+    → IfSome contents (λ text. AreFirstSaid (LineLooks table) text looks) → IfSome contents (λ text. EndsReading table text looks e)
 stopped_read table None looks e stopped p = tt
 stopped_read table (Some text) looks (Line number e) stopped p = absurd stopped
 stopped_read table (Some text) looks Input stopped p = p
@@ -233,7 +233,7 @@ error_read table (Some text) left next looks number line more NoMemory p n bad =
 
 front_read : (table : Family → List (List Bool × List ℕ)) (contents left next : Option (List ℕ)) (looks : List (Option LookUp)) (number : ℕ) (line : List ℕ) (more : Bool) (look : Option LookUp)
     → IfSome contents (λ text. Passed (LineLooks table) text left looks number) → IfSome left (λ text. IsNextLine text line more next) → LineLooks table line look
-    → IfSome contents (λ text. AreFirst (LineLooks table) text (looks ++ look ∷ []))
+    → IfSome contents (λ text. AreFirstSaid (LineLooks table) text (looks ++ look ∷ []))
 front_read table None left next looks number line more look p n says = tt
 front_read table (Some text) left next looks number line more look p n says = one_more_passed (LineLooks table) text left next looks number line more look p n says
 
@@ -287,12 +287,12 @@ looked_lost table contents s t block rest fine none (looks, part, ends) = (
 )
 
 all_told : (table : Family → List (List Bool × List ℕ)) (contents : Option (List ℕ)) (looks : List (Option LookUp)) → IfSome contents (λ text. AllZip (LineLooks table) (lines_of text) looks)
-    → IfSome contents (λ text. AreFirst (LineLooks table) text looks)
+    → IfSome contents (λ text. AreFirstSaid (LineLooks table) text looks)
 all_told table None looks h = tt
 all_told table (Some text) looks h = all_first (LineLooks table) text looks h
 
 part_told : (table : Family → List (List Bool × List ℕ)) (contents : Option (List ℕ)) (looks : List (Option LookUp)) (e : ReadError) → IfSome contents (λ text. EndsReading table text looks e)
-    → IfSome contents (λ text. AreFirst (LineLooks table) text looks)
+    → IfSome contents (λ text. AreFirstSaid (LineLooks table) text looks)
 part_told table None looks e h = tt
 part_told table (Some text) looks (Line number e) h = record { before = h.before; after = h.line ∷ h.after; lines = h.lines; fine = h.fine }
 part_told table (Some text) looks Input h = h
@@ -313,7 +313,7 @@ part_unwritten table contents s t u block rest e f r is fine none (looks, collec
     subst (LooksAll table contents s u) (sym is)
     (looks, f, written_rest s t u block rest (flat_map look_line looks) (Err f) fine none collected wrote, part_told table contents looks e ends)
 
-nothing_told : (table : Family → List (List Bool × List ℕ)) (contents : Option (List ℕ)) → IfSome contents (λ text. AreFirst (LineLooks table) text [])
+nothing_told : (table : Family → List (List Bool × List ℕ)) (contents : Option (List ℕ)) → IfSome contents (λ text. AreFirstSaid (LineLooks table) text [])
 nothing_told table None = tt
 nothing_told table (Some text) = record { before = []; after = lines_of text; lines = refl; fine = tt }
 
@@ -376,6 +376,6 @@ module _ (contents : List ℕ → Option Text) (rows : List ℕ) (file : Bor (Li
     flat_map look_line looks,
     written,
     λ first second is at.
-        let first_lines = bytes_read (λ text. AreFirst (LineLooks (kept table)) text looks) left second.bytes (opens second at) ends in
+        let first_lines = bytes_read (λ text. AreFirstSaid (LineLooks (kept table)) text looks) left second.bytes (opens second at) ends in
         (kept table, reads first is, looks, cut_behind (LineLooks (kept table)) IsBadLine second.bytes looks error.Output (λ _ _. tt) first_lines, refl),
   )

@@ -17,7 +17,7 @@ use Rattle.cidr_io.specs.Collecting.{Collects, Holds}
 use Rattle.netset.specs.Causes.{TextFails}
 use Rattle.netset.specs.Combining.{Turned}
 use Rattle.netset.specs.Commands.{Match, Says}
-use Rattle.netset.specs.Gathering.{Finishes, IsCounted, IsDone, IsLost, IsUnreadable, NotesLong, Stops, Streams, TakesPart, ended_by, lines_of_part, rest_written, told_behind}
+use Rattle.netset.specs.Gathering.{Finishes, IsCounted, IsDone, IsLost, IsNotReadFurther, NotesLong, Stops, Streams, GathersPart, ended_by, lines_of_part, rest_written, told_behind}
 use Rattle.cidr_lists.specs.Lists.{IsTooLong, Text, is_line_feed, kept_of, lines_of}
 use Rattle.cidr_lists.specs.Within.{AreWithin, HasOneIn, LiesIn}
 use Rattle.netset.specs.Matching.{ArePicked, ArePickedBy, IsEndedBy, IsEnough, IsErrorBy, IsFirstLong, IsLongOrLost, IsMatch, Picks, PicksAnywhere, PicksBy, PicksByField, all_written, has, line_written, written_of}
@@ -25,7 +25,7 @@ use Rattle.cidr_lists.specs.Lines.{last_line, lines_among, lines_in}
 use Rattle.cidr_lists.specs.Fields.{FieldSays}
 use Rattle.netset.specs.Program.{AnswersRequest, by_output}
 use Rattle.netset.specs.Reading.{IsNextLine}
-use Rattle.cidr_lists.specs.Sets.{HasAddress}
+use Rattle.cidr_lists.specs.Sets.{IsInSets}
 use Rattle.netset.specs.Streaming.{IsOfFile, IsStop, IsWritten, ReadTo}
 use Rattle.netset.specs.declared.output.answers.Verdict.{Verdict}
 use Rattle.netset.specs.declared.output.answers.Verdict.TheVariants.{Yes, No}
@@ -179,17 +179,17 @@ picks_anywhere IsIn inverted line found picked e d = turned_by (HasOneIn IsIn li
 
 -- by the list as by its set
 module _ (said : List (List IpCidr)) (sets : Sets) (h : HasAddresses said sets) where
-  within_same : (family : Family) (prefix : List Bool) → AreWithin (HasAddress sets) family prefix ↔ AreWithin (Says said) family prefix
+  within_same : (family : Family) (prefix : List Bool) → AreWithin (IsInSets sets) family prefix ↔ AreWithin (Says said) family prefix
   within_same family prefix = (
     λ k a wide begins. ((h family).exact a wide).0 (k a wide begins),
     λ k a wide begins. ((h family).exact a wide).1 (k a wide begins),
   )
 
-  lies_same : (what : Option IpCidr) → LiesIn (HasAddress sets) what ↔ LiesIn (Says said) what
+  lies_same : (what : Option IpCidr) → LiesIn (IsInSets sets) what ↔ LiesIn (Says said) what
   lies_same None = (λ e. e, λ e. e)
   lies_same (Some network) = within_same (network_family network) (network_prefix network)
 
-  one_same : (line : List ℕ) → HasOneIn (HasAddress sets) line ↔ HasOneIn (Says said) line
+  one_same : (line : List ℕ) → HasOneIn (IsInSets sets) line ↔ HasOneIn (Says said) line
   one_same line = (
     λ (family, (word, among, (text, bare, (address, spells, within)))).
         (family, (word, among, (text, bare, (address, spells, (within_same family address).0 within)))),
@@ -197,21 +197,21 @@ module _ (said : List (List IpCidr)) (sets : Sets) (h : HasAddresses said sets) 
         (family, (word, among, (text, bare, (address, spells, (within_same family address).1 within)))),
   )
 
-  picks_by_same : (anywhere inverted : Bool) (line : List ℕ) (r : Result Bool LineError) → PicksBy anywhere (HasAddress sets) inverted line r
+  picks_by_same : (anywhere inverted : Bool) (line : List ℕ) (r : Result Bool LineError) → PicksBy anywhere (IsInSets sets) inverted line r
       → PicksBy anywhere (Says said) inverted line r
   picks_by_same true inverted line (Ok picked) d =
-      decides_same (Turned inverted (HasOneIn (HasAddress sets) line)) (Turned inverted (HasOneIn (Says said) line)) picked
-      (turned_same inverted (HasOneIn (HasAddress sets) line) (HasOneIn (Says said) line) (one_same line)) d
+      decides_same (Turned inverted (HasOneIn (IsInSets sets) line)) (Turned inverted (HasOneIn (Says said) line)) picked
+      (turned_same inverted (HasOneIn (IsInSets sets) line) (HasOneIn (Says said) line) (one_same line)) d
   picks_by_same true inverted line (Err e) bad = absurd bad
   picks_by_same false inverted line (Ok picked) (what, says, d) = (
     what,
     says,
-    decides_same (Turned inverted (LiesIn (HasAddress sets) what)) (Turned inverted (LiesIn (Says said) what)) picked
-        (turned_same inverted (LiesIn (HasAddress sets) what) (LiesIn (Says said) what) (lies_same what)) d,
+    decides_same (Turned inverted (LiesIn (IsInSets sets) what)) (Turned inverted (LiesIn (Says said) what)) picked
+        (turned_same inverted (LiesIn (IsInSets sets) what) (LiesIn (Says said) what) (lies_same what)) d,
   )
   picks_by_same false inverted line (Err e) bad = bad
 
-  picks_same : (anywhere inverted : Bool) (line : List ℕ) (r : Result Bool LineError) → Picks anywhere (HasAddress sets) inverted line r
+  picks_same : (anywhere inverted : Bool) (line : List ℕ) (r : Result Bool LineError) → Picks anywhere (IsInSets sets) inverted line r
       → Picks anywhere (Says said) inverted line r
   picks_same anywhere inverted line r (inl long) = inl long
   picks_same anywhere inverted line r (inr (short, picks)) = inr (short, picks_by_same anywhere inverted line r picks)
@@ -244,21 +244,21 @@ stops_by error.Output s t block w other wrote = absurd (other refl)
 
 -- ---- one part
 module _ (P : List ℕ → Result Bool LineError → Type 0) (what : Written) (file : List ℕ) (number : ℕ) where
-  pub takes_none : (part : List ℕ) (more : Bool) (s : State) (g : Gathered) → ArePicked P (lines_of_part part more) [] → TakesPart P what file number part more s s g g (Ok tt)
+  pub takes_none : (part : List ℕ) (more : Bool) (s : State) (g : Gathered) → ArePicked P (lines_of_part part more) [] → GathersPart P what file number part more s s g g (Ok tt)
   takes_none part more s g are = ([], are, omega arith, omega arith, none_collected s g.block)
 
-  pub takes_empty : (part : List ℕ) (more : Bool) (s : State) (g : Gathered) → lines_of_part part more ≡ [] → TakesPart P what file number part more s s g g (Ok tt)
+  pub takes_empty : (part : List ℕ) (more : Bool) (s : State) (g : Gathered) → lines_of_part part more ≡ [] → GathersPart P what file number part more s s g g (Ok tt)
   takes_empty part more s g none =
       takes_none part more s g (subst (λ (k : List (List ℕ)). ArePicked P k []) (sym none) (none_picked P))
 
   pub takes_passed : (part : List ℕ) (more : Bool) (s : State) (g : Gathered) → lines_of_part part more ≡ part ∷ [] → P part (Ok false)
-      → TakesPart P what file number part more s s g g (Ok tt)
+      → GathersPart P what file number part more s s g g (Ok tt)
   takes_passed part more s g one passed =
       takes_none part more s g (subst (λ (k : List (List ℕ)). ArePicked P k []) (sym one) (one_passed P part passed))
 
   pub takes_picked : (part : List ℕ) (more : Bool) (s t : State) (before after : Gathered) → lines_of_part part more ≡ part ∷ [] → P part (Ok true)
       → after.count ≡ before.count + 1 → Collects s t before.block after.block (line_written what part) (Ok tt)
-      → TakesPart P what file number part more s t before after (Ok tt)
+      → GathersPart P what file number part more s t before after (Ok tt)
   takes_picked part more s t before after one picks count collects = (
     part ∷ [],
     subst (λ (k : List (List ℕ)). ArePicked P k (part ∷ [])) (sym one) (one_picked P part picks),
@@ -347,7 +347,7 @@ module _ (P : List ℕ → Result Bool LineError → Type 0) (what : Written) wh
 
   pub take_on : (file : List ℕ) (known left next : Option (List ℕ)) (s t u : State) (number : ℕ) (part : List ℕ) (more : Bool) (before after : Gathered) (long now : Option ℕ)
       → Streamed known left s t number before.count before.block long → IfSome left (λ text. IsNextLine text part more next) → NotesLong number part long now
-      → TakesPart P what file number part more t u before after (Ok tt) → Taken known next s u number after.count after.block more now
+      → GathersPart P what file number part more t u before after (Ok tt) → Taken known next s u number after.count after.block more now
   take_on file known left next s t u number part more before after long now st n notes (one, are, count, few, collects) = record {
     picked = st.picked ++ one;
     collected = subst (Holds s u after.block) (sym (flat_map-append (line_written what) st.picked one))
@@ -459,7 +459,7 @@ module _ (P : List ℕ → Result Bool LineError → Type 0) (what : Written) wh
   )
 
   pub unread : (file : List ℕ) (known left : Option (List ℕ)) (s t u : State) (number count : ℕ) (block : List ℕ) (long : Option ℕ) (e : CommandError) (r : Result Verdict CommandError)
-      → s.failed ≡ false → IsUnreadable file e → Streamed known left s t number count block long → Stops e t u block r → Streams P what file known s u r
+      → s.failed ≡ false → IsNotReadFurther file e → Streamed known left s t number count block long → Stops e t u block r → Streams P what file known s u r
   unread file known left s t u number count block long (error.Argument text e) r fine h st stops = absurd h
   unread file known left s t u number count block long (error.Line name n e) r fine h st stops = absurd h
   unread file known left s t u number count block long (error.Input name) r fine h st (w, wrote, is) =
@@ -614,7 +614,7 @@ known_cut P Q f what known text answer e is h = cut_same P Q f what text answer 
 
 pub matched : (contents : List ℕ → Option Text) (options : List (List ℕ)) (list file : List ℕ) (sets : Sets) (known : Option (List ℕ)) (s t : State) (r : Result Verdict CommandError)
     → ReadsFile (contents list) list (Ok sets) → ((text : Text) → contents file ≡ Some text → known ≡ Some text.bytes)
-    → Streams (Picks (has (codes "--any") options) (HasAddress sets) (has (codes "-v") options)) (written_of options) file known s t r → AnswersRequest contents (Match options list file) s t r
+    → Streams (Picks (has (codes "--any") options) (IsInSets sets) (has (codes "-v") options)) (written_of options) file known s t r → AnswersRequest contents (Match options list file) s t r
 matched contents options list file sets known s t r reads tells (inl (answer, verdict, w, match, written, is)) =
     inl (inr (
       answer,

@@ -5,8 +5,8 @@ use Rattle.std.specs.Option.{option_or}
 use Rattle.std.proofs.lemmas.Bool.{true≢false}
 use Rattle.std.proofs.lemmas.List.{append-nil, append_assoc, drop_all, drop_more, get_or-map, length-map, map-append, take-map, take_all, take_more, take-append-drop}
 use Rattle.std.proofs.lemmas.List.Folds.{find-append, list_all_at, list_all_more}
-use Rattle.netset.specs.Arguments.{Parts, and_then, is_equals, is_option, joined, letter_options, letter_parts, long_parts, misuse_text, no_option, no_parts, only_operand, only_options, only_value, parts_from, short_option, takes, word_parts}
-use Rattle.netset.specs.Command.{Adds, IsUsageError, misuse_line}
+use Rattle.netset.specs.Arguments.{Parts, and_then, is_equals, is_option, joined_arguments, letter_options, letter_parts, long_parts, misuse_text, no_option, no_parts, only_operand, only_options, only_value, parts_from, short_option, takes, word_parts}
+use Rattle.netset.specs.Command.{AddsParts, IsUsageError, misuse_line}
 use Rattle.netset.specs.Matching.{is_word}
 use Rattle.netset.specs.Table.{name_of, takes_value, texts}
 use Rattle.netset.specs.declared.commands.arguments.Next.{Next}
@@ -24,11 +24,11 @@ same_parts : (o v w a b c : List (List ℕ)) → o ≡ a → v ≡ b → w ≡ c
 same_parts o v w a b c x y z =
     ap (λ (k : List (List ℕ)). parts_by k v w) x ∙ (ap (λ (k : List (List ℕ)). parts_by a k w) y ∙ ap (λ (k : List (List ℕ)). parts_by a b k) z)
 
-pub none_behind : (p : Parts) → joined p no_parts ≡ p
+pub none_behind : (p : Parts) → joined_arguments p no_parts ≡ p
 none_behind p =
     same_parts (p.options ++ []) (p.values ++ []) (p.operands ++ []) p.options p.values p.operands (append-nil p.options) (append-nil p.values) (append-nil p.operands)
 
-joined_assoc : (a b c : Parts) → joined (joined a b) c ≡ joined a (joined b c)
+joined_assoc : (a b c : Parts) → joined_arguments (joined_arguments a b) c ≡ joined_arguments a (joined_arguments b c)
 joined_assoc a b c =
     same_parts ((a.options ++ b.options) ++ c.options) ((a.values ++ b.values) ++ c.values) ((a.operands ++ b.operands) ++ c.operands)
     (a.options ++ (b.options ++ c.options)) (a.values ++ (b.values ++ c.values)) (a.operands ++ (b.operands ++ c.operands))
@@ -39,17 +39,19 @@ texts_pushed : (words more : List (Bor (List ℕ))) (w : Bor (List ℕ)) → mor
 texts_pushed words more w is = ap texts is ∙ map-append (λ (k : Bor (List ℕ)). k.now) words (w ∷ [])
 
 module _ (options values operands more : List (Bor (List ℕ))) (w : Bor (List ℕ)) where
-  pub option_pushed : more ≡ options ++ w ∷ [] → parts_by (texts more) (texts values) (texts operands) ≡ joined (parts_by (texts options) (texts values) (texts operands)) (only_options (w.now ∷ []))
+  pub option_pushed : more ≡ options ++ w ∷ [] → parts_by (texts more) (texts values) (texts operands) ≡ joined_arguments (parts_by (texts options) (texts values) (texts operands))
+      (only_options (w.now ∷ []))
   option_pushed is =
       same_parts (texts more) (texts values) (texts operands) (texts options ++ w.now ∷ []) (texts values ++ []) (texts operands ++ [])
       (texts_pushed options more w is) (sym (append-nil (texts values))) (sym (append-nil (texts operands)))
 
-  pub value_pushed : more ≡ values ++ w ∷ [] → parts_by (texts options) (texts more) (texts operands) ≡ joined (parts_by (texts options) (texts values) (texts operands)) (only_value w.now)
+  pub value_pushed : more ≡ values ++ w ∷ [] → parts_by (texts options) (texts more) (texts operands) ≡ joined_arguments (parts_by (texts options) (texts values) (texts operands)) (only_value w.now)
   value_pushed is =
       same_parts (texts options) (texts more) (texts operands) (texts options ++ []) (texts values ++ w.now ∷ []) (texts operands ++ [])
       (sym (append-nil (texts options))) (texts_pushed values more w is) (sym (append-nil (texts operands)))
 
-  pub operand_pushed : more ≡ operands ++ w ∷ [] → parts_by (texts options) (texts values) (texts more) ≡ joined (parts_by (texts options) (texts values) (texts operands)) (only_operand w.now)
+  pub operand_pushed : more ≡ operands ++ w ∷ [] → parts_by (texts options) (texts values) (texts more) ≡ joined_arguments
+      (parts_by (texts options) (texts values) (texts operands)) (only_operand w.now)
   operand_pushed is =
       same_parts (texts options) (texts values) (texts more) (texts options ++ []) (texts values ++ []) (texts operands ++ w.now ∷ [])
       (sym (append-nil (texts options))) (sym (append-nil (texts values))) (texts_pushed operands more w is)
@@ -105,14 +107,14 @@ pub error_of : {A : Type 0} (found other : Result A (List ℕ)) (refused : Bool)
 error_of {A} found other refused e is h = subst (λ (k : Result A (List ℕ)). IsUsageError k refused e) (sym is) h
 
 pub added_as : (found other : Result (Parts × Next) (List ℕ)) (old new : Parts) (refused : Bool) (r : Result Next UsageError) → found ≡ other
-    → MatchResult r (Adds old new other) (IsUsageError other refused) → MatchResult r (Adds old new found) (IsUsageError found refused)
+    → MatchResult r (AddsParts old new other) (IsUsageError other refused) → MatchResult r (AddsParts old new found) (IsUsageError found refused)
 added_as found other old new refused r is h =
-    subst (λ (k : Result (Parts × Next) (List ℕ)). MatchResult r (Adds old new k) (IsUsageError k refused)) (sym is) h
+    subst (λ (k : Result (Parts × Next) (List ℕ)). MatchResult r (AddsParts old new k) (IsUsageError k refused)) (sym is) h
 
 -- ---- letters
 -- these letters are options, and stand behind others
 abbrev pub AreAdded : Verb → Parts → Parts → List ℕ → Type 0
-AreAdded verb old new letters = (new ≡ joined old (only_options (map short_option letters))) × (list_all (takes verb) (map short_option letters) ≡ true)
+AreAdded verb old new letters = (new ≡ joined_arguments old (only_options (map short_option letters))) × (list_all (takes verb) (map short_option letters) ≡ true)
 
 pub no_letters : (verb : Verb) (old : Parts) → AreAdded verb old old []
 no_letters verb old = (sym (none_behind old), refl)
@@ -137,23 +139,23 @@ all_and p (x ∷ xs) y all here =
     both_true (p x) (list_all p (xs ++ y ∷ [])) (and_first (p x) (list_all p xs) all) (all_and p xs y (and_second (p x) (list_all p xs) all) here)
 
 pub letters_more : (verb : Verb) (old now new : Parts) (letters : List ℕ) (i : ℕ) → i < length letters → AreAdded verb old now (take i letters)
-    → takes verb (short_option (get_or letters i 0)) ≡ true → new ≡ joined now (only_options (short_option (get_or letters i 0) ∷ []))
+    → takes verb (short_option (get_or letters i 0)) ≡ true → new ≡ joined_arguments now (only_options (short_option (get_or letters i 0) ∷ []))
     → AreAdded verb old new (take (i + 1) letters)
 letters_more verb old now new letters i within (are, all) here more = (
   more
-      ∙ (ap (λ (k : Parts). joined k (only_options (short_option (get_or letters i 0) ∷ []))) are
+      ∙ (ap (λ (k : Parts). joined_arguments k (only_options (short_option (get_or letters i 0) ∷ []))) are
       ∙ (joined_assoc old (only_options (map short_option (take i letters))) (only_options (short_option (get_or letters i 0) ∷ []))
-      ∙ ap (λ (k : List (List ℕ)). joined old (only_options k)) (sym (letters_taken letters i within)))),
+      ∙ ap (λ (k : List (List ℕ)). joined_arguments old (only_options k)) (sym (letters_taken letters i within)))),
   ap (list_all (takes verb)) (letters_taken letters i within) ∙ all_and (takes verb) (map short_option (take i letters)) (short_option (get_or letters i 0)) all here,
 )
 
 pub letters_end : (verb : Verb) (old new : Parts) (word letters : List ℕ) (i : ℕ) → letters ≡ drop 1 word → length letters ≤ i → AreAdded verb old new (take i letters)
-    → Adds old new (letter_parts verb word) Any
+    → AddsParts old new (letter_parts verb word) Any
 letters_end verb old new word letters i are past (is, all) =
     let whole : map short_option (take i letters) ≡ letter_options word = ap (map short_option) (take_all i letters past ∙ are) in (
       only_options (letter_options word),
       if_true (list_all (takes verb) (letter_options word)) _ _ (ap (list_all (takes verb)) (sym whole) ∙ all),
-      is ∙ ap (λ (k : List (List ℕ)). joined old (only_options k)) whole,
+      is ∙ ap (λ (k : List (List ℕ)). joined_arguments old (only_options k)) whole,
     )
 
 pub no_letter : (verb : Verb) (word letters : List ℕ) (i : ℕ) → letters ≡ drop 1 word → i < length letters → takes verb (short_option (get_or letters i 0)) ≡ false
@@ -167,13 +169,13 @@ no_letter verb word letters i are within none =
 -- ---- words
 -- parts before others
 abbrev pub behind : Parts → Result Parts (List ℕ) → Result Parts (List ℕ)
-behind front found = and_then found (λ rest. Ok (joined front rest))
+behind front found = and_then found (λ rest. Ok (joined_arguments front rest))
 
 pub behind_none : (found : Result Parts (List ℕ)) → found ≡ behind no_parts found
 behind_none (Ok parts) = refl
 behind_none (Err line) = refl
 
-behind_both : (a b : Parts) (found : Result Parts (List ℕ)) → behind a (behind b found) ≡ behind (joined a b) found
+behind_both : (a b : Parts) (found : Result Parts (List ℕ)) → behind a (behind b found) ≡ behind (joined_arguments a b) found
 behind_both a b (Ok parts) = ap (λ (k : Parts). Ok k) (sym (joined_assoc a b parts))
 behind_both a b (Err line) = refl
 
@@ -194,15 +196,15 @@ module _ (verb : Verb) (words : List (Bor (List ℕ))) (i : ℕ) (d : Bor (List 
   at_word : parts_from verb (texts words) Any ≡ behind front (parts_from verb (word_at ∷ others) next)
   at_word = left ∙ ap (λ (k : List (Bor (List ℕ))). behind front (parts_from verb (texts k) next)) (drop_more words i d within)
 
-  pub word_left : (new : Parts) (then_next : Next) → Adds front new (word_parts verb next word_at) then_next → Left verb words (i + 1) new then_next
+  pub word_left : (new : Parts) (then_next : Next) → AddsParts front new (word_parts verb next word_at) then_next → Left verb words (i + 1) new then_next
   word_left new then_next (one, is, added) =
       at_word
-      ∙ (ap (λ (r : Result (Parts × Next) (List ℕ)). behind front (and_then r (λ one. and_then (parts_from verb others one.1) (λ rest. Ok (joined one.0 rest))))) is
+      ∙ (ap (λ (r : Result (Parts × Next) (List ℕ)). behind front (and_then r (λ one. and_then (parts_from verb others one.1) (λ rest. Ok (joined_arguments one.0 rest))))) is
       ∙ (behind_both front one (parts_from verb others then_next) ∙ ap (λ (k : Parts). behind k (parts_from verb others then_next)) (sym added)))
 
   pub word_wrong : (refused : Bool) (e : UsageError) → IsUsageError (word_parts verb next word_at) refused e → IsUsageError (parts_from verb (texts words) Any) refused e
   word_wrong refused (wrong.Misuse misuse) is =
-      at_word ∙ ap (λ (r : Result (Parts × Next) (List ℕ)). behind front (and_then r (λ one. and_then (parts_from verb others one.1) (λ rest. Ok (joined one.0 rest))))) is
+      at_word ∙ ap (λ (r : Result (Parts × Next) (List ℕ)). behind front (and_then r (λ one. and_then (parts_from verb others one.1) (λ rest. Ok (joined_arguments one.0 rest))))) is
   word_wrong refused wrong.NoMemory is = is
 
 module _ (verb : Verb) (words : List (Bor (List ℕ))) (i : ℕ) (front : Parts) (next : Next) (past : length words ≤ i) (left : Left verb words i front next) where

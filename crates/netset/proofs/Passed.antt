@@ -3,7 +3,7 @@ use Rattle.std.proofs.Common.{◌≡◌, refl, sym, ◌∙◌, ℕ, ◌+◌, Bor
 use Rattle.std.specs.Option.{IfSome}
 use Rattle.std.specs.List.{AllZip}
 use Rattle.cidr_lists.specs.Lists.{lines_of}
-use Rattle.netset.specs.LookUps.{AreBeforeError, AreFirst}
+use Rattle.netset.specs.LookUps.{AreBeforeError, AreFirstSaid}
 use Rattle.netset.specs.Reading.{IsNextLine}
 use Rattle.netset.specs.Streaming.{IsCut, IsStop}
 use Rattle.netset.specs.declared.errors.CommandError.{CommandError}
@@ -55,12 +55,12 @@ module _ {S : Type 0} (Says : List ℕ → S → Type 0) where
       }
 
   -- no more lines
-  pub first_passed : (text : List ℕ) (left : Option (List ℕ)) (said : List S) (number : ℕ) → Passed text left said number → AreFirst Says text said
+  pub first_passed : (text : List ℕ) (left : Option (List ℕ)) (said : List S) (number : ℕ) → Passed text left said number → AreFirstSaid Says text said
   first_passed text left said number p = record { before = p.before; after = lines_of p.rest; lines = p.lines; fine = p.done }
 
   -- one more line, and no more
   pub one_more_passed : (text : List ℕ) (left next : Option (List ℕ)) (said : List S) (number : ℕ) (line : List ℕ) (more : Bool) (one : S)
-      → Passed text left said number → IfSome left (λ text. IsNextLine text line more next) → Says line one → AreFirst Says text (said ++ one ∷ [])
+      → Passed text left said number → IfSome left (λ text. IsNextLine text line more next) → Says line one → AreFirstSaid Says text (said ++ one ∷ [])
   one_more_passed text left next said number line more one p n s =
       let here = stops_at (AllZip Says) (Some text) left next said number line more p n in
       record {
@@ -81,10 +81,10 @@ module _ {S : Type 0} (Says : List ℕ → S → Type 0) where
   )
 
   pub cut_behind : (IsBad : List ℕ → LineError → Type 0) (text : List ℕ) (said : List S) (e : CommandError)
-      → ((read left : List (List ℕ)) → IsStop IsBad read left e) → AreFirst Says text said
+      → ((read left : List (List ℕ)) → IsStop IsBad read left e) → AreFirstSaid Says text said
       → IsCut (AllZip Says) IsBad (lines_of text) said e
   cut_behind IsBad text said e stops h = (h.before, h.after, record { lines = h.lines; are = h.fine }, stops h.before h.after)
 
   -- all lines are the first ones
-  pub all_first : (text : List ℕ) (said : List S) → AllZip Says (lines_of text) said → AreFirst Says text said
+  pub all_first : (text : List ℕ) (said : List S) → AllZip Says (lines_of text) said → AreFirstSaid Says text said
   all_first text said h = record { before = lines_of text; after = []; lines = sym (append-nil (lines_of text)); fine = h }

@@ -10,7 +10,7 @@ use Rattle.netset.specs.Commands.{Free, Says}
 use Rattle.netset.specs.Free.{IsFreeText}
 use Rattle.cidr_lists.specs.Lists.{Text}
 use Rattle.netset.specs.Program.{AnswersRequest, by_output}
-use Rattle.cidr_lists.specs.Sets.{HasAddress, networks_of}
+use Rattle.cidr_lists.specs.Sets.{IsInSets, networks_of}
 use Rattle.netset.specs.Single.{IsNumber}
 use Rattle.netset.specs.declared.output.answers.Verdict.{Verdict}
 use Rattle.netset.specs.declared.errors.CommandError.{CommandError}
@@ -22,7 +22,7 @@ use Rattle.cidr_lists.proofs.SetSteps.{set_same}
 -- what is free of the sets is free of the lists
 pub free_written : (contents : List ℕ → Option Text) (pool len : List ℕ) (used : List (List ℕ)) (n : ℕ) (read : List Sets) (rest : Sets) (answer : List ℕ)
     (verdict : Verdict) (s t : State) (w : Result (Unit {0}) OutputFailed) (r : Result Verdict CommandError) → IsNumber len n × (n ≤ 128)
-    → AreRead contents (pool ∷ used) read → ((family : Family) → IsSetOf 129 (IsMade HasAddress Minus read family) (networks_of rest family))
+    → AreRead contents (pool ∷ used) read → ((family : Family) → IsSetOf 129 (IsMade IsInSets Minus read family) (networks_of rest family))
     → IsFreeText (networks_of rest) n answer verdict → Answered s t answer w → r ≡ by_output verdict w → AnswersRequest contents (Free pool len used) s t r
 free_written contents pool len used n read rest answer verdict s t w r number are made free written is =
     inr (
@@ -39,7 +39,7 @@ free_written contents pool len used n read rest answer verdict s t w r number ar
               says,
               networks_of rest,
               λ family. set_same _ _ (networks_of rest family) (made family) (λ a wide.
-                  made_same HasAddress Says Minus read said family a (has_same said read family a wide has)),
+                  made_same IsInSets Says Minus read said family a (has_same said read family a wide has)),
               free,
             ),
       ),

@@ -5,7 +5,7 @@ use Rattle.std.specs.List.{AllZip}
 use Rattle.std.proofs.lemmas.List.{append-nil, flat_map_more}
 use Rattle.cidr.specs.declared.cidr.combined.IpCidr.{IpCidr}
 use Rattle.netset.specs.Causes.{TextFails}
-use Rattle.cidr_lists.specs.Lists.{text_by, lines_of, LineSays, network_in, networks_in}
+use Rattle.cidr_lists.specs.Lists.{text_by, lines_of, LineSays, line_networks, networks_in}
 use Rattle.netset.specs.Reading.{IsNextLine, IsStopped, IsReadError, IsLineError, ReadsList}
 use Rattle.cidr_lists.specs.Reading.{listed, Grows}
 use Rattle.netset.proofs.Causes.{KnownOf, too_many}
@@ -47,14 +47,14 @@ module _ (bits : HostBits) where
   }
 
   grown_more : (old now new : Lists) (said : List (List IpCidr)) (one : List IpCidr) → Grows old now (λ family. networks_in family said)
-      → Grows now new (λ family. network_in family one) → Grows old new (λ family. networks_in family (said ++ one ∷ []))
+      → Grows now new (λ family. line_networks family one) → Grows old new (λ family. networks_in family (said ++ one ∷ []))
   grown_more old now new said one g h family =
-      h family ∙ (ap (λ k. k ++ network_in family one) (g family) ∙ flat_map_more (network_in family) (listed old family) said one)
+      h family ∙ (ap (λ k. k ++ line_networks family one) (g family) ∙ flat_map_more (line_networks family) (listed old family) said one)
 
   -- a line that has another behind it
   pub stepped : (contents left next : Option (List ℕ)) (old now new : Lists) (number : ℕ) (line : List ℕ) (more : Bool) (one : List IpCidr)
       → more ≡ true → IfSome contents (λ text. Progress text left old now number) → IfSome left (λ text. IsNextLine text line more next) → LineSays bits line one
-      → Grows now new (λ family. network_in family one) → IfSome contents (λ text. Progress text next old new (number + 1))
+      → Grows now new (λ family. line_networks family one) → IfSome contents (λ text. Progress text next old new (number + 1))
   stepped None left next old now new number line more one is p n s g = tt
   stepped (Some text) left next old now new number line false one is p n s g = cc
   stepped (Some text) left next old now new number line true one is p n s g =
@@ -74,7 +74,7 @@ module _ (bits : HostBits) where
   -- the last line
   pub finished : (contents left next : Option (List ℕ)) (old now new : Lists) (number : ℕ) (line : List ℕ) (more : Bool) (one : List IpCidr)
       → more ≡ false → IfSome contents (λ text. Progress text left old now number) → IfSome left (λ text. IsNextLine text line more next) → LineSays bits line one
-      → Grows now new (λ family. network_in family one) → IfSome contents (λ text. ReadsList (text_by bits text) old new (Ok tt))
+      → Grows now new (λ family. line_networks family one) → IfSome contents (λ text. ReadsList (text_by bits text) old new (Ok tt))
   finished None left next old now new number line more one is p n s g = tt
   finished (Some text) left next old now new number line true one is p n s g = cc
   finished (Some text) left next old now new number line false one is p n s g =

@@ -3,14 +3,14 @@ use Rattle.std.proofs.Common.{◌≡◌, refl, sym, ◌∙◌, ap, subst, inl, i
 use Rattle.std.proofs.lemmas.Bool.{true≢false}
 use Rattle.std.specs.Bool.{Decides}
 use Rattle.std.specs.List.{count_by}
-use Rattle.cidr_io.specs.Writing.{State, Says as Tells}
-use Rattle.netset.specs.Causes.{Cause, MayFail}
+use Rattle.cidr_io.specs.Writing.{State, Tells}
+use Rattle.netset.specs.Causes.{Cause, FileMayFail}
 use Rattle.netset.specs.Arguments.{Parts, and_then, line_parts, line_request, part_request, read_request}
 use Rattle.netset.specs.Commands.{Request, input_name, lists_of, others_of, reading_of}
 use Rattle.netset.specs.Keeping.{kind_of}
 use Rattle.cidr_lists.specs.Lists.{Text}
 use Rattle.netset.specs.Matching.{is_word}
-use Rattle.netset.specs.Loading.{IsLoaded, IsUnloaded}
+use Rattle.netset.specs.Loading.{AreListsLoaded, IsUnloaded}
 use Rattle.netset.specs.Program.{AnswersRequest, IsCaused, IsReadTwice, IsWrong, KeepsGoing, Reports, RunsFound, RunsOnce, RunsRequest, TellsFaults, status_of, contents_by}
 use Rattle.netset.specs.declared.output.answers.Verdict.{Verdict}
 use Rattle.netset.specs.declared.commands.Reading.{Reading}
@@ -24,26 +24,26 @@ use Rattle.netset.proofs.Loading.{none_begun, none_told}
 -- ---- with lists whose lines in error are told
 module _ (contents : List ℕ → Option Text) (request : Request) (kind : Kind) (names : List (List ℕ)) (refused closed : Bool) (out s t : State) (is_kind : kind ≡ kind_of request)
     (are : names ≡ lists_of request) where
-  loaded_of : (lists : List Kept) (found : Bool) → IsLoaded contents kind names s t lists found → IsLoaded contents (kind_of request) (lists_of request) s t lists found
+  loaded_of : (lists : List Kept) (found : Bool) → AreListsLoaded contents kind names s t lists found → AreListsLoaded contents (kind_of request) (lists_of request) s t lists found
   loaded_of lists found h =
-      subst (λ (k : List (List ℕ)). IsLoaded contents (kind_of request) k s t lists found) are (subst (λ (k : Kind). IsLoaded contents k names s t lists found) is_kind h)
+      subst (λ (k : List (List ℕ)). AreListsLoaded contents (kind_of request) k s t lists found) are (subst (λ (k : Kind). AreListsLoaded contents k names s t lists found) is_kind h)
 
   unloaded_of : (e : CommandError) → IsUnloaded contents kind names s t e → IsUnloaded contents (kind_of request) (lists_of request) s t e
   unloaded_of e h =
       subst (λ (k : List (List ℕ)). IsUnloaded contents (kind_of request) k s t e) are (subst (λ (k : Kind). IsUnloaded contents k names s t e) is_kind h)
 
-  pub lines_in_error : (lists : List Kept) → IsLoaded contents kind names s t lists true → TellsFaults contents refused request closed out out s t 2
+  pub lines_in_error : (lists : List Kept) → AreListsLoaded contents kind names s t lists true → TellsFaults contents refused request closed out out s t 2
   lines_in_error lists h =
       let (lines, (tells, fine), any, kept) = loaded_of lists true h in
       (lines, t, tells, inl (fine, inl (any, refl, refl, refl)))
 
-  pub no_line_in_error : (lists : List Kept) (new u : State) (r : Result Verdict CommandError) (status : ℕ) → IsLoaded contents kind names s t lists false
+  pub no_line_in_error : (lists : List Kept) (new u : State) (r : Result Verdict CommandError) (status : ℕ) → AreListsLoaded contents kind names s t lists false
       → AnswersRequest contents request out new r → IsCaused contents refused r → Reports closed r t u → status ≡ status_of r → TellsFaults contents refused request closed out new s u status
   no_line_in_error lists new u r status h answers caused says is =
       let (lines, (tells, fine), any, kept) = loaded_of lists false h in
       (lines, t, tells, inl (fine, inr (any, r, answers, caused, says, is)))
 
-  pub not_loaded : (u : State) (e : CommandError) (status : ℕ) → IsUnloaded contents kind names s t e → Cause (MayFail contents) refused e → Reports closed (Err e) t u → status ≡ status_of (Err e)
+  pub not_loaded : (u : State) (e : CommandError) (status : ℕ) → IsUnloaded contents kind names s t e → Cause (FileMayFail contents) refused e → Reports closed (Err e) t u → status ≡ status_of (Err e)
       → TellsFaults contents refused request closed out out s u status
   not_loaded u e status h cause says is =
       let (before, after, split, why, front, rest, tells, fine, begun) = unloaded_of e h in

@@ -2,7 +2,7 @@
 use Rattle.std.proofs.Common.{◌≡◌, refl, sym, ◌∙◌, ap, subst, ℕ, Bool, true, false, cond, ◌&&◌, ◌||◌, List, [], ◌∷◌, ◌++◌, codes, Option, Some, None, Result, Ok, Err}
 use Rattle.std.specs.List.{list_all, list_any}
 use Rattle.std.proofs.lemmas.Bool.{true≢false}
-use Rattle.netset.specs.Arguments.{Parts, and_then, counted_request, extra_operand, is_option, joined, line_request, missing_operand, named_verb, no_parts, only_operand, only_options, only_value, parts_from, read_request, word_parts}
+use Rattle.netset.specs.Arguments.{Parts, and_then, counted_request, extra_operand, is_option, joined_arguments, line_request, missing_operand, named_verb, no_parts, only_operand, only_options, only_value, parts_from, read_request, word_parts}
 use Rattle.netset.specs.Commands.{Request, Lists, NotIn, Diff, Free, Check, Match, Look, Single, Help, reading_of}
 use Rattle.netset.specs.Matching.{has, is_word}
 use Rattle.netset.specs.Single.{Show, Split, Nth}
@@ -42,10 +42,10 @@ no_end word false same none = refl
 
 -- a word, and what stands behind it
 one_more : (verb : Verb) (word : List ℕ) (words : List (List ℕ)) (one rest : Parts) → word_parts verb Any word ≡ Ok (one, Any) → parts_from verb words Any ≡ Ok rest
-    → parts_from verb (word ∷ words) Any ≡ Ok (joined one rest)
+    → parts_from verb (word ∷ words) Any ≡ Ok (joined_arguments one rest)
 one_more verb word words one rest is others =
-    ap (λ (r : Result (Parts × Next) (List ℕ)). and_then r (λ first. and_then (parts_from verb words first.1) (λ more. Ok (joined first.0 more)))) is
-    ∙ ap (λ (r : Result Parts (List ℕ)). and_then r (λ more. Ok (joined one more))) others
+    ap (λ (r : Result (Parts × Next) (List ℕ)). and_then r (λ first. and_then (parts_from verb words first.1) (λ more. Ok (joined_arguments first.0 more)))) is
+    ∙ ap (λ (r : Result Parts (List ℕ)). and_then r (λ more. Ok (joined_arguments one more))) others
 
 operands_alone : (verb : Verb) (words : List (List ℕ)) → list_any is_option words ≡ false → parts_from verb words Any ≡ Ok (parts_with [] [] words)
 operands_alone verb [] none = refl
@@ -116,8 +116,8 @@ alone (Err line) words none = refl
 behind_in : (found : Result Verb (List ℕ)) (net : List ℕ) (words : List (List ℕ)) → and_then found (λ verb. word_parts verb Any (codes "--in")) ≡ and_then found (λ verb. Ok (no_parts, Value))
     → list_any is_option words ≡ false → FoundParts found (codes "--in" ∷ net ∷ words) (net ∷ []) words
 behind_in (Ok verb) net words is none =
-    ap (λ (r : Result (Parts × Next) (List ℕ)). and_then r (λ first. and_then (parts_from verb (net ∷ words) first.1) (λ more. Ok (joined first.0 more)))) is
-    ∙ ap (λ (r : Result Parts (List ℕ)). and_then (and_then r (λ more. Ok (joined (only_value net) more))) (λ more. Ok (joined no_parts more))) (operands_alone verb words none)
+    ap (λ (r : Result (Parts × Next) (List ℕ)). and_then r (λ first. and_then (parts_from verb (net ∷ words) first.1) (λ more. Ok (joined_arguments first.0 more)))) is
+    ∙ ap (λ (r : Result Parts (List ℕ)). and_then (and_then r (λ more. Ok (joined_arguments (only_value net) more))) (λ more. Ok (joined_arguments no_parts more))) (operands_alone verb words none)
 behind_in (Err line) net words is none = refl
 
 found_line : (found : Result Verb (List ℕ)) (options words values operands : List (List ℕ)) → FoundHas found (codes "--host-bits") → FoundHas found (codes "-k")

@@ -11,7 +11,7 @@ use Rattle.netset.specs.Causes.{TextFails}
 use Rattle.cidr_lists.specs.Lists.{Text, lines_of, text_by}
 use Rattle.cidr_lists.specs.Fields.{IsBadRow}
 use Rattle.netset.specs.Look.{IsUnreadTable}
-use Rattle.cidr_lists.specs.Tables.{RowSays, row_in, rows_in, said_in, AreCopies, AreWithin, Stores, kept, resolved, stored, value_at}
+use Rattle.cidr_lists.specs.Tables.{RowSays, row_in, rows_in, said_in, AreCopies, AreSpansWithin, Stores, kept, resolved, stored, value_at}
 use Rattle.netset.specs.Keeping.{AllSaid}
 use Rattle.netset.specs.LookUps.{Adds, IsErrorAt, ReadsFileRows, ReadsRows, ReadsTable, unread}
 use Rattle.netset.specs.Reading.{IsNextLine, IsStopped}
@@ -36,16 +36,16 @@ value_kept values more span within =
 value_last : (values value : List ℕ) → value_at (values ++ value) (record { start = length values; len = length value }) ≡ value
 value_last values value = ap (take (length value)) (drop_at values value (length values) refl) ∙ take_all (length value) value (le_refl (length value))
 
-rows_kept : (values more : List ℕ) (rows : List (List Bool × Span)) → AreWithin values rows → map (resolved (values ++ more)) rows ≡ map (resolved values) rows
+rows_kept : (values more : List ℕ) (rows : List (List Bool × Span)) → AreSpansWithin values rows → map (resolved (values ++ more)) rows ≡ map (resolved values) rows
 rows_kept values more [] h = refl
 rows_kept values more (row ∷ rows) h =
     ap₂ (λ (v : List ℕ) (xs : List (List Bool × List ℕ)). (row.0, v) ∷ xs) (value_kept values more row.1 h.0) (rows_kept values more rows h.1)
 
-within_kept : (values more : List ℕ) (rows : List (List Bool × Span)) → AreWithin values rows → AreWithin (values ++ more) rows
+within_kept : (values more : List ℕ) (rows : List (List Bool × Span)) → AreSpansWithin values rows → AreSpansWithin (values ++ more) rows
 within_kept values more [] h = tt
 within_kept values more (row ∷ rows) h = (omega (arith, h.0, length-append values more), within_kept values more rows h.1)
 
-within_both : (values : List ℕ) (rows others : List (List Bool × Span)) → AreWithin values rows → AreWithin values others → AreWithin values (rows ++ others)
+within_both : (values : List ℕ) (rows others : List (List Bool × Span)) → AreSpansWithin values rows → AreSpansWithin values others → AreSpansWithin values (rows ++ others)
 within_both values [] others h k = k
 within_both values (row ∷ rows) others h k = (h.0, within_both values rows others h.1 k)
 
@@ -58,7 +58,7 @@ resolved_row Ipv6 (V4 p) span values = refl
 resolved_row Ipv6 (V6 p) span values = refl
 
 row_within : (family : Family) (network : IpCidr) (span : Span) (values : List ℕ) → span.start + span.len ≤ length values
-    → AreWithin values (row_in family (network, span))
+    → AreSpansWithin values (row_in family (network, span))
 row_within Ipv4 (V4 p) span values h = (h, tt)
 row_within Ipv4 (V6 p) span values h = tt
 row_within Ipv6 (V4 p) span values h = tt
@@ -67,15 +67,15 @@ row_within Ipv6 (V6 p) span values h = (h, tt)
 abbrev span_of : List ℕ → List ℕ → Span
 span_of values value = record { start = length values; len = length value }
 
-row_stored : (values value : List ℕ) (rows : List (List Bool × Span)) (family : Family) (network : IpCidr) → AreWithin values rows
+row_stored : (values value : List ℕ) (rows : List (List Bool × Span)) (family : Family) (network : IpCidr) → AreSpansWithin values rows
     → map (resolved (values ++ value)) (rows ++ row_in family (network, span_of values value)) ≡ map (resolved values) rows ++ row_in family (network, value)
 row_stored values value rows family network h =
     map-append (resolved (values ++ value)) rows (row_in family (network, span_of values value))
     ∙ ap₂ (λ (a b : List (List Bool × List ℕ)). a ++ b) (rows_kept values value rows h)
     (resolved_row family network (span_of values value) (values ++ value) ∙ ap (λ (v : List ℕ). row_in family (network, v)) (value_last values value))
 
-row_stored_within : (values value : List ℕ) (rows : List (List Bool × Span)) (family : Family) (network : IpCidr) → AreWithin values rows
-    → AreWithin (values ++ value) (rows ++ row_in family (network, span_of values value))
+row_stored_within : (values value : List ℕ) (rows : List (List Bool × Span)) (family : Family) (network : IpCidr) → AreSpansWithin values rows
+    → AreSpansWithin (values ++ value) (rows ++ row_in family (network, span_of values value))
 row_stored_within values value rows family network h =
     within_both (values ++ value) rows (row_in family (network, span_of values value)) (within_kept values value rows h)
     (row_within family network (span_of values value) (values ++ value) (omega (arith, length-append values value)))
@@ -86,7 +86,7 @@ none_stored rows four six =
     let none : (family : Family) → stored rows family ≡ [] = elim [ Ipv4 ↦ four | Ipv6 ↦ six ] in
     record {
       same = λ family. ap (map (resolved rows.values.items)) (none family);
-      within = λ family. subst (AreWithin rows.values.items) (sym (none family)) tt;
+      within = λ family. subst (AreSpansWithin rows.values.items) (sym (none family)) tt;
     }
 
 pub stored_more : (old new : Rows) (said : List (Option (IpCidr × List ℕ))) (one : Option (IpCidr × List ℕ)) → Stores old said → Adds old new one
@@ -102,8 +102,8 @@ stored_more old new said (Some (network, value)) s p = record {
       ∙ (ap (λ (k : List (List Bool × List ℕ)). k ++ row_in family (network, value)) (s.same family)
       ∙ flat_map_more (said_in family) [] said (Some (network, value))));
   within = λ family.
-      subst (λ (vs : List ℕ). AreWithin vs (stored new family)) (sym p.values)
-      (subst (AreWithin (old.values.items ++ value)) (sym (p.rows family)) (row_stored_within old.values.items value (stored old family) family network (s.within family)));
+      subst (λ (vs : List ℕ). AreSpansWithin vs (stored new family)) (sym p.values)
+      (subst (AreSpansWithin (old.values.items ++ value)) (sym (p.rows family)) (row_stored_within old.values.items value (stored old family) family network (s.within family)));
 }
 
 -- ---- one line after the other
@@ -191,8 +191,8 @@ stored_same rows others said same s = record {
   same = λ family.
       ap₂ (λ (vs : List ℕ) (rs : List (List Bool × Span)). map (resolved vs) rs) same.values (same_rows rows others same family) ∙ s.same family;
   within = λ family.
-      subst (λ (vs : List ℕ). AreWithin vs (stored others family)) (sym same.values)
-      (subst (AreWithin rows.values.items) (sym (same_rows rows others same family)) (s.within family));
+      subst (λ (vs : List ℕ). AreSpansWithin vs (stored others family)) (sym same.values)
+      (subst (AreSpansWithin rows.values.items) (sym (same_rows rows others same family)) (s.within family));
 }
 
 pub rows_copied : (contents : Option Text) (name : List ℕ) (kept rows : Rows)

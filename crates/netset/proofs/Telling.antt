@@ -6,14 +6,14 @@ use Rattle.std.proofs.lemmas.Bool.{true≢false}
 use Rattle.std.proofs.lemmas.List.{append-nil, flat_map_more}
 use Rattle.cidr_io.specs.Collecting.{HasSaid}
 use Rattle.cidr_io.specs.Shown.{shown}
-use Rattle.cidr_io.specs.Writing.{State, Part, Says as Tells}
+use Rattle.cidr_io.specs.Writing.{State, Part, Tells}
 use Rattle.cidr_io.proofs.Collected.{nothing_said}
 use Rattle.cidr_io.proofs.Chains.{part_more, part_none, whole_none, whole_part, whole_whole}
 use Rattle.cidr_lists.specs.Entries.{AreEntries}
-use Rattle.netset.specs.Keeping.{AddsBy, AllSaid, IsAny, IsKept, IsLoadError, IsNone, KeepsLine, KeepsLines, KeepsList, SaysMore, kind_in}
+use Rattle.netset.specs.Keeping.{AddsBy, AllSaid, IsAny, IsKept, IsLoadError, IsNone, KeepsLine, KeepsListLines, KeepsList, SaysMore, kind_in}
 use Rattle.cidr_lists.specs.Faults.{AreErrors, AreTellings, IsFaulty, IsPartTold, IsSound}
 use Rattle.cidr_lists.specs.Messages.{fault_line}
-use Rattle.cidr_lists.specs.Lists.{LineSays, Text, lines_of, network_in, text_by}
+use Rattle.cidr_lists.specs.Lists.{LineSays, Text, lines_of, line_networks, text_by}
 use Rattle.cidr_lists.specs.Tables.{RowSays}
 use Rattle.netset.specs.LookUps.{unread}
 use Rattle.netset.specs.Reading.{IsNextLine, IsStopped}
@@ -113,7 +113,7 @@ module _ (bits : HostBits) (line : List ℕ) (number : ℕ) where
   said_behind (Networks old) (Networks new) (one, says, grows) before at (said, zip, same) = (
     said ++ one ∷ [],
     zip_behind (LineSays bits) before said line one zip says,
-    λ family. grows family ∙ (ap (λ (k : List (List Bool)). k ++ network_in family one) (same family) ∙ flat_map_more (network_in family) [] said one),
+    λ family. grows family ∙ (ap (λ (k : List (List Bool)). k ++ line_networks family one) (same family) ∙ flat_map_more (line_networks family) [] said one),
   )
   said_behind (Hosts old) (Hosts new) (one, has, is) before at are =
       subst (AreEntries [] 1 (before ++ line ∷ [])) (sym is) (line_behind [] 1 number before line old.items one (omega (arith, at)) are has)
@@ -217,7 +217,7 @@ module _ (kind : Kind) (bits : HostBits) (file : List ℕ) (s : State) (b : List
       line_read (IsKept kind bits file) contents left next (h.0, found, was) (added.0, found || bad, now) number line more is h.4 n added.4,
     )
 
-    pub keeping_done : more ≡ false → KeepsLines kind bits file contents s b u rest (Ok (now, found || bad))
+    pub keeping_done : more ≡ false → KeepsListLines kind bits file contents s b u rest (Ok (now, found || bad))
     keeping_done is = (
       added.0,
       added.1,
@@ -234,7 +234,7 @@ module _ (kind : Kind) (bits : HostBits) (file : List ℕ) (s : State) (b : List
       (p.before, lines_of p.rest, p.lines, errors, are, is)
 
   pub keeping_stopped : (contents left : Option (List ℕ)) (t u : State) (block rest : List ℕ) (found : Bool) (said : Said) (number : ℕ) (e : ReadError)
-      → IsKeeping contents left t block found said number → IsStopped e → u ≡ t → rest ≡ block → KeepsLines kind bits file contents s b u rest (Err e)
+      → IsKeeping contents left t block found said number → IsStopped e → u ≡ t → rest ≡ block → KeepsListLines kind bits file contents s b u rest (Err e)
   keeping_stopped contents left t u block rest found said number e (lines, says, any, is, p) stopped same kept =
       (lines, same_says s t u b block rest lines same kept says, stopped, part_told contents left lines found said number p)
 
@@ -252,7 +252,7 @@ all_told s t u block rest lines none says ends = ends s lines (says s [] (nothin
 module _ (contents : Option Text) (left : Option (List ℕ)) (kind : Kind) (bits : HostBits) (s t u : State) (block rest : List ℕ)
     (opens : (text : Text) → contents ≡ Some text → left ≡ Some text.bytes) (by : (text : Text) → contents ≡ Some text → text.host_bits ≡ bits)
     (none : block ≡ []) (ends : EndsSaying t rest u) where
-  pub list_kept : (file : List ℕ) (kept : Said × Bool) → KeepsLines kind bits file left s block t rest (Ok kept) → KeepsList contents kind file s u (Ok kept)
+  pub list_kept : (file : List ℕ) (kept : Said × Bool) → KeepsListLines kind bits file left s block t rest (Ok kept) → KeepsList contents kind file s u (Ok kept)
   list_kept file kept (lines, says, any, is) = (
     lines,
     all_told s t u block rest lines none says ends,
@@ -267,7 +267,7 @@ module _ (contents : Option Text) (left : Option (List ℕ)) (kind : Kind) (bits
   load_error file Input h = ([], refl)
   load_error file NoMemory h = tt
 
-  pub list_cut : (file : Bor (List ℕ)) (e : ReadError) → KeepsLines kind bits file.now left s block t rest (Err e)
+  pub list_cut : (file : Bor (List ℕ)) (e : ReadError) → KeepsListLines kind bits file.now left s block t rest (Err e)
       → KeepsList contents kind file.now s u (Err (unread file e))
   list_cut file e (lines, says, stopped, is) = (
     lines,

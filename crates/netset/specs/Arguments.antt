@@ -55,8 +55,8 @@ abbrev pub only_operand : List ℕ → Parts
 only_operand word = record { options = []; values = []; operands = word ∷ [] }
 
 -- the parts of some words and of those behind them
-abbrev pub joined : Parts → Parts → Parts
-joined a b = record { options = a.options ++ b.options; values = a.values ++ b.values; operands = a.operands ++ b.operands }
+abbrev pub joined_arguments : Parts → Parts → Parts
+joined_arguments a b = record { options = a.options ++ b.options; values = a.values ++ b.values; operands = a.operands ++ b.operands }
 
 -- - and something behind it
 abbrev pub is_option : List ℕ → Bool
@@ -109,7 +109,7 @@ abbrev pub parts_from : Verb → List (List ℕ) → Next → Result Parts (List
 parts_from command [] Value = Err (misuse_text (codes "NET") Missing (name_of command))
 parts_from command [] next = Ok no_parts
 parts_from command (word ∷ words) next =
-    and_then (word_parts command next word) (λ one. and_then (parts_from command words one.1) (λ rest. Ok (joined one.0 rest)))
+    and_then (word_parts command next word) (λ one. and_then (parts_from command words one.1) (λ rest. Ok (joined_arguments one.0 rest)))
 
 -- ---- the command
 -- -h and --help are other names of the command help

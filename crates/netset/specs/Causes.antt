@@ -13,8 +13,8 @@ abbrev pub AreTooMany : List ℕ → Type 0
 AreTooMany bytes = 18446744073709551613 ≤ length bytes
 
 -- a file that can't be read is not told, or is too long
-abbrev pub MayFail : (List ℕ → Option Text) → List ℕ → Type 0
-MayFail contents name = IfSome (contents name) (λ text. AreTooMany text.bytes)
+abbrev pub FileMayFail : (List ℕ → Option Text) → List ℕ → Type 0
+FileMayFail contents name = IfSome (contents name) (λ text. AreTooMany text.bytes)
 
 -- there is no memory only after an allocation was refused, and only some files can't be read
 abbrev pub Cause : (List ℕ → Type 0) → Bool → CommandError → Type 0

@@ -1,6 +1,6 @@
 -- The request that a command of the program is.
 use Rattle.std.specs.Prelude.{◌≡◌, ℕ, Bool, true, List, map, Result, Ok, Err}
-use Rattle.netset.specs.Arguments.{Parts, joined, misuse_text}
+use Rattle.netset.specs.Arguments.{Parts, joined_arguments, misuse_text}
 use Rattle.netset.specs.Commands.{Request, Lists, NotIn, Diff, Free, Check, Match, Look, Single as ASingle, Help, Version}
 use Rattle.netset.specs.Table.{texts}
 use Rattle.netset.specs.declared.commands.arguments.Next.{Next}
@@ -48,5 +48,5 @@ IsUsageError found refused (wrong.Misuse misuse) = found ≡ Err (misuse_line mi
 IsUsageError found refused wrong.NoMemory = refused ≡ true
 
 -- what was to be added to parts stands behind them
-abbrev pub Adds : Parts → Parts → Result (Parts × Next) (List ℕ) → Next → Type 0
-Adds old new found next = (one : Parts) × (found ≡ Ok (one, next)) × (new ≡ joined old one)
+abbrev pub AddsParts : Parts → Parts → Result (Parts × Next) (List ℕ) → Next → Type 0
+AddsParts old new found next = (one : Parts) × (found ≡ Ok (one, next)) × (new ≡ joined_arguments old one)

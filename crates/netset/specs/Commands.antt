@@ -9,7 +9,7 @@ use Rattle.cidr_sets.specs.Sets.{IsSetOf}
 use Rattle.netset.specs.Findings.{IsCheck}
 use Rattle.netset.specs.Free.{IsFreeText}
 use Rattle.netset.specs.Look.{IsLook}
-use Rattle.cidr_lists.specs.Lists.{Text, ListSays, network_in, networks_in}
+use Rattle.cidr_lists.specs.Lists.{Text, ListSays, line_networks, networks_in}
 use Rattle.cidr_lists.specs.Changes.{AreChanges, printed_changes}
 use Rattle.netset.specs.Changes.{AreSame}
 use Rattle.netset.specs.Combining.{form_of, IsMade}
@@ -101,7 +101,7 @@ IsMadeOf operation texts answer =
 -- the addresses of a network that none of the lists has
 abbrev pub IsNotIn : IpCidr → List Text → List ℕ → Type 0
 IsNotIn network texts answer = (said : List (List (List IpCidr))) × AllZip ListSays texts said
-    × IsPrintOf Networks (λ family a. Covers (network_in family (network ∷ [])) a × IsMade Says Not said family a)
+    × IsPrintOf Networks (λ family a. Covers (line_networks family (network ∷ [])) a × IsMade Says Not said family a)
     answer
 
 -- what a list has and another has not, both ways

@@ -5,7 +5,7 @@ use Rattle.cidr_lists.specs.Lists.{lines_of}
 use Rattle.cidr_lists.specs.declared.entries.Entry.{Entry}
 use Rattle.netset.specs.declared.errors.ReadError.{ReadError}
 use Rattle.netset.specs.declared.errors.ReadError.TheVariants.{Line, Input, NoMemory}
-use Rattle.cidr_lists.specs.Entries.{LineHas, AreEntries, HasNoHost, IsFirstFault}
+use Rattle.cidr_lists.specs.Entries.{LineHas, AreEntries, HasNoHost, IsFirstFaultyLine}
 
 -- ---- what private functions promise
 -- an entry is another one in this file
@@ -34,7 +34,7 @@ HasAdded file old lines new = (entries : List Entry) × AreEntries file 1 lines 
 
 -- the first line in error, or nothing of the text where reading has stopped
 abbrev pub IsTextFault : List ℕ → List ℕ → ReadError → Type 0
-IsTextFault file text (Line number e) = IsFirstFault file text number e
+IsTextFault file text (Line number e) = IsFirstFaultyLine file text number e
 IsTextFault file text Input = Unit {0}
 IsTextFault file text NoMemory = Unit {0}
 

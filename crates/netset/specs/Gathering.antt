@@ -27,12 +27,12 @@ lines_of_part part true = part ∷ []
 lines_of_part part false = last_line part
 
 -- the file is not read further
-abbrev pub IsUnreadable : List ℕ → CommandError → Type 0
-IsUnreadable file (error.Argument text e) = ⊥
-IsUnreadable file (error.Line name number e) = ⊥
-IsUnreadable file (error.Input name) = name.now ≡ file
-IsUnreadable file error.NoMemory = Unit {0}
-IsUnreadable file error.Output = ⊥
+abbrev pub IsNotReadFurther : List ℕ → CommandError → Type 0
+IsNotReadFurther file (error.Argument text e) = ⊥
+IsNotReadFurther file (error.Line name number e) = ⊥
+IsNotReadFurther file (error.Input name) = name.now ≡ file
+IsNotReadFurther file error.NoMemory = Unit {0}
+IsNotReadFurther file error.Output = ⊥
 
 -- a line is in error, and nothing is written; or the output failed at a line that is picked
 abbrev pub IsLost : (List ℕ → Result Bool LineError → Type 0) → Written → List ℕ → ℕ → List ℕ → State → State → List ℕ → List ℕ → CommandError → Type 0
@@ -45,12 +45,12 @@ IsLost PicksLine what file number part old new block rest error.Output =
     PicksLine part (Ok true) × Part old new (block ++ line_written what part)
 
 -- the line of a part is gathered, if it is one and is picked
-abbrev pub TakesPart : (List ℕ → Result Bool LineError → Type 0) → Written → List ℕ → ℕ → List ℕ → Bool → State → State → Gathered → Gathered
+abbrev pub GathersPart : (List ℕ → Result Bool LineError → Type 0) → Written → List ℕ → ℕ → List ℕ → Bool → State → State → Gathered → Gathered
     → Result (Unit {0}) CommandError → Type 0
-TakesPart PicksLine what file number part more old new before after (Ok _) = (picked : List (List ℕ))
+GathersPart PicksLine what file number part more old new before after (Ok _) = (picked : List (List ℕ))
     × ArePicked PicksLine (lines_of_part part more) picked × (after.count ≡ before.count + length picked) × (length picked ≤ 1)
     × Collects old new before.block after.block (flat_map (line_written what) picked) (Ok tt)
-TakesPart PicksLine what file number part more old new before after (Err e) =
+GathersPart PicksLine what file number part more old new before after (Err e) =
     (lines_of_part part more ≡ part ∷ []) × IsLost PicksLine what file number part old new before.block after.block e
 
 -- what is written behind the lines

@@ -4,7 +4,7 @@ use Rattle.std.specs.List.{AllZip, flat_map}
 use Rattle.cidr.specs.declared.cidr.combined.IpCidr.{IpCidr}
 use Rattle.cidr.specs.declared.family.Family.{Family}
 use Rattle.cidr_io.specs.Collecting.{HasSaid}
-use Rattle.cidr_io.specs.Writing.{State, Says as Tells}
+use Rattle.cidr_io.specs.Writing.{State, Tells}
 use Rattle.netset.specs.Commands.{Request, Check, Look, AreTold}
 use Rattle.netset.specs.Entries.{AddsEntry}
 use Rattle.cidr_lists.specs.Entries.{AreEntries}
@@ -95,10 +95,10 @@ IsKept kind bits file lines kept = (errors : List (ℕ × LineError)) × AreErro
     × (kept.0 ≡ flat_map (fault_line file) errors) × (kept.1 ≡ false → AllSaid bits lines kept.2)
 
 -- the lines of a list were read, and those in error told
-abbrev pub KeepsLines : Kind → HostBits → List ℕ → Option (List ℕ) → State → List ℕ → State → List ℕ → Result (Said × Bool) ReadError → Type 0
-KeepsLines kind bits file left old block new rest (Ok kept) = (lines : List ℕ) × SaysMore old block new rest lines
+abbrev pub KeepsListLines : Kind → HostBits → List ℕ → Option (List ℕ) → State → List ℕ → State → List ℕ → Result (Said × Bool) ReadError → Type 0
+KeepsListLines kind bits file left old block new rest (Ok kept) = (lines : List ℕ) × SaysMore old block new rest lines
     × IsAny kept.1 lines × IfSome left (λ text. IsKept kind bits file (lines_of text) (lines, kept.1, kept.0))
-KeepsLines kind bits file left old block new rest (Err e) = (lines : List ℕ) × SaysMore old block new rest lines × IsStopped e
+KeepsListLines kind bits file left old block new rest (Err e) = (lines : List ℕ) × SaysMore old block new rest lines × IsStopped e
     × IfSome left (λ text. IsPartTold kind file (text_by bits text) lines)
 
 -- the same of the list of a file

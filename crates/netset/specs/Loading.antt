@@ -1,6 +1,6 @@
 -- What functions that read lists and tell their lines in error promise.
 use Rattle.std.specs.Prelude.{◌≡◌, ℕ, Bool, false, List, ◌++◌, Option}
-use Rattle.cidr_io.specs.Writing.{State, Says as Tells}
+use Rattle.cidr_io.specs.Writing.{State, Tells}
 use Rattle.netset.specs.Commands.{AreTold}
 use Rattle.netset.specs.Keeping.{AreKept, HasTold, IsAny, IsBegun, IsLoadError}
 use Rattle.cidr_lists.specs.Faults.{AreTellings}
@@ -10,8 +10,8 @@ use Rattle.netset.specs.declared.input.keeping.Kept.{Kept}
 use Rattle.cidr_lists.specs.declared.lines.Kind.{Kind}
 
 -- lists were read, and their lines in error told; where there is none, this is what they say
-abbrev pub IsLoaded : (List ℕ → Option Text) → Kind → List (List ℕ) → State → State → List Kept → Bool → Type 0
-IsLoaded contents kind names old new lists found =
+abbrev pub AreListsLoaded : (List ℕ → Option Text) → Kind → List (List ℕ) → State → State → List Kept → Bool → Type 0
+AreListsLoaded contents kind names old new lists found =
     (lines : List ℕ) × HasTold contents kind names old new lines × IsAny found lines × (found ≡ false → AreKept contents lists)
 
 -- the lines in error were told of those before the first that was not read, and of a beginning of that one

@@ -34,7 +34,7 @@ Adds old new None = new ≡ old
 Adds old new (Some (network, value)) = Pushes old new network value
 
 -- this is what the first lines of a text say
-pub record AreFirst {S : Type 0} (Says : List ℕ → S → Type 0) (text : List ℕ) (said : List S) : Type 0 where
+pub record AreFirstSaid {S : Type 0} (Says : List ℕ → S → Type 0) (text : List ℕ) (said : List S) : Type 0 where
   pub before : List (List ℕ)
   pub after : List (List ℕ)
   pub lines : lines_of text ≡ before ++ after
@@ -118,8 +118,8 @@ LooksLine table line number old new block rest (Err Output) =
 -- why no more lines are read
 abbrev pub EndsReading : (Family → List (List Bool × List ℕ)) → List ℕ → List (Option LookUp) → ReadError → Type 0
 EndsReading table text looks (Line number e) = AreBeforeError (LineLooks table) IsBadLine text looks number e
-EndsReading table text looks Input = AreFirst (LineLooks table) text looks
-EndsReading table text looks NoMemory = AreFirst (LineLooks table) text looks
+EndsReading table text looks Input = AreFirstSaid (LineLooks table) text looks
+EndsReading table text looks NoMemory = AreFirstSaid (LineLooks table) text looks
 
 -- the addresses of a text were looked up, and their lines collected, to the end or to an error
 abbrev pub LooksLines : (Family → List (List Bool × List ℕ)) → Option (List ℕ) → State → State → List ℕ → List ℕ → Result Bool LookError → Type 0
@@ -129,7 +129,7 @@ LooksLines table contents old new block rest (Ok found) = (looks : List (Option 
 LooksLines table contents old new block rest (Err (Reading e)) = (looks : List (Option LookUp))
     × Collects old new block rest (flat_map look_line looks) (Ok tt) × IfSome contents (λ text. EndsReading table text looks e)
 LooksLines table contents old new block rest (Err Output) = (looks : List (Option LookUp))
-    × Part old new (block ++ flat_map look_line looks) × IfSome contents (λ text. AreFirst (LineLooks table) text looks)
+    × Part old new (block ++ flat_map look_line looks) × IfSome contents (λ text. AreFirstSaid (LineLooks table) text looks)
 
 -- the same, and the lines were written
 abbrev pub LooksAll : (Family → List (List Bool × List ℕ)) → Option (List ℕ) → State → State → Result Bool LookError → Type 0
@@ -139,4 +139,4 @@ LooksAll table contents old new (Ok found) = (looks : List (Option LookUp))
 LooksAll table contents old new (Err (Reading e)) = (looks : List (Option LookUp))
     × Answered old new (flat_map look_line looks) (Ok tt) × IfSome contents (λ text. EndsReading table text looks e)
 LooksAll table contents old new (Err Output) = (looks : List (Option LookUp)) × (failed : OutputFailed)
-    × Answered old new (flat_map look_line looks) (Err failed) × IfSome contents (λ text. AreFirst (LineLooks table) text looks)
+    × Answered old new (flat_map look_line looks) (Err failed) × IfSome contents (λ text. AreFirstSaid (LineLooks table) text looks)

@@ -6,12 +6,12 @@ use Rattle.cidr.specs.either.IpText.{IsIpNetworkText}
 use Rattle.cidr.specs.declared.cidr.combined.IpCidr.{IpCidr}
 use Rattle.cidr_io.specs.Arguments.{AreArguments, AreUnreadable}
 use Rattle.cidr_io.specs.Shown.{excerpt, shown}
-use Rattle.cidr_io.specs.Writing.{State, Answered, Says as Tells}
+use Rattle.cidr_io.specs.Writing.{State, Answered, Tells}
 use Rattle.cidr_io.specs.declared.sink.OutputFailed.{OutputFailed}
 use Rattle.cidr_lists.specs.Lists.{Text, text_by, ListSays, IsFirstError}
 use Rattle.netset.specs.Arguments.{line_request, misuse_text}
 use Rattle.netset.specs.Commands.{Request, Lists, NotIn, Diff, Free, Check, Match, Look, Single, ReadsInputTwice, input_name, lists_of, read_files, AreTold, IsAnswer, Says}
-use Rattle.netset.specs.Causes.{Cause, MayFail}
+use Rattle.netset.specs.Causes.{Cause, FileMayFail}
 use Rattle.netset.specs.Free.{IsBadLength}
 use Rattle.cidr_lists.specs.Faults.{AreTellings}
 use Rattle.netset.specs.Keeping.{IsBegun, IsLoadError, kind_of}
@@ -55,19 +55,19 @@ IsInputError file (error.Input name) = name.now ≡ file
 IsInputError file e = ⊥
 
 -- why a request is not answered, and nothing is written
-abbrev pub IsRefused : (List ℕ → Option Text) → Request → Result Verdict CommandError → Type 0
-IsRefused contents request (Ok verdict) = ⊥
-IsRefused contents (Lists operation files) (Err e) = IsUnread contents (read_files files) e
-IsRefused contents (NotIn net files) (Err e) = IsBadArgument (λ text bad. (text ≡ net) × IsNoNetwork net bad) e
+abbrev pub IsRequestRefused : (List ℕ → Option Text) → Request → Result Verdict CommandError → Type 0
+IsRequestRefused contents request (Ok verdict) = ⊥
+IsRequestRefused contents (Lists operation files) (Err e) = IsUnread contents (read_files files) e
+IsRequestRefused contents (NotIn net files) (Err e) = IsBadArgument (λ text bad. (text ≡ net) × IsNoNetwork net bad) e
     ⊎ ((network : IpCidr) × IsIpNetworkText net network × IsUnread contents (read_files files) e)
-IsRefused contents (Diff old new) (Err e) = IsUnread contents (old ∷ new ∷ []) e
-IsRefused contents (Free pool len used) (Err e) = IsBadArgument (IsBadLength len) e
+IsRequestRefused contents (Diff old new) (Err e) = IsUnread contents (old ∷ new ∷ []) e
+IsRequestRefused contents (Free pool len used) (Err e) = IsBadArgument (IsBadLength len) e
     ⊎ ((n : ℕ) × IsNumber len n × (n ≤ 128) × IsUnread contents (pool ∷ used) e)
-IsRefused contents (Check files) (Err e) = IsUnchecked contents (read_files files) e
-IsRefused contents (Match options list file) (Err e) = IsUnread contents (list ∷ []) e ⊎ IsInputError file e
-IsRefused contents (Look table file) (Err e) = IsUnreadTable (contents table) table e ⊎ IsInputError file e
-IsRefused contents (Single request) (Err e) = IsBadArgument (IsBadSingle request) e
-IsRefused contents request (Err e) = ⊥
+IsRequestRefused contents (Check files) (Err e) = IsUnchecked contents (read_files files) e
+IsRequestRefused contents (Match options list file) (Err e) = IsUnread contents (list ∷ []) e ⊎ IsInputError file e
+IsRequestRefused contents (Look table file) (Err e) = IsUnreadTable (contents table) table e ⊎ IsInputError file e
+IsRequestRefused contents (Single request) (Err e) = IsBadArgument (IsBadSingle request) e
+IsRequestRefused contents request (Err e) = ⊥
 
 -- an output that failed is the error
 abbrev pub by_output : Verdict → Result (Unit {0}) OutputFailed → Result Verdict CommandError
@@ -78,7 +78,7 @@ by_output verdict (Err e) = Err error.Output
 -- written whole, or the sink has failed and a beginning of the answer was written, none if it had failed before.
 abbrev pub AnswersWhole : (List ℕ → Option Text) → Request → State → State → Result Verdict CommandError → Type 0
 AnswersWhole contents request old new r =
-    ((new ≡ old) × IsRefused contents request r)
+    ((new ≡ old) × IsRequestRefused contents request r)
     ⊎ ((answer : List ℕ) × (verdict : Verdict) × (written : Result (Unit {0}) OutputFailed) × IsAnswer contents request answer verdict
     × Answered old new answer written × (r ≡ by_output verdict written))
 
@@ -103,7 +103,7 @@ AnswersRequest contents request old new r = AnswersWhole contents request old ne
 
 -- a request is given up only for its cause
 abbrev pub IsCaused : (List ℕ → Option Text) → Bool → Result Verdict CommandError → Type 0
-IsCaused contents refused r = IfErr r (Cause (MayFail contents) refused)
+IsCaused contents refused r = IfErr r (Cause (FileMayFail contents) refused)
 
 -- the lists of the files, read this way
 abbrev pub contents_by : HostBits → (List ℕ → Option (List ℕ)) → List ℕ → Option Text
@@ -167,7 +167,7 @@ TellsFaults contents refused request closed out new_out err new_err status = (li
     × Reports closed r mid new_err × (status ≡ status_of r))))
     ⊎ ((before after : List (List ℕ)) × (lists_of request ≡ before ++ after) × (front rest : List ℕ) × (lines ≡ front ++ rest)
     × ((texts : List Text) → AreTold contents before texts → AreTellings (kind_of request) before texts front)
-    × IsBegun contents (kind_of request) after rest × (e : CommandError) × IsLoadError after e × Cause (MayFail contents) refused e × (new_out ≡ out) × Reports closed (Err e) mid new_err × (status ≡ status_of (Err e))))
+    × IsBegun contents (kind_of request) after rest × (e : CommandError) × IsLoadError after e × Cause (FileMayFail contents) refused e × (new_out ≡ out) × Reports closed (Err e) mid new_err × (status ≡ status_of (Err e))))
 
 -- the same, where no argument is wrong
 abbrev pub KeepsGoing : (List ℕ → Option Text) → Bool → Request → Bool → State → State → State → State → ℕ → Type 0

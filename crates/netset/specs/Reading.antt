@@ -5,7 +5,7 @@ pub use Rattle.cidr_io.specs.Lines.{IsNextLine}
 use Rattle.cidr_io.specs.declared.lines.ReadError.{ReadError as NoLine}
 use Rattle.cidr_io.specs.declared.lines.ReadError.TheVariants.{Failed}
 use Rattle.cidr_io.specs.declared.lines.ReadError.TheVariants as no_line
-use Rattle.cidr_lists.specs.Lists.{Text, LineSays, IsInError, ListSays, IsFirstError, network_in, networks_in}
+use Rattle.cidr_lists.specs.Lists.{Text, LineSays, IsInError, ListSays, IsFirstError, line_networks, networks_in}
 use Rattle.netset.specs.declared.errors.ReadError.{ReadError}
 use Rattle.netset.specs.declared.errors.ReadError.TheVariants.{Line, Input, NoMemory}
 use Rattle.cidr_lists.specs.declared.lines.HostBits.{HostBits}
@@ -37,7 +37,7 @@ IsLineError bits line number NoMemory = Unit {0}
 
 -- the networks that a line says come behind those before
 abbrev pub AddsLine : HostBits → List ℕ → ℕ → Lists → Lists → Result (Unit {0}) ReadError → Type 0
-AddsLine bits line number old new (Ok _) = (said : List IpCidr) × LineSays bits line said × Grows old new (λ family. network_in family said)
+AddsLine bits line number old new (Ok _) = (said : List IpCidr) × LineSays bits line said × Grows old new (λ family. line_networks family said)
 AddsLine bits line number old new (Err e) = IsLineError bits line number e
 
 -- the networks that a text says come behind those before

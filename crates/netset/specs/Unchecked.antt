@@ -1,7 +1,7 @@
 -- Why lists are not checked, and what functions that read their entries promise.
 use Rattle.std.specs.Prelude.{◌≡◌, ℕ, List, ◌∷◌, ◌++◌, Option, Some, Result, Ok, Err, Contains}
 use Rattle.netset.specs.Commands.{AreTold}
-use Rattle.cidr_lists.specs.Entries.{AreAllEntries, IsFirstFault}
+use Rattle.cidr_lists.specs.Entries.{AreAllEntries, IsFirstFaultyLine}
 use Rattle.netset.specs.Entries.{HasAdded}
 use Rattle.cidr_lists.specs.Lists.{Text, lines_of}
 use Rattle.cidr_lists.specs.declared.entries.Entry.{Entry}
@@ -13,7 +13,7 @@ abbrev pub IsUnchecked : (List ℕ → Option Text) → List (List ℕ) → Comm
 IsUnchecked contents names (error.Line name number e) =
     (before : List (List ℕ)) × (after : List (List ℕ)) × (names ≡ before ++ name.now ∷ after)
     × ((texts : List Text) → AreTold contents before texts → (entries : List Entry) × AreAllEntries before texts entries)
-    × ((text : Text) → contents name.now ≡ Some text → IsFirstFault name.now text.bytes number e)
+    × ((text : Text) → contents name.now ≡ Some text → IsFirstFaultyLine name.now text.bytes number e)
 IsUnchecked contents names (error.Input name) = Contains names name.now
 IsUnchecked contents names error.NoMemory = Unit {0}
 IsUnchecked contents names e = ⊥
@@ -23,7 +23,7 @@ IsUnchecked contents names e = ⊥
 abbrev pub IsFileFault : Option Text → List ℕ → CommandError → Type 0
 IsFileFault contents name (error.Argument text e) = ⊥
 IsFileFault contents name (error.Line file number e) =
-    (file.now ≡ name) × ((text : Text) → contents ≡ Some text → IsFirstFault name text.bytes number e)
+    (file.now ≡ name) × ((text : Text) → contents ≡ Some text → IsFirstFaultyLine name text.bytes number e)
 IsFileFault contents name (error.Input file) = file.now ≡ name
 IsFileFault contents name error.NoMemory = Unit {0}
 IsFileFault contents name error.Output = ⊥

@@ -1,7 +1,7 @@
 //! A run of the program, from its arguments to its exit status.
 ghost use Rattle.std.specs.Prelude.{map, IfErr, MatchOption, Ok};
 ghost use Rattle.std.specs.String.{string_bytes};
-ghost use Rattle.netset.specs.Causes.{Cause, MayFail};
+ghost use Rattle.netset.specs.Causes.{Cause, FileMayFail};
 ghost use Rattle.netset.specs.Combining.{form_of};
 ghost use Rattle.netset.specs.Arguments.{line_request, read_request};
 ghost use Rattle.netset.specs.Command.{parts_in, request_of};
@@ -60,7 +60,7 @@ fn lists<'a, M: Memory, F: Sources, O: Sink>(
     out: &mut O,
 ) -> Result<Verdict, CommandError<'a>>
     ensures answers { AnswersRequest (F.contents sources.now) (Lists operation (map (λ file. file.now) files.now)) (O.state out.old) (O.state out.new) result }
-    ensures cause { IfErr result (Cause (MayFail (F.contents sources.now)) (M.refused memory.new)) }
+    ensures cause { IfErr result (Cause (FileMayFail (F.contents sources.now)) (M.refused memory.new)) }
 {
     let several = read_several(memory, sources, files)?;
     let sets = combination(operation, several);

@@ -5,7 +5,7 @@ ghost use Rattle.cidr.specs.model.Network.{BeginsWith};
 ghost use Rattle.std.specs.declared.cmp.Ordering.TheVariants.{Less};
 ghost use Rattle.cidr.specs.model.Bits.{bit_cmp};
 ghost use Rattle.cidr_table.specs.Cover.{AreNetworks, Covers, IsReduced};
-ghost use Rattle.cidr_sets.specs.Steps.{Ascend, IsCut, IsSkipped};
+ghost use Rattle.cidr_sets.specs.Steps.{Ascend, IsDifferenceStep, IsSkipped};
 ghost use Rattle.cidr_sets.specs.Searches.{IsFirstInside};
 ghost use Rattle.std.specs.Option.{option_map};
 ghost use Rattle.std.specs.Vec.{vec_capacity};
@@ -250,8 +250,8 @@ pub(super) fn push_rest<'a, C: NetworkBits + Copy>(
     requires ascend { Ascend (map C.bits out.old.items) }
     requires before { (x : List Bool) → Contains (map C.bits out.old.items) x
         → bit_cmp x (C.bits network.now) ≡ Less }
-    ensures { IfOk result (λ rest. IsCut (C.bits network.now) (map C.bits out.old.items) (map C.bits out.new.items)
-        (map C.bits others.now) (map C.bits rest.now)) }
+    ensures { IfOk result (λ rest. IsDifferenceStep (C.bits network.now) (map C.bits out.old.items)
+        (map C.bits out.new.items) (map C.bits others.now) (map C.bits rest.now)) }
 {
     let left = skip(network, others);
     let Some((first, behind)) = left.split_first() else {

@@ -6,7 +6,7 @@ ghost use Rattle.std.specs.Map.{keys_of};
 ghost use Rattle.std.specs.declared.cmp.Ordering.TheVariants.{Less};
 ghost use Rattle.cidr.specs.model.Bits.{bit_cmp};
 ghost use Rattle.cidr_table.specs.Cover.{Covers, IsLeastCover};
-ghost use Rattle.cidr_table.specs.CoverStack.{AreHalves, AreBefore, IsReduced, IsPushed};
+ghost use Rattle.cidr_table.specs.CoverStack.{AreHalvesInOrder, AreBefore, IsReduced, IsPushed};
 
 use crate::table::{LpmTable, is_inside};
 use cidr::{BitString, NetworkBits};
@@ -124,7 +124,7 @@ fn merge<C: BitString>(out: &mut [C], count: usize) -> usize
 /// Whether a network and a later one are the halves of one network.
 fn are_halves<C: BitString>(lower: &C, upper: &C) -> bool
     requires { bit_cmp (C.bits lower.now) (C.bits upper.now) ≡ Less }
-    ensures { Decides result (AreHalves (C.bits lower.now) (C.bits upper.now)) }
+    ensures { Decides result (AreHalvesInOrder (C.bits lower.now) (C.bits upper.now)) }
 {
     lower.len() == upper.len() && lower.shared_prefix_len(upper) + 1 == lower.len()
 }

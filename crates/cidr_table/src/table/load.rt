@@ -2,7 +2,7 @@
 ghost use Rattle.std.specs.Prelude.{MatchResult, IfOk};
 ghost use Rattle.std.specs.List.Sorted.{IsStrictlySortedBy};
 ghost use Rattle.std.specs.Map.{keys_of};
-ghost use Rattle.cidr_table.specs.Loading.{IsLoaded, IsLoadRefused, IsRead, AreLast};
+ghost use Rattle.cidr_table.specs.Loading.{IsLoaded, IsLoadRefused, ArePlacedPrefixes, AreLast};
 
 use crate::table::LpmTable;
 use cidr::errors::PrefixBytesError;
@@ -47,7 +47,7 @@ fn read_rows<C: PrefixBytes + Copy>(
     alloc: Global,
     bytes: &[u8],
 ) -> Result<Vec<(C, usize)>, LoadError>
-    ensures { MatchResult result (λ rows. IsRead C.bits C.width bytes.now rows.items)
+    ensures { MatchResult result (λ rows. ArePlacedPrefixes C.bits C.width bytes.now rows.items)
         (IsLoadRefused C.bits C.width bytes.now) }
 {
     let mut rows = Vec::new(alloc);

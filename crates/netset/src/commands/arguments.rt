@@ -2,7 +2,7 @@
 ghost use Rattle.std.specs.Prelude.{◌≡◌, ◌<◌, Ok, Err, Bool, true, false, length, drop, codes, MatchOption, MatchResult, option_map, ◌||◌};
 ghost use Rattle.std.specs.List.{after_first, before_first};
 ghost use Rattle.netset.specs.Arguments.{extra_operand, full_name, help_request, is_equals, is_option, letter_parts, line_parts, long_parts, missing_operand, lists_request, named_verb, no_option, no_parts, operand_or, part_request, parts_from, verb_of, short_option, takes, verb_request, word_parts};
-ghost use Rattle.netset.specs.Command.{Adds, IsUsageError, misuse_line, parts_in, request_of};
+ghost use Rattle.netset.specs.Command.{AddsParts, IsUsageError, misuse_line, parts_in, request_of};
 ghost use Rattle.netset.specs.Matching.{has, is_word};
 ghost use Rattle.netset.specs.Table.{takes_value, texts};
 
@@ -111,7 +111,7 @@ impl<'a> Parts<'a> {
         word: &'a str,
     ) -> Result<Next, UsageError<'a>>
         requires { 0 < length word.now }
-        ensures { MatchResult result (Adds (parts_in self.old) (parts_in self.new) (letter_parts command word.now))
+        ensures { MatchResult result (AddsParts (parts_in self.old) (parts_in self.new) (letter_parts command word.now))
             (IsUsageError (letter_parts command word.now) (M.refused memory.new)) }
     {
         let letters = &word.as_bytes()[1..];
@@ -131,7 +131,7 @@ impl<'a> Parts<'a> {
         command: Verb,
         word: &'a str,
     ) -> Result<Next, UsageError<'a>>
-        ensures { MatchResult result (Adds (parts_in self.old) (parts_in self.new) (long_parts command word.now))
+        ensures { MatchResult result (AddsParts (parts_in self.old) (parts_in self.new) (long_parts command word.now))
             (IsUsageError (long_parts command word.now) (M.refused memory.new)) }
     {
         if has(options_of(command), word) {
@@ -157,7 +157,7 @@ impl<'a> Parts<'a> {
         command: Verb,
         word: &'a str,
     ) -> Result<Next, UsageError<'a>>
-        ensures { MatchResult result (Adds (parts_in self.old) (parts_in self.new) (word_parts command Next.Any word.now))
+        ensures { MatchResult result (AddsParts (parts_in self.old) (parts_in self.new) (word_parts command Next.Any word.now))
             (IsUsageError (word_parts command Next.Any word.now) (M.refused memory.new)) }
     {
         if word == "--" {
@@ -181,7 +181,8 @@ impl<'a> Parts<'a> {
         next: Next,
         word: &'a str,
     ) -> Result<Next, UsageError<'a>>
-        ensures { MatchResult result (Adds (parts_in self.old) (parts_in self.new) (word_parts command next word.now))
+        ensures { MatchResult result
+            (AddsParts (parts_in self.old) (parts_in self.new) (word_parts command next word.now))
             (IsUsageError (word_parts command next word.now) (M.refused memory.new)) }
     {
         match next {

@@ -6,7 +6,7 @@ ghost use Rattle.netset.specs.Answering.{changed};
 ghost use Rattle.netset.specs.Changes.{AreSame};
 ghost use Rattle.cidr_lists.specs.Changes.{change_line, merged, printed_changes};
 ghost use Rattle.cidr_io.specs.Collecting.{Collects};
-ghost use Rattle.netset.specs.Causes.{Cause, MayFail};
+ghost use Rattle.netset.specs.Causes.{Cause, FileMayFail};
 ghost use Rattle.netset.specs.Commands.{Diff};
 ghost use Rattle.netset.specs.Program.{AnswersRequest};
 
@@ -90,7 +90,7 @@ pub fn diff<'a, M: Memory, F: Sources, O: Sink>(
     out: &mut O,
 ) -> Result<Verdict, CommandError<'a>>
     ensures answers { AnswersRequest (F.contents sources.now) (Diff old.now new.now) (O.state out.old) (O.state out.new) result }
-    ensures cause { IfErr result (Cause (MayFail (F.contents sources.now)) (M.refused memory.new)) }
+    ensures cause { IfErr result (Cause (FileMayFail (F.contents sources.now)) (M.refused memory.new)) }
 {
     let (old, new) = read_both(memory, sources, old, new)?;
     let added = new.stepped(Step::Difference, &old);

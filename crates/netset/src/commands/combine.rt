@@ -3,7 +3,7 @@ ghost use Rattle.std.specs.Prelude.{IfOk, ◌∷◌};
 ghost use Rattle.cidr.specs.declared.family.Family.{Family};
 ghost use Rattle.cidr_sets.specs.Sets.{IsSetOf};
 ghost use Rattle.netset.specs.Combining.{IsMade};
-ghost use Rattle.cidr_lists.specs.Sets.{HasAddress, networks_of};
+ghost use Rattle.cidr_lists.specs.Sets.{IsInSets, networks_of};
 
 use crate::commands::operations::{Operation, step_of, turns};
 use crate::input::several::Several;
@@ -13,7 +13,7 @@ use std::alloc::AllocError;
 /// What an operation makes of sets.
 pub fn combination(operation: Operation, several: Several) -> Result<Sets, AllocError>
     ensures { IfOk result (λ sets. (family : Family)
-        → IsSetOf 129 (IsMade HasAddress operation (several.first ∷ several.others.items) family)
+        → IsSetOf 129 (IsMade IsInSets operation (several.first ∷ several.others.items) family)
         (networks_of sets family)) }
 {
     let Several { first, others } = several;

@@ -1,6 +1,6 @@
 //! The first free network of a pool.
 ghost use Rattle.std.specs.Prelude.{ℕ, ◌≤◌, ◌<◌, map, IfErr, MatchOption};
-ghost use Rattle.netset.specs.Causes.{Cause, MayFail};
+ghost use Rattle.netset.specs.Causes.{Cause, FileMayFail};
 ghost use Rattle.netset.specs.Commands.{Free};
 ghost use Rattle.netset.specs.Program.{AnswersRequest};
 ghost use Rattle.netset.specs.Single.{IsNumber};
@@ -40,7 +40,7 @@ pub fn free<'a, M: Memory, F: Sources, O: Sink>(
 ) -> Result<Verdict, CommandError<'a>>
     ensures answers { AnswersRequest (F.contents sources.now) (Free pool.now len.now (map (λ file. file.now) used.now))
         (O.state out.old) (O.state out.new) result }
-    ensures cause { IfErr result (Cause (MayFail (F.contents sources.now)) (M.refused memory.new)) }
+    ensures cause { IfErr result (Cause (FileMayFail (F.contents sources.now)) (M.refused memory.new)) }
 {
     let Some(bits) = length_of(len) else {
         return Err(CommandError::Argument(len, ArgumentError::Length));

@@ -1,6 +1,6 @@
 //! The addresses of a network that no list has.
 ghost use Rattle.std.specs.Prelude.{[], map, IfErr};
-ghost use Rattle.netset.specs.Causes.{Cause, MayFail};
+ghost use Rattle.netset.specs.Causes.{Cause, FileMayFail};
 ghost use Rattle.netset.specs.Commands.{NotIn};
 ghost use Rattle.netset.specs.Program.{AnswersRequest};
 
@@ -26,7 +26,7 @@ pub fn not_in<'a, M: Memory, F: Sources, O: Sink>(
 ) -> Result<Verdict, CommandError<'a>>
     ensures answers { AnswersRequest (F.contents sources.now) (NotIn net.now (map (λ file. file.now) files.now))
         (O.state out.old) (O.state out.new) result }
-    ensures cause { IfErr result (Cause (MayFail (F.contents sources.now)) (M.refused memory.new)) }
+    ensures cause { IfErr result (Cause (FileMayFail (F.contents sources.now)) (M.refused memory.new)) }
 {
     let network = network_of(net)?;
     let several = read_several(memory, sources, files)?;

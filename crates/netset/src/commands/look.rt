@@ -1,6 +1,6 @@
 //! The longest networks of addresses.
 ghost use Rattle.std.specs.Prelude.{◌≡◌, IfErr, false};
-ghost use Rattle.netset.specs.Causes.{Cause, LookCause, MayFail, TextFails};
+ghost use Rattle.netset.specs.Causes.{Cause, LookCause, FileMayFail, TextFails};
 ghost use Rattle.netset.specs.Commands.{Look};
 ghost use Rattle.netset.specs.LookUps.{LooksAll, LooksLine, LooksLines, verdict_of};
 ghost use Rattle.cidr_lists.specs.Tables.{kept};
@@ -151,7 +151,7 @@ pub fn look<'a, M: Memory, F: Sources, O: Sink>(
     out: &mut O,
 ) -> Result<Verdict, CommandError<'a>>
     ensures answers { AnswersRequest (F.contents sources.now) (Look table.now file.now) (O.state out.old) (O.state out.new) result }
-    ensures cause { IfErr result (Cause (MayFail (F.contents sources.now)) (M.refused memory.new)) }
+    ensures cause { IfErr result (Cause (FileMayFail (F.contents sources.now)) (M.refused memory.new)) }
 {
     let rows = read_table(memory, sources, table)?;
     let Some(reader) = sources.open(file) else {

@@ -4,13 +4,13 @@ ghost use Rattle.std.specs.Bool.{Decides};
 ghost use Rattle.cidr_io.specs.Lines.{MayFail as NoLineFails};
 ghost use Rattle.cidr_io.specs.Writing.{Writes};
 ghost use Rattle.cidr_io.specs.Collecting.{Collects};
-ghost use Rattle.netset.specs.Causes.{Cause, MayFail, TextFails};
+ghost use Rattle.netset.specs.Causes.{Cause, FileMayFail, TextFails};
 ghost use Rattle.netset.specs.Commands.{Match};
-ghost use Rattle.netset.specs.Gathering.{Finishes, IsCounted, IsDone, IsUnreadable, NotesLong, Stops, Streams, TakesPart, lines_of_part, rest_written, told_behind};
+ghost use Rattle.netset.specs.Gathering.{Finishes, IsCounted, IsDone, IsNotReadFurther, NotesLong, Stops, Streams, GathersPart, lines_of_part, rest_written, told_behind};
 ghost use Rattle.netset.specs.Matching.{Picks, PicksByField, has, line_written, passed_over, written_of};
 ghost use Rattle.netset.specs.Program.{AnswersRequest};
 ghost use Rattle.netset.specs.Reading.{IsNextLine};
-ghost use Rattle.cidr_lists.specs.Sets.{HasAddress};
+ghost use Rattle.cidr_lists.specs.Sets.{IsInSets};
 
 use crate::errors::CommandError;
 use crate::input::files::Sources;
@@ -70,7 +70,7 @@ struct Matcher<'a> {
 impl Matcher<'_> {
     /// Whether a line is picked by its first field.
     fn picks_by_field(&self, line: &[u8]) -> Result<bool, LineError>
-        ensures { PicksByField (HasAddress self.now.sets.now) self.now.inverted line.now result }
+        ensures { PicksByField (IsInSets self.now.sets.now) self.now.inverted line.now result }
     {
         let network = first_network(line)?;
         let lies = self.sets.have(&network);
@@ -79,7 +79,7 @@ impl Matcher<'_> {
 
     /// Whether a line is picked.
     fn picks(&self, line: &[u8]) -> Result<bool, LineError>
-        ensures { Picks self.now.anywhere (HasAddress self.now.sets.now) self.now.inverted line.now result }
+        ensures { Picks self.now.anywhere (IsInSets self.now.sets.now) self.now.inverted line.now result }
     {
         if is_too_long(line) {
             return passed_over(self.anywhere);
@@ -201,7 +201,7 @@ impl Gathered {
         out: &mut S,
     ) -> Result<(), CommandError<'a>>
         requires { self.old.count < number }
-        ensures { TakesPart (Picks matcher.now.anywhere (HasAddress matcher.now.sets.now) matcher.now.inverted)
+        ensures { GathersPart (Picks matcher.now.anywhere (IsInSets matcher.now.sets.now) matcher.now.inverted)
             matcher.now.written file.now number part.now has_more (S.state out.old) (S.state out.new)
             self.old self.new result }
     {
@@ -302,7 +302,7 @@ fn next_part<'a, M: Memory, R: Source + Drop>(
 ) -> Result<bool, CommandError<'a>>
     ensures part { IfOk result (λ more. IfSome reader.old.left
         (λ text. IsNextLine text reader.new.line more reader.new.left)) }
-    ensures stopped { IfErr result (IsUnreadable file.now) }
+    ensures stopped { IfErr result (IsNotReadFurther file.now) }
     ensures cause { IfErr result (Cause (λ name. (name ≡ file.now) × NoLineFails reader.old.left) (M.refused memory.new)) }
 {
     match reader.read_line(memory) {
@@ -322,7 +322,7 @@ fn stream<'a, M: Memory, R: Source + Drop, S: Sink>(
     reader: &mut LineReader<R>,
     out: &mut S,
 ) -> Result<Verdict, CommandError<'a>>
-    ensures streams { Streams (Picks matcher.now.anywhere (HasAddress matcher.now.sets.now) matcher.now.inverted)
+    ensures streams { Streams (Picks matcher.now.anywhere (IsInSets matcher.now.sets.now) matcher.now.inverted)
         matcher.now.written file.now reader.old.left (S.state out.old) (S.state out.new) result }
     ensures cause { IfErr result (Cause (λ name. (name ≡ file.now) × TextFails reader.old.left) (M.refused memory.new)) }
 {
@@ -362,7 +362,7 @@ pub fn matching<'a, M: Memory, F: Sources, O: Sink>(
 ) -> Result<Verdict, CommandError<'a>>
     ensures answers { AnswersRequest (F.contents sources.now) (Match (map (λ w. w.now) options.now) list.now file.now)
         (O.state out.old) (O.state out.new) result }
-    ensures cause { IfErr result (Cause (MayFail (F.contents sources.now)) (M.refused memory.new)) }
+    ensures cause { IfErr result (Cause (FileMayFail (F.contents sources.now)) (M.refused memory.new)) }
 {
     let sets = read_file(memory, sources, list)?;
     let anywhere = has(options, "--any");

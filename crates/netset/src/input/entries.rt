@@ -1,6 +1,6 @@
 //! Reading the lines of lists that have a network or a host.
 ghost use Rattle.std.specs.Prelude.{◌≡◌, ◌∷◌, true, IfErr, IfSome, MatchResult, OnErr, OnOk, Some, map};
-ghost use Rattle.netset.specs.Causes.{Cause, MayFail, ReadCause, TextFails};
+ghost use Rattle.netset.specs.Causes.{Cause, FileMayFail, ReadCause, TextFails};
 ghost use Rattle.netset.specs.Commands.{read_files};
 ghost use Rattle.netset.specs.Entries.{AddsEntries, AddsEntry, CopiesEntries};
 ghost use Rattle.netset.specs.Unchecked.{AddsFileEntries, AreToldEntries, IsUnchecked};
@@ -82,7 +82,7 @@ fn add_opened<'a, M: Memory, F: Sources>(
     entries: &mut Vec<Entry<'a>>,
 ) -> Result<(), CommandError<'a>>
     ensures adds { AddsFileEntries (F.contents sources.now file.now) file.now entries.old.items entries.new.items result }
-    ensures cause { IfErr result (Cause (MayFail (F.contents sources.now)) (M.refused memory.new)) }
+    ensures cause { IfErr result (Cause (FileMayFail (F.contents sources.now)) (M.refused memory.new)) }
 {
     let Some(reader) = sources.open(file) else {
         return Err(CommandError::Input(file));
@@ -130,7 +130,7 @@ fn add_file<'a, M: Memory, F: Sources>(
     entries: &mut Vec<Entry<'a>>,
 ) -> Result<(), CommandError<'a>>
     ensures adds { AddsFileEntries (F.contents sources.now file.now) file.now entries.old.items entries.new.items result }
-    ensures cause { IfErr result (Cause (MayFail (F.contents sources.now)) (M.refused memory.new)) }
+    ensures cause { IfErr result (Cause (FileMayFail (F.contents sources.now)) (M.refused memory.new)) }
 {
     match sources.kept(file) {
         Some(Said::Hosts(kept)) => {
@@ -151,7 +151,7 @@ fn read_named<'a, M: Memory, F: Sources>(
     ensures reads { MatchResult result
         (λ entries. AreToldEntries (F.contents sources.now) (file.now ∷ map (λ file. file.now) files.now) entries.items)
         (IsUnchecked (F.contents sources.now) (file.now ∷ map (λ file. file.now) files.now)) }
-    ensures cause { IfErr result (Cause (MayFail (F.contents sources.now)) (M.refused memory.new)) }
+    ensures cause { IfErr result (Cause (FileMayFail (F.contents sources.now)) (M.refused memory.new)) }
 {
     let mut entries = Vec::new(memory.alloc());
     add_file(memory, sources, file, &mut entries)?;
@@ -170,7 +170,7 @@ pub fn read_entries<'a, M: Memory, F: Sources>(
     ensures reads { MatchResult result
         (λ entries. AreToldEntries (F.contents sources.now) (read_files (map (λ file. file.now) files.now)) entries.items)
         (IsUnchecked (F.contents sources.now) (read_files (map (λ file. file.now) files.now))) }
-    ensures cause { IfErr result (Cause (MayFail (F.contents sources.now)) (M.refused memory.new)) }
+    ensures cause { IfErr result (Cause (FileMayFail (F.contents sources.now)) (M.refused memory.new)) }
 {
     match files.split_first() {
         Some((file, files)) => read_named(memory, sources, file, files),

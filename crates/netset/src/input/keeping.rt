@@ -1,9 +1,9 @@
 //! Telling every line in error of the lists of a command, in the pass that reads them.
 ghost use Rattle.std.specs.Prelude.{◌≡◌, ◌++◌, ℕ, List, Option, Some, map, MatchResult, IfErr, IfSome, true};
-ghost use Rattle.netset.specs.Causes.{Cause, MayFail, ReadCause, TextFails};
-ghost use Rattle.netset.specs.Keeping.{AddsBy, AllSaid, AreKept, IsNone, KeepsLine, KeepsLines, KeepsList};
+ghost use Rattle.netset.specs.Causes.{Cause, FileMayFail, ReadCause, TextFails};
+ghost use Rattle.netset.specs.Keeping.{AddsBy, AllSaid, AreKept, IsNone, KeepsLine, KeepsListLines, KeepsList};
 ghost use Rattle.cidr_lists.specs.Lists.{Text, lines_of};
-ghost use Rattle.netset.specs.Loading.{IsLoaded, IsUnloaded};
+ghost use Rattle.netset.specs.Loading.{AreListsLoaded, IsUnloaded};
 
 use crate::errors::{CommandError, ReadError};
 use crate::input::files::Sources;
@@ -99,7 +99,7 @@ fn keep_lines<M: Memory, S: Source + Drop, E: Sink>(
     block: &mut Block,
     err: &mut E,
 ) -> Result<(Said, bool), ReadError>
-    ensures keeps { KeepsLines kind host_bits file.now reader.old.left
+    ensures keeps { KeepsListLines kind host_bits file.now reader.old.left
         (E.state err.old) block.old (E.state err.new) block.new result }
     ensures cause { IfErr result (ReadCause (TextFails reader.old.left) (M.refused memory.new)) }
 {
@@ -134,7 +134,7 @@ fn keep_list<'a, M: Memory, F: Sources, E: Sink>(
     err: &mut E,
 ) -> Result<(Said, bool), CommandError<'a>>
     ensures keeps { KeepsList (F.contents sources.now file.now) kind file.now (E.state err.old) (E.state err.new) result }
-    ensures cause { IfErr result (Cause (MayFail (F.contents sources.now)) (M.refused memory.new)) }
+    ensures cause { IfErr result (Cause (FileMayFail (F.contents sources.now)) (M.refused memory.new)) }
 {
     let Some(source) = sources.open(file) else {
         return Err(CommandError::Input(file));
@@ -234,10 +234,10 @@ pub fn load<'a, M: Memory, F: Sources, E: Sink>(
     err: &mut E,
 ) -> Result<(Vec<Kept<'a>>, bool), CommandError<'a>>
     ensures loads { MatchResult result
-        (λ loaded. IsLoaded (F.contents sources.now) kind (map (λ name. name.now) names.now)
+        (λ loaded. AreListsLoaded (F.contents sources.now) kind (map (λ name. name.now) names.now)
         (E.state err.old) (E.state err.new) loaded.0.items loaded.1)
         (IsUnloaded (F.contents sources.now) kind (map (λ name. name.now) names.now) (E.state err.old) (E.state err.new)) }
-    ensures cause { IfErr result (Cause (MayFail (F.contents sources.now)) (M.refused memory.new)) }
+    ensures cause { IfErr result (Cause (FileMayFail (F.contents sources.now)) (M.refused memory.new)) }
 {
     let mut lists = Vec::new(memory.alloc());
     let mut found = false;

@@ -1,6 +1,6 @@
 //! Reading the lists of files, each as a set.
 ghost use Rattle.std.specs.Prelude.{◌∷◌, map, IfErr, MatchResult};
-ghost use Rattle.netset.specs.Causes.{Cause, MayFail};
+ghost use Rattle.netset.specs.Causes.{Cause, FileMayFail};
 ghost use Rattle.netset.specs.Commands.{read_files};
 ghost use Rattle.netset.specs.Answering.{AddsFile, AreRead, ReadsBoth, ReadsFile, ReadsSeveral};
 ghost use Rattle.netset.specs.Program.{IsUnread};
@@ -28,7 +28,7 @@ fn add_opened<'a, M: Memory, F: Sources>(
     lists: &mut Lists,
 ) -> Result<(), CommandError<'a>>
     ensures adds { AddsFile (F.contents sources.now file.now) file.now lists.old lists.new result }
-    ensures cause { IfErr result (Cause (MayFail (F.contents sources.now)) (M.refused memory.new)) }
+    ensures cause { IfErr result (Cause (FileMayFail (F.contents sources.now)) (M.refused memory.new)) }
 {
     let Some(reader) = sources.open(file) else {
         return Err(CommandError::Input(file));
@@ -49,7 +49,7 @@ fn add_file<'a, M: Memory, F: Sources>(
     lists: &mut Lists,
 ) -> Result<(), CommandError<'a>>
     ensures adds { AddsFile (F.contents sources.now file.now) file.now lists.old lists.new result }
-    ensures cause { IfErr result (Cause (MayFail (F.contents sources.now)) (M.refused memory.new)) }
+    ensures cause { IfErr result (Cause (FileMayFail (F.contents sources.now)) (M.refused memory.new)) }
 {
     match sources.kept(file) {
         Some(Said::Networks(kept)) => {
@@ -68,7 +68,7 @@ pub fn read_file<'a, M: Memory, F: Sources>(
     file: &'a str,
 ) -> Result<Sets, CommandError<'a>>
     ensures reads { ReadsFile (F.contents sources.now file.now) file.now result }
-    ensures cause { IfErr result (Cause (MayFail (F.contents sources.now)) (M.refused memory.new)) }
+    ensures cause { IfErr result (Cause (FileMayFail (F.contents sources.now)) (M.refused memory.new)) }
 {
     let mut lists = Lists::new(memory.alloc());
     add_file(memory, sources, file, &mut lists)?;
@@ -83,7 +83,7 @@ fn read_all<'a, M: Memory, F: Sources>(
 ) -> Result<Vec<Sets>, CommandError<'a>>
     ensures reads { MatchResult result (λ sets. AreRead (F.contents sources.now) (map (λ file. file.now) files.now) sets.items)
         (IsUnread (F.contents sources.now) (map (λ file. file.now) files.now)) }
-    ensures cause { IfErr result (Cause (MayFail (F.contents sources.now)) (M.refused memory.new)) }
+    ensures cause { IfErr result (Cause (FileMayFail (F.contents sources.now)) (M.refused memory.new)) }
 {
     let mut sets = Vec::new(memory.alloc());
     for file in files {
@@ -101,7 +101,7 @@ pub fn read_both<'a, M: Memory, F: Sources>(
     new: &'a str,
 ) -> Result<(Sets, Sets), CommandError<'a>>
     ensures reads { ReadsBoth (F.contents sources.now) old.now new.now result }
-    ensures cause { IfErr result (Cause (MayFail (F.contents sources.now)) (M.refused memory.new)) }
+    ensures cause { IfErr result (Cause (FileMayFail (F.contents sources.now)) (M.refused memory.new)) }
 {
     let these = read_file(memory, sources, old)?;
     let those = read_file(memory, sources, new)?;
@@ -116,7 +116,7 @@ pub fn read_named<'a, M: Memory, F: Sources>(
     files: &[&'a str],
 ) -> Result<Several, CommandError<'a>>
     ensures reads { ReadsSeveral (F.contents sources.now) (file.now ∷ map (λ file. file.now) files.now) result }
-    ensures cause { IfErr result (Cause (MayFail (F.contents sources.now)) (M.refused memory.new)) }
+    ensures cause { IfErr result (Cause (FileMayFail (F.contents sources.now)) (M.refused memory.new)) }
 {
     let first = read_file(memory, sources, file)?;
     let others = read_all(memory, sources, files)?;
@@ -130,7 +130,7 @@ pub fn read_several<'a, M: Memory, F: Sources>(
     files: &[&'a str],
 ) -> Result<Several, CommandError<'a>>
     ensures reads { ReadsSeveral (F.contents sources.now) (read_files (map (λ file. file.now) files.now)) result }
-    ensures cause { IfErr result (Cause (MayFail (F.contents sources.now)) (M.refused memory.new)) }
+    ensures cause { IfErr result (Cause (FileMayFail (F.contents sources.now)) (M.refused memory.new)) }
 {
     match files.split_first() {
         Some((file, files)) => read_named(memory, sources, file, files),

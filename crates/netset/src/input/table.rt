@@ -1,7 +1,7 @@
 //! Reading tables, and the longest network of a table that an address is in.
 ghost use Rattle.std.specs.Prelude.{◌≡◌, Some, option_copied, option_map, IfErr};
 ghost use Rattle.cidr_io.specs.Collecting.{Collects};
-ghost use Rattle.netset.specs.Causes.{Cause, MayFail};
+ghost use Rattle.netset.specs.Causes.{Cause, FileMayFail};
 ghost use Rattle.cidr_lists.specs.LookUps.{found_line};
 ghost use Rattle.netset.specs.LookUps.{LooksUp, PushesFound, ReadsFileRows, ReadsTable, unread};
 ghost use Rattle.cidr_lists.specs.Tables.{kept, value_at};
@@ -100,7 +100,7 @@ fn read_opened<'a, M: Memory, F: Sources>(
     file: &'a str,
 ) -> Result<Rows, CommandError<'a>>
     ensures reads { ReadsFileRows (F.contents sources.now file.now) file.now result }
-    ensures cause { IfErr result (Cause (MayFail (F.contents sources.now)) (M.refused memory.new)) }
+    ensures cause { IfErr result (Cause (FileMayFail (F.contents sources.now)) (M.refused memory.new)) }
 {
     let Some(reader) = sources.open(file) else {
         return Err(CommandError::Input(file));
@@ -118,7 +118,7 @@ fn rows_of<'a, M: Memory, F: Sources>(
     file: &'a str,
 ) -> Result<Rows, CommandError<'a>>
     ensures reads { ReadsFileRows (F.contents sources.now file.now) file.now result }
-    ensures cause { IfErr result (Cause (MayFail (F.contents sources.now)) (M.refused memory.new)) }
+    ensures cause { IfErr result (Cause (FileMayFail (F.contents sources.now)) (M.refused memory.new)) }
 {
     match sources.kept(file) {
         Some(Said::Rows(kept)) => {
@@ -137,7 +137,7 @@ pub fn read_table<'a, M: Memory, F: Sources>(
     file: &'a str,
 ) -> Result<Table, CommandError<'a>>
     ensures reads { ReadsTable (F.contents sources.now file.now) file.now result }
-    ensures cause { IfErr result (Cause (MayFail (F.contents sources.now)) (M.refused memory.new)) }
+    ensures cause { IfErr result (Cause (FileMayFail (F.contents sources.now)) (M.refused memory.new)) }
 {
     let rows = rows_of(memory, sources, file)?;
     let table = Table::of_rows(memory.alloc(), rows);

@@ -3,7 +3,7 @@ ghost use Rattle.std.specs.Prelude.{◌≡◌, ◌++◌, Err, List, ℕ, codes};
 ghost use Rattle.std.specs.List.{flat_map};
 ghost use Rattle.cidr_io.specs.Collecting.{Collects, HasSaid};
 ghost use Rattle.cidr_io.specs.Shown.{part_text, shown};
-ghost use Rattle.cidr_io.specs.Writing.{Answered, Says, State};
+ghost use Rattle.cidr_io.specs.Writing.{Answered, Tells, State};
 ghost use Rattle.cidr_lists.specs.Messages.{fault_line};
 ghost use Rattle.netset.specs.Arguments.{misfit_text};
 ghost use Rattle.netset.specs.Command.{misuse_line};
@@ -114,7 +114,7 @@ pub fn say_fault<E: Sink>(
 
 /// Writes the line of an error, as far as the sink takes it.
 fn say<E: Sink>(error: &CommandError<'_>, err: &mut E)
-    ensures { Says (E.state err.old) (E.state err.new) (error_line error.now) }
+    ensures { Tells (E.state err.old) (E.state err.new) (error_line error.now) }
 {
     let _ = match error {
         CommandError::Argument(text, e) => write_line(
@@ -201,7 +201,7 @@ fn misfit_text(why: Misfit) -> ArrayString<48>
 /// Writes the line of arguments that are no command, as far as the sink takes it, and returns the exit status.
 pub fn report_misuse<E: Sink>(misuse: &Misuse<'_>, err: &mut E) -> u8
     ensures status { result ≡ 2 }
-    ensures says { Says (E.state err.old) (E.state err.new) (misuse_line misuse.now) }
+    ensures says { Tells (E.state err.old) (E.state err.new) (misuse_line misuse.now) }
 {
     let Misuse { word, why, command } = misuse;
     let _ = write_line(

@@ -1,7 +1,7 @@
 use Rattle.std.proofs.Common.{◌≡◌, refl, sym, subst, arith, inl, inr, ◌+◌, ◌-◌, ◌^◌, get_or, length, map}
 use Rattle.std.proofs.lemmas.List.{length-map}
 use Rattle.std.proofs.lemmas.Bool.{false≢true}
-use Rattle.cidr_arrays.specs.Arrays.{networks_of}
+use Rattle.cidr_arrays.specs.Arrays.{key_networks}
 use Rattle.cidr_arrays.specs.Passing.{AreSoFar}
 use Rattle.cidr_arrays.proofs.Only.{AreFirst, first_more, longer, none_first, other}
 use Rattle.cidr_arrays.proofs.Written.{none_yet, one_more_there, same_start, whole_ranges}
@@ -10,7 +10,7 @@ use Rattle.cidr_arrays.proofs.checking.first_other.Goals as goal
 pub loop-pass-init : goal.loop-pass-init
 loop-pass-init g c =
     let w = g.W.Word.width in
-    let networks = networks_of g.W.Word.value c.args.keys.now in
+    let networks = key_networks g.W.Word.value c.args.keys.now in
     let xs = map g.W.Word.value c.args.starts.now in
     let start = c.started-pass.ensures.start in
     record {
@@ -28,7 +28,7 @@ returns-then-not-has_range g c =
     let xs = map g.W.Word.value c.args.starts.now in
     let both : length c.args.answers.now ≡ length xs = omega (arith, length-map c.args.starts.now g.W.Word.value, c.requires.both) in
     let fits = l.invariant.passing.fits in
-    other w (networks_of g.W.Word.value c.args.keys.now) c.requires.keys xs c.args.answers.now both l.count l.pass.start (get_or l.pass.ends (l.pass.depth - 1) 0)
+    other w (key_networks g.W.Word.value c.args.keys.now) c.requires.keys xs c.args.answers.now both l.count l.pass.start (get_or l.pass.ends (l.pass.depth - 1) 0)
     l.invariant.first l.invariant.edge fits (λ has. false≢true (c.if-not-has_range.ensures.1 has))
     (c.if-not-goes_on.ensures.rest refl l.pass.start (omega arith) fits)
 
@@ -37,7 +37,7 @@ returns-then-count-starts g c =
     let w = g.W.Word.width in
     let l = c.loop-pass in
     let xs = map g.W.Word.value c.args.starts.now in
-    let networks = networks_of g.W.Word.value c.args.keys.now in
+    let networks = key_networks g.W.Word.value c.args.keys.now in
     let size : length xs ≡ length c.args.starts.now = length-map c.args.starts.now g.W.Word.value in
     let both : length c.args.answers.now ≡ length xs = omega (arith, size, c.requires.both) in
     longer w networks c.requires.keys xs c.args.answers.now (l.count + 1)
@@ -50,7 +50,7 @@ returns-then-not-goes_on g c =
     let w = g.W.Word.width in
     let l = c.loop-pass in
     let xs = map g.W.Word.value c.args.starts.now in
-    let networks = networks_of g.W.Word.value c.args.keys.now in
+    let networks = key_networks g.W.Word.value c.args.keys.now in
     let size : length xs ≡ length c.args.starts.now = length-map c.args.starts.now g.W.Word.value in
     let there = c.if-not-has_range.ensures.0 refl in
     whole_ranges w networks xs c.args.answers.now (l.count + 1) c.requires.keys (omega arith) (omega (arith, size, there.0)) (omega (arith, size, c.requires.both))
@@ -64,7 +64,7 @@ returns-in-None g c =
     let xs = map g.W.Word.value c.args.starts.now in
     let both : length c.args.answers.now ≡ length xs = omega (arith, length-map c.args.starts.now g.W.Word.value, c.requires.both) in
     let none = c.in-None.ensures.none refl in
-    other w (networks_of g.W.Word.value c.args.keys.now) c.requires.keys xs c.args.answers.now both l.count l.pass.start (get_or l.pass.ends (l.pass.depth - 1) 0)
+    other w (key_networks g.W.Word.value c.args.keys.now) c.requires.keys xs c.args.answers.now both l.count l.pass.start (get_or l.pass.ends (l.pass.depth - 1) 0)
     l.invariant.first l.invariant.edge l.invariant.passing.fits none.1
     (c.if-not-goes_on.ensures.range refl l.pass.start (omega arith) none.0)
 
@@ -76,7 +76,7 @@ loop-pass-preserved g c =
     let on = c.if-not-goes_on.ensures in
     let xs = map g.W.Word.value c.args.starts.now in
     let answers = c.args.answers.now in
-    let networks = networks_of g.W.Word.value c.args.keys.now in
+    let networks = key_networks g.W.Word.value c.args.keys.now in
     let both : length answers ≡ length xs = omega (arith, length-map c.args.starts.now g.W.Word.value, c.requires.both) in
     let answer = get_or l.pass.ends (l.pass.depth - 1) 0 in
     let end = c.goes_on.new.pass.start in

@@ -1,5 +1,5 @@
 use Rattle.std.proofs.Common.{◌≡◌, ◌≢◌, refl, sym, ◌∙◌, ap, subst, arith, inl, ◌+◌, ◌-◌, ◌^◌, ◌<◌, ◌≤◌, length, get_or, slice_set, get_or-set_other, get_or-set_same}
-use Rattle.cidr_arrays.specs.Arrays.{last_of, networks_of}
+use Rattle.cidr_arrays.specs.Arrays.{last_number_in, key_networks}
 use Rattle.cidr_arrays.specs.Passing.{IsPassing, at}
 use Rattle.cidr_arrays.proofs.Numbers.{length_networks, network_at}
 use Rattle.cidr_arrays.proofs.Steps.{closed, closed_edge, closed_range, ended, opened, opened_range, room, two_open}
@@ -9,7 +9,7 @@ use Rattle.cidr_arrays.proofs.pass.goes_on.Goals.{then-pass-keys+else-first-last
 pub bounds-pass-depth-then-first-last : goal.bounds-pass-depth-then-first-last
 bounds-pass-depth-then-first-last g c =
     let p = c.args.pass.now in
-    let networks = networks_of g.W.Word.value c.args.keys.now in
+    let networks = key_networks g.W.Word.value c.args.keys.now in
     let size = length_networks g.W.Word.value c.args.keys.now in
     let here = network_at g.W.Word.value c.args.keys.now p.place c.index-keys-pass.result c.index-keys-pass.is c.if-pass-keys.true in
     let inside : (at g.W.Word.width networks p.place).0 ≤ get_or p.lasts (p.depth - 1) 0 = omega (arith, ap (λ k. k.0) here, c.number-first.ensures.value, c.if-first-last.true) in
@@ -19,7 +19,7 @@ pub returns-then-first-last-clause-passing : goal.returns-then-first-last-clause
 returns-then-first-last-clause-passing g c = λ _.
     let p = c.args.pass.now in
     let w = g.W.Word.width in
-    let networks = networks_of g.W.Word.value c.args.keys.now in
+    let networks = key_networks g.W.Word.value c.args.keys.now in
     let size = length_networks g.W.Word.value c.args.keys.now in
     let here = network_at g.W.Word.value c.args.keys.now p.place c.index-keys-pass.result c.index-keys-pass.is c.if-pass-keys.true in
     let first : (at w networks p.place).0 ≡ c.number-first.result = ap (λ k. k.0) here ∙ sym c.number-first.ensures.value in
@@ -29,7 +29,7 @@ returns-then-first-last-clause-passing g c = λ _.
     subst (λ s. IsPassing w networks (p.place + 1) s (slice_set p.lasts p.depth c.last.result) (slice_set p.ends p.depth (p.place + 1)) (p.depth + 1)) first
     (opened w networks c.requires.keys p.place p.start p.lasts p.ends p.depth c.requires.passing some inside c.last.result
     (slice_set p.lasts p.depth c.last.result) (slice_set p.ends p.depth (p.place + 1))
-    (c.last.ensures ∙ sym (ap (λ k. last_of w k) here))
+    (c.last.ensures ∙ sym (ap (λ k. last_number_in w k) here))
     (λ q l. let ne : q ≢ p.depth = omega arith in rw get_or-set_other refl)
     (λ q l. let ne : q ≢ p.depth = omega arith in rw get_or-set_other refl)
     (let within : p.depth < length p.lasts = omega (arith, fits, c.requires.passing.wide) in rw get_or-set_same refl)
@@ -53,7 +53,7 @@ pub returns-then-first-last-clause-range : goal.returns-then-first-last-clause-r
 returns-then-first-last-clause-range g c = λ _ address from to.
     let p = c.args.pass.now in
     let w = g.W.Word.width in
-    let networks = networks_of g.W.Word.value c.args.keys.now in
+    let networks = key_networks g.W.Word.value c.args.keys.now in
     let size = length_networks g.W.Word.value c.args.keys.now in
     let here = network_at g.W.Word.value c.args.keys.now p.place c.index-keys-pass.result c.index-keys-pass.is c.if-pass-keys.true in
     let first : (at w networks p.place).0 ≡ c.number-first.result = ap (λ k. k.0) here ∙ sym c.number-first.ensures.value in
@@ -64,7 +64,7 @@ pub returns-then-last-pass-clause-rest : goal.returns-then-last-pass-clause-rest
 returns-then-last-pass-clause-rest g c = λ _ address from to.
     let p = c.args.pass.now in
     let w = g.W.Word.width in
-    let networks = networks_of g.W.Word.value c.args.keys.now in
+    let networks = key_networks g.W.Word.value c.args.keys.now in
     let size = length_networks g.W.Word.value c.args.keys.now in
     let widest : get_or p.lasts (p.depth - 1) 0 ≡ 2 ^ w - 1 = c.if-last-pass.true ∙ c.requires.passing.widest in
     let all : length networks ≤ p.place = elim c.if-pass-keys.branch [
@@ -77,7 +77,7 @@ pub returns-clause-passing : goal.returns-clause-passing
 returns-clause-passing g c = λ _.
     let p = c.args.pass.now in
     let w = g.W.Word.width in
-    let networks = networks_of g.W.Word.value c.args.keys.now in
+    let networks = key_networks g.W.Word.value c.args.keys.now in
     let size = length_networks g.W.Word.value c.args.keys.now in
     let h = c.requires.passing in
     let two = two_open w networks c.requires.keys p.place p.start p.lasts p.ends p.depth h c.if-last-pass.false in
@@ -92,7 +92,7 @@ returns-clause-passing g c = λ _.
 pub returns-clause-edge : goal.returns-clause-edge
 returns-clause-edge g c = λ _.
     let p = c.args.pass.now in
-    let networks = networks_of g.W.Word.value c.args.keys.now in
+    let networks = key_networks g.W.Word.value c.args.keys.now in
     let h = c.requires.passing in
     let two = two_open g.W.Word.width networks c.requires.keys p.place p.start p.lasts p.ends p.depth h c.if-last-pass.false in
     closed_edge g.W.Word.width networks c.requires.keys p.place p.start (get_or p.lasts (p.depth - 1) 0) p.lasts p.ends p.depth h two refl
@@ -100,7 +100,7 @@ returns-clause-edge g c = λ _.
 pub returns-clause-range : goal.returns-clause-range
 returns-clause-range g c = λ _ address from to.
     let p = c.args.pass.now in
-    let networks = networks_of g.W.Word.value c.args.keys.now in
+    let networks = key_networks g.W.Word.value c.args.keys.now in
     let size = length_networks g.W.Word.value c.args.keys.now in
     closed_range g.W.Word.width networks c.requires.keys p.place p.start (get_or p.lasts (p.depth - 1) 0) p.lasts p.ends p.depth c.requires.passing refl
     (elim c.if-pass-keys.branch [

@@ -2,7 +2,7 @@ use Rattle.std.proofs.Common.{◌≡◌, sym, ◌∙◌, ap, subst, arith, ◌<�
 use Rattle.std.proofs.lemmas.List.{get_or-map}
 use Rattle.cidr.specs.model.Bits.{bits}
 use Rattle.cidr_table.specs.Prefixes.{IsLongestMatch}
-use Rattle.cidr_arrays.specs.Arrays.{network_bits, row_of}
+use Rattle.cidr_arrays.specs.Arrays.{prefix_bits, row_of}
 use Rattle.cidr_arrays.proofs.Longest.{row_within}
 use Rattle.cidr_arrays.proofs.search.longest_match.Goals as goal
 
@@ -19,5 +19,5 @@ returns-clause-longest g c = λ networks size r.
     let answer : get_or (map place answers) at 0 ≡ c.as_index.result =
     get_or-map place answers at read.result 0 (omega arith) ∙ (ap place (sym read.is) ∙ sym c.as_index.ensures) in
     let within = row_within w networks (bits w n) (get_or (map place answers) at 0) m in
-    subst (λ row. IsLongestMatch (network_bits w) (bits w n) networks row) (sym (c.row_below.ensures.row (omega (arith, within, answer))))
-    (subst (λ a. IsLongestMatch (network_bits w) (bits w n) networks (row_of a)) answer m)
+    subst (λ row. IsLongestMatch (prefix_bits w) (bits w n) networks row) (sym (c.row_below.ensures.row (omega (arith, within, answer))))
+    (subst (λ a. IsLongestMatch (prefix_bits w) (bits w n) networks (row_of a)) answer m)

@@ -1,8 +1,8 @@
 use Rattle.std.proofs.Common.{◌≡◌, map, take}
-use Rattle.cidr_c.specs.Batches.{AreNetworks}
+use Rattle.cidr_c.specs.Batches.{AreNetworkValues}
 use Rattle.cidr_c.specs.Values.{network_in}
 use Rattle.cidr_c.proofs.batches.networks_of.Given as goal
 
 abbrev pub invariant-loop-value : goal.invariant-loop-value
 invariant-loop-value l =
-    AreNetworks (take l.value-index l.values) × (l.networks.items ≡ map network_in (take l.value-index l.values))
+    AreNetworkValues (take l.value-index l.values) × (l.networks.items ≡ map network_in (take l.value-index l.values))

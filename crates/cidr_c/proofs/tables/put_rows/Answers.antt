@@ -1,6 +1,6 @@
 use Rattle.std.proofs.Common.{◌∙◌, ◌<◌, length, map, refl, sym, subst, inl, arith, drop, ◌≡◌, ℕ}
 use Rattle.std.proofs.lemmas.List.{drop-set-lt, length-map, length-set}
-use Rattle.cidr_c.specs.Tables.{IsFound}
+use Rattle.cidr_c.specs.Tables.{IsRowFound}
 use Rattle.cidr_c.proofs.TableRows.{rows_more}
 use Rattle.cidr_c.proofs.tables.put_rows.Goals as goal
 
@@ -11,7 +11,7 @@ loop-i-preserved g c =
     record {
       fits = length-set l.out l.i c.row_in.result ∙ l.invariant.fits;
       found = rows_more
-          (IsFound g.W.Word.width (map g.W.Word.value c.args.starts.now) c.args.answers.now c.args.level.now c.args.shift c.args.rows)
+          (IsRowFound g.W.Word.width (map g.W.Word.value c.args.starts.now) c.args.answers.now c.args.level.now c.args.shift c.args.rows)
           g.W.Family.pair c.args.asked.now l.out l.i (record { high = 0; low = 0; tag = 0 }) c.row_in.result (omega arith) fits c.row_in.ensures l.invariant.found;
       behind = drop-set-lt (length c.args.asked.now) l.out l.i c.row_in.result (omega arith) ∙ l.invariant.behind;
     }

@@ -1,12 +1,12 @@
 use Rattle.std.proofs.Common.{◌≡◌, ℕ, ◌<◌, drop, get_or, length, map}
-use Rattle.cidr_c.specs.Tables.{IsFound}
+use Rattle.cidr_c.specs.Tables.{IsRowFound}
 use Rattle.cidr_c.proofs.tables.put_rows.Given as goal
 
 -- the first are answered, and what is behind them stays
 abbrev pub invariant-loop-i : goal.invariant-loop-i
 invariant-loop-i g l = record {
   fits : length l.out ≡ length l.fn.out;
-  found : (k : ℕ) → k < l.i → IsFound g.W.Word.width (map g.W.Word.value l.starts) l.answers l.level l.shift l.rows
+  found : (k : ℕ) → k < l.i → IsRowFound g.W.Word.width (map g.W.Word.value l.starts) l.answers l.level l.shift l.rows
       (get_or (map g.W.Family.pair l.asked) k (0, 0)) (get_or l.out k 0);
   behind : drop (length l.asked) l.out ≡ drop (length l.asked) l.fn.out;
 }

@@ -3,7 +3,7 @@ use Rattle.std.proofs.lemmas.List.{length-map}
 use Rattle.std.specs.Map.{keys_of}
 use Rattle.cidr_table.proofs.Insides.{key_at}
 use Rattle.cidr.specs.model.BitString.{leading}
-use Rattle.cidr_fib.specs.Growth.{last_of}
+use Rattle.cidr_fib.specs.Growth.{last_or_zero}
 use Rattle.cidr_fib.specs.Ranges.{last_leading, numbers}
 use Rattle.cidr_fib.proofs.Growth.{added}
 use Rattle.cidr_fib.proofs.Leadings.{leading_first, leading_last}
@@ -25,8 +25,8 @@ returns-clause-growing g c =
     let key = λ (any : g.row.C.Denot). key_at rows place any row c.requires.place ∙ ap (λ (x : g.row.C.Denot × ℕ). x.0) (sym c.index-rows-place.is) in
     let is_first = λ (any : g.row.C.Denot). c.first_bits-first.ensures ∙ sym (ap (λ (x : g.row.C.Denot). leading (bits x)) (key any)) in
     let is_last = λ (any : g.row.C.Denot). c.last_bits-last.ensures ∙ sym (ap (λ (x : g.row.C.Denot). last_leading (bits x)) (key any)) in
-    let in_order : last_of (numbers old.starts) ≤ first = c.in_ok-close.ensures.start (omega (arith, c.requires.ahead row.0, is_first row.0)) in
-    let inside : last ≤ last_of old.open_lasts.items =
+    let in_order : last_or_zero (numbers old.starts) ≤ first = c.in_ok-close.ensures.start (omega (arith, c.requires.ahead row.0, is_first row.0)) in
+    let inside : last ≤ last_or_zero old.open_lasts.items =
     inside_open g.C.Ord.cmp bits g.met.C.NetworkBits.ordered keys c.requires.sorted row.0 place first last (numbers old.starts) old.ends.items old.open_lasts.items old.open_ends.items
     h (omega arith) (is_first row.0) (is_last row.0) c.in_ok-close.ensures.closed in
     added bits keys place first last (numbers old.starts) old.ends.items old.open_lasts.items old.open_ends.items

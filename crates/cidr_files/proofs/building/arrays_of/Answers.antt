@@ -1,7 +1,7 @@
 use Rattle.std.proofs.Common.{◌≡◌, refl, sym, ◌∙◌, ap, subst, arith, ◌-◌, List, ℕ, length, map, take}
 use Rattle.std.proofs.lemmas.List.{length-take-le, map-id, with_items_is}
 use Rattle.std.specs.Vec.{with_items}
-use Rattle.cidr_arrays.specs.Arrays.{IsFirstLevel, Represents, networks_of}
+use Rattle.cidr_arrays.specs.Arrays.{IsFirstLevel, Represents, key_networks}
 use Rattle.cidr_files.specs.Tables.{AreOffsets}
 use Rattle.cidr_files.proofs.KeyRows.{same_arrays}
 use Rattle.cidr_files.proofs.building.arrays_of.Goals as goal
@@ -11,7 +11,7 @@ returns g c =
     let w = g.W.Word.width in
     let value = g.W.Word.value in
     let rows = c.args.rows.now in
-    let networks = networks_of value rows.keys.now in
+    let networks = key_networks value rows.keys.now in
     let count = c.in_ok-count.count in
     let made = c.in_ok-count.ensures in
     let S = c.build.new.starts in

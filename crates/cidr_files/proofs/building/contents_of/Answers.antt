@@ -1,5 +1,5 @@
 use Rattle.std.proofs.Common.{sym, ap, refl, arith, length, map}
-use Rattle.cidr_arrays.specs.Arrays.{Represents, networks_of}
+use Rattle.cidr_arrays.specs.Arrays.{Represents, key_networks}
 use Rattle.cidr_files.proofs.KeyRows.{same_arrays}
 use Rattle.cidr_files.proofs.building.contents_of.Goals as goal
 
@@ -8,7 +8,7 @@ returns-clause-contents g c =
     let value = g.W.Word.value in
     let h = c.requires in
     let arrays = c.args.arrays.now in
-    let networks = networks_of value c.args.rows.now.keys.now in
+    let networks = key_networks value c.args.rows.now.keys.now in
     let starts = c.as_slice.ensures.value in
     let answers = c.as_slice-2.ensures.value in
     let level = c.as_slice-3.ensures.value in

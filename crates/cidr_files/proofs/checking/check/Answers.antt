@@ -1,11 +1,11 @@
 use Rattle.std.proofs.Common.{◌≡◌, refl, ◌∙◌, ap, subst, arith, List, ℕ, length, map}
 use Rattle.std.specs.Int.{from_le_bytes, w32}
 use Rattle.std.specs.List.{zip}
-use Rattle.cidr_arrays.specs.Arrays.{Represents, networks_of}
+use Rattle.cidr_arrays.specs.Arrays.{Represents, key_networks}
 use Rattle.cidr_arrays.specs.Faults as arrays
 use Rattle.cidr_arrays.proofs.Numbers.{length_networks}
 use Rattle.cidr_files.specs.Layout.{words}
-use Rattle.cidr_files.specs.Tables.{AreOffsets, networks_in, parts_in}
+use Rattle.cidr_files.specs.Tables.{AreOffsets, stored_networks, parts_in}
 use Rattle.cidr_files.proofs.KeyRows.{same_arrays}
 use Rattle.cidr_files.proofs.checking.check.Goals as goal
 
@@ -16,10 +16,10 @@ returns-in-Err-clause-refused g c =
     let p = c.args.part.now in
     let keys = c.in-Ok.ensures ∙ ap (λ (xs : List ℕ). zip xs p.lengths.now) c.addresses-addresses.ensures in
     same_arrays (λ ks ss ns ls. arrays.IsFault w ks ss ns ls p.shift c.in-Err.fault)
-    (networks_of value c.as_slice.result.now) (networks_in g.W.Family.numbers (parts_in p))
+    (key_networks value c.as_slice.result.now) (stored_networks g.W.Family.numbers (parts_in p))
     (map value c.addresses-starts.result.now) (g.W.Family.numbers p.starts.now)
     c.as_slice-2.result.now (words p.answers.now) c.as_slice-3.result.now (words p.level.now)
-    (ap (networks_of value) c.as_slice.ensures.value ∙ keys) c.addresses-starts.ensures
+    (ap (key_networks value) c.as_slice.ensures.value ∙ keys) c.addresses-starts.ensures
     (c.as_slice-2.ensures.value ∙ c.in-Ok-numbers_of.ensures) (c.as_slice-3.ensures.value ∙ c.in-Ok-numbers_of-2.ensures)
     c.in-Err.ensures.refused
 
@@ -28,8 +28,8 @@ returns-clause-table g c =
     let w = g.W.Word.width in
     let value = g.W.Word.value in
     let p = c.args.part.now in
-    let networks = networks_in g.W.Family.numbers (parts_in p) in
-    let keys : networks_of value c.in-Ok.keys.items ≡ networks =
+    let networks = stored_networks g.W.Family.numbers (parts_in p) in
+    let keys : key_networks value c.in-Ok.keys.items ≡ networks =
     c.in-Ok.ensures ∙ ap (λ (xs : List ℕ). zip xs p.lengths.now) c.addresses-addresses.ensures in
     let count : c.len.result ≡ length networks =
     omega (arith, c.len.ensures, c.in-Ok.keys.ok.0, length_networks value c.in-Ok.keys.items, ap length keys) in
@@ -37,10 +37,10 @@ returns-clause-table g c =
     record {
       arrays =
           same_arrays (λ ks ss ns ls. Represents w ks ss ns ls p.shift)
-          (networks_of value c.as_slice.result.now) networks
+          (key_networks value c.as_slice.result.now) networks
           (map value c.addresses-starts.result.now) (g.W.Family.numbers p.starts.now)
           c.as_slice-2.result.now (words p.answers.now) c.as_slice-3.result.now (words p.level.now)
-          (ap (networks_of value) c.as_slice.ensures.value ∙ keys) c.addresses-starts.ensures
+          (ap (key_networks value) c.as_slice.ensures.value ∙ keys) c.addresses-starts.ensures
           (c.as_slice-2.ensures.value ∙ c.in-Ok-numbers_of.ensures) (c.as_slice-3.ensures.value ∙ c.in-Ok-numbers_of-2.ensures)
           c.in_default-check.ensures.represented;
       offsets =

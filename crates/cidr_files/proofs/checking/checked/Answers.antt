@@ -1,7 +1,7 @@
 use Rattle.std.proofs.Common.{subst, List, ℕ}
 use Rattle.cidr_files.specs.Faults.{IsTableFault}
 use Rattle.cidr_files.specs.Layout.{ipv4_counts, ipv6_counts, wide_words, words}
-use Rattle.cidr_files.specs.Tables.{IsTable, parts_in}
+use Rattle.cidr_files.specs.Tables.{IsStoredTable, parts_in}
 use Rattle.cidr_files.proofs.checking.checked.Goals as goal
 
 pub returns-in-Err-clause-refused : goal.returns-in-Err-clause-refused
@@ -22,8 +22,8 @@ returns-in-Err-check-clause-refused c =
     let bytes = c.args.bytes.now in
     let fault = c.in-Err-check.fault in (
       c.in_ok-table.ensures.laid_out,
-      subst (λ (ps : List (List ℕ)). IsTable 32 words ps (ipv4_counts bytes).shift) cut.ipv4
-          (subst (λ (n : ℕ). IsTable 32 words (parts_in t.ipv4) n) cut.ipv4_shift c.in_default.ensures.table),
+      subst (λ (ps : List (List ℕ)). IsStoredTable 32 words ps (ipv4_counts bytes).shift) cut.ipv4
+          (subst (λ (n : ℕ). IsStoredTable 32 words (parts_in t.ipv4) n) cut.ipv4_shift c.in_default.ensures.table),
       subst (λ (ps : List (List ℕ)). IsTableFault 128 wide_words ps (ipv6_counts bytes).shift fault) cut.ipv6
           (subst (λ (n : ℕ). IsTableFault 128 wide_words (parts_in t.ipv6) n fault) cut.ipv6_shift c.in-Err-check.ensures.refused),
     )

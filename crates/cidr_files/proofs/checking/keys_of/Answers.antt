@@ -2,7 +2,7 @@ use Rattle.std.proofs.Common.{◌∙◌, ap, arith, map, take_all}
 use Rattle.std.proofs.lemmas.List.{length-map}
 use Rattle.std.proofs.lemmas.Slice.Zip.{length-zip}
 use Rattle.std.specs.List.{zip}
-use Rattle.cidr_arrays.specs.Arrays.{networks_of}
+use Rattle.cidr_arrays.specs.Arrays.{key_networks}
 use Rattle.cidr_files.proofs.KeyRows.{keys_more}
 use Rattle.cidr_files.proofs.checking.keys_of.Goals as goal
 
@@ -10,7 +10,7 @@ pub loop-i-preserved : goal.loop-i-preserved
 loop-i-preserved g c =
     let i = c.loop-i.i in
     let read = c.index-addresses-i in
-    ap (networks_of g.W.Word.value) c.in_ok-push.ensures.items
+    ap (key_networks g.W.Word.value) c.in_ok-push.ensures.items
     ∙ keys_more g.W.Word.value c.args.addresses.now c.args.lengths.now i read.result c.loop-i.keys.items
     (record { address = read.result; len = c.from.result }) (omega (arith, c.min-count.ensures)) (omega (arith, c.min-count.ensures)) c.loop-i.invariant read.is c.from.ensures
 

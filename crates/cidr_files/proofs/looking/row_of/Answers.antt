@@ -4,13 +4,13 @@ use Rattle.std.proofs.lemmas.Slice.Zip.{length-zip}
 use Rattle.std.specs.Int.{from_le_bytes, w32}
 use Rattle.cidr_arrays.specs.Arrays.{Represents}
 use Rattle.cidr_files.specs.Layout.{words}
-use Rattle.cidr_files.specs.Tables.{networks_in, parts_in}
+use Rattle.cidr_files.specs.Tables.{stored_networks, parts_in}
 use Rattle.cidr_files.proofs.looking.row_of.Goals as goal
 
 pub returns-clause-within : goal.returns-clause-within
 returns-clause-within g c =
     let p = c.args.part.now in
-    let networks = networks_in g.W.Family.numbers (parts_in p) in
+    let networks = stored_networks g.W.Family.numbers (parts_in p) in
     let rows : length networks ≡ c.min-rows.result =
     omega (
       arith,
@@ -25,7 +25,7 @@ pub returns-clause-longest : goal.returns-clause-longest
 returns-clause-longest g c = λ good.
     let w = g.W.Word.width in
     let p = c.args.part.now in
-    let networks = networks_in g.W.Family.numbers (parts_in p) in
+    let networks = stored_networks g.W.Family.numbers (parts_in p) in
     let starts = c.addresses-starts in
     let answers : map (from_le_bytes w32) c.as_chunks.result.0.now ≡ words p.answers.now = ap (map (from_le_bytes w32)) c.as_chunks.ensures.front in
     let level : map (from_le_bytes w32) c.as_chunks-2.result.0.now ≡ words p.level.now = ap (map (from_le_bytes w32)) c.as_chunks-2.ensures.front in

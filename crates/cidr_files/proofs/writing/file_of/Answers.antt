@@ -3,7 +3,7 @@ use Rattle.std.specs.Int.{from_le_bytes, w32}
 use Rattle.cidr_files.specs.Contents.{counts_of, head_of, parts_written}
 use Rattle.cidr_files.specs.Layout.{wide_word}
 use Rattle.cidr_files.specs.Spelling.{wide_bytes, word_bytes}
-use Rattle.cidr_files.specs.Written.{joined, spelled}
+use Rattle.cidr_files.specs.Written.{joined_parts, spelled}
 use Rattle.cidr_files.specs.declared.layout.Counts.{Counts}
 use Rattle.cidr_files.proofs.Files.{is_file, lengths_below}
 use Rattle.cidr_files.proofs.writing.file_of.Goals as goal
@@ -19,8 +19,8 @@ returns c =
     let a = c.args.ipv4.now in
     let b = c.args.ipv6.now in
     let head = spelled word_bytes (head_of (counts_of a) (counts_of b)) in
-    let p4 = joined (parts_written (from_le_bytes w32) word_bytes a) in
-    let p6 = joined (parts_written wide_word wide_bytes b) in
+    let p4 = joined_parts (parts_written (from_le_bytes w32) word_bytes a) in
+    let p6 = joined_parts (parts_written wide_word wide_bytes b) in
     let o1 = c.put_head.new.out.items in
     let o2 = c.put_contents.new.out.items in
     let o3 = c.put_contents-2.new.out.items in

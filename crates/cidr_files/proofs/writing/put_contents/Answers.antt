@@ -1,8 +1,8 @@
 use Rattle.std.proofs.Common.{sym, List, [], ◌∷◌, ℕ, map}
 use Rattle.std.proofs.lemmas.List.{append-nil}
-use Rattle.cidr_files.specs.Contents.{addresses_of, lengths_of}
+use Rattle.cidr_files.specs.Contents.{key_addresses, lengths_of}
 use Rattle.cidr_files.specs.Spelling.{word_bytes}
-use Rattle.cidr_files.specs.Written.{filled, joined, spelled}
+use Rattle.cidr_files.specs.Written.{filled, joined_parts, spelled}
 use Rattle.cidr_files.proofs.Joined.{then_others}
 use Rattle.cidr_files.proofs.writing.put_contents.Goals as goal
 
@@ -14,7 +14,7 @@ returns-clause-parts g c =
     let p1 = spelled bytes (map value t.starts.now) in
     let p2 = spelled word_bytes t.answers.now in
     let p3 = spelled word_bytes t.level.now in
-    let p4 = spelled bytes (addresses_of value t.rows.now.keys.now) in
+    let p4 = spelled bytes (key_addresses value t.rows.now.keys.now) in
     let p5 = lengths_of t.rows.now.keys.now in
     let p6 = spelled word_bytes t.rows.now.offsets.now in
     let p7 : List ℕ = t.rows.now.values.now in
@@ -26,10 +26,10 @@ returns-clause-parts g c =
     let o5 = c.put_length_part.new.out.items in
     let o6 = c.put_word_part-3.new.out.items in
     let o7 = c.put_part.new.out.items in
-    then_others o0 (filled p1) (joined (p2 ∷ p3 ∷ p4 ∷ p5 ∷ p6 ∷ p7 ∷ [])) o1 o7 c.in_ok-put_address_part.ensures.part
-    (then_others o1 (filled p2) (joined (p3 ∷ p4 ∷ p5 ∷ p6 ∷ p7 ∷ [])) o2 o7 c.in_ok-put_word_part.ensures.part
-    (then_others o2 (filled p3) (joined (p4 ∷ p5 ∷ p6 ∷ p7 ∷ [])) o3 o7 c.in_ok-put_word_part-2.ensures.part
-    (then_others o3 (filled p4) (joined (p5 ∷ p6 ∷ p7 ∷ [])) o4 o7 c.in_ok-put_key_part.ensures.part
-    (then_others o4 (filled p5) (joined (p6 ∷ p7 ∷ [])) o5 o7 c.in_ok-put_length_part.ensures.part
-    (then_others o5 (filled p6) (joined (p7 ∷ [])) o6 o7 c.in_ok-put_word_part-3.ensures.part
+    then_others o0 (filled p1) (joined_parts (p2 ∷ p3 ∷ p4 ∷ p5 ∷ p6 ∷ p7 ∷ [])) o1 o7 c.in_ok-put_address_part.ensures.part
+    (then_others o1 (filled p2) (joined_parts (p3 ∷ p4 ∷ p5 ∷ p6 ∷ p7 ∷ [])) o2 o7 c.in_ok-put_word_part.ensures.part
+    (then_others o2 (filled p3) (joined_parts (p4 ∷ p5 ∷ p6 ∷ p7 ∷ [])) o3 o7 c.in_ok-put_word_part-2.ensures.part
+    (then_others o3 (filled p4) (joined_parts (p5 ∷ p6 ∷ p7 ∷ [])) o4 o7 c.in_ok-put_key_part.ensures.part
+    (then_others o4 (filled p5) (joined_parts (p6 ∷ p7 ∷ [])) o5 o7 c.in_ok-put_length_part.ensures.part
+    (then_others o5 (filled p6) (joined_parts (p7 ∷ [])) o6 o7 c.in_ok-put_word_part-3.ensures.part
     (then_others o6 (filled p7) [] o7 o7 c.in_ok-put_part.ensures.part (sym (append-nil o7))))))))

@@ -1,5 +1,5 @@
 use Rattle.std.proofs.Common.{◌∙◌, ap, arith, ◌++◌, take_all}
-use Rattle.cidr_files.specs.Contents.{addresses_of}
+use Rattle.cidr_files.specs.Contents.{key_addresses}
 use Rattle.cidr_files.specs.Written.{spelled}
 use Rattle.cidr_files.proofs.Putting.{none_put, number_more}
 use Rattle.cidr_files.proofs.writing.put_keys.Goals as goal
@@ -18,4 +18,4 @@ loop-i-preserved g c =
 pub returns : goal.returns
 returns g c =
     c.loop-i.invariant
-    ∙ ap (λ keys. c.args.out.now.items ++ spelled g.W.Family.bytes_of (addresses_of g.W.Word.value keys)) (take_all c.loop-i.i c.args.keys.now (omega arith))
+    ∙ ap (λ keys. c.args.out.now.items ++ spelled g.W.Family.bytes_of (key_addresses g.W.Word.value keys)) (take_all c.loop-i.i c.args.keys.now (omega arith))

@@ -1,7 +1,7 @@
 use Rattle.std.proofs.Common.{◌≡◌, ◌++◌, take}
-use Rattle.cidr_files.specs.Contents.{addresses_of}
+use Rattle.cidr_files.specs.Contents.{key_addresses}
 use Rattle.cidr_files.specs.Written.{spelled}
 use Rattle.cidr_files.proofs.writing.put_keys.Given as goal
 
 abbrev pub invariant-loop-i : goal.invariant-loop-i
-invariant-loop-i g l = l.out.items ≡ l.fn.out.items ++ spelled g.W.Family.bytes_of (addresses_of g.W.Word.value (take l.i l.keys))
+invariant-loop-i g l = l.out.items ≡ l.fn.out.items ++ spelled g.W.Family.bytes_of (key_addresses g.W.Word.value (take l.i l.keys))

@@ -1,6 +1,6 @@
 use Rattle.std.proofs.Common.{◌≡◌, ◌∙◌, ◌<◌, length, get_or, sym, ap, arith}
 use Rattle.std.specs.Option.{option_eq}
-use Rattle.cidr_forwarding.specs.Choices.{has}
+use Rattle.cidr_forwarding.specs.Choices.{is_listed}
 use Rattle.cidr_forwarding.proofs.Steps.{part, passes, fails}
 use Rattle.cidr_forwarding.proofs.Smallest.{decides_option}
 use Rattle.cidr_forwarding.proofs.Sorted.{has_moved}
@@ -15,7 +15,7 @@ loop-i-preserved g c =
     let old = c.args.values.now.items in
     let within : c.loop-i.i < length c.args.values.now.items = omega (arith, c.requires.within, c.loop-i-test.true) in
     let other = part old c.args.other_start c.args.other_end in
-    let p = has (option_eq eq) other in
+    let p = is_listed (option_eq eq) other in
     let told : c.holds_ascending.result ≡ p x =
     c.holds_ascending.ensures ∙ has_moved (option_eq eq) (decides_option eq c.requires.tells) other c.args.other.now c.requires.same x in
     elim c.if-holds_ascending.branch [

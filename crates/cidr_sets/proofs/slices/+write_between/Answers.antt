@@ -6,7 +6,7 @@ use Rattle.std.specs.List.{Contains}
 use Rattle.std.specs.declared.cmp.Ordering.TheVariants.{Less}
 use Rattle.cidr.specs.model.Bits.{bit_cmp}
 use Rattle.cidr_table.proofs.Halves.{half_begins, length_half}
-use Rattle.cidr_sets.specs.Ranges.{IsFilled, IsOverfull, IsWithin, most, side}
+use Rattle.cidr_sets.specs.Ranges.{IsFilled, IsOverfull, IsBetweenEdges, most, side}
 use Rattle.cidr_sets.specs.Steps.{Ascend}
 use Rattle.cidr_sets.proofs.Between.{IsCutBy, all_within, one_most, cut_longer, filled_halves, filled_none, filled_whole, first_one, halves_most, last_one, none_within, not_all_within, overfull_lower, overfull_upper, overfull_whole, upper_after}
 use Rattle.cidr_sets.proofs.Joining.{if_none_then}
@@ -22,7 +22,7 @@ returns-then-is_passed-clause-filled g t c =
     let first = f c.args.first.now in
     let last = f c.args.last.now in
     let p = f c.args.network.now in
-    filled_none (IsWithin first last) p (map f (take c.args.n c.args.out.now)) c.requires.ascend c.requires.before
+    filled_none (IsBetweenEdges first last) p (map f (take c.args.n c.args.out.now)) c.requires.ascend c.requires.before
     (none_within first last c.known-2.ensures c.known-3.ensures p (elim c.then-is_passed.branch [
       | then-is_passed-via-then-is_passed w ↦ inl (c.is_passed.ensures.0 w.if-is_passed.true)
       | then-is_passed-via-else-is_passed+then-is_passed-2 w ↦ inr (w.is_passed-else-is_passed.ensures.0 w.if-is_passed-2.true)
@@ -42,9 +42,9 @@ returns-then-not-is_cut-clause-filled g t c =
     let full = not_from_Decides c.is_cut.result c.is_cut.ensures c.if-not-is_cut.true in
     let all = all_within first last c.known-2.ensures c.known-3.ensures p (first_one first last p some more whole) (last_one first last p some more full) in
     IfSome_then c.write.result c.write.ensures.some (λ count h.
-    subst (λ new. IsFilled (IsWithin first last) p old new)
+    subst (λ new. IsFilled (IsBetweenEdges first last) p old new)
     (sym (written_by f c.args.out.now c.write.new.out c.args.n count c.args.network.now h))
-    (filled_whole (IsWithin first last) p old c.requires.ascend c.requires.before c.known.ensures all))
+    (filled_whole (IsBetweenEdges first last) p old c.requires.ascend c.requires.before c.known.ensures all))
 
 pub returns-then-not-is_cut-clause-fits : goal.returns-then-not-is_cut-clause-fits
 returns-then-not-is_cut-clause-fits g t c =
@@ -72,8 +72,8 @@ returns-then-not-is_cut-clause-over g t c =
     let full = not_from_Decides c.is_cut.result c.is_cut.ensures c.if-not-is_cut.true in
     let all = all_within first last c.known-2.ensures c.known-3.ensures p (first_one first last p some more whole) (last_one first last p some more full) in
     if_none_then c.write.result c.write.ensures.full (λ h.
-    overfull_whole (IsWithin first last) p old (length c.args.out.now)
-    (filled_whole (IsWithin first last) p old c.requires.ascend c.requires.before c.known.ensures all)
+    overfull_whole (IsBetweenEdges first last) p old (length c.args.out.now)
+    (filled_whole (IsBetweenEdges first last) p old c.requires.ascend c.requires.before c.known.ensures all)
     (omega (arith, h, written_length f c.args.out.now c.args.n c.requires.within)))
 
 pub half-lower-requires-clause-longer : goal.half-lower-requires-clause-longer
@@ -133,8 +133,8 @@ returns-in_err-count-clause-over g t c =
     ] in
     let bare = not_all_within first last c.known-2.ensures c.known-3.ensures p cut in
     rw c.from_residual.ensures
-    (overfull_lower (IsWithin first last) p old bare room
-    (subst (λ z. IsOverfull (IsWithin first last) z old room) c.half-lower.ensures.bits c.in_err-count.ensures.over))
+    (overfull_lower (IsBetweenEdges first last) p old bare room
+    (subst (λ z. IsOverfull (IsBetweenEdges first last) z old room) c.half-lower.ensures.bits c.in_err-count.ensures.over))
 
 pub write_between-requires-2 : goal.write_between-requires-2
 write_between-requires-2 g t c =
@@ -151,10 +151,10 @@ write_between-requires-2 g t c =
       | else-not-starts-via-else-not-starts v ↦ inl (c.is_cut-starts.ensures.0 v.if-not-starts.false)
     ] in
     let bare = not_all_within first last c.known-2.ensures c.known-3.ensures p cut in
-    let lo = subst (λ z. IsFilled (IsWithin first last) z old mid) c.half-lower.ensures.bits c.in_ok-count.ensures.filled in
+    let lo = subst (λ z. IsFilled (IsBetweenEdges first last) z old mid) c.half-lower.ensures.bits c.in_ok-count.ensures.filled in
     let ascend : Ascend mid = lo.ascend in
     let before : (x : List Bool) → Contains mid x → bit_cmp x half ≡ Less = λ x k.
-    subst (λ z. bit_cmp x z ≡ Less) (sym bits) (upper_after (IsWithin first last) p old bare mid lo x k) in
+    subst (λ z. bit_cmp x z ≡ Less) (sym bits) (upper_after (IsBetweenEdges first last) p old bare mid lo x k) in
     let fewer : 129 - length half < 129 - length p = omega (arith, ap length bits, length_half p true, c.half-upper.ensures.room) in
     let within : c.in_ok-count.count ≤ length c.write_between.new.out = omega (arith, c.in_ok-count.ensures.within, c.write_between.auto.out) in
     search (rules, ascend, before, within, fewer)
@@ -173,10 +173,10 @@ returns-clause-filled g t c =
       | else-not-starts-via-else-not-starts v ↦ inl (c.is_cut-starts.ensures.0 v.if-not-starts.false)
     ] in
     let bare = not_all_within first last c.known-2.ensures c.known-3.ensures p cut in
-    let lo = subst (λ z. IsFilled (IsWithin first last) z old mid) c.half-lower.ensures.bits c.in_ok-count.ensures.filled in
+    let lo = subst (λ z. IsFilled (IsBetweenEdges first last) z old mid) c.half-lower.ensures.bits c.in_ok-count.ensures.filled in
     IfSome_then c.write_between-2.result c.write_between-2.ensures.filled (λ count h.
-    filled_halves (IsWithin first last) p old bare mid lo (map f (take count out))
-    (subst (λ z. IsFilled (IsWithin first last) z mid (map f (take count out))) c.half-upper.ensures.bits h) c.half-lower.ensures.room)
+    filled_halves (IsBetweenEdges first last) p old bare mid lo (map f (take count out))
+    (subst (λ z. IsFilled (IsBetweenEdges first last) z mid (map f (take count out))) c.half-upper.ensures.bits h) c.half-lower.ensures.room)
 
 pub returns-clause-fits : goal.returns-clause-fits
 returns-clause-fits g t c =
@@ -215,8 +215,8 @@ returns-clause-over g t c =
       | else-not-starts-via-else-not-starts v ↦ inl (c.is_cut-starts.ensures.0 v.if-not-starts.false)
     ] in
     let bare = not_all_within first last c.known-2.ensures c.known-3.ensures p cut in
-    let lo = subst (λ z. IsFilled (IsWithin first last) z old mid) c.half-lower.ensures.bits c.in_ok-count.ensures.filled in
+    let lo = subst (λ z. IsFilled (IsBetweenEdges first last) z old mid) c.half-lower.ensures.bits c.in_ok-count.ensures.filled in
     if_none_then c.write_between-2.result c.write_between-2.ensures.over (λ h.
-    overfull_upper (IsWithin first last) p old bare mid lo room
-    (subst (λ z. IsOverfull (IsWithin first last) z mid room) c.half-upper.ensures.bits
-    (subst (IsOverfull (IsWithin first last) (f c.half-upper.result) mid) c.write_between.auto.out h)))
+    overfull_upper (IsBetweenEdges first last) p old bare mid lo room
+    (subst (λ z. IsOverfull (IsBetweenEdges first last) z mid room) c.half-upper.ensures.bits
+    (subst (IsOverfull (IsBetweenEdges first last) (f c.half-upper.result) mid) c.write_between.auto.out h)))

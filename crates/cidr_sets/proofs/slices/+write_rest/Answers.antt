@@ -6,7 +6,7 @@ use Rattle.std.specs.declared.cmp.Ordering.TheVariants.{Less}
 use Rattle.cidr.specs.model.Bits.{bit_cmp}
 use Rattle.cidr_table.proofs.Halves.{begins_itself, half_begins, length_half}
 use Rattle.cidr_table.proofs.MapLaws.{contains_nothing}
-use Rattle.cidr_sets.specs.Steps.{Ascend, IsCut, IsOver}
+use Rattle.cidr_sets.specs.Steps.{Ascend, IsDifferenceStep, IsOver}
 use Rattle.cidr_sets.proofs.Cuts.{cut_covered, cut_halves, cut_same, cut_skipped, cut_whole, longer, over_lower, over_skipped, over_upper, over_whole, suffix_ascends, upper_behind}
 use Rattle.cidr_sets.proofs.Joining.{by_none, if_none_then, nothing}
 use Rattle.cidr_sets.proofs.Steps.{apart_from, less_longer, not_less, one_ascends, written_by, written_length}
@@ -39,7 +39,7 @@ returns-in_default-clause-cut g t c =
     let left = map f c.skip-left.result.now in
     let none = ap (map f) (nothing c.skip-left.result.now
     (by_none c.split_first.result (length c.skip-left.result.now ≡ 0) _ c.in_default.not-Some c.split_first.ensures.cases)) in
-    subst (λ new. IsCut p old new others left)
+    subst (λ new. IsDifferenceStep p old new others left)
     (sym (written_by f c.args.out.now c.write.new.out c.args.n c.in_ok-count.count c.args.network.now c.in_ok-count.ensures.some))
     (cut_skipped p old (old ++ p ∷ []) others left left c.skip-left.ensures
     (cut_whole p old c.requires.ascend c.requires.before left
@@ -59,12 +59,12 @@ returns-then-is_inside-clause-cut g t c =
     elim c.if-len.branch [
       | then-len w ↦ rw w.rest-is
           (cut_skipped p old old others left behind c.skip-left.ensures
-          (subst (λ l. IsCut p old old l behind) (sym split)
+          (subst (λ l. IsDifferenceStep p old old l behind) (sym split)
           (cut_same p old c.requires.ascend c.requires.before first behind inside
           (omega (arith, w.if-len.true, c.len.ensures.value, c.len-then-is_inside.ensures.value)))))
       | else-len w ↦ rw w.rest-is
           (cut_skipped p old old others left left c.skip-left.ensures
-          (subst (λ l. IsCut p old old l l) (sym split)
+          (subst (λ l. IsDifferenceStep p old old l l) (sym split)
           (cut_covered p old c.requires.ascend c.requires.before first behind inside
           (λ e. omega (arith, e, w.if-len.false, c.len.ensures.value, c.len-then-is_inside.ensures.value)))))
     ]
@@ -108,7 +108,7 @@ returns-then-not-is_inside-clause-cut g t c =
     let apart = not_from_Decides c.is_inside-2.result c.is_inside-2.ensures c.if-not-is_inside.true in
     let less : bit_cmp p first ≡ Less = not_less first behind ascend p [] (one_ascends p) outside
     (λ e. c.skip-left.ensures.first first (ap (λ l. slice_get l 0) split) (e, outside)) in
-    subst (λ new. IsCut p old new others left)
+    subst (λ new. IsDifferenceStep p old new others left)
     (sym (written_by f c.args.out.now c.write-then-not-is_inside.new.out c.args.n c.in_ok-count-2.count c.args.network.now c.in_ok-count-2.ensures.some))
     (cut_skipped p old (old ++ p ∷ []) others left left c.skip-left.ensures
     (cut_whole p old c.requires.ascend c.requires.before left
@@ -160,7 +160,7 @@ write_rest-requires-2 g t c =
     let up = p ++ true ∷ [] in
     let half = f c.half-upper.result in
     let bits = c.half-upper.ensures.bits in
-    let lo = subst (λ z. IsCut z (map f (take c.args.n c.args.out.now)) mid left rest) c.half-lower.ensures.bits c.in_ok-count-3.ensures.cut in
+    let lo = subst (λ z. IsDifferenceStep z (map f (take c.args.n c.args.out.now)) mid left rest) c.half-lower.ensures.bits c.in_ok-count-3.ensures.cut in
     let others : Ascend rest = suffix_ascends rest left lo.suffix
     (suffix_ascends left (map f c.args.others.now) c.skip-left.ensures.suffix c.requires.others) in
     let ascend : Ascend mid = lo.ascend in
@@ -185,12 +185,12 @@ returns-clause-cut g t c =
     let split = ap (map f) c.in-Some.ensures.cases.0 in
     let inside = c.is_inside-2.ensures.0 c.if-not-is_inside.false in
     let outside = not_from_Decides c.is_inside.result c.is_inside.ensures c.if-is_inside.false in
-    let lo = subst (λ l. IsCut (p ++ false ∷ []) old mid l rest) split
-    (subst (λ z. IsCut z old mid left rest) c.half-lower.ensures.bits c.in_ok-count-3.ensures.cut) in
+    let lo = subst (λ l. IsDifferenceStep (p ++ false ∷ []) old mid l rest) split
+    (subst (λ z. IsDifferenceStep z old mid left rest) c.half-lower.ensures.bits c.in_ok-count-3.ensures.cut) in
     IfSome_then c.write_rest-2.result c.write_rest-2.ensures.cut (λ r h.
-    let up = subst (λ z. IsCut z mid (map f (take r.0 out)) rest (map f r.1.now)) c.half-upper.ensures.bits h in
+    let up = subst (λ z. IsDifferenceStep z mid (map f (take r.0 out)) rest (map f r.1.now)) c.half-upper.ensures.bits h in
     cut_skipped p old (map f (take r.0 out)) others left (map f r.1.now) c.skip-left.ensures
-    (subst (λ l. IsCut p old (map f (take r.0 out)) l (map f r.1.now)) (sym split)
+    (subst (λ l. IsDifferenceStep p old (map f (take r.0 out)) l (map f r.1.now)) (sym split)
     (cut_halves p first behind old mid (map f (take r.0 out)) rest (map f r.1.now) inside (longer p first inside outside) lo up
     c.half-lower.ensures.room)))
 
@@ -209,8 +209,8 @@ returns-clause-over g t c =
     let inside = c.is_inside-2.ensures.0 c.if-not-is_inside.false in
     let outside = not_from_Decides c.is_inside.result c.is_inside.ensures c.if-is_inside.false in
     let room = length c.args.out.now in
-    let lo = subst (λ l. IsCut (p ++ false ∷ []) old mid l rest) split
-    (subst (λ z. IsCut z old mid left rest) c.half-lower.ensures.bits c.in_ok-count-3.ensures.cut) in
+    let lo = subst (λ l. IsDifferenceStep (p ++ false ∷ []) old mid l rest) split
+    (subst (λ z. IsDifferenceStep z old mid left rest) c.half-lower.ensures.bits c.in_ok-count-3.ensures.cut) in
     if_none_then c.write_rest-2.result c.write_rest-2.ensures.over (λ h.
     over_skipped p old others left room c.skip-left.ensures
     (subst (λ l. IsOver p old l room) (sym split)

@@ -1,6 +1,6 @@
 use Rattle.std.proofs.Common.{◌+◌, ◌≤◌, true, false, [], length, map, take, ap, subst, arith}
 use Rattle.std.proofs.lemmas.Option.{IfSome_then}
-use Rattle.cidr_sets.specs.Ranges.{IsFilled, IsOverfull, IsWithin, most, side}
+use Rattle.cidr_sets.specs.Ranges.{IsFilled, IsOverfull, IsBetweenEdges, most, side}
 use Rattle.cidr_sets.proofs.Between.{range_filled, range_overfull, root_most}
 use Rattle.cidr_sets.proofs.Joining.{if_none_then}
 use Rattle.cidr_sets.proofs.Steps.{none_ascend}
@@ -18,7 +18,7 @@ returns-clause-set g c =
     rw (← c.single-first.ensures.bits, ← c.single-last.ensures.bits)
     (IfSome_then c.write_between.result c.write_between.ensures.filled (λ count h.
     range_filled first last c.known.ensures c.known-2.ensures (map f (take count out))
-    (subst (λ z. IsFilled (IsWithin first last) z [] (map f (take count out))) c.null.ensures.bits h)))
+    (subst (λ z. IsFilled (IsBetweenEdges first last) z [] (map f (take count out))) c.null.ensures.bits h)))
 
 pub returns-clause-fits : goal.returns-clause-fits
 returns-clause-fits g c =
@@ -43,4 +43,4 @@ returns-clause-short g c =
     rw (← c.single-first.ensures.bits, ← c.single-last.ensures.bits)
     (if_none_then c.write_between.result c.write_between.ensures.over (λ h.
     range_overfull first last c.known.ensures c.known-2.ensures room
-    (subst (λ z. IsOverfull (IsWithin first last) z [] room) c.null.ensures.bits h)))
+    (subst (λ z. IsOverfull (IsBetweenEdges first last) z [] room) c.null.ensures.bits h)))

@@ -1,7 +1,7 @@
 use Rattle.std.proofs.Common.{◌≡◌, ◌⊎◌, ◌+◌, ◌<◌, length, map, take, ap, refl, sym, inl, inr, ◌∙◌, subst, arith, Some, None}
 use Rattle.std.proofs.lemmas.List.{length-map, length-set}
 use Rattle.std.specs.Option.{option_map}
-use Rattle.cidr_sets.specs.Steps.{IsShared}
+use Rattle.cidr_sets.specs.Steps.{IsIntersectionStep}
 use Rattle.cidr_sets.proofs.Joining.{by_none}
 use Rattle.cidr_sets.proofs.Steps.{IsSharing, none_of, sharing_all, sharing_more, sharing_none, sharing_same, written}
 use Rattle.cidr_sets.proofs.slices.intersection.Goals as goal
@@ -20,8 +20,8 @@ loop-shared-preserved-in-Some-shared g c =
     let x = c.in-Some-shared.network in
     let bs = map f c.in-Some.behind.now in
     let us = map f c.in-Some.rest.now in
-    let step : IsShared (map f l.left.now) (map f l.right.now) (Some (f x)) bs us =
-    subst (λ o. IsShared (map f l.left.now) (map f l.right.now) (option_map f o) bs us) c.in-Some-shared.is c.in-Some.ensures in
+    let step : IsIntersectionStep (map f l.left.now) (map f l.right.now) (Some (f x)) bs us =
+    subst (λ o. IsIntersectionStep (map f l.left.now) (map f l.right.now) (option_map f o) bs us) c.in-Some-shared.is c.in-Some.ensures in
     let room : l.n < length l.out = omega (
       arith,
       l.invariant.0.fits,

@@ -1,5 +1,5 @@
 use Rattle.std.proofs.Common.{inr, refl}
-use Rattle.netset.specs.Causes.{MayFail}
+use Rattle.netset.specs.Causes.{FileMayFail}
 use Rattle.netset.specs.Command.{single_request}
 use Rattle.netset.specs.Commands.{version_text}
 use Rattle.netset.specs.Table.{help_text}
@@ -62,11 +62,11 @@ returns-in-Check-clause-cause g c = c.check.ensures.cause
 
 pub returns-in-Single-clause-cause : goal.returns-in-Single-clause-cause
 returns-in-Single-clause-cause g c =
-    single_cause (MayFail (g.F.Sources.contents c.args.sources.now)) (g.M.Memory.refused c.args.memory.now) (g.F.Sources.contents c.args.sources.now)
+    single_cause (FileMayFail (g.F.Sources.contents c.args.sources.now)) (g.M.Memory.refused c.args.memory.now) (g.F.Sources.contents c.args.sources.now)
     (single_request c.in-Single.single) _ _ c.answer_single.result (c.answer_single.ensures (g.F.Sources.contents c.args.sources.now))
 
 pub returns-in-Help-clause-cause : goal.returns-in-Help-clause-cause
-returns-in-Help-clause-cause g c = output_cause (MayFail (g.F.Sources.contents c.args.sources.now)) _ _ _ c.by_output.result c.by_output.ensures
+returns-in-Help-clause-cause g c = output_cause (FileMayFail (g.F.Sources.contents c.args.sources.now)) _ _ _ c.by_output.result c.by_output.ensures
 
 pub returns-in-Version-clause-cause : goal.returns-in-Version-clause-cause
-returns-in-Version-clause-cause g c = output_cause (MayFail (g.F.Sources.contents c.args.sources.now)) _ _ _ c.by_output-in-Version.result c.by_output-in-Version.ensures
+returns-in-Version-clause-cause g c = output_cause (FileMayFail (g.F.Sources.contents c.args.sources.now)) _ _ _ c.by_output-in-Version.result c.by_output-in-Version.ensures

@@ -1,6 +1,6 @@
 -- The codes stand where the ends stood.
 use Rattle.std.proofs.Common.{◌≡◌, ℕ, List, [], ◌++◌, length, take, drop, ap, sym, subst, ◌∙◌, arith, append-nil, take_all, drop_of_length-le}
-use Rattle.cidr_fib.specs.Ranges.{numbers, AreAnswers, AreCodes}
+use Rattle.cidr_fib.specs.Ranges.{numbers, AreMatchCodes, AreCodes}
 use Rattle.cidr_fib.proofs.Found.{answers}
 use Rattle.cidr_fib.proofs.find.Ranges.of.Goals as goal
 
@@ -21,6 +21,6 @@ returns g c =
       numbers made.starts,
       take made.ends.len (new ++ drop (length new) made.ends.items),
       c.in_ok-ranges.ensures,
-      subst (λ l. AreAnswers bits rows (numbers made.starts) l) (sym is)
+      subst (λ l. AreMatchCodes bits rows (numbers made.starts) l) (sym is)
           (answers g.C.Ord.cmp bits g.met.C.NetworkBits.ordered rows (numbers made.starts) made.ends.items new c.requires.sorted c.in_ok-starts.ensures.both c.in_ok-starts.ensures.ranges c.in_ok-starts.ensures.filled coded),
     )

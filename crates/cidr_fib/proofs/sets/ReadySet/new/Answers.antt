@@ -3,7 +3,7 @@ use Rattle.std.proofs.lemmas.List.{length-map}
 use Rattle.std.specs.Map.{keys_of}
 use Rattle.cidr_table.specs.Cover.{IsReduced}
 use Rattle.cidr_table.specs.FiniteMap.{StoredRows}
-use Rattle.cidr_fib.specs.Errors.{IsRefused}
+use Rattle.cidr_fib.specs.Errors.{AreRowsRefused}
 use Rattle.cidr_fib.proofs.SetRows.{keys_of_set}
 use Rattle.cidr_fib.proofs.sets.ReadySet.new.Goals as goal
 
@@ -35,5 +35,5 @@ returns-in-Err-default-TooManyRows-clause-refused g c =
     let reduced : IsReduced 129 (map f xs) = subst (λ l. IsReduced 129 (map f l)) (sym networks) c.as_slice.ensures.reduced in
     let keys = keys_of_set f g.C.Ord.cmp g.met.C.NetworkBits.ordered xs c.in-Ok.rows.items rows reduced c.in-Ok.ensures c.from_rows.ensures.whole in
     let same : length (keys_of rows) ≡ length c.args.set.now = ap length (keys ∙ networks) in
-    let many : 2 ^ 32 - 1 ≤ length rows = subst (IsRefused rows) c.in-Err-default-TooManyRows.field-0-1-is c.in-Err-default-TooManyRows.ensures.refused in
+    let many : 2 ^ 32 - 1 ≤ length rows = subst (AreRowsRefused rows) c.in-Err-default-TooManyRows.field-0-1-is c.in-Err-default-TooManyRows.ensures.refused in
     omega (arith, many, same, length-map rows (λ (row : g.row.C.Denot × ℕ). row.0))

@@ -1,6 +1,6 @@
 use Rattle.std.proofs.Common.{ℕ, ◌≤◌, length}
 use Rattle.cidr.specs.model.Network.{HasWidth}
-use Rattle.cidr_table.specs.CoverAddresses.{IsIpAddress}
+use Rattle.cidr_table.specs.CoverAddresses.{IsIpAddressBits}
 use Rattle.cidr_forwarding.specs.Forwarding.{in_bits, AreNetworksOf, AreIpRows, ForwardSameHoled, IsSmallestHoled}
 use Rattle.cidr_forwarding.proofs.Calls.{carried, holed_rows_same}
 use Rattle.cidr_forwarding.proofs.tables.LpmTableSmallestTable.smallest_with_holes.Goals as goal
@@ -15,7 +15,7 @@ returns-clause-width g c =
 pub returns-clause-ip : goal.returns-clause-ip
 returns-clause-ip g c =
     let f = g.C.BitString.bits in
-    carried (λ old new. AreIpRows f old → IsSmallestHoled IsIpAddress (in_bits f old) (in_bits f new))
+    carried (λ old new. AreIpRows f old → IsSmallestHoled IsIpAddressBits (in_bits f old) (in_bits f new))
     c.rows_of.result.now c.args.self.now.rows c.in_ok-rows.rows.items c.table_of.result.rows c.rows_of.ensures.rows c.table_of.ensures
     c.in_ok-rows.ensures.ip
 
@@ -29,9 +29,9 @@ returns-clause-lookups g c =
 pub returns-clause-ip_lookups : goal.returns-clause-ip_lookups
 returns-clause-ip_lookups g c =
     let f = g.C.BitString.bits in
-    carried (λ old new. AreIpRows f old → ForwardSameHoled f IsIpAddress old new)
+    carried (λ old new. AreIpRows f old → ForwardSameHoled f IsIpAddressBits old new)
     c.rows_of.result.now c.args.self.now.rows c.in_ok-rows.rows.items c.table_of.result.rows c.rows_of.ensures.rows c.table_of.ensures
-    (λ h. holed_rows_same f IsIpAddress c.rows_of.result.now c.in_ok-rows.rows.items ((c.in_ok-rows.ensures.ip h).same))
+    (λ h. holed_rows_same f IsIpAddressBits c.rows_of.result.now c.in_ok-rows.rows.items ((c.in_ok-rows.ensures.ip h).same))
 
 pub returns-clause-kept : goal.returns-clause-kept
 returns-clause-kept g c =

@@ -2,7 +2,7 @@ use Rattle.std.proofs.Common.{refl, sym, subst}
 use Rattle.std.proofs.lemmas.Bool.{true≢false}
 use Rattle.std.proofs.lemmas.Bool.Decides.{not_from_Decides}
 use Rattle.cidr_lists.specs.Within.{LineHasOneIn}
-use Rattle.cidr_lists.specs.Sets.{HasAddress}
+use Rattle.cidr_lists.specs.Sets.{IsInSets}
 use Rattle.cidr_lists.proofs.Anywhere.{all_of, line_behind, line_by_word, line_last, line_on, next_is, none_held, word_ascii}
 use Rattle.cidr_lists.proofs.sets.Sets.have_one_of.Goals as goal
 
@@ -18,7 +18,7 @@ have_word-requires c =
 
 pub returns-then-have_word : goal.returns-then-have_word
 returns-then-have_word c = (
-  λ _. c.loop-behind.invariant.0 (line_by_word (HasAddress c.args.self.now) c.args.family c.loop-behind.rest.now c.word_len.result
+  λ _. c.loop-behind.invariant.0 (line_by_word (IsInSets c.args.self.now) c.args.family c.loop-behind.rest.now c.word_len.result
       c.word_len.ensures.first c.word_len.ensures.fits (rw c.split_at.ensures.front at (c.have_word.ensures.0 c.if-have_word.true))),
   λ _. refl,
 )
@@ -29,7 +29,7 @@ returns-in_default c =
     let misses = rw c.split_at.ensures.front at (not_from_Decides c.have_word.result c.have_word.ensures c.if-have_word.false) in
     let all = all_of rest c.word_len.result c.word_len.ensures.fits (rw c.split_at.ensures.back at c.in_default.ensures.cases) in (
       λ e. absurd (true≢false (sym e)),
-      λ h. absurd (line_last (HasAddress c.args.self.now) c.args.family rest c.word_len.result c.word_len.ensures.first all misses
+      λ h. absurd (line_last (IsInSets c.args.self.now) c.args.family rest c.word_len.result c.word_len.ensures.first all misses
           (c.loop-behind.invariant.1 h)),
     )
 
@@ -39,9 +39,9 @@ loop-behind-preserved c =
     let misses = rw c.split_at.ensures.front at (not_from_Decides c.have_word.result c.have_word.ensures c.if-have_word.false) in
     let split = rw c.split_at.ensures.back at c.in-Some.ensures.cases.0 in
     let next = next_is rest c.in-Some.next.now c.word_len.result c.in-Some.field-0-0.now c.word_len.ensures.fits split in
-    let HasOne = LineHasOneIn (HasAddress c.args.self.now) c.args.family in (
-      λ h. c.loop-behind.invariant.0 (line_behind (HasAddress c.args.self.now) c.args.family rest c.word_len.result c.word_len.ensures.first next.0
+    let HasOne = LineHasOneIn (IsInSets c.args.self.now) c.args.family in (
+      λ h. c.loop-behind.invariant.0 (line_behind (IsInSets c.args.self.now) c.args.family rest c.word_len.result c.word_len.ensures.first next.0
           (subst HasOne (sym next.1) h)),
-      λ h. subst HasOne next.1 (line_on (HasAddress c.args.self.now) c.args.family rest c.word_len.result c.word_len.ensures.first next.0 misses
+      λ h. subst HasOne next.1 (line_on (IsInSets c.args.self.now) c.args.family rest c.word_len.result c.word_len.ensures.first next.0 misses
           (c.loop-behind.invariant.1 h)),
     )

@@ -1,5 +1,5 @@
 use Rattle.std.proofs.Common.{◌≡◌, Bool, true, false, List, [], ◌∷◌, length, map, sym, ap, ◌∙◌}
-use Rattle.cidr_sets.specs.Ranges.{joined, touches}
+use Rattle.cidr_sets.specs.Ranges.{joined_ranges, touches}
 use Rattle.cidr_sets.proofs.Joining.{by_none, no_ranges, nothing, progress_front}
 use Rattle.cidr_sets.proofs.Runs.{begun, begun_end, begun_last, begun_more, begun_self}
 use Rattle.cidr_sets.proofs.ranges.RangesIterator.next.Goals as goal
@@ -18,7 +18,7 @@ loop-next-preserved g c =
     let first = f c.in_ok-first.first.now in
     let last = f l.last.now in
     let touch : touches last (f c.in-Some.next.now) ≡ true = sym c.touches.ensures ∙ c.if-not-touches.false in
-    l.invariant ∙ ap (λ ys. begun first (joined (last ∷ map f ys))) c.in-Some.ensures.cases.0
+    l.invariant ∙ ap (λ ys. begun first (joined_ranges (last ∷ map f ys))) c.in-Some.ensures.cases.0
     ∙ begun_more first last (f c.in-Some.next.now) (map f c.in-Some.rest.now) touch
 
 pub returns-clause-steps : goal.returns-clause-steps
@@ -30,22 +30,22 @@ returns-clause-steps g c =
     let first = f c.in_ok-first.first.now in
     let last = f l.last.now in
     let behind = l.behind.now in
-    let end : begun first (joined (last ∷ map f behind)) ≡ (first, last) ∷ joined (map f behind) = elim c.match-split_first.branch [
+    let end : begun first (joined_ranges (last ∷ map f behind)) ≡ (first, last) ∷ joined_ranges (map f behind) = elim c.match-split_first.branch [
       | in-Some+then-not-touches w ↦
           let next = f w.in-Some.next.now in
           let rest = map f w.in-Some.rest.now in
           let split = w.in-Some.ensures.cases.0 in
           let apart : touches last next ≡ false = sym w.touches.ensures ∙ w.if-not-touches.true in
-          ap (λ ys. begun first (joined (last ∷ map f ys))) split ∙ begun_end first last next rest apart
-          ∙ sym (ap (λ ys. (first, last) ∷ joined (map f ys)) split)
+          ap (λ ys. begun first (joined_ranges (last ∷ map f ys))) split ∙ begun_end first last next rest apart
+          ∙ sym (ap (λ ys. (first, last) ∷ joined_ranges (map f ys)) split)
       | in_default w ↦
           let none : behind ≡ [] = nothing behind
           (by_none c.split_first-in-loop-next.result (length behind ≡ 0) _ w.in_default.not-Some c.split_first-in-loop-next.ensures.cases) in
-          ap (λ ys. begun first (joined (last ∷ map f ys))) none ∙ begun_last first last
-          ∙ sym (ap (λ ys. (first, last) ∷ joined (map f ys)) none)
+          ap (λ ys. begun first (joined_ranges (last ∷ map f ys))) none ∙ begun_last first last
+          ∙ sym (ap (λ ys. (first, last) ∷ joined_ranges (map f ys)) none)
     ] in
-    let whole : joined (map f c.self.inside.networks.now) ≡ (first, last) ∷ joined (map f behind) =
-    ap (λ xs. joined (map f xs)) c.in_ok-first.ensures.cases.0 ∙ begun_self first (map f c.in_ok-first.behind.now) ∙ l.invariant ∙ end in
+    let whole : joined_ranges (map f c.self.inside.networks.now) ≡ (first, last) ∷ joined_ranges (map f behind) =
+    ap (λ xs. joined_ranges (map f xs)) c.in_ok-first.ensures.cases.0 ∙ begun_self first (map f c.in_ok-first.behind.now) ∙ l.invariant ∙ end in
     rw (c.lowest.ensures, c.highest.ensures)
     (sym c.self.view_is ∙ ap (map (λ (r : List Bool × List Bool). (F r.0, L r.1))) whole)
 

@@ -1,5 +1,5 @@
 use Rattle.std.proofs.Common.{◌≡◌, ◌∷◌, length, map}
-use Rattle.cidr_sets.specs.Ranges.{joined}
+use Rattle.cidr_sets.specs.Ranges.{joined_ranges}
 use Rattle.cidr_sets.proofs.Runs.{begun}
 use Rattle.cidr_sets.proofs.ranges.RangesIterator.next.Given as goal
 
@@ -7,7 +7,7 @@ use Rattle.cidr_sets.proofs.ranges.RangesIterator.next.Given as goal
 abbrev pub invariant-loop-next : goal.invariant-loop-next
 invariant-loop-next g l =
     let f = g.C.BitString.bits in
-    begun (f l.first) (joined (f l.initial.last ∷ map f l.initial.behind)) ≡ begun (f l.first) (joined (f l.last ∷ map f l.behind))
+    begun (f l.first) (joined_ranges (f l.initial.last ∷ map f l.initial.behind)) ≡ begun (f l.first) (joined_ranges (f l.last ∷ map f l.behind))
 
 abbrev pub decreases-loop-next : goal.decreases-loop-next
 decreases-loop-next g l = length l.behind

@@ -2,7 +2,7 @@ use Rattle.std.proofs.Common.{◌^◌, ◌+◌, ◌-◌, List, length, map, refl
 use Rattle.std.proofs.lemmas.List.{length-map}
 use Rattle.cidr.specs.model.Network.{width_of}
 use Rattle.cidr_table.specs.Cover.{IsReduced}
-use Rattle.cidr_sets.specs.AddressLists.{addresses_of}
+use Rattle.cidr_sets.specs.AddressLists.{addresses_in}
 use Rattle.cidr_sets.specs.Counts.{HaveCount}
 use Rattle.cidr_sets.proofs.AddressIndexes.{in_order, index_fits, passed_more, passed_all, passed_few, all_of_them, not_below, are_all, width_fits}
 use Rattle.cidr_sets.proofs.set.NetworkSet.address_count.Goals as goal
@@ -39,8 +39,8 @@ returns-in_err-count g c =
     next refl in
     let long = passed_few w (map f xs) (c.loop-network.network-index + 1) next passed in
     rw c.from_residual.ensures (subst (λ (s : List g.row.C.Denot). HaveCount w (map f s) (2 ^ 128)) c.as_slice-network-items.ensures.networks
-    (all_of_them g.C.AddressSpace.family (map f xs) (addresses_of w (map f xs)) (are_all w (map f xs) reduced)
-    (not_below (c.loop-network.count + (c.ends-first.result.1 - c.ends-first.result.0) + 1) next (length (addresses_of w (map f xs))) (omega arith) c.in_err-count.ensures long)))
+    (all_of_them g.C.AddressSpace.family (map f xs) (addresses_in w (map f xs)) (are_all w (map f xs) reduced)
+    (not_below (c.loop-network.count + (c.ends-first.result.1 - c.ends-first.result.0) + 1) next (length (addresses_in w (map f xs))) (omega arith) c.in_err-count.ensures long)))
 
 pub loop-network-preserved : goal.loop-network-preserved
 loop-network-preserved g c =
@@ -58,4 +58,4 @@ returns g c =
     let reduced = (subst (λ (s : List g.row.C.Denot). IsReduced 129 (map g.C.BitString.bits s)) (sym c.as_slice-network-items.ensures.networks) c.as_slice-network-items.ensures.reduced) in
     subst (λ (s : List g.row.C.Denot). HaveCount w (map f s) c.loop-network.count)
     c.as_slice-network-items.ensures.networks
-    (addresses_of w ps, are_all w ps reduced, passed_all w ps c.loop-network.network-index c.loop-network.count (omega (arith, length-map xs f, c.loop-network-test.false)) c.loop-network.invariant)
+    (addresses_in w ps, are_all w ps reduced, passed_all w ps c.loop-network.network-index c.loop-network.count (omega (arith, length-map xs f, c.loop-network-test.false)) c.loop-network.invariant)

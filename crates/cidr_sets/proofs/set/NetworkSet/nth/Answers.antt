@@ -3,7 +3,7 @@ use Rattle.std.proofs.lemmas.List.{length-map}
 use Rattle.std.proofs.lemmas.Option.{slice_get_past}
 use Rattle.cidr.specs.model.Network.{width_of}
 use Rattle.cidr_table.specs.Cover.{IsReduced}
-use Rattle.cidr_sets.specs.AddressLists.{addresses_of}
+use Rattle.cidr_sets.specs.AddressLists.{addresses_in}
 use Rattle.cidr_sets.specs.Counts.{IsAtIndex}
 use Rattle.cidr_sets.proofs.AddressIndexes.{in_order, at_index, passed_more, passed_all, are_all}
 use Rattle.cidr_sets.proofs.set.NetworkSet.nth.Goals as goal
@@ -39,9 +39,9 @@ returns-then-left-last g c =
     let index : c.args.index - c.loop-network.left + c.loop-network.left ≡ c.args.index = omega arith in
     subst (λ (s : List g.row.C.Denot). IsAtIndex w (map f s) c.args.index (Some (g.C.AddressSpace.address_bits c.from_number.result)))
     c.as_slice-network-items.ensures.networks (
-      addresses_of w (map f xs),
+      addresses_in w (map f xs),
       are_all w (map f xs) reduced,
-      ap (slice_get (addresses_of w (map f xs))) (sym index)
+      ap (slice_get (addresses_in w (map f xs))) (sym index)
           ∙ at_index (width_of g.C.AddressSpace.family) g.C.BitString.bits c.as_slice-network-items.result.now c.loop-network.network-index (c.args.index - c.loop-network.left)
           c.ends-first.result.0 c.ends-first.result.1 c.network-item.result c.loop-network.invariant.1 c.loop-network-test.true c.network-item.is
           c.ends-first.ensures.fits c.ends-first.ensures.first c.ends-first.ensures.last c.loop-network.left c.if-left-last.true
@@ -73,4 +73,4 @@ returns g c =
     let size = passed_all w ps c.loop-network.network-index (c.args.index - c.loop-network.left) (omega (arith, length-map xs f, c.loop-network-test.false)) c.loop-network.invariant.1 in
     subst (λ (s : List g.row.C.Denot). IsAtIndex w (map f s) c.args.index None)
     c.as_slice-network-items.ensures.networks
-    (addresses_of w ps, are_all w ps reduced, slice_get_past (addresses_of w ps) c.args.index (omega (arith, size)))
+    (addresses_in w ps, are_all w ps reduced, slice_get_past (addresses_in w ps) c.args.index (omega (arith, size)))

@@ -4,7 +4,7 @@ use Rattle.cidr.specs.model.Bits.{number}
 use Rattle.cidr.specs.model.Network.{width_of}
 use Rattle.cidr.specs.laws.BitLaws.{number-lt}
 use Rattle.cidr_table.specs.Cover.{Covers, IsReduced}
-use Rattle.cidr_sets.specs.AddressLists.{addresses_of}
+use Rattle.cidr_sets.specs.AddressLists.{addresses_in}
 use Rattle.cidr_sets.specs.Counts.{IsAtIndex}
 use Rattle.cidr_sets.proofs.AddressIndexes.{in_order, index_fits, found, not_there, passed_by, passed_by_none, in_none, are_all, width_fits}
 use Rattle.cidr_sets.proofs.set.NetworkSet.position.Goals as goal
@@ -44,7 +44,7 @@ returns-then-number-last g c =
     let reduced = (subst (λ (s : List g.row.C.Denot). IsReduced 129 (map g.C.BitString.bits s)) (sym c.as_slice-network-items.ensures.networks) c.as_slice-network-items.ensures.reduced) in
     subst (λ (s : List g.row.C.Denot). IsAtIndex w (map f s) (c.loop-network.before + (c.to_number-number.result - c.ends-first.result.0)) (Some (g.C.AddressSpace.address_bits c.args.address)))
     c.as_slice-network-items.ensures.networks (
-      addresses_of w (map f xs),
+      addresses_in w (map f xs),
       are_all w (map f xs) reduced,
       found (width_of g.C.AddressSpace.family) g.C.BitString.bits c.as_slice-network-items.result.now c.loop-network.network-index c.loop-network.before
           c.ends-first.result.0 c.ends-first.result.1 c.network-item.result c.loop-network.invariant.passed c.loop-network-test.true c.network-item.is

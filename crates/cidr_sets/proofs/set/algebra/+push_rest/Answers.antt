@@ -6,7 +6,7 @@ use Rattle.std.specs.declared.cmp.Ordering.TheVariants.{Less}
 use Rattle.cidr.specs.model.Bits.{bit_cmp}
 use Rattle.cidr_table.proofs.Halves.{begins_itself, half_begins, length_half}
 use Rattle.cidr_table.proofs.MapLaws.{contains_nothing}
-use Rattle.cidr_sets.specs.Steps.{Ascend, IsCut}
+use Rattle.cidr_sets.specs.Steps.{Ascend, IsDifferenceStep}
 use Rattle.cidr_sets.proofs.Cuts.{cut_covered, cut_halves, cut_same, cut_skipped, cut_whole, longer, suffix_ascends, upper_behind}
 use Rattle.cidr_sets.proofs.Joining.{by_none, nothing}
 use Rattle.cidr_sets.proofs.Steps.{apart_from, less_longer, not_less, one_ascends}
@@ -22,7 +22,7 @@ returns-in_default g t c =
     let left = map f c.skip-left.result.now in
     let none = ap (map f) (nothing c.skip-left.result.now
     (by_none c.split_first.result (length c.skip-left.result.now ≡ 0) _ c.in_default.not-Some c.split_first.ensures.cases)) in
-    subst (λ new. IsCut p old new others left)
+    subst (λ new. IsDifferenceStep p old new others left)
     (sym (ap (map f) c.in_ok-push.ensures.items ∙ map_push f c.args.out.now.items c.args.network.now))
     (cut_skipped p old (old ++ p ∷ []) others left left c.skip-left.ensures
     (cut_whole p old c.requires.ascend c.requires.before left
@@ -42,12 +42,12 @@ returns-then-is_inside g t c =
     elim c.if-len.branch [
       | then-len w ↦ rw w.result-is
           (cut_skipped p old old others left behind c.skip-left.ensures
-          (subst (λ l. IsCut p old old l behind) (sym split)
+          (subst (λ l. IsDifferenceStep p old old l behind) (sym split)
           (cut_same p old c.requires.ascend c.requires.before first behind inside
           (omega (arith, w.if-len.true, c.len.ensures.value, c.len-then-is_inside.ensures.value)))))
       | else-len w ↦ rw w.result-is
           (cut_skipped p old old others left left c.skip-left.ensures
-          (subst (λ l. IsCut p old old l l) (sym split)
+          (subst (λ l. IsDifferenceStep p old old l l) (sym split)
           (cut_covered p old c.requires.ascend c.requires.before first behind inside
           (λ e. omega (arith, e, w.if-len.false, c.len.ensures.value, c.len-then-is_inside.ensures.value)))))
     ]
@@ -67,7 +67,7 @@ returns-then-not-is_inside g t c =
     let apart = not_from_Decides c.is_inside-2.result c.is_inside-2.ensures c.if-not-is_inside.true in
     let less : bit_cmp p first ≡ Less = not_less first behind ascend p [] (one_ascends p) outside
     (λ e. c.skip-left.ensures.first first (ap (λ l. slice_get l 0) split) (e, outside)) in
-    subst (λ new. IsCut p old new others left)
+    subst (λ new. IsDifferenceStep p old new others left)
     (sym (ap (map f) c.in_ok-push-2.ensures.items ∙ map_push f c.args.out.now.items c.args.network.now))
     (cut_skipped p old (old ++ p ∷ []) others left left c.skip-left.ensures
     (cut_whole p old c.requires.ascend c.requires.before left
@@ -97,7 +97,7 @@ push_rest-requires-2 g t c =
     let up = p ++ true ∷ [] in
     let half = f c.half-upper.result in
     let bits = c.half-upper.ensures.bits in
-    let lo = subst (λ z. IsCut z (map f c.args.out.now.items) mid left rest) c.half-lower.ensures.bits c.in_ok-rest.ensures in
+    let lo = subst (λ z. IsDifferenceStep z (map f c.args.out.now.items) mid left rest) c.half-lower.ensures.bits c.in_ok-rest.ensures in
     let others : Ascend rest = suffix_ascends rest left lo.suffix
     (suffix_ascends left (map f c.args.others.now) c.skip-left.ensures.suffix c.requires.others) in
     let ascend : Ascend mid = lo.ascend in
@@ -122,10 +122,10 @@ returns g t c =
     let split = ap (map f) c.in-Some.ensures.cases.0 in
     let inside = c.is_inside-2.ensures.0 c.if-not-is_inside.false in
     let outside = not_from_Decides c.is_inside.result c.is_inside.ensures c.if-is_inside.false in
-    let lo = subst (λ l. IsCut (p ++ false ∷ []) old mid l rest) split
-    (subst (λ z. IsCut z old mid left rest) c.half-lower.ensures.bits c.in_ok-rest.ensures) in
-    let up = subst (λ z. IsCut z mid new rest last) c.half-upper.ensures.bits c.in_ok-last.ensures in
+    let lo = subst (λ l. IsDifferenceStep (p ++ false ∷ []) old mid l rest) split
+    (subst (λ z. IsDifferenceStep z old mid left rest) c.half-lower.ensures.bits c.in_ok-rest.ensures) in
+    let up = subst (λ z. IsDifferenceStep z mid new rest last) c.half-upper.ensures.bits c.in_ok-last.ensures in
     cut_skipped p old new others left last c.skip-left.ensures
-    (subst (λ l. IsCut p old new l last) (sym split)
+    (subst (λ l. IsDifferenceStep p old new l last) (sym split)
     (cut_halves p first behind old mid new rest last inside (longer p first inside outside) lo up
     c.half-lower.ensures.room))

@@ -1,7 +1,7 @@
 use Rattle.std.proofs.Common.{◌≡◌, ◌⊎◌, [], ◌∷◌, ◌++◌, length, length-append, map, ap, sym, inl, inr, subst, arith, Some, None}
 use Rattle.std.proofs.lemmas.List.{length-map, map_push}
 use Rattle.std.specs.Option.{option_map}
-use Rattle.cidr_sets.specs.Steps.{IsShared}
+use Rattle.cidr_sets.specs.Steps.{IsIntersectionStep}
 use Rattle.cidr_sets.proofs.Joining.{by_none}
 use Rattle.cidr_sets.proofs.Steps.{IsSharing, none_of, sharing_all, sharing_more, sharing_none, sharing_same}
 use Rattle.cidr_sets.proofs.set.algebra.push_shared.Goals as goal
@@ -35,8 +35,8 @@ loop-shared-preserved-in-Some-shared g c =
     let x = c.in-Some-shared.network in
     let bs = map f c.in-Some.behind.now in
     let us = map f c.in-Some.rest.now in
-    let step : IsShared (map f l.left.now) (map f l.right.now) (Some (f x)) bs us =
-    subst (λ o. IsShared (map f l.left.now) (map f l.right.now) (option_map f o) bs us) c.in-Some-shared.is c.in-Some.ensures in
+    let step : IsIntersectionStep (map f l.left.now) (map f l.right.now) (Some (f x)) bs us =
+    subst (λ o. IsIntersectionStep (map f l.left.now) (map f l.right.now) (option_map f o) bs us) c.in-Some-shared.is c.in-Some.ensures in
     let more : IsSharing these those (length (xs ++ x ∷ [])) (map f (xs ++ x ∷ [])) bs us =
     rw (length-append xs (x ∷ []), map_push f xs x) (sharing_more these those (length xs) (map f xs) (map f l.left.now) (map f l.right.now) bs us
     l.invariant.0 (f x) step) in (

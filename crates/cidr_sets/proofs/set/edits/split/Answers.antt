@@ -4,7 +4,7 @@ use Rattle.std.proofs.lemmas.Result.{on_ok_weaker}
 use Rattle.cidr.specs.model.Network.{BeginsWith}
 use Rattle.cidr_sets.specs.Edits.{IsParted}
 use Rattle.cidr_sets.specs.Sets.{IsDifference}
-use Rattle.cidr_sets.specs.Steps.{Ascend, IsCut}
+use Rattle.cidr_sets.specs.Steps.{Ascend, IsDifferenceStep}
 use Rattle.cidr_sets.proofs.Edits.{without_part}
 use Rattle.cidr_sets.proofs.Moves.{map_three}
 use Rattle.cidr_sets.proofs.Parts.{parted_at}
@@ -54,7 +54,7 @@ returns-clause-ok g c =
     let parted : IsParted s q (take i s) (drop end s) =
     subst (λ k. IsParted s q (take i s) (drop k s)) after (parted_at s c.requires.reduced q i low here) in
     let new = map f c.push_rest.new.out.items in
-    let cut : IsCut q [] new (p ∷ []) (map f c.in_ok-push_rest.field-0.now) = search rules in
+    let cut : IsDifferenceStep q [] new (p ∷ []) (map f c.in_ok-push_rest.field-0.now) = search rules in
     let rest = without_part s c.requires.reduced p c.known.ensures q (take i s) (drop end s) new _ parted (i, low, here) inside cut in
     let left : IsDifference 129 s (p ∷ []) (map f (take i xs ++ c.push_rest.new.out.items ++ drop end xs)) =
     subst (IsDifference 129 s (p ∷ []))

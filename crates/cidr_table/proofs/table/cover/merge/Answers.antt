@@ -1,7 +1,7 @@
 use Rattle.std.proofs.Common.{◌≤◌, ◌<◌, length, take, map, ◌-◌, ◌∙◌, refl, arith, length-take}
 use Rattle.std.proofs.lemmas.List.{length-set, length-map, drop-set-lt}
 use Rattle.std.proofs.lemmas.Bool.Decides.{not_from_Decides}
-use Rattle.cidr_table.specs.CoverStack.{AreHalves}
+use Rattle.cidr_table.specs.CoverStack.{AreHalvesInOrder}
 use Rattle.cidr_table.proofs.Passing.{merging_none, merging_done, two_read, clipped_is, still_merging}
 use Rattle.cidr_table.proofs.Stacks.{last_two, closed_alone, closed_apart}
 use Rattle.cidr_table.proofs.table.cover.merge.Goals as goal
@@ -55,7 +55,7 @@ returns-else-are_halves-clause-cover g c =
     let v = c.index-out-n-in-loop-n.result in
     let within : n ≤ length out = omega (arith, h.fewer, h.places, c.requires.within) in
     let ends = two_read f out n c.loop-n-test.true within u v c.index-out-n.is c.index-out-n-in-loop-n.is in
-    let apart : ¬ (AreHalves (f u) (f v)) =
+    let apart : ¬ (AreHalvesInOrder (f u) (f v)) =
     not_from_Decides c.are_halves.result c.are_halves.ensures c.if-are_halves.false in
     merging_done 129 old s h.merging (closed_apart 129 s h.merging.pushed (map f (take (n - 2) out)) (f u)
     (f v) ends apart)

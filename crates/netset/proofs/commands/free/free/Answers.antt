@@ -4,7 +4,7 @@ use Rattle.cidr.specs.texts.Printed.{plain_text}
 use Rattle.cidr_lists.specs.Printing.{line}
 use Rattle.netset.specs.declared.output.answers.Verdict.TheVariants.{Yes, No}
 use Rattle.std.proofs.lemmas.Result.{err_from_is_err_and}
-use Rattle.netset.specs.Causes.{MayFail}
+use Rattle.netset.specs.Causes.{FileMayFail}
 use Rattle.netset.proofs.Causes.{output_cause}
 use Rattle.netset.proofs.Pools.{free_written}
 use Rattle.netset.proofs.commands.free.free.Goals as goal
@@ -35,10 +35,10 @@ returns-in_err-rest-clause-cause g c =
     rw (is, same) c.in_err-rest.ensures.refused
 
 pub returns-in-Some-first_free-clause-cause : goal.returns-in-Some-first_free-clause-cause
-returns-in-Some-first_free-clause-cause g c = output_cause (MayFail (g.F.Sources.contents c.args.sources.now)) _ _ _ c.by_output.result c.by_output.ensures
+returns-in-Some-first_free-clause-cause g c = output_cause (FileMayFail (g.F.Sources.contents c.args.sources.now)) _ _ _ c.by_output.result c.by_output.ensures
 
 pub returns-clause-cause : goal.returns-clause-cause
-returns-clause-cause g c = output_cause (MayFail (g.F.Sources.contents c.args.sources.now)) _ _ _ c.by_output-in-None.result c.by_output-in-None.ensures
+returns-clause-cause g c = output_cause (FileMayFail (g.F.Sources.contents c.args.sources.now)) _ _ _ c.by_output-in-None.result c.by_output-in-None.ensures
 
 pub returns-in_err-several-clause-answers : goal.returns-in_err-several-clause-answers
 returns-in_err-several-clause-answers g c =

@@ -1,6 +1,6 @@
 use Rattle.std.proofs.Common.{sym, map, ◌∷◌}
 use Rattle.std.proofs.lemmas.Result.{err_from_is_err_and}
-use Rattle.netset.specs.Causes.{MayFail}
+use Rattle.netset.specs.Causes.{FileMayFail}
 use Rattle.netset.proofs.Causes.{argument_cause, output_cause}
 use Rattle.netset.proofs.Combining.{not_in_written}
 use Rattle.netset.proofs.commands.inside.not_in.Goals as goal
@@ -15,7 +15,7 @@ returns-clause-answers g c =
 pub returns-in_err-network-clause-cause : goal.returns-in_err-network-clause-cause
 returns-in_err-network-clause-cause g c =
     let (y, is, same) = err_from_is_err_and c.from_residual.result c.from_residual.ensures.1 in
-    rw (is, same) (argument_cause (MayFail (g.F.Sources.contents c.args.sources.now)) _ _ c.in_err-network.field-0.0 c.in_err-network.ensures)
+    rw (is, same) (argument_cause (FileMayFail (g.F.Sources.contents c.args.sources.now)) _ _ c.in_err-network.field-0.0 c.in_err-network.ensures)
 
 pub returns-in_err-several-clause-cause : goal.returns-in_err-several-clause-cause
 returns-in_err-several-clause-cause g c =
@@ -38,4 +38,4 @@ returns-in_err-inside-clause-cause g c =
     rw (is, same) c.in_err-inside.ensures.refused
 
 pub returns-clause-cause : goal.returns-clause-cause
-returns-clause-cause g c = output_cause (MayFail (g.F.Sources.contents c.args.sources.now)) _ _ _ c.by_output.result c.by_output.ensures
+returns-clause-cause g c = output_cause (FileMayFail (g.F.Sources.contents c.args.sources.now)) _ _ _ c.by_output.result c.by_output.ensures
