@@ -95,10 +95,10 @@ rows() {
 # Options before, behind and between operands, joined, with their values and ended, and the pages of help.
 rows_of_arguments() {
     local page long missing=$', see: netset help match\n'
-    run 0 $'1\n' '' '10.0.0.1\n11.0.0.1\n::1' match -cv ten_and_eight -
+    run 0 $'2\n' '' '10.0.0.1\n11.0.0.1\n::1' match -cv ten_and_eight -
     run 0 $'2\n' '' '10.0.0.1\n11.0.0.1\n::1' match ten -vc
     run 0 $'2\n' '' '10.0.0.1\n11.0.0.1\n::1' match -v ten -c -
-    run 0 $'2\n' '' '10.0.0.1\n11.0.0.1\n::1' match -v -- ten -
+    run 0 $'11.0.0.1\n::1\n' '' '10.0.0.1\n11.0.0.1\n::1' match -v -- ten -
     run 0 $'11.0.0.1\n' '' '10.0.0.1\n11.0.0.1' match -kv --host-bits hosts
     run 2 '' "-vx: no such option$missing" '' match -vx ten
     run 2 '' "-v-c: no such option$missing" '' match -v-c ten
@@ -124,7 +124,7 @@ rows_of_arguments() {
     long=aaaaaaaaaaaaaaaaaaaaaaaaaaaaaaaaaaaaaaaa
     run 2 '' "$long: no such command, see: netset help"$'\n' '' "$long"
     run 2 '' "$long..: no such command, see: netset help"$'\n' '' "${long}a"
-    run 2 '' '\x1b[2J\x0adone: no such option, see: netset help merge'$'\n' '' merge $'-\e[2J\ndone'
+    run 2 '' '-\x1b[2J\x0adone: no such option, see: netset help merge'$'\n' '' merge $'-\e[2J\ndone'
     page=$'netset merge [FILE..]   the shortest list of networks that has the addresses of all the lists
 --host-bits             a bit set behind the prefix of a network in a list is taken as unset,
                         and is no error
@@ -136,7 +136,7 @@ rows_of_arguments() {
     run 0 "$page" '' '' merge -h ten
     run 0 "$page" '' '' merge -kh ten
     page=$'netset --version        the version\n'
-    run 0 "$page" '' '' help --version
+    run 0 "$page" '' '' help -- --version
     run 0 "$page" '' '' --version -h
     page=$'netset help [COMMAND]   this page, or what it says of a command\n'
     run 0 "$page" '' '' help help

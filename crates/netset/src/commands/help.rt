@@ -58,7 +58,8 @@ fn note_of<'a>(command: Verb, option: &str, note: &'a str) -> &'a str
     }
 }
 
-/// Writes the page of a command, or of all, and flushes.
+/// Writes the page of a command, or of all, and flushes. Its block takes no room on the stack of other commands.
+#[inline(never)]
 pub fn write_help<S: Sink>(topic: Option<Verb>, out: &mut S) -> Result<(), OutputFailed>
     ensures { Answered (S.state out.old) (S.state out.new) (help_text topic) result }
 {

@@ -199,6 +199,7 @@ fn misfit_text(why: Misfit) -> ArrayString<48>
 }
 
 /// Writes the line of arguments that are no command, as far as the sink takes it, and returns the exit status.
+#[inline(never)]
 pub fn report_misuse<E: Sink>(misuse: &Misuse<'_>, err: &mut E) -> u8
     ensures status { result ≡ 2 }
     ensures says { Tells (E.state err.old) (E.state err.new) (misuse_line misuse.now) }
