@@ -1,9 +1,5 @@
-//! Whole lists as bytes: reading one to its end or to its first line in error, and printing a set.
-//!
-//! ```
-//! let sets = Sets::of_text(alloc, HostBits::Refused, b"192.0.2.0/25  # ours\r\n\n192.0.2.128-192.0.2.255\n")?;
-//! sets.to_text(alloc, Form::Networks)? // 192.0.2.0/24 and a line feed
-//! ```
+//! Whole lists as bytes: reading one to its end or to its first line in error, and printing a set. Of the lines
+//! `192.0.2.0/25  # ours` and `192.0.2.128-192.0.2.255` the set is printed as 192.0.2.0/24.
 ghost use Rattle.std.specs.Prelude.{◌≡◌, ◌≤◌, ◌++◌, length, IfOk, MatchResult, OnOk};
 ghost use Rattle.std.specs.List.{flat_map, position_or_len};
 ghost use Rattle.cidr_lists.specs.Lists.{is_line_feed, kept_of, text_by};
