@@ -19,7 +19,9 @@ has() {
 run() {
     local wanted=$1 output=$2 error=$3 input=$4 status=0 wrong=() part
     shift 4
-    printf '%b' "$input" | (cd "$room" && timeout 60 "$program" "$@") >"$output_file" 2>"$error_file" || status=$?
+    # The program may end before it has read all of its input.
+    (cd "$room" && timeout 60 "$program" "$@") < <(printf '%b' "$input" 2>/dev/null) >"$output_file" 2>"$error_file" ||
+        status=$?
     ((status == wanted)) || wrong+=("exit status $status, not $wanted")
     has "$output_file" "$output" || wrong+=("standard output")
     has "$error_file" "$error" || wrong+=("standard error")
