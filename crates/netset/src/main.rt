@@ -1,18 +1,12 @@
 //! A program for lists of networks.
 #![tactic(auto)]
 
-mod commands;
-mod errors;
-mod input;
-mod output;
-mod program;
-
 use cidr_io::arguments::Given;
 use cidr_io::memory::Heap;
 use cidr_io::sink::Tracked;
-use input::files::System;
-use output::terminal::{Erasing, Progress};
-use program::program;
+use netset_commands::input::files::System;
+use netset_commands::output::terminal::{Erasing, Progress};
+use netset_commands::program::program;
 use std::io::IsTerminal;
 use std::process::ExitCode;
 

@@ -1,7 +1,0 @@
-use Rattle.std.proofs.Common.{take}
-use Rattle.netset.specs.Command.{parts_in}
-use Rattle.netset.proofs.Parts.{AreAdded}
-use Rattle.netset.proofs.commands.arguments.Parts.add_letters.Given as goal
-
-abbrev pub invariant-loop-letter : goal.invariant-loop-letter
-invariant-loop-letter g l = AreAdded l.command (parts_in l.fn.self) (parts_in l.self) (take l.letter-index l.letters)

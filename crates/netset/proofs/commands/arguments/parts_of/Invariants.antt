@@ -1,6 +1,0 @@
-use Rattle.netset.specs.Command.{parts_in}
-use Rattle.netset.proofs.Parts.{Left}
-use Rattle.netset.proofs.commands.arguments.parts_of.Given as goal
-
-abbrev pub invariant-loop-word : goal.invariant-loop-word
-invariant-loop-word g l = Left l.command l.words l.word-index (parts_in l.parts) l.next

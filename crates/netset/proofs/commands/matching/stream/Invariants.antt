@@ -1,9 +1,0 @@
-use Rattle.netset.specs.Matching.{Picks}
-use Rattle.cidr_lists.specs.Sets.{IsInSets}
-use Rattle.netset.proofs.Matched.{Streamed}
-use Rattle.netset.proofs.commands.matching.stream.Given as goal
-
-abbrev pub invariant-loop-number : goal.invariant-loop-number
-invariant-loop-number g l =
-    Streamed (Picks l.matcher.anywhere (IsInSets l.matcher.sets.now) l.matcher.inverted) l.matcher.written l.fn.reader.left l.reader.left
-    (g.S.Sink.state l.fn.out) (g.S.Sink.state l.out) l.number l.gathered.count l.gathered.block l.long

@@ -1,6 +1,0 @@
-use Rattle.cidr_lists.specs.Sets.{range_line}
-use Rattle.netset.proofs.Walked.{Walked}
-use Rattle.netset.proofs.output.ranges.write_each.Given as goal
-
-abbrev pub invariant-loop-range : goal.invariant-loop-range
-invariant-loop-range g l = Walked (range_line g.C.PrintedAddress.shown) l.fn.ranges l.ranges (g.S.Sink.state l.fn.out) (g.S.Sink.state l.out) l.block

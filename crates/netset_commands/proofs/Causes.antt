@@ -1,0 +1,174 @@
+-- What a run gives up for.
+use Rattle.std.proofs.Common.{◌≡◌, refl, sym, ap, subst, arith, inl, inr, ℕ, ◌+◌, ◌≤◌, Bor, Bool, true, false, List, ◌++◌, length, length-append, Option, Some, None, Result, Ok, Err, IfErr}
+use Rattle.std.specs.List.{slice_split}
+use Rattle.std.specs.Option.{IfSome}
+use Rattle.std.proofs.lemmas.List.{length-map}
+use Rattle.std.proofs.lemmas.List.Splits.{length-slice_split}
+use Rattle.std.proofs.lemmas.List.Sums.{count_by-le-length}
+use Rattle.cidr_io.specs.Lines.{MayFail as NoLineFails}
+use Rattle.cidr_io.specs.declared.lines.ReadError.{ReadError as NoLine}
+use Rattle.cidr_io.specs.declared.lines.ReadError.TheVariants.{Failed}
+use Rattle.cidr_io.specs.declared.lines.ReadError.TheVariants as no_line
+use Rattle.cidr_io.specs.declared.sink.OutputFailed.{OutputFailed}
+use Rattle.cidr_io.specs.Writing.{State}
+use Rattle.netset_commands.specs.Causes.{Cause, AreTooMany, LookCause, FileMayFail, ReadCause, TextFails}
+use Rattle.netset_commands.specs.Commands.{Single as ASingle}
+use Rattle.netset_commands.specs.Gathering.{IsLost, Stops, ended_by, told_behind}
+use Rattle.cidr_lists.specs.Lists.{Text, is_line_feed, kept_of, lines_of}
+use Rattle.netset_commands.specs.LookUps.{unread}
+use Rattle.netset_commands.specs.Program.{AnswersRequest, IsBadArgument, by_output}
+use Rattle.netset_commands.specs.Reading.{IsStopped, read_error}
+use Rattle.netset_commands.specs.Single.{SingleRequest}
+use Rattle.netset_commands.specs.declared.output.answers.Verdict.{Verdict}
+use Rattle.netset_commands.specs.declared.errors.ArgumentError.{ArgumentError}
+use Rattle.netset_commands.specs.declared.errors.CommandError.{CommandError}
+use Rattle.netset_commands.specs.declared.errors.CommandError.TheVariants as error
+use Rattle.cidr_lists.specs.declared.errors.LineError.{LineError}
+use Rattle.netset_commands.specs.declared.errors.ReadError.{ReadError}
+use Rattle.netset_commands.specs.declared.errors.ReadError.TheVariants.{Line, Input, NoMemory}
+use Rattle.netset_commands.specs.declared.commands.look.LookError.{LookError}
+use Rattle.netset_commands.specs.declared.commands.look.LookError.TheVariants.{Reading, Output}
+use Rattle.netset_commands.specs.declared.commands.matching.Written.{Written}
+
+-- ---- a reader
+pub reading_stopped : (e : NoLine) → IsStopped (read_error e)
+reading_stopped Failed = tt
+reading_stopped no_line.NoMemory = tt
+
+-- where a text is told, so is what is left of it
+abbrev pub KnownOf : Option (List ℕ) → Option (List ℕ) → Type 0
+KnownOf contents left = IfSome contents (λ text. (rest : List ℕ) × (left ≡ Some rest) × (length rest ≤ length text))
+
+pub known_first : (contents : Option (List ℕ)) → KnownOf contents contents
+known_first None = tt
+known_first (Some text) = (text, refl, omega arith)
+
+pub told_fails : (contents left : Option (List ℕ)) → KnownOf contents left → NoLineFails left → TextFails contents
+told_fails None left known h = tt
+told_fails (Some text) left (rest, is, size) h =
+    let many : 18446744073709551615 ≤ length rest = subst NoLineFails is h in
+    omega (arith, many, size)
+
+pub no_line_cause : (contents left : Option (List ℕ)) (refused : Bool) (e : NoLine) → KnownOf contents left → (e ≡ Failed → NoLineFails left)
+    → (e ≡ no_line.NoMemory → refused ≡ true) → ReadCause (TextFails contents) refused (read_error e)
+no_line_cause contents left refused Failed known fails none = told_fails contents left known (fails refl)
+no_line_cause contents left refused no_line.NoMemory known fails none = none refl
+
+-- a line alone never says that a file can't be read
+pub line_cause : (Fails : Type 0) (refused : Bool) (e : ReadError) → ReadCause ⊥ refused e → ReadCause Fails refused e
+line_cause Fails refused (Line number e) h = tt
+line_cause Fails refused Input h = absurd h
+line_cause Fails refused NoMemory h = h
+
+pub look_line_cause : (Fails : Type 0) (refused : Bool) (e : LookError) → LookCause ⊥ false e → LookCause Fails refused e
+look_line_cause Fails refused (Reading (Line number e)) h = tt
+look_line_cause Fails refused (Reading Input) h = absurd h
+look_line_cause Fails refused (Reading NoMemory) h = cc
+look_line_cause Fails refused Output h = tt
+
+-- more lines than there are numbers for
+pub longer_than : (most : ℕ) (all before after : List (List ℕ)) (number : ℕ) → all ≡ before ++ after → number ≡ length before + 1 → most + 1 ≤ number → most ≤ length all
+longer_than most all before after number lines place many = omega (arith, ap length lines, length-append before after)
+
+-- a text has at least a byte for each line but one
+pub enough_bytes : (text : List ℕ) → 18446744073709551614 ≤ length (lines_of text) → AreTooMany text
+enough_bytes text many =
+    omega (arith, many, length-map (slice_split is_line_feed text) kept_of, length-slice_split is_line_feed text, count_by-le-length is_line_feed text)
+
+pub too_many : (text : List ℕ) (before after : List (List ℕ)) (number : ℕ) → lines_of text ≡ before ++ after → number ≡ length before + 1
+    → 18446744073709551615 ≤ number → AreTooMany text
+too_many text before after number lines place most =
+    enough_bytes text (longer_than 18446744073709551614 (lines_of text) before after number lines place most)
+
+-- ---- a file
+fails_there : (contents : Option Text) (left : Option (List ℕ)) → ((text : Text) → contents ≡ Some text → left ≡ Some text.bytes) → TextFails left
+    → IfSome contents (λ text. AreTooMany text.bytes)
+fails_there None left opens h = tt
+fails_there (Some text) left opens h = subst TextFails (opens text refl) h
+
+pub file_fails : (contents : List ℕ → Option Text) (name : List ℕ) (left : Option (List ℕ)) → ((text : Text) → contents name ≡ Some text → left ≡ Some text.bytes)
+    → TextFails left → FileMayFail contents name
+file_fails contents name left opens h = fails_there (contents name) left opens h
+
+pub whole_fails : (contents : List ℕ → Option Text) (name : List ℕ) (left : Option (List ℕ)) → ((text : Text) → contents name ≡ Some text → left ≡ Some text.bytes)
+    → left ≡ None → FileMayFail contents name
+whole_fails contents name left opens h = file_fails contents name left opens (subst TextFails (sym h) tt)
+
+pub whole_read : (left : Option (List ℕ)) (text bytes : List ℕ) → left ≡ Some text → IfSome left (λ text. bytes ≡ text) → bytes ≡ text
+whole_read left text bytes is h = subst (λ (k : Option (List ℕ)). IfSome k (λ text. bytes ≡ text)) is h
+
+pub file_cause : (contents : List ℕ → Option Text) (file : Bor (List ℕ)) (left : Option (List ℕ)) (refused : Bool) (e : ReadError)
+    → ((text : Text) → contents file.now ≡ Some text → left ≡ Some text.bytes) → ReadCause (TextFails left) refused e → Cause (FileMayFail contents) refused (unread file e)
+file_cause contents file left refused (Line number e) opens h = tt
+file_cause contents file left refused Input opens h = file_fails contents file.now left opens h
+file_cause contents file left refused NoMemory opens h = h
+
+pub not_opened : (contents : List ℕ → Option Text) (name : List ℕ) → contents name ≡ None → FileMayFail contents name
+not_opened contents name is = subst (λ (k : Option Text). IfSome k (λ text. AreTooMany text.bytes)) (sym is) tt
+
+pub cause_weaker : (F G : List ℕ → Type 0) (refused : Bool) (e : CommandError) → ((name : List ℕ) → F name → G name) → Cause F refused e → Cause G refused e
+cause_weaker F G refused (error.Argument text e) f h = tt
+cause_weaker F G refused (error.Line name number e) f h = tt
+cause_weaker F G refused (error.Input name) f h = f name.now h
+cause_weaker F G refused error.NoMemory f h = h
+cause_weaker F G refused error.Output f h = tt
+
+pub causes_weaker : (F G : List ℕ → Type 0) (refused : Bool) (r : Result Verdict CommandError) → ((name : List ℕ) → F name → G name) → IfErr r (Cause F refused)
+    → IfErr r (Cause G refused)
+causes_weaker F G refused (Ok verdict) f h = tt
+causes_weaker F G refused (Err e) f h = cause_weaker F G refused e f h
+
+-- a file that is read line by line
+pub file_causes : (contents : List ℕ → Option Text) (file : List ℕ) (left : Option (List ℕ)) (refused : Bool) (r : Result Verdict CommandError)
+    → ((text : Text) → contents file ≡ Some text → left ≡ Some text.bytes) → IfErr r (Cause (λ name. (name ≡ file) × TextFails left) refused)
+    → IfErr r (Cause (FileMayFail contents) refused)
+file_causes contents file left refused r opens h =
+    causes_weaker (λ name. (name ≡ file) × TextFails left) (FileMayFail contents) refused r
+    (λ name k. subst (FileMayFail contents) (sym k.0) (file_fails contents file left opens k.1)) h
+
+-- ---- an answer
+pub output_cause : (F : List ℕ → Type 0) (refused : Bool) (verdict : Verdict) (w : Result (Unit {0}) OutputFailed) (r : Result Verdict CommandError)
+    → r ≡ by_output verdict w → IfErr r (Cause F refused)
+output_cause F refused verdict (Ok a) r is = subst (λ (k : Result Verdict CommandError). IfErr k (Cause F refused)) (sym is) tt
+output_cause F refused verdict (Err f) r is = subst (λ (k : Result Verdict CommandError). IfErr k (Cause F refused)) (sym is) tt
+
+pub argument_cause : (F : List ℕ → Type 0) (refused : Bool) (P : List ℕ → ArgumentError → Type 0) (e : CommandError) → IsBadArgument P e → Cause F refused e
+argument_cause F refused P (error.Argument text e) h = tt
+argument_cause F refused P (error.Line name number e) h = tt
+argument_cause F refused P (error.Input name) h = absurd h
+argument_cause F refused P error.NoMemory h = absurd h
+argument_cause F refused P error.Output h = tt
+
+pub single_cause : (F : List ℕ → Type 0) (refused : Bool) (contents : List ℕ → Option Text) (request : SingleRequest) (s t : State) (r : Result Verdict CommandError)
+    → AnswersRequest contents (ASingle request) s t r → IfErr r (Cause F refused)
+single_cause F refused contents request s t (Ok verdict) h = tt
+single_cause F refused contents request s t (Err e) (inl (same, bad)) = argument_cause F refused _ e bad
+single_cause F refused contents request s t (Err e) (inr (answer, verdict, w, is, written, by)) = output_cause F refused verdict w (Err e) by
+
+-- ---- lines that are picked
+ended_cause : (F : List ℕ → Type 0) (refused : Bool) (e : CommandError) (w : Result (Unit {0}) OutputFailed) (r : Result Verdict CommandError)
+    → r ≡ Err (ended_by e w) → Cause F refused e → IfErr r (Cause F refused)
+ended_cause F refused e (Ok a) r is h = subst (λ (k : Result Verdict CommandError). IfErr k (Cause F refused)) (sym is) h
+ended_cause F refused e (Err f) r is h = subst (λ (k : Result Verdict CommandError). IfErr k (Cause F refused)) (sym is) tt
+
+pub stop_cause : (F : List ℕ → Type 0) (refused : Bool) (e : CommandError) (s t : State) (block : List ℕ) (r : Result Verdict CommandError) → Stops e s t block r
+    → Cause F refused e → IfErr r (Cause F refused)
+stop_cause F refused error.Output s t block r (same, is) h = subst (λ (k : Result Verdict CommandError). IfErr k (Cause F refused)) (sym is) tt
+stop_cause F refused (error.Argument text e) s t block r (w, wrote, is) h = ended_cause F refused (error.Argument text e) w r is h
+stop_cause F refused (error.Line name number e) s t block r (w, wrote, is) h = ended_cause F refused (error.Line name number e) w r is h
+stop_cause F refused (error.Input name) s t block r (w, wrote, is) h = ended_cause F refused (error.Input name) w r is h
+stop_cause F refused error.NoMemory s t block r (w, wrote, is) h = ended_cause F refused error.NoMemory w r is h
+
+pub behind_cause : (F : List ℕ → Type 0) (refused : Bool) (file : Bor (List ℕ)) (long : Option ℕ) (r : Result Verdict CommandError) → IfErr r (Cause F refused)
+    → IfErr (told_behind file long r) (Cause F refused)
+behind_cause F refused file None r h = h
+behind_cause F refused file (Some n) (Ok verdict) h = tt
+behind_cause F refused file (Some n) (Err e) h = h
+
+pub take_cause : (F : List ℕ → Type 0) (refused : Bool) (P : List ℕ → Result Bool LineError → Type 0) (what : Written) (file : List ℕ) (number : ℕ) (part : List ℕ)
+    (old new : State) (block rest : List ℕ) (e : CommandError) → IsLost P what file number part old new block rest e → Cause F refused e
+take_cause F refused P what file number part old new block rest (error.Argument text e) h = tt
+take_cause F refused P what file number part old new block rest (error.Line name n e) h = tt
+take_cause F refused P what file number part old new block rest (error.Input name) h = absurd h
+take_cause F refused P what file number part old new block rest error.NoMemory h = absurd h
+take_cause F refused P what file number part old new block rest error.Output h = tt

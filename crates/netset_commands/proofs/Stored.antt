@@ -1,0 +1,230 @@
+-- The rows of a table as they are read.
+use Rattle.std.proofs.Common.{◌≡◌, refl, sym, ◌∙◌, ap, ap₂, subst, ℕ, ◌+◌, ◌≤◌, Bool, true, false, List, [], ◌∷◌, ◌++◌, length, take, drop, map, arith, Bor, Option, Some, None, Result, Ok, Err, append-nil, length-append, length-drop, le_refl}
+use Rattle.std.specs.Option.{IfSome}
+use Rattle.std.proofs.lemmas.List.{drop-append-le, take-append-le, drop_at, take_all, map-append, flat_map_more}
+use Rattle.cidr.specs.declared.cidr.combined.IpCidr.{IpCidr}
+use Rattle.cidr.specs.declared.cidr.combined.IpCidr.TheVariants.{V4, V6}
+use Rattle.cidr.specs.declared.family.Family.{Family}
+use Rattle.cidr.specs.declared.family.Family.TheVariants.{Ipv4, Ipv6}
+use Rattle.cidr_table.specs.LastRows.{AreLastRows}
+use Rattle.netset_commands.specs.Causes.{TextFails}
+use Rattle.cidr_lists.specs.Lists.{Text, lines_of, text_by}
+use Rattle.cidr_lists.specs.Fields.{IsBadRow}
+use Rattle.netset_commands.specs.Look.{IsUnreadTable}
+use Rattle.cidr_lists.specs.Tables.{RowSays, row_in, rows_in, said_in, AreCopies, AreSpansWithin, Stores, kept, resolved, stored, value_at}
+use Rattle.netset_commands.specs.Keeping.{AllSaid}
+use Rattle.netset_commands.specs.LookUps.{Adds, IsErrorAt, ReadsFileRows, ReadsRows, ReadsTable, unread}
+use Rattle.netset_commands.specs.Reading.{IsNextLine, IsStopped}
+use Rattle.netset_commands.specs.declared.errors.ReadError.{ReadError}
+use Rattle.netset_commands.specs.declared.errors.ReadError.TheVariants.{Line, Input, NoMemory}
+use Rattle.netset_commands.specs.declared.input.keeping.Said.TheVariants.{Rows as AsRows}
+use Rattle.cidr_lists.specs.declared.lines.HostBits.{HostBits}
+use Rattle.cidr_lists.specs.declared.rows.Rows.{Rows}
+use Rattle.cidr_lists.specs.declared.rows.Span.{Span}
+use Rattle.cidr_lists.specs.declared.table.Table.{Table}
+use Rattle.netset_commands.proofs.Causes.{KnownOf, too_many}
+use Rattle.netset_commands.proofs.ReadBy.{bytes_read, text_same}
+use Rattle.netset_commands.proofs.Passed.{Passed, none_passed, one_passed, all_passed, error_passed}
+
+-- ---- values
+value_kept : (values more : List ℕ) (span : Span) → span.start + span.len ≤ length values → value_at (values ++ more) span ≡ value_at values span
+value_kept values more span within =
+    let front : span.start ≤ length values = omega (arith, within) in
+    let room : span.len ≤ length (drop span.start values) = omega (arith, within, length-drop span.start values) in
+    ap (take span.len) (drop-append-le span.start values more front) ∙ take-append-le span.len (drop span.start values) more room
+
+value_last : (values value : List ℕ) → value_at (values ++ value) (record { start = length values; len = length value }) ≡ value
+value_last values value = ap (take (length value)) (drop_at values value (length values) refl) ∙ take_all (length value) value (le_refl (length value))
+
+rows_kept : (values more : List ℕ) (rows : List (List Bool × Span)) → AreSpansWithin values rows → map (resolved (values ++ more)) rows ≡ map (resolved values) rows
+rows_kept values more [] h = refl
+rows_kept values more (row ∷ rows) h =
+    ap₂ (λ (v : List ℕ) (xs : List (List Bool × List ℕ)). (row.0, v) ∷ xs) (value_kept values more row.1 h.0) (rows_kept values more rows h.1)
+
+within_kept : (values more : List ℕ) (rows : List (List Bool × Span)) → AreSpansWithin values rows → AreSpansWithin (values ++ more) rows
+within_kept values more [] h = tt
+within_kept values more (row ∷ rows) h = (omega (arith, h.0, length-append values more), within_kept values more rows h.1)
+
+within_both : (values : List ℕ) (rows others : List (List Bool × Span)) → AreSpansWithin values rows → AreSpansWithin values others → AreSpansWithin values (rows ++ others)
+within_both values [] others h k = k
+within_both values (row ∷ rows) others h k = (h.0, within_both values rows others h.1 k)
+
+-- ---- one more row
+resolved_row : (family : Family) (network : IpCidr) (span : Span) (values : List ℕ)
+    → map (resolved values) (row_in family (network, span)) ≡ row_in family (network, value_at values span)
+resolved_row Ipv4 (V4 p) span values = refl
+resolved_row Ipv4 (V6 p) span values = refl
+resolved_row Ipv6 (V4 p) span values = refl
+resolved_row Ipv6 (V6 p) span values = refl
+
+row_within : (family : Family) (network : IpCidr) (span : Span) (values : List ℕ) → span.start + span.len ≤ length values
+    → AreSpansWithin values (row_in family (network, span))
+row_within Ipv4 (V4 p) span values h = (h, tt)
+row_within Ipv4 (V6 p) span values h = tt
+row_within Ipv6 (V4 p) span values h = tt
+row_within Ipv6 (V6 p) span values h = (h, tt)
+
+abbrev span_of : List ℕ → List ℕ → Span
+span_of values value = record { start = length values; len = length value }
+
+row_stored : (values value : List ℕ) (rows : List (List Bool × Span)) (family : Family) (network : IpCidr) → AreSpansWithin values rows
+    → map (resolved (values ++ value)) (rows ++ row_in family (network, span_of values value)) ≡ map (resolved values) rows ++ row_in family (network, value)
+row_stored values value rows family network h =
+    map-append (resolved (values ++ value)) rows (row_in family (network, span_of values value))
+    ∙ ap₂ (λ (a b : List (List Bool × List ℕ)). a ++ b) (rows_kept values value rows h)
+    (resolved_row family network (span_of values value) (values ++ value) ∙ ap (λ (v : List ℕ). row_in family (network, v)) (value_last values value))
+
+row_stored_within : (values value : List ℕ) (rows : List (List Bool × Span)) (family : Family) (network : IpCidr) → AreSpansWithin values rows
+    → AreSpansWithin (values ++ value) (rows ++ row_in family (network, span_of values value))
+row_stored_within values value rows family network h =
+    within_both (values ++ value) rows (row_in family (network, span_of values value)) (within_kept values value rows h)
+    (row_within family network (span_of values value) (values ++ value) (omega (arith, length-append values value)))
+
+-- ---- the rows that lines say
+pub none_stored : (rows : Rows) → rows.v4.items ≡ [] → rows.v6.items ≡ [] → Stores rows []
+none_stored rows four six =
+    let none : (family : Family) → stored rows family ≡ [] = elim [ Ipv4 ↦ four | Ipv6 ↦ six ] in
+    record {
+      same = λ family. ap (map (resolved rows.values.items)) (none family);
+      within = λ family. subst (AreSpansWithin rows.values.items) (sym (none family)) tt;
+    }
+
+pub stored_more : (old new : Rows) (said : List (Option (IpCidr × List ℕ))) (one : Option (IpCidr × List ℕ)) → Stores old said → Adds old new one
+    → Stores new (said ++ one ∷ [])
+stored_more old new said None s same = subst (λ (k : Rows). Stores k (said ++ None ∷ [])) (sym same) (record {
+  same = λ family. s.same family ∙ (sym (append-nil (rows_in family said)) ∙ flat_map_more (said_in family) [] said None);
+  within = s.within;
+})
+stored_more old new said (Some (network, value)) s p = record {
+  same = λ family.
+      ap₂ (λ (vs : List ℕ) (rs : List (List Bool × Span)). map (resolved vs) rs) p.values (p.rows family)
+      ∙ (row_stored old.values.items value (stored old family) family network (s.within family)
+      ∙ (ap (λ (k : List (List Bool × List ℕ)). k ++ row_in family (network, value)) (s.same family)
+      ∙ flat_map_more (said_in family) [] said (Some (network, value))));
+  within = λ family.
+      subst (λ (vs : List ℕ). AreSpansWithin vs (stored new family)) (sym p.values)
+      (subst (AreSpansWithin (old.values.items ++ value)) (sym (p.rows family)) (row_stored_within old.values.items value (stored old family) family network (s.within family)));
+}
+
+-- ---- one line after the other
+module _ (bits : HostBits) where
+  abbrev pub Reads : List ℕ → Option (List ℕ) → Rows → ℕ → Type 0
+  Reads text left rows number = (said : List (Option (IpCidr × List ℕ))) × Passed (RowSays bits) text left said number × Stores rows said
+
+  pub rows_started : (contents : Option (List ℕ)) (rows : Rows) → Stores rows [] → IfSome contents (λ text. Reads text contents rows 1)
+  rows_started None rows h = tt
+  rows_started (Some text) rows h = ([], none_passed (RowSays bits) text, h)
+
+  pub rows_stepped : (contents left next : Option (List ℕ)) (old new : Rows) (number : ℕ) (line : List ℕ) (more : Bool) (one : Option (IpCidr × List ℕ)) → more ≡ true
+      → IfSome contents (λ text. Reads text left old number) → IfSome left (λ text. IsNextLine text line more next) → RowSays bits line one → Adds old new one
+      → IfSome contents (λ text. Reads text next new (number + 1))
+  rows_stepped None left next old new number line more one is h n says adds = tt
+  rows_stepped (Some text) left next old new number line more one is (said, p, s) n says adds =
+      (said ++ one ∷ [], one_passed (RowSays bits) text left next said number line more one is p n says, stored_more old new said one s adds)
+
+  pub rows_finished : (contents left next : Option (List ℕ)) (old new : Rows) (number : ℕ) (line : List ℕ) (more : Bool) (one : Option (IpCidr × List ℕ)) → more ≡ false
+      → IfSome contents (λ text. Reads text left old number) → IfSome left (λ text. IsNextLine text line more next) → RowSays bits line one → Adds old new one
+      → IfSome contents (λ text. ReadsRows (text_by bits text) (Ok new))
+  rows_finished None left next old new number line more one is h n says adds = tt
+  rows_finished (Some text) left next old new number line more one is (said, p, s) n says adds =
+      (said ++ one ∷ [], all_passed (RowSays bits) text left next said number line more one is p n says, stored_more old new said one s adds)
+
+  abbrev failing : ReadError → Result Rows ReadError
+  failing e = Err e
+
+  rows_in_error : (contents left next : Option (List ℕ)) (old : Rows) (number : ℕ) (line : List ℕ) (more : Bool) (e : ReadError)
+      → IfSome contents (λ text. Reads text left old number) → IfSome left (λ text. IsNextLine text line more next) → IsErrorAt (IsBadRow bits) line number e
+      → IfSome contents (λ text. ReadsRows (text_by bits text) (Err e))
+  rows_in_error None left next old number line more e h n bad = tt
+  rows_in_error (Some text) left next old number line more Input h n bad = tt
+  rows_in_error (Some text) left next old number line more NoMemory h n bad = tt
+  rows_in_error (Some text) left next old number line more (Line m e) (said, p, s) n bad =
+      (said, error_passed (RowSays bits) (IsBadRow bits) text left next said number line more m e p n bad.0 bad.1)
+
+  pub rows_failed : (contents left next : Option (List ℕ)) (old : Rows) (number : ℕ) (line : List ℕ) (more : Bool) (r : Result Rows ReadError) (y e : ReadError)
+      → r ≡ Err y → y ≡ e → IfSome contents (λ text. Reads text left old number) → IfSome left (λ text. IsNextLine text line more next)
+      → IsErrorAt (IsBadRow bits) line number e → IfSome contents (λ text. ReadsRows (text_by bits text) r)
+  rows_failed contents left next old number line more r y e is same h n bad =
+      subst (λ (k : Result Rows ReadError). IfSome contents (λ text. ReadsRows (text_by bits text) k)) (sym (is ∙ ap failing same))
+      (rows_in_error contents left next old number line more e h n bad)
+
+  no_more_rows : (contents : Option (List ℕ)) (e : ReadError) → IsStopped e → IfSome contents (λ text. ReadsRows (text_by bits text) (Err e))
+  no_more_rows None e h = tt
+  no_more_rows (Some text) (Line number e) h = absurd h
+  no_more_rows (Some text) Input h = tt
+  no_more_rows (Some text) NoMemory h = tt
+
+  pub rows_stopped : (contents : Option (List ℕ)) (r : Result Rows ReadError) (y e : ReadError) → r ≡ Err y → y ≡ e → IsStopped e
+      → IfSome contents (λ text. ReadsRows (text_by bits text) r)
+  rows_stopped contents r y e is same h =
+      subst (λ (k : Result Rows ReadError). IfSome contents (λ text. ReadsRows (text_by bits text) k)) (sym (is ∙ ap failing same)) (no_more_rows contents e h)
+
+  -- what is left is told too
+  pub rows_known : (contents left : Option (List ℕ)) (rows : Rows) (number : ℕ) → IfSome contents (λ text. Reads text left rows number) → KnownOf contents left
+  rows_known None left rows number p = tt
+  rows_known (Some text) left rows number (said, p, s) = (p.rest, p.known, p.size)
+
+  -- there are more lines than numbers
+  pub rows_used : (contents left : Option (List ℕ)) (rows : Rows) (number : ℕ) → IfSome contents (λ text. Reads text left rows number)
+      → 18446744073709551615 ≤ number → TextFails contents
+  rows_used None left rows number p most = tt
+  rows_used (Some text) left rows number (said, p, s) most = too_many text p.before (lines_of p.rest) number p.lines p.place most
+
+-- ---- the table of the rows
+-- what is read of a reader whose bytes are told
+told_rows : (bits : HostBits) (left : Option (List ℕ)) (text : Text) (r : Result Rows ReadError) → left ≡ Some text.bytes → text.host_bits ≡ bits
+    → IfSome left (λ bytes. ReadsRows (text_by bits bytes) r) → ReadsRows text r
+told_rows bits left text r is by h = rw (text_same bits text by) at (bytes_read (λ bytes. ReadsRows (text_by bits bytes) r) left text.bytes is h)
+
+pub rows_read : (contents : Option Text) (left : Option (List ℕ)) (bits : HostBits) (name : List ℕ) (rows : Rows)
+    → ((text : Text) → contents ≡ Some text → left ≡ Some text.bytes) → ((text : Text) → contents ≡ Some text → text.host_bits ≡ bits)
+    → IfSome left (λ bytes. ReadsRows (text_by bits bytes) (Ok rows)) → ReadsFileRows contents name (Ok rows)
+rows_read contents left bits name rows opens by reads text is = told_rows bits left text (Ok rows) (opens text is) (by text is) reads
+
+-- the rows of a file, as they were kept
+same_rows : (rows others : Rows) → AreCopies rows others → (family : Family) → stored others family ≡ stored rows family
+same_rows rows others same Ipv4 = same.v4
+same_rows rows others same Ipv6 = same.v6
+
+stored_same : (rows others : Rows) (said : List (Option (IpCidr × List ℕ))) → AreCopies rows others → Stores rows said → Stores others said
+stored_same rows others said same s = record {
+  same = λ family.
+      ap₂ (λ (vs : List ℕ) (rs : List (List Bool × Span)). map (resolved vs) rs) same.values (same_rows rows others same family) ∙ s.same family;
+  within = λ family.
+      subst (λ (vs : List ℕ). AreSpansWithin vs (stored others family)) (sym same.values)
+      (subst (AreSpansWithin rows.values.items) (sym (same_rows rows others same family)) (s.within family));
+}
+
+pub rows_copied : (contents : Option Text) (name : List ℕ) (kept rows : Rows)
+    → ((text : Text) → contents ≡ Some text → AllSaid text.host_bits (lines_of text.bytes) (AsRows kept)) → AreCopies kept rows
+    → ReadsFileRows contents name (Ok rows)
+rows_copied contents name kept rows is same text at =
+    let (said, says, stores) = is text at in
+    (said, says, stored_same kept rows said same stores)
+
+pub table_read : (contents : Option Text) (name : List ℕ) (rows : Rows) (table : Table) → ReadsFileRows contents name (Ok rows)
+    → ((family : Family) → AreLastRows (map (resolved rows.values.items) (stored rows family)) (kept table family)) → ReadsTable contents name (Ok table)
+table_read contents name rows table reads last = λ text is.
+    let (said, says, s) = reads text is in
+    (said, says, λ family. subst (λ (k : List (List Bool × List ℕ)). AreLastRows k (kept table family)) (s.same family) (last family))
+
+pub table_unread : (contents : Option Text) (left : Option (List ℕ)) (bits : HostBits) (file : Bor (List ℕ)) (e : ReadError)
+    → ((text : Text) → contents ≡ Some text → left ≡ Some text.bytes) → ((text : Text) → contents ≡ Some text → text.host_bits ≡ bits)
+    → IfSome left (λ bytes. ReadsRows (text_by bits bytes) (Err e)) → IsUnreadTable contents file.now (unread file e)
+table_unread contents left bits file (Line number e) opens by reads = (
+  refl,
+  λ text is.
+      let (said, first) = told_rows bits left text (Err (Line number e)) (opens text is) (by text is) reads in
+      record {
+        before = first.before;
+        line = first.line;
+        after = first.after;
+        lines = first.lines;
+        place = first.place;
+        said = said;
+        fine = first.fine;
+        fault = first.fault;
+      },
+)
+table_unread contents left bits file Input opens by reads = refl
+table_unread contents left bits file NoMemory opens by reads = tt

@@ -1,0 +1,300 @@
+-- Lines in error that are told, one after another.
+use Rattle.std.proofs.Common.{◌≡◌, ◌≢◌, refl, sym, ◌∙◌, ap, subst, arith, inl, inr, ℕ, ◌+◌, Bor, Bool, true, false, List, [], ◌∷◌, ◌++◌, length, Option, Some, None, Result, Ok, Err, append_assoc, ◌||◌}
+use Rattle.std.specs.Option.{IfSome}
+use Rattle.std.specs.List.{flat_map}
+use Rattle.std.proofs.lemmas.Bool.{true≢false}
+use Rattle.std.proofs.lemmas.List.{append-nil, flat_map_more}
+use Rattle.cidr_io.specs.Collecting.{HasSaid}
+use Rattle.cidr_io.specs.Shown.{shown}
+use Rattle.cidr_io.specs.Writing.{State, Part, Tells}
+use Rattle.cidr_io.proofs.Collected.{nothing_said}
+use Rattle.cidr_io.proofs.Chains.{part_more, part_none, whole_none, whole_part, whole_whole}
+use Rattle.cidr_lists.specs.Entries.{AreEntries}
+use Rattle.netset_commands.specs.Keeping.{AddsBy, AllSaid, IsAny, IsKept, IsLoadError, IsNone, KeepsLine, KeepsListLines, KeepsList, SaysMore, kind_in}
+use Rattle.cidr_lists.specs.Faults.{AreErrors, AreTellings, IsFaulty, IsPartTold, IsSound}
+use Rattle.cidr_lists.specs.Messages.{fault_line}
+use Rattle.cidr_lists.specs.Lists.{LineSays, Text, lines_of, line_networks, text_by}
+use Rattle.cidr_lists.specs.Tables.{RowSays}
+use Rattle.netset_commands.specs.LookUps.{unread}
+use Rattle.netset_commands.specs.Reading.{IsNextLine, IsStopped}
+use Rattle.netset_commands.proofs.EntriesRead.{line_behind}
+use Rattle.netset_commands.proofs.LinesRead.{LinesRead, last_read, line_read, none_read}
+use Rattle.netset_commands.proofs.ReadBy.{bytes_read, text_same}
+use Rattle.netset_commands.proofs.Stored.{stored_more}
+use Rattle.netset_commands.proofs.Zips.{zip_behind}
+use Rattle.netset_commands.specs.declared.errors.CommandError.{CommandError}
+use Rattle.cidr_lists.specs.declared.errors.LineError.{LineError}
+use Rattle.netset_commands.specs.declared.errors.ReadError.{ReadError}
+use Rattle.netset_commands.specs.declared.errors.ReadError.TheVariants.{Line, Input, NoMemory}
+use Rattle.cidr_lists.specs.declared.lines.Kind.{Kind}
+use Rattle.netset_commands.specs.declared.input.keeping.Said.{Said}
+use Rattle.netset_commands.specs.declared.input.keeping.Said.TheVariants.{Networks, Hosts, Rows}
+use Rattle.cidr_lists.specs.declared.lines.HostBits.{HostBits}
+
+-- ---- lines that are written one after another, as far as the sink takes them
+nothing_by : (s : State) (b : Bool) → s.failed ≡ b → Tells s s []
+nothing_by s true e = (Err (record {}), (part_none s [] e, λ _. refl))
+nothing_by s false e = (Ok tt, (whole_none s, e))
+
+pub tells_nothing : (s : State) → Tells s s []
+tells_nothing s = nothing_by s s.failed refl
+
+pub tells_more : (s t u : State) (xs ys : List ℕ) → Tells s t xs → Tells t u ys → Tells s u (xs ++ ys)
+tells_more s t u xs ys (Ok a, (whole, fine)) (Ok b, (more, good)) = (Ok tt, (whole_whole s t u xs ys whole more, good))
+tells_more s t u xs ys (Ok a, (whole, fine)) (Err f, (part, kept)) =
+    (Err f, (whole_part s t u xs ys whole part, λ failed. absurd (true≢false (sym failed ∙ (sym whole.fine ∙ fine)))))
+tells_more s t u xs ys (Err f, (part, kept)) (Ok b, (more, good)) = absurd (true≢false (sym part.failed ∙ (sym more.fine ∙ good)))
+tells_more s t u xs ys (Err f, (part, kept)) (Err g, (more, still)) =
+    let same : u ≡ t = still part.failed in
+    (Err f, (subst (λ (k : State). Part s k (xs ++ ys)) (sym same) (part_more s t xs ys part), λ failed. same ∙ kept failed))
+
+-- ---- the errors of lines
+sound_behind : (kind : Kind) (bits : HostBits) (first : ℕ) (lines : List (List ℕ)) (line : List ℕ) (errors : List (ℕ × LineError))
+    → AreErrors kind bits first lines errors → IsSound kind bits line → AreErrors kind bits first (lines ++ line ∷ []) errors
+sound_behind kind bits first [] line errors are sound = inl (sound, are)
+sound_behind kind bits first (other ∷ lines) line errors (inl (here, are)) sound =
+    inl (here, sound_behind kind bits (first + 1) lines line errors are sound)
+sound_behind kind bits first (other ∷ lines) line errors (inr (e, rest, bad, are, is)) sound =
+    inr (e, rest, bad, sound_behind kind bits (first + 1) lines line rest are sound, is)
+
+faulty_behind : (kind : Kind) (bits : HostBits) (first n : ℕ) (lines : List (List ℕ)) (line : List ℕ) (errors : List (ℕ × LineError)) (e : LineError)
+    → n ≡ first + length lines → AreErrors kind bits first lines errors → IsFaulty kind bits line e
+    → AreErrors kind bits first (lines ++ line ∷ []) (errors ++ (n, e) ∷ [])
+faulty_behind kind bits first n [] line errors e at are bad =
+    let here : n ≡ first = omega (arith, at) in
+    inr (e, [], bad, refl, ap (λ (k : List (ℕ × LineError)). k ++ (n, e) ∷ []) are ∙ ap (λ (k : ℕ). (k, e) ∷ []) here)
+faulty_behind kind bits first n (other ∷ lines) line errors e at (inl (here, are)) bad =
+    inl (here, faulty_behind kind bits (first + 1) n lines line errors e (omega (arith, at)) are bad)
+faulty_behind kind bits first n (other ∷ lines) line errors e at (inr (d, rest, was, are, is)) bad = inr (
+  d,
+  rest ++ (n, e) ∷ [],
+  was,
+  faulty_behind kind bits (first + 1) n lines line rest e (omega (arith, at)) are bad,
+  ap (λ (k : List (ℕ × LineError)). k ++ (n, e) ∷ []) is,
+)
+
+-- ---- what a line says
+module _ (bits : HostBits) (line : List ℕ) (number : ℕ) where
+  pub same_kind : (was now : Said) (r : Result (Unit {0}) ReadError) → AddsBy bits line number was now r → kind_in now ≡ kind_in was
+  same_kind (Networks old) (Networks new) r h = refl
+  same_kind (Hosts old) (Hosts new) r h = refl
+  same_kind (Rows old) (Rows new) r h = refl
+  same_kind (Networks old) (Hosts new) r h = absurd h
+  same_kind (Networks old) (Rows new) r h = absurd h
+  same_kind (Hosts old) (Networks new) r h = absurd h
+  same_kind (Hosts old) (Rows new) r h = absurd h
+  same_kind (Rows old) (Networks new) r h = absurd h
+  same_kind (Rows old) (Hosts new) r h = absurd h
+
+  line_sound : (was now : Said) → AddsBy bits line number was now (Ok tt) → IsSound (kind_in was) bits line
+  line_sound (Networks old) (Networks new) (said, (short, field, content, is_field, is_content, are), grows) = (short, field, content, is_field, is_content)
+  line_sound (Hosts old) (Hosts new) (one, has, is) = ([], number, one, has)
+  line_sound (Rows old) (Rows new) (said, says, adds) = (said, says)
+  line_sound (Networks old) (Hosts new) h = absurd h
+  line_sound (Networks old) (Rows new) h = absurd h
+  line_sound (Hosts old) (Networks new) h = absurd h
+  line_sound (Hosts old) (Rows new) h = absurd h
+  line_sound (Rows old) (Networks new) h = absurd h
+  line_sound (Rows old) (Hosts new) h = absurd h
+
+  pub line_faulty : (was now : Said) (n : ℕ) (e : LineError) → AddsBy bits line number was now (Err (Line n e)) → IsFaulty (kind_in was) bits line e
+  line_faulty (Networks old) (Networks new) n e h = h.1
+  line_faulty (Hosts old) (Hosts new) n e h = h.1
+  line_faulty (Rows old) (Rows new) n e h = h.1
+  line_faulty (Networks old) (Hosts new) n e h = absurd h
+  line_faulty (Networks old) (Rows new) n e h = absurd h
+  line_faulty (Hosts old) (Networks new) n e h = absurd h
+  line_faulty (Hosts old) (Rows new) n e h = absurd h
+  line_faulty (Rows old) (Networks new) n e h = absurd h
+  line_faulty (Rows old) (Hosts new) n e h = absurd h
+
+  said_behind : (was now : Said) → AddsBy bits line number was now (Ok tt) → (before : List (List ℕ)) → number ≡ length before + 1 → AllSaid bits before was
+      → AllSaid bits (before ++ line ∷ []) now
+  said_behind (Networks old) (Networks new) (one, says, grows) before at (said, zip, same) = (
+    said ++ one ∷ [],
+    zip_behind (LineSays bits) before said line one zip says,
+    λ family. grows family ∙ (ap (λ (k : List (List Bool)). k ++ line_networks family one) (same family) ∙ flat_map_more (line_networks family) [] said one),
+  )
+  said_behind (Hosts old) (Hosts new) (one, has, is) before at are =
+      subst (AreEntries [] 1 (before ++ line ∷ [])) (sym is) (line_behind [] 1 number before line old.items one (omega (arith, at)) are has)
+  said_behind (Rows old) (Rows new) (one, says, adds) before at (said, zip, stores) =
+      (said ++ one ∷ [], zip_behind (RowSays bits) before said line one zip says, stored_more old new said one stores adds)
+  said_behind (Networks old) (Hosts new) h before at are = absurd h
+  said_behind (Networks old) (Rows new) h before at are = absurd h
+  said_behind (Hosts old) (Networks new) h before at are = absurd h
+  said_behind (Hosts old) (Rows new) h before at are = absurd h
+  said_behind (Rows old) (Networks new) h before at are = absurd h
+  said_behind (Rows old) (Hosts new) h before at are = absurd h
+
+-- ---- whether there is an error
+pub none_of : (a b : Bool) → (a || b) ≡ false → (a ≡ false) × (b ≡ false)
+none_of false false h = (refl, refl)
+none_of false true h = cc
+none_of true b h = cc
+
+any_same : (found : Bool) (xs : List ℕ) → IsAny found xs → IsAny (found || false) xs
+any_same true xs h = h
+any_same false xs h = h
+
+any_true : (found : Bool) (xs : List ℕ) → xs ≢ [] → IsAny (found || true) xs
+any_true true xs h = h
+any_true false xs h = h
+
+some_text : (xs file ys : List ℕ) (b : ℕ) → xs ++ (file ++ b ∷ ys) ≢ []
+some_text [] [] ys b is = cc
+some_text [] (c ∷ file) ys b is = cc
+some_text (x ∷ xs) file ys b is = cc
+
+-- ---- one line after another
+same_says : (old t u : State) (block now rest lines : List ℕ) → u ≡ t → rest ≡ now → SaysMore old block t now lines → SaysMore old block u rest lines
+same_says old t u block now rest lines same kept says start text h =
+    subst (λ (k : State). HasSaid start k rest (text ++ lines)) (sym same)
+    (subst (λ (k : List ℕ). HasSaid start t k (text ++ lines)) (sym kept) (says start text h))
+
+module _ (kind : Kind) (bits : HostBits) (file : List ℕ) (s : State) (b : List ℕ) where
+  -- how far the lines of a list were told and kept
+  abbrev pub IsKeeping : Option (List ℕ) → Option (List ℕ) → State → List ℕ → Bool → Said → ℕ → Type 0
+  IsKeeping contents left t block found said number = (lines : List ℕ) × SaysMore s b t block lines × IsAny found lines × (kind_in said ≡ kind)
+      × IfSome contents (λ text. LinesRead (IsKept kind bits file) text left (lines, found, said) number)
+
+  pub keeping_started : (contents : Option (List ℕ)) (said : Said) → IsNone kind said → IsKeeping contents contents s b false said 1
+  keeping_started contents said none = (
+    [],
+    λ start text h. subst (HasSaid start s b) (sym (append-nil text)) h,
+    refl,
+    none.0,
+    none_read (IsKept kind bits file) contents ([], false, said) ([], refl, refl, λ _. none.1 bits),
+  )
+
+  -- what a further line adds
+  abbrev Adds : List ℕ → ℕ → State → List ℕ → Bool → Said → List ℕ × Bool × Said → Type 0
+  Adds line number u rest found now kept = (more : List ℕ) × SaysMore s b u rest more × IsAny found more × (kind_in now ≡ kind)
+      × ((before : List (List ℕ)) → number ≡ length before + 1 → IsKept kind bits file before kept → IsKept kind bits file (before ++ line ∷ []) (more, found, now))
+
+  line_kept : (was now : Said) (t u : State) (block rest : List ℕ) (found bad : Bool) (number : ℕ) (line lines : List ℕ) → SaysMore s b t block lines
+      → IsAny found lines → kind_in was ≡ kind → KeepsLine bits file number line was now t block u rest (Ok bad)
+      → Adds line number u rest (found || bad) now (lines, found, was)
+  line_kept was now t u block rest found false number line lines says any is (adds, same, kept) = (
+    lines,
+    same_says s t u b block rest lines same kept says,
+    any_same found lines any,
+    same_kind bits line number was now (Ok tt) adds ∙ is,
+    λ before at (errors, are, contents, fine). (
+      errors,
+      sound_behind kind bits 1 before line errors are (subst (λ (k : Kind). IsSound k bits line) is (line_sound bits line number was now adds)),
+      contents,
+      λ none. said_behind bits line number was now adds before at (fine (none_of found false none).0),
+    ),
+  )
+  line_kept was now t u block rest found true number line lines says any is (e, same, bad, more) =
+      let fault : ℕ × LineError = (number, e) in (
+        lines ++ fault_line file fault,
+        λ start text h. subst (HasSaid start u rest) (append_assoc text lines (fault_line file fault)) (more start (text ++ lines) (says start text h)),
+        any_true found (lines ++ fault_line file fault) (some_text lines (shown file) _ 58),
+        same ∙ is,
+        λ before at (errors, are, contents, fine). (
+          errors ++ fault ∷ [],
+          faulty_behind kind bits 1 number before line errors e (omega (arith, at)) are (subst (λ (k : Kind). IsFaulty k bits line e) is bad),
+          ap (λ (k : List ℕ). k ++ fault_line file fault) contents ∙ flat_map_more (fault_line file) [] errors fault,
+          λ none. absurd (true≢false (none_of found true none).1),
+        ),
+      )
+
+  module _ (contents left next : Option (List ℕ)) (t u : State) (block rest : List ℕ) (found bad : Bool) (was now : Said) (number : ℕ) (line given : List ℕ) (more : Bool)
+      (h : IsKeeping contents left t block found was number) (n : IfSome left (λ text. IsNextLine text line more next)) (same : given ≡ line)
+      (keeps : KeepsLine bits file number given was now t block u rest (Ok bad)) where
+    added : Adds line number u rest (found || bad) now (h.0, found, was)
+    added =
+        line_kept was now t u block rest found bad number line h.0 h.1 h.2 h.3
+        (subst (λ (k : List ℕ). KeepsLine bits file number k was now t block u rest (Ok bad)) same keeps)
+
+    pub keeping_more : more ≡ true → IsKeeping contents next u rest (found || bad) now (number + 1)
+    keeping_more is = (
+      added.0,
+      added.1,
+      added.2,
+      added.3,
+      line_read (IsKept kind bits file) contents left next (h.0, found, was) (added.0, found || bad, now) number line more is h.4 n added.4,
+    )
+
+    pub keeping_done : more ≡ false → KeepsListLines kind bits file contents s b u rest (Ok (now, found || bad))
+    keeping_done is = (
+      added.0,
+      added.1,
+      added.2,
+      last_read (IsKept kind bits file) contents left next (h.0, found, was) (added.0, found || bad, now) number line more is h.4 n added.4,
+    )
+
+  part_told : (contents left : Option (List ℕ)) (lines : List ℕ) (found : Bool) (said : Said) (number : ℕ)
+      → IfSome contents (λ text. LinesRead (IsKept kind bits file) text left (lines, found, said) number)
+      → IfSome contents (λ text. IsPartTold kind file (text_by bits text) lines)
+  part_told None left lines found said number p = tt
+  part_told (Some text) left lines found said number p =
+      let (errors, are, is, fine) = p.done in
+      (p.before, lines_of p.rest, p.lines, errors, are, is)
+
+  pub keeping_stopped : (contents left : Option (List ℕ)) (t u : State) (block rest : List ℕ) (found : Bool) (said : Said) (number : ℕ) (e : ReadError)
+      → IsKeeping contents left t block found said number → IsStopped e → u ≡ t → rest ≡ block → KeepsListLines kind bits file contents s b u rest (Err e)
+  keeping_stopped contents left t u block rest found said number e (lines, says, any, is, p) stopped same kept =
+      (lines, same_says s t u b block rest lines same kept says, stopped, part_told contents left lines found said number p)
+
+-- ---- the list of a file
+pub nothing_kept : (contents : Option Text) (kind : Kind) (file : List ℕ) (s : State) (e : CommandError) → IsLoadError (file ∷ []) e
+    → KeepsList contents kind file s s (Err e)
+nothing_kept contents kind file s e why = ([], tells_nothing s, why, λ text is. ([], lines_of text.bytes, refl, [], refl, refl))
+
+abbrev pub EndsSaying : State → List ℕ → State → Type 0
+EndsSaying old block new = (start : State) (text : List ℕ) → HasSaid start old block text → Tells start new text
+
+all_told : (s t u : State) (block rest lines : List ℕ) → block ≡ [] → SaysMore s block t rest lines → EndsSaying t rest u → Tells s u lines
+all_told s t u block rest lines none says ends = ends s lines (says s [] (nothing_said s block none))
+
+module _ (contents : Option Text) (left : Option (List ℕ)) (kind : Kind) (bits : HostBits) (s t u : State) (block rest : List ℕ)
+    (opens : (text : Text) → contents ≡ Some text → left ≡ Some text.bytes) (by : (text : Text) → contents ≡ Some text → text.host_bits ≡ bits)
+    (none : block ≡ []) (ends : EndsSaying t rest u) where
+  pub list_kept : (file : List ℕ) (kept : Said × Bool) → KeepsListLines kind bits file left s block t rest (Ok kept) → KeepsList contents kind file s u (Ok kept)
+  list_kept file kept (lines, says, any, is) = (
+    lines,
+    all_told s t u block rest lines none says ends,
+    any,
+    λ text at.
+        subst (λ (k : HostBits). IsKept kind k file (lines_of text.bytes) (lines, kept.1, kept.0)) (sym (by text at))
+        (bytes_read (λ bytes. IsKept kind bits file (lines_of bytes) (lines, kept.1, kept.0)) left text.bytes (opens text at) is),
+  )
+
+  load_error : (file : Bor (List ℕ)) (e : ReadError) → IsStopped e → IsLoadError (file.now ∷ []) (unread file e)
+  load_error file (Line number e) h = absurd h
+  load_error file Input h = ([], refl)
+  load_error file NoMemory h = tt
+
+  pub list_cut : (file : Bor (List ℕ)) (e : ReadError) → KeepsListLines kind bits file.now left s block t rest (Err e)
+      → KeepsList contents kind file.now s u (Err (unread file e))
+  list_cut file e (lines, says, stopped, is) = (
+    lines,
+    all_told s t u block rest lines none says ends,
+    load_error file e stopped,
+    λ text at.
+        subst (λ (k : Text). IsPartTold kind file.now k lines) (text_same bits text (by text at))
+        (bytes_read (λ bytes. IsPartTold kind file.now (text_by bits bytes) lines) left text.bytes (opens text at) is),
+  )
+
+-- ---- one list after another
+pub tellings_behind : (kind : Kind) (names : List (List ℕ)) (texts : List Text) (name : List ℕ) (text : Text) (lines : List ℕ) (errors : List (ℕ × LineError))
+    → AreTellings kind names texts lines → AreErrors kind text.host_bits 1 (lines_of text.bytes) errors
+    → AreTellings kind (names ++ name ∷ []) (texts ++ text ∷ []) (lines ++ flat_map (fault_line name) errors)
+tellings_behind kind [] [] name text lines errors none are = (
+  errors,
+  [],
+  are,
+  refl,
+  ap (λ (k : List ℕ). k ++ flat_map (fault_line name) errors) none ∙ sym (append-nil (flat_map (fault_line name) errors)),
+)
+tellings_behind kind [] (other ∷ texts) name text lines errors h are = absurd h
+tellings_behind kind (first ∷ names) [] name text lines errors h are = absurd h
+tellings_behind kind (first ∷ names) (other ∷ texts) name text lines errors (these, rest, here, there, is) are = (
+  these,
+  rest ++ flat_map (fault_line name) errors,
+  here,
+  tellings_behind kind names texts name text rest errors there are,
+  ap (λ (k : List ℕ). k ++ flat_map (fault_line name) errors) is ∙ append_assoc (flat_map (fault_line first) these) rest (flat_map (fault_line name) errors),
+)

@@ -1,0 +1,41 @@
+use Rattle.std.proofs.Common.{sym, map, ◌∷◌}
+use Rattle.std.proofs.lemmas.Result.{err_from_is_err_and}
+use Rattle.netset_commands.specs.Causes.{FileMayFail}
+use Rattle.netset_commands.proofs.Causes.{argument_cause, output_cause}
+use Rattle.netset_commands.proofs.Combining.{not_in_written}
+use Rattle.netset_commands.proofs.commands.inside.not_in.Goals as goal
+
+pub returns-clause-answers : goal.returns-clause-answers
+returns-clause-answers g c =
+    not_in_written (g.F.Sources.contents c.args.sources.now) c.args.net.now (map (λ file. file.now) c.args.files.now) c.in_ok-network.network
+    (c.in_ok-several.several.first ∷ c.in_ok-several.several.others.items) c.in_ok-rest.rest c.in_ok-whole.whole c.in_ok-inside.inside
+    (g.O.Sink.state c.args.out.now) (g.O.Sink.state c.write_sets.new.out) c.write_sets.result c.by_output.result c.in_ok-network.ensures c.in_ok-several.ensures.reads
+    (rw (sym c.in_ok-rest.ensures.made) at c.combination-rest.ensures) (rw (sym c.in_ok-whole.ensures.made) at c.of_network-whole.ensures) (rw (sym c.in_ok-inside.ensures.made) at c.stepped-inside.ensures) c.write_sets.ensures c.by_output.ensures
+
+pub returns-in_err-network-clause-cause : goal.returns-in_err-network-clause-cause
+returns-in_err-network-clause-cause g c =
+    let (y, is, same) = err_from_is_err_and c.from_residual.result c.from_residual.ensures.1 in
+    rw (is, same) (argument_cause (FileMayFail (g.F.Sources.contents c.args.sources.now)) _ _ c.in_err-network.field-0.0 c.in_err-network.ensures)
+
+pub returns-in_err-several-clause-cause : goal.returns-in_err-several-clause-cause
+returns-in_err-several-clause-cause g c =
+    let (y, is, same) = err_from_is_err_and c.from_residual-in_err-several.result c.from_residual-in_err-several.ensures.1 in
+    rw (is, same) c.in_err-several.ensures.cause
+
+pub returns-in_err-rest-clause-cause : goal.returns-in_err-rest-clause-cause
+returns-in_err-rest-clause-cause g c =
+    let (y, is, same) = err_from_is_err_and c.from_residual-in_err-rest.result c.from_residual-in_err-rest.ensures.1 in
+    rw (is, same) c.in_err-rest.ensures.refused
+
+pub returns-in_err-whole-clause-cause : goal.returns-in_err-whole-clause-cause
+returns-in_err-whole-clause-cause g c =
+    let (y, is, same) = err_from_is_err_and c.from_residual-in_err-whole.result c.from_residual-in_err-whole.ensures.1 in
+    rw (is, same) c.in_err-whole.ensures.refused
+
+pub returns-in_err-inside-clause-cause : goal.returns-in_err-inside-clause-cause
+returns-in_err-inside-clause-cause g c =
+    let (y, is, same) = err_from_is_err_and c.from_residual-in_err-inside.result c.from_residual-in_err-inside.ensures.1 in
+    rw (is, same) c.in_err-inside.ensures.refused
+
+pub returns-clause-cause : goal.returns-clause-cause
+returns-clause-cause g c = output_cause (FileMayFail (g.F.Sources.contents c.args.sources.now)) _ _ _ c.by_output.result c.by_output.ensures

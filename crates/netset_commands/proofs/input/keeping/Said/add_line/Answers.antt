@@ -1,0 +1,10 @@
+use Rattle.netset_commands.proofs.input.keeping.Said.add_line.Goals as goal
+
+pub returns-in-Networks-clause-adds : goal.returns-in-Networks-clause-adds
+returns-in-Networks-clause-adds g c = rw c.in-Networks.is c.add_line.ensures.adds
+
+pub returns-in-Hosts-clause-adds : goal.returns-in-Hosts-clause-adds
+returns-in-Hosts-clause-adds g c = rw c.in-Hosts.is c.add_line-in-Hosts.ensures.adds
+
+pub returns-in-Rows-clause-adds : goal.returns-in-Rows-clause-adds
+returns-in-Rows-clause-adds g c = rw c.in-Rows.is c.add_line-in-Rows.ensures.adds

@@ -1,0 +1,30 @@
+use Rattle.std.proofs.Common.{sym}
+use Rattle.std.proofs.lemmas.Result.{err_from_is_err_and}
+use Rattle.netset_commands.proofs.Blocks.{first_failed, second_failed, both_written}
+use Rattle.netset_commands.proofs.Spans.{ranges_printed, ranges_unprinted}
+use Rattle.netset_commands.proofs.output.ranges.write_ranges.Goals as goal
+
+pub returns-then-failed : goal.returns-then-failed
+returns-then-failed g c =
+    ranges_unprinted c.args.sets.now c.ranges-v4.result c.ranges-v6.result (g.S.Sink.state c.args.out.now) (record {}) c.ranges-v4.ensures.ranges c.ranges-v6.ensures.ranges
+    (sym c.if-failed.ensures)
+
+pub returns-in_err-write_each : goal.returns-in_err-write_each
+returns-in_err-write_each g c =
+    let (y, is, same) = err_from_is_err_and c.from_residual.result c.from_residual.ensures.1 in
+    ranges_printed c.args.sets.now c.ranges-v4.result c.ranges-v6.result _ _ _ c.ranges-v4.ensures.ranges c.ranges-v6.ensures.ranges
+    (first_failed (g.S.Sink.state c.args.out.now) (g.S.Sink.state c.write_each.new.out) _ _ c.from_residual.result y is (sym c.if-failed.ensures)
+    c.in_err-write_each.ensures)
+
+pub returns-in_err-write_each-2 : goal.returns-in_err-write_each-2
+returns-in_err-write_each-2 g c =
+    let (y, is, same) = err_from_is_err_and c.from_residual-in_err-write_each-2.result c.from_residual-in_err-write_each-2.ensures.1 in
+    ranges_printed c.args.sets.now c.ranges-v4.result c.ranges-v6.result _ _ _ c.ranges-v4.ensures.ranges c.ranges-v6.ensures.ranges
+    (second_failed (g.S.Sink.state c.args.out.now) (g.S.Sink.state c.write_each.new.out) (g.S.Sink.state c.write_each-2.new.out) _ _
+    c.from_residual-in_err-write_each-2.result y is (sym c.if-failed.ensures) c.in_ok-write_each.ensures c.in_err-write_each-2.ensures)
+
+pub returns : goal.returns
+returns g c =
+    ranges_printed c.args.sets.now c.ranges-v4.result c.ranges-v6.result _ _ _ c.ranges-v4.ensures.ranges c.ranges-v6.ensures.ranges
+    (both_written (g.S.Sink.state c.args.out.now) (g.S.Sink.state c.write_each.new.out) (g.S.Sink.state c.write_each-2.new.out) (g.S.Sink.state c.flush.new.out)
+    _ _ c.flush.result (sym c.if-failed.ensures) c.in_ok-write_each.ensures c.in_ok-write_each-2.ensures c.flush.ensures)

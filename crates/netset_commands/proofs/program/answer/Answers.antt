@@ -1,0 +1,72 @@
+use Rattle.std.proofs.Common.{inr, refl}
+use Rattle.netset_commands.specs.Causes.{FileMayFail}
+use Rattle.netset_commands.specs.Command.{single_request}
+use Rattle.netset_commands.specs.Commands.{version_text}
+use Rattle.netset_commands.specs.Table.{help_text}
+use Rattle.netset_commands.specs.declared.output.answers.Verdict.TheVariants.{Yes}
+use Rattle.netset_commands.proofs.Causes.{output_cause, single_cause}
+use Rattle.netset_commands.proofs.program.answer.Goals as goal
+
+pub returns-in-Lists-clause-answers : goal.returns-in-Lists-clause-answers
+returns-in-Lists-clause-answers g c = rw c.in-Lists.is c.lists.ensures.answers
+
+pub returns-in-NotIn-clause-answers : goal.returns-in-NotIn-clause-answers
+returns-in-NotIn-clause-answers g c = rw c.in-NotIn.is c.not_in.ensures.answers
+
+pub returns-in-Diff-clause-answers : goal.returns-in-Diff-clause-answers
+returns-in-Diff-clause-answers g c = rw c.in-Diff.is c.diff.ensures.answers
+
+pub returns-in-Free-clause-answers : goal.returns-in-Free-clause-answers
+returns-in-Free-clause-answers g c = rw c.in-Free.is c.free.ensures.answers
+
+pub returns-in-Check-clause-answers : goal.returns-in-Check-clause-answers
+returns-in-Check-clause-answers g c = rw c.in-Check.is c.check.ensures.answers
+
+pub returns-in-Match-clause-answers : goal.returns-in-Match-clause-answers
+returns-in-Match-clause-answers g c = rw c.in-Match.is c.matching.ensures.answers
+
+pub returns-in-Look-clause-answers : goal.returns-in-Look-clause-answers
+returns-in-Look-clause-answers g c = rw c.in-Look.is c.look.ensures.answers
+
+pub returns-in-Single-clause-answers : goal.returns-in-Single-clause-answers
+returns-in-Single-clause-answers g c = rw c.in-Single.is (c.answer_single.ensures (g.F.Sources.contents c.args.sources.now))
+
+pub returns-in-Help-clause-answers : goal.returns-in-Help-clause-answers
+returns-in-Help-clause-answers g c =
+    rw c.in-Help.is (inr (help_text c.in-Help.topic, Yes, c.write_help.result, (refl, refl), c.write_help.ensures, c.by_output.ensures))
+
+pub returns-in-Version-clause-answers : goal.returns-in-Version-clause-answers
+returns-in-Version-clause-answers g c =
+    rw c.in-Version.is (inr (version_text, Yes, c.write_text.result, (refl, refl), c.write_text.ensures, c.by_output-in-Version.ensures))
+
+pub returns-in-Lists-clause-cause : goal.returns-in-Lists-clause-cause
+returns-in-Lists-clause-cause g c = c.lists.ensures.cause
+
+pub returns-in-NotIn-clause-cause : goal.returns-in-NotIn-clause-cause
+returns-in-NotIn-clause-cause g c = c.not_in.ensures.cause
+
+pub returns-in-Diff-clause-cause : goal.returns-in-Diff-clause-cause
+returns-in-Diff-clause-cause g c = c.diff.ensures.cause
+
+pub returns-in-Free-clause-cause : goal.returns-in-Free-clause-cause
+returns-in-Free-clause-cause g c = c.free.ensures.cause
+
+pub returns-in-Match-clause-cause : goal.returns-in-Match-clause-cause
+returns-in-Match-clause-cause g c = c.matching.ensures.cause
+
+pub returns-in-Look-clause-cause : goal.returns-in-Look-clause-cause
+returns-in-Look-clause-cause g c = c.look.ensures.cause
+
+pub returns-in-Check-clause-cause : goal.returns-in-Check-clause-cause
+returns-in-Check-clause-cause g c = c.check.ensures.cause
+
+pub returns-in-Single-clause-cause : goal.returns-in-Single-clause-cause
+returns-in-Single-clause-cause g c =
+    single_cause (FileMayFail (g.F.Sources.contents c.args.sources.now)) (g.M.Memory.refused c.args.memory.now) (g.F.Sources.contents c.args.sources.now)
+    (single_request c.in-Single.single) _ _ c.answer_single.result (c.answer_single.ensures (g.F.Sources.contents c.args.sources.now))
+
+pub returns-in-Help-clause-cause : goal.returns-in-Help-clause-cause
+returns-in-Help-clause-cause g c = output_cause (FileMayFail (g.F.Sources.contents c.args.sources.now)) _ _ _ c.by_output.result c.by_output.ensures
+
+pub returns-in-Version-clause-cause : goal.returns-in-Version-clause-cause
+returns-in-Version-clause-cause g c = output_cause (FileMayFail (g.F.Sources.contents c.args.sources.now)) _ _ _ c.by_output-in-Version.result c.by_output-in-Version.ensures

@@ -1,0 +1,186 @@
+-- The words of a command line as options and operands, and the request that they are. Options are those of POSIX.1-2024,
+-- XBD 12.2, guidelines 4 to 6 and 10, and long ones, which begin with --; they may also stand behind operands.
+use Rattle.std.specs.Prelude.{ℕ, ◌==◌, nat_eq, nat_lt, Bool, true, false, if◌then◌else◌, ◌&&◌, ◌||◌, List, [], ◌∷◌, ◌++◌, length, drop, map, codes, Option, Some, None, Result, Ok, Err, slice_get, slice_index, ok_or, unwrap_or, option_and_then}
+use Rattle.std.specs.List.{after_first, before_first, find, list_all, starts_with}
+use Rattle.cidr_io.specs.Shown.{excerpt}
+use Rattle.netset_commands.specs.Commands.{Request, Lists, NotIn, Diff, Free, Check, Match, Look, Single, Help, Version, input_name, reading_of}
+use Rattle.netset_commands.specs.Matching.{has, is_word}
+use Rattle.netset_commands.specs.Single.{Show, Split, Nth}
+use Rattle.netset_commands.specs.Table.{commands, most_of, name_of, needed_of, options_of, takes_value}
+use Rattle.netset_commands.specs.declared.commands.Reading.{Reading}
+use Rattle.netset_commands.specs.declared.commands.arguments.Next.{Next}
+use Rattle.netset_commands.specs.declared.commands.arguments.Next.TheVariants.{Any, Value, Operand}
+use Rattle.netset_commands.specs.declared.commands.operations.Operation.{Operation}
+use Rattle.netset_commands.specs.declared.commands.operations.Operation.TheVariants.{Not}
+use Rattle.netset_commands.specs.declared.commands.table.Verb.{Verb}
+use Rattle.netset_commands.specs.declared.commands.table.Verb.TheVariants as verb
+use Rattle.netset_commands.specs.declared.errors.Misfit.{Misfit}
+use Rattle.netset_commands.specs.declared.errors.Misfit.TheVariants.{NotText, Unnamed, NoCommand, NoOption, Missing, Extra}
+
+-- ---- the line of a word that is wrong
+abbrev pub misfit_text : Misfit → List ℕ
+misfit_text NotText = codes " is not UTF-8, see: netset help"
+misfit_text Unnamed = codes " is missing, see: netset help"
+misfit_text NoCommand = codes ": no such command, see: netset help"
+misfit_text NoOption = codes ": no such option, see: netset help "
+misfit_text Missing = codes " is missing, see: netset help "
+misfit_text Extra = codes ": one argument too many, see: netset help "
+
+-- the word or what is missing, what is wrong with it, and the command whose page is to be seen
+abbrev pub misuse_text : List ℕ → Misfit → List ℕ → List ℕ
+misuse_text word why command = excerpt word ++ (misfit_text why ++ (command ++ codes "\n"))
+
+-- what is made of a value, or the line that stands for it
+abbrev pub and_then : {A B : Type 0} → Result A (List ℕ) → (A → Result B (List ℕ)) → Result B (List ℕ)
+and_then (Ok value) made = made value
+and_then (Err line) made = Err line
+
+-- ---- options and operands
+-- of some words: options without a value, each as -v or --any; the values of the others; operands
+pub record Parts : Type 0 where
+  pub options : List (List ℕ)
+  pub values : List (List ℕ)
+  pub operands : List (List ℕ)
+
+abbrev pub no_parts : Parts
+no_parts = record { options = []; values = []; operands = [] }
+
+abbrev pub only_options : List (List ℕ) → Parts
+only_options words = record { options = words; values = []; operands = [] }
+
+abbrev pub only_value : List ℕ → Parts
+only_value word = record { options = []; values = word ∷ []; operands = [] }
+
+abbrev pub only_operand : List ℕ → Parts
+only_operand word = record { options = []; values = []; operands = word ∷ [] }
+
+-- the parts of some words and of those behind them
+abbrev pub joined_arguments : Parts → Parts → Parts
+joined_arguments a b = record { options = a.options ++ b.options; values = a.values ++ b.values; operands = a.operands ++ b.operands }
+
+-- - and something behind it
+abbrev pub is_option : List ℕ → Bool
+is_option word = nat_lt 1 (length word) && (slice_index word 0 == 45)
+
+-- the option of a letter
+abbrev pub short_option : ℕ → List ℕ
+short_option letter = 45 ∷ letter ∷ []
+
+-- the command has the option
+abbrev pub takes : Verb → List ℕ → Bool
+takes command option = has option (options_of command)
+
+-- = parts a long option from its value
+abbrev pub is_equals : ℕ → Bool
+is_equals byte = byte == 61
+
+-- the options of a word of letters, as -v and -c of -vc
+abbrev pub letter_options : List ℕ → List (List ℕ)
+letter_options word = map short_option (drop 1 word)
+
+-- the line of a word that is no option of the command
+abbrev pub no_option : Verb → List ℕ → Result (Parts × Next) (List ℕ)
+no_option command word = Err (misuse_text word NoOption (name_of command))
+
+-- what a word of letters adds
+abbrev pub letter_parts : Verb → List ℕ → Result (Parts × Next) (List ℕ)
+letter_parts command word =
+    if list_all (takes command) (letter_options word) then Ok (only_options (letter_options word), Any) else no_option command word
+
+-- what a word that begins with -- adds: --any, --in before its value, or --in=NET
+abbrev pub long_parts : Verb → List ℕ → Result (Parts × Next) (List ℕ)
+long_parts command word =
+    if takes command word then Ok (only_options (word ∷ []), Any)
+    else if takes_value command word then Ok (no_parts, Value)
+    else if takes_value command (before_first is_equals word) then Ok (only_value (after_first is_equals word), Any)
+    else no_option command word
+
+-- what a word adds, and what the next one is: an option or an operand, the value of this option, or behind -- an operand
+abbrev pub word_parts : Verb → Next → List ℕ → Result (Parts × Next) (List ℕ)
+word_parts command Operand word = Ok (only_operand word, Operand)
+word_parts command Value word = Ok (only_value word, Any)
+word_parts command Any word =
+    if is_word (codes "--") word then Ok (no_parts, Operand)
+    else if is_option word then (if starts_with nat_eq word (codes "--") then long_parts command word else letter_parts command word)
+    else Ok (only_operand word, Any)
+
+-- the parts of words
+abbrev pub parts_from : Verb → List (List ℕ) → Next → Result Parts (List ℕ)
+parts_from command [] Value = Err (misuse_text (codes "NET") Missing (name_of command))
+parts_from command [] next = Ok no_parts
+parts_from command (word ∷ words) next =
+    and_then (word_parts command next word) (λ one. and_then (parts_from command words one.1) (λ rest. Ok (joined_arguments one.0 rest)))
+
+-- ---- the command
+-- -h and --help are other names of the command help
+abbrev pub full_name : List ℕ → List ℕ
+full_name word = if is_word (codes "-h") word || is_word (codes "--help") word then codes "help" else word
+
+-- the command of a name
+abbrev pub verb_of : List ℕ → Option Verb
+verb_of word = find (λ (command : Verb). is_word (full_name word) (name_of command)) commands
+
+-- the same, or the line of a word that is no command
+abbrev pub named_verb : List ℕ → Result Verb (List ℕ)
+named_verb word = ok_or (verb_of word) (misuse_text word NoCommand [])
+
+-- the command, and the parts of the words behind it
+abbrev pub line_parts : List (List ℕ) → Result (Verb × Parts) (List ℕ)
+line_parts [] = Err (misuse_text (codes "COMMAND") Unnamed [])
+line_parts (word ∷ words) = and_then (named_verb word) (λ command. and_then (parts_from command words Any) (λ parts. Ok (command, parts)))
+
+-- ---- the request
+-- the operand at a place, from 0 on, or what stands for it
+abbrev pub operand_or : List (List ℕ) → ℕ → List ℕ → List ℕ
+operand_or operands place otherwise = unwrap_or (slice_get operands place) otherwise
+
+-- an operation on lists; not may have the values of --in
+abbrev pub lists_request : Operation → List (List ℕ) → List (List ℕ) → Result Request (List ℕ)
+lists_request Not (net ∷ []) files = Ok (NotIn net files)
+lists_request Not (net ∷ other ∷ nets) files = Err (misuse_text other Extra (codes "not"))
+lists_request operation nets files = Ok (Lists operation files)
+
+-- the command help, of a command or of all
+abbrev pub help_request : List (List ℕ) → Result Request (List ℕ)
+help_request [] = Ok (Help None)
+help_request (word ∷ words) = and_then (named_verb word) (λ command. Ok (Help (Some command)))
+
+-- a command with as many operands as it takes
+abbrev pub verb_request : Verb → Parts → Result Request (List ℕ)
+verb_request (verb.Lists operation) parts = lists_request operation parts.values parts.operands
+verb_request verb.Diff parts = Ok (Diff (operand_or parts.operands 0 []) (operand_or parts.operands 1 []))
+verb_request verb.Free parts = Ok (Free (operand_or parts.operands 0 []) (operand_or parts.operands 1 []) (drop 2 parts.operands))
+verb_request verb.Check parts = Ok (Check parts.operands)
+verb_request verb.Match parts = Ok (Match parts.options (operand_or parts.operands 0 []) (operand_or parts.operands 1 input_name))
+verb_request verb.Look parts = Ok (Look (operand_or parts.operands 0 []) (operand_or parts.operands 1 input_name))
+verb_request verb.Show parts = Ok (Single (Show (operand_or parts.operands 0 [])))
+verb_request verb.Split parts = Ok (Single (Split (operand_or parts.operands 0 []) (operand_or parts.operands 1 [])))
+verb_request verb.Nth parts = Ok (Single (Nth (operand_or parts.operands 0 []) (operand_or parts.operands 1 [])))
+verb_request verb.Help parts = help_request parts.operands
+verb_request verb.Version parts = Ok Version
+
+-- the first operand that is missing, by its name on the page, and the first one too many
+abbrev pub missing_operand : Verb → List (List ℕ) → Option (List ℕ)
+missing_operand command operands = slice_get (needed_of command) (length operands)
+
+abbrev pub extra_operand : Verb → List (List ℕ) → Option (List ℕ)
+extra_operand command operands = option_and_then (λ (most : ℕ). slice_get operands most) (most_of command)
+
+-- a command, where this operand is missing or too many
+abbrev pub counted_request : Verb → Parts → Option (List ℕ) → Option (List ℕ) → Result Request (List ℕ)
+counted_request command parts (Some name) more = Err (misuse_text name Missing (name_of command))
+counted_request command parts None (Some word) = Err (misuse_text word Extra (name_of command))
+counted_request command parts None None = verb_request command parts
+
+-- the request of a command and its parts: its page, if that is asked for
+abbrev pub part_request : Verb → Parts → Result Request (List ℕ)
+part_request command parts = if has (codes "-h") parts.options || has (codes "--help") parts.options then Ok (Help (Some command))
+    else counted_request command parts (missing_operand command parts.operands) (extra_operand command parts.operands)
+
+-- how lists are read, and the request, of a command and its parts
+abbrev pub read_request : Verb → Parts → Result (Reading × Request) (List ℕ)
+read_request command parts = and_then (part_request command parts) (λ request. Ok (reading_of parts.options, request))
+
+-- the same of a command line, or the line that says what is wrong with it
+abbrev pub line_request : List (List ℕ) → Result (Reading × Request) (List ℕ)
+line_request words = and_then (line_parts words) (λ line. read_request line.0 line.1)

@@ -1,0 +1,39 @@
+-- What a run gives up for: an allocation that was refused, or a file that is not told.
+use Rattle.std.specs.Prelude.{◌≡◌, ℕ, ◌≤◌, Bool, true, List, length, Option, IfSome}
+use Rattle.cidr_lists.specs.Lists.{Text}
+use Rattle.netset_commands.specs.declared.errors.CommandError.{CommandError}
+use Rattle.netset_commands.specs.declared.errors.CommandError.TheVariants as error
+use Rattle.netset_commands.specs.declared.errors.ReadError.{ReadError}
+use Rattle.netset_commands.specs.declared.errors.ReadError.TheVariants.{Line, Input, NoMemory}
+use Rattle.netset_commands.specs.declared.commands.look.LookError.{LookError}
+use Rattle.netset_commands.specs.declared.commands.look.LookError.TheVariants.{Reading, Output}
+
+-- the bytes are about as many as 64 bits count, so that their lines may be more than there are numbers for
+abbrev pub AreTooMany : List ℕ → Type 0
+AreTooMany bytes = 18446744073709551613 ≤ length bytes
+
+-- a file that can't be read is not told, or is too long
+abbrev pub FileMayFail : (List ℕ → Option Text) → List ℕ → Type 0
+FileMayFail contents name = IfSome (contents name) (λ text. AreTooMany text.bytes)
+
+-- there is no memory only after an allocation was refused, and only some files can't be read
+abbrev pub Cause : (List ℕ → Type 0) → Bool → CommandError → Type 0
+Cause Fails refused (error.Input name) = Fails name.now
+Cause Fails refused error.NoMemory = refused ≡ true
+Cause Fails refused e = Unit {0}
+
+-- ---- what private functions promise
+-- the same where one text is read
+abbrev pub ReadCause : Type 0 → Bool → ReadError → Type 0
+ReadCause Fails refused (Line number e) = Unit {0}
+ReadCause Fails refused Input = Fails
+ReadCause Fails refused NoMemory = refused ≡ true
+
+-- the bytes that are read are not told, or too many
+abbrev pub TextFails : Option (List ℕ) → Type 0
+TextFails left = IfSome left AreTooMany
+
+-- the same where addresses are looked up
+abbrev pub LookCause : Type 0 → Bool → LookError → Type 0
+LookCause Fails refused (Reading e) = ReadCause Fails refused e
+LookCause Fails refused Output = Unit {0}

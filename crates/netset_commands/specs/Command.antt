@@ -1,0 +1,52 @@
+-- The request that a command of the program is.
+use Rattle.std.specs.Prelude.{◌≡◌, ℕ, Bool, true, List, map, Result, Ok, Err}
+use Rattle.netset_commands.specs.Arguments.{Parts, joined_arguments, misuse_text}
+use Rattle.netset_commands.specs.Commands.{Request, Lists, NotIn, Diff, Free, Check, Match, Look, Single as ASingle, Help, Version}
+use Rattle.netset_commands.specs.Table.{texts}
+use Rattle.netset_commands.specs.declared.commands.arguments.Next.{Next}
+use Rattle.netset_commands.specs.declared.commands.arguments.Parts.{Parts as GivenParts}
+use Rattle.netset_commands.specs.declared.errors.Misuse.{Misuse}
+use Rattle.netset_commands.specs.declared.errors.UsageError.{UsageError}
+use Rattle.netset_commands.specs.declared.errors.UsageError.TheVariants as wrong
+use Rattle.netset_commands.specs.Single.{SingleRequest, Show, Split, Nth}
+use Rattle.netset_commands.specs.declared.commands.Command.{Command}
+use Rattle.netset_commands.specs.declared.commands.Command.TheVariants as command
+use Rattle.netset_commands.specs.declared.commands.single.Single.{Single}
+use Rattle.netset_commands.specs.declared.commands.single.Single.TheVariants as single
+
+-- the same command on one host or network with the bytes of its arguments
+abbrev pub single_request : Single → SingleRequest
+single_request (single.Show host) = Show host.now
+single_request (single.Split net len) = Split net.now len.now
+single_request (single.Nth net place) = Nth net.now place.now
+
+-- the same command with the bytes of its arguments
+abbrev pub request_of : Command → Request
+request_of (command.Lists operation files) = Lists operation (map (λ file. file.now) files.now)
+request_of (command.NotIn net files) = NotIn net.now (map (λ file. file.now) files.now)
+request_of (command.Diff old new) = Diff old.now new.now
+request_of (command.Free pool len used) = Free pool.now len.now (map (λ file. file.now) used.now)
+request_of (command.Check files) = Check (map (λ file. file.now) files.now)
+request_of (command.Match options list file) = Match (map (λ w. w.now) options.now) list.now file.now
+request_of (command.Look table file) = Look table.now file.now
+request_of (command.Single single) = ASingle (single_request single)
+request_of (command.Help topic) = Help topic
+request_of command.Version = Version
+
+-- ---- what private functions promise of arguments
+-- the parts of words by their bytes
+abbrev pub parts_in : GivenParts → Parts
+parts_in parts = record { options = texts parts.options.items; values = texts parts.values.items; operands = texts parts.operands.items }
+
+-- the line of a word that is wrong
+abbrev pub misuse_line : Misuse → List ℕ
+misuse_line misuse = misuse_text misuse.word.now misuse.why misuse.command.now
+
+-- arguments have an error: this line, or an allocation was refused
+abbrev pub IsUsageError : {A : Type 0} → Result A (List ℕ) → Bool → UsageError → Type 0
+IsUsageError found refused (wrong.Misuse misuse) = found ≡ Err (misuse_line misuse)
+IsUsageError found refused wrong.NoMemory = refused ≡ true
+
+-- what was to be added to parts stands behind them
+abbrev pub AddsParts : Parts → Parts → Result (Parts × Next) (List ℕ) → Next → Type 0
+AddsParts old new found next = (one : Parts) × (found ≡ Ok (one, next)) × (new ≡ joined_arguments old one)

@@ -1,0 +1,148 @@
+-- The requests and what each is answered with.
+use Rattle.std.specs.Prelude.{◌≡◌, ℕ, ◌<◌, ◌≤◌, Bool, if◌then◌else◌, List, [], ◌∷◌, ◌++◌, count_by, codes, Option, Some, None}
+use Rattle.std.specs.List.{AllZip}
+use Rattle.cidr.specs.either.IpText.{IsIpNetworkText}
+use Rattle.cidr.specs.declared.cidr.combined.IpCidr.{IpCidr}
+use Rattle.cidr.specs.declared.family.Family.{Family}
+use Rattle.cidr_table.specs.Cover.{Covers}
+use Rattle.cidr_sets.specs.Sets.{IsSetOf}
+use Rattle.netset_commands.specs.Findings.{IsCheck}
+use Rattle.netset_commands.specs.Free.{IsFreeText}
+use Rattle.netset_commands.specs.Look.{IsLook}
+use Rattle.cidr_lists.specs.Lists.{Text, ListSays, line_networks, networks_in}
+use Rattle.cidr_lists.specs.Changes.{AreChanges, printed_changes}
+use Rattle.netset_commands.specs.Changes.{AreSame}
+use Rattle.netset_commands.specs.Combining.{form_of, IsMade}
+use Rattle.netset_commands.specs.Matching.{has, is_word, written_of, IsMatch, Picks}
+use Rattle.netset_commands.specs.Table.{help_text}
+use Rattle.netset_commands.specs.declared.commands.table.Verb.{Verb}
+use Rattle.netset_commands.specs.declared.commands.Reading.{Reading}
+use Rattle.cidr_lists.specs.declared.lines.HostBits.TheVariants.{Refused, Cleared}
+use Rattle.cidr_lists.specs.declared.sets.Form.{Form}
+use Rattle.cidr_lists.specs.declared.sets.Form.TheVariants.{Networks}
+use Rattle.netset_commands.specs.declared.commands.operations.Operation.{Operation}
+use Rattle.netset_commands.specs.declared.commands.operations.Operation.TheVariants.{Minus, Not}
+use Rattle.cidr_lists.specs.Sets.{IsPrinted}
+use Rattle.netset_commands.specs.Single.{SingleRequest, IsNumber, IsSingleAnswer}
+use Rattle.netset_commands.specs.declared.output.answers.Verdict.{Verdict}
+use Rattle.netset_commands.specs.declared.output.answers.Verdict.TheVariants.{Yes}
+use Rattle.cidr_lists.specs.declared.changes.Sign.{Sign}
+
+-- a command and its arguments
+pub data Request : Type 0 where
+  Lists : Operation → List (List ℕ) → Request
+  NotIn : List ℕ → List (List ℕ) → Request
+  Diff : List ℕ → List ℕ → Request
+  Free : List ℕ → List ℕ → List (List ℕ) → Request
+  Check : List (List ℕ) → Request
+  Match : List (List ℕ) → List ℕ → List ℕ → Request
+  Look : List ℕ → List ℕ → Request
+  Single : SingleRequest → Request
+  Help : Option Verb → Request
+  Version : Request
+
+-- the name of the standard input
+abbrev pub input_name : List ℕ
+input_name = codes "-"
+
+-- the files that are read: those named, or the standard input
+abbrev pub read_files : List (List ℕ) → List (List ℕ)
+read_files [] = input_name ∷ []
+read_files (file ∷ files) = file ∷ files
+
+-- ---- the files of a request
+-- the lists that it reads
+abbrev pub lists_of : Request → List (List ℕ)
+lists_of (Lists operation files) = read_files files
+lists_of (NotIn net files) = read_files files
+lists_of (Diff old new) = old ∷ new ∷ []
+lists_of (Free pool len used) = pool ∷ used
+lists_of (Check files) = read_files files
+lists_of (Match options list file) = list ∷ []
+lists_of (Look table file) = table ∷ []
+lists_of request = []
+
+-- what it reads beside them
+abbrev pub others_of : Request → List (List ℕ)
+others_of (Match options list file) = file ∷ []
+others_of (Look table file) = file ∷ []
+others_of request = []
+
+-- the standard input is named twice among them, or once where it is read also without a name
+abbrev pub ReadsInputTwice : Request → Type 0
+ReadsInputTwice request = 1 < count_by (is_word input_name) (lists_of request ++ others_of request)
+
+-- how lists are read by these options
+abbrev pub reading_of : List (List ℕ) → Reading
+reading_of options = record {
+  host_bits = if has (codes "--host-bits") options then Cleared else Refused;
+  keeps_going = has (codes "-k") options;
+}
+
+-- these are the lists of the files of these names
+abbrev pub AreTold : (List ℕ → Option Text) → List (List ℕ) → List Text → Type 0
+AreTold contents names texts = AllZip (λ name text. contents name ≡ Some text) names texts
+
+-- what is printed of the shortest list of networks of each family that has these addresses: the list, their ranges, or
+-- how many they are
+abbrev pub IsPrintOf : Form → (Family → List Bool → Type 0) → List ℕ → Type 0
+IsPrintOf form IsIn text =
+    (sets : Family → List (List Bool)) × ((family : Family) → IsSetOf 129 (IsIn family) (sets family)) × IsPrinted form sets text
+
+-- the address is in one of the networks that a list says
+abbrev pub Says : List (List IpCidr) → Family → List Bool → Type 0
+Says said family a = Covers (networks_in family said) a
+
+-- what the operation makes of the lists
+abbrev pub IsMadeOf : Operation → List Text → List ℕ → Type 0
+IsMadeOf operation texts answer =
+    (said : List (List (List IpCidr))) × AllZip ListSays texts said × IsPrintOf (form_of operation) (IsMade Says operation said) answer
+
+-- the addresses of a network that none of the lists has
+abbrev pub IsNotIn : IpCidr → List Text → List ℕ → Type 0
+IsNotIn network texts answer = (said : List (List (List IpCidr))) × AllZip ListSays texts said
+    × IsPrintOf Networks (λ family a. Covers (line_networks family (network ∷ [])) a × IsMade Says Not said family a)
+    answer
+
+-- what a list has and another has not, both ways
+abbrev pub IsDiff : Text → Text → List ℕ → Verdict → Type 0
+IsDiff old new answer verdict =
+    (before : List (List IpCidr)) × (after : List (List IpCidr)) × ListSays old before × ListSays new after
+    × (changes : Family → List (Sign × List Bool))
+    × ((family : Family) → AreChanges (networks_in family before) (networks_in family after) (changes family))
+    × (answer ≡ printed_changes changes) × AreSame changes verdict
+
+-- the first network of n bits that has only addresses of the first list that no other has
+abbrev pub IsFree : ℕ → List Text → List ℕ → Verdict → Type 0
+IsFree n texts answer verdict = (said : List (List (List IpCidr))) × AllZip ListSays texts said
+    × (sets : Family → List (List Bool)) × ((family : Family) → IsSetOf 129 (IsMade Says Minus said family) (sets family))
+    × IsFreeText sets n answer verdict
+
+-- the lines of a file that a list picks, where no line that was read is too long
+abbrev pub IsMatchOf : List (List ℕ) → Text → List ℕ → List ℕ → Verdict → Type 0
+IsMatchOf options networks text answer verdict = (said : List (List IpCidr)) × ListSays networks said
+    × IsMatch (Picks (has (codes "--any") options) (Says said) (has (codes "-v") options)) (written_of options) text None answer verdict
+
+-- what `--version` writes
+abbrev pub version_text : List ℕ
+version_text = codes "netset 0.1.0\n"
+
+-- what a request is answered with, and whether the answer is none or no, from what is told of the files
+abbrev pub IsAnswer : (List ℕ → Option Text) → Request → List ℕ → Verdict → Type 0
+IsAnswer contents (Lists operation files) answer verdict =
+    ((texts : List Text) → AreTold contents (read_files files) texts → IsMadeOf operation texts answer) × (verdict ≡ Yes)
+IsAnswer contents (NotIn net files) answer verdict = (network : IpCidr) × IsIpNetworkText net network
+    × ((texts : List Text) → AreTold contents (read_files files) texts → IsNotIn network texts answer) × (verdict ≡ Yes)
+IsAnswer contents (Diff old new) answer verdict =
+    (before after : Text) → contents old ≡ Some before → contents new ≡ Some after → IsDiff before after answer verdict
+IsAnswer contents (Free pool len used) answer verdict = (n : ℕ) × IsNumber len n × (n ≤ 128)
+    × ((texts : List Text) → AreTold contents (pool ∷ used) texts → IsFree n texts answer verdict)
+IsAnswer contents (Check files) answer verdict =
+    (texts : List Text) → AreTold contents (read_files files) texts → IsCheck (read_files files) texts answer verdict
+IsAnswer contents (Match options list file) answer verdict =
+    (networks text : Text) → contents list ≡ Some networks → contents file ≡ Some text → IsMatchOf options networks text.bytes answer verdict
+IsAnswer contents (Look table file) answer verdict =
+    (rows text : Text) → contents table ≡ Some rows → contents file ≡ Some text → IsLook rows text.bytes answer verdict
+IsAnswer contents (Single request) answer verdict = IsSingleAnswer request answer verdict
+IsAnswer contents (Help topic) answer verdict = (answer ≡ help_text topic) × (verdict ≡ Yes)
+IsAnswer contents Version answer verdict = (answer ≡ version_text) × (verdict ≡ Yes)

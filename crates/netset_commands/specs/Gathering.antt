@@ -1,0 +1,102 @@
+-- What functions that pick lines of a file promise.
+use Rattle.std.specs.Prelude.{◌≡◌, ◌⊎◌, ℕ, ◌+◌, ◌<◌, ◌≤◌, Bool, true, false, List, [], ◌∷◌, ◌++◌, length, decimal, Option, Some, None, IfSome, Result, Ok, Err}
+use Rattle.std.specs.Borrow.{Bor}
+use Rattle.std.specs.List.{flat_map}
+use Rattle.cidr_io.specs.Writing.{State, Part, Writes, Answered}
+use Rattle.cidr_io.specs.declared.sink.OutputFailed.{OutputFailed}
+use Rattle.cidr_io.specs.Collecting.{Collects}
+use Rattle.netset_commands.specs.Matching.{ArePicked, IsEndedBy, IsMatch, line_written}
+use Rattle.cidr_lists.specs.Lines.{last_line}
+use Rattle.cidr_lists.specs.Lists.{IsTooLong}
+use Rattle.cidr_lists.specs.Printing.{line}
+use Rattle.netset_commands.specs.Program.{by_output}
+use Rattle.netset_commands.specs.Streaming.{IsCutShort}
+use Rattle.netset_commands.specs.declared.output.answers.Verdict.{Verdict}
+use Rattle.netset_commands.specs.declared.output.answers.Verdict.TheVariants.{Yes, No}
+use Rattle.netset_commands.specs.declared.errors.CommandError.{CommandError}
+use Rattle.netset_commands.specs.declared.errors.CommandError.TheVariants as error
+use Rattle.cidr_lists.specs.declared.errors.LineError.{LineError}
+use Rattle.cidr_lists.specs.declared.errors.LineError.TheVariants.{TooLong}
+use Rattle.netset_commands.specs.declared.commands.matching.Gathered.{Gathered}
+use Rattle.netset_commands.specs.declared.commands.matching.Written.{Written}
+use Rattle.netset_commands.specs.declared.commands.matching.Written.TheVariants as written
+
+-- the lines that a part up to a line feed is, or up to the end
+abbrev pub lines_of_part : List ℕ → Bool → List (List ℕ)
+lines_of_part part true = part ∷ []
+lines_of_part part false = last_line part
+
+-- the file is not read further
+abbrev pub IsNotReadFurther : List ℕ → CommandError → Type 0
+IsNotReadFurther file (error.Argument text e) = ⊥
+IsNotReadFurther file (error.Line name number e) = ⊥
+IsNotReadFurther file (error.Input name) = name.now ≡ file
+IsNotReadFurther file error.NoMemory = Unit {0}
+IsNotReadFurther file error.Output = ⊥
+
+-- a line is in error, and nothing is written; or the output failed at a line that is picked
+abbrev pub IsLost : (List ℕ → Result Bool LineError → Type 0) → Written → List ℕ → ℕ → List ℕ → State → State → List ℕ → List ℕ → CommandError → Type 0
+IsLost PicksLine what file number part old new block rest (error.Argument text e) = ⊥
+IsLost PicksLine what file number part old new block rest (error.Line name n e) =
+    (name.now ≡ file) × (n ≡ number) × PicksLine part (Err e) × (new ≡ old) × (rest ≡ block)
+IsLost PicksLine what file number part old new block rest (error.Input name) = ⊥
+IsLost PicksLine what file number part old new block rest error.NoMemory = ⊥
+IsLost PicksLine what file number part old new block rest error.Output =
+    PicksLine part (Ok true) × Part old new (block ++ line_written what part)
+
+-- the line of a part is gathered, if it is one and is picked
+abbrev pub GathersPart : (List ℕ → Result Bool LineError → Type 0) → Written → List ℕ → ℕ → List ℕ → Bool → State → State → Gathered → Gathered
+    → Result (Unit {0}) CommandError → Type 0
+GathersPart PicksLine what file number part more old new before after (Ok _) = (picked : List (List ℕ))
+    × ArePicked PicksLine (lines_of_part part more) picked × (after.count ≡ before.count + length picked) × (length picked ≤ 1)
+    × Collects old new before.block after.block (flat_map (line_written what) picked) (Ok tt)
+GathersPart PicksLine what file number part more old new before after (Err e) =
+    (lines_of_part part more ≡ part ∷ []) × IsLost PicksLine what file number part old new before.block after.block e
+
+-- what is written behind the lines
+abbrev pub rest_written : Written → ℕ → List ℕ
+rest_written written.Lines count = []
+rest_written written.Count count = line (decimal count)
+rest_written written.Nothing count = []
+
+-- yes if a line was counted
+abbrev pub IsCounted : ℕ → Verdict → Type 0
+IsCounted count Yes = 0 < count
+IsCounted count No = count ≡ 0
+
+-- all that was gathered is written
+abbrev pub Finishes : Written → State → State → Gathered → Result Verdict CommandError → Type 0
+Finishes what old new gathered r = (verdict : Verdict) × (w : Result (Unit {0}) OutputFailed) × IsCounted gathered.count verdict
+    × Writes old new (gathered.block ++ rest_written what gathered.count) w × (r ≡ by_output verdict w)
+
+-- the error for which no more lines are read, or that the output has failed at what is not yet written
+abbrev pub ended_by : CommandError → Result (Unit {0}) OutputFailed → CommandError
+ended_by e (Ok _) = e
+ended_by e (Err _) = error.Output
+
+-- what is not yet written is written, and the run ends with an error
+abbrev pub Stops : CommandError → State → State → List ℕ → Result Verdict CommandError → Type 0
+Stops error.Output old new block r = (new ≡ old) × (r ≡ Err error.Output)
+Stops e old new block r = (w : Result (Unit {0}) OutputFailed) × Writes old new block w × (r ≡ Err (ended_by e w))
+
+-- no part is behind this one, or -q needs no more
+abbrev pub IsDone : Written → Bool → ℕ → Type 0
+IsDone what more count = (more ≡ false) ⊎ ((what ≡ written.Nothing) × (0 < count))
+
+-- the first line that is too long of some lines and this one, which has this number
+abbrev pub NotesLong : ℕ → List ℕ → Option ℕ → Option ℕ → Type 0
+NotesLong number line None now = (IsTooLong line × (now ≡ Some number)) ⊎ (¬ (IsTooLong line) × (now ≡ None))
+NotesLong number line (Some n) now = now ≡ Some n
+
+-- the answer of a file, or the first of its lines that is too long, if one is
+abbrev pub told_behind : Bor (List ℕ) → Option ℕ → Result Verdict CommandError → Result Verdict CommandError
+told_behind file None r = r
+told_behind file (Some n) (Ok verdict) = Err (error.Line file n TooLong)
+told_behind file (Some n) (Err e) = Err e
+
+-- what becomes of a file that is read line by line, of which these bytes are known
+abbrev pub Streams : (List ℕ → Result Bool LineError → Type 0) → Written → List ℕ → Option (List ℕ) → State → State → Result Verdict CommandError → Type 0
+Streams PicksLine what file known old new r =
+    ((answer : List ℕ) × (verdict : Verdict) × (w : Result (Unit {0}) OutputFailed)
+    × IfSome known (λ text. IsMatch PicksLine what text None answer verdict) × Answered old new answer w × (r ≡ by_output verdict w))
+    ⊎ IsCutShort (λ answer e. IfSome known (λ text. IsEndedBy PicksLine what text answer e)) file old new r

@@ -1,0 +1,120 @@
+-- Every line in error of the lists of a request, as `-k` tells them.
+use Rattle.std.specs.Prelude.{◌≡◌, ◌≢◌, ℕ, Bool, true, false, List, [], ◌∷◌, ◌++◌, Option, Some, IfSome, Result, Ok, Err}
+use Rattle.std.specs.List.{AllZip, flat_map}
+use Rattle.cidr.specs.declared.cidr.combined.IpCidr.{IpCidr}
+use Rattle.cidr.specs.declared.family.Family.{Family}
+use Rattle.cidr_io.specs.Collecting.{HasSaid}
+use Rattle.cidr_io.specs.Writing.{State, Tells}
+use Rattle.netset_commands.specs.Commands.{Request, Check, Look, AreTold}
+use Rattle.netset_commands.specs.Entries.{AddsEntry}
+use Rattle.cidr_lists.specs.Entries.{AreEntries}
+use Rattle.cidr_lists.specs.Lists.{Text, LineSays, lines_of, networks_in, text_by}
+use Rattle.cidr_lists.specs.Tables.{RowSays, Stores}
+use Rattle.netset_commands.specs.LookUps.{AddsRow}
+use Rattle.netset_commands.specs.Reading.{AddsLine, IsStopped}
+use Rattle.cidr_lists.specs.Reading.{listed}
+use Rattle.netset_commands.specs.declared.errors.CommandError.{CommandError}
+use Rattle.netset_commands.specs.declared.errors.CommandError.TheVariants as error
+use Rattle.cidr_lists.specs.declared.errors.LineError.{LineError}
+use Rattle.netset_commands.specs.declared.errors.ReadError.{ReadError}
+use Rattle.netset_commands.specs.declared.input.keeping.Kept.{Kept}
+use Rattle.cidr_lists.specs.declared.lines.Kind.{Kind}
+use Rattle.cidr_lists.specs.declared.lines.Kind.TheVariants as kind
+use Rattle.netset_commands.specs.declared.input.keeping.Said.{Said}
+use Rattle.netset_commands.specs.declared.input.keeping.Said.TheVariants.{Networks, Hosts, Rows}
+use Rattle.cidr_lists.specs.declared.lines.HostBits.{HostBits}
+use Rattle.cidr_lists.specs.Messages.{fault_line}
+use Rattle.cidr_lists.specs.Faults.{IsFaulty, AreErrors, AreTellings, IsPartTold}
+
+-- what the lines of the lists of a request are
+abbrev pub kind_of : Request → Kind
+kind_of (Check files) = kind.Hosts
+kind_of (Look table file) = kind.Rows
+kind_of request = kind.Networks
+
+-- why no more lists are read: the first of these can't be read, or memory
+abbrev pub IsLoadError : List (List ℕ) → CommandError → Type 0
+IsLoadError names (error.Input file) = (after : List (List ℕ)) × (names ≡ file.now ∷ after)
+IsLoadError names error.NoMemory = Unit {0}
+IsLoadError names e = ⊥
+
+-- whether a line is in error
+abbrev pub IsAny : Bool → List ℕ → Type 0
+IsAny true contents = contents ≢ []
+IsAny false contents = contents ≡ []
+
+-- the lines in error are told of a beginning of the first of these lists, if its bytes are told
+abbrev pub IsBegun : (List ℕ → Option Text) → Kind → List (List ℕ) → List ℕ → Type 0
+IsBegun contents kind [] lines = lines ≡ []
+IsBegun contents kind (name ∷ names) lines = (text : Text) → contents name ≡ Some text → IsPartTold kind name text lines
+
+-- ---- what private functions promise
+-- what the lines are
+abbrev pub kind_in : Said → Kind
+kind_in (Networks lists) = kind.Networks
+kind_in (Hosts entries) = kind.Hosts
+kind_in (Rows rows) = kind.Rows
+
+-- this is what the lines say, each entry in a file of no name
+abbrev pub AllSaid : HostBits → List (List ℕ) → Said → Type 0
+AllSaid bits lines (Networks lists) = (said : List (List IpCidr)) × AllZip (LineSays bits) lines said
+    × ((family : Family) → listed lists family ≡ networks_in family said)
+AllSaid bits lines (Hosts entries) = AreEntries [] 1 lines entries.items
+AllSaid bits lines (Rows rows) = (said : List (Option (IpCidr × List ℕ))) × AllZip (RowSays bits) lines said × Stores rows said
+
+-- nothing is said yet
+abbrev pub IsNone : Kind → Said → Type 0
+IsNone kind said = (kind_in said ≡ kind) × ((bits : HostBits) → AllSaid bits [] said)
+
+-- what a line says comes behind what the lines before say
+abbrev pub AddsBy : HostBits → List ℕ → ℕ → Said → Said → Result (Unit {0}) ReadError → Type 0
+AddsBy bits line number (Networks old) (Networks new) r = AddsLine bits line number old new r
+AddsBy bits line number (Hosts old) (Hosts new) r = AddsEntry [] number line old.items new.items r
+AddsBy bits line number (Rows old) (Rows new) r = AddsRow bits line number old new r
+AddsBy bits line number (Networks old) (Hosts new) r = ⊥
+AddsBy bits line number (Networks old) (Rows new) r = ⊥
+AddsBy bits line number (Hosts old) (Networks new) r = ⊥
+AddsBy bits line number (Hosts old) (Rows new) r = ⊥
+AddsBy bits line number (Rows old) (Networks new) r = ⊥
+AddsBy bits line number (Rows old) (Hosts new) r = ⊥
+
+-- lines more are said, where these were said before
+abbrev pub SaysMore : State → List ℕ → State → List ℕ → List ℕ → Type 0
+SaysMore old block new rest lines = (start : State) (text : List ℕ) → HasSaid start old block text → HasSaid start new rest (text ++ lines)
+
+-- what a line says was added, or its error was told, or it is not known
+abbrev pub KeepsLine : HostBits → List ℕ → ℕ → List ℕ → Said → Said → State → List ℕ → State → List ℕ → Result Bool ReadError → Type 0
+KeepsLine bits file number line was now old block new rest (Ok false) = AddsBy bits line number was now (Ok tt) × (new ≡ old) × (rest ≡ block)
+KeepsLine bits file number line was now old block new rest (Ok true) = (e : LineError) × (kind_in now ≡ kind_in was)
+    × IsFaulty (kind_in was) bits line e × SaysMore old block new rest (fault_line file (number, e))
+KeepsLine bits file number line was now old block new rest (Err e) = IsStopped e × (new ≡ old) × (rest ≡ block)
+
+-- what was told of lines, whether one is in error, and else what they say
+abbrev pub IsKept : Kind → HostBits → List ℕ → List (List ℕ) → List ℕ × Bool × Said → Type 0
+IsKept kind bits file lines kept = (errors : List (ℕ × LineError)) × AreErrors kind bits 1 lines errors
+    × (kept.0 ≡ flat_map (fault_line file) errors) × (kept.1 ≡ false → AllSaid bits lines kept.2)
+
+-- the lines of a list were read, and those in error told
+abbrev pub KeepsListLines : Kind → HostBits → List ℕ → Option (List ℕ) → State → List ℕ → State → List ℕ → Result (Said × Bool) ReadError → Type 0
+KeepsListLines kind bits file left old block new rest (Ok kept) = (lines : List ℕ) × SaysMore old block new rest lines
+    × IsAny kept.1 lines × IfSome left (λ text. IsKept kind bits file (lines_of text) (lines, kept.1, kept.0))
+KeepsListLines kind bits file left old block new rest (Err e) = (lines : List ℕ) × SaysMore old block new rest lines × IsStopped e
+    × IfSome left (λ text. IsPartTold kind file (text_by bits text) lines)
+
+-- the same of the list of a file
+abbrev pub KeepsList : Option Text → Kind → List ℕ → State → State → Result (Said × Bool) CommandError → Type 0
+KeepsList contents kind file old new (Ok kept) = (lines : List ℕ) × Tells old new lines × IsAny kept.1 lines
+    × ((text : Text) → contents ≡ Some text → IsKept kind text.host_bits file (lines_of text.bytes) (lines, kept.1, kept.0))
+KeepsList contents kind file old new (Err e) = (lines : List ℕ) × Tells old new lines × IsLoadError (file ∷ []) e
+    × ((text : Text) → contents ≡ Some text → IsPartTold kind file text lines)
+
+-- the lists say what is kept of them
+abbrev pub AreKept : (List ℕ → Option Text) → List Kept → Type 0
+AreKept contents [] = Unit {0}
+AreKept contents (list ∷ lists) =
+    ((text : Text) → contents list.name.now ≡ Some text → AllSaid text.host_bits (lines_of text.bytes) list.said) × AreKept contents lists
+
+-- what was told of lists, if their bytes are told
+abbrev pub HasTold : (List ℕ → Option Text) → Kind → List (List ℕ) → State → State → List ℕ → Type 0
+HasTold contents kind names old new lines =
+    Tells old new lines × ((texts : List Text) → AreTold contents names texts → AreTellings kind names texts lines)

@@ -1,0 +1,124 @@
+-- The lines of a file whose first field lies in a list, or that have an address of it.
+use Rattle.std.specs.Prelude.{◌≡◌, ◌≢◌, ◌⊎◌, ℕ, Bool, true, false, if◌then◌else◌, List, [], ◌∷◌, ◌++◌, length, codes, decimal, Option, Some, None, Result, Ok, Err, ◌+◌}
+use Rattle.std.specs.Bool.{Decides}
+use Rattle.std.specs.List.{AllByRecursion, AllZip, flat_map, items_where_true, list_any}
+use Rattle.std.specs.Str.{bytes_eq}
+use Rattle.cidr.specs.declared.cidr.combined.IpCidr.{IpCidr}
+use Rattle.cidr.specs.declared.family.Family.{Family}
+use Rattle.netset_commands.specs.Combining.{Turned}
+use Rattle.cidr_lists.specs.Printing.{line}
+use Rattle.netset_commands.specs.Streaming.{IsCut, ReadTo}
+use Rattle.netset_commands.specs.declared.output.answers.Verdict.{Verdict}
+use Rattle.netset_commands.specs.declared.output.answers.Verdict.TheVariants.{Yes, No}
+use Rattle.netset_commands.specs.declared.errors.CommandError.{CommandError}
+use Rattle.netset_commands.specs.declared.errors.CommandError.TheVariants as error
+use Rattle.cidr_lists.specs.declared.errors.LineError.{LineError}
+use Rattle.cidr_lists.specs.declared.errors.LineError.TheVariants.{TooLong}
+use Rattle.netset_commands.specs.declared.commands.matching.Written.{Written}
+use Rattle.netset_commands.specs.declared.commands.matching.Written.TheVariants as written
+use Rattle.cidr_lists.specs.Fields.{FieldSays, IsBadField}
+use Rattle.cidr_lists.specs.Within.{LiesIn, HasOneIn}
+use Rattle.cidr_lists.specs.Lines.{lines_in}
+use Rattle.cidr_lists.specs.Lists.{IsTooLong}
+
+-- ---- options
+-- the word is this one
+abbrev pub is_word : List ℕ → List ℕ → Bool
+is_word name word = bytes_eq word name
+
+-- the option is given
+abbrev pub has : List ℕ → List (List ℕ) → Bool
+has name options = list_any (is_word name) options
+
+-- what is written of the lines: nothing with -q, else their number with -c, else the lines
+abbrev pub written_of : List (List ℕ) → Written
+written_of options = if has (codes "-q") options then written.Nothing
+    else if has (codes "-c") options then written.Count else written.Lines
+
+-- whether a line is picked: if what its first field says lies in the list, or with -v if it does not; or its error
+abbrev pub PicksByField : (Family → List Bool → Type 0) → Bool → List ℕ → Result Bool LineError → Type 0
+PicksByField IsIn inverted line (Ok picked) =
+    (said : Option IpCidr) × FieldSays line said × Decides picked (Turned inverted (LiesIn IsIn said))
+PicksByField IsIn inverted line (Err e) = IsBadField line e
+
+-- whether a line is picked: if it has an address of the list, or with -v if it has none; no such line is in error
+abbrev pub PicksAnywhere : (Family → List Bool → Type 0) → Bool → List ℕ → Result Bool LineError → Type 0
+PicksAnywhere IsIn inverted line (Ok picked) = Decides picked (Turned inverted (HasOneIn IsIn line))
+PicksAnywhere IsIn inverted line (Err e) = ⊥
+
+-- whether a line is picked, with --any or without, or its error
+abbrev pub PicksBy : Bool → (Family → List Bool → Type 0) → Bool → List ℕ → Result Bool LineError → Type 0
+PicksBy true IsIn inverted line r = PicksAnywhere IsIn inverted line r
+PicksBy false IsIn inverted line r = PicksByField IsIn inverted line r
+
+-- what becomes of a line that is too long: with --any it is passed over, and else it is in error
+abbrev pub passed_over : Bool → Result Bool LineError
+passed_over true = Ok false
+passed_over false = Err TooLong
+
+-- the same of any line
+abbrev pub Picks : Bool → (Family → List Bool → Type 0) → Bool → List ℕ → Result Bool LineError → Type 0
+Picks anywhere IsIn inverted line r =
+    ((r ≡ passed_over anywhere) × IsTooLong line) ⊎ (¬ (IsTooLong line) × PicksBy anywhere IsIn inverted line r)
+
+-- the line is in error, and this is its error
+abbrev pub IsErrorBy : (List ℕ → Result Bool LineError → Type 0) → List ℕ → LineError → Type 0
+IsErrorBy PicksLine line e = PicksLine line (Err e)
+
+-- the lines that are picked, in their order
+abbrev pub ArePicked : (List ℕ → Result Bool LineError → Type 0) → List (List ℕ) → List (List ℕ) → Type 0
+ArePicked PicksLine lines picked =
+    (marks : List Bool) × AllZip (λ line mark. PicksLine line (Ok mark)) lines marks × (picked ≡ items_where_true marks lines)
+
+-- ---- what is written
+-- of a picked line, while lines are read
+abbrev pub line_written : Written → List ℕ → List ℕ
+line_written written.Lines l = line l
+line_written what l = []
+
+-- of all lines that were picked
+abbrev pub all_written : Written → List (List ℕ) → List ℕ
+all_written written.Lines picked = flat_map line picked
+all_written written.Count picked = line (decimal (length picked))
+all_written written.Nothing picked = []
+
+-- no line is left, or -q needs no more
+abbrev pub IsEnough : Written → List (List ℕ) → List (List ℕ) → Type 0
+IsEnough what left picked = (left ≡ []) ⊎ ((what ≡ written.Nothing) × (picked ≢ []))
+
+-- yes if a line was picked
+abbrev pub ArePickedBy : List (List ℕ) → Verdict → Type 0
+ArePickedBy picked Yes = picked ≢ []
+ArePickedBy picked No = picked ≡ []
+
+-- the first of these lines that is too long, by its number from 1 on, if one is
+abbrev pub IsFirstLong : List (List ℕ) → Option ℕ → Type 0
+IsFirstLong lines None = AllByRecursion (λ line. ¬ (IsTooLong line)) lines
+IsFirstLong lines (Some n) = (before : List (List ℕ)) × (line : List ℕ) × (after : List (List ℕ)) × (lines ≡ before ++ line ∷ after)
+    × (n ≡ length before + 1) × IsTooLong line × AllByRecursion (λ line. ¬ (IsTooLong line)) before
+
+-- what is written of a text, the first of the lines that were read that is too long, if one is, and whether a line was picked
+abbrev pub IsMatch : (List ℕ → Result Bool LineError → Type 0) → Written → List ℕ → Option ℕ → List ℕ → Verdict → Type 0
+IsMatch PicksLine what text long answer verdict = (read left picked : List (List ℕ))
+    × ReadTo (ArePicked PicksLine) (lines_in text) read left picked × IsFirstLong read long
+    × IsEnough what left picked × (answer ≡ all_written what picked) × ArePickedBy picked verdict
+
+-- the text was not read to its end, for this reason, and this belongs to the lines that were picked
+abbrev pub IsCutAt : (List ℕ → Result Bool LineError → Type 0) → Written → List ℕ → List ℕ → CommandError → Type 0
+IsCutAt PicksLine what text answer e = (picked : List (List ℕ))
+    × IsCut (ArePicked PicksLine) (IsErrorBy PicksLine) (lines_in text) picked e × (answer ≡ flat_map (line_written what) picked)
+
+-- the error is that this line is too long, or that the output has failed
+abbrev pub IsLongOrLost : ℕ → CommandError → Type 0
+IsLongOrLost n (error.Line name number e) = (number ≡ n) × (e ≡ TooLong)
+IsLongOrLost n error.Output = Unit {0}
+IsLongOrLost n e = ⊥
+
+-- the text was answered, but for lines that are too long, and the first of these is the error
+abbrev pub IsMatchBut : (List ℕ → Result Bool LineError → Type 0) → Written → List ℕ → List ℕ → CommandError → Type 0
+IsMatchBut PicksLine what text answer e =
+    (n : ℕ) × (verdict : Verdict) × IsMatch PicksLine what text (Some n) answer verdict × IsLongOrLost n e
+
+-- either
+abbrev pub IsEndedBy : (List ℕ → Result Bool LineError → Type 0) → Written → List ℕ → List ℕ → CommandError → Type 0
+IsEndedBy PicksLine what text answer e = IsCutAt PicksLine what text answer e ⊎ IsMatchBut PicksLine what text answer e

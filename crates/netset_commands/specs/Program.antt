@@ -1,0 +1,221 @@
+-- What a run of the program does with its arguments, the files, standard output and standard error.
+use Rattle.std.specs.Prelude.{◌≡◌, ◌≢◌, ℕ, ◌≤◌, Bool, true, false, List, [], ◌∷◌, ◌++◌, ◌⊎◌, codes, Option, Some, option_map, Result, Ok, Err, IfErr}
+use Rattle.std.specs.List.{AllZip}
+use Rattle.cidr.specs.texts.Messages.{parse_message}
+use Rattle.cidr.specs.either.IpText.{IsIpNetworkText}
+use Rattle.cidr.specs.declared.cidr.combined.IpCidr.{IpCidr}
+use Rattle.cidr_io.specs.Arguments.{AreArguments, AreUnreadable}
+use Rattle.cidr_io.specs.Shown.{excerpt, shown}
+use Rattle.cidr_io.specs.Writing.{State, Answered, Tells}
+use Rattle.cidr_io.specs.declared.sink.OutputFailed.{OutputFailed}
+use Rattle.cidr_lists.specs.Lists.{Text, text_by, ListSays, IsFirstError}
+use Rattle.netset_commands.specs.Arguments.{line_request, misuse_text}
+use Rattle.netset_commands.specs.Commands.{Request, Lists, NotIn, Diff, Free, Check, Match, Look, Single, ReadsInputTwice, input_name, lists_of, read_files, AreTold, IsAnswer, Says}
+use Rattle.netset_commands.specs.Causes.{Cause, FileMayFail}
+use Rattle.netset_commands.specs.Free.{IsBadLength}
+use Rattle.cidr_lists.specs.Faults.{AreTellings}
+use Rattle.netset_commands.specs.Keeping.{IsBegun, IsLoadError, kind_of}
+use Rattle.cidr_lists.specs.Messages.{fault_line, fault_words}
+use Rattle.netset_commands.specs.Look.{IsLookCut, IsUnreadTable}
+use Rattle.netset_commands.specs.Matching.{has, written_of, IsEndedBy, Picks}
+use Rattle.netset_commands.specs.Streaming.{IsCutShort}
+use Rattle.netset_commands.specs.Single.{IsBadSingle, IsNoNetwork, IsNumber}
+use Rattle.netset_commands.specs.Unchecked.{IsUnchecked}
+use Rattle.netset_commands.specs.declared.errors.ArgumentError.{ArgumentError}
+use Rattle.netset_commands.specs.declared.errors.ArgumentError.TheVariants as bad
+use Rattle.netset_commands.specs.declared.commands.Reading.{Reading}
+use Rattle.cidr_lists.specs.declared.lines.HostBits.{HostBits}
+use Rattle.netset_commands.specs.declared.output.answers.Verdict.{Verdict}
+use Rattle.netset_commands.specs.declared.output.answers.Verdict.TheVariants.{Yes, No}
+use Rattle.netset_commands.specs.declared.errors.Misfit.TheVariants.{NotText}
+use Rattle.netset_commands.specs.declared.errors.CommandError.{CommandError}
+use Rattle.netset_commands.specs.declared.errors.CommandError.TheVariants as error
+
+-- one of these files is the first whose list is not read: those before it say their networks
+abbrev pub StopsAt : (List ℕ → Option Text) → List (List ℕ) → List ℕ → Type 0
+StopsAt contents names name = (before : List (List ℕ)) × (after : List (List ℕ)) × (names ≡ before ++ name ∷ after)
+    × ((texts : List Text) → AreTold contents before texts → (said : List (List (List IpCidr))) × AllZip ListSays texts said)
+
+-- why the lists of these names are not read: the first line in error of the first list that is not read, that its file
+-- can't be read, or memory
+abbrev pub IsUnread : (List ℕ → Option Text) → List (List ℕ) → CommandError → Type 0
+IsUnread contents names (error.Line name number e) = StopsAt contents names name.now × ((text : Text) → contents name.now ≡ Some text → IsFirstError text number e)
+IsUnread contents names (error.Input name) = StopsAt contents names name.now
+IsUnread contents names error.NoMemory = Unit {0}
+IsUnread contents names e = ⊥
+
+-- the error is that of an argument
+abbrev pub IsBadArgument : (List ℕ → ArgumentError → Type 0) → CommandError → Type 0
+IsBadArgument IsBad (error.Argument text e) = IsBad text.now e
+IsBadArgument IsBad e = ⊥
+
+-- the error is that this file can't be read
+abbrev pub IsInputError : List ℕ → CommandError → Type 0
+IsInputError file (error.Input name) = name.now ≡ file
+IsInputError file e = ⊥
+
+-- why a request is not answered, and nothing is written
+abbrev pub IsRequestRefused : (List ℕ → Option Text) → Request → Result Verdict CommandError → Type 0
+IsRequestRefused contents request (Ok verdict) = ⊥
+IsRequestRefused contents (Lists operation files) (Err e) = IsUnread contents (read_files files) e
+IsRequestRefused contents (NotIn net files) (Err e) = IsBadArgument (λ text bad. (text ≡ net) × IsNoNetwork net bad) e
+    ⊎ ((network : IpCidr) × IsIpNetworkText net network × IsUnread contents (read_files files) e)
+IsRequestRefused contents (Diff old new) (Err e) = IsUnread contents (old ∷ new ∷ []) e
+IsRequestRefused contents (Free pool len used) (Err e) = IsBadArgument (IsBadLength len) e
+    ⊎ ((n : ℕ) × IsNumber len n × (n ≤ 128) × IsUnread contents (pool ∷ used) e)
+IsRequestRefused contents (Check files) (Err e) = IsUnchecked contents (read_files files) e
+IsRequestRefused contents (Match options list file) (Err e) = IsUnread contents (list ∷ []) e ⊎ IsInputError file e
+IsRequestRefused contents (Look table file) (Err e) = IsUnreadTable (contents table) table e ⊎ IsInputError file e
+IsRequestRefused contents (Single request) (Err e) = IsBadArgument (IsBadSingle request) e
+IsRequestRefused contents request (Err e) = ⊥
+
+-- an output that failed is the error
+abbrev pub by_output : Verdict → Result (Unit {0}) OutputFailed → Result Verdict CommandError
+by_output verdict (Ok _) = Ok verdict
+by_output verdict (Err e) = Err error.Output
+
+-- What becomes of a request and of the sink: nothing is written where its lists are not read. Else its answer is
+-- written whole, or the sink has failed and a beginning of the answer was written, none if it had failed before.
+abbrev pub AnswersWhole : (List ℕ → Option Text) → Request → State → State → Result Verdict CommandError → Type 0
+AnswersWhole contents request old new r =
+    ((new ≡ old) × IsRequestRefused contents request r)
+    ⊎ ((answer : List ℕ) × (verdict : Verdict) × (written : Result (Unit {0}) OutputFailed) × IsAnswer contents request answer verdict
+    × Answered old new answer written × (r ≡ by_output verdict written))
+
+-- what belongs to the lines that `match` has read of its file, if it was not read to its end, or has lines that are too long
+abbrev pub IsMatchUntil : (List ℕ → Option Text) → List (List ℕ) → List ℕ → List ℕ → List ℕ → CommandError → Type 0
+IsMatchUntil contents options list file answer e = (networks text : Text) → contents list ≡ Some networks → contents file ≡ Some text
+    → (said : List (List IpCidr)) × ListSays networks said
+    × IsEndedBy (Picks (has (codes "--any") options) (Says said) (has (codes "-v") options)) (written_of options) text.bytes answer e
+
+-- the same of `look`
+abbrev pub IsLookUntil : (List ℕ → Option Text) → List ℕ → List ℕ → List ℕ → CommandError → Type 0
+IsLookUntil contents table file answer e =
+    (rows text : Text) → contents table ≡ Some rows → contents file ≡ Some text → IsLookCut rows text.bytes answer e
+
+-- what becomes of a request and of the sink
+abbrev pub AnswersRequest : (List ℕ → Option Text) → Request → State → State → Result Verdict CommandError → Type 0
+AnswersRequest contents (Match options list file) old new r =
+    AnswersWhole contents (Match options list file) old new r ⊎ IsCutShort (IsMatchUntil contents options list file) file old new r
+AnswersRequest contents (Look table file) old new r =
+    AnswersWhole contents (Look table file) old new r ⊎ IsCutShort (IsLookUntil contents table file) file old new r
+AnswersRequest contents request old new r = AnswersWhole contents request old new r
+
+-- a request is given up only for its cause
+abbrev pub IsCaused : (List ℕ → Option Text) → Bool → Result Verdict CommandError → Type 0
+IsCaused contents refused r = IfErr r (Cause (FileMayFail contents) refused)
+
+-- the lists of the files, read this way
+abbrev pub contents_by : HostBits → (List ℕ → Option (List ℕ)) → List ℕ → Option Text
+contents_by bits contents name = option_map (text_by bits) (contents name)
+
+-- the message of an argument that is wrong
+abbrev pub argument_message : ArgumentError → List ℕ
+argument_message (bad.Network fault e) = fault_words fault (parse_message e)
+argument_message bad.Length = codes "no prefix length inside the network"
+argument_message bad.Index = codes "no index below 2^128"
+argument_message bad.ReadTwice = codes "standard input can be read only once"
+
+-- the line that is written to standard error: an argument as its beginning is shown, and the name of a file in whole
+abbrev pub error_line : CommandError → List ℕ
+error_line (error.Argument text e) = excerpt text.now ++ (codes ": " ++ (argument_message e ++ codes "\n"))
+error_line (error.Line name number e) = fault_line name.now (number, e)
+error_line (error.Input name) = shown name.now ++ codes ": cannot be read\n"
+error_line error.NoMemory = codes "no memory\n"
+error_line error.Output = codes "output failed\n"
+
+-- the output has failed since nobody reads it any more, which is no news to anybody
+abbrev pub is_closed_pipe : Bool → CommandError → Bool
+is_closed_pipe closed error.Output = closed
+is_closed_pipe closed e = false
+
+-- the line of an error, but for a pipe that was closed
+abbrev pub ReportsUnless : Bool → CommandError → State → State → Type 0
+ReportsUnless true e old new = new ≡ old
+ReportsUnless false e old new = Tells old new (error_line e)
+
+-- nothing for an answer, and else one line; `closed` tells whether the output has failed since nobody reads it any more
+abbrev pub Reports : Bool → Result Verdict CommandError → State → State → Type 0
+Reports closed (Ok verdict) old new = new ≡ old
+Reports closed (Err e) old new = ReportsUnless (is_closed_pipe closed e) e old new
+
+-- the exit status: 0 done or yes, 1 none, no or findings, 2 usage, reading or a line in error, 3 output or memory
+abbrev pub status_of : Result Verdict CommandError → ℕ
+status_of (Ok Yes) = 0
+status_of (Ok No) = 1
+status_of (Err error.NoMemory) = 3
+status_of (Err error.Output) = 3
+status_of (Err e) = 2
+
+-- an argument that is wrong whatever the lists say
+abbrev pub IsWrong : Request → CommandError → Type 0
+IsWrong (NotIn net files) e = IsBadArgument (λ text bad. (text ≡ net) × IsNoNetwork net bad) e
+IsWrong (Free pool len used) e = IsBadArgument (IsBadLength len) e
+IsWrong request e = ⊥
+
+-- the run ends with this error, and nothing is written to standard output
+abbrev pub EndsWith : CommandError → Bool → State → State → State → State → ℕ → Type 0
+EndsWith e closed out new_out err new_err status = (new_out ≡ out) × Reports closed (Err e) err new_err × (status ≡ status_of (Err e))
+
+-- a request of whose lists each line in error is told, up to a list that can't be read, and then nothing is written; where
+-- there is none, the request is answered
+abbrev pub TellsFaults : (List ℕ → Option Text) → Bool → Request → Bool → State → State → State → State → ℕ → Type 0
+TellsFaults contents refused request closed out new_out err new_err status = (lines : List ℕ) × (mid : State) × Tells err mid lines
+    × ((((texts : List Text) → AreTold contents (lists_of request) texts → AreTellings (kind_of request) (lists_of request) texts lines)
+    × (((lines ≢ []) × (new_out ≡ out) × (new_err ≡ mid) × (status ≡ 2))
+    ⊎ ((lines ≡ []) × (r : Result Verdict CommandError) × AnswersRequest contents request out new_out r × IsCaused contents refused r
+    × Reports closed r mid new_err × (status ≡ status_of r))))
+    ⊎ ((before after : List (List ℕ)) × (lists_of request ≡ before ++ after) × (front rest : List ℕ) × (lines ≡ front ++ rest)
+    × ((texts : List Text) → AreTold contents before texts → AreTellings (kind_of request) before texts front)
+    × IsBegun contents (kind_of request) after rest × (e : CommandError) × IsLoadError after e × Cause (FileMayFail contents) refused e × (new_out ≡ out) × Reports closed (Err e) mid new_err × (status ≡ status_of (Err e))))
+
+-- the same, where no argument is wrong
+abbrev pub KeepsGoing : (List ℕ → Option Text) → Bool → Request → Bool → State → State → State → State → ℕ → Type 0
+KeepsGoing contents refused request closed out new_out err new_err status =
+    ((e : CommandError) × IsWrong request e × EndsWith e closed out new_out err new_err status)
+    ⊎ (((e : CommandError) → ¬ (IsWrong request e)) × TellsFaults contents refused request closed out new_out err new_err status)
+
+-- what becomes of a request, its lists read this way
+abbrev pub RunsRequest : Reading → (List ℕ → Option Text) → Bool → Request → Bool → State → State → State → State → ℕ → Type 0
+RunsRequest reading contents refused request closed out new_out err new_err status =
+    ((reading.keeps_going ≡ true) × KeepsGoing contents refused request closed out new_out err new_err status)
+    ⊎ ((reading.keeps_going ≡ false) × (r : Result Verdict CommandError) × AnswersRequest contents request out new_out r
+    × IsCaused contents refused r × Reports closed r err new_err × (status ≡ status_of r))
+
+-- the error is that the standard input is read already
+abbrev pub IsReadTwice : CommandError → Type 0
+IsReadTwice e = IsBadArgument (λ text why. (text ≡ input_name) × (why ≡ bad.ReadTwice)) e
+
+-- what becomes of a request by itself: one that reads the standard input more than once is not answered
+abbrev pub RunsOnce : Reading → (List ℕ → Option (List ℕ)) → Bool → Request → Bool → State → State → State → State → ℕ → Type 0
+RunsOnce reading contents refused request closed out new_out err new_err status =
+    (ReadsInputTwice request × (e : CommandError) × IsReadTwice e × EndsWith e closed out new_out err new_err status)
+    ⊎ (¬ (ReadsInputTwice request) × RunsRequest reading (contents_by reading.host_bits contents) refused request closed out new_out err new_err status)
+
+-- the words are no request: this line says why, and nothing else is written
+abbrev pub IsMisused : List ℕ → State → State → State → State → ℕ → Type 0
+IsMisused line out new_out err new_err status = (new_out ≡ out) × Tells err new_err line × (status ≡ 2)
+
+-- what becomes of a request and how its lists are read, or of words that are none
+abbrev pub RunsLine : Result (Reading × Request) (List ℕ) → (List ℕ → Option (List ℕ)) → Bool → Bool → State → State → State → State → ℕ → Type 0
+RunsLine (Ok (reading, request)) contents refused closed out new_out err new_err status =
+    RunsOnce reading contents refused request closed out new_out err new_err status
+RunsLine (Err line) contents refused closed out new_out err new_err status = IsMisused line out new_out err new_err status
+
+-- the same, or there was no memory for the words
+abbrev pub RunsFound : Result (Reading × Request) (List ℕ) → (List ℕ → Option (List ℕ)) → Bool → Bool → State → State → State → State → ℕ → Type 0
+RunsFound found contents refused closed out new_out err new_err status =
+    RunsLine found contents refused closed out new_out err new_err status
+    ⊎ ((refused ≡ true) × EndsWith error.NoMemory closed out new_out err new_err status)
+
+-- the line of arguments that are not UTF-8
+abbrev pub unreadable_line : List ℕ
+unreadable_line = misuse_text (codes "an argument") NotText []
+
+-- A run, from the arguments and the files to the exit status. `refused` tells whether an allocation was refused, and `closed` tells whether the output has failed since nobody
+-- reads it any more.
+abbrev pub Runs : Option (List (List ℕ)) → (List ℕ → Option (List ℕ)) → Bool → Bool → State → State → State → State → ℕ → Type 0
+Runs words contents refused closed out new_out err new_err status =
+    ((given : List (List ℕ)) × AreArguments words given × RunsFound (line_request given) contents refused closed out new_out err new_err status)
+    ⊎ ((AreUnreadable words × IsMisused unreadable_line out new_out err new_err status)
+    ⊎ ((refused ≡ true) × EndsWith error.NoMemory closed out new_out err new_err status))

@@ -1,0 +1,103 @@
+-- The commands on one host or network, their arguments, and what each answers.
+use Rattle.std.specs.Prelude.{◌≡◌, ℕ, ◌-◌, ◌^◌, ◌<◌, ◌≤◌, ◌⊎◌, Bool, List, [], ◌∷◌, ◌++◌, length, codes, decimal}
+use Rattle.std.specs.List.{flat_map}
+use Rattle.std.specs.Str.Parse.{IsNumeral, digits_value, without_leading_plus}
+use Rattle.cidr.specs.either.IpAddress.{address_family, plain_bits}
+use Rattle.cidr.specs.either.IpHost.{host_network}
+use Rattle.cidr.specs.either.IpNetwork.{network_family, network_prefix, address_by}
+use Rattle.cidr.specs.either.IpText.{ip_network_text, IsIpNetworkText, IsIpRefused, IsIpHostText, IsIpHostRefused}
+use Rattle.cidr.specs.model.Network.{first_of, last_of, mask_of, width_of}
+use Rattle.cidr.specs.texts.Printed.{plain_text}
+use Rattle.cidr.specs.texts.PrintedAddress.{ip_text}
+use Rattle.cidr.specs.declared.addr.ip.IpAddr.{IpAddr}
+use Rattle.cidr.specs.declared.cidr.combined.IpCidr.{IpCidr}
+use Rattle.cidr.specs.declared.family.Family.{Family}
+use Rattle.cidr.specs.declared.family.Family.TheVariants.{Ipv4, Ipv6}
+use Rattle.cidr.specs.declared.inet.combined.IpInet.{IpInet}
+use Rattle.cidr_ext.specs.Inside.{IsAddressAt}
+use Rattle.cidr_ext.specs.Subnets.{subnets_of}
+use Rattle.cidr_ext.specs.TextFaults.{IsFaultOf}
+use Rattle.cidr_lists.specs.Printing.{line}
+use Rattle.netset_commands.specs.declared.output.answers.Verdict.{Verdict}
+use Rattle.netset_commands.specs.declared.output.answers.Verdict.TheVariants.{Yes, No}
+use Rattle.netset_commands.specs.declared.errors.ArgumentError.{ArgumentError}
+use Rattle.netset_commands.specs.declared.errors.ArgumentError.TheVariants as bad
+
+-- a command and its arguments
+pub data SingleRequest : Type 0 where
+  Show : List ℕ → SingleRequest
+  Split : List ℕ → List ℕ → SingleRequest
+  Nth : List ℕ → List ℕ → SingleRequest
+
+-- the string is this number in decimal, perhaps with a plus in front
+abbrev pub IsNumber : List ℕ → ℕ → Type 0
+IsNumber text n = IsNumeral 10 (without_leading_plus text) × (n ≡ digits_value 10 (without_leading_plus text))
+
+-- the name of a family
+abbrev pub family_name : Family → List ℕ
+family_name Ipv4 = codes "IPv4"
+family_name Ipv6 = codes "IPv6"
+
+-- what there is to say of a network: itself, its first and last address, its mask, its prefix length and its family
+abbrev pub network_lines : IpCidr → List ℕ
+network_lines n =
+    codes "network " ++ (ip_network_text plain_text n
+    ++ (codes "\nfirst " ++ (ip_text (address_by first_of n)
+    ++ (codes "\nlast " ++ (ip_text (address_by last_of n)
+    ++ (codes "\nmask " ++ (ip_text (address_by mask_of n)
+    ++ (codes "\nlength " ++ (decimal (length (network_prefix n))
+    ++ (codes "\nfamily " ++ (family_name (network_family n)
+    ++ codes "\n")))))))))))
+
+-- a network of a family as a line
+abbrev pub subnet_line : Family × List Bool → List ℕ
+subnet_line (family, prefix) = line (plain_text family prefix)
+
+-- no network of n bits is inside this one
+abbrev pub HasNone : IpCidr → ℕ → Type 0
+HasNone network n = (n < length (network_prefix network)) ⊎ (width_of (network_family network) < n)
+
+-- the networks of n bits inside a network, ascending, one a line
+abbrev pub split_text : IpCidr → ℕ → List ℕ
+split_text network n = flat_map subnet_line (subnets_of (network_family network) (network_prefix network) n)
+
+-- how many addresses a network has
+abbrev pub count_in : IpCidr → ℕ
+count_in network = 2 ^ (width_of (network_family network) - length (network_prefix network))
+
+-- this is the address at index i of a network
+abbrev pub IsNthAddress : IpCidr → ℕ → IpAddr → Type 0
+IsNthAddress network i address =
+    (address_family address ≡ network_family network)
+    × IsAddressAt (width_of (network_family network)) (network_prefix network) i (plain_bits address)
+
+-- the address at index i of a network as a line, or nothing where the network has no more addresses than that
+abbrev pub IsNthText : IpCidr → ℕ → List ℕ → Verdict → Type 0
+IsNthText network i answer Yes = (address : IpAddr) × IsNthAddress network i address × (answer ≡ line (ip_text address))
+IsNthText network i answer No = (count_in network ≤ i) × (answer ≡ [])
+
+-- what a request is answered with
+abbrev pub IsSingleAnswer : SingleRequest → List ℕ → Verdict → Type 0
+IsSingleAnswer (Show text) answer verdict =
+    (host : IpInet) × IsIpHostText text host × (answer ≡ network_lines (host_network host)) × (verdict ≡ Yes)
+IsSingleAnswer (Split net len) answer verdict =
+    (network : IpCidr) × (n : ℕ) × IsIpNetworkText net network × IsNumber len n × ¬ (HasNone network n) × (answer ≡ split_text network n) × (verdict ≡ Yes)
+IsSingleAnswer (Nth net place) answer verdict =
+    (network : IpCidr) × (i : ℕ) × IsIpNetworkText net network × IsNumber place i × IsNthText network i answer verdict
+
+-- the string is no network, and this is its first fault, if it has one, and the first error
+abbrev pub IsNoNetwork : List ℕ → ArgumentError → Type 0
+IsNoNetwork text (bad.Network fault e) = IsIpRefused text e × ((n : IpCidr) → ¬ (IsIpNetworkText text n)) × IsFaultOf text fault
+IsNoNetwork text e = ⊥
+
+-- the first argument that is wrong, and its error: no network, and else no length of networks inside, or no index below 2^128
+abbrev pub IsBadSingle : SingleRequest → List ℕ → ArgumentError → Type 0
+IsBadSingle (Show host) text (bad.Network fault e) =
+    (text ≡ host) × IsIpHostRefused host e × ((h : IpInet) → ¬ (IsIpHostText host h)) × IsFaultOf host fault
+IsBadSingle (Split net len) text (bad.Network fault e) = (text ≡ net) × IsNoNetwork net (bad.Network fault e)
+IsBadSingle (Split net len) text bad.Length =
+    (text ≡ len) × (network : IpCidr) × IsIpNetworkText net network × ((n : ℕ) → IsNumber len n → HasNone network n)
+IsBadSingle (Nth net place) text (bad.Network fault e) = (text ≡ net) × IsNoNetwork net (bad.Network fault e)
+IsBadSingle (Nth net place) text bad.Index =
+    (text ≡ place) × (network : IpCidr) × IsIpNetworkText net network × ((i : ℕ) → IsNumber place i → 2 ^ 128 ≤ i)
+IsBadSingle request text e = ⊥

@@ -1,0 +1,105 @@
+-- The table of the commands, and the pages of help that it makes.
+use Rattle.std.specs.Prelude.{ℕ, Bool, false, if◌then◌else◌, List, [], ◌∷◌, ◌++◌, map, codes, Option, Some, None}
+use Rattle.std.specs.List.{concat, flat_map}
+use Rattle.netset_commands.specs.Matching.{has, is_word}
+use Rattle.netset_commands.specs.declared.commands.operations.Operation.TheVariants.{Merge, Nets, Minus, And, Not, Ranges, Count}
+use Rattle.netset_commands.specs.declared.commands.table.TheConstants.{COMMANDS, MERGE, NETS, MINUS, AND, NOT, RANGES, COUNT, DIFF, FREE, CHECK, MATCH, LOOK, SHOW, SPLIT, NTH, HELP, VERSION, OPTIONS, HOST_BITS, KEEP_GOING, LISTS}
+use Rattle.netset_commands.specs.declared.commands.table.Verb.{Verb}
+use Rattle.netset_commands.specs.declared.commands.table.Verb.TheVariants.{Lists, Diff, Free, Check, Match, Look, Show, Split, Nth, Help, Version}
+use denote.Ref.{Bor}
+
+-- the bytes of some words
+abbrev pub texts : List (Bor (List ℕ)) → List (List ℕ)
+texts words = map (λ (word : Bor (List ℕ)). word.now) words
+
+-- the commands
+unfoldable pub commands : List Verb
+commands = COMMANDS
+
+abbrev pub name_of : Verb → List ℕ
+name_of (Lists Merge) = codes "merge"
+name_of (Lists Nets) = codes "nets"
+name_of (Lists Minus) = codes "minus"
+name_of (Lists And) = codes "and"
+name_of (Lists Not) = codes "not"
+name_of (Lists Ranges) = codes "ranges"
+name_of (Lists Count) = codes "count"
+name_of Diff = codes "diff"
+name_of Free = codes "free"
+name_of Check = codes "check"
+name_of Match = codes "match"
+name_of Look = codes "look"
+name_of Show = codes "show"
+name_of Split = codes "split"
+name_of Nth = codes "nth"
+name_of Help = codes "help"
+name_of Version = codes "--version"
+
+-- the options without a value
+abbrev pub options_of : Verb → List (List ℕ)
+options_of Check = codes "-k" ∷ codes "-h" ∷ codes "--help" ∷ []
+options_of Match = codes "--any" ∷ codes "-v" ∷ codes "-c" ∷ codes "-q" ∷ codes "--host-bits" ∷ codes "-k" ∷ codes "-h" ∷ codes "--help" ∷ []
+options_of Show = codes "-h" ∷ codes "--help" ∷ []
+options_of Split = codes "-h" ∷ codes "--help" ∷ []
+options_of Nth = codes "-h" ∷ codes "--help" ∷ []
+options_of Help = codes "-h" ∷ codes "--help" ∷ []
+options_of Version = codes "-h" ∷ codes "--help" ∷ []
+options_of command = codes "--host-bits" ∷ codes "-k" ∷ codes "-h" ∷ codes "--help" ∷ []
+
+-- the option with a value: the network of `not --in`
+abbrev pub takes_value : Verb → List ℕ → Bool
+takes_value (Lists Not) option = is_word (codes "--in") option
+takes_value command option = false
+
+-- the operands that it needs, by their names on the page
+abbrev pub needed_of : Verb → List (List ℕ)
+needed_of (Lists Minus) = codes "A" ∷ codes "B" ∷ []
+needed_of (Lists And) = codes "A" ∷ codes "B" ∷ []
+needed_of Diff = codes "A" ∷ codes "B" ∷ []
+needed_of Free = codes "POOL" ∷ codes "LEN" ∷ codes "USED" ∷ []
+needed_of Match = codes "LIST" ∷ []
+needed_of Look = codes "TABLE" ∷ []
+needed_of Show = codes "HOST" ∷ []
+needed_of Split = codes "NET" ∷ codes "LEN" ∷ []
+needed_of Nth = codes "NET" ∷ codes "INDEX" ∷ []
+needed_of command = []
+
+-- how many operands it takes at most
+abbrev pub most_of : Verb → Option ℕ
+most_of (Lists operation) = None
+most_of Free = None
+most_of Check = None
+most_of Show = Some 1
+most_of Help = Some 1
+most_of Version = Some 0
+most_of command = Some 2
+
+-- what the page says of it
+abbrev pub about_of : Verb → List ℕ
+about_of (Lists Merge) = MERGE.now
+about_of (Lists Nets) = NETS.now
+about_of (Lists Minus) = MINUS.now
+about_of (Lists And) = AND.now
+about_of (Lists Not) = NOT.now
+about_of (Lists Ranges) = RANGES.now
+about_of (Lists Count) = COUNT.now
+about_of Diff = DIFF.now
+about_of Free = FREE.now
+about_of Check = CHECK.now
+about_of Match = MATCH.now
+about_of Look = LOOK.now
+about_of Show = SHOW.now
+about_of Split = SPLIT.now
+about_of Nth = NTH.now
+about_of Help = HELP.now
+about_of Version = VERSION.now
+
+-- a note on an option, if the command has the option
+abbrev pub note_of : Verb → List ℕ → List ℕ → List ℕ
+note_of command option note = if has option (options_of command) then note else []
+
+-- the page of a command, or of all
+abbrev pub help_text : Option Verb → List ℕ
+help_text (Some command) =
+    concat (about_of command ∷ note_of command (codes "--host-bits") HOST_BITS.now ∷ note_of command (codes "-k") KEEP_GOING.now ∷ [])
+help_text None = flat_map about_of commands ++ concat (OPTIONS.now ∷ HOST_BITS.now ∷ KEEP_GOING.now ∷ LISTS.now ∷ [])

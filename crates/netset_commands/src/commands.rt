@@ -1,0 +1,165 @@
+//! The commands, and what they read.
+ghost use Rattle.std.specs.Prelude.{◌≡◌, ◌<◌, ◌++◌, count_by, true, IfOk, OnErr};
+ghost use Rattle.std.specs.Bool.{Decides};
+ghost use Rattle.netset_commands.specs.Command.{request_of};
+ghost use Rattle.netset_commands.specs.Commands.{input_name, lists_of, others_of, reading_of};
+ghost use Rattle.netset_commands.specs.Keeping.{kind_of};
+ghost use Rattle.netset_commands.specs.Matching.{is_word};
+ghost use Rattle.netset_commands.specs.Table.{texts};
+
+pub mod arguments;
+pub mod changes;
+pub mod check;
+pub mod combine;
+pub mod free;
+pub mod help;
+pub mod inside;
+pub mod look;
+pub mod matching;
+pub mod operations;
+pub mod single;
+pub mod table;
+
+use crate::commands::matching::has;
+use crate::commands::operations::Operation;
+use crate::commands::single::Single;
+use crate::commands::table::Verb;
+use cidr_io::memory::Memory;
+use cidr_lists::lines::{HostBits, Kind};
+use std::alloc::{AllocError, Global};
+
+/// A command and its arguments.
+#[derive(Clone, Copy)]
+pub enum Command<'a> {
+    /// An operation on the lists of these files.
+    Lists(Operation, &'a [&'a str]),
+    /// The addresses of a network that no list of these files has.
+    NotIn(&'a str, &'a [&'a str]),
+    /// What the second file adds to the first one, and what it lacks.
+    Diff(&'a str, &'a str),
+    /// The first free network of a prefix length in a pool, of whose addresses others are used.
+    Free(&'a str, &'a str, &'a [&'a str]),
+    /// What is found in the lists of these files.
+    Check(&'a [&'a str]),
+    /// The options, the list, and the file of which lines are picked.
+    Match(&'a [&'a str], &'a str, &'a str),
+    /// The longest networks of the first file that have the addresses of the second one.
+    Look(&'a str, &'a str),
+    /// A command on one host or network.
+    Single(Single<'a>),
+    /// The page of a command, or of all.
+    Help(Option<Verb>),
+    /// The version.
+    Version,
+}
+
+/// How lists are read.
+#[derive(Clone, Copy, Debug, Drop, PartialEq)]
+pub struct Reading {
+    pub host_bits: HostBits,
+    /// Whether reading goes on behind a line in error, to tell others too.
+    pub keeps_going: bool,
+}
+
+/// Whether a file is the standard input.
+fn is_input(file: &str) -> bool
+    ensures { result ≡ is_word input_name file.now }
+{
+    file == "-"
+}
+
+/// How many of these files are the standard input.
+fn input_count(files: &[&str]) -> usize
+    ensures { result ≡ count_by (is_word input_name) (texts files.now) }
+{
+    let mut count = 0;
+    for file in files {
+        if is_input(file) {
+            count += 1;
+        }
+    }
+    count
+}
+
+/// Whether the standard input is more than one of these files.
+pub fn name_input_twice(files: &[&str]) -> bool
+    ensures { Decides result (1 < count_by (is_word input_name) (texts files.now)) }
+{
+    input_count(files) > 1
+}
+
+impl<'a> Command<'a> {
+    /// The lists that are read.
+    pub fn lists<M: Memory>(&self, memory: &mut M) -> Result<Vec<&'a str>, AllocError>
+        ensures names { IfOk result (λ names. texts names.items ≡ lists_of (request_of self.now)) }
+        ensures refused { OnErr result (M.refused memory.new ≡ true) }
+    {
+        let listed = self.list_names(memory.alloc());
+        memory.watch(listed)
+    }
+
+    /// The lists that are read.
+    fn list_names(&self, alloc: Global) -> Result<Vec<&'a str>, AllocError>
+        ensures { IfOk result (λ names. texts names.items ≡ lists_of (request_of self.now)) }
+    {
+        let mut names = Vec::new(alloc);
+        match self {
+            Command::Lists(_, files) | Command::NotIn(_, files) | Command::Check(files) => {
+                if files.is_empty() {
+                    names.push("-")?;
+                }
+                names.extend_from_slice(files)?;
+            }
+            Command::Diff(old, new) => {
+                names.push(*old)?;
+                names.push(*new)?;
+            }
+            Command::Free(pool, _, used) => {
+                names.push(*pool)?;
+                names.extend_from_slice(used)?;
+            }
+            Command::Match(_, list, _) | Command::Look(list, _) => names.push(*list)?,
+            Command::Single(_) | Command::Help(_) | Command::Version => {}
+        }
+        Ok(names)
+    }
+
+    /// The files that are read: the lists, and another one behind them.
+    pub fn files<M: Memory>(&self, memory: &mut M) -> Result<Vec<&'a str>, AllocError>
+        ensures names { IfOk result (λ names. texts names.items
+            ≡ lists_of (request_of self.now) ++ others_of (request_of self.now)) }
+        ensures refused { OnErr result (M.refused memory.new ≡ true) }
+    {
+        let mut names = self.lists(memory)?;
+        match self {
+            Command::Match(_, _, file) | Command::Look(_, file) => memory.push(&mut names, *file)?,
+            _ => {}
+        }
+        Ok(names)
+    }
+
+    /// What the lines of the lists are.
+    pub fn kind(&self) -> Kind
+        ensures { result ≡ kind_of (request_of self.now) }
+    {
+        match self {
+            Command::Check(_) => Kind::Hosts,
+            Command::Look(_, _) => Kind::Rows,
+            _ => Kind::Networks,
+        }
+    }
+}
+
+/// How lists are read by these options.
+pub fn reading_of(options: &[&str]) -> Reading
+    ensures { result ≡ reading_of (texts options.now) }
+{
+    Reading {
+        host_bits: if has(options, "--host-bits") {
+            HostBits::Cleared
+        } else {
+            HostBits::Refused
+        },
+        keeps_going: has(options, "-k"),
+    }
+}

@@ -1,0 +1,104 @@
+//! What a second list adds to a first one, and what it lacks.
+ghost use Rattle.std.specs.Prelude.{◌≡◌, [], IfErr};
+ghost use Rattle.std.specs.List.{flat_map};
+ghost use Rattle.cidr_io.specs.Writing.{Answered, Writes};
+ghost use Rattle.netset_commands.specs.Answering.{changed};
+ghost use Rattle.netset_commands.specs.Changes.{AreSame};
+ghost use Rattle.cidr_lists.specs.Changes.{change_line, merged, printed_changes};
+ghost use Rattle.cidr_io.specs.Collecting.{Collects};
+ghost use Rattle.netset_commands.specs.Causes.{Cause, FileMayFail};
+ghost use Rattle.netset_commands.specs.Commands.{Diff};
+ghost use Rattle.netset_commands.specs.Program.{AnswersRequest};
+
+use crate::errors::CommandError;
+use crate::input::files::Sources;
+use crate::input::several::read_both;
+use crate::output::answers::{Verdict, by_output};
+use cidr_io::block::Block;
+use cidr_io::memory::Memory;
+use cidr_io::sink::{OutputFailed, Sink};
+use cidr_io::writing::flush;
+use cidr_lists::changes::{Changes, Sign, sign_text};
+use cidr_lists::printing::Printed;
+use cidr_lists::sets::{Sets, Step};
+
+/// Appends a network with its sign to a block, as a line.
+fn push_change<C: Printed, S: Sink>(
+    block: &mut Block,
+    out: &mut S,
+    change: (Sign, C),
+) -> Result<(), OutputFailed>
+    ensures { Collects (S.state out.old) (S.state out.new) block.old block.new (change_line C.text change) result }
+{
+    let text = change.1.printed();
+    block.push_line(
+        out,
+        &[
+            sign_text(change.0).as_bytes(),
+            text.as_str().as_bytes(),
+            b"\n",
+        ],
+    )
+}
+
+/// Writes the networks of two lists in blocks, each with its sign, one a line.
+fn write_changes<C: Printed, S: Sink>(
+    out: &mut S,
+    added: &[C],
+    lacking: &[C],
+) -> Result<(), OutputFailed>
+    ensures { Writes (S.state out.old) (S.state out.new)
+        (flat_map (change_line C.text) (merged C.bits added.now lacking.now)) result }
+{
+    let mut changes = Changes { added, lacking };
+    let mut block = Block::new();
+    while let Some(change) = changes.next() {
+        push_change(&mut block, out, change)?;
+    }
+    block.write(out)
+}
+
+/// Writes what is added and what is lacking, one a line. An output that has failed before gets nothing.
+fn write_both<S: Sink>(out: &mut S, added: &Sets, lacking: &Sets) -> Result<(), OutputFailed>
+    ensures { Answered (S.state out.old) (S.state out.new) (printed_changes (changed added.now lacking.now)) result }
+{
+    if out.failed() {
+        return Err(OutputFailed);
+    }
+    write_changes(out, added.v4.as_slice(), lacking.v4.as_slice())?;
+    write_changes(out, added.v6.as_slice(), lacking.v6.as_slice())?;
+    flush(out)
+}
+
+/// Yes where nothing is added and nothing lacking.
+fn verdict_of(added: &Sets, lacking: &Sets) -> Verdict
+    ensures { AreSame (changed added.now lacking.now) result }
+{
+    if added.is_empty() && lacking.is_empty() {
+        Verdict::Yes
+    } else {
+        Verdict::No
+    }
+}
+
+/// The command `diff`.
+pub fn diff<'a, M: Memory, F: Sources, O: Sink>(
+    memory: &mut M,
+    sources: &F,
+    old: &'a str,
+    new: &'a str,
+    out: &mut O,
+) -> Result<Verdict, CommandError<'a>>
+    ensures answers { AnswersRequest (F.contents sources.now) (Diff old.now new.now) (O.state out.old) (O.state out.new) result }
+    ensures cause { IfErr result (Cause (FileMayFail (F.contents sources.now)) (M.refused memory.new)) }
+{
+    let (old, new) = read_both(memory, sources, old, new)?;
+    let added = new.stepped(Step::Difference, &old);
+    let added = memory.watch(added)?;
+    let lacking = old.stepped(Step::Difference, &new);
+    let lacking = memory.watch(lacking)?;
+    by_output(
+        verdict_of(&added, &lacking),
+        write_both(out, &added, &lacking),
+    )
+}

@@ -1,0 +1,77 @@
+//! The command `help`.
+ghost use Rattle.std.specs.Prelude.{◌≡◌, ◌++◌, ◌∷◌, [], codes, List, ℕ};
+ghost use Rattle.std.specs.List.{concat, flat_map};
+ghost use Rattle.cidr_io.specs.Collecting.{Collects};
+ghost use Rattle.cidr_io.specs.Writing.{Answered};
+ghost use Rattle.netset_commands.specs.Table.{about_of, help_text, note_of};
+
+use crate::commands::matching::has;
+use crate::commands::table::{
+    HOST_BITS, KEEP_GOING, LISTS, OPTIONS, Verb, about_of, commands, options_of,
+};
+use crate::output::report::{push_texts, write_line};
+use cidr_io::block::Block;
+use cidr_io::sink::{OutputFailed, Sink};
+
+/// Appends what is said of commands to a block.
+fn push_abouts<S: Sink>(
+    block: &mut Block,
+    out: &mut S,
+    commands: &[Verb],
+) -> Result<(), OutputFailed>
+    ensures { Collects (S.state out.old) (S.state out.new) block.old block.new (flat_map about_of commands.now) result }
+{
+    for command in commands {
+        block.push(out, about_of(*command).as_bytes())?;
+    }
+    Ok(())
+}
+
+/// Appends the page of all commands to a block.
+fn push_page<S: Sink>(block: &mut Block, out: &mut S) -> Result<(), OutputFailed>
+    ensures { Collects (S.state out.old) (S.state out.new) block.old block.new (help_text None) result }
+{
+    push_abouts(block, out, commands())?;
+    push_texts(block, out, &[OPTIONS, HOST_BITS, KEEP_GOING, LISTS])
+}
+
+/// Writes the page of all commands, and flushes.
+fn write_page<S: Sink>(out: &mut S) -> Result<(), OutputFailed>
+    ensures { Answered (S.state out.old) (S.state out.new) (help_text None) result }
+{
+    if out.failed() {
+        return Err(OutputFailed);
+    }
+    let mut block = Block::new();
+    push_page(&mut block, out)?;
+    block.flush(out)
+}
+
+/// A note on an option, if the command has the option.
+fn note_of<'a>(command: Verb, option: &str, note: &'a str) -> &'a str
+    ensures { result.now ≡ note_of command option.now note.now }
+{
+    if has(options_of(command), option) {
+        note
+    } else {
+        ""
+    }
+}
+
+/// Writes the page of a command, or of all, and flushes. Its block takes no room on the stack of other commands.
+#[inline(never)]
+pub fn write_help<S: Sink>(topic: Option<Verb>, out: &mut S) -> Result<(), OutputFailed>
+    ensures { Answered (S.state out.old) (S.state out.new) (help_text topic) result }
+{
+    match topic {
+        Some(command) => write_line(
+            out,
+            &[
+                about_of(command),
+                note_of(command, "--host-bits", HOST_BITS),
+                note_of(command, "-k", KEEP_GOING),
+            ],
+        ),
+        None => write_page(out),
+    }
+}

@@ -1,0 +1,384 @@
+//! The command `match`: the lines of a file whose first field lies in a list, or that have an address of it.
+ghost use Rattle.std.specs.Prelude.{◌≡◌, ◌<◌, ◌++◌, [], ◌∷◌, true, false, not, if◌then◌else◌, map, IfOk, IfErr, IfSome, None};
+ghost use Rattle.std.specs.Bool.{Decides};
+ghost use Rattle.cidr_io.specs.Lines.{MayFail as NoLineFails};
+ghost use Rattle.cidr_io.specs.Writing.{Writes};
+ghost use Rattle.cidr_io.specs.Collecting.{Collects};
+ghost use Rattle.netset_commands.specs.Causes.{Cause, FileMayFail, TextFails};
+ghost use Rattle.netset_commands.specs.Commands.{Match};
+ghost use Rattle.netset_commands.specs.Gathering.{Finishes, IsCounted, IsDone, IsNotReadFurther, NotesLong, Stops, Streams, GathersPart, lines_of_part, rest_written, told_behind};
+ghost use Rattle.netset_commands.specs.Matching.{Picks, PicksByField, has, line_written, passed_over, written_of};
+ghost use Rattle.netset_commands.specs.Program.{AnswersRequest};
+ghost use Rattle.netset_commands.specs.Reading.{IsNextLine};
+ghost use Rattle.cidr_lists.specs.Sets.{IsInSets};
+
+use crate::errors::CommandError;
+use crate::input::files::Sources;
+use crate::input::several::read_file;
+use crate::output::answers::{Verdict, by_output};
+use crate::output::printing::catch_up;
+use cidr_io::block::Block;
+use cidr_io::lines::{LineReader, ReadError, is_too_long};
+use cidr_io::memory::Memory;
+use cidr_io::sink::{OutputFailed, Sink};
+use cidr_io::source::Source;
+use cidr_lists::errors::LineError;
+use cidr_lists::fields::first_network;
+use cidr_lists::sets::Sets;
+use itoa::Buffer;
+
+/// What is written of the lines that are picked.
+#[derive(Clone, Copy, Debug, Drop, PartialEq)]
+pub enum Written {
+    /// The lines.
+    Lines,
+    /// How many they are.
+    Count,
+    /// Nothing.
+    Nothing,
+}
+
+/// Whether an option is given.
+pub fn has(options: &[&str], name: &str) -> bool
+    ensures { result ≡ has name.now (map (λ w. w.now) options.now) }
+{
+    options.contains(&name)
+}
+
+/// What is written of the lines by these options.
+fn written_of(options: &[&str]) -> Written
+    ensures { result ≡ written_of (map (λ w. w.now) options.now) }
+{
+    if has(options, "-q") {
+        Written::Nothing
+    } else if has(options, "-c") {
+        Written::Count
+    } else {
+        Written::Lines
+    }
+}
+
+/// Which lines are picked, and what is written of them.
+#[derive(Clone, Copy)]
+struct Matcher<'a> {
+    sets: &'a Sets,
+    anywhere: bool,
+    inverted: bool,
+    written: Written,
+}
+
+impl Matcher<'_> {
+    /// Whether a line is picked by its first field.
+    fn picks_by_field(&self, line: &[u8]) -> Result<bool, LineError>
+        ensures { PicksByField (IsInSets self.now.sets.now) self.now.inverted line.now result }
+    {
+        let network = first_network(line)?;
+        let lies = self.sets.have(&network);
+        Ok(is_picked(self.inverted, lies))
+    }
+
+    /// Whether a line is picked.
+    fn picks(&self, line: &[u8]) -> Result<bool, LineError>
+        ensures { Picks self.now.anywhere (IsInSets self.now.sets.now) self.now.inverted line.now result }
+    {
+        if is_too_long(line) {
+            return passed_over(self.anywhere);
+        }
+        if self.anywhere {
+            return Ok(is_picked(self.inverted, self.sets.have_one(line)));
+        }
+        self.picks_by_field(line)
+    }
+}
+
+/// What becomes of a line that is too long: with `--any` it is passed over, and else it is in error.
+fn passed_over(anywhere: bool) -> Result<bool, LineError>
+    ensures { result ≡ passed_over anywhere }
+{
+    if anywhere {
+        return Ok(false);
+    }
+    Err(LineError::TooLong)
+}
+
+/// The first line that is too long, where this was the first of those before, and this line has this number.
+fn first_long(long: Option<u64>, number: u64, line: &[u8]) -> Option<u64>
+    ensures { NotesLong number line.now long result }
+{
+    match long {
+        Some(first) => Some(first),
+        None => if is_too_long(line) {
+            Some(number)
+        } else {
+            None
+        },
+    }
+}
+
+/// The answer of a file, or the first of its lines that is too long, if one is.
+fn told_behind<'a>(
+    file: &'a str,
+    long: Option<u64>,
+    answer: Result<Verdict, CommandError<'a>>,
+) -> Result<Verdict, CommandError<'a>>
+    ensures { result ≡ told_behind file.entry long answer.entry }
+{
+    match long {
+        None => answer,
+        Some(number) => match answer {
+            Ok(_) => Err(CommandError::Line(file, number, LineError::TooLong)),
+            Err(e) => Err(e),
+        },
+    }
+}
+
+/// Whether a line is picked, by whether it is picked without `-v`.
+fn is_picked(inverted: bool, lies: bool) -> bool
+    ensures { result ≡ (if inverted then not lies else lies) }
+{
+    if inverted { !lies } else { lies }
+}
+
+/// Whether a part up to a line feed or to the end is a line.
+fn is_line(part: &[u8], has_more: bool) -> bool
+    ensures line { result ≡ true → lines_of_part part.now has_more ≡ part.now ∷ [] }
+    ensures none { result ≡ false → lines_of_part part.now has_more ≡ [] }
+{
+    has_more || !part.is_empty()
+}
+
+/// Yes if a line was counted.
+fn verdict_of(count: u64) -> Verdict
+    ensures { IsCounted count result }
+{
+    if count > 0 { Verdict::Yes } else { Verdict::No }
+}
+
+/// The lines that were picked: how many, and what of them is not yet written.
+#[derive(Drop)]
+pub struct Gathered {
+    count: u64,
+    block: Block,
+}
+
+impl Gathered {
+    /// No lines.
+    fn new() -> Gathered
+        ensures count { result.count ≡ 0 }
+        ensures block { result.block ≡ [] }
+    {
+        Gathered {
+            count: 0,
+            block: Block::new(),
+        }
+    }
+
+    /// Adds what is written of a line.
+    fn push<S: Sink>(
+        &mut self,
+        written: Written,
+        out: &mut S,
+        line: &[u8],
+    ) -> Result<(), OutputFailed>
+        ensures count { self.new.count ≡ self.old.count }
+        ensures collects { Collects (S.state out.old) (S.state out.new) self.old.block self.new.block
+            (line_written written line.now) result }
+    {
+        match written {
+            Written::Lines => self.block.push_line(out, &[line, b"\n"]),
+            Written::Count | Written::Nothing => Ok(()),
+        }
+    }
+
+    /// Takes the line of a part up to a line feed or to the end, if it is one and is picked.
+    fn take<'a, S: Sink>(
+        &mut self,
+        matcher: &Matcher<'_>,
+        file: &'a str,
+        number: u64,
+        part: &[u8],
+        has_more: bool,
+        out: &mut S,
+    ) -> Result<(), CommandError<'a>>
+        requires { self.old.count < number }
+        ensures { GathersPart (Picks matcher.now.anywhere (IsInSets matcher.now.sets.now) matcher.now.inverted)
+            matcher.now.written file.now number part.now has_more (S.state out.old) (S.state out.new)
+            self.old self.new result }
+    {
+        if !is_line(part, has_more) {
+            return Ok(());
+        }
+        match matcher.picks(part) {
+            Ok(true) => {
+                self.count += 1;
+                match self.push(matcher.written, out, part) {
+                    Ok(()) => Ok(()),
+                    Err(_) => Err(CommandError::Output),
+                }
+            }
+            Ok(false) => Ok(()),
+            Err(e) => Err(CommandError::Line(file, number, e)),
+        }
+    }
+
+    /// Whether no more lines are needed.
+    fn is_done(&self, written: Written, has_more: bool) -> bool
+        ensures { Decides result (IsDone written has_more self.now.count) }
+    {
+        !has_more || (written == Written::Nothing && self.count > 0)
+    }
+
+    /// Writes what is collected of the lines before more is read.
+    fn catch_up<R: Source + Drop, S: Sink>(
+        &mut self,
+        reader: &LineReader<R>,
+        out: &mut S,
+    ) -> Result<(), OutputFailed>
+        ensures count { self.new.count ≡ self.old.count }
+        ensures collects { Collects (S.state out.old) (S.state out.new) self.old.block self.new.block [] result }
+    {
+        catch_up(reader, &mut self.block, out)
+    }
+
+    /// Writes what is not yet written where no more lines are read for an error, and returns it, or that the output has
+    /// failed.
+    fn stop<'a, S: Sink>(
+        &mut self,
+        error: CommandError<'a>,
+        out: &mut S,
+    ) -> Result<Verdict, CommandError<'a>>
+        ensures { Stops error.entry (S.state out.old) (S.state out.new) self.old.block result }
+    {
+        match error {
+            CommandError::Output => Err(CommandError::Output),
+            error => match self.block.flush(out) {
+                Ok(()) => Err(error),
+                Err(_) => Err(CommandError::Output),
+            },
+        }
+    }
+
+    /// Adds what is written behind the lines.
+    fn push_count<S: Sink>(&mut self, written: Written, out: &mut S) -> Result<(), OutputFailed>
+        ensures { Collects (S.state out.old) (S.state out.new) self.old.block self.new.block
+            (rest_written written self.old.count) result }
+    {
+        match written {
+            Written::Count => {
+                let mut digits = Buffer::new();
+                let count = digits.format(self.count);
+                self.block.push_line(out, &[count.as_bytes(), b"\n"])
+            }
+            Written::Lines | Written::Nothing => Ok(()),
+        }
+    }
+
+    /// Writes what is not yet written.
+    fn write_rest<S: Sink>(&mut self, written: Written, out: &mut S) -> Result<(), OutputFailed>
+        ensures { Writes (S.state out.old) (S.state out.new) (self.old.block ++ rest_written written self.old.count) result }
+    {
+        self.push_count(written, out)?;
+        self.block.flush(out)
+    }
+
+    /// Writes what is not yet written, and tells whether there was a line.
+    fn finish<'a, S: Sink>(
+        &mut self,
+        written: Written,
+        out: &mut S,
+    ) -> Result<Verdict, CommandError<'a>>
+        ensures { Finishes written (S.state out.old) (S.state out.new) self.old result }
+    {
+        let verdict = verdict_of(self.count);
+        by_output(verdict, self.write_rest(written, out))
+    }
+}
+
+/// Reads the next part of a file up to a line feed, without it, and tells whether there was one.
+fn next_part<'a, M: Memory, R: Source + Drop>(
+    memory: &mut M,
+    file: &'a str,
+    reader: &mut LineReader<R>,
+) -> Result<bool, CommandError<'a>>
+    ensures part { IfOk result (λ more. IfSome reader.old.left
+        (λ text. IsNextLine text reader.new.line more reader.new.left)) }
+    ensures stopped { IfErr result (IsNotReadFurther file.now) }
+    ensures cause { IfErr result (Cause (λ name. (name ≡ file.now) × NoLineFails reader.old.left) (M.refused memory.new)) }
+{
+    match reader.read_line(memory) {
+        Ok(has_more) => Ok(has_more),
+        Err(ReadError::NoMemory) => Err(CommandError::NoMemory),
+        Err(ReadError::Failed) => Err(CommandError::Input(file)),
+    }
+}
+
+/// Reads a file line by line, and writes the lines that are picked, also those before a line in error. With `--any` a
+/// line that is too long is passed over, and the first such line is the error behind the others. An output that has
+/// failed before gets nothing.
+fn stream<'a, M: Memory, R: Source + Drop, S: Sink>(
+    memory: &mut M,
+    matcher: &Matcher<'_>,
+    file: &'a str,
+    reader: &mut LineReader<R>,
+    out: &mut S,
+) -> Result<Verdict, CommandError<'a>>
+    ensures streams { Streams (Picks matcher.now.anywhere (IsInSets matcher.now.sets.now) matcher.now.inverted)
+        matcher.now.written file.now reader.old.left (S.state out.old) (S.state out.new) result }
+    ensures cause { IfErr result (Cause (λ name. (name ≡ file.now) × TextFails reader.old.left) (M.refused memory.new)) }
+{
+    if out.failed() {
+        return Err(CommandError::Output);
+    }
+    let mut gathered = Gathered::new();
+    let mut long = None;
+    for number in 1..u64::MAX {
+        let Ok(()) = gathered.catch_up(reader, out) else {
+            return Err(CommandError::Output);
+        };
+        let has_more = match next_part(memory, file, reader) {
+            Ok(has_more) => has_more,
+            Err(e) => return gathered.stop(e, out),
+        };
+        long = first_long(long, number, reader.line());
+        match gathered.take(matcher, file, number, reader.line(), has_more, out) {
+            Ok(()) => {}
+            Err(e) => return gathered.stop(e, out),
+        }
+        if gathered.is_done(matcher.written, has_more) {
+            return told_behind(file, long, gathered.finish(matcher.written, out));
+        }
+    }
+    gathered.stop(CommandError::Input(file), out)
+}
+
+/// The command `match`.
+pub fn matching<'a, M: Memory, F: Sources, O: Sink>(
+    memory: &mut M,
+    sources: &F,
+    options: &[&str],
+    list: &'a str,
+    file: &'a str,
+    out: &mut O,
+) -> Result<Verdict, CommandError<'a>>
+    ensures answers { AnswersRequest (F.contents sources.now) (Match (map (λ w. w.now) options.now) list.now file.now)
+        (O.state out.old) (O.state out.new) result }
+    ensures cause { IfErr result (Cause (FileMayFail (F.contents sources.now)) (M.refused memory.new)) }
+{
+    let sets = read_file(memory, sources, list)?;
+    let anywhere = has(options, "--any");
+    let inverted = has(options, "-v");
+    let written = written_of(options);
+    let matcher = Matcher {
+        sets: &sets,
+        anywhere,
+        inverted,
+        written,
+    };
+    let Some(reader) = sources.open(file) else {
+        return Err(CommandError::Input(file));
+    };
+    let Ok(mut reader) = LineReader::new(memory, reader) else {
+        return Err(CommandError::NoMemory);
+    };
+    stream(memory, &matcher, file, &mut reader, out)
+}

@@ -1,0 +1,129 @@
+//! Why a list can't be read, and why a command gave no answer.
+
+use cidr::errors::NetworkParseError;
+use cidr_ext::TextFault;
+use cidr_io::lines;
+use cidr_lists::errors::LineError;
+use std::alloc::AllocError;
+
+/// Why a list can't be read.
+#[derive(Debug, Drop)]
+pub enum ReadError {
+    /// The first line in error, counted from 1.
+    Line(u64, LineError),
+    /// The file or the standard input can't be read.
+    Input,
+    /// There is no memory for its networks.
+    NoMemory,
+}
+
+/// What is wrong with a word of the arguments.
+#[derive(Clone, Copy, Debug, Drop, PartialEq)]
+pub enum Misfit {
+    /// It is not UTF-8.
+    NotText,
+    /// It stands for the command, which is missing.
+    Unnamed,
+    /// There is no command of this name.
+    NoCommand,
+    /// The command has no such option.
+    NoOption,
+    /// It is the name of an operand or of a value that is missing.
+    Missing,
+    /// The command takes fewer operands or values.
+    Extra,
+}
+
+/// Why the arguments are no command.
+#[derive(Clone, Copy, Debug, Drop)]
+pub struct Misuse<'a> {
+    /// The first word that is wrong, or the name of what is missing.
+    pub word: &'a str,
+    pub why: Misfit,
+    /// The name of the command, or nothing where there is none.
+    pub command: &'a str,
+}
+
+/// Why there is no command to answer.
+#[derive(Debug, Drop)]
+pub enum UsageError<'a> {
+    /// The arguments are none.
+    Misuse(Misuse<'a>),
+    /// There is no memory for them.
+    NoMemory,
+}
+
+impl From<AllocError> for UsageError<'_> {
+    ghost use Rattle.std.specs.Prelude.{◌≡◌};
+    ghost use Rattle.netset_commands.specs.declared.errors.UsageError.TheVariants.{NoMemory};
+
+    ghost from_gives = { λ _ e. e ≡ NoMemory };
+
+    fn from(_error: AllocError) -> Self {
+        UsageError::NoMemory
+    }
+}
+
+/// Why an argument is wrong.
+#[derive(Debug, Drop)]
+pub enum ArgumentError {
+    /// It is no network or no host: its first fault, if it has one, and the error of parsing it.
+    Network(Option<TextFault>, NetworkParseError),
+    /// It is no prefix length of networks inside the network.
+    Length,
+    /// It is no index below 2^128.
+    Index,
+    /// It is the standard input, which is read already.
+    ReadTwice,
+}
+
+/// Why a command gave no answer.
+#[derive(Debug, Drop)]
+pub enum CommandError<'a> {
+    /// The first argument that is wrong, and why; nothing was written.
+    Argument(&'a str, ArgumentError),
+    /// The first line in error of this file, from 1 on; nothing was written, but by `match` and `look` lines before it.
+    Line(&'a str, u64, LineError),
+    /// This file can't be read; nothing was written, but by `match` and `look` lines before.
+    Input(&'a str),
+    /// There is no memory; nothing was written, but by `match` and `look` lines before.
+    NoMemory,
+    /// The output has failed; a beginning of the answer was written.
+    Output,
+}
+
+impl From<AllocError> for CommandError<'_> {
+    ghost use Rattle.std.specs.Prelude.{◌≡◌};
+    ghost use Rattle.netset_commands.specs.declared.errors.CommandError.TheVariants.{NoMemory};
+
+    ghost from_gives = { λ _ e. e ≡ NoMemory };
+
+    fn from(_error: AllocError) -> Self {
+        CommandError::NoMemory
+    }
+}
+
+impl From<lines::ReadError> for ReadError {
+    ghost use Rattle.netset_commands.specs.Reading.{read_error};
+    ghost use Rattle.std.specs.Prelude.{◌≡◌};
+
+    ghost from_gives = { λ e read. read ≡ read_error e };
+
+    fn from(error: lines::ReadError) -> ReadError {
+        match error {
+            lines::ReadError::Failed => ReadError::Input,
+            lines::ReadError::NoMemory => ReadError::NoMemory,
+        }
+    }
+}
+
+impl From<AllocError> for ReadError {
+    ghost use Rattle.std.specs.Prelude.{◌≡◌};
+    ghost use Rattle.netset_commands.specs.declared.errors.ReadError.TheVariants.{NoMemory};
+
+    ghost from_gives = { λ _ e. e ≡ NoMemory };
+
+    fn from(_error: AllocError) -> ReadError {
+        ReadError::NoMemory
+    }
+}

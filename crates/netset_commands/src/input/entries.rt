@@ -1,0 +1,179 @@
+//! Reading the lines of lists that have a network or a host.
+ghost use Rattle.std.specs.Prelude.{◌≡◌, ◌∷◌, true, IfErr, IfSome, MatchResult, OnErr, OnOk, Some, map};
+ghost use Rattle.netset_commands.specs.Causes.{Cause, FileMayFail, ReadCause, TextFails};
+ghost use Rattle.netset_commands.specs.Commands.{read_files};
+ghost use Rattle.netset_commands.specs.Entries.{AddsEntries, AddsEntry, CopiesEntries};
+ghost use Rattle.netset_commands.specs.Unchecked.{AddsFileEntries, AreToldEntries, IsUnchecked};
+
+use crate::errors::{CommandError, ReadError};
+use crate::input::files::Sources;
+use crate::input::keeping::Said;
+use cidr_io::lines::{LineReader, is_too_long};
+use cidr_io::memory::Memory;
+use cidr_io::source::Source;
+use cidr_lists::entries::{Entry, Place, entry_of};
+use cidr_lists::errors::LineError;
+use std::alloc::AllocError;
+
+/// Adds the entry that a line has, if it has one.
+pub fn add_line<'a, M: Memory>(
+    memory: &mut M,
+    place: Place<'a>,
+    line: &[u8],
+    entries: &mut Vec<Entry<'a>>,
+) -> Result<(), ReadError>
+    ensures adds { AddsEntry place.entry.file.now place.entry.number line.now entries.old.items entries.new.items result }
+    ensures cause { IfErr result (ReadCause ⊥ (M.refused memory.new)) }
+{
+    if is_too_long(line) {
+        return Err(ReadError::Line(place.number, LineError::TooLong));
+    }
+    match entry_of(place, line) {
+        Ok(Some(entry)) => {
+            memory.push(entries, entry)?;
+            Ok(())
+        }
+        Ok(None) => Ok(()),
+        Err(e) => Err(ReadError::Line(place.number, e)),
+    }
+}
+
+/// Reads a list to its end or to its first line in error, and adds its entries.
+fn add_lines<'a, M: Memory, S: Source + Drop>(
+    memory: &mut M,
+    reader: &mut LineReader<S>,
+    file: &'a str,
+    entries: &mut Vec<Entry<'a>>,
+) -> Result<(), ReadError>
+    ensures adds { IfSome reader.old.left
+        (λ text. AddsEntries file.now text entries.old.items entries.new.items result) }
+    ensures cause { IfErr result (ReadCause (TextFails reader.old.left) (M.refused memory.new)) }
+{
+    for number in 1..u64::MAX {
+        let has_more = reader.read_line(memory)?;
+        add_line(memory, Place { file, number }, reader.line(), entries)?;
+        if !has_more {
+            return Ok(());
+        }
+    }
+    Err(ReadError::Input)
+}
+
+/// Reads a list in blocks, to its end or to its first line in error, and adds its entries.
+fn add_list<'a, M: Memory, S: Source + Drop>(
+    memory: &mut M,
+    source: S,
+    file: &'a str,
+    entries: &mut Vec<Entry<'a>>,
+) -> Result<(), ReadError>
+    ensures adds { IfSome (S.left source)
+        (λ text. AddsEntries file.now text entries.old.items entries.new.items result) }
+    ensures cause { IfErr result (ReadCause (TextFails (S.left source)) (M.refused memory.new)) }
+{
+    let mut reader = LineReader::new(memory, source)?;
+    add_lines(memory, &mut reader, file, entries)
+}
+
+/// Reads the list of a file, and adds its entries.
+fn add_opened<'a, M: Memory, F: Sources>(
+    memory: &mut M,
+    sources: &F,
+    file: &'a str,
+    entries: &mut Vec<Entry<'a>>,
+) -> Result<(), CommandError<'a>>
+    ensures adds { AddsFileEntries (F.contents sources.now file.now) file.now entries.old.items entries.new.items result }
+    ensures cause { IfErr result (Cause (FileMayFail (F.contents sources.now)) (M.refused memory.new)) }
+{
+    let Some(reader) = sources.open(file) else {
+        return Err(CommandError::Input(file));
+    };
+    match add_list(memory, reader, file, entries) {
+        Ok(()) => Ok(()),
+        Err(ReadError::Line(number, e)) => Err(CommandError::Line(file, number, e)),
+        Err(ReadError::Input) => Err(CommandError::Input(file)),
+        Err(ReadError::NoMemory) => Err(CommandError::NoMemory),
+    }
+}
+
+/// Adds entries of a file of no name as those of a file.
+fn add_kept<'a, M: Memory>(
+    memory: &mut M,
+    file: &'a str,
+    kept: &[Entry<'_>],
+    entries: &mut Vec<Entry<'a>>,
+) -> Result<(), AllocError>
+    ensures added { OnOk result (CopiesEntries file.now kept.now entries.old.items entries.new.items) }
+    ensures refused { OnErr result (M.refused memory.new ≡ true) }
+{
+    for entry in kept {
+        let place = Place {
+            file,
+            number: entry.place.number,
+        };
+        memory.push(
+            entries,
+            Entry {
+                place,
+                host: entry.host,
+                is_canonical: entry.is_canonical,
+            },
+        )?;
+    }
+    Ok(())
+}
+
+/// Adds the entries of the list of a file, which is read unless it is read already.
+fn add_file<'a, M: Memory, F: Sources>(
+    memory: &mut M,
+    sources: &F,
+    file: &'a str,
+    entries: &mut Vec<Entry<'a>>,
+) -> Result<(), CommandError<'a>>
+    ensures adds { AddsFileEntries (F.contents sources.now file.now) file.now entries.old.items entries.new.items result }
+    ensures cause { IfErr result (Cause (FileMayFail (F.contents sources.now)) (M.refused memory.new)) }
+{
+    match sources.kept(file) {
+        Some(Said::Hosts(kept)) => {
+            add_kept(memory, file, kept.as_slice(), entries)?;
+            Ok(())
+        }
+        _ => add_opened(memory, sources, file, entries),
+    }
+}
+
+/// The entries of the lists of a file and of others.
+fn read_named<'a, M: Memory, F: Sources>(
+    memory: &mut M,
+    sources: &F,
+    file: &'a str,
+    files: &[&'a str],
+) -> Result<Vec<Entry<'a>>, CommandError<'a>>
+    ensures reads { MatchResult result
+        (λ entries. AreToldEntries (F.contents sources.now) (file.now ∷ map (λ file. file.now) files.now) entries.items)
+        (IsUnchecked (F.contents sources.now) (file.now ∷ map (λ file. file.now) files.now)) }
+    ensures cause { IfErr result (Cause (FileMayFail (F.contents sources.now)) (M.refused memory.new)) }
+{
+    let mut entries = Vec::new(memory.alloc());
+    add_file(memory, sources, file, &mut entries)?;
+    for other in files {
+        add_file(memory, sources, other, &mut entries)?;
+    }
+    Ok(entries)
+}
+
+/// The entries of the lists of a command's files: of the standard input, if none is named.
+pub fn read_entries<'a, M: Memory, F: Sources>(
+    memory: &mut M,
+    sources: &F,
+    files: &[&'a str],
+) -> Result<Vec<Entry<'a>>, CommandError<'a>>
+    ensures reads { MatchResult result
+        (λ entries. AreToldEntries (F.contents sources.now) (read_files (map (λ file. file.now) files.now)) entries.items)
+        (IsUnchecked (F.contents sources.now) (read_files (map (λ file. file.now) files.now))) }
+    ensures cause { IfErr result (Cause (FileMayFail (F.contents sources.now)) (M.refused memory.new)) }
+{
+    match files.split_first() {
+        Some((file, files)) => read_named(memory, sources, file, files),
+        None => read_named(memory, sources, "-", &[]),
+    }
+}

@@ -1,0 +1,121 @@
+//! The files of a run and its standard input.
+ghost use Rattle.std.specs.Prelude.{◌≡◌, ℕ, List, Option, Some, None, IfSome};
+ghost use Rattle.netset_commands.specs.Keeping.{AllSaid};
+ghost use Rattle.cidr_lists.specs.Lists.{Text, lines_of};
+ghost use Rattle.netset_commands.specs.Program.{contents_by};
+
+use crate::input::keeping::Said;
+use crate::output::terminal::{Progress, Watched};
+use cidr_io::source::Source;
+use cidr_lists::lines::HostBits;
+use std::io::{Eprint, Input, Read};
+use std::rt::Clock;
+use std::{fs, io, rt};
+
+/// What a run reads: its files and its standard input.
+pub trait Files {
+    type Reader: Source + Drop;
+
+    /// The bytes of the file of a name, if they are told: it can be read then. The name `-` is that of the standard
+    /// input.
+    ghost contents: { Self → List ℕ → Option (List ℕ) };
+
+    /// Opens the file of this name; `None` where it can't be opened.
+    fn open(&self, name: &str) -> Option<Self::Reader>
+        ensures left { IfSome result (λ reader. (text : List ℕ) → contents self.now name.now ≡ Some text
+            → Self.Reader.left reader ≡ Some text) }
+        ensures none { result ≡ None → contents self.now name.now ≡ None };
+}
+
+/// What lists are read from, and how.
+pub trait Sources {
+    type Reader: Source + Drop;
+
+    /// The list of the file of a name, if it is told. The name `-` is that of the standard input.
+    ghost contents: { Self → List ℕ → Option Text };
+
+    /// Opens the file of this name; `None` where it can't be opened.
+    fn open(&self, name: &str) -> Option<Self::Reader>
+        ensures left { IfSome result (λ reader. (text : Text) → contents self.now name.now ≡ Some text
+            → Self.Reader.left reader ≡ Some text.bytes) }
+        ensures none { result ≡ None → contents self.now name.now ≡ None };
+
+    /// What is done with a set bit after the prefix of a network.
+    fn host_bits(&self) -> HostBits
+        ensures { (name : List ℕ) (text : Text) → contents self.now name ≡ Some text → text.host_bits ≡ result };
+
+    /// What the lines of the file of this name say, if they are read already and none is in error.
+    fn kept(&self, name: &str) -> Option<&Said>
+        ensures { IfSome result (λ said. (text : Text) → contents self.now name.now ≡ Some text
+            → AllSaid text.host_bits (lines_of text.bytes) said.now) };
+}
+
+/// The files of a run, and how their lists are read.
+#[derive(Clone, Copy)]
+pub struct ReadBy<'a, F: Files> {
+    pub files: &'a F,
+    pub host_bits: HostBits,
+}
+
+impl<F: Files> Sources for ReadBy<'_, F> {
+    type Reader = F::Reader;
+
+    ghost contents = { λ s. contents_by s.host_bits (F.contents s.files.now) };
+
+    fn open(&self, name: &str) -> Option<F::Reader> {
+        self.files.open(name)
+    }
+
+    fn host_bits(&self) -> HostBits {
+        self.host_bits
+    }
+
+    fn kept(&self, _name: &str) -> Option<&Said> {
+        None
+    }
+}
+
+/// A file or the standard input.
+#[derive(Drop)]
+pub enum Opened<F: Read + Drop, I: Read + Drop> {
+    File(F),
+    Input(I),
+}
+
+impl<F: Read + Drop, I: Read + Drop> Read for Opened<F, I> {
+    ghost use Rattle.netset_commands.specs.Opened.{opened_remaining};
+
+    ghost remaining = { opened_remaining F.remaining I.remaining };
+
+    fn read(&mut self, buf: &mut [u8]) -> io::Result<usize> {
+        match self {
+            Opened::File(file) => file.read(buf),
+            Opened::Input(input) => input.read(buf),
+        }
+    }
+}
+
+/// The files of the system and its standard input, which nothing is told of, and how far reading them is.
+#[derive(Clone, Copy)]
+pub struct System<'a, R: rt::Files + Input + Clock + Eprint> {
+    pub runtime: &'a R,
+    pub progress: &'a Progress<'a, R>,
+}
+
+impl<'a, R: rt::Files + Input + Clock + Eprint> Files for System<'a, R> {
+    type Reader = Watched<'a, Opened<R::File, R::Reader>, R>;
+
+    ghost contents = { λ _ _. None };
+
+    fn open(&self, name: &str) -> Option<Self::Reader> {
+        let source = if name == "-" {
+            Opened::Input(self.runtime.reader())
+        } else {
+            Opened::File(fs::open(self.runtime, name).ok()?)
+        };
+        Some(Watched {
+            source,
+            progress: self.progress,
+        })
+    }
+}

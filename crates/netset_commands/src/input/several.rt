@@ -1,0 +1,139 @@
+//! Reading the lists of files, each as a set.
+ghost use Rattle.std.specs.Prelude.{◌∷◌, map, IfErr, MatchResult};
+ghost use Rattle.netset_commands.specs.Causes.{Cause, FileMayFail};
+ghost use Rattle.netset_commands.specs.Commands.{read_files};
+ghost use Rattle.netset_commands.specs.Answering.{AddsFile, AreRead, ReadsBoth, ReadsFile, ReadsSeveral};
+ghost use Rattle.netset_commands.specs.Program.{IsUnread};
+
+use crate::errors::{CommandError, ReadError};
+use crate::input::files::Sources;
+use crate::input::keeping::Said;
+use crate::input::lists::read_list;
+use cidr_io::memory::Memory;
+use cidr_lists::lists::Lists;
+use cidr_lists::sets::Sets;
+
+/// The sets of the files of a command, at least one.
+#[derive(Drop)]
+pub struct Several {
+    pub first: Sets,
+    pub others: Vec<Sets>,
+}
+
+/// Reads the list of a file, and adds its networks.
+fn add_opened<'a, M: Memory, F: Sources>(
+    memory: &mut M,
+    sources: &F,
+    file: &'a str,
+    lists: &mut Lists,
+) -> Result<(), CommandError<'a>>
+    ensures adds { AddsFile (F.contents sources.now file.now) file.now lists.old lists.new result }
+    ensures cause { IfErr result (Cause (FileMayFail (F.contents sources.now)) (M.refused memory.new)) }
+{
+    let Some(reader) = sources.open(file) else {
+        return Err(CommandError::Input(file));
+    };
+    match read_list(memory, sources.host_bits(), reader, lists) {
+        Ok(()) => Ok(()),
+        Err(ReadError::Line(number, e)) => Err(CommandError::Line(file, number, e)),
+        Err(ReadError::Input) => Err(CommandError::Input(file)),
+        Err(ReadError::NoMemory) => Err(CommandError::NoMemory),
+    }
+}
+
+/// Adds the networks of the list of a file, which is read unless it is read already.
+fn add_file<'a, M: Memory, F: Sources>(
+    memory: &mut M,
+    sources: &F,
+    file: &'a str,
+    lists: &mut Lists,
+) -> Result<(), CommandError<'a>>
+    ensures adds { AddsFile (F.contents sources.now file.now) file.now lists.old lists.new result }
+    ensures cause { IfErr result (Cause (FileMayFail (F.contents sources.now)) (M.refused memory.new)) }
+{
+    match sources.kept(file) {
+        Some(Said::Networks(kept)) => {
+            let added = lists.extend(kept);
+            memory.watch(added)?;
+            Ok(())
+        }
+        _ => add_opened(memory, sources, file, lists),
+    }
+}
+
+/// The addresses of the list of a file.
+pub fn read_file<'a, M: Memory, F: Sources>(
+    memory: &mut M,
+    sources: &F,
+    file: &'a str,
+) -> Result<Sets, CommandError<'a>>
+    ensures reads { ReadsFile (F.contents sources.now file.now) file.now result }
+    ensures cause { IfErr result (Cause (FileMayFail (F.contents sources.now)) (M.refused memory.new)) }
+{
+    let mut lists = Lists::new(memory.alloc());
+    add_file(memory, sources, file, &mut lists)?;
+    Ok(Sets::of_lists(lists))
+}
+
+/// The addresses of the lists of some files, each.
+fn read_all<'a, M: Memory, F: Sources>(
+    memory: &mut M,
+    sources: &F,
+    files: &[&'a str],
+) -> Result<Vec<Sets>, CommandError<'a>>
+    ensures reads { MatchResult result (λ sets. AreRead (F.contents sources.now) (map (λ file. file.now) files.now) sets.items)
+        (IsUnread (F.contents sources.now) (map (λ file. file.now) files.now)) }
+    ensures cause { IfErr result (Cause (FileMayFail (F.contents sources.now)) (M.refused memory.new)) }
+{
+    let mut sets = Vec::new(memory.alloc());
+    for file in files {
+        let set = read_file(memory, sources, file)?;
+        memory.push(&mut sets, set)?;
+    }
+    Ok(sets)
+}
+
+/// The addresses of the lists of two files.
+pub fn read_both<'a, M: Memory, F: Sources>(
+    memory: &mut M,
+    sources: &F,
+    old: &'a str,
+    new: &'a str,
+) -> Result<(Sets, Sets), CommandError<'a>>
+    ensures reads { ReadsBoth (F.contents sources.now) old.now new.now result }
+    ensures cause { IfErr result (Cause (FileMayFail (F.contents sources.now)) (M.refused memory.new)) }
+{
+    let these = read_file(memory, sources, old)?;
+    let those = read_file(memory, sources, new)?;
+    Ok((these, those))
+}
+
+/// The addresses of the lists of a file and of others, each.
+pub fn read_named<'a, M: Memory, F: Sources>(
+    memory: &mut M,
+    sources: &F,
+    file: &'a str,
+    files: &[&'a str],
+) -> Result<Several, CommandError<'a>>
+    ensures reads { ReadsSeveral (F.contents sources.now) (file.now ∷ map (λ file. file.now) files.now) result }
+    ensures cause { IfErr result (Cause (FileMayFail (F.contents sources.now)) (M.refused memory.new)) }
+{
+    let first = read_file(memory, sources, file)?;
+    let others = read_all(memory, sources, files)?;
+    Ok(Several { first, others })
+}
+
+/// The addresses of the lists of a command's files, each: of the standard input, if none is named.
+pub fn read_several<'a, M: Memory, F: Sources>(
+    memory: &mut M,
+    sources: &F,
+    files: &[&'a str],
+) -> Result<Several, CommandError<'a>>
+    ensures reads { ReadsSeveral (F.contents sources.now) (read_files (map (λ file. file.now) files.now)) result }
+    ensures cause { IfErr result (Cause (FileMayFail (F.contents sources.now)) (M.refused memory.new)) }
+{
+    match files.split_first() {
+        Some((file, files)) => read_named(memory, sources, file, files),
+        None => read_named(memory, sources, "-", &[]),
+    }
+}

@@ -1,0 +1,10 @@
+//! The commands of the program `netset`, over arguments, files, memory and outputs that a caller gives.
+//!
+//! `program::program` is a whole run: the program gives it those of its system, and another caller its own, as in memory.
+#![tactic(auto)]
+
+pub mod commands;
+pub mod errors;
+pub mod input;
+pub mod output;
+pub mod program;

@@ -1,0 +1,218 @@
+//! The exit status, and what is written to standard error.
+ghost use Rattle.std.specs.Prelude.{◌≡◌, ◌++◌, Err, List, ℕ, codes};
+ghost use Rattle.std.specs.List.{flat_map};
+ghost use Rattle.cidr_io.specs.Collecting.{Collects, HasSaid};
+ghost use Rattle.cidr_io.specs.Shown.{part_text, shown};
+ghost use Rattle.cidr_io.specs.Writing.{Answered, Tells, State};
+ghost use Rattle.cidr_lists.specs.Messages.{fault_line};
+ghost use Rattle.netset_commands.specs.Arguments.{misfit_text};
+ghost use Rattle.netset_commands.specs.Command.{misuse_line};
+ghost use Rattle.netset_commands.specs.Program.{Reports, ReportsUnless, argument_message, error_line, is_closed_pipe, status_of};
+
+use crate::errors::{ArgumentError, CommandError, Misfit, Misuse};
+use crate::output::answers::Verdict;
+use arrayvec::ArrayString;
+use cidr_io::block::Block;
+use cidr_io::shown::{Part, excerpt};
+use cidr_io::sink::{OutputFailed, Sink};
+use cidr_lists::errors::{LineError, fault_words};
+use itoa::Buffer;
+
+/// The message of an argument that is wrong.
+fn argument_message(error: &ArgumentError) -> ArrayString<99>
+    ensures { result.bytes ≡ argument_message error.now }
+{
+    let mut text = ArrayString::new();
+    match error {
+        ArgumentError::Network(fault, e) => return fault_words(fault, e.to_text()),
+        ArgumentError::Length => text.push_str("no prefix length inside the network"),
+        ArgumentError::Index => text.push_str("no index below 2^128"),
+        ArgumentError::ReadTwice => text.push_str("standard input can be read only once"),
+    }
+    text
+}
+
+/// Appends strings to a block, behind one another.
+pub fn push_texts<S: Sink>(
+    block: &mut Block,
+    out: &mut S,
+    texts: &[&str],
+) -> Result<(), OutputFailed>
+    ensures { Collects (S.state out.old) (S.state out.new) block.old block.new (flat_map (λ text. text.now) texts.now) result }
+{
+    for text in texts {
+        block.push(out, text.as_bytes())?;
+    }
+    Ok(())
+}
+
+/// Writes a line of several parts, and flushes. A sink that has failed before gets nothing.
+pub fn write_line<S: Sink>(out: &mut S, parts: &[&str]) -> Result<(), OutputFailed>
+    ensures { Answered (S.state out.old) (S.state out.new) (flat_map (λ part. part.now) parts.now) result }
+{
+    if out.failed() {
+        return Err(OutputFailed);
+    }
+    let mut block = Block::new();
+    push_texts(&mut block, out, parts)?;
+    block.flush(out)
+}
+
+/// Writes a message of several parts, and flushes. A sink that has failed before gets nothing.
+fn write_message<S: Sink>(out: &mut S, parts: &[Part<'_>]) -> Result<(), OutputFailed>
+    ensures { Answered (S.state out.old) (S.state out.new) (flat_map part_text parts.now) result }
+{
+    if out.failed() {
+        return Err(OutputFailed);
+    }
+    let mut block = Block::new();
+    block.push_message(out, parts)?;
+    block.flush(out)
+}
+
+/// The parts of the line of a line in error.
+fn fault_parts<'a>(file: &'a str, number: &'a str, message: &'a str) -> [Part<'a>; 6]
+    ensures { flat_map part_text result ≡ shown file.now ++ (codes ":" ++ (number.now ++ (codes ": " ++ (message.now ++ codes "\n")))) }
+{
+    let colon: &'a str = ":";
+    let gap: &'a str = ": ";
+    let end: &'a str = "\n";
+    [
+        Part::Shown(file),
+        Part::Plain(colon),
+        Part::Plain(number),
+        Part::Plain(gap),
+        Part::Plain(message),
+        Part::Plain(end),
+    ]
+}
+
+/// The parts of the line of a file that can't be read.
+fn unread_parts<'a>(name: &'a str) -> [Part<'a>; 2]
+    ensures { flat_map part_text result ≡ shown name.now ++ codes ": cannot be read\n" }
+{
+    let words: &'a str = ": cannot be read\n";
+    [Part::Shown(name), Part::Plain(words)]
+}
+
+/// Appends the line of a line in error to a block, as far as the sink takes lines.
+pub fn say_fault<E: Sink>(
+    block: &mut Block,
+    err: &mut E,
+    file: &str,
+    number: u64,
+    error: &LineError,
+)
+    ensures { (start : State) (text : List ℕ) → HasSaid start (E.state err.old) block.old text
+        → HasSaid start (E.state err.new) block.new (text ++ fault_line file.now (number, error.now)) }
+{
+    let mut digits = Buffer::new();
+    let message = error.message();
+    let parts = fault_parts(file, digits.format(number), message.as_str());
+    block.say_message(err, &parts);
+}
+
+/// Writes the line of an error, as far as the sink takes it.
+fn say<E: Sink>(error: &CommandError<'_>, err: &mut E)
+    ensures { Tells (E.state err.old) (E.state err.new) (error_line error.now) }
+{
+    let _ = match error {
+        CommandError::Argument(text, e) => write_line(
+            err,
+            &[
+                excerpt(text).as_str(),
+                ": ",
+                argument_message(e).as_str(),
+                "\n",
+            ],
+        ),
+        CommandError::Line(name, number, e) => write_message(
+            err,
+            &fault_parts(name, Buffer::new().format(*number), e.message().as_str()),
+        ),
+        CommandError::Input(name) => write_message(err, &unread_parts(name)),
+        CommandError::NoMemory => write_line(err, &["no memory\n"]),
+        CommandError::Output => write_line(err, &["output failed\n"]),
+    };
+}
+
+/// Whether the error is that nobody reads the output any more.
+fn is_closed_pipe(closed: bool, error: &CommandError<'_>) -> bool
+    ensures { result ≡ is_closed_pipe closed error.now }
+{
+    match error {
+        CommandError::Output => closed,
+        _ => false,
+    }
+}
+
+/// Writes the line of an error, as far as the sink takes it, unless it is to be silent.
+fn say_unless<E: Sink>(silent: bool, error: &CommandError<'_>, err: &mut E)
+    ensures { ReportsUnless silent error.now (E.state err.old) (E.state err.new) }
+{
+    if !silent {
+        say(error, err);
+    }
+}
+
+/// The exit status of an error.
+fn status_of(error: &CommandError<'_>) -> u8
+    ensures { result ≡ status_of (Err error.now) }
+{
+    match error {
+        CommandError::Argument(_, _) | CommandError::Line(_, _, _) | CommandError::Input(_) => 2,
+        CommandError::NoMemory | CommandError::Output => 3,
+    }
+}
+
+/// Writes the line that belongs to an answer, if there is one, and returns the exit status whatever the sink does: 0
+/// for an answer, 1 for none, no or findings, 2 for usage, a file that can't be read and a line in error, 3 where the output failed or there is no
+/// memory. An output that failed is told unless it is closed: nobody reads it any more.
+pub fn report<E: Sink>(answer: &Result<Verdict, CommandError<'_>>, closed: bool, err: &mut E) -> u8
+    ensures status { result ≡ status_of answer.now }
+    ensures says { Reports closed answer.now (E.state err.old) (E.state err.new) }
+{
+    match answer {
+        Ok(Verdict::Yes) => 0,
+        Ok(Verdict::No) => 1,
+        Err(error) => {
+            say_unless(is_closed_pipe(closed, error), error, err);
+            status_of(error)
+        }
+    }
+}
+
+/// What is wrong with a word.
+fn misfit_text(why: Misfit) -> ArrayString<48>
+    ensures { result.bytes ≡ misfit_text why }
+{
+    let mut text = ArrayString::new();
+    match why {
+        Misfit::NotText => text.push_str(" is not UTF-8, see: netset help"),
+        Misfit::Unnamed => text.push_str(" is missing, see: netset help"),
+        Misfit::NoCommand => text.push_str(": no such command, see: netset help"),
+        Misfit::NoOption => text.push_str(": no such option, see: netset help "),
+        Misfit::Missing => text.push_str(" is missing, see: netset help "),
+        Misfit::Extra => text.push_str(": one argument too many, see: netset help "),
+    }
+    text
+}
+
+/// Writes the line of arguments that are no command, as far as the sink takes it, and returns the exit status.
+#[inline(never)]
+pub fn report_misuse<E: Sink>(misuse: &Misuse<'_>, err: &mut E) -> u8
+    ensures status { result ≡ 2 }
+    ensures says { Tells (E.state err.old) (E.state err.new) (misuse_line misuse.now) }
+{
+    let Misuse { word, why, command } = misuse;
+    let _ = write_line(
+        err,
+        &[
+            excerpt(word).as_str(),
+            misfit_text(*why).as_str(),
+            command,
+            "\n",
+        ],
+    );
+    2
+}

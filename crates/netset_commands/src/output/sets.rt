@@ -1,0 +1,34 @@
+//! Writing sets.
+ghost use Rattle.std.specs.Prelude.{[]};
+ghost use Rattle.cidr_io.specs.Writing.{Answered};
+ghost use Rattle.cidr_lists.specs.declared.sets.Form.TheVariants.{Counts};
+ghost use Rattle.netset_commands.specs.Sets.{Prints};
+ghost use Rattle.cidr_lists.specs.Sets.{networks_of, printed_sets};
+
+use crate::output::printing::write_networks;
+use crate::output::report::write_line;
+use cidr_io::sink::{OutputFailed, Sink};
+use cidr_io::writing::flush;
+use cidr_lists::printing::count_text;
+use cidr_lists::sets::Sets;
+
+/// Writes the networks, one a line. An output that has failed before gets nothing.
+pub fn write_sets<S: Sink>(out: &mut S, sets: &Sets) -> Result<(), OutputFailed>
+    ensures { Answered (S.state out.old) (S.state out.new) (printed_sets (networks_of sets.now)) result }
+{
+    if out.failed() {
+        return Err(OutputFailed);
+    }
+    write_networks(out, sets.v4.as_slice())?;
+    write_networks(out, sets.v6.as_slice())?;
+    flush(out)
+}
+
+/// Writes how many addresses of each family there are, a line each. An output that has failed before gets nothing.
+pub fn write_counts<S: Sink>(out: &mut S, sets: &Sets) -> Result<(), OutputFailed>
+    ensures { Prints Counts (S.state out.old) (S.state out.new) (networks_of sets.now) result }
+{
+    let v4 = count_text(sets.v4.address_count());
+    let v6 = count_text(sets.v6.address_count());
+    write_line(out, &["IPv4 ", v4.as_str(), "\nIPv6 ", v6.as_str(), "\n"])
+}

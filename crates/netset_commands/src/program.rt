@@ -1,0 +1,252 @@
+//! A run of the program, from its arguments to its exit status.
+ghost use Rattle.std.specs.Prelude.{map, IfErr, MatchOption, Ok};
+ghost use Rattle.std.specs.String.{string_bytes};
+ghost use Rattle.netset_commands.specs.Causes.{Cause, FileMayFail};
+ghost use Rattle.netset_commands.specs.Combining.{form_of};
+ghost use Rattle.netset_commands.specs.Arguments.{line_request, read_request};
+ghost use Rattle.netset_commands.specs.Command.{parts_in, request_of};
+ghost use Rattle.netset_commands.specs.Commands.{Lists};
+ghost use Rattle.netset_commands.specs.Sets.{Prints};
+ghost use Rattle.cidr_lists.specs.Sets.{networks_of};
+ghost use Rattle.netset_commands.specs.declared.errors.CommandError.{CommandError};
+ghost use Rattle.netset_commands.specs.Program.{AnswersRequest, IsCaused, IsReadTwice, IsWrong, KeepsGoing, Runs, RunsFound};
+
+use crate::commands::arguments::{Parts, command_of, line_parts};
+use crate::commands::changes::diff;
+use crate::commands::check::check;
+use crate::commands::combine::combination;
+use crate::commands::free::{free, length_of};
+use crate::commands::help::write_help;
+use crate::commands::inside::not_in;
+use crate::commands::look::look;
+use crate::commands::matching::matching;
+use crate::commands::operations::{Operation, form_of};
+use crate::commands::single::{answer_single, network_of};
+use crate::commands::table::Verb;
+use crate::commands::{Command, Reading, name_input_twice, reading_of};
+use crate::errors::{ArgumentError, CommandError, Misfit, Misuse, UsageError};
+use crate::input::files::{Files, ReadBy, Sources};
+use crate::input::keeping::{Loaded, load};
+use crate::input::several::read_several;
+use crate::output::answers::{Verdict, by_output};
+use crate::output::ranges::write_ranges;
+use crate::output::report::{report, report_misuse};
+use crate::output::sets::{write_counts, write_sets};
+use cidr_io::arguments::{Arguments, ReadError as Unreadable, borrowed, texts_of};
+use cidr_io::memory::Memory;
+use cidr_io::sink::{Output, OutputFailed, Sink};
+use cidr_io::writing::write_text;
+use cidr_lists::sets::{Form, Sets};
+
+const VERSION: &str = "netset 0.1.0\n";
+
+/// Writes what an operation has made: the networks, their ranges, or how many addresses they have.
+fn write_made<O: Sink>(operation: Operation, sets: &Sets, out: &mut O) -> Result<(), OutputFailed>
+    ensures { Prints (form_of operation) (O.state out.old) (O.state out.new) (networks_of sets.now) result }
+{
+    match form_of(operation) {
+        Form::Networks => write_sets(out, sets),
+        Form::Ranges => write_ranges(out, sets),
+        Form::Counts => write_counts(out, sets),
+    }
+}
+
+/// What an operation makes of the lists of some files.
+fn lists<'a, M: Memory, F: Sources, O: Sink>(
+    memory: &mut M,
+    sources: &F,
+    operation: Operation,
+    files: &'a [&'a str],
+    out: &mut O,
+) -> Result<Verdict, CommandError<'a>>
+    ensures answers { AnswersRequest (F.contents sources.now) (Lists operation (map (λ file. file.now) files.now)) (O.state out.old) (O.state out.new) result }
+    ensures cause { IfErr result (Cause (FileMayFail (F.contents sources.now)) (M.refused memory.new)) }
+{
+    let several = read_several(memory, sources, files)?;
+    let sets = combination(operation, several);
+    let sets = memory.watch(sets)?;
+    by_output(Verdict::Yes, write_made(operation, &sets, out))
+}
+
+/// Answers a command.
+fn answer<'a, M: Memory, F: Sources, O: Sink>(
+    memory: &mut M,
+    sources: &F,
+    command: Command<'a>,
+    out: &mut O,
+) -> Result<Verdict, CommandError<'a>>
+    ensures answers { AnswersRequest (F.contents sources.now) (request_of command.entry) (O.state out.old) (O.state out.new) result }
+    ensures cause { IsCaused (F.contents sources.now) (M.refused memory.new) result }
+{
+    match command {
+        Command::Lists(operation, files) => lists(memory, sources, operation, files, out),
+        Command::NotIn(net, files) => not_in(memory, sources, net, files, out),
+        Command::Diff(old, new) => diff(memory, sources, old, new, out),
+        Command::Free(pool, len, used) => free(memory, sources, pool, len, used, out),
+        Command::Check(files) => check(memory, sources, files, out),
+        Command::Match(options, list, file) => matching(memory, sources, options, list, file, out),
+        Command::Look(table, file) => look(memory, sources, table, file, out),
+        Command::Single(single) => answer_single(single, out),
+        Command::Help(topic) => by_output(Verdict::Yes, write_help(topic, out)),
+        Command::Version => by_output(Verdict::Yes, write_text(out, VERSION)),
+    }
+}
+
+/// The error of the first argument that is wrong whatever the lists say.
+fn wrong_argument<'a>(command: Command<'a>) -> Option<CommandError<'a>>
+    ensures { MatchOption result ((e : CommandError) → ¬ (IsWrong (request_of command.entry) e))
+        (IsWrong (request_of command.entry)) }
+{
+    match command {
+        Command::NotIn(net, _) => match network_of(net) {
+            Ok(_) => None,
+            Err(e) => Some(e),
+        },
+        Command::Free(_, len, _) => match length_of(len) {
+            Some(_) => None,
+            None => Some(CommandError::Argument(len, ArgumentError::Length)),
+        },
+        Command::Lists(_, _)
+        | Command::Diff(_, _)
+        | Command::Check(_)
+        | Command::Match(_, _, _)
+        | Command::Look(_, _)
+        | Command::Single(_)
+        | Command::Help(_)
+        | Command::Version => None,
+    }
+}
+
+/// Tells the lines in error of the lists of a command while they are read, and answers it if there are none, reports and
+/// returns the exit status.
+fn keep_going<'a, M: Memory, F: Sources, O: Output, E: Sink>(
+    memory: &mut M,
+    sources: &F,
+    command: Command<'a>,
+    out: &mut O,
+    err: &mut E,
+) -> u8
+    ensures { KeepsGoing (F.contents sources.now) (M.refused memory.new) (request_of command.entry) (O.closed out.new) (O.Sink.state out.old) (O.Sink.state out.new)
+        (E.state err.old) (E.state err.new) result }
+{
+    if let Some(e) = wrong_argument(command) {
+        return report(&Err(e), out.is_closed(), err);
+    }
+    let Ok(names) = command.lists(memory) else {
+        return report(&Err(CommandError::NoMemory), false, err);
+    };
+    match load(memory, sources, command.kind(), names.as_slice(), err) {
+        Ok((_, true)) => 2,
+        Ok((lists, false)) => {
+            let loaded = Loaded::new(sources, lists.as_slice());
+            let answered = answer(memory, &loaded, command, out);
+            report(&answered, out.is_closed(), err)
+        }
+        Err(e) => report(&Err(e), out.is_closed(), err),
+    }
+}
+
+/// The error of a command that reads the standard input more than once.
+fn read_twice<'a>() -> CommandError<'a>
+    ensures { IsReadTwice result }
+{
+    CommandError::Argument("-", ArgumentError::ReadTwice)
+}
+
+/// Answers a command whose lists are read this way, reports and returns the exit status.
+fn answer_once<'a, M: Memory, F: Files, O: Output, E: Sink>(
+    memory: &mut M,
+    files: &F,
+    reading: Reading,
+    command: Command<'a>,
+    out: &mut O,
+    err: &mut E,
+) -> u8
+    ensures { RunsFound (Ok (reading, request_of command.entry)) (F.contents files.now) (M.refused memory.new) (O.closed out.new) (O.Sink.state out.old) (O.Sink.state out.new)
+        (E.state err.old) (E.state err.new) result }
+{
+    let Ok(names) = command.files(memory) else {
+        return report(&Err(CommandError::NoMemory), false, err);
+    };
+    if name_input_twice(names.as_slice()) {
+        return report(&Err(read_twice()), false, err);
+    }
+    let sources = ReadBy {
+        files,
+        host_bits: reading.host_bits,
+    };
+    if reading.keeps_going {
+        return keep_going(memory, &sources, command, out, err);
+    }
+    let answered = answer(memory, &sources, command, out);
+    report(&answered, out.is_closed(), err)
+}
+
+/// Answers a command and the parts of the words behind it, reports and returns the exit status.
+fn answer_parts<M: Memory, F: Files, O: Output, E: Sink>(
+    memory: &mut M,
+    files: &F,
+    verb: Verb,
+    parts: &Parts<'_>,
+    out: &mut O,
+    err: &mut E,
+) -> u8
+    ensures { RunsFound (read_request verb (parts_in parts.now)) (F.contents files.now) (M.refused memory.new) (O.closed out.new) (O.Sink.state out.old) (O.Sink.state out.new)
+        (E.state err.old) (E.state err.new) result }
+{
+    match command_of(verb, parts) {
+        Ok(command) => {
+            let reading = reading_of(parts.options.as_slice());
+            answer_once(memory, files, reading, command, out, err)
+        }
+        Err(misuse) => report_misuse(&misuse, err),
+    }
+}
+
+/// Answers the arguments as strings, reports and returns the exit status.
+fn answer_texts<M: Memory, F: Files, O: Output, E: Sink>(
+    memory: &mut M,
+    files: &F,
+    texts: &[String],
+    out: &mut O,
+    err: &mut E,
+) -> u8
+    ensures { RunsFound (line_request (map string_bytes texts.now)) (F.contents files.now) (M.refused memory.new) (O.closed out.new) (O.Sink.state out.old) (O.Sink.state out.new)
+        (E.state err.old) (E.state err.new) result }
+{
+    let Ok(words) = borrowed(memory, texts) else {
+        return report(&Err(CommandError::NoMemory), false, err);
+    };
+    match line_parts(memory, words.as_slice()) {
+        Ok((verb, parts)) => answer_parts(memory, files, verb, &parts, out, err),
+        Err(UsageError::Misuse(misuse)) => report_misuse(&misuse, err),
+        Err(UsageError::NoMemory) => report(&Err(CommandError::NoMemory), false, err),
+    }
+}
+
+/// What is wrong with arguments that are not UTF-8.
+const NOT_TEXT: Misuse<'static> = Misuse {
+    word: "an argument",
+    why: Misfit::NotText,
+    command: "",
+};
+
+/// Answers the arguments on `out`, writes the line that belongs to the answer, if there is one, to `err`, and returns
+/// the exit status: 0 for an answer, 1 for none, no or findings, 2 for usage, a file that can't be read and a line in error, 3 where the output
+/// failed or there is no memory. Where nobody reads the output any more, there is no such line.
+pub fn program<M: Memory, A: Arguments, F: Files, O: Output, E: Sink>(
+    memory: &mut M,
+    arguments: &A,
+    files: &F,
+    out: &mut O,
+    err: &mut E,
+) -> u8
+    ensures { Runs (A.told arguments.now) (F.contents files.now) (M.refused memory.new) (O.closed out.new) (O.Sink.state out.old) (O.Sink.state out.new)
+        (E.state err.old) (E.state err.new) result }
+{
+    match texts_of(memory, arguments) {
+        Ok(texts) => answer_texts(memory, files, texts.as_slice(), out, err),
+        Err(Unreadable::NotText) => report_misuse(&NOT_TEXT, err),
+        Err(Unreadable::NoMemory) => report(&Err(CommandError::NoMemory), false, err),
+    }
+}
