@@ -24,5 +24,5 @@ pub mod Looked
 pub mod Telling
 pub mod Loading
 pub mod Running
-pub mod Spelled
+pub mod Typed
 pub mod Consequences

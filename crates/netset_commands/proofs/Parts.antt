@@ -61,7 +61,7 @@ if_true : {X : Type 0} (b : Bool) (x y : X) → b ≡ true → cond b x y ≡ x
 if_true true x y h = refl
 if_true false x y h = absurd (true≢false (sym h))
 
-if_false : {X : Type 0} (b : Bool) (x y : X) → b ≡ false → cond b x y ≡ y
+pub if_false : {X : Type 0} (b : Bool) (x y : X) → b ≡ false → cond b x y ≡ y
 if_false true x y h = absurd (true≢false h)
 if_false false x y h = refl
 

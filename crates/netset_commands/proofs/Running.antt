@@ -3,6 +3,7 @@ use Rattle.std.proofs.Common.{◌≡◌, refl, sym, ◌∙◌, ap, subst, inl, i
 use Rattle.std.proofs.lemmas.Bool.{true≢false}
 use Rattle.std.specs.Bool.{Decides}
 use Rattle.std.specs.List.{count_by}
+use Rattle.cidr_io.specs.Arguments.{AreArguments}
 use Rattle.cidr_io.specs.Writing.{State, Tells}
 use Rattle.netset_commands.specs.Causes.{Cause, FileMayFail}
 use Rattle.netset_commands.specs.Arguments.{Parts, and_then, line_parts, line_request, part_request, read_request}
@@ -11,7 +12,7 @@ use Rattle.netset_commands.specs.Keeping.{kind_of}
 use Rattle.cidr_lists.specs.Lists.{Text}
 use Rattle.netset_commands.specs.Matching.{is_word}
 use Rattle.netset_commands.specs.Loading.{AreListsLoaded, IsUnloaded}
-use Rattle.netset_commands.specs.Program.{AnswersRequest, IsCaused, IsReadTwice, IsWrong, KeepsGoing, Reports, RunsFound, RunsOnce, RunsRequest, TellsFaults, status_of, contents_by}
+use Rattle.netset_commands.specs.Program.{AnswersRequest, IsCaused, IsReadTwice, IsWrong, KeepsGoing, Reports, Runs, RunsFound, RunsOnce, RunsRequest, TellsFaults, status_of, contents_by}
 use Rattle.netset_commands.specs.declared.output.answers.Verdict.{Verdict}
 use Rattle.netset_commands.specs.declared.commands.Reading.{Reading}
 use Rattle.netset_commands.specs.declared.commands.table.Verb.{Verb}
@@ -41,19 +42,19 @@ module _ (contents : List ℕ → Option Text) (request : Request) (kind : Kind)
       → AnswersRequest contents request out new r → IsCaused contents refused r → Reports closed r t u → status ≡ status_of r → TellsFaults contents refused request closed out new s u status
   no_line_in_error lists new u r status h answers caused says is =
       let (lines, (tells, fine), any, kept) = loaded_of lists false h in
-      (lines, t, tells, inl (fine, inr (any, r, answers, caused, says, is)))
+      (lines, t, tells, inl (fine, inr (any, (r, answers, caused, says, is))))
 
   pub not_loaded : (u : State) (e : CommandError) (status : ℕ) → IsUnloaded contents kind names s t e → Cause (FileMayFail contents) refused e → Reports closed (Err e) t u → status ≡ status_of (Err e)
       → TellsFaults contents refused request closed out out s u status
   not_loaded u e status h cause says is =
       let (before, after, split, why, front, rest, tells, fine, begun) = unloaded_of e h in
-      (front ++ rest, t, tells, inr (before, after, split, front, rest, refl, fine, begun, e, why, cause, refl, says, is))
+      (front ++ rest, t, tells, inr (before, after, split, front, rest, refl, fine, begun, e, why, cause, (refl, says, is)))
 
 pub no_names : (contents : List ℕ → Option Text) (request : Request) (refused closed : Bool) (out s u : State) (status : ℕ) → refused ≡ true → Reports closed (Err error.NoMemory) s u → status ≡ status_of (Err error.NoMemory)
     → TellsFaults contents refused request closed out out s u status
 no_names contents request refused closed out s u status none_left says is =
     let none = none_told contents (kind_of request) s in
-    ([], s, none.0, inr ([], lists_of request, refl, [], [], refl, none.1, none_begun contents (kind_of request) (lists_of request), error.NoMemory, tt, none_left, refl, says, is))
+    ([], s, none.0, inr ([], lists_of request, refl, [], [], refl, none.1, none_begun contents (kind_of request) (lists_of request), error.NoMemory, tt, none_left, (refl, says, is)))
 
 -- the first argument that is wrong
 pub argument_first : (contents : List ℕ → Option Text) (request : Request) (refused closed : Bool) (out s u : State) (e : CommandError) (status : ℕ) → IsWrong request e
@@ -108,3 +109,9 @@ pub run_none : (reading : Reading) (contents : List ℕ → Option (List ℕ)) (
     → RunsOnce reading contents refused request closed out out s t status
 run_none reading contents refused request closed out s t status twice names e are decides again is says ends =
     inl (subst (λ (k : List (List ℕ)). 1 < count_by (is_word input_name) k) are (decides.0 again), e, is, (refl, told_anyway closed e s t is says, ends))
+
+-- the arguments, read as texts
+pub run_arguments : (words : Option (List (List ℕ))) (given : List (List ℕ)) (contents : List ℕ → Option (List ℕ)) (refused closed : Bool) (out new s t : State) (status : ℕ)
+    → AreArguments words given → RunsFound (line_request given) contents refused closed out new s t status → Runs words contents refused closed out new s t status
+run_arguments words given contents refused closed out new s t status are (inl runs) = inl (given, are, runs)
+run_arguments words given contents refused closed out new s t status are (inr none) = inr (inr none)

@@ -172,9 +172,13 @@ counted_request command parts (Some name) more = Err (misuse_text name Missing (
 counted_request command parts None (Some word) = Err (misuse_text word Extra (name_of command))
 counted_request command parts None None = verb_request command parts
 
+-- an option asks for the page of the command
+abbrev pub asks_help : List (List ℕ) → Bool
+asks_help options = has (codes "-h") options || has (codes "--help") options
+
 -- the request of a command and its parts: its page, if that is asked for
 abbrev pub part_request : Verb → Parts → Result Request (List ℕ)
-part_request command parts = if has (codes "-h") parts.options || has (codes "--help") parts.options then Ok (Help (Some command))
+part_request command parts = if asks_help parts.options then Ok (Help (Some command))
     else counted_request command parts (missing_operand command parts.operands) (extra_operand command parts.operands)
 
 -- how lists are read, and the request, of a command and its parts

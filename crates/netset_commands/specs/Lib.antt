@@ -20,6 +20,7 @@ pub mod Streaming
 pub mod Keeping
 pub mod Opened
 pub mod Program
+pub mod Typed
 pub mod Loading
 pub mod Gathering
 pub mod Answering

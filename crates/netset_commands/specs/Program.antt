@@ -49,6 +49,12 @@ abbrev pub IsBadArgument : (List ℕ → ArgumentError → Type 0) → CommandEr
 IsBadArgument IsBad (error.Argument text e) = IsBad text.now e
 IsBadArgument IsBad e = ⊥
 
+-- an argument that is wrong whatever the lists say
+abbrev pub IsWrong : Request → CommandError → Type 0
+IsWrong (NotIn net files) e = IsBadArgument (λ text bad. (text ≡ net) × IsNoNetwork net bad) e
+IsWrong (Free pool len used) e = IsBadArgument (IsBadLength len) e
+IsWrong request e = ⊥
+
 -- the error is that this file can't be read
 abbrev pub IsInputError : List ℕ → CommandError → Type 0
 IsInputError file (error.Input name) = name.now ≡ file
@@ -58,10 +64,10 @@ IsInputError file e = ⊥
 abbrev pub IsRequestRefused : (List ℕ → Option Text) → Request → Result Verdict CommandError → Type 0
 IsRequestRefused contents request (Ok verdict) = ⊥
 IsRequestRefused contents (Lists operation files) (Err e) = IsUnread contents (read_files files) e
-IsRequestRefused contents (NotIn net files) (Err e) = IsBadArgument (λ text bad. (text ≡ net) × IsNoNetwork net bad) e
+IsRequestRefused contents (NotIn net files) (Err e) = IsWrong (NotIn net files) e
     ⊎ ((network : IpCidr) × IsIpNetworkText net network × IsUnread contents (read_files files) e)
 IsRequestRefused contents (Diff old new) (Err e) = IsUnread contents (old ∷ new ∷ []) e
-IsRequestRefused contents (Free pool len used) (Err e) = IsBadArgument (IsBadLength len) e
+IsRequestRefused contents (Free pool len used) (Err e) = IsWrong (Free pool len used) e
     ⊎ ((n : ℕ) × IsNumber len n × (n ≤ 128) × IsUnread contents (pool ∷ used) e)
 IsRequestRefused contents (Check files) (Err e) = IsUnchecked contents (read_files files) e
 IsRequestRefused contents (Match options list file) (Err e) = IsUnread contents (list ∷ []) e ⊎ IsInputError file e
@@ -139,23 +145,26 @@ abbrev pub Reports : Bool → Result Verdict CommandError → State → State �
 Reports closed (Ok verdict) old new = new ≡ old
 Reports closed (Err e) old new = ReportsUnless (is_closed_pipe closed e) e old new
 
--- the exit status: 0 done or yes, 1 none, no or findings, 2 usage, reading or a line in error, 3 output or memory
+-- the exit status of an answer: 0 done or yes, 1 none, no or findings
+abbrev pub answer_status : Verdict → ℕ
+answer_status Yes = 0
+answer_status No = 1
+
+-- the exit status: that of an answer, 2 usage, reading or a line in error, 3 output or memory
 abbrev pub status_of : Result Verdict CommandError → ℕ
-status_of (Ok Yes) = 0
-status_of (Ok No) = 1
+status_of (Ok verdict) = answer_status verdict
 status_of (Err error.NoMemory) = 3
 status_of (Err error.Output) = 3
 status_of (Err e) = 2
 
--- an argument that is wrong whatever the lists say
-abbrev pub IsWrong : Request → CommandError → Type 0
-IsWrong (NotIn net files) e = IsBadArgument (λ text bad. (text ≡ net) × IsNoNetwork net bad) e
-IsWrong (Free pool len used) e = IsBadArgument (IsBadLength len) e
-IsWrong request e = ⊥
-
 -- the run ends with this error, and nothing is written to standard output
 abbrev pub EndsWith : CommandError → Bool → State → State → State → State → ℕ → Type 0
 EndsWith e closed out new_out err new_err status = (new_out ≡ out) × Reports closed (Err e) err new_err × (status ≡ status_of (Err e))
+
+-- a request is answered, or given up for its cause, and the error is told
+abbrev pub RunsAnswer : (List ℕ → Option Text) → Bool → Request → Bool → State → State → State → State → ℕ → Type 0
+RunsAnswer contents refused request closed out new_out err new_err status = (r : Result Verdict CommandError)
+    × AnswersRequest contents request out new_out r × IsCaused contents refused r × Reports closed r err new_err × (status ≡ status_of r)
 
 -- a request of whose lists each line in error is told, up to a list that can't be read, and then nothing is written; where
 -- there is none, the request is answered
@@ -163,11 +172,11 @@ abbrev pub TellsFaults : (List ℕ → Option Text) → Bool → Request → Boo
 TellsFaults contents refused request closed out new_out err new_err status = (lines : List ℕ) × (mid : State) × Tells err mid lines
     × ((((texts : List Text) → AreTold contents (lists_of request) texts → AreTellings (kind_of request) (lists_of request) texts lines)
     × (((lines ≢ []) × (new_out ≡ out) × (new_err ≡ mid) × (status ≡ 2))
-    ⊎ ((lines ≡ []) × (r : Result Verdict CommandError) × AnswersRequest contents request out new_out r × IsCaused contents refused r
-    × Reports closed r mid new_err × (status ≡ status_of r))))
+    ⊎ ((lines ≡ []) × RunsAnswer contents refused request closed out new_out mid new_err status)))
     ⊎ ((before after : List (List ℕ)) × (lists_of request ≡ before ++ after) × (front rest : List ℕ) × (lines ≡ front ++ rest)
     × ((texts : List Text) → AreTold contents before texts → AreTellings (kind_of request) before texts front)
-    × IsBegun contents (kind_of request) after rest × (e : CommandError) × IsLoadError after e × Cause (FileMayFail contents) refused e × (new_out ≡ out) × Reports closed (Err e) mid new_err × (status ≡ status_of (Err e))))
+    × IsBegun contents (kind_of request) after rest × (e : CommandError) × IsLoadError after e × Cause (FileMayFail contents) refused e
+    × EndsWith e closed out new_out mid new_err status))
 
 -- the same, where no argument is wrong
 abbrev pub KeepsGoing : (List ℕ → Option Text) → Bool → Request → Bool → State → State → State → State → ℕ → Type 0
@@ -179,8 +188,7 @@ KeepsGoing contents refused request closed out new_out err new_err status =
 abbrev pub RunsRequest : Reading → (List ℕ → Option Text) → Bool → Request → Bool → State → State → State → State → ℕ → Type 0
 RunsRequest reading contents refused request closed out new_out err new_err status =
     ((reading.keeps_going ≡ true) × KeepsGoing contents refused request closed out new_out err new_err status)
-    ⊎ ((reading.keeps_going ≡ false) × (r : Result Verdict CommandError) × AnswersRequest contents request out new_out r
-    × IsCaused contents refused r × Reports closed r err new_err × (status ≡ status_of r))
+    ⊎ ((reading.keeps_going ≡ false) × RunsAnswer contents refused request closed out new_out err new_err status)
 
 -- the error is that the standard input is read already
 abbrev pub IsReadTwice : CommandError → Type 0
@@ -202,12 +210,6 @@ RunsLine (Ok (reading, request)) contents refused closed out new_out err new_err
     RunsOnce reading contents refused request closed out new_out err new_err status
 RunsLine (Err line) contents refused closed out new_out err new_err status = IsMisused line out new_out err new_err status
 
--- the same, or there was no memory for the words
-abbrev pub RunsFound : Result (Reading × Request) (List ℕ) → (List ℕ → Option (List ℕ)) → Bool → Bool → State → State → State → State → ℕ → Type 0
-RunsFound found contents refused closed out new_out err new_err status =
-    RunsLine found contents refused closed out new_out err new_err status
-    ⊎ ((refused ≡ true) × EndsWith error.NoMemory closed out new_out err new_err status)
-
 -- the line of arguments that are not UTF-8
 abbrev pub unreadable_line : List ℕ
 unreadable_line = misuse_text (codes "an argument") NotText []
@@ -216,6 +218,13 @@ unreadable_line = misuse_text (codes "an argument") NotText []
 -- reads it any more.
 abbrev pub Runs : Option (List (List ℕ)) → (List ℕ → Option (List ℕ)) → Bool → Bool → State → State → State → State → ℕ → Type 0
 Runs words contents refused closed out new_out err new_err status =
-    ((given : List (List ℕ)) × AreArguments words given × RunsFound (line_request given) contents refused closed out new_out err new_err status)
+    ((given : List (List ℕ)) × AreArguments words given × RunsLine (line_request given) contents refused closed out new_out err new_err status)
     ⊎ ((AreUnreadable words × IsMisused unreadable_line out new_out err new_err status)
     ⊎ ((refused ≡ true) × EndsWith error.NoMemory closed out new_out err new_err status))
+
+-- ---- what private functions promise
+-- what becomes of words, or there was no memory for them
+abbrev pub RunsFound : Result (Reading × Request) (List ℕ) → (List ℕ → Option (List ℕ)) → Bool → Bool → State → State → State → State → ℕ → Type 0
+RunsFound found contents refused closed out new_out err new_err status =
+    RunsLine found contents refused closed out new_out err new_err status
+    ⊎ ((refused ≡ true) × EndsWith error.NoMemory closed out new_out err new_err status)

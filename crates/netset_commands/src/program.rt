@@ -10,6 +10,7 @@ ghost use Rattle.netset_commands.specs.Sets.{Prints};
 ghost use Rattle.cidr_lists.specs.Sets.{networks_of};
 ghost use Rattle.netset_commands.specs.declared.errors.CommandError.{CommandError};
 ghost use Rattle.netset_commands.specs.Program.{AnswersRequest, IsCaused, IsReadTwice, IsWrong, KeepsGoing, Runs, RunsFound};
+ghost use Rattle.netset_commands.specs.Typed.{AnswersTyped};
 
 use crate::commands::arguments::{Parts, command_of, line_parts};
 use crate::commands::changes::diff;
@@ -231,10 +232,8 @@ const NOT_TEXT: Misuse<'static> = Misuse {
     command: "",
 };
 
-/// Answers the arguments on `out`, writes the line that belongs to the answer, if there is one, to `err`, and returns
-/// the exit status: 0 for an answer, 1 for none, no or findings, 2 for usage, a file that can't be read and a line in error, 3 where the output
-/// failed or there is no memory. Where nobody reads the output any more, there is no such line.
-pub fn program<M: Memory, A: Arguments, F: Files, O: Output, E: Sink>(
+/// Answers the arguments, reports and returns the exit status.
+fn answer_arguments<M: Memory, A: Arguments, F: Files, O: Output, E: Sink>(
     memory: &mut M,
     arguments: &A,
     files: &F,
@@ -249,4 +248,24 @@ pub fn program<M: Memory, A: Arguments, F: Files, O: Output, E: Sink>(
         Err(Unreadable::NotText) => report_misuse(&NOT_TEXT, err),
         Err(Unreadable::NoMemory) => report(&Err(CommandError::NoMemory), false, err),
     }
+}
+
+/// Answers the arguments on `out`, writes the line that belongs to the answer, if there is one, to `err`, and returns
+/// the exit status: 0 for an answer, 1 for none, no or findings, 2 for usage, a file that can't be read and a line in error, 3 where the output
+/// failed or there is no memory. Where nobody reads the output any more, there is no such line.
+///
+/// The contract says twice what is written: in short where the status is 0 or 1 (`answers`), and with all errors (`runs`).
+pub fn program<M: Memory, A: Arguments, F: Files, O: Output, E: Sink>(
+    memory: &mut M,
+    arguments: &A,
+    files: &F,
+    out: &mut O,
+    err: &mut E,
+) -> u8
+    ensures answers { AnswersTyped (A.told arguments.now) (F.contents files.now) (O.Sink.state out.old) (O.Sink.state out.new)
+        (E.state err.old) (E.state err.new) result }
+    ensures runs { Runs (A.told arguments.now) (F.contents files.now) (M.refused memory.new) (O.closed out.new) (O.Sink.state out.old) (O.Sink.state out.new)
+        (E.state err.old) (E.state err.new) result }
+{
+    answer_arguments(memory, arguments, files, out, err)
 }

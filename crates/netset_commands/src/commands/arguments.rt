@@ -1,9 +1,9 @@
 //! The words of a command line as options and operands, and the command that they are.
-ghost use Rattle.std.specs.Prelude.{◌≡◌, ◌<◌, Ok, Err, Bool, true, false, length, drop, codes, MatchOption, MatchResult, option_map, ◌||◌};
+ghost use Rattle.std.specs.Prelude.{◌≡◌, ◌<◌, Ok, Err, Bool, true, false, length, drop, MatchOption, MatchResult, option_map};
 ghost use Rattle.std.specs.List.{after_first, before_first};
-ghost use Rattle.netset_commands.specs.Arguments.{extra_operand, full_name, help_request, is_equals, is_option, letter_parts, line_parts, long_parts, missing_operand, lists_request, named_verb, no_option, no_parts, operand_or, part_request, parts_from, verb_of, short_option, takes, verb_request, word_parts};
+ghost use Rattle.netset_commands.specs.Arguments.{asks_help, extra_operand, full_name, help_request, is_equals, is_option, letter_parts, line_parts, long_parts, missing_operand, lists_request, named_verb, no_option, no_parts, operand_or, part_request, parts_from, verb_of, short_option, takes, verb_request, word_parts};
 ghost use Rattle.netset_commands.specs.Command.{AddsParts, IsUsageError, misuse_line, parts_in, request_of};
-ghost use Rattle.netset_commands.specs.Matching.{has, is_word};
+ghost use Rattle.netset_commands.specs.Matching.{is_word};
 ghost use Rattle.netset_commands.specs.Table.{takes_value, texts};
 
 use crate::commands::Command;
@@ -379,7 +379,7 @@ fn verb_command<'a>(verb: Verb, parts: &'a Parts<'a>) -> Result<Command<'a>, Mis
 
 /// Whether the page of a command is asked for.
 fn asks_help(options: &[&str]) -> bool
-    ensures { result ≡ (has (codes "-h") (texts options.now) || has (codes "--help") (texts options.now)) }
+    ensures { result ≡ asks_help (texts options.now) }
 {
     has(options, "-h") || has(options, "--help")
 }

@@ -25,4 +25,4 @@ returns g c = inl
     (g.O.Sink.state c.args.out.now) (g.O.Sink.state c.answer-answered.new.out) (g.E.Sink.state c.args.err.now) (g.E.Sink.state c.report-2.new.err)
     c.report-2.result c.name_input_twice.result (bytes_of c.in-Ok.names.items) c.in-Ok.ensures.names
     (rw c.as_slice.ensures.value at c.name_input_twice.ensures) c.if-name_input_twice.false
-    (inr (c.if-reading.false, c.answer-answered.result, c.answer-answered.ensures.answers, c.answer-answered.ensures.cause, rw c.is_closed.ensures at c.report-2.ensures.says, c.report-2.ensures.status)))
+    (inr (c.if-reading.false, (c.answer-answered.result, c.answer-answered.ensures.answers, c.answer-answered.ensures.cause, rw c.is_closed.ensures at c.report-2.ensures.says, c.report-2.ensures.status))))

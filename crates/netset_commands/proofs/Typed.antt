@@ -1,0 +1,177 @@
+-- Requests as they are typed are read as these requests.
+use Rattle.std.proofs.Common.{◌≡◌, refl, sym, ◌∙◌, ap, subst, inl, inr, ℕ, Bool, true, false, ◌||◌, List, [], ◌∷◌, ◌++◌, codes, Option, Some, None, Result, Ok, Err}
+use Rattle.std.specs.List.{list_all, list_any}
+use Rattle.std.proofs.lemmas.Bool.{true≢false}
+use Rattle.netset_commands.specs.Arguments.{Parts, and_then, asks_help, counted_request, extra_operand, is_option, joined_arguments, line_request, lists_request, missing_operand, named_verb, no_parts, only_operand, only_options, only_value, part_request, parts_from, read_request, takes, verb_request, word_parts}
+use Rattle.netset_commands.specs.Commands.{Request, Lists, NotIn, Diff, Free, Check, Match, Look, Single, Help, Version, input_name, reading_of}
+use Rattle.netset_commands.specs.Matching.{has, is_word}
+use Rattle.netset_commands.specs.Single.{Show, Split, Nth}
+use Rattle.netset_commands.specs.Table.{commands, name_of, options_of}
+use Rattle.netset_commands.specs.Typed.{AreTyped, IsTyped}
+use Rattle.netset_commands.specs.declared.commands.arguments.Next.{Next}
+use Rattle.netset_commands.specs.declared.commands.arguments.Next.TheVariants.{Any}
+use Rattle.netset_commands.specs.declared.commands.operations.Operation.{Operation}
+use Rattle.netset_commands.specs.declared.commands.operations.Operation.TheVariants.{Merge, Nets, Minus, And, Not, Ranges, Count}
+use Rattle.netset_commands.specs.declared.commands.table.Verb.{Verb}
+use Rattle.netset_commands.specs.declared.commands.table.Verb.TheVariants as verb
+use Rattle.netset_commands.proofs.Arguments.{same_text}
+use Rattle.netset_commands.proofs.Parts.{and_first, and_second, if_false, operand_word}
+use Rattle.netset_commands.proofs.Running.{read_one}
+use Rattle.netset_commands.proofs.Telling.{none_of}
+
+-- options, values and operands
+abbrev parts_with : List (List ℕ) → List (List ℕ) → List (List ℕ) → Parts
+parts_with options values operands = record { options = options; values = values; operands = operands }
+
+-- ---- operands
+no_end : (word : List ℕ) (b : Bool) → is_word (codes "--") word ≡ b → is_option word ≡ false → b ≡ false
+no_end word true same none = absurd (true≢false (sym (ap is_option (same_text word (codes "--") (sym same))) ∙ none))
+no_end word false same none = refl
+
+-- a word, and what stands behind it
+one_more : (command : Verb) (word : List ℕ) (words : List (List ℕ)) (one rest : Parts) → word_parts command Any word ≡ Ok (one, Any)
+    → parts_from command words Any ≡ Ok rest → parts_from command (word ∷ words) Any ≡ Ok (joined_arguments one rest)
+one_more command word words one rest is others =
+    ap (λ (r : Result (Parts × Next) (List ℕ)). and_then r (λ first. and_then (parts_from command words first.1) (λ more. Ok (joined_arguments first.0 more)))) is
+    ∙ ap (λ (r : Result Parts (List ℕ)). and_then r (λ more. Ok (joined_arguments one more))) others
+
+operands_alone : (command : Verb) (words : List (List ℕ)) → list_any is_option words ≡ false → parts_from command words Any ≡ Ok (parts_with [] [] words)
+operands_alone command [] none = refl
+operands_alone command (word ∷ words) none =
+    let (here, others) = none_of (is_option word) (list_any is_option words) none in
+    one_more command word words (only_operand word) (parts_with [] [] words) (operand_word command word (no_end word (is_word (codes "--") word) refl here) here)
+    (operands_alone command words others)
+
+-- the network of --in before them
+behind_in : (net : List ℕ) (files : List (List ℕ)) → list_any is_option files ≡ false
+    → parts_from (verb.Lists Not) (codes "--in" ∷ net ∷ files) Any ≡ Ok (parts_with [] (net ∷ []) files)
+behind_in net files none =
+    ap (λ (r : Result Parts (List ℕ)). and_then (and_then r (λ more. Ok (joined_arguments (only_value net) more))) (λ more. Ok (joined_arguments no_parts more)))
+    (operands_alone (verb.Lists Not) files none)
+
+-- ---- options
+-- the word is an option of the command
+abbrev Has : Verb → List ℕ → Type 0
+Has command word = word_parts command Any word ≡ Ok (only_options (word ∷ []), Any)
+
+abbrev HasEach : Verb → List (List ℕ) → Type 0
+HasEach command [] = Unit {0}
+HasEach command (word ∷ words) = Has command word × HasEach command words
+
+here_or_later : (command : Verb) (name word : List ℕ) (here later : Bool) → is_word word name ≡ here → Has command name → (later ≡ true → Has command word)
+    → (here || later) ≡ true → Has command word
+here_or_later command name word true later same first others is = subst (Has command) (same_text name word (sym same)) first
+here_or_later command name word false later same first others is = others is
+
+among : (command : Verb) (names : List (List ℕ)) (word : List ℕ) → HasEach command names → has word names ≡ true → Has command word
+among command [] word each is = absurd (true≢false (sym is))
+among command (name ∷ names) word (first, each) is =
+    here_or_later command name word (is_word word name) (has word names) refl first (λ later. among command names word each later) is
+
+its_options : (command : Verb) → HasEach command (options_of command)
+its_options (verb.Lists operation) = (refl, (refl, (refl, (refl, tt))))
+its_options verb.Diff = (refl, (refl, (refl, (refl, tt))))
+its_options verb.Free = (refl, (refl, (refl, (refl, tt))))
+its_options verb.Check = (refl, (refl, (refl, tt)))
+its_options verb.Match = (refl, (refl, (refl, (refl, (refl, (refl, (refl, (refl, tt))))))))
+its_options verb.Look = (refl, (refl, (refl, (refl, tt))))
+its_options verb.Show = (refl, (refl, tt))
+its_options verb.Split = (refl, (refl, tt))
+its_options verb.Nth = (refl, (refl, tt))
+its_options verb.Help = (refl, (refl, tt))
+its_options verb.Version = (refl, (refl, tt))
+
+options_first : (command : Verb) (options words values operands : List (List ℕ)) → list_all (takes command) options ≡ true
+    → parts_from command words Any ≡ Ok (parts_with [] values operands) → parts_from command (options ++ words) Any ≡ Ok (parts_with options values operands)
+options_first command [] words values operands all is = is
+options_first command (option ∷ options) words values operands all is =
+    one_more command option (options ++ words) (only_options (option ∷ [])) (parts_with options values operands)
+    (among command (options_of command) option (its_options command) (and_first (takes command option) (list_all (takes command) options) all))
+    (options_first command options words values operands (and_second (takes command option) (list_all (takes command) options) all) is)
+
+-- ---- the command
+named : (command : Verb) → named_verb (name_of command) ≡ Ok command
+unfolding commands
+named (verb.Lists Merge) = refl
+named (verb.Lists Nets) = refl
+named (verb.Lists Minus) = refl
+named (verb.Lists And) = refl
+named (verb.Lists Not) = refl
+named (verb.Lists Ranges) = refl
+named (verb.Lists Count) = refl
+named verb.Diff = refl
+named verb.Free = refl
+named verb.Check = refl
+named verb.Match = refl
+named verb.Look = refl
+named verb.Show = refl
+named verb.Split = refl
+named verb.Nth = refl
+named verb.Help = refl
+named verb.Version = refl
+
+without_value : (operation : Operation) (files : List (List ℕ)) → lists_request operation [] files ≡ Ok (Lists operation files)
+without_value Merge files = refl
+without_value Nets files = refl
+without_value Minus files = refl
+without_value And files = refl
+without_value Not files = refl
+without_value Ranges files = refl
+without_value Count files = refl
+
+-- ---- a command line
+-- a command with the parts of its words
+abbrev with_parts : Verb → Result Parts (List ℕ) → Result (Verb × Parts) (List ℕ)
+with_parts command found = and_then found (λ parts. Ok (command, parts))
+
+module _ (words options : List (List ℕ)) where
+  abbrev Asks : Request → Type 0
+  Asks request = line_request words ≡ Ok (reading_of options, request)
+
+  module _ (command : Verb) (valued values operands : List (List ℕ)) (typed : AreTyped command options valued operands words)
+      (parts : parts_from command (valued ++ operands) Any ≡ Ok (parts_with [] values operands)) (fits : extra_operand command operands ≡ None) where
+    abbrev all_parts : Parts
+    all_parts = parts_with options values operands
+
+    line_asks : (request : Request) → verb_request command all_parts ≡ Ok request → Asks request
+    line_asks request made =
+        let (is, all, no_page, none, enough) = typed in
+        let asked : part_request command all_parts ≡ Ok request =
+        if_false (asks_help options) _ _ no_page
+        ∙ (ap (λ (k : Option (List ℕ)). counted_request command all_parts k (extra_operand command operands)) enough
+        ∙ (ap (λ (k : Option (List ℕ)). counted_request command all_parts None k) fits ∙ made)) in
+        ap line_request is
+        ∙ (ap (λ (r : Result Verb (List ℕ)). and_then (and_then r (λ one. with_parts one (parts_from one (options ++ (valued ++ operands)) Any))) (λ line. read_request line.0 line.1)) (named command)
+        ∙ (ap (λ (r : Result Parts (List ℕ)). and_then (with_parts command r) (λ line. read_request line.0 line.1))
+        (options_first command options (valued ++ operands) values operands all parts)
+        ∙ read_one command all_parts (reading_of options) request asked refl))
+
+  plain_asks : (command : Verb) (operands : List (List ℕ)) (request : Request) → AreTyped command options [] operands words → extra_operand command operands ≡ None
+      → verb_request command (parts_with options [] operands) ≡ Ok request → Asks request
+  plain_asks command operands request (is, all, no_page, none, enough) fits made =
+      line_asks command [] [] operands (is, all, no_page, none, enough) (operands_alone command operands none) fits request made
+
+  pub typed_asks : (request : Request) → IsTyped words options request → Asks request
+  typed_asks (Lists operation files) typed = plain_asks (verb.Lists operation) files (Lists operation files) typed refl (without_value operation files)
+  typed_asks (NotIn net files) (is, all, no_page, none, enough) =
+      line_asks (verb.Lists Not) (codes "--in" ∷ net ∷ []) (net ∷ []) files (is, all, no_page, none, enough) (behind_in net files none) refl (NotIn net files) refl
+  typed_asks (Diff old new) typed = plain_asks verb.Diff (old ∷ new ∷ []) (Diff old new) typed refl refl
+  typed_asks (Free pool len used) typed = plain_asks verb.Free (pool ∷ len ∷ used) (Free pool len used) typed refl refl
+  typed_asks (Check files) typed = plain_asks verb.Check files (Check files) typed refl refl
+  typed_asks (Match given list file) (same, inl typed) =
+      plain_asks verb.Match (list ∷ file ∷ []) (Match options list file) typed refl refl ∙ ap (λ (k : List (List ℕ)). Ok (reading_of options, Match k list file)) (sym same)
+  typed_asks (Match given list file) (same, inr (input, typed)) =
+      plain_asks verb.Match (list ∷ []) (Match options list input_name) typed refl refl
+      ∙ (ap (λ (k : List (List ℕ)). Ok (reading_of options, Match k list input_name)) (sym same)
+      ∙ ap (λ (k : List ℕ). Ok (reading_of options, Match given list k)) (sym input))
+  typed_asks (Look table file) (inl typed) = plain_asks verb.Look (table ∷ file ∷ []) (Look table file) typed refl refl
+  typed_asks (Look table file) (inr (input, typed)) =
+      plain_asks verb.Look (table ∷ []) (Look table input_name) typed refl refl ∙ ap (λ (k : List ℕ). Ok (reading_of options, Look table k)) (sym input)
+  typed_asks (Single (Show host)) typed = plain_asks verb.Show (host ∷ []) (Single (Show host)) typed refl refl
+  typed_asks (Single (Split net len)) typed = plain_asks verb.Split (net ∷ len ∷ []) (Single (Split net len)) typed refl refl
+  typed_asks (Single (Nth net place)) typed = plain_asks verb.Nth (net ∷ place ∷ []) (Single (Nth net place)) typed refl refl
+  typed_asks (Help None) typed = plain_asks verb.Help [] (Help None) typed refl refl
+  typed_asks (Help (Some command)) typed =
+      plain_asks verb.Help (name_of command ∷ []) (Help (Some command)) typed refl
+      (ap (λ (r : Result Verb (List ℕ)). and_then r (λ one. Ok (Help (Some one)))) (named command))
+  typed_asks Version typed = plain_asks verb.Version [] Version typed refl refl
