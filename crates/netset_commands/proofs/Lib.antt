@@ -26,3 +26,4 @@ pub mod Loading
 pub mod Running
 pub mod Typed
 pub mod Consequences
+pub mod Failures

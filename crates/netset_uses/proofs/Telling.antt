@@ -1,0 +1,185 @@
+-- What runs over texts in memory have printed and told.
+use Rattle.std.proofs.Common.{◌≡◌, refl, sym, ◌∙◌, ap, subst, arith, inl, ℕ, zero, suc, ◌<◌, ◌≤◌, Bool, true, false, List, [], ◌∷◌, ◌++◌, length, codes, Contains, IsAscii, IsUtf8, Option, Some, None, option_map, Ok, Err}
+use Rattle.std.specs.List.{AllZip}
+use Rattle.std.specs.Option.{IfSome}
+use Rattle.std.proofs.lemmas.Bool.{false≢true}
+use Rattle.std.proofs.lemmas.Str.{IsUtf8-from_ascii}
+use Rattle.cidr.specs.declared.cidr.combined.IpCidr.{IpCidr}
+use Rattle.cidr.specs.declared.family.Family.{Family}
+use Rattle.cidr_io.specs.Writing.{State, Whole, Tells}
+use Rattle.cidr_lists.specs.Lists.{ListSays, Text, text_by}
+use Rattle.cidr_lists.specs.Messages.{fault_line}
+use Rattle.cidr_lists.specs.ReadBack.{AreUnions}
+use Rattle.cidr_lists.specs.Sets.{printed_sets}
+use Rattle.cidr_lists.specs.declared.lines.HostBits.{HostBits}
+use Rattle.cidr_lists.specs.declared.lines.HostBits.TheVariants.{Refused}
+use Rattle.netset_commands.specs.Commands.{IsMadeOf, Lists, Look, ReadsInputTwice, reading_of}
+use Rattle.netset_commands.specs.Look.{IsLook}
+use Rattle.netset_commands.specs.Program.{Runs, contents_by, error_line}
+use Rattle.netset_commands.specs.Typed.{AnswersTyped}
+use Rattle.netset_commands.specs.declared.commands.operations.Operation.TheVariants.{Merge}
+use Rattle.netset_commands.specs.declared.errors.CommandError.TheVariants as error
+use Rattle.netset_commands.specs.declared.output.answers.Verdict.TheVariants.{Yes}
+use Rattle.netset_commands.proofs.Failures.{Failed, lists_fail}
+use Rattle.netset_commands.proofs.Typed.{typed_asks}
+use Rattle.netset_uses.specs.Runs.{HasPrinted, HasRun, HasToldLine, holding}
+use Rattle.netset_uses.specs.declared.runs.Finished.{Finished}
+
+-- ---- outputs
+all_told : (err text : List ℕ) → Tells (holding []) (holding err) text → err ≡ text
+all_told err text (Ok done, (whole, fine)) = whole.taken
+all_told err text (Err e, (part, before)) = absurd (false≢true part.failed)
+
+printed_by : (Is : List ℕ → Type 0) (run : Finished) (answer : List ℕ) → Is answer → Whole (holding []) (holding run.out.items) answer
+    → Tells (holding []) (holding run.err.items) [] → HasPrinted Is run
+printed_by Is run answer is whole quiet = (subst Is (sym whole.taken) is, all_told run.err.items [] quiet)
+
+-- a run between outputs that hold what it has written
+module _ (words : List (List ℕ)) (contents : List ℕ → Option (List ℕ)) (refused closed : Bool) (status : ℕ) where
+  abbrev RanBetween : State → State → State → State → Type 0
+  RanBetween s t u v = AnswersTyped (Some words) contents s t u v status × Runs (Some words) contents refused closed s t u v status
+
+  pub ran : (s t u v : State) (out err : List ℕ) → AnswersTyped (Some words) contents s t u v status → Runs (Some words) contents refused closed s t u v status
+      → s ≡ holding [] → t ≡ holding out → u ≡ holding [] → v ≡ holding err
+      → AnswersTyped (Some words) contents (holding []) (holding out) (holding []) (holding err) status
+      × ((x y : Bool) × Runs (Some words) contents x y (holding []) (holding out) (holding []) (holding err) status)
+  ran s t u v out err answered runs e f g h =
+      let (printed, done) = subst (λ (k : State). RanBetween (holding []) (holding out) (holding []) k) h
+      (subst (λ (k : State). RanBetween (holding []) (holding out) k v) g
+      (subst (λ (k : State). RanBetween (holding []) k u v) f (subst (λ (k : State). RanBetween k t u v) e (answered, runs)))) in
+      (printed, (refused, closed, done))
+
+-- ---- merge
+abbrev pub merge_words : List (List ℕ)
+merge_words = codes "merge" ∷ codes "list" ∷ []
+
+told_text : (contents : List ℕ → Option (List ℕ)) (name bytes : List ℕ) → contents name ≡ Some bytes → contents_by Refused contents name ≡ Some (text_by Refused bytes)
+told_text contents name bytes told = ap (option_map (text_by Refused)) told
+
+pub merge_printed : (contents : List ℕ → Option (List ℕ)) (list : List ℕ) (run : Finished) → contents (codes "list") ≡ Some list
+    → HasRun merge_words contents run → run.status ≡ 0 → HasPrinted (IsMadeOf Merge (text_by Refused list ∷ [])) run
+merge_printed contents list run told (answered, runs) ended =
+    let (answer, is, whole, quiet) = answered merge_words [] (Lists Merge (codes "list" ∷ [])) Yes refl (refl, refl, refl, refl, refl) ended in
+    printed_by (IsMadeOf Merge (text_by Refused list ∷ [])) run answer (is.0 (text_by Refused list ∷ []) (told_text contents (codes "list") list told, tt)) whole quiet
+
+-- the words are text
+merge_ascii : IsAscii (codes "merge")
+merge_ascii zero = omega arith
+merge_ascii (suc zero) = omega arith
+merge_ascii (suc (suc zero)) = omega arith
+merge_ascii (suc (suc (suc zero))) = omega arith
+merge_ascii (suc (suc (suc (suc zero)))) = omega arith
+merge_ascii (suc (suc (suc (suc (suc i))))) = omega arith
+
+list_ascii : IsAscii (codes "list")
+list_ascii zero = omega arith
+list_ascii (suc zero) = omega arith
+list_ascii (suc (suc zero)) = omega arith
+list_ascii (suc (suc (suc zero))) = omega arith
+list_ascii (suc (suc (suc (suc i)))) = omega arith
+
+in_words : (word : List ℕ) → Contains merge_words word → IsUtf8 word
+in_words word (zero, within, is) = subst IsUtf8 is (IsUtf8-from_ascii (codes "merge") merge_ascii)
+in_words word (suc zero, within, is) = subst IsUtf8 is (IsUtf8-from_ascii (codes "list") list_ascii)
+in_words word (suc (suc k), within, is) = absurd (omega (arith, within))
+
+-- none of the files is the standard input
+once : ¬ (ReadsInputTwice (Lists Merge (codes "list" ∷ [])))
+once twice =
+    let less : 1 < 0 = twice in
+    omega (arith, less)
+
+-- the one file is the one at fault
+one_name : (file name : List ℕ) (before after : List (List ℕ)) → file ∷ [] ≡ before ++ name ∷ after → name ≡ file
+one_name file name [] after e = cc
+one_name file name (other ∷ []) after e = cc
+one_name file name (other ∷ more ∷ before) after e = cc
+
+-- an error of a list that is read to its end or to a line in error
+pub list_failed : (contents : List ℕ → Option (List ℕ)) (file list : List ℕ) (refused : Bool) (run : Finished) → contents file ≡ Some list
+    → length list < 18446744073709551613
+    → Failed (contents_by Refused contents) refused (file ∷ []) (holding []) (holding run.out.items) (holding []) (holding run.err.items)
+    → HasToldLine file (text_by Refused list) run
+list_failed contents file list refused run told short (error.Argument text e, unread, cause, same, says, two) = absurd unread
+list_failed contents file list refused run told short (error.Line name number e, ((before, after, split, fine), is), cause, same, says, two) =
+    let this : name.now ≡ file = one_name file name.now before after split in
+    let known : contents_by Refused contents name.now ≡ Some (text_by Refused list) =
+    ap (contents_by Refused contents) this ∙ told_text contents file list told in
+    let taken : Some run.out.items ≡ Some [] = ap (λ (k : State). k.taken) same in
+    let none : run.out.items ≡ [] = cc in (
+      none,
+      (
+        number,
+        e,
+        is (text_by Refused list) known,
+        all_told run.err.items (error_line (error.Line name number e)) says ∙ ap (λ (k : List ℕ). fault_line k (number, e)) this,
+      ),
+    )
+list_failed contents file list refused run told short (error.Input name, (before, after, split, fine), cause, same, says, two) =
+    let this : name.now ≡ file = one_name file name.now before after split in
+    let known : contents_by Refused contents name.now ≡ Some (text_by Refused list) =
+    ap (contents_by Refused contents) this ∙ told_text contents file list told in
+    let many : 18446744073709551613 ≤ length list = rw known at cause in
+    absurd (omega (arith, many, short))
+list_failed contents file list refused run told short (error.NoMemory, unread, cause, same, says, two) = cc
+list_failed contents file list refused run told short (error.Output, unread, cause, same, says, two) = absurd unread
+
+pub merge_told : (contents : List ℕ → Option (List ℕ)) (list : List ℕ) (run : Finished) → contents (codes "list") ≡ Some list
+    → length list < 18446744073709551613 → HasRun merge_words contents run → run.status ≡ 2 → HasToldLine (codes "list") (text_by Refused list) run
+merge_told contents list run told short (answered, (refused, closed, runs)) two =
+    let done = subst (λ (k : ℕ). Runs (Some merge_words) contents refused closed (holding []) (holding run.out.items) (holding []) (holding run.err.items) k) two runs in
+    list_failed contents (codes "list") list refused run told short
+    (lists_fail merge_words contents refused closed (holding []) (holding run.out.items) (holding []) (holding run.err.items) (reading_of [])
+    Merge (codes "list" ∷ [])
+    (typed_asks merge_words [] (Lists Merge (codes "list" ∷ [])) (refl, refl, refl, refl, refl)) once refl in_words done)
+
+-- of a run that may lack memory for its outputs
+pub merges_printed : (words : List (List ℕ)) (contents : List ℕ → Option (List ℕ)) (list : List ℕ) (r : Option Finished) → words ≡ merge_words
+    → contents (codes "list") ≡ Some list → IfSome r (HasRun words contents)
+    → IfSome r (λ run. run.status ≡ 0 → HasPrinted (IsMadeOf Merge (text_by Refused list ∷ [])) run)
+merges_printed words contents list None same told h = tt
+merges_printed words contents list (Some run) same told h =
+    merge_printed contents list run told (subst (λ (k : List (List ℕ)). HasRun k contents run) same h)
+
+pub merges_told : (words : List (List ℕ)) (contents : List ℕ → Option (List ℕ)) (list : List ℕ) (r : Option Finished) → words ≡ merge_words
+    → contents (codes "list") ≡ Some list → length list < 18446744073709551613 → IfSome r (HasRun words contents)
+    → IfSome r (λ run. run.status ≡ 2 → HasToldLine (codes "list") (text_by Refused list) run)
+merges_told words contents list None same told short h = tt
+merges_told words contents list (Some run) same told short h =
+    merge_told contents list run told short (subst (λ (k : List (List ℕ)). HasRun k contents run) same h)
+
+-- ---- look
+abbrev pub look_words : List (List ℕ)
+look_words = codes "look" ∷ codes "table" ∷ codes "file" ∷ []
+
+pub look_printed : (contents : List ℕ → Option (List ℕ)) (table file : List ℕ) (run : Finished) → contents (codes "table") ≡ Some table
+    → contents (codes "file") ≡ Some file → HasRun look_words contents run → run.status ≡ 0
+    → HasPrinted (λ answer. IsLook (text_by Refused table) file answer Yes) run
+look_printed contents table file run first second (answered, runs) ended =
+    let (answer, is, whole, quiet) = answered look_words [] (Look (codes "table") (codes "file")) Yes refl (inl (refl, refl, refl, refl, refl)) ended in
+    printed_by (λ answer. IsLook (text_by Refused table) file answer Yes) run answer
+    (is (text_by Refused table) (text_by Refused file) (told_text contents (codes "table") table first) (told_text contents (codes "file") file second)) whole quiet
+
+pub looks_printed : (words : List (List ℕ)) (contents : List ℕ → Option (List ℕ)) (table file : List ℕ) (r : Option Finished) → words ≡ look_words
+    → contents (codes "table") ≡ Some table → contents (codes "file") ≡ Some file → IfSome r (HasRun words contents)
+    → IfSome r (λ run. run.status ≡ 0 → HasPrinted (λ answer. IsLook (text_by Refused table) file answer Yes) run)
+looks_printed words contents table file None same first second h = tt
+looks_printed words contents table file (Some run) same first second h =
+    look_printed contents table file run first second (subst (λ (k : List (List ℕ)). HasRun k contents run) same h)
+
+-- ---- merge again
+-- the law of lists, as a function that does nothing ensures it
+abbrev pub MergesAgain : Type 0
+MergesAgain = (bits : HostBits) (texts : List Text) (lists : List (List (List IpCidr))) (networks again : Family → List (List Bool))
+    (said : List (List IpCidr)) → AllZip ListSays texts lists → AreUnions lists networks
+    → ListSays (text_by bits (printed_sets networks)) said → AreUnions (said ∷ []) again → printed_sets again ≡ printed_sets networks
+
+pub merged_twice : MergesAgain → (list first second : List ℕ) → IsMadeOf Merge (text_by Refused list ∷ []) first
+    → IsMadeOf Merge (text_by Refused first ∷ []) second → second ≡ first
+merged_twice law list first second (lists, says, (networks, are, printed)) ([], never, made) = absurd never
+merged_twice law list first second (lists, says, (networks, are, printed)) (said ∷ [], (one, end), (again, those, shown)) =
+    shown
+    ∙ (law Refused (text_by Refused list ∷ []) lists networks again said says are
+    (subst (λ (k : List ℕ). ListSays (text_by Refused k) said) printed one) those
+    ∙ sym printed)
+merged_twice law list first second (lists, says, (networks, are, printed)) (said ∷ more ∷ others, (one, never), made) = absurd never

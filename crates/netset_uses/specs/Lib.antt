@@ -1,0 +1,3 @@
+-- Files in memory, and what a run over them has done.
+pub mod Runs
+pub mod Texts

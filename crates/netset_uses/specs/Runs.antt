@@ -1,0 +1,27 @@
+-- What a run of `netset` over texts in memory has done.
+use Rattle.std.specs.Prelude.{◌≡◌, ℕ, Bool, false, List, [], Option, Some}
+use Rattle.cidr_io.specs.Writing.{State}
+use Rattle.cidr_lists.specs.Lists.{IsFirstError, Text}
+use Rattle.cidr_lists.specs.Messages.{fault_line}
+use Rattle.cidr_lists.specs.declared.errors.LineError.{LineError}
+use Rattle.netset_commands.specs.Program.{Runs}
+use Rattle.netset_commands.specs.Typed.{AnswersTyped}
+use Rattle.netset_uses.specs.declared.runs.Finished.{Finished}
+
+-- an output that has these bytes, and has not failed
+abbrev pub holding : List ℕ → State
+holding bytes = record { taken = Some bytes; failed = false }
+
+-- a run with these arguments over these files, that began with empty outputs
+abbrev pub HasRun : List (List ℕ) → (List ℕ → Option (List ℕ)) → Finished → Type 0
+HasRun words contents run = AnswersTyped (Some words) contents (holding []) (holding run.out.items) (holding []) (holding run.err.items) run.status
+    × ((refused closed : Bool) × Runs (Some words) contents refused closed (holding []) (holding run.out.items) (holding []) (holding run.err.items) run.status)
+
+-- it has printed this answer, and told nothing
+abbrev pub HasPrinted : (List ℕ → Type 0) → Finished → Type 0
+HasPrinted IsAnswer run = IsAnswer run.out.items × (run.err.items ≡ [])
+
+-- it has told the first line in error of this file and nothing else, and printed nothing
+abbrev pub HasToldLine : List ℕ → Text → Finished → Type 0
+HasToldLine file text run = (run.out.items ≡ [])
+    × ((number : ℕ) × (e : LineError) × IsFirstError text number e × (run.err.items ≡ fault_line file (number, e)))

@@ -1,0 +1,99 @@
+//! Runs of `netset`: what they print, and what they tell of an error.
+ghost use Rattle.std.specs.Prelude.{◌≡◌, [], ◌∷◌, codes, map, IfSome};
+ghost use Rattle.cidr_lists.specs.Lists.{text_by};
+ghost use Rattle.cidr_lists.specs.declared.lines.HostBits.TheVariants.{Refused};
+ghost use Rattle.netset_commands.specs.Commands.{IsMadeOf};
+ghost use Rattle.netset_commands.specs.Look.{IsLook};
+ghost use Rattle.netset_commands.specs.declared.commands.operations.Operation.TheVariants.{Merge};
+ghost use Rattle.netset_commands.specs.declared.output.answers.Verdict.TheVariants.{Yes};
+ghost use Rattle.netset_uses.specs.Runs.{HasPrinted, HasRun, HasToldLine};
+ghost use Rattle.netset_uses.specs.Texts.{contents_of};
+
+use crate::texts::{TextFile, TextFiles, Words};
+use cidr_io::memory::Heap;
+use cidr_io::sink::{Sink, Tracked};
+use cidr_lists::laws::merging_again_changes_nothing;
+use netset_commands::program::program;
+use std::alloc::Global;
+
+/// What a run has done.
+#[derive(Drop)]
+pub struct Finished {
+    /// Its exit status.
+    pub status: u8,
+    /// What it has written to standard output.
+    pub out: Vec<u8>,
+    /// What it has written to standard error.
+    pub err: Vec<u8>,
+}
+
+/// A run of `netset` with these arguments over these files; `None` where there was no memory for what it writes.
+pub fn run(alloc: Global, words: &[&str], files: &[TextFile<'_>]) -> Option<Finished>
+    ensures { IfSome result (HasRun (map (λ word. word.now) words.now) (contents_of files.now)) }
+{
+    let mut memory = Heap::new(alloc);
+    let mut out = Tracked::new(Vec::new(alloc));
+    let mut err = Tracked::new(Vec::new(alloc));
+    let status = program(
+        &mut memory,
+        &Words { words },
+        &TextFiles { files },
+        &mut out,
+        &mut err,
+    );
+    if out.failed() || err.failed() {
+        return None;
+    }
+    Some(Finished {
+        status,
+        out: out.into_inner(),
+        err: err.into_inner(),
+    })
+}
+
+/// A run of `netset merge list`. With status 0 it has printed the set of the addresses of the list, and with status 2 it
+/// has told the first line in error, and printed nothing.
+pub fn merge(alloc: Global, list: &[u8]) -> Option<Finished>
+    ensures printed { IfSome result (λ run. run.status ≡ 0
+        → HasPrinted (IsMadeOf Merge (text_by Refused list.now ∷ [])) run) }
+    ensures error { IfSome result (λ run. run.status ≡ 2 → HasToldLine (codes "list") (text_by Refused list.now) run) }
+{
+    let file = TextFile {
+        name: "list",
+        bytes: list,
+    };
+    run(alloc, &["merge", "list"], &[file])
+}
+
+/// A run of `netset look table file`. With status 0 it has printed a line for each address of the file, with the longest
+/// network of the table that has it, and the value of that.
+pub fn look(alloc: Global, table: &[u8], file: &[u8]) -> Option<Finished>
+    ensures { IfSome result (λ run. run.status ≡ 0
+        → HasPrinted (λ answer. IsLook (text_by Refused table.now) file.now answer Yes) run) }
+{
+    let files = [
+        TextFile {
+            name: "table",
+            bytes: table,
+        },
+        TextFile {
+            name: "file",
+            bytes: file,
+        },
+    ];
+    run(alloc, &["look", "table", "file"], &files)
+}
+
+/// What `netset merge` prints of a list, and what it prints of that again: the same. `None` where a run ends with another
+/// status than 0, or there was no memory for what it writes.
+pub fn merge_twice(alloc: Global, list: &[u8]) -> Option<(Vec<u8>, Vec<u8>)>
+    ensures { IfSome result (λ both. both.1.items ≡ both.0.items) }
+{
+    merging_again_changes_nothing();
+    let first = merge(alloc, list)?;
+    let second = merge(alloc, first.out.as_slice())?;
+    if first.status != 0 || second.status != 0 {
+        return None;
+    }
+    Some((first.out, second.out))
+}
