@@ -47,8 +47,9 @@ rows() {
     run 2 '' $'-:2: 10.0.0.1 10.0.0.2: couldn\'t parse address in network: invalid IP address syntax\n' '10.0.0.1\n10.0.0.1 10.0.0.2' merge
     run 2 '' $'bad:1: 10.0.0.0/x: couldn\'t parse length in network: invalid length text\n' '' merge ten bad missing
     run 2 '' $'-:1: \\xff: not UTF-8\n' '\xff' merge
-    run 2 '' $'missing: cannot be read\n' '' merge missing
-    run 2 '' $'.: cannot be read\n' '' merge .
+    run 2 '' $'missing: no such file\n' '' merge missing
+    run 2 '' $'.: is a directory\n' '' merge .
+    run 2 '' $'ten/x: cannot be read\n' '' merge ten/x
     run 0 $'10.0.0.0/8\n' '' '10.128.0.0/9\n10.0.0.0/9' nets
     run 0 $'10.128.0.0/9\n::/1\n' '' '10.0.0.0/9\n8000::/1' minus both -
     run 0 $'10.128.0.0/9\n::/1\n' '' '10.0.0.0/9' minus both - eight
@@ -60,13 +61,13 @@ rows() {
     run 0 $'0.0.0.0/1\n192.0.0.0/2\n8000::/1\n' '' '128.0.0.0/2\n::/1' not
     run 0 '' '' '0.0.0.0/0' not - eight seven
     run 2 '' $'bad:1: 10.0.0.0/x: couldn\'t parse length in network: invalid length text\n' '' minus ten bad missing
-    run 2 '' $'missing: cannot be read\n' '' and ten missing bad
+    run 2 '' $'missing: no such file\n' '' and ten missing bad
     run 0 $'10.128.0.0/9\n' '' '10.0.0.0/9' not --in 10.0.0.0/8
     run 0 $'10.0.0.0/8\n' '' '' not --in 10.0.0.0/8 -
     run 0 $'8000::/1\n' '' '10.0.0.0/9' not --in ::/0 - seven
     run 0 '' '' '' not --in 10.0.0.0/9 ten
     run 2 '' $'10.0.0.1/8: host bits set; the network is 10.0.0.0/8\n' '' not --in 10.0.0.1/8 missing
-    run 2 '' $'missing: cannot be read\n' '' not --in ::/0 missing
+    run 2 '' $'missing: no such file\n' '' not --in ::/0 missing
     run 2 '' $'NET is missing, see: netset help not\n' '' not --in
     run 0 $'::/0\n' '' '' not --in ::/0 -k
     run 2 '' $'NET is missing, see: netset help not\n' '' not ten --in
@@ -121,8 +122,8 @@ rows_of_arguments() {
     run 0 $'11.0.0.0/8\n' '' '' merge -- -list
     run 0 $'10.0.0.0/7\n' '' '10.0.0.0/8' merge - -k -- -list
     run 2 '' $'-list: no such option, see: netset help merge\n' '' merge -list
-    run 2 '' $'-k: cannot be read\n' '' merge -- -k
-    run 2 '' $'--: cannot be read\n' '' merge -- --
+    run 2 '' $'-k: no such file\n' '' merge -- -k
+    run 2 '' $'--: no such file\n' '' merge -- --
     long=aaaaaaaaaaaaaaaaaaaaaaaaaaaaaaaaaaaaaaaa
     run 2 '' "$long: no such command, see: netset help"$'\n' '' "$long"
     run 2 '' "$long..: no such command, see: netset help"$'\n' '' "${long}a"
@@ -206,7 +207,7 @@ rows_of_changes() {
         diff ten_and_eight -
     run 1 $'-10.0.0.0\n' '' '10.0.0.1\n10.0.0.2/31\n10.0.0.4/30' diff eight_addresses -
     run 2 '' $'bad:1: 10.0.0.0/x: couldn\'t parse length in network: invalid length text\n' '' diff ten bad
-    run 2 '' $'missing: cannot be read\n' '' diff missing bad
+    run 2 '' $'missing: no such file\n' '' diff missing bad
     run 2 '' $'A is missing, see: netset help diff\n' '' diff
     run 2 '' $'B is missing, see: netset help diff\n' '' diff ten
     run 2 '' $'-: one argument too many, see: netset help diff\n' '' diff ten both -
@@ -225,7 +226,7 @@ rows_of_pools() {
     run 1 '' '' '' free ten 33 -
     run 2 '' $'129: no prefix length inside the network\n' '' free ten 129 missing
     run 2 '' $'x: no prefix length inside the network\n' '' free missing x -
-    run 2 '' $'missing: cannot be read\n' '' free ten 8 missing
+    run 2 '' $'missing: no such file\n' '' free ten 8 missing
     run 2 '' $'USED is missing, see: netset help free\n' '' free ten 8
     run 2 '' $'-x: no such option, see: netset help free\n' '' free -x 8 ten
     run 1 '' '' '' free ten 8 both -k
@@ -256,7 +257,7 @@ rows_of_findings() {
     run 2 '' $'-:2: 10.0.0.1-10.0.0.2: couldn\'t parse address in network: invalid IP address syntax\n' '10.0.0.1/8\n10.0.0.1-10.0.0.2' check
     run 2 '' $'bad:1: 10.0.0.0/x: couldn\'t parse length in network: invalid length text\n' '' check ten ten bad
     run 2 '' $'-:1: \\xff: not UTF-8\n' '\xff' check
-    run 2 '' $'missing: cannot be read\n' '' check ten missing
+    run 2 '' $'missing: no such file\n' '' check ten missing
     run 2 '' $'-x: no such option, see: netset help check\n' '' check -x
 }
 
@@ -287,9 +288,9 @@ rows_of_matches() {
     run 2 '' $'-:1: 10.0.0.1/8: host bits set; the network is 10.0.0.0/8\n' '10.0.0.1/8 x' match -v ten
     run 2 '' $'-:1: \\xff: not UTF-8\n' '\xff' match ten
     run 2 '' $'bad:1: 10.0.0.0/x: couldn\'t parse length in network: invalid length text\n' '' match bad missing
-    run 2 '' $'missing: cannot be read\n' '' match missing bad
-    run 2 '' $'missing: cannot be read\n' '' match ten missing
-    run 2 '' $'.: cannot be read\n' '' match ten .
+    run 2 '' $'missing: no such file\n' '' match missing bad
+    run 2 '' $'missing: no such file\n' '' match ten missing
+    run 2 '' $'.: is a directory\n' '' match ten .
     run 2 '' $'LIST is missing, see: netset help match\n' '' match
     run 2 '' $'LIST is missing, see: netset help match\n' '' match -v
     run 2 '' $'-x: no such option, see: netset help match\n' '' match -x ten
@@ -321,9 +322,9 @@ rows_of_look_ups() {
     run 2 '' $'bad:1: 10.0.0.0/x: couldn\'t parse length in network: invalid length text\n' '10.0.0.1' look bad
     run 2 '' $'-:2: 10.0.0.1/8: host bits set; the network is 10.0.0.0/8\n' '10.0.0.0/8 10.0.0.1/8\n10.0.0.1/8 x' look - address
     run 2 '' $'-:1: \\xff: not UTF-8\n' '\xff x' look - address
-    run 2 '' $'missing: cannot be read\n' '' look missing bad
-    run 2 '' $'missing: cannot be read\n' '' look owners missing
-    run 2 '' $'.: cannot be read\n' '' look owners .
+    run 2 '' $'missing: no such file\n' '' look missing bad
+    run 2 '' $'missing: no such file\n' '' look owners missing
+    run 2 '' $'.: is a directory\n' '' look owners .
     run 2 '' $'TABLE is missing, see: netset help look\n' '' look
     run 2 '' $'-: one argument too many, see: netset help look\n' '' look owners - -
     run 2 '' $'-x: no such option, see: netset help look\n' '' look -x
@@ -349,7 +350,7 @@ rows_of_logs() {
     run 1 '' '' '' match --any ten
     run 1 '' '' '10.0.0.1\n' match -v --any ten
     run 2 '' $'bad:1: 10.0.0.0/x: couldn\'t parse length in network: invalid length text\n' '' match --any bad missing
-    run 2 '' $'missing: cannot be read\n' '' match --any ten missing
+    run 2 '' $'missing: no such file\n' '' match --any ten missing
     run 1 '' '' '' match ten --any
     run 2 '' $'--anywhere: no such option, see: netset help match\n' '' match --anywhere ten
     run 2 '' $'LIST is missing, see: netset help match\n' '' match --any
@@ -422,7 +423,7 @@ rows_of_all_errors() {
     run 2 '' "-:1: 10.0.0.1/8: $host-:3: x: $none-:4: \xff: not UTF-8"$'\n' '10.0.0.1/8\n10.0.0.1\nx\n\xff\n' merge -k
     run 2 '' "-:3: x: $none-:4: \xff: not UTF-8"$'\n' '10.0.0.1/8\n10.0.0.1\nx\n\xff' merge --host-bits -k
     run 2 '' "hosts:1: 10.0.0.7/8: ${host}-:1: ten: ${none}hosts:1: 10.0.0.7/8: $host" 'ten\n' minus -k hosts - hosts
-    run 2 '' "hosts:1: 10.0.0.7/8: ${host}missing: cannot be read"$'\n' '' and -k hosts missing hosts
+    run 2 '' "hosts:1: 10.0.0.7/8: ${host}missing: no such file"$'\n' '' and -k hosts missing hosts
     run 2 '' "10.0.0.1/8: $host" '' not -k --in 10.0.0.1/8 hosts
     run 2 '' "10.0.0.1/8: $host" '' not -k --in 10.0.0.1/8 ten
     run 1 $'-10.0.0.0/8\n' '' '' diff -k ten -
@@ -503,7 +504,7 @@ rows_of_messages() {
     run 2 '' $'two\\x0alines:1: 10.0.0.1/8: host bits set; the network is 10.0.0.0/8\n' '' merge "$lines"
     run 2 '' $'two\\x0alines:1: 10.0.0.1/8: host bits set; the network is 10.0.0.0/8\n' '' merge -k "$lines"
     run 1 $'two\\x0alines:1: host bits set\n' '' '' check "$lines"
-    run 2 '' $'\\x1b[2J: cannot be read\n' '' merge $'\e[2J'
+    run 2 '' $'\\x1b[2J: no such file\n' '' merge $'\e[2J'
     run 2 '' "\\x1b[2J: $none" '' show $'\e[2J'
     run 2 '' "$long..: $none" '' not --in "${long}a"
 }

@@ -109,7 +109,7 @@ not_opened contents name is = subst (λ (k : Option Text). IfSome k (λ text. Ar
 pub cause_weaker : (F G : List ℕ → Type 0) (refused : Bool) (e : CommandError) → ((name : List ℕ) → F name → G name) → Cause F refused e → Cause G refused e
 cause_weaker F G refused (error.Argument text e) f h = tt
 cause_weaker F G refused (error.Line name number e) f h = tt
-cause_weaker F G refused (error.Input name) f h = f name.now h
+cause_weaker F G refused (error.Input name why) f h = f name.now h
 cause_weaker F G refused error.NoMemory f h = h
 cause_weaker F G refused error.Output f h = tt
 
@@ -135,7 +135,7 @@ output_cause F refused verdict (Err f) r is = subst (λ (k : Result Verdict Comm
 pub argument_cause : (F : List ℕ → Type 0) (refused : Bool) (P : List ℕ → ArgumentError → Type 0) (e : CommandError) → IsBadArgument P e → Cause F refused e
 argument_cause F refused P (error.Argument text e) h = tt
 argument_cause F refused P (error.Line name number e) h = tt
-argument_cause F refused P (error.Input name) h = absurd h
+argument_cause F refused P (error.Input name why) h = absurd h
 argument_cause F refused P error.NoMemory h = absurd h
 argument_cause F refused P error.Output h = tt
 
@@ -156,7 +156,7 @@ pub stop_cause : (F : List ℕ → Type 0) (refused : Bool) (e : CommandError) (
 stop_cause F refused error.Output s t block r (same, is) h = subst (λ (k : Result Verdict CommandError). IfErr k (Cause F refused)) (sym is) tt
 stop_cause F refused (error.Argument text e) s t block r (w, wrote, is) h = ended_cause F refused (error.Argument text e) w r is h
 stop_cause F refused (error.Line name number e) s t block r (w, wrote, is) h = ended_cause F refused (error.Line name number e) w r is h
-stop_cause F refused (error.Input name) s t block r (w, wrote, is) h = ended_cause F refused (error.Input name) w r is h
+stop_cause F refused (error.Input name why) s t block r (w, wrote, is) h = ended_cause F refused (error.Input name why) w r is h
 stop_cause F refused error.NoMemory s t block r (w, wrote, is) h = ended_cause F refused error.NoMemory w r is h
 
 pub behind_cause : (F : List ℕ → Type 0) (refused : Bool) (file : Bor (List ℕ)) (long : Option ℕ) (r : Result Verdict CommandError) → IfErr r (Cause F refused)
@@ -169,6 +169,6 @@ pub take_cause : (F : List ℕ → Type 0) (refused : Bool) (P : List ℕ → Re
     (old new : State) (block rest : List ℕ) (e : CommandError) → IsLost P what file number part old new block rest e → Cause F refused e
 take_cause F refused P what file number part old new block rest (error.Argument text e) h = tt
 take_cause F refused P what file number part old new block rest (error.Line name n e) h = tt
-take_cause F refused P what file number part old new block rest (error.Input name) h = absurd h
+take_cause F refused P what file number part old new block rest (error.Input name why) h = absurd h
 take_cause F refused P what file number part old new block rest error.NoMemory h = absurd h
 take_cause F refused P what file number part old new block rest error.Output h = tt

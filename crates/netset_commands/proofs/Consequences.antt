@@ -24,7 +24,7 @@ at_most_one No = omega arith
 above_one : (e : CommandError) → 2 ≤ status_of (Err e)
 above_one (error.Argument text e) = omega arith
 above_one (error.Line name number e) = omega arith
-above_one (error.Input name) = omega arith
+above_one (error.Input name why) = omega arith
 above_one error.NoMemory = omega arith
 above_one error.Output = omega arith
 

@@ -111,7 +111,7 @@ module _ (contents : List ℕ → Option Text) (kind : Kind) (files : List (Bor 
   error_at : (e : CommandError) → IsLoadError (name ∷ []) e → IsLoadError (drop i names) e
   error_at (error.Argument text e) h = h
   error_at (error.Line file number e) h = h
-  error_at (error.Input file) (after, is) =
+  error_at (error.Input file why) (after, is) =
       let same : name ≡ file.now = cc in
       (drop (i + 1) names, next_name ∙ ap (λ (k : List ℕ). k ∷ drop (i + 1) names) same)
   error_at error.NoMemory h = h

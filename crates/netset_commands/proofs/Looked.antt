@@ -27,6 +27,7 @@ use Rattle.netset_commands.specs.Program.{AnswersRequest}
 use Rattle.netset_commands.specs.Reading.{IsNextLine, IsStopped}
 use Rattle.netset_commands.specs.Streaming.{IsCut, IsOfFile, IsWritten}
 use Rattle.netset_commands.specs.declared.errors.CommandError.TheVariants as error
+use Rattle.netset_commands.specs.declared.errors.Reason.TheVariants.{Unknown}
 use Rattle.netset_commands.specs.declared.errors.ReadError.{ReadError}
 use Rattle.netset_commands.specs.declared.errors.ReadError.TheVariants.{Line, Input, NoMemory}
 use Rattle.netset_commands.specs.declared.commands.look.LookError.{LookError}
@@ -348,7 +349,7 @@ module _ (contents : List ℕ → Option Text) (rows : List ℕ) (file : Bor (Li
   ends_as : (text : List ℕ) (looks : List (Option LookUp)) (e : ReadError) → EndsReading (kept table) text looks e
       → IsCut (AllZip (LineLooks (kept table))) IsBadLine (lines_of text) looks (unread file e)
   ends_as text looks (Line number e) h = cut_before (LineLooks (kept table)) IsBadLine text looks number e file h
-  ends_as text looks Input h = cut_behind (LineLooks (kept table)) IsBadLine text looks (error.Input file) (λ _ _. tt) h
+  ends_as text looks Input h = cut_behind (LineLooks (kept table)) IsBadLine text looks (error.Input file Unknown) (λ _ _. tt) h
   ends_as text looks NoMemory h = cut_behind (LineLooks (kept table)) IsBadLine text looks error.NoMemory (λ _ _. tt) h
 
   gone : (e : ReadError) (text : List ℕ) → Answered s t text (Ok tt) → IsWritten s t text (unread file e)

@@ -238,7 +238,7 @@ pub stops_by : (e : CommandError) (s t : State) (block : List ℕ) (w : Result (
     → Stops e s t block (Err (ended_by e w))
 stops_by (error.Argument text e) s t block w other wrote = (w, wrote, refl)
 stops_by (error.Line name n e) s t block w other wrote = (w, wrote, refl)
-stops_by (error.Input name) s t block w other wrote = (w, wrote, refl)
+stops_by (error.Input name why) s t block w other wrote = (w, wrote, refl)
 stops_by error.NoMemory s t block w other wrote = (w, wrote, refl)
 stops_by error.Output s t block w other wrote = absurd (other refl)
 
@@ -462,9 +462,9 @@ module _ (P : List ℕ → Result Bool LineError → Type 0) (what : Written) wh
       → s.failed ≡ false → IsNotReadFurther file e → Streamed known left s t number count block long → Stops e t u block r → Streams P what file known s u r
   unread file known left s t u number count block long (error.Argument text e) r fine h st stops = absurd h
   unread file known left s t u number count block long (error.Line name n e) r fine h st stops = absurd h
-  unread file known left s t u number count block long (error.Input name) r fine h st (w, wrote, is) =
-      stopped file known s t u block st.picked (error.Input name) w r fine h (λ text all. all) st.collected wrote is
-      (cut_here known left number st.picked long (error.Input name) (λ _ _. tt) st.passed)
+  unread file known left s t u number count block long (error.Input name why) r fine h st (w, wrote, is) =
+      stopped file known s t u block st.picked (error.Input name why) w r fine h (λ text all. all) st.collected wrote is
+      (cut_here known left number st.picked long (error.Input name why) (λ _ _. tt) st.passed)
       (cut_here known left number st.picked long error.Output (λ _ _. tt) st.passed)
   unread file known left s t u number count block long error.NoMemory r fine h st (w, wrote, is) =
       stopped file known s t u block st.picked error.NoMemory w r fine tt (λ text all. all) st.collected wrote is
@@ -560,7 +560,7 @@ module _ (P : List ℕ → Result Bool LineError → Type 0) (what : Written) wh
       (r : Result Verdict CommandError) → s.failed ≡ false → Streamed known left s t number count block long → IfSome left (λ text. IsNextLine text part more next)
       → (lines_of_part part more ≡ part ∷ []) × IsLost P what file number part t u block rest e → Stops e u v rest r → Streams P what file known s v r
   lost file known left next s t u v number count block rest part more long (error.Argument text e) r fine st n h stops = absurd h.1
-  lost file known left next s t u v number count block rest part more long (error.Input name) r fine st n h stops = absurd h.1
+  lost file known left next s t u v number count block rest part more long (error.Input name why) r fine st n h stops = absurd h.1
   lost file known left next s t u v number count block rest part more long error.NoMemory r fine st n h stops = absurd h.1
   lost file known left next s t u v number count block rest part more long (error.Line name m e) r fine st n (one, (same, place, bad, still, kept)) (w, wrote, is) =
       let collected : Holds s u rest (flat_map (line_written what) st.picked) =
@@ -598,7 +598,7 @@ stop_same : (P Q : List ℕ → Result Bool LineError → Type 0) → ((line : L
     → IsStop (IsErrorBy P) read left e → IsStop (IsErrorBy Q) read left e
 stop_same P Q f read left (error.Argument text e) h = tt
 stop_same P Q f read left (error.Line name number e) (place, line, after, is, bad) = (place, line, after, is, f line (Err e) bad)
-stop_same P Q f read left (error.Input name) h = tt
+stop_same P Q f read left (error.Input name why) h = tt
 stop_same P Q f read left error.NoMemory h = tt
 stop_same P Q f read left error.Output h = tt
 

@@ -100,7 +100,7 @@ run_once reading contents refused request closed out new s t status twice names 
 told_anyway : (closed : Bool) (e : CommandError) (s t : State) → IsReadTwice e → Reports false (Err e) s t → Reports closed (Err e) s t
 told_anyway closed (error.Argument text why) s t is says = says
 told_anyway closed (error.Line name number why) s t is says = absurd is
-told_anyway closed (error.Input name) s t is says = absurd is
+told_anyway closed (error.Input name why) s t is says = absurd is
 told_anyway closed error.NoMemory s t is says = absurd is
 told_anyway closed error.Output s t is says = absurd is
 

@@ -21,7 +21,7 @@ use Rattle.netset_commands.specs.declared.input.several.Several.{Several}
 abbrev pub IsFileError : Option Text → List ℕ → CommandError → Type 0
 IsFileError contents name (error.Argument text e) = ⊥
 IsFileError contents name (error.Line file number e) = (file.now ≡ name) × ((text : Text) → contents ≡ Some text → IsFirstError text number e)
-IsFileError contents name (error.Input file) = file.now ≡ name
+IsFileError contents name (error.Input file why) = file.now ≡ name
 IsFileError contents name error.NoMemory = Unit {0}
 IsFileError contents name error.Output = ⊥
 

@@ -18,7 +18,7 @@ FileMayFail contents name = IfSome (contents name) (λ text. AreTooMany text.byt
 
 -- there is no memory only after an allocation was refused, and only some files can't be read
 abbrev pub Cause : (List ℕ → Type 0) → Bool → CommandError → Type 0
-Cause Fails refused (error.Input name) = Fails name.now
+Cause Fails refused (error.Input name why) = Fails name.now
 Cause Fails refused error.NoMemory = refused ≡ true
 Cause Fails refused e = Unit {0}
 

@@ -30,7 +30,7 @@ lines_of_part part false = last_line part
 abbrev pub IsNotReadFurther : List ℕ → CommandError → Type 0
 IsNotReadFurther file (error.Argument text e) = ⊥
 IsNotReadFurther file (error.Line name number e) = ⊥
-IsNotReadFurther file (error.Input name) = name.now ≡ file
+IsNotReadFurther file (error.Input name why) = name.now ≡ file
 IsNotReadFurther file error.NoMemory = Unit {0}
 IsNotReadFurther file error.Output = ⊥
 
@@ -39,7 +39,7 @@ abbrev pub IsLost : (List ℕ → Result Bool LineError → Type 0) → Written 
 IsLost PicksLine what file number part old new block rest (error.Argument text e) = ⊥
 IsLost PicksLine what file number part old new block rest (error.Line name n e) =
     (name.now ≡ file) × (n ≡ number) × PicksLine part (Err e) × (new ≡ old) × (rest ≡ block)
-IsLost PicksLine what file number part old new block rest (error.Input name) = ⊥
+IsLost PicksLine what file number part old new block rest (error.Input name why) = ⊥
 IsLost PicksLine what file number part old new block rest error.NoMemory = ⊥
 IsLost PicksLine what file number part old new block rest error.Output =
     PicksLine part (Ok true) × Part old new (block ++ line_written what part)

@@ -34,7 +34,7 @@ kind_of request = kind.Networks
 
 -- why no more lists are read: the first of these can't be read, or memory
 abbrev pub IsLoadError : List (List ℕ) → CommandError → Type 0
-IsLoadError names (error.Input file) = (after : List (List ℕ)) × (names ≡ file.now ∷ after)
+IsLoadError names (error.Input file why) = (after : List (List ℕ)) × (names ≡ file.now ∷ after)
 IsLoadError names error.NoMemory = Unit {0}
 IsLoadError names e = ⊥
 

@@ -17,7 +17,7 @@ use Rattle.cidr_lists.specs.LookUps.{LookUp, LineLooks, look_line, is_found}
 abbrev pub IsUnreadTable : Option Text → List ℕ → CommandError → Type 0
 IsUnreadTable contents name (error.Line file number e) = (file.now ≡ name) × ((text : Text) → contents ≡ Some text
     → IsFirstBad (AllZip (RowSays text.host_bits)) (IsBadRow text.host_bits) (lines_of text.bytes) number e)
-IsUnreadTable contents name (error.Input file) = file.now ≡ name
+IsUnreadTable contents name (error.Input file why) = file.now ≡ name
 IsUnreadTable contents name error.NoMemory = Unit {0}
 IsUnreadTable contents name e = ⊥
 

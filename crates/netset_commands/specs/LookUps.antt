@@ -22,6 +22,7 @@ use Rattle.netset_commands.specs.declared.errors.CommandError.TheVariants as err
 use Rattle.cidr_lists.specs.declared.errors.LineError.{LineError}
 use Rattle.cidr_lists.specs.declared.lines.HostBits.{HostBits}
 use Rattle.netset_commands.specs.declared.errors.ReadError.{ReadError}
+use Rattle.netset_commands.specs.declared.errors.Reason.TheVariants.{Unknown}
 use Rattle.netset_commands.specs.declared.errors.ReadError.TheVariants.{Line, Input, NoMemory}
 use Rattle.netset_commands.specs.declared.commands.look.LookError.{LookError}
 use Rattle.netset_commands.specs.declared.commands.look.LookError.TheVariants.{Reading, Output}
@@ -84,7 +85,7 @@ ReadsTable contents name (Err e) = IsUnreadTable contents name e
 -- an error of reading a file
 abbrev pub unread : Bor (List ℕ) → ReadError → CommandError
 unread file (Line number e) = error.Line file number e
-unread file Input = error.Input file
+unread file Input = error.Input file Unknown
 unread file NoMemory = error.NoMemory
 
 -- yes where an address was found

@@ -28,6 +28,8 @@ use Rattle.cidr_lists.specs.declared.lines.HostBits.{HostBits}
 use Rattle.netset_commands.specs.declared.output.answers.Verdict.{Verdict}
 use Rattle.netset_commands.specs.declared.output.answers.Verdict.TheVariants.{Yes, No}
 use Rattle.netset_commands.specs.declared.errors.Misfit.TheVariants.{NotText}
+use Rattle.netset_commands.specs.declared.errors.Reason.{Reason}
+use Rattle.netset_commands.specs.declared.errors.Reason.TheVariants.{NotFound, Denied, Directory, Unknown}
 use Rattle.netset_commands.specs.declared.errors.CommandError.{CommandError}
 use Rattle.netset_commands.specs.declared.errors.CommandError.TheVariants as error
 
@@ -40,7 +42,7 @@ StopsAt contents names name = (before : List (List ℕ)) × (after : List (List 
 -- can't be read, or memory
 abbrev pub IsUnread : (List ℕ → Option Text) → List (List ℕ) → CommandError → Type 0
 IsUnread contents names (error.Line name number e) = StopsAt contents names name.now × ((text : Text) → contents name.now ≡ Some text → IsFirstError text number e)
-IsUnread contents names (error.Input name) = StopsAt contents names name.now
+IsUnread contents names (error.Input name why) = StopsAt contents names name.now
 IsUnread contents names error.NoMemory = Unit {0}
 IsUnread contents names e = ⊥
 
@@ -57,7 +59,7 @@ IsWrong request e = ⊥
 
 -- the error is that this file can't be read
 abbrev pub IsInputError : List ℕ → CommandError → Type 0
-IsInputError file (error.Input name) = name.now ≡ file
+IsInputError file (error.Input name why) = name.now ≡ file
 IsInputError file e = ⊥
 
 -- why a request is not answered, and nothing is written
@@ -122,11 +124,18 @@ argument_message bad.Length = codes "no prefix length inside the network"
 argument_message bad.Index = codes "no index below 2^128"
 argument_message bad.ReadTwice = codes "standard input can be read only once"
 
+-- why a file is not read, as the system tells it where it can't be opened
+abbrev pub reason_words : Reason → List ℕ
+reason_words NotFound = codes "no such file"
+reason_words Denied = codes "permission denied"
+reason_words Directory = codes "is a directory"
+reason_words Unknown = codes "cannot be read"
+
 -- the line that is written to standard error: an argument as its beginning is shown, and the name of a file in whole
 abbrev pub error_line : CommandError → List ℕ
 error_line (error.Argument text e) = excerpt text.now ++ (codes ": " ++ (argument_message e ++ codes "\n"))
 error_line (error.Line name number e) = fault_line name.now (number, e)
-error_line (error.Input name) = shown name.now ++ codes ": cannot be read\n"
+error_line (error.Input name why) = shown name.now ++ (codes ": " ++ (reason_words why ++ codes "\n"))
 error_line error.NoMemory = codes "no memory\n"
 error_line error.Output = codes "output failed\n"
 

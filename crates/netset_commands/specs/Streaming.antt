@@ -9,7 +9,7 @@ use Rattle.cidr_lists.specs.declared.errors.LineError.{LineError}
 -- it is an error of reading this file, of memory or of the output
 abbrev pub IsOfFile : List ℕ → CommandError → Type 0
 IsOfFile file (error.Line name number e) = name.now ≡ file
-IsOfFile file (error.Input name) = name.now ≡ file
+IsOfFile file (error.Input name why) = name.now ≡ file
 IsOfFile file error.NoMemory = Unit {0}
 IsOfFile file error.Output = Unit {0}
 IsOfFile file e = ⊥

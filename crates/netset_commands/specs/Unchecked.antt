@@ -14,7 +14,7 @@ IsUnchecked contents names (error.Line name number e) =
     (before : List (List ℕ)) × (after : List (List ℕ)) × (names ≡ before ++ name.now ∷ after)
     × ((texts : List Text) → AreTold contents before texts → (entries : List Entry) × AreAllEntries before texts entries)
     × ((text : Text) → contents name.now ≡ Some text → IsFirstFaultyLine name.now text.bytes number e)
-IsUnchecked contents names (error.Input name) = Contains names name.now
+IsUnchecked contents names (error.Input name why) = Contains names name.now
 IsUnchecked contents names error.NoMemory = Unit {0}
 IsUnchecked contents names e = ⊥
 
@@ -24,7 +24,7 @@ abbrev pub IsFileFault : Option Text → List ℕ → CommandError → Type 0
 IsFileFault contents name (error.Argument text e) = ⊥
 IsFileFault contents name (error.Line file number e) =
     (file.now ≡ name) × ((text : Text) → contents ≡ Some text → IsFirstFaultyLine name text.bytes number e)
-IsFileFault contents name (error.Input file) = file.now ≡ name
+IsFileFault contents name (error.Input file why) = file.now ≡ name
 IsFileFault contents name error.NoMemory = Unit {0}
 IsFileFault contents name error.Output = ⊥
 

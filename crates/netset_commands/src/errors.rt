@@ -17,6 +17,19 @@ pub enum ReadError {
     NoMemory,
 }
 
+/// Why a file can't be read, as far as the system tells it.
+#[derive(Clone, Copy, Debug, Drop, PartialEq)]
+pub enum Reason {
+    /// There is no file of this name.
+    NotFound,
+    /// The file may not be read.
+    Denied,
+    /// It is a directory.
+    Directory,
+    /// Anything else, as a read that failed.
+    Unknown,
+}
+
 /// What is wrong with a word of the arguments.
 #[derive(Clone, Copy, Debug, Drop, PartialEq)]
 pub enum Misfit {
@@ -84,8 +97,8 @@ pub enum CommandError<'a> {
     Argument(&'a str, ArgumentError),
     /// The first line in error of this file, from 1 on; nothing was written, but by `match` and `look` lines before it.
     Line(&'a str, u64, LineError),
-    /// This file can't be read; nothing was written, but by `match` and `look` lines before.
-    Input(&'a str),
+    /// This file can't be read, and why; nothing was written, but by `match` and `look` lines before.
+    Input(&'a str, Reason),
     /// There is no memory; nothing was written, but by `match` and `look` lines before.
     NoMemory,
     /// The output has failed; a beginning of the answer was written.

@@ -154,8 +154,9 @@ pub fn look<'a, M: Memory, F: Sources, O: Sink>(
     ensures cause { IfErr result (Cause (FileMayFail (F.contents sources.now)) (M.refused memory.new)) }
 {
     let rows = read_table(memory, sources, table)?;
-    let Some(reader) = sources.open(file) else {
-        return Err(CommandError::Input(file));
+    let reader = match sources.open(file) {
+        Ok(reader) => reader,
+        Err(why) => return Err(CommandError::Input(file, why)),
     };
     let Ok(mut reader) = LineReader::new(memory, reader) else {
         return Err(CommandError::NoMemory);

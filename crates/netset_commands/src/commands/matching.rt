@@ -12,7 +12,7 @@ ghost use Rattle.netset_commands.specs.Program.{AnswersRequest};
 ghost use Rattle.netset_commands.specs.Reading.{IsNextLine};
 ghost use Rattle.cidr_lists.specs.Sets.{IsInSets};
 
-use crate::errors::CommandError;
+use crate::errors::{CommandError, Reason};
 use crate::input::files::Sources;
 use crate::input::several::read_file;
 use crate::output::answers::{Verdict, by_output};
@@ -308,7 +308,7 @@ fn next_part<'a, M: Memory, R: Source + Drop>(
     match reader.read_line(memory) {
         Ok(has_more) => Ok(has_more),
         Err(ReadError::NoMemory) => Err(CommandError::NoMemory),
-        Err(ReadError::Failed) => Err(CommandError::Input(file)),
+        Err(ReadError::Failed) => Err(CommandError::Input(file, Reason::Unknown)),
     }
 }
 
@@ -348,7 +348,7 @@ fn stream<'a, M: Memory, R: Source + Drop, S: Sink>(
             return told_behind(file, long, gathered.finish(matcher.written, out));
         }
     }
-    gathered.stop(CommandError::Input(file), out)
+    gathered.stop(CommandError::Input(file, Reason::Unknown), out)
 }
 
 /// The command `match`.
@@ -374,8 +374,9 @@ pub fn matching<'a, M: Memory, F: Sources, O: Sink>(
         inverted,
         written,
     };
-    let Some(reader) = sources.open(file) else {
-        return Err(CommandError::Input(file));
+    let reader = match sources.open(file) {
+        Ok(reader) => reader,
+        Err(why) => return Err(CommandError::Input(file, why)),
     };
     let Ok(mut reader) = LineReader::new(memory, reader) else {
         return Err(CommandError::NoMemory);

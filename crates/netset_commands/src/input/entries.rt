@@ -5,7 +5,7 @@ ghost use Rattle.netset_commands.specs.Commands.{read_files};
 ghost use Rattle.netset_commands.specs.Entries.{AddsEntries, AddsEntry, CopiesEntries};
 ghost use Rattle.netset_commands.specs.Unchecked.{AddsFileEntries, AreToldEntries, IsUnchecked};
 
-use crate::errors::{CommandError, ReadError};
+use crate::errors::{CommandError, ReadError, Reason};
 use crate::input::files::Sources;
 use crate::input::keeping::Said;
 use cidr_io::lines::{LineReader, is_too_long};
@@ -84,13 +84,14 @@ fn add_opened<'a, M: Memory, F: Sources>(
     ensures adds { AddsFileEntries (F.contents sources.now file.now) file.now entries.old.items entries.new.items result }
     ensures cause { IfErr result (Cause (FileMayFail (F.contents sources.now)) (M.refused memory.new)) }
 {
-    let Some(reader) = sources.open(file) else {
-        return Err(CommandError::Input(file));
+    let reader = match sources.open(file) {
+        Ok(reader) => reader,
+        Err(why) => return Err(CommandError::Input(file, why)),
     };
     match add_list(memory, reader, file, entries) {
         Ok(()) => Ok(()),
         Err(ReadError::Line(number, e)) => Err(CommandError::Line(file, number, e)),
-        Err(ReadError::Input) => Err(CommandError::Input(file)),
+        Err(ReadError::Input) => Err(CommandError::Input(file, Reason::Unknown)),
         Err(ReadError::NoMemory) => Err(CommandError::NoMemory),
     }
 }

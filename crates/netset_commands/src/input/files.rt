@@ -1,14 +1,16 @@
 //! The files of a run and its standard input.
-ghost use Rattle.std.specs.Prelude.{◌≡◌, ℕ, List, Option, Some, None, IfSome};
+ghost use Rattle.std.specs.Prelude.{◌≡◌, ℕ, List, Option, Some, None, IfErr, IfOk, IfSome};
 ghost use Rattle.netset_commands.specs.Keeping.{AllSaid};
 ghost use Rattle.cidr_lists.specs.Lists.{Text, lines_of};
 ghost use Rattle.netset_commands.specs.Program.{contents_by};
 
+use crate::errors::Reason;
 use crate::input::keeping::Said;
 use crate::output::terminal::{Progress, Watched};
 use cidr_io::source::Source;
 use cidr_lists::lines::HostBits;
-use std::io::{Eprint, Input, Read};
+use std::fs::OpenFile;
+use std::io::{Eprint, ErrorKind, Input, Read};
 use std::rt::Clock;
 use std::{fs, io, rt};
 
@@ -20,11 +22,11 @@ pub trait Files {
     /// input.
     ghost contents: { Self → List ℕ → Option (List ℕ) };
 
-    /// Opens the file of this name; `None` where it can't be opened.
-    fn open(&self, name: &str) -> Option<Self::Reader>
-        ensures left { IfSome result (λ reader. (text : List ℕ) → contents self.now name.now ≡ Some text
+    /// Opens the file of this name, or tells why it can't be opened.
+    fn open(&self, name: &str) -> Result<Self::Reader, Reason>
+        ensures left { IfOk result (λ reader. (text : List ℕ) → contents self.now name.now ≡ Some text
             → Self.Reader.left reader ≡ Some text) }
-        ensures none { result ≡ None → contents self.now name.now ≡ None };
+        ensures none { IfErr result (λ _. contents self.now name.now ≡ None) };
 }
 
 /// What lists are read from, and how.
@@ -34,11 +36,11 @@ pub trait Sources {
     /// The list of the file of a name, if it is told. The name `-` is that of the standard input.
     ghost contents: { Self → List ℕ → Option Text };
 
-    /// Opens the file of this name; `None` where it can't be opened.
-    fn open(&self, name: &str) -> Option<Self::Reader>
-        ensures left { IfSome result (λ reader. (text : Text) → contents self.now name.now ≡ Some text
+    /// Opens the file of this name, or tells why it can't be opened.
+    fn open(&self, name: &str) -> Result<Self::Reader, Reason>
+        ensures left { IfOk result (λ reader. (text : Text) → contents self.now name.now ≡ Some text
             → Self.Reader.left reader ≡ Some text.bytes) }
-        ensures none { result ≡ None → contents self.now name.now ≡ None };
+        ensures none { IfErr result (λ _. contents self.now name.now ≡ None) };
 
     /// What is done with a set bit after the prefix of a network.
     fn host_bits(&self) -> HostBits
@@ -62,7 +64,7 @@ impl<F: Files> Sources for ReadBy<'_, F> {
 
     ghost contents = { λ s. contents_by s.host_bits (F.contents s.files.now) };
 
-    fn open(&self, name: &str) -> Option<F::Reader> {
+    fn open(&self, name: &str) -> Result<F::Reader, Reason> {
         self.files.open(name)
     }
 
@@ -95,6 +97,36 @@ impl<F: Read + Drop, I: Read + Drop> Read for Opened<F, I> {
     }
 }
 
+/// Why the system did not open a file.
+fn reason_of(kind: ErrorKind) -> Reason {
+    match kind {
+        ErrorKind::NotFound => Reason::NotFound,
+        ErrorKind::PermissionDenied => Reason::Denied,
+        _ => Reason::Unknown,
+    }
+}
+
+/// Whether a file is a directory, as far as the system tells it.
+fn is_directory<F: OpenFile>(file: &F) -> bool {
+    match file.metadata() {
+        Ok(metadata) => metadata.is_dir(),
+        Err(_) => false,
+    }
+}
+
+/// Opens a file of the system that is no directory.
+fn open_file<R: rt::Files>(runtime: &R, name: &str) -> Result<R::File, Reason> {
+    match fs::open(runtime, name) {
+        Ok(file) => {
+            if is_directory(&file) {
+                return Err(Reason::Directory);
+            }
+            Ok(file)
+        }
+        Err(e) => Err(reason_of(e.kind())),
+    }
+}
+
 /// The files of the system and its standard input, which nothing is told of, and how far reading them is.
 #[derive(Clone, Copy)]
 pub struct System<'a, R: rt::Files + Input + Clock + Eprint> {
@@ -107,13 +139,13 @@ impl<'a, R: rt::Files + Input + Clock + Eprint> Files for System<'a, R> {
 
     ghost contents = { λ _ _. None };
 
-    fn open(&self, name: &str) -> Option<Self::Reader> {
+    fn open(&self, name: &str) -> Result<Self::Reader, Reason> {
         let source = if name == "-" {
             Opened::Input(self.runtime.reader())
         } else {
-            Opened::File(fs::open(self.runtime, name).ok()?)
+            Opened::File(open_file(self.runtime, name)?)
         };
-        Some(Watched {
+        Ok(Watched {
             source,
             progress: self.progress,
         })

@@ -5,7 +5,7 @@ ghost use Rattle.netset_commands.specs.Keeping.{AddsBy, AllSaid, AreKept, IsNone
 ghost use Rattle.cidr_lists.specs.Lists.{Text, lines_of};
 ghost use Rattle.netset_commands.specs.Loading.{AreListsLoaded, IsUnloaded};
 
-use crate::errors::{CommandError, ReadError};
+use crate::errors::{CommandError, ReadError, Reason};
 use crate::input::files::Sources;
 use crate::input::table::unread;
 use crate::input::{entries, lists, rows};
@@ -136,8 +136,9 @@ fn keep_list<'a, M: Memory, F: Sources, E: Sink>(
     ensures keeps { KeepsList (F.contents sources.now file.now) kind file.now (E.state err.old) (E.state err.new) result }
     ensures cause { IfErr result (Cause (FileMayFail (F.contents sources.now)) (M.refused memory.new)) }
 {
-    let Some(source) = sources.open(file) else {
-        return Err(CommandError::Input(file));
+    let source = match sources.open(file) {
+        Ok(source) => source,
+        Err(why) => return Err(CommandError::Input(file, why)),
     };
     let Ok(mut reader) = LineReader::new(memory, source) else {
         return Err(CommandError::NoMemory);
@@ -211,7 +212,7 @@ impl<F: Sources> Sources for Loaded<'_, F> {
 
     ghost contents = { λ s. F.contents s };
 
-    fn open(&self, name: &str) -> Option<F::Reader> {
+    fn open(&self, name: &str) -> Result<F::Reader, Reason> {
         self.sources.open(name)
     }
 

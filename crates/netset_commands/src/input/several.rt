@@ -5,7 +5,7 @@ ghost use Rattle.netset_commands.specs.Commands.{read_files};
 ghost use Rattle.netset_commands.specs.Answering.{AddsFile, AreRead, ReadsBoth, ReadsFile, ReadsSeveral};
 ghost use Rattle.netset_commands.specs.Program.{IsUnread};
 
-use crate::errors::{CommandError, ReadError};
+use crate::errors::{CommandError, ReadError, Reason};
 use crate::input::files::Sources;
 use crate::input::keeping::Said;
 use crate::input::lists::read_list;
@@ -30,13 +30,14 @@ fn add_opened<'a, M: Memory, F: Sources>(
     ensures adds { AddsFile (F.contents sources.now file.now) file.now lists.old lists.new result }
     ensures cause { IfErr result (Cause (FileMayFail (F.contents sources.now)) (M.refused memory.new)) }
 {
-    let Some(reader) = sources.open(file) else {
-        return Err(CommandError::Input(file));
+    let reader = match sources.open(file) {
+        Ok(reader) => reader,
+        Err(why) => return Err(CommandError::Input(file, why)),
     };
     match read_list(memory, sources.host_bits(), reader, lists) {
         Ok(()) => Ok(()),
         Err(ReadError::Line(number, e)) => Err(CommandError::Line(file, number, e)),
-        Err(ReadError::Input) => Err(CommandError::Input(file)),
+        Err(ReadError::Input) => Err(CommandError::Input(file, Reason::Unknown)),
         Err(ReadError::NoMemory) => Err(CommandError::NoMemory),
     }
 }

@@ -6,7 +6,7 @@ ghost use Rattle.cidr_lists.specs.LookUps.{found_line};
 ghost use Rattle.netset_commands.specs.LookUps.{LooksUp, PushesFound, ReadsFileRows, ReadsTable, unread};
 ghost use Rattle.cidr_lists.specs.Tables.{kept, value_at};
 
-use crate::errors::{CommandError, ReadError};
+use crate::errors::{CommandError, ReadError, Reason};
 use crate::input::files::Sources;
 use crate::input::keeping::Said;
 use crate::input::rows::read_rows;
@@ -88,7 +88,7 @@ pub fn unread<'a>(file: &'a str, e: ReadError) -> CommandError<'a>
 {
     match e {
         ReadError::Line(number, e) => CommandError::Line(file, number, e),
-        ReadError::Input => CommandError::Input(file),
+        ReadError::Input => CommandError::Input(file, Reason::Unknown),
         ReadError::NoMemory => CommandError::NoMemory,
     }
 }
@@ -102,8 +102,9 @@ fn read_opened<'a, M: Memory, F: Sources>(
     ensures reads { ReadsFileRows (F.contents sources.now file.now) file.now result }
     ensures cause { IfErr result (Cause (FileMayFail (F.contents sources.now)) (M.refused memory.new)) }
 {
-    let Some(reader) = sources.open(file) else {
-        return Err(CommandError::Input(file));
+    let reader = match sources.open(file) {
+        Ok(reader) => reader,
+        Err(why) => return Err(CommandError::Input(file, why)),
     };
     match read_rows(memory, sources.host_bits(), reader) {
         Ok(rows) => Ok(rows),

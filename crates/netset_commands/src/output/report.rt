@@ -7,9 +7,9 @@ ghost use Rattle.cidr_io.specs.Writing.{Answered, Tells, State};
 ghost use Rattle.cidr_lists.specs.Messages.{fault_line};
 ghost use Rattle.netset_commands.specs.Arguments.{misfit_text};
 ghost use Rattle.netset_commands.specs.Command.{misuse_line};
-ghost use Rattle.netset_commands.specs.Program.{Reports, ReportsUnless, argument_message, error_line, is_closed_pipe, status_of};
+ghost use Rattle.netset_commands.specs.Program.{Reports, ReportsUnless, argument_message, error_line, is_closed_pipe, reason_words, status_of};
 
-use crate::errors::{ArgumentError, CommandError, Misfit, Misuse};
+use crate::errors::{ArgumentError, CommandError, Misfit, Misuse, Reason};
 use crate::output::answers::Verdict;
 use arrayvec::ArrayString;
 use cidr_io::block::Block;
@@ -88,11 +88,17 @@ fn fault_parts<'a>(file: &'a str, number: &'a str, message: &'a str) -> [Part<'a
 }
 
 /// The parts of the line of a file that can't be read.
-fn unread_parts<'a>(name: &'a str) -> [Part<'a>; 2]
-    ensures { flat_map part_text result ≡ shown name.now ++ codes ": cannot be read\n" }
+fn unread_parts<'a>(name: &'a str, why: &'a str) -> [Part<'a>; 4]
+    ensures { flat_map part_text result ≡ shown name.now ++ (codes ": " ++ (why.now ++ codes "\n")) }
 {
-    let words: &'a str = ": cannot be read\n";
-    [Part::Shown(name), Part::Plain(words)]
+    let gap: &'a str = ": ";
+    let end: &'a str = "\n";
+    [
+        Part::Shown(name),
+        Part::Plain(gap),
+        Part::Plain(why),
+        Part::Plain(end),
+    ]
 }
 
 /// Appends the line of a line in error to a block, as far as the sink takes lines.
@@ -110,6 +116,18 @@ pub fn say_fault<E: Sink>(
     let message = error.message();
     let parts = fault_parts(file, digits.format(number), message.as_str());
     block.say_message(err, &parts);
+}
+
+/// Why a file is not read, as it is told.
+fn reason_words(why: Reason) -> &'static str
+    ensures { result.now ≡ reason_words why }
+{
+    match why {
+        Reason::NotFound => "no such file",
+        Reason::Denied => "permission denied",
+        Reason::Directory => "is a directory",
+        Reason::Unknown => "cannot be read",
+    }
 }
 
 /// Writes the line of an error, as far as the sink takes it.
@@ -130,7 +148,9 @@ fn say<E: Sink>(error: &CommandError<'_>, err: &mut E)
             err,
             &fault_parts(name, Buffer::new().format(*number), e.message().as_str()),
         ),
-        CommandError::Input(name) => write_message(err, &unread_parts(name)),
+        CommandError::Input(name, why) => {
+            write_message(err, &unread_parts(name, reason_words(*why)))
+        }
         CommandError::NoMemory => write_line(err, &["no memory\n"]),
         CommandError::Output => write_line(err, &["output failed\n"]),
     };
@@ -160,7 +180,7 @@ fn status_of(error: &CommandError<'_>) -> u8
     ensures { result ≡ status_of (Err error.now) }
 {
     match error {
-        CommandError::Argument(_, _) | CommandError::Line(_, _, _) | CommandError::Input(_) => 2,
+        CommandError::Argument(_, _) | CommandError::Line(_, _, _) | CommandError::Input(_, _) => 2,
         CommandError::NoMemory | CommandError::Output => 3,
     }
 }

@@ -1,4 +1,4 @@
-use Rattle.std.proofs.Common.{◌∙◌, refl}
+use Rattle.std.proofs.Common.{◌∙◌}
 use Rattle.std.proofs.lemmas.Result.{err_from_is_err_and}
 use Rattle.netset_commands.proofs.Causes.{file_cause, not_opened}
 use Rattle.netset_commands.proofs.Looked.{looked_whole, ended_early, output_failed}
@@ -8,21 +8,21 @@ pub returns-in-Ok-look_all-clause-answers : goal.returns-in-Ok-look_all-clause-a
 returns-in-Ok-look_all-clause-answers g c =
     rw c.verdict_of.ensures (looked_whole (g.F.Sources.contents c.args.sources.now) c.args.table.now c.args.file _ c.in_ok-rows.rows
     (g.O.Sink.state c.args.out.now) (g.O.Sink.state c.look_all.new.out) c.in_ok-rows.ensures.reads
-    (λ text contents. c.in-Ok.ensures.left ∙ c.in-Some.ensures.left text contents)
+    (λ text contents. c.in-Ok-new.ensures.left ∙ c.in-Ok.ensures.left text contents)
     c.in-Ok-look_all.found c.in-Ok-look_all.ensures.looks)
 
 pub returns-in-Err-Reading-clause-answers : goal.returns-in-Err-Reading-clause-answers
 returns-in-Err-Reading-clause-answers g c =
     rw c.unread.ensures (ended_early (g.F.Sources.contents c.args.sources.now) c.args.table.now c.args.file _ c.in_ok-rows.rows
     (g.O.Sink.state c.args.out.now) (g.O.Sink.state c.look_all.new.out) c.in_ok-rows.ensures.reads
-    (λ text contents. c.in-Ok.ensures.left ∙ c.in-Some.ensures.left text contents)
+    (λ text contents. c.in-Ok-new.ensures.left ∙ c.in-Ok.ensures.left text contents)
     c.in-Err-Reading.e (rw c.in-Err-Reading.field-0-is at c.in-Err-Reading.ensures.looks))
 
 pub returns-clause-answers : goal.returns-clause-answers
 returns-clause-answers g c =
     output_failed (g.F.Sources.contents c.args.sources.now) c.args.table.now c.args.file _ c.in_ok-rows.rows
     (g.O.Sink.state c.args.out.now) (g.O.Sink.state c.look_all.new.out) c.in_ok-rows.ensures.reads
-    (λ text contents. c.in-Ok.ensures.left ∙ c.in-Some.ensures.left text contents)
+    (λ text contents. c.in-Ok-new.ensures.left ∙ c.in-Ok.ensures.left text contents)
     (rw c.in-Err-Output.field-0-is at c.in-Err-Output.ensures.looks)
 
 pub returns-in_err-rows-clause-cause : goal.returns-in_err-rows-clause-cause
@@ -30,10 +30,10 @@ returns-in_err-rows-clause-cause g c =
     let (y, is, same) = err_from_is_err_and c.from_residual.result c.from_residual.ensures.1 in
     rw (is, same) c.in_err-rows.ensures.cause
 
-pub returns-in_default-clause-cause : goal.returns-in_default-clause-cause
-returns-in_default-clause-cause g c = not_opened (g.F.Sources.contents c.args.sources.now) c.args.file.now (c.in_default.ensures.none refl)
+pub returns-in-Err-clause-cause : goal.returns-in-Err-clause-cause
+returns-in-Err-clause-cause g c = not_opened (g.F.Sources.contents c.args.sources.now) c.args.file.now (c.in-Err.ensures.none)
 
 pub returns-in-Err-Reading-clause-cause : goal.returns-in-Err-Reading-clause-cause
 returns-in-Err-Reading-clause-cause g c =
     rw c.unread.ensures (file_cause (g.F.Sources.contents c.args.sources.now) c.args.file _ (g.M.Memory.refused c.look_all.new.memory) c.in-Err-Reading.e
-    (λ text contents. c.in-Ok.ensures.left ∙ c.in-Some.ensures.left text contents) (rw c.in-Err-Reading.field-0-is at c.in-Err-Reading.ensures.cause))
+    (λ text contents. c.in-Ok-new.ensures.left ∙ c.in-Ok.ensures.left text contents) (rw c.in-Err-Reading.field-0-is at c.in-Err-Reading.ensures.cause))

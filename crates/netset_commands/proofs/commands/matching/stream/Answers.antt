@@ -4,6 +4,7 @@ use Rattle.netset_commands.specs.Causes.{TextFails}
 use Rattle.netset_commands.specs.Matching.{Picks}
 use Rattle.cidr_lists.specs.Sets.{IsInSets}
 use Rattle.netset_commands.specs.declared.errors.CommandError.TheVariants as error
+use Rattle.netset_commands.specs.declared.errors.Reason.TheVariants.{Unknown}
 use Rattle.netset_commands.proofs.Causes.{behind_cause, cause_weaker, output_cause, stop_cause, take_cause, told_fails}
 use Rattle.netset_commands.proofs.Matched.{caught_up, ended, failed_before, go_on, left_known, lost, numbers_used, started, take_on, unread, unwritten}
 use Rattle.netset_commands.proofs.commands.matching.stream.Goals as goal
@@ -86,7 +87,7 @@ pub returns-clause-streams : goal.returns-clause-streams
 returns-clause-streams g c =
     unread (Picks c.args.matcher.now.anywhere (IsInSets c.args.matcher.now.sets.now) c.args.matcher.now.inverted) c.args.matcher.now.written c.args.file.now
     c.args.reader.now.left c.loop-number.reader.left (g.S.Sink.state c.args.out.now) (g.S.Sink.state c.loop-number.out)
-    (g.S.Sink.state c.stop-2.new.out) c.loop-number.number c.loop-number.gathered.count c.loop-number.gathered.block c.loop-number.long (error.Input c.args.file) c.stop-2.result
+    (g.S.Sink.state c.stop-2.new.out) c.loop-number.number c.loop-number.gathered.count c.loop-number.gathered.block c.loop-number.long (error.Input c.args.file Unknown) c.stop-2.result
     (sym c.if-failed.ensures) refl c.loop-number.invariant c.stop-2.ensures
 
 pub returns-in-Err-clause-cause : goal.returns-in-Err-clause-cause
@@ -115,7 +116,7 @@ returns-then-is_done-clause-cause g c =
 
 pub returns-clause-cause : goal.returns-clause-cause
 returns-clause-cause g c =
-    stop_cause (λ name. (name ≡ c.args.file.now) × TextFails c.args.reader.now.left) (g.M.Memory.refused c.loop-number.memory) (error.Input c.args.file) _ _ _ _ c.stop-2.ensures (
+    stop_cause (λ name. (name ≡ c.args.file.now) × TextFails c.args.reader.now.left) (g.M.Memory.refused c.loop-number.memory) (error.Input c.args.file Unknown) _ _ _ _ c.stop-2.ensures (
       refl,
       numbers_used (Picks c.args.matcher.now.anywhere (IsInSets c.args.matcher.now.sets.now) c.args.matcher.now.inverted) c.args.matcher.now.written c.args.reader.now.left c.loop-number.reader.left (g.S.Sink.state c.args.out.now) (g.S.Sink.state c.loop-number.out)
           c.loop-number.number c.loop-number.gathered.count c.loop-number.gathered.block c.loop-number.long c.loop-number.invariant c.loop-number-test.false,

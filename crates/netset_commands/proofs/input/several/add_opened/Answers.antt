@@ -4,20 +4,20 @@ use Rattle.netset_commands.proofs.Causes.{file_fails, not_opened}
 use Rattle.netset_commands.proofs.EachFile.{list_read}
 use Rattle.netset_commands.proofs.input.several.add_opened.Goals as goal
 
-pub returns-in_default-clause-cause : goal.returns-in_default-clause-cause
-returns-in_default-clause-cause g c = not_opened (g.F.Sources.contents c.args.sources.now) c.args.file.now (c.in_default.ensures.none refl)
+pub returns-in-Err-clause-cause : goal.returns-in-Err-clause-cause
+returns-in-Err-clause-cause g c = not_opened (g.F.Sources.contents c.args.sources.now) c.args.file.now (c.in-Err.ensures.none)
 
 pub returns-in-Err-Line-clause-adds : goal.returns-in-Err-Line-clause-adds
 returns-in-Err-Line-clause-adds g c = (
   refl,
   list_read (g.F.Sources.contents c.args.sources.now c.args.file.now) _ c.host_bits.result c.args.lists.now c.read_list.new.lists
-      (Err (Line c.in-Err-Line.number c.in-Err-Line.e)) c.in-Some.ensures.left (c.host_bits.ensures c.args.file.now)
+      (Err (Line c.in-Err-Line.number c.in-Err-Line.e)) c.in-Ok.ensures.left (c.host_bits.ensures c.args.file.now)
       (rw c.in-Err-Line.field-0-is at c.in-Err-Line.ensures.reads),
 )
 
 pub returns-in-Err-Input-clause-cause : goal.returns-in-Err-Input-clause-cause
 returns-in-Err-Input-clause-cause g c =
-    file_fails (g.F.Sources.contents c.args.sources.now) c.args.file.now _ c.in-Some.ensures.left (rw c.in-Err-Input.field-0-is at c.in-Err-Input.ensures.cause)
+    file_fails (g.F.Sources.contents c.args.sources.now) c.args.file.now _ c.in-Ok.ensures.left (rw c.in-Err-Input.field-0-is at c.in-Err-Input.ensures.cause)
 
 pub returns-in-Err-NoMemory-clause-cause : goal.returns-in-Err-NoMemory-clause-cause
 returns-in-Err-NoMemory-clause-cause g c = rw c.in-Err-NoMemory.field-0-is at c.in-Err-NoMemory.ensures.cause

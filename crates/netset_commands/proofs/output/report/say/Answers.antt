@@ -6,7 +6,7 @@ returns-in-Line g c =
 
 pub returns-in-Input : goal.returns-in-Input
 returns-in-Input g c =
-    rw c.in-Input.is (c.write_message-in-Input.result, rw c.unread_parts.ensures at c.write_message-in-Input.ensures)
+    rw c.in-Input.is (c.write_message-in-Input.result, rw (c.unread_parts.ensures, c.reason_words.ensures) at c.write_message-in-Input.ensures)
 
 pub returns-in-NoMemory : goal.returns-in-NoMemory
 returns-in-NoMemory g c = rw c.in-NoMemory.is (c.write_line-in-NoMemory.result, c.write_line-in-NoMemory.ensures)
