@@ -139,6 +139,8 @@ rows_of_arguments() {
     run 0 "$page" '' '' merge -h ten
     run 0 "$page" '' '' merge -kh ten
     page=$'netset --version        the version\n'
+    run 0 "$page" '' '' help --version
+    run 0 "$page" '' '' --help --version
     run 0 "$page" '' '' help -- --version
     run 0 "$page" '' '' --version -h
     page=$'netset help [COMMAND]   this page, or what it says of a command\n'

@@ -24,7 +24,7 @@ Failed contents refused names out new err new_err = (e : CommandError) × IsUnre
 told : (e : CommandError) (closed : Bool) (err new_err : State) → 2 ≡ status_of (Err e) → Reports closed (Err e) err new_err → Tells err new_err (error_line e)
 told (error.Argument text e) closed err new_err two says = says
 told (error.Line name number e) closed err new_err two says = says
-told (error.Input name) closed err new_err two says = says
+told (error.Input name why) closed err new_err two says = says
 told error.NoMemory closed err new_err two says = cc
 told error.Output closed err new_err two says = cc
 

@@ -5,7 +5,7 @@ use Rattle.std.specs.Option.{option_or}
 use Rattle.std.proofs.lemmas.Bool.{true≢false}
 use Rattle.std.proofs.lemmas.List.{append-nil, append_assoc, drop_all, drop_more, get_or-map, length-map, map-append, take-map, take_all, take_more, take-append-drop}
 use Rattle.std.proofs.lemmas.List.Folds.{find-append, list_all_at, list_all_more}
-use Rattle.netset_commands.specs.Arguments.{Parts, and_then, is_equals, is_option, joined_arguments, letter_options, letter_parts, long_parts, misuse_text, no_option, no_parts, only_operand, only_options, only_value, parts_from, short_option, takes, word_parts}
+use Rattle.netset_commands.specs.Arguments.{Parts, and_then, is_equals, is_option, is_topic, joined_arguments, letter_options, letter_parts, long_parts, misuse_text, no_option, no_parts, only_operand, only_options, only_value, parts_from, short_option, takes, topic_parts, word_parts}
 use Rattle.netset_commands.specs.Command.{AddsParts, IsUsageError, misuse_line}
 use Rattle.netset_commands.specs.Matching.{is_word}
 use Rattle.netset_commands.specs.Table.{name_of, takes_value, texts}
@@ -94,9 +94,15 @@ module _ (verb : Verb) (word : List ℕ) where
       if_false (takes verb word) _ _ none ∙ (if_false (takes_value verb word) _ _ off ∙ if_true (takes_value verb (before_first is_equals word)) _ _ is)
 
   pub without_value : takes verb word ≡ false → takes_value verb word ≡ false → takes_value verb (before_first is_equals word) ≡ false
-      → long_parts verb word ≡ no_option verb word
+      → long_parts verb word ≡ topic_parts verb word
   without_value none off is =
       if_false (takes verb word) _ _ none ∙ (if_false (takes_value verb word) _ _ off ∙ if_false (takes_value verb (before_first is_equals word)) _ _ is)
+
+  pub topic : is_topic verb word ≡ true → topic_parts verb word ≡ Ok (only_operand word, Any)
+  topic is = if_true (is_topic verb word) _ _ is
+
+  pub no_topic : is_topic verb word ≡ false → topic_parts verb word ≡ no_option verb word
+  no_topic none = if_false (is_topic verb word) _ _ none
 
   -- without = there is no value
   pub no_equals : position_or_len is_equals word ≡ length word → takes_value verb word ≡ false → takes_value verb (before_first is_equals word) ≡ false

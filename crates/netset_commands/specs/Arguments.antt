@@ -87,13 +87,22 @@ abbrev pub letter_parts : Verb → List ℕ → Result (Parts × Next) (List ℕ
 letter_parts command word =
     if list_all (takes command) (letter_options word) then Ok (only_options (letter_options word), Any) else no_option command word
 
+-- behind help the command --version is no option
+abbrev pub is_topic : Verb → List ℕ → Bool
+is_topic verb.Help word = is_word (codes "--version") word
+is_topic command word = false
+
+-- what a word adds that is no option: behind help an operand
+abbrev pub topic_parts : Verb → List ℕ → Result (Parts × Next) (List ℕ)
+topic_parts command word = if is_topic command word then Ok (only_operand word, Any) else no_option command word
+
 -- what a word that begins with -- adds: --any, --in before its value, or --in=NET
 abbrev pub long_parts : Verb → List ℕ → Result (Parts × Next) (List ℕ)
 long_parts command word =
     if takes command word then Ok (only_options (word ∷ []), Any)
     else if takes_value command word then Ok (no_parts, Value)
     else if takes_value command (before_first is_equals word) then Ok (only_value (after_first is_equals word), Any)
-    else no_option command word
+    else topic_parts command word
 
 -- what a word adds, and what the next one is: an option or an operand, the value of this option, or behind -- an operand
 abbrev pub word_parts : Verb → Next → List ℕ → Result (Parts × Next) (List ℕ)

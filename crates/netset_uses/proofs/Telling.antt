@@ -115,7 +115,7 @@ list_failed contents file list refused run told short (error.Line name number e,
         all_told run.err.items (error_line (error.Line name number e)) says ∙ ap (λ (k : List ℕ). fault_line k (number, e)) this,
       ),
     )
-list_failed contents file list refused run told short (error.Input name, (before, after, split, fine), cause, same, says, two) =
+list_failed contents file list refused run told short (error.Input name why, (before, after, split, fine), cause, same, says, two) =
     let this : name.now ≡ file = one_name file name.now before after split in
     let known : contents_by Refused contents name.now ≡ Some (text_by Refused list) =
     ap (contents_by Refused contents) this ∙ told_text contents file list told in

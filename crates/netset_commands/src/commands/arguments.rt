@@ -1,7 +1,7 @@
 //! The words of a command line as options and operands, and the command that they are.
 ghost use Rattle.std.specs.Prelude.{◌≡◌, ◌<◌, Ok, Err, Bool, true, false, length, drop, MatchOption, MatchResult, option_map};
 ghost use Rattle.std.specs.List.{after_first, before_first};
-ghost use Rattle.netset_commands.specs.Arguments.{asks_help, extra_operand, full_name, help_request, is_equals, is_option, letter_parts, line_parts, long_parts, missing_operand, lists_request, named_verb, no_option, no_parts, operand_or, part_request, parts_from, verb_of, short_option, takes, verb_request, word_parts};
+ghost use Rattle.netset_commands.specs.Arguments.{asks_help, extra_operand, full_name, help_request, is_equals, is_option, is_topic, letter_parts, line_parts, lists_request, long_parts, missing_operand, named_verb, no_option, no_parts, operand_or, part_request, parts_from, short_option, takes, topic_parts, verb_of, verb_request, word_parts};
 ghost use Rattle.netset_commands.specs.Command.{AddsParts, IsUsageError, misuse_line, parts_in, request_of};
 ghost use Rattle.netset_commands.specs.Matching.{is_word};
 ghost use Rattle.netset_commands.specs.Table.{takes_value, texts};
@@ -91,6 +91,16 @@ fn no_option<'a>(command: Verb, word: &'a str) -> UsageError<'a>
     })
 }
 
+/// Whether a word that is no option names a command, behind `help`.
+fn is_topic(command: Verb, word: &str) -> bool
+    ensures { result ≡ is_topic command word.now }
+{
+    match command {
+        Verb::Help => word == "--version",
+        _ => false,
+    }
+}
+
 impl<'a> Parts<'a> {
     /// Those of no words.
     fn new(alloc: Global) -> Parts<'a>
@@ -124,6 +134,23 @@ impl<'a> Parts<'a> {
         Ok(Next::Any)
     }
 
+    /// Adds a word that begins with `--` and is no option: behind `help` it may be an operand.
+    fn add_topic<M: Memory>(
+        &mut self,
+        memory: &mut M,
+        command: Verb,
+        word: &'a str,
+    ) -> Result<Next, UsageError<'a>>
+        ensures { MatchResult result (AddsParts (parts_in self.old) (parts_in self.new) (topic_parts command word.now))
+            (IsUsageError (topic_parts command word.now) (M.refused memory.new)) }
+    {
+        if !is_topic(command, word) {
+            return Err(no_option(command, word));
+        }
+        memory.push(&mut self.operands, word)?;
+        Ok(Next::Any)
+    }
+
     /// Adds a word that begins with `--`: an option, perhaps with its value.
     fn add_long<M: Memory>(
         &mut self,
@@ -146,7 +173,7 @@ impl<'a> Parts<'a> {
                 memory.push(&mut self.values, value)?;
                 Ok(Next::Any)
             }
-            None => Err(no_option(command, word)),
+            None => self.add_topic(memory, command, word),
         }
     }
 

@@ -3,7 +3,7 @@ use Rattle.std.proofs.lemmas.Result.{err_from_is_err_and}
 use Rattle.netset_commands.specs.Arguments.{no_parts, only_options, only_value}
 use Rattle.netset_commands.specs.Command.{parts_in}
 use Rattle.netset_commands.specs.declared.commands.arguments.Next.TheVariants.{Any}
-use Rattle.netset_commands.proofs.Parts.{before_value, error_of, long_option, none_behind, option_pushed, value_pushed, with_value, without_value}
+use Rattle.netset_commands.proofs.Parts.{added_as, before_value, long_option, none_behind, option_pushed, value_pushed, with_value, without_value}
 use Rattle.netset_commands.proofs.commands.arguments.Parts.add_long.Goals as goal
 
 pub returns-then-has : goal.returns-then-has
@@ -35,7 +35,7 @@ returns-in_ok-push-in-Some g c = (
 
 pub returns-in-None : goal.returns-in-None
 returns-in-None g c =
-    error_of _ _ (g.M.Memory.refused c.args.memory.now) c.no_option.result
+    added_as _ _ (parts_in c.args.self.now) (parts_in c.add_topic.new.self) (g.M.Memory.refused c.add_topic.new.memory) c.add_topic.result
     (without_value c.args.command c.args.word.now (sym (rw c.options_of.ensures at c.has.ensures) ∙ c.if-has.false) (sym c.takes_value.ensures ∙ c.if-takes_value.false)
     (c.in-None.ensures (sym c.takes_value.ensures ∙ c.if-takes_value.false)))
-    (c.no_option.ensures (g.M.Memory.refused c.args.memory.now))
+    c.add_topic.ensures
