@@ -1,12 +1,12 @@
 -- Words of a command line in their parts.
-use Rattle.std.proofs.Common.{◌≡◌, refl, sym, ◌∙◌, ap, ℕ, ◌+◌, ◌<◌, ◌≤◌, cond, ◌&&◌, Bool, true, false, if◌then◌else◌, List, [], ◌∷◌, ◌++◌, length, take, drop, get_or, map, Bor, codes, nat_eq, arith, Option, Some, None, Result, Ok, Err, subst, MatchResult}
+use Rattle.std.proofs.Common.{◌≡◌, refl, sym, ◌∙◌, ap, ℕ, ◌+◌, ◌<◌, ◌≤◌, cond, ◌&&◌, Bool, true, false, List, [], ◌∷◌, ◌++◌, length, take, drop, get_or, map, Bor, codes, nat_eq, arith, Option, Some, None, Result, Ok, Err, subst, MatchResult}
 use Rattle.std.specs.List.{after_first, before_first, find, list_all, position_or_len, starts_with}
 use Rattle.std.specs.Option.{option_or}
 use Rattle.std.proofs.lemmas.Bool.{true≢false}
-use Rattle.std.proofs.lemmas.List.{append-nil, append_assoc, drop_all, drop_more, get_or-map, length-map, map-append, take-map, take_all, take_more, take-append-drop}
-use Rattle.std.proofs.lemmas.List.Folds.{find-append, list_all_at, list_all_more}
+use Rattle.std.proofs.lemmas.List.{append-nil, append_assoc, drop_all, drop_more, get_or-map, length-map, map-append, take_all, take_more, take-append-drop}
+use Rattle.std.proofs.lemmas.List.Folds.{find-append, list_all_at}
 use Rattle.netset_commands.specs.Arguments.{Parts, and_then, is_equals, is_option, is_topic, joined_arguments, letter_options, letter_parts, long_parts, misuse_text, no_option, no_parts, only_operand, only_options, only_value, parts_from, short_option, takes, topic_parts, word_parts}
-use Rattle.netset_commands.specs.Command.{AddsParts, IsUsageError, misuse_line}
+use Rattle.netset_commands.specs.Command.{AddsParts, IsUsageError}
 use Rattle.netset_commands.specs.Matching.{is_word}
 use Rattle.netset_commands.specs.Table.{name_of, takes_value, texts}
 use Rattle.netset_commands.specs.declared.commands.arguments.Next.{Next}

@@ -1,6 +1,6 @@
 -- The words of a command line as options and operands, and the request that they are. Options are those of POSIX.1-2024,
 -- XBD 12.2, guidelines 4 to 6 and 10, and long ones, which begin with --; they may also stand behind operands.
-use Rattle.std.specs.Prelude.{ℕ, ◌==◌, nat_eq, nat_lt, Bool, true, false, if◌then◌else◌, ◌&&◌, ◌||◌, List, [], ◌∷◌, ◌++◌, length, drop, map, codes, Option, Some, None, Result, Ok, Err, slice_get, slice_index, ok_or, unwrap_or, option_and_then}
+use Rattle.std.specs.Prelude.{ℕ, ◌==◌, nat_eq, nat_lt, Bool, false, if◌then◌else◌, ◌&&◌, ◌||◌, List, [], ◌∷◌, ◌++◌, length, drop, map, codes, Option, Some, None, Result, Ok, Err, slice_get, slice_index, ok_or, unwrap_or, option_and_then}
 use Rattle.std.specs.List.{after_first, before_first, find, list_all, starts_with}
 use Rattle.cidr_io.specs.Shown.{excerpt}
 use Rattle.netset_commands.specs.Commands.{Request, Lists, NotIn, Diff, Free, Check, Match, Look, Single, Help, Version, input_name, reading_of}

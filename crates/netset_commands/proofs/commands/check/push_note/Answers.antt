@@ -1,6 +1,4 @@
-use Rattle.std.proofs.Common.{codes, decimal, ◌++◌}
-use Rattle.cidr.specs.either.IpText.{ip_network_text}
-use Rattle.cidr.specs.texts.Printed.{plain_text}
+use Rattle.std.proofs.Common.{codes, decimal}
 use Rattle.cidr_io.specs.Shown.{shown}
 use Rattle.netset_commands.proofs.Checked.{note_collected, place_collected}
 use Rattle.netset_commands.proofs.commands.check.push_note.Goals as goal

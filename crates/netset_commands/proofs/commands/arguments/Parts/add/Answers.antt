@@ -1,5 +1,4 @@
 use Rattle.std.proofs.Common.{refl}
-use Rattle.std.proofs.lemmas.Result.{err_from_is_err_and}
 use Rattle.netset_commands.specs.Arguments.{only_operand, only_value}
 use Rattle.netset_commands.proofs.Parts.{operand_pushed, value_pushed}
 use Rattle.netset_commands.proofs.commands.arguments.Parts.add.Goals as goal
