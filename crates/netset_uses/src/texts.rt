@@ -4,6 +4,7 @@ ghost use Rattle.std.specs.Str.{bytes_eq};
 ghost use Rattle.netset_uses.specs.Texts.{contents_of};
 
 use cidr_io::arguments::Arguments;
+use netset_commands::errors::Reason;
 use netset_commands::input::files::Files;
 use std::env::FillError;
 
@@ -56,13 +57,13 @@ impl<'a> Files for TextFiles<'a> {
 
     ghost contents = { λ f. contents_of f.files.now };
 
-    fn open(&self, name: &str) -> Option<&'a [u8]> {
+    fn open(&self, name: &str) -> Result<&'a [u8], Reason> {
         let files = self.files;
         for file in files {
             if file.has_name(name) {
-                return Some(file.bytes);
+                return Ok(file.bytes);
             }
         }
-        None
+        Err(Reason::NotFound)
     }
 }

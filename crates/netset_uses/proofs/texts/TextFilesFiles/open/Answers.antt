@@ -16,5 +16,5 @@ returns-then-has_name-clause-left c = λ text told.
     (sym c.has_name.ensures ∙ c.if-has_name.true)) ∙ told
 
 pub returns-clause-none : goal.returns-clause-none
-returns-clause-none c = λ none.
+returns-clause-none c =
     none_found c.args.self.now.files.now c.args.name.now c.loop-file.file-index c.loop-file-test.false c.loop-file.invariant
