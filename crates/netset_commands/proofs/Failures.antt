@@ -1,5 +1,5 @@
 -- What follows from the contract of a run that ends with status 2, of an operation on lists without -k.
-use Rattle.std.proofs.Common.{◌≡◌, sym, ◌∙◌, ap, subst, inl, inr, ℕ, Bool, true, false, List, Contains, IsUtf8, Option, Some, Result, Ok, Err}
+use Rattle.std.proofs.Common.{◌≡◌, sym, ◌∙◌, ap, subst, inl, inr, ℕ, Bool, false, List, Contains, IsUtf8, Option, Some, Result, Ok, Err}
 use Rattle.std.proofs.lemmas.Bool.{true≢false}
 use Rattle.cidr_io.specs.Writing.{State, Tells}
 use Rattle.cidr_io.specs.declared.sink.OutputFailed.{OutputFailed}

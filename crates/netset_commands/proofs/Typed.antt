@@ -1,8 +1,8 @@
 -- Requests as they are typed are read as these requests.
-use Rattle.std.proofs.Common.{◌≡◌, refl, sym, ◌∙◌, ap, subst, inl, inr, ℕ, Bool, true, false, ◌||◌, List, [], ◌∷◌, ◌++◌, codes, Option, Some, None, Result, Ok, Err}
+use Rattle.std.proofs.Common.{◌≡◌, refl, sym, ◌∙◌, ap, subst, inl, inr, ℕ, Bool, true, false, ◌||◌, List, [], ◌∷◌, ◌++◌, codes, Option, Some, None, Result, Ok}
 use Rattle.std.specs.List.{list_all, list_any}
 use Rattle.std.proofs.lemmas.Bool.{true≢false}
-use Rattle.netset_commands.specs.Arguments.{Parts, and_then, asks_help, counted_request, extra_operand, is_option, joined_arguments, line_request, lists_request, missing_operand, named_verb, no_parts, only_operand, only_options, only_value, part_request, parts_from, read_request, takes, verb_request, word_parts}
+use Rattle.netset_commands.specs.Arguments.{Parts, and_then, asks_help, counted_request, extra_operand, is_option, joined_arguments, line_request, lists_request, named_verb, no_parts, only_operand, only_options, only_value, part_request, parts_from, read_request, takes, verb_request, word_parts}
 use Rattle.netset_commands.specs.Commands.{Request, Lists, NotIn, Diff, Free, Check, Match, Look, Single, Help, Version, input_name, reading_of}
 use Rattle.netset_commands.specs.Matching.{has, is_word}
 use Rattle.netset_commands.specs.Single.{Show, Split, Nth}
