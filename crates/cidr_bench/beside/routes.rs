@@ -16,7 +16,7 @@ const IPV6_STARTS: [u16; 16] = [
 ];
 
 /// The bit that no IPv6 route has set.
-pub const IPV6_BIT: u128 = 1 << 107;
+const IPV6_BIT: u128 = 1 << 107;
 
 /// How many addresses are asked for.
 pub const ASKED: usize = 50_000;
@@ -32,7 +32,7 @@ pub fn random_ipv4(index: usize) -> u32 {
     (random(index) >> 32) as u32
 }
 
-pub fn random_start(index: usize) -> u128 {
+fn random_start(index: usize) -> u128 {
     let high = random(index);
     let start = u64::from(IPV6_STARTS[(high % 16) as usize]);
     u128::from(start << 48 | high >> 16) << 64 | u128::from(random(index ^ 0x4000_0000))
@@ -51,6 +51,8 @@ pub trait Address: Ord + Copy {
     fn bit(self, index: u32) -> usize;
     fn wide(self) -> u128;
     fn longer_route(index: usize, more: u32) -> (Self, u32);
+    /// An address that no route has.
+    fn outside(index: usize) -> Self;
     /// An address in the network of this length.
     fn inside(self, len: u32, random: u64) -> Self;
 }
@@ -87,6 +89,10 @@ impl Address for u32 {
         let len = IPV4_LENGTHS[(random(index ^ 0x2000_0000) % 32) as usize] + more;
         let len = len.min(32);
         ((random_ipv4(index) & 0xfeff_ffff).masked(len), len)
+    }
+
+    fn outside(index: usize) -> u32 {
+        random_ipv4(index) | 0x0100_0000
     }
 
     fn inside(self, len: u32, random: u64) -> u32 {
@@ -126,6 +132,10 @@ impl Address for u128 {
         let len = IPV6_LENGTHS[(random(index ^ 0x2000_0000) % 32) as usize] + more;
         let len = len.min(128);
         ((random_start(index) & !IPV6_BIT).masked(len), len)
+    }
+
+    fn outside(index: usize) -> u128 {
+        random_start(index) | IPV6_BIT
     }
 
     fn inside(self, len: u32, random: u64) -> u128 {

@@ -3,9 +3,9 @@
 //! bit, as the crate `iprange` has it.
 //!
 //! `sets ROUNDS` prints a line for each row with tabs between: its name, a number that hangs on all results, and the
-//! nanoseconds by ranges and by the tree, for each network of both sets, or for each address. The row of a binary search
-//! has the nanoseconds of one in the networks of a set instead. Each time is the least of five turns. It fails where the
-//! two ways differ.
+//! nanoseconds by ranges and by the tree, for each network of both sets or of a list, or for each address. The row of a
+//! binary search has the nanoseconds of one in the networks of a set instead. Each time is the least of five turns. It
+//! fails where two ways differ.
 
 mod routes;
 
@@ -86,6 +86,32 @@ fn difference<A: Address>(these: &Ranges<A>, those: &Ranges<A>) -> Ranges<A> {
         }
     }
     ranges
+}
+
+/// The ranges of networks in any order.
+fn of_networks<A: Address>(networks: &[(A, u32)]) -> Ranges<A> {
+    let mut sorted: Ranges<A> = networks.iter().map(|(first, len)| (*first, first.last(*len))).collect();
+    sorted.sort();
+    let mut ranges = Vec::with_capacity(sorted.len());
+    sorted.into_iter().for_each(|range| push_joined(&mut ranges, range));
+    ranges
+}
+
+/// Adds an address: ranges that it touches become one.
+fn add<A: Address>(ranges: &mut Ranges<A>, address: A) {
+    let from = ranges.partition_point(|range| range.1.after() < address);
+    let to = from + ranges[from..].partition_point(|range| range.0 <= address.after());
+    let all = ranges[from..to].iter().fold((address, address), |all, it| (all.0.min(it.0), all.1.max(it.1)));
+    ranges.splice(from..to, [all]);
+}
+
+/// Takes an address out of the range that has it.
+fn take_out<A: Address>(ranges: &mut Ranges<A>, address: A) {
+    let at = ranges.partition_point(|range| range.1 < address);
+    let Some(&(first, last)) = ranges.get(at).filter(|range| range.0 <= address) else { return };
+    let lower = (first < address).then(|| (first, address.before()));
+    let upper = (address < last).then(|| (address.after(), last));
+    ranges.splice(at..at + 1, lower.into_iter().chain(upper));
 }
 
 /// A prefix, and the longer ones in it. One without a longer one is in the set, with all its addresses.
@@ -225,10 +251,13 @@ fn number_of_all(rounds: u32, answers: &[u32]) -> u32 {
 /// What makes a set of two others.
 type OfTwo<T> = fn(&T, &T) -> T;
 
-/// The networks of the set of so many random routes, from an index on, ascending: none is in another, and no two are
-/// the halves of one.
-fn reduced_routes<A: Address>(from: usize, size: usize, more: u32) -> Vec<(A, u32)> {
-    let mut networks: Vec<_> = (from..from + size).map(|index| A::longer_route(index, more)).collect();
+/// So many random routes, from an index on.
+fn routes<A: Address>(from: usize, size: usize, more: u32) -> Vec<(A, u32)> {
+    (from..from + size).map(|index| A::longer_route(index, more)).collect()
+}
+
+/// The networks of the set of routes, ascending: none is in another, and no two are the halves of one.
+fn reduced<A: Address>(mut networks: Vec<(A, u32)>) -> Vec<(A, u32)> {
     networks.sort();
     let mut reduced: Vec<(A, u32)> = Vec::new();
     for mut next in networks {
@@ -245,8 +274,8 @@ fn reduced_routes<A: Address>(from: usize, size: usize, more: u32) -> Vec<(A, u3
 }
 
 fn compare<A: Address>(rounds: u32, of: &str, part: usize, more: u32) {
-    let these = reduced_routes::<A>(0, 9 * part, more);
-    let those = reduced_routes::<A>(9 * part - part / 2, part, more);
+    let these = reduced(routes::<A>(0, 9 * part, more));
+    let those = reduced(routes::<A>(9 * part - part / 2, part, more));
     let mut ranges = [Vec::new(), Vec::new()];
     let mut trees = [None, None];
     for (index, networks) in [&these, &those].iter().enumerate() {
@@ -293,6 +322,7 @@ fn compare<A: Address>(rounds: u32, of: &str, part: usize, more: u32) {
     });
     assert_eq!(found, wanted, "set contains {of}: the results differ");
     println!("set contains {of}\t{}\t{time:.1}\t{tree_time:.1}", number_of_all(rounds, &answers));
+    println!("set contains, made ready {of}\t{}\t{time:.1}\t-", number_of_all(rounds, &answers));
     let place = |networks: &[(A, u32)], it: A| networks.binary_search(&(it, A::WIDTH)).unwrap_or_else(|at| at) as u32;
     let (time, _) = least(rounds, ASKED, || {
         let networks = black_box(&these);
@@ -300,6 +330,43 @@ fn compare<A: Address>(rounds: u32, of: &str, part: usize, more: u32) {
     });
     let places: Vec<u32> = asked.iter().map(|it| place(&these, *it)).collect();
     println!("set binary search {of}\t{}\t{time:.1}\t-", number_of_all(rounds, &places));
+    change(of, ranges[0].clone());
+    make::<A>(rounds, of, 9 * part, more);
+}
+
+/// Adds 64 addresses that no route has, and takes them out.
+fn change<A: Address>(of: &str, mut ranges: Ranges<A>) {
+    let addresses: Vec<A> = (0..64).map(|index| A::outside(index ^ 0x0200_0000)).collect();
+    let (mut added, mut taken) = (f64::MAX, f64::MAX);
+    for _ in 0..5 {
+        let start = Instant::now();
+        black_box(&addresses).iter().for_each(|it| add(black_box(&mut ranges), *it));
+        added = added.min(start.elapsed().as_nanos() as f64 / addresses.len() as f64);
+        let start = Instant::now();
+        black_box(&addresses).iter().for_each(|it| take_out(black_box(&mut ranges), *it));
+        taken = taken.min(start.elapsed().as_nanos() as f64 / addresses.len() as f64);
+    }
+    let number = addresses.iter().fold(0, |sum, _| mixed(sum, 1));
+    println!("set insert {of}\t{number}\t{added:.1}\t-");
+    println!("set remove {of}\t{number}\t{taken:.1}\t-");
+}
+
+/// Makes the set of many networks: of a list in no order, and of sixteen that ascend, at once and by unions in turn, in a
+/// tenth of the rounds.
+fn make<A: Address>(rounds: u32, of: &str, size: usize, more: u32) {
+    let rounds = (rounds / 10).max(1);
+    let mut networks = routes::<A>(0, size, more);
+    let (time, wanted) = least(rounds, size, || of_networks(black_box(&networks)));
+    println!("set of a list {of}\t{}\t{time:.1}\t-", number_of(rounds, &wanted));
+    let len = (size / 16).max(1);
+    networks.chunks_mut(len).for_each(|list| list.sort());
+    let (time, found) = least(rounds, size, || of_networks(black_box(&networks)));
+    assert!(found == wanted, "set of 16 lists {of}: the results differ");
+    println!("set of 16 lists {of}\t{}\t{time:.1}\t-", number_of(rounds, &wanted));
+    let sets: Vec<Ranges<A>> = networks.chunks(len).map(of_networks).collect();
+    let (time, found) = least(rounds, size, || sets.iter().fold(Vec::new(), |all, set| union(&all, set)));
+    assert!(found == wanted, "set of 16 lists, by unions {of}: the results differ");
+    println!("set of 16 lists, by unions {of}\t{}\t{time:.1}\t-", number_of(rounds, &wanted));
 }
 
 fn main() {

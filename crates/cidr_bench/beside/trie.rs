@@ -1,7 +1,7 @@
 //! What tables of `cidr_bench` do, in other ways that people use, over the same rows and addresses. Longest matches go
 //! by a trie with a stride of eight bits, whose nodes have a bit for each prefix and each child and no room for those that
 //! are not there, by a walk down the `BTreeMap` of Rust's library, and by a binary search for each length. Single rows are
-//! found by a binary search, and are inserted into a `BTreeMap` and removed; beside loading stands a sort.
+//! found by a binary search, and are inserted into a `BTreeMap` and removed; beside loading stand sorts.
 //!
 //! `trie ROUNDS` prints a line for each row with tabs between: its name, a number that hangs on all results, and the
 //! nanoseconds of a call; of a longest match those in the trie, of the walk and of the searches, of which there is one
@@ -10,7 +10,7 @@
 #[allow(dead_code)] // what only sets ask for
 mod routes;
 
-use routes::{ASKED, Address, IPV6_BIT, random, random_ipv4, random_start};
+use routes::{ASKED, Address, random, random_ipv4};
 use std::collections::BTreeMap;
 use std::hint::black_box;
 use std::mem::size_of;
@@ -116,7 +116,6 @@ impl Node {
 trait Key: Address {
     fn octets(self) -> [u8; 16];
     fn shared(self, other: Self) -> u32;
-    fn outside(index: usize) -> Self;
 }
 
 impl Key for u32 {
@@ -127,10 +126,6 @@ impl Key for u32 {
     fn shared(self, other: u32) -> u32 {
         (self ^ other).leading_zeros()
     }
-
-    fn outside(index: usize) -> u32 {
-        random_ipv4(index) | 0x0100_0000
-    }
 }
 
 impl Key for u128 {
@@ -140,10 +135,6 @@ impl Key for u128 {
 
     fn shared(self, other: u128) -> u32 {
         (self ^ other).leading_zeros()
-    }
-
-    fn outside(index: usize) -> u128 {
-        random_start(index) | IPV6_BIT
     }
 }
 
@@ -238,7 +229,8 @@ fn compare<A: Key>(rounds: u32, of: &str, size: usize) {
     println!("insert and remove {of}\t{number}\t{time:.1}");
 }
 
-/// Sorts as many prefixes as the library loads, and counts those that differ from the next.
+/// Sorts as many prefixes as the library loads, and counts those that differ from the next; and then as many rows, of
+/// which the last of each prefix stays.
 fn sort(rounds: u32) {
     let prefix = |index: usize| {
         let len = 8 + (random(index ^ 0x2000_0000) % 17) as u32;
@@ -252,6 +244,20 @@ fn sort(rounds: u32) {
         mixed(sum, pairs.len() as u32)
     });
     println!("load a table\t{number}\t{time:.1}");
+    let rows: Vec<((u32, u8), u32)> = prefixes.into_iter().zip(0..).collect();
+    let (time, number) = least(rounds, rows.len(), |_, sum| {
+        let mut rows = rows.clone();
+        rows.sort_by_key(|row| row.0);
+        rows.dedup_by(|row, kept| {
+            let same = row.0 == kept.0;
+            if same {
+                std::mem::swap(row, kept);
+            }
+            same
+        });
+        mixed(sum, rows.len() as u32)
+    });
+    println!("load a table from rows\t{number}\t{time:.1}");
 }
 
 fn main() {

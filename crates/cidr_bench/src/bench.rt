@@ -188,7 +188,16 @@ impl Bench<'_> {
             least = least.min(start.elapsed(self.rt)?.as_nanos());
         }
         let all = u128::from(self.rounds) * calls as u128;
-        let time = least.saturating_mul(1000) / all.max(1);
+        self.print(name.as_str(), least, all, sum)
+    }
+
+    /// Prints the line of a row: its name, the nanoseconds of one of so many calls, and a number that hangs on all
+    /// results. Nothing is printed where each row is done once.
+    pub fn print(&self, name: &str, nanoseconds: u128, calls: u128, sum: u32) -> io::Result<()> {
+        if self.quiet {
+            return Ok(());
+        }
+        let time = nanoseconds.saturating_mul(1000) / calls.max(1);
         println!(self.rt; "{name}\t{}.{:03}\t{sum}", time / 1000, time % 1000)
     }
 }

@@ -7,15 +7,18 @@
 //! an argument each row but those of large tables is done once, and nothing is printed.
 //!
 //! With `from C` as the second argument the calls are those that the library for C makes, on values from standard
-//! input, one a line.
+//! input, one a line. With `growth` the first argument is a number of rows and networks, on which calls are made once a
+//! turn.
 #![tactic(auto)]
 
 mod bench;
 mod bits;
 mod bytes;
+mod changing;
 mod containing;
 mod covering;
 mod from_c;
+mod growth;
 mod idle;
 mod loading;
 mod long;
@@ -63,6 +66,9 @@ fn run(bench: &Bench<'_>) -> io::Result<()> {
     if bench.row == "from C" {
         return time_from_c(bench);
     }
+    if bench.row == "growth" {
+        return growth::time_all(&bench.all().slower(bench.rounds), bench.rounds as usize);
+    }
     time_texts(bench)?;
     time_numbers(bench)?;
     if bench.is_whole {
@@ -101,5 +107,9 @@ fn time_many(bench: &Bench<'_>) -> io::Result<()> {
     tables::time_all(&bench.slower(500))?;
     loading::time_all(&bench.slower(1_000))?;
     covering::time_all(&bench.slower(100))?;
-    sets::time_all(&bench.slower(1_000))
+    sets::time_all(&bench.slower(1_000))?;
+    if bench.quiet {
+        return growth::time_all(bench, 1_000);
+    }
+    Ok(())
 }

@@ -1,19 +1,23 @@
-//! Sets of addresses: union, intersection and difference of two, and which addresses a set contains.
+//! Sets of addresses: union, intersection and difference of two, sets of lists, changes, and which addresses a set
+//! contains.
 //!
 //! The last address of each result is used, and of the first round the number of its addresses.
+ghost use Rattle.std.specs.Prelude.{◌<◌};
 
 use crate::bench::{Bench, Call, Work};
+use crate::changing::time_changes;
 use crate::numbers::folded;
 use crate::routes::{ASKED, Route};
 use crate::values::{mixed, random};
 use cidr::{Ipv4Cidr, Ipv6Cidr, NetworkBits};
+use cidr_fib::ReadySet;
 use cidr_sets::{AddressSpace, NetworkSet};
 use std::alloc::{AllocError, Global};
 use std::io;
 
 /// What is done with two sets.
 #[derive(Clone, Copy, Drop)]
-enum Operation {
+pub enum Operation {
     Union,
     Intersection,
     Difference,
@@ -27,7 +31,11 @@ const OPERATIONS: [(Operation, &str); 3] = [
 
 /// Makes a set of two others.
 #[derive(Drop)]
-struct OfSets<'a, C: AddressSpace + Copy>(Operation, &'a NetworkSet<C>, &'a NetworkSet<C>);
+pub struct OfSets<'a, C: AddressSpace + Copy>(
+    pub Operation,
+    pub &'a NetworkSet<C>,
+    pub &'a NetworkSet<C>,
+);
 
 /// The last address of a set, and where it is asked for, the number of its addresses.
 fn set_number<C: AddressSpace + Copy>(set: &NetworkSet<C>, is_counted: bool) -> u32 {
@@ -42,6 +50,18 @@ fn set_number<C: AddressSpace + Copy>(set: &NetworkSet<C>, is_counted: bool) -> 
     }
 }
 
+/// The number of a set that was made, or nothing new where it was not.
+fn with_set<C: AddressSpace + Copy>(
+    made: Result<NetworkSet<C>, AllocError>,
+    round: u32,
+    sum: u32,
+) -> u32 {
+    match made {
+        Ok(set) => mixed(sum, set_number(&set, round == 0)),
+        Err(_) => sum,
+    }
+}
+
 impl<C: AddressSpace + Copy> Work for OfSets<'_, C> {
     #[inline(never)]
     fn round(&mut self, round: u32, sum: u32) -> u32 {
@@ -50,10 +70,39 @@ impl<C: AddressSpace + Copy> Work for OfSets<'_, C> {
             Operation::Intersection => self.1.intersection(self.2),
             Operation::Difference => self.1.difference(self.2),
         };
-        match result {
-            Ok(set) => mixed(sum, set_number(&set, round == 0)),
-            Err(_) => sum,
+        with_set(result, round, sum)
+    }
+}
+
+/// Makes the set of networks.
+#[derive(Drop)]
+pub struct OfNetworks<'a, C>(pub Global, pub &'a [C]);
+
+impl<C: AddressSpace + Copy> Work for OfNetworks<'_, C> {
+    #[inline(never)]
+    fn round(&mut self, round: u32, sum: u32) -> u32 {
+        with_set(NetworkSet::from_networks(self.0, self.1), round, sum)
+    }
+}
+
+/// Makes the union of sets, by one after the other.
+#[derive(Drop)]
+struct InTurn<'a, C: NetworkBits + Copy>(Global, &'a [NetworkSet<C>]);
+
+impl<C: AddressSpace + Copy> InTurn<'_, C> {
+    fn union(&self) -> Result<NetworkSet<C>, AllocError> {
+        let mut all = NetworkSet::new(self.0);
+        for set in self.1 {
+            all = all.union(set)?;
         }
+        Ok(all)
+    }
+}
+
+impl<C: AddressSpace + Copy> Work for InTurn<'_, C> {
+    #[inline(never)]
+    fn round(&mut self, round: u32, sum: u32) -> u32 {
+        with_set(self.union(), round, sum)
     }
 }
 
@@ -62,6 +111,16 @@ impl<C: AddressSpace + Copy> Work for OfSets<'_, C> {
 struct Contains<'a, C: NetworkBits + Copy>(&'a NetworkSet<C>);
 
 impl<C: NetworkBits + Copy> Call<C> for Contains<'_, C> {
+    fn number(&self, asked: &C) -> u32 {
+        u32::from(self.0.contains(asked))
+    }
+}
+
+/// Whether a set made ready has an address.
+#[derive(Drop)]
+struct ReadyContains<C: NetworkBits + Copy>(ReadySet<C>);
+
+impl<C: NetworkBits + Copy> Call<C> for ReadyContains<C> {
     fn number(&self, asked: &C) -> u32 {
         u32::from(self.0.contains(asked))
     }
@@ -78,18 +137,58 @@ impl<C: Ord> Call<C> for Place<'_, C> {
     }
 }
 
-/// The set of so many random networks, from an index on.
+/// So many random networks, from an index on.
+fn networks_like_routes<C: Route>(
+    alloc: Global,
+    from: usize,
+    size: usize,
+    more: u8,
+) -> Result<Vec<C>, AllocError> {
+    let mut networks = Vec::with_capacity(alloc, size)?;
+    for index in 0..size {
+        networks.push(C::longer_route(from.wrapping_add(index), more))?;
+    }
+    Ok(networks)
+}
+
+/// The set of such networks.
 fn set_like_routes<C: Route>(
     alloc: Global,
     from: usize,
     size: usize,
     more: u8,
 ) -> Result<NetworkSet<C>, AllocError> {
-    let mut networks = Vec::new(alloc);
-    for index in 0..size {
-        networks.push(C::longer_route(from.wrapping_add(index), more))?;
+    Ok(NetworkSet::from_vec(networks_like_routes(alloc, from, size, more)?))
+}
+
+/// How many lists stand one behind the other.
+const LISTS: usize = 16;
+
+/// How many of so many networks a list has.
+pub fn list_len(networks: usize) -> usize
+    ensures { 0 < result }
+{
+    (networks / LISTS).max(1)
+}
+
+/// Puts each of the lists in order, which stand one behind the other.
+pub fn sort_lists<C: Ord>(networks: &mut [C]) {
+    let len = list_len(networks.len());
+    for list in networks.chunks_mut(len) {
+        list.sort_unstable();
     }
-    NetworkSet::from_networks(alloc, networks.as_slice())
+}
+
+/// The set of each of the lists.
+fn sets_of_lists<C: NetworkBits + Copy>(
+    alloc: Global,
+    networks: &[C],
+) -> Result<Vec<NetworkSet<C>>, AllocError> {
+    let mut sets = Vec::new(alloc);
+    for list in networks.chunks(list_len(networks.len())) {
+        sets.push(NetworkSet::from_networks(alloc, list)?)?;
+    }
+    Ok(sets)
 }
 
 /// Addresses of which about half are in some of the networks, and the others anywhere.
@@ -119,6 +218,18 @@ fn time_operations<C: AddressSpace + Copy>(
     Ok(())
 }
 
+/// Times whether a set made ready has addresses, where there is memory for it.
+fn time_ready<C: NetworkBits + Copy>(
+    bench: &Bench<'_>,
+    set: &NetworkSet<C>,
+    asked: &[C],
+) -> io::Result<()> {
+    match ReadySet::new(bench.rt.alloc(), set) {
+        Ok(ready) => bench.each("set contains, made ready", ReadyContains(ready), asked),
+        Err(_) => Ok(()),
+    }
+}
+
 /// Times questions of a set.
 fn time_questions<C: AddressSpace + Copy>(
     bench: &Bench<'_>,
@@ -126,19 +237,50 @@ fn time_questions<C: AddressSpace + Copy>(
     asked: &[C],
 ) -> io::Result<()> {
     bench.each("set contains", Contains(set), asked)?;
+    time_ready(bench, set, asked)?;
     bench.each("set binary search", Place(set.as_slice()), asked)
+}
+
+/// Times the set of lists that ascend, one behind the other, at once and by unions in turn.
+fn time_lists<C: AddressSpace + Copy>(bench: &Bench<'_>, networks: &[C]) -> io::Result<()> {
+    let alloc = bench.rt.alloc();
+    bench.time(
+        "set of 16 lists",
+        networks.len(),
+        OfNetworks(alloc, networks),
+    )?;
+    let sets = sets_of_lists(alloc, networks)?;
+    let in_turn = InTurn(alloc, sets.as_slice());
+    bench.time("set of 16 lists, by unions", networks.len(), in_turn)
+}
+
+/// Times the set of networks in no order, and of lists.
+fn time_makes<C: AddressSpace + Copy>(bench: &Bench<'_>, networks: &mut [C]) -> io::Result<()> {
+    let alloc = bench.rt.alloc();
+    bench.time("set of a list", networks.len(), OfNetworks(alloc, networks))?;
+    sort_lists(networks);
+    time_lists(bench, networks)
 }
 
 /// Times a set of ten parts by one of one part, half of whose networks are the last ones of the other. The networks
 /// have so many bits more than those of routing tables, so that fewer of them overlap.
-fn time<C: Route + AddressSpace>(bench: &Bench<'_>, part: usize, more: u8) -> io::Result<()> {
+fn time_two<C: Route + AddressSpace>(bench: &Bench<'_>, part: usize, more: u8) -> io::Result<()> {
     let alloc = bench.rt.alloc();
     let most = part.saturating_mul(9);
-    let these = set_like_routes::<C>(alloc, 0, most, more)?;
+    let mut these = set_like_routes::<C>(alloc, 0, most, more)?;
     let those = set_like_routes::<C>(alloc, most.saturating_sub(part / 2), part, more)?;
-    let asked = asked(alloc, these.as_slice(), more)?;
     time_operations(bench, &these, &those)?;
-    time_questions(bench, &these, asked.as_slice())
+    let asked = asked(alloc, these.as_slice(), more)?;
+    time_questions(bench, &these, asked.as_slice())?;
+    time_changes(bench, ["set insert", "set remove"], &mut these, 0x0200_0000)
+}
+
+/// Times two sets, and how sets are made of lists, in a tenth of the rounds.
+fn time<C: Route + AddressSpace>(bench: &Bench<'_>, part: usize, more: u8) -> io::Result<()> {
+    time_two::<C>(bench, part, more)?;
+    let size = part.saturating_mul(9);
+    let mut networks = networks_like_routes::<C>(bench.rt.alloc(), 0, size, more)?;
+    time_makes(&bench.slower(10), networks.as_mut_slice())
 }
 
 /// Times sets of both families, with the ends of the names of their rows.
