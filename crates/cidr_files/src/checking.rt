@@ -94,7 +94,7 @@ fn numbers_of(alloc: Global, bytes: &[u8]) -> Result<Vec<u32>, AllocError>
 }
 
 /// Whether they are offsets of so many values, which lie one behind the other and have so many bytes.
-pub(crate) fn are_offsets<I: Index>(offsets: &[I], rows: usize, size: usize) -> bool
+pub fn are_offsets<I: Index>(offsets: &[I], rows: usize, size: usize) -> bool
     requires { rows < 2 ^ 63 }
     ensures { IsTrue result ↔ AreOffsets (map I.place offsets.now) rows size }
 {

@@ -17,11 +17,11 @@ mod opening;
 mod writing;
 
 pub use building::written;
-pub use checking::{check, checked};
+pub use checking::{are_offsets, check, checked};
 pub use contents::{Contents, Rows};
 pub use family::{Family, Ipv4Bytes, Ipv6Bytes};
 pub use faults::{Fault, TableFault, WriteError};
 pub use layout::{Counts, Part, Table};
-pub use looking::{has, lookup};
-pub use opening::open;
+pub use looking::{Found, find, has, lookup};
+pub use opening::{counts, open};
 pub use writing::file_of;

@@ -11,6 +11,17 @@ use crate::family::Family;
 use crate::layout::Part;
 use cidr_arrays::{Index, longest_match};
 
+/// What a look-up finds: a row, and where its value lies among the values.
+#[derive(Clone, Copy)]
+pub struct Found {
+    /// The row.
+    pub row: usize,
+    /// Where its value begins.
+    pub from: u32,
+    /// Where it ends.
+    pub to: u32,
+}
+
 /// The row of the longest network that an address is in, and its value; `None` where it is in none: the longest match of a
 /// forwarding table (RFC 1812, 5.2.4.3).
 ///
@@ -26,8 +37,31 @@ pub fn lookup<'a, W: Family>(part: &Part<'a>, address: W) -> Option<(usize, &'a 
         AreOffsets (offsets_in (parts_in part.now)) (length (stored_networks W.numbers (parts_in part.now))) (length (part_at (parts_in part.now) 6))
         → found.1.now ≡ value_in (parts_in part.now) found.0) }
 {
+    let found = find(part, address)?;
+    Some((
+        found.row,
+        &part.values[found.from as usize..found.to as usize],
+    ))
+}
+
+/// The same, with the place of the value: where it begins among the values, and where it ends. In parts that are no table
+/// the place is inside of them, too.
+#[inline(always)]
+pub fn find<W: Family>(part: &Part<'_>, address: W) -> Option<Found>
+    ensures within { IfSome result (λ found. found.row < length (stored_networks W.numbers (parts_in part.now))) }
+    ensures longest { IfSome result (λ found. AreArrays W.width W.numbers (parts_in part.now) part.now.shift
+        → IsLongestMatch (prefix_bits W.width) (bits W.width (W.value address)) (stored_networks W.numbers (parts_in part.now)) (Some found.row)) }
+    ensures none { result ≡ None → AreArrays W.width W.numbers (parts_in part.now) part.now.shift
+        → IsLongestMatch (prefix_bits W.width) (bits W.width (W.value address)) (stored_networks W.numbers (parts_in part.now)) None }
+    ensures ordered { IfSome result (λ found. found.from ≤ found.to) }
+    ensures inside { IfSome result (λ found. found.to ≤ length (part_at (parts_in part.now) 6)) }
+    ensures value { IfSome result (λ found.
+        AreOffsets (offsets_in (parts_in part.now)) (length (stored_networks W.numbers (parts_in part.now))) (length (part_at (parts_in part.now) 6))
+        → slice_range (part_at (parts_in part.now) 6) found.from found.to ≡ value_in (parts_in part.now) found.row) }
+{
     let row = row_of(part, address)?;
-    Some((row, value_of(part, row)))
+    let (from, to) = place_of(part, row);
+    Some(Found { row, from, to })
 }
 
 /// Whether an address is in one of the networks.
@@ -58,21 +92,23 @@ fn row_of<W: Family>(part: &Part<'_>, address: W) -> Option<usize>
     longest_match(starts, answers, level, part.shift, rows, address)
 }
 
-/// The value of a row, or nothing where the offsets are wrong.
+/// Where the value of a row begins and ends, or twice 0 where the offsets are wrong.
 #[inline(always)]
-fn value_of<'a>(part: &Part<'a>, row: usize) -> &'a [u8]
+fn place_of(part: &Part<'_>, row: usize) -> (u32, u32)
     requires { row < 2 ^ 63 }
-    ensures { (rows : ℕ) → row < rows → AreOffsets (offsets_in (parts_in part.now)) rows (length (part_at (parts_in part.now) 6))
-        → result.now ≡ value_in (parts_in part.now) row }
+    ensures ordered { result.0 ≤ result.1 }
+    ensures inside { result.1 ≤ length (part_at (parts_in part.now) 6) }
+    ensures value { (rows : ℕ) → row < rows → AreOffsets (offsets_in (parts_in part.now)) rows (length (part_at (parts_in part.now) 6))
+        → slice_range (part_at (parts_in part.now) 6) result.0 result.1 ≡ value_in (parts_in part.now) row }
 {
     let (offsets, _) = part.offsets.as_chunks::<4>();
     if row + 1 >= offsets.len() {
-        return &[];
+        return (0, 0);
     }
-    let from = offsets[row].as_index();
-    let to = offsets[row + 1].as_index();
-    match part.values.get(from..to) {
-        Some(value) => value,
-        None => &[],
+    let from = u32::from_le_bytes(offsets[row]);
+    let to = u32::from_le_bytes(offsets[row + 1]);
+    if from > to || to as usize > part.values.len() {
+        return (0, 0);
     }
+    (from, to)
 }

@@ -1,7 +1,7 @@
 //! The header of a file, and the parts that it tells of.
 ghost use Rattle.std.specs.Prelude.{◌≡◌, ◌+◌, ◌^◌, ◌<◌, ◌≤◌, drop, length, take, None, IfErr, IfOk, IfSome};
 ghost use Rattle.cidr_files.specs.Faults.{IsFaultOfBytes};
-ghost use Rattle.cidr_files.specs.Layout.{IsLaidOut, bytes_behind, counts_at, padded, parts_by_size, padded_room, sizes_of, word_at};
+ghost use Rattle.cidr_files.specs.Layout.{IsLaidOut, bytes_behind, counts_at, ipv4_counts, ipv6_counts, padded, parts_by_size, padded_room, sizes_of, word_at};
 ghost use Rattle.cidr_files.specs.Tables.{IsTableCutFrom, parts_in};
 
 use crate::faults::Fault;
@@ -43,6 +43,14 @@ pub fn open(bytes: &[u8]) -> Result<Table<'_>, Fault>
         return Err(Fault::Long);
     }
     Ok(Table { ipv4, ipv6 })
+}
+
+/// The counts of the IPv4 table and of the IPv6 table, as the header of a file has them: what is behind the end counts as 0.
+pub fn counts(bytes: &[u8]) -> (Counts, Counts)
+    ensures ipv4 { result.0 ≡ ipv4_counts bytes.now }
+    ensures ipv6 { result.1 ≡ ipv6_counts bytes.now }
+{
+    (counts_at(bytes, 4), counts_at(bytes, 10))
 }
 
 /// The parts of a table whose addresses have so many bytes, and what lies behind them; `None` where the bytes are too few.
