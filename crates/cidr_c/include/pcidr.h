@@ -82,7 +82,12 @@ enum {
     PCIDR_NOT_ADDRESS = 14,    /* the string is no address */
     PCIDR_TOO_MANY = 15,       /* there are more than 2,147,483,647 networks */
     PCIDR_SHIFT = 16,          /* a shift is not below 32, or 128 in IPv6 */
-    PCIDR_NO_TABLE = 17        /* the arrays are not those of the networks */
+    PCIDR_NO_TABLE = 17,       /* the arrays are not those of the networks */
+    PCIDR_NO_FILE = 18,        /* the bytes are no file of look-up tables */
+    PCIDR_OTHER_VERSION = 19,  /* the file is of another version, such as a newer one */
+    PCIDR_SHORT = 20,          /* the file is shorter than its header says */
+    PCIDR_LONG = 21,           /* the file is longer than its header says */
+    PCIDR_VALUES = 22          /* the values of rows don't lie one behind the other, or have 2^32 bytes or more */
 };
 
 /* Room that is enough for any string of a value, and for any message, with the 0 behind it. */
@@ -423,6 +428,119 @@ static inline uint32_t pcidr_table_lookup_each(const pcidr_table *table, const p
                                               table->level, table->level_len, table->shift, table->rows, asked,
                                               asked_len, out, out_len);
 }
+
+/* ---- look-up tables in files: the longest match and its value, out of the bytes of a file that is read or mapped
+ *
+ * A file has a table of IPv4 networks and one of IPv6 networks, and a value of any bytes for each network; a set of
+ * addresses is a file whose values are empty. The page of `cidr_files` describes it to the byte. Its bytes lie in memory of
+ * the caller, at any place, and may be mapped read-only: any number of threads may look up in them. While a file is mapped,
+ * nobody may cut it short or write to it: a change is a new file, which takes the name of the old one.
+ *
+ *     pcidr_file file;
+ *     pcidr_found found;
+ *     code = pcidr_file_open(bytes, length, &file);
+ *     if (code == PCIDR_OK) code = pcidr_file_check(bytes, length);
+ *     ...
+ *     if (pcidr_file_lookup(bytes, length, &file, &address, &found))
+ *         fwrite(bytes + found.value, 1, found.value_len, stdout);
+ */
+
+/* Where the parts of one of the two tables lie, in bytes from the begin of the file, and how many elements they have. */
+typedef struct pcidr_file_table {
+    size_t starts;     /* where the first addresses of the ranges begin */
+    size_t answers;    /* where the answers of the ranges begin */
+    size_t level;      /* where the first level begins */
+    size_t addresses;  /* where the first addresses of the rows' networks begin */
+    size_t lengths;    /* where their prefix lengths begin */
+    size_t offsets;    /* where the offsets of the values begin: of each row's, and where the last one ends */
+    size_t values;     /* where the values begin */
+    size_t values_len; /* how many bytes the values have */
+    uint32_t rows;     /* how many rows there are */
+    uint32_t ranges;   /* how many ranges */
+    uint32_t entries;  /* how many entries the first level has */
+    uint32_t shift;    /* how many of the last bits of an address the first level doesn't read */
+} pcidr_file_table;
+
+/* The two tables of a file. It has no pointer, and is used with the bytes that it was opened from, or the same ones
+ * elsewhere. */
+typedef struct pcidr_file {
+    pcidr_file_table ipv4;
+    pcidr_file_table ipv6;
+} pcidr_file;
+
+/* What a look-up finds: the row, counted from 0 among those of the address's family, and where its value lies among the
+ * bytes of the file. Where it finds none, the row is PCIDR_NO_ROW, and the others are 0. */
+typedef struct pcidr_found {
+    size_t value;       /* where the value begins */
+    uint32_t value_len; /* how many bytes it has */
+    uint32_t row;
+} pcidr_found;
+
+PCIDR_ASSERT(sizeof(pcidr_file_table) == 80);
+PCIDR_ASSERT(offsetof(pcidr_file_table, starts) == 0);
+PCIDR_ASSERT(offsetof(pcidr_file_table, answers) == 8);
+PCIDR_ASSERT(offsetof(pcidr_file_table, level) == 16);
+PCIDR_ASSERT(offsetof(pcidr_file_table, addresses) == 24);
+PCIDR_ASSERT(offsetof(pcidr_file_table, lengths) == 32);
+PCIDR_ASSERT(offsetof(pcidr_file_table, offsets) == 40);
+PCIDR_ASSERT(offsetof(pcidr_file_table, values) == 48);
+PCIDR_ASSERT(offsetof(pcidr_file_table, values_len) == 56);
+PCIDR_ASSERT(offsetof(pcidr_file_table, rows) == 64);
+PCIDR_ASSERT(offsetof(pcidr_file_table, ranges) == 68);
+PCIDR_ASSERT(offsetof(pcidr_file_table, entries) == 72);
+PCIDR_ASSERT(offsetof(pcidr_file_table, shift) == 76);
+PCIDR_ASSERT(sizeof(pcidr_file) == 160);
+PCIDR_ASSERT(offsetof(pcidr_file, ipv4) == 0);
+PCIDR_ASSERT(offsetof(pcidr_file, ipv6) == 80);
+PCIDR_ASSERT(sizeof(pcidr_found) == 16);
+PCIDR_ASSERT(offsetof(pcidr_found, value) == 0);
+PCIDR_ASSERT(offsetof(pcidr_found, value_len) == 8);
+PCIDR_ASSERT(offsetof(pcidr_found, row) == 12);
+
+/* Says where the tables of a file lie: reads its header, however long it is. It doesn't say that they are tables.
+ * Errors, the first of: NO_FILE; OTHER_VERSION; SHORT or LONG. Then `file` is as it was. Does not allocate. */
+uint32_t pcidr_file_open(const uint8_t *bytes, size_t bytes_len, pcidr_file *file);
+
+/* PCIDR_OK where the bytes are a file of tables: one pass over them. Errors, the first of: NO_FILE; OTHER_VERSION;
+ * SHORT or LONG; and of the IPv4 table, then of the IPv6 table: NO_MEMORY; TOO_MANY, NO_TABLE, SHIFT or NO_VALUE as of
+ * `pcidr_table_check`; VALUES. Allocates: the networks, answers and first level of a table. */
+uint32_t pcidr_file_check(const uint8_t *bytes, size_t bytes_len);
+
+/* The longest match: 1, and `found` has the row of the longest network that the address is in, and its value; or 0,
+ * where it is in none, or the value is no address, and then `found` says so. Whatever the bytes and `file` hold,
+ * nothing outside of the bytes is read, a row is below the number of rows in `file`, and its value lies in the bytes.
+ * In bytes that `pcidr_file_check` accepted, with `file` as `pcidr_file_open` filled it, it is the longest match.
+ * Takes some tens of nanoseconds; does not allocate. */
+uint32_t pcidr_file_lookup(const uint8_t *bytes, size_t bytes_len, const pcidr_file *file, const pcidr_value *address,
+                           pcidr_found *found);
+
+/* The same of each of many, at the same index of `out`, whose further places stay. Error: NO_ROOM, and `out` is as it
+ * was. Does not allocate. */
+uint32_t pcidr_file_lookup_each(const uint8_t *bytes, size_t bytes_len, const pcidr_file *file, const pcidr_value *asked,
+                                size_t asked_len, pcidr_found *out, size_t out_len);
+
+/* 1 where the address is in one of the networks, and 0 where not, or where the value is no address. It reads the same bytes
+ * as a look-up, but no offsets and no values. */
+uint32_t pcidr_set_has(const uint8_t *bytes, size_t bytes_len, const pcidr_file *file, const pcidr_value *address);
+
+/* The same of each of many, at the same index of `out`, whose further places stay. Error: NO_ROOM, and `out` is as it
+ * was. Does not allocate. */
+uint32_t pcidr_set_has_each(const uint8_t *bytes, size_t bytes_len, const pcidr_file *file, const pcidr_value *asked,
+                            size_t asked_len, uint8_t *out, size_t out_len);
+
+/* Writes the bytes of a file into the front of `out`: PCIDR_OK, and `count` becomes how many they are; what is behind
+ * them stays. The networks ascend as `pcidr_order` sorts them, none repeats and none is `any`; so the rows of IPv6 are
+ * those behind the rows of IPv4. The value of row i is what `values` has from `offsets[i]` up to `offsets[i + 1]`, so
+ * that there is one offset more than networks; the first one is 0, they ascend, and the last one is `values_len`.
+ * Errors, the first of: TOO_MANY; VALUES; NO_VALUE, and `count` is the index of the first value that is no network, is
+ * `any`, or does not come after the one before it; NO_ROOM, and `count` is how many bytes are room enough. NO_MEMORY
+ * may come before each. Then `out` is as it was, and so is `count` but for NO_VALUE and NO_ROOM. Takes O(n) and a pass
+ * over the bytes; allocates these and about as much again. */
+uint32_t pcidr_file_write(const pcidr_value *networks, size_t networks_len, const uint32_t *offsets, size_t offsets_len,
+                          const uint8_t *values, size_t values_len, uint8_t *out, size_t out_len, size_t *count);
+
+/* The same with empty values: the file of a set. Errors: TOO_MANY, NO_VALUE, NO_ROOM and NO_MEMORY, as above. */
+uint32_t pcidr_set_write(const pcidr_value *networks, size_t networks_len, uint8_t *out, size_t out_len, size_t *count);
 
 #ifdef __cplusplus
 }

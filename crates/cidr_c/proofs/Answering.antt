@@ -9,6 +9,7 @@ use Rattle.cidr_table.specs.Cover.{Covers, IsFull}
 use Rattle.cidr_sets.specs.Sets.{IsSetOf}
 use Rattle.cidr_c.specs.Calls.{IsYesOrNo}
 use Rattle.cidr_c.specs.Batches.{AreNetworkValues, bits_in}
+use Rattle.cidr_c.specs.Files.{AreAnsweredIn}
 use Rattle.cidr_c.specs.Lookups.{AreAnswered, AreContained}
 use Rattle.cidr_c.specs.Values.{IsNetworkValue, network_in}
 use Rattle.cidr_c.specs.declared.values.CValue.{CValue}
@@ -19,19 +20,47 @@ AreFirst Answers n asked out =
     (i : ℕ) (v : CValue) → i < n → slice_get asked i ≡ Some v
     → IsNetworkValue v × (answer : ℕ) × (slice_get out i ≡ Some answer) × Answers (network_in v) answer
 
-slice_get-set_here : (out : List ℕ) (n a : ℕ) → n < length out → slice_get (set out n a) n ≡ Some a
+slice_get-set_here : {A : Type 0} (out : List A) (n : ℕ) (a : A) → n < length out → slice_get (set out n a) n ≡ Some a
 slice_get-set_here out n a h =
-    slice_get-get_or (set out n a) n 0 (omega (arith, length-set out n a, h)) ∙ ap Some (get_or-set_same out n a 0 h)
+    slice_get-get_or (set out n a) n a (omega (arith, length-set out n a, h)) ∙ ap Some (get_or-set_same out n a a h)
 
-slice_get-set_other : (out : List ℕ) (n i a : ℕ) → i ≢ n → slice_get (set out n a) i ≡ slice_get out i
+slice_get-set_other : {A : Type 0} (out : List A) (n i : ℕ) (a : A) → i ≢ n → slice_get (set out n a) i ≡ slice_get out i
 slice_get-set_other out n i a other =
     let size = length-set out n a in
     elim (cases_lt i (length out)) [
       | inl lt ↦
-          slice_get-get_or (set out n a) i 0 (omega (arith, size, lt)) ∙ (ap Some (get_or-set_other out n i a 0 other)
-          ∙ sym (slice_get-get_or out i 0 lt))
+          slice_get-get_or (set out n a) i a (omega (arith, size, lt)) ∙ (ap Some (get_or-set_other out n i a a other)
+          ∙ sym (slice_get-get_or out i a lt))
       | inr past ↦ slice_get_past (set out n a) i (omega (arith, size, past)) ∙ sym (slice_get_past out i past)
     ]
+
+-- the first n have their answers
+abbrev pub AreFirstAnswered : {A : Type 0} → (CValue → A → Type 0) → ℕ → List CValue → List A → Type 0
+AreFirstAnswered {A} Answers n asked out =
+    (i : ℕ) (v : CValue) → i < n → slice_get asked i ≡ Some v → (answer : A) × (slice_get out i ≡ Some answer) × Answers v answer
+
+-- one answer more
+pub one_answered : {A : Type 0} (Answers : CValue → A → Type 0) (n : ℕ) (d : CValue) (asked : List CValue) (out : List A) (a : A)
+    → AreFirstAnswered Answers n asked out → n < length out → Answers (get_or asked n d) a → AreFirstAnswered Answers (n + 1) asked (set out n a)
+one_answered Answers n d asked out a first fits here i v lt found =
+    elim (cases_eq i n) [
+      | inl e ↦
+          let same : get_or asked n d ≡ v = ap (λ (k : ℕ). get_or asked k d) (sym e) ∙ get_or_from_slice_get asked i v d found in
+          (a, ap (slice_get (set out n a)) e ∙ slice_get-set_here out n a fits, subst (λ (w : CValue). Answers w a) same here)
+      | inr other ↦
+          let old = first i v (omega (arith, lt, other)) found in
+          (old.0, slice_get-set_other out n i a other ∙ old.1, old.2)
+    ]
+
+-- all have
+pub all_answered : {A : Type 0} (Answers : CValue → A → Type 0) (n : ℕ) (asked : List CValue) (old out : List A) → length asked ≤ n
+    → AreFirstAnswered Answers n asked out → drop (length asked) out ≡ drop (length asked) old → AreAnsweredIn Answers asked old out 0
+all_answered Answers n asked old out past first behind = record {
+  answers = λ _ i v found. first i v (omega (arith, past, slice_get_within asked i v found)) found;
+  behind = behind;
+  room = λ z. absurd (omega (arith, z));
+  codes = inl refl;
+}
 
 pub one_more : (Answers : AnyIpCidr → ℕ → Type 0) (n : ℕ) (d : CValue) (asked : List CValue) (out : List ℕ) (a : ℕ)
     → AreFirst Answers n asked out → n < length out → IsNetworkValue (get_or asked n d) → Answers (network_in (get_or asked n d)) a

@@ -1,10 +1,13 @@
 pub mod Answering
 pub mod Bits
 pub mod Checks
+pub mod Founds
 pub mod Indexes
 pub mod LineSteps
 pub mod NetworkLists
 pub mod Networks
 pub mod Orders
+pub mod Places
 pub mod Readings
 pub mod TableRows
+pub mod Written

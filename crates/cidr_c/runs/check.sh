@@ -65,7 +65,8 @@ same filter.err
 asked=(10.1.2.3 10.1.255.255 11.0.0.0)
 "$room/lookup" "${asked[@]}" >"$room/lookup.txt"
 same lookup.txt
-for program in examples/networks examples/filter examples/lookup runs/wrong runs/memory runs/tables; do
+"$compiler" -std=c99 "${strict[@]}" -o "$room/file" "$crate/examples/file.c" "$lib/libpcidr.a"
+for program in examples/networks examples/filter examples/lookup examples/file runs/wrong runs/memory runs/tables runs/files; do
     made=$room/$(basename "$program").checked
     refusing=()
     [[ $program != runs/memory ]] || refusing=("-Wl,--wrap=malloc,--wrap=realloc")
@@ -76,8 +77,23 @@ done
 "$room/networks.checked" | cmp - "$here/networks.txt" || status=1
 "$room/lookup.checked" "${asked[@]}" | cmp - "$here/lookup.txt" || status=1
 "$room/tables.checked" || wrong "a look-up table"
+"$room/files.checked" "$room/names" || wrong "a look-up table in a file"
+asked=(10.1.2.3 10.2.0.0 11.0.0.0 2001:db8::1)
+"$room/file" "$room/names" "${asked[@]}" >"$room/file.txt"
+same file.txt
+"$room/file.checked" "$room/names" "${asked[@]}" | cmp - "$here/file.txt" || status=1
+head -c 100 "$room/names" >"$room/short"
+! "$room/file.checked" "$room/short" 10.1.2.3 2>"$room/file.err" || wrong "a file that is cut short is read"
+[[ $(cat "$room/file.err") == "$room/short: file is shorter than its header says" ]] || wrong "the message of a file that is cut short"
 "$room/wrong.checked" || wrong "a call with a wrong argument"
 "$room/memory.checked" || wrong "a call without memory"
+if "$compiler" -g -fsanitize=thread -std=c11 "${strict[@]}" -o "$room/readers" "$here/readers.c" "$lib/libpcidr.a" -pthread 2>"$room/log"; then
+    "$room/readers" || wrong "eight threads that look up in a file"
+else
+    echo "cidr_c: the compiler has no thread sanitizer: reading threads were run without it"
+    "$compiler" -std=c11 "${strict[@]}" -o "$room/readers" "$here/readers.c" "$lib/libpcidr.a" -pthread
+    "$room/readers" || wrong "eight threads that look up in a file"
+fi
 "$compiler" -std=c11 -O2 "${strict[@]}" -o "$room/wrong" "$here/wrong.c" -L"$lib" -lpcidr "-Wl,-rpath,$lib"
 (ulimit -s 192 && exec "$room/wrong") || wrong "a call with a wrong argument, in the shared library, with 192 KiB of stack"
 

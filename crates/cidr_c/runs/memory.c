@@ -24,6 +24,10 @@ static size_t matches[COUNT], count;
 static pcidr_value ascending[COUNT];
 static uint32_t starts[2 * COUNT + 1], found[2 * COUNT + 1], level[3];
 static pcidr_table table, built;
+/* Their file, and room for it. */
+static uint32_t offsets[COUNT + 1];
+static uint8_t file[1 << 14], written[1 << 14];
+static size_t file_len;
 
 static uint32_t cover(void) { return pcidr_cover(networks, COUNT, &count); }
 static uint32_t make_union(void) { return pcidr_union(networks, COUNT, others, COUNT, out, ROOM, &count); }
@@ -43,6 +47,12 @@ static uint32_t longest_match_each(void) {
 static uint32_t build_table(void) { return pcidr_table_build(&table, ascending, COUNT, &count); }
 static uint32_t check_table(void) { return pcidr_table_check(&built, ascending, COUNT); }
 
+static uint32_t write_file(void) {
+    return pcidr_file_write(ascending, COUNT, offsets, COUNT + 1, NULL, 0, written, sizeof written, &count);
+}
+static uint32_t write_set(void) { return pcidr_set_write(ascending, COUNT, written, sizeof written, &count); }
+static uint32_t check_file(void) { return pcidr_file_check(file, file_len); }
+
 /* Networks of which some overlap, in no order, and a mark in what is written. */
 static void set_values(void) {
     memset(out, 0, sizeof out), memset(held, 9, sizeof held), memset(matches, 9, sizeof matches);
@@ -56,6 +66,8 @@ static void set_values(void) {
     table.level = level, table.level_len = 3, table.shift = 31;
     if (build_table() != PCIDR_OK) failures++;
     built = table, table.ranges = 2 * COUNT + 1;
+    if (pcidr_set_write(ascending, COUNT, file, sizeof file, &file_len) != PCIDR_OK) failures++;
+    memset(written, 0, sizeof written);
     memcpy(kept, networks, sizeof kept);
     count = COUNT;
 }
@@ -63,6 +75,8 @@ static void set_values(void) {
 /* Whether all is as `set_values` leaves it. */
 static int is_left(void) {
     static const pcidr_value no_values[ROOM];
+    for (size_t i = 0; i < sizeof written; i++)
+        if (written[i] != 0) return 0;
     for (size_t i = 0; i < COUNT; i++)
         if (held[i] != 9 || matches[i] != (size_t)0x0909090909090909) return 0;
     return count == COUNT && memcmp(networks, kept, sizeof kept) == 0 && memcmp(out, no_values, sizeof out) == 0;
@@ -71,7 +85,7 @@ static int is_left(void) {
 int main(void) {
     static uint32_t (*const calls[])(void) = {
         cover, make_union, intersection, difference, symmetric_difference, union_in_place, intersection_in_place,
-        difference_in_place, contains_each, longest_match_each, build_table, check_table};
+        difference_in_place, contains_each, longest_match_each, build_table, check_table, write_file, write_set, check_file};
     for (size_t i = 0; i < sizeof calls / sizeof *calls; i++) {
         uint32_t code = PCIDR_NO_MEMORY;
         size_t refused = 0;

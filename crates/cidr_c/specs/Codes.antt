@@ -59,6 +59,26 @@ wrong_shift = 16
 abbrev pub no_table : ℕ
 no_table = 17
 
+-- bytes are no file of look-up tables
+abbrev pub no_file : ℕ
+no_file = 18
+
+-- a file is of another version
+abbrev pub other_version : ℕ
+other_version = 19
+
+-- a file is shorter than its header says
+abbrev pub short_file : ℕ
+short_file = 20
+
+-- a file is longer than its header says
+abbrev pub long_file : ℕ
+long_file = 21
+
+-- values don't lie one behind the other, or are too long together
+abbrev pub wrong_values : ℕ
+wrong_values = 22
+
 -- a comparison as a number
 abbrev pub order_code : Ordering → ℕ
 order_code Less = 0
@@ -85,4 +105,9 @@ message code =
     else (if code == 15 then codes "too many networks"
     else (if code == 16 then codes "shift is too great for the family"
     else (if code == 17 then codes "arrays are not those of the networks"
-    else []))))))))))))))))
+    else (if code == 18 then codes "not a file of look-up tables"
+    else (if code == 19 then codes "file is of another version"
+    else (if code == 20 then codes "file is shorter than its header says"
+    else (if code == 21 then codes "file is longer than its header says"
+    else (if code == 22 then codes "values don't lie one behind the other"
+    else [])))))))))))))))))))))

@@ -1,8 +1,10 @@
 pub mod Batches
 pub mod Calls
 pub mod Codes
+pub mod Files
 pub mod Lines
 pub mod Lookups
 pub mod Orders
 pub mod Tables
 pub mod Values
+pub mod Writing

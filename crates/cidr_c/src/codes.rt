@@ -41,6 +41,16 @@ pub const TOO_MANY: u32 = 15;
 pub const SHIFT: u32 = 16;
 /// Arrays are not those of the networks.
 pub const NO_TABLE: u32 = 17;
+/// Bytes are no file of look-up tables.
+pub const NO_FILE: u32 = 18;
+/// A file is of another version.
+pub const OTHER_VERSION: u32 = 19;
+/// A file is shorter than its header says.
+pub const SHORT: u32 = 20;
+/// A file is longer than its header says.
+pub const LONG: u32 = 21;
+/// Values don't lie one behind the other, or are too long together.
+pub const VALUES: u32 = 22;
 
 /// The number of an error of parsing.
 pub fn parse_code(error: &NetworkParseError) -> u32
@@ -102,6 +112,11 @@ pub fn message(code: u32) -> &'static str
         15 => "too many networks",
         16 => "shift is too great for the family",
         17 => "arrays are not those of the networks",
+        18 => "not a file of look-up tables",
+        19 => "file is of another version",
+        20 => "file is shorter than its header says",
+        21 => "file is longer than its header says",
+        22 => "values don't lie one behind the other",
         _ => "",
     }
 }

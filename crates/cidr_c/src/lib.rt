@@ -4,6 +4,7 @@
 mod batches;
 mod bytes;
 mod codes;
+mod files;
 mod laws;
 mod lines;
 mod lookups;
@@ -13,3 +14,4 @@ mod reading;
 mod sets;
 mod tables;
 mod values;
+mod writing;

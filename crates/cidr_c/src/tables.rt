@@ -6,16 +6,17 @@ ghost use Rattle.cidr_c.specs.Tables.{AreFound, IsBuilt, IsChecked, IsRowFound, 
 use crate::codes::{NO_MEMORY, NO_ROOM, NO_TABLE, NO_VALUE, OK, SHIFT, TOO_MANY};
 use crate::values::CValue;
 use cidr_arrays::{BuildError, Fault, Halves, Key, Word, build, check, fill_level, lookup};
+use cidr_files::{Ipv4Bytes, Ipv6Bytes};
 use std::alloc::{AllocError, Global};
 
 /// The row that stands for none.
-const NO_ROW: u32 = u32::MAX;
+pub const NO_ROW: u32 = u32::MAX;
 
 /// The length of what is no network.
 const NO_LENGTH: u32 = 255;
 
 /// A family of addresses, as values have them.
-trait Family: Word {
+pub trait Family: Word {
     ghost use Rattle.cidr_c.specs.declared.values.CValue.{CValue};
 
     /// The number of the address and the prefix length of a value.
@@ -67,6 +68,33 @@ impl Family for Halves {
     }
 }
 
+impl Family for Ipv4Bytes {
+    ghost pair = { ipv4_pair };
+
+    fn key_in(value: &CValue) -> Key<Ipv4Bytes> {
+        let key = u32::key_in(value);
+        Key {
+            address: key.address.to_le_bytes(),
+            len: key.len,
+        }
+    }
+}
+
+impl Family for Ipv6Bytes {
+    ghost pair = { ipv6_pair };
+
+    fn key_in(value: &CValue) -> Key<Ipv6Bytes> {
+        let key = Halves::key_in(value);
+        Key {
+            address: [
+                key.address.high.to_le_bytes(),
+                key.address.low.to_le_bytes(),
+            ],
+            len: key.len,
+        }
+    }
+}
+
 /// The address that a value is, if it is one of the family.
 #[inline(always)]
 fn address_in<W: Family>(value: &CValue) -> Option<W>
@@ -82,7 +110,7 @@ fn address_in<W: Family>(value: &CValue) -> Option<W>
 }
 
 /// Values as keys.
-fn keys_in<W: Family>(alloc: Global, values: &[CValue]) -> Result<Vec<Key<W>>, AllocError>
+pub fn keys_in<W: Family>(alloc: Global, values: &[CValue]) -> Result<Vec<Key<W>>, AllocError>
     ensures { IfOk result (λ keys. key_networks W.value keys.items ≡ map W.pair values.now) }
 {
     let mut keys = Vec::with_capacity(alloc, values.len())?;
@@ -171,7 +199,7 @@ fn put_rows<W: Family>(
 }
 
 /// The number of what is wrong with arrays.
-fn fault_code(fault: &Fault) -> u32
+pub fn fault_code(fault: &Fault) -> u32
     ensures value { result ≡ fault_code fault.now }
     ensures above { 0 < result }
 {

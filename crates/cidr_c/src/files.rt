@@ -1,0 +1,358 @@
+//! Look-up tables in files.
+ghost use Rattle.std.specs.Prelude.{◌≡◌, ◌≢◌, ◌+◌, ◌^◌, ◌<◌, ◌≤◌, MatchOption};
+ghost use Rattle.std.specs.Int.{from_le_bytes, w32};
+ghost use Rattle.cidr_files.specs.Layout.{padded, padded_room, sizes_of, wide_word};
+ghost use Rattle.cidr_files.specs.Tables.{parts_in};
+ghost use Rattle.cidr_c.specs.Calls.{IsYesOrNo};
+ghost use Rattle.cidr_c.specs.Files.{AreAnsweredIn, IsFileChecked, IsFound, IsFoundAt, IsInSet, IsInSetAt, IsOpened, bytes_at, file_fault_code, file_in, parts_at, table_fault_code, table_from};
+ghost use Rattle.cidr_c.specs.Tables.{no_row};
+ghost use Rattle.cidr_c.specs.Values.{IsLow, number_in};
+
+use crate::codes::{LONG, NO_FILE, NO_MEMORY, NO_ROOM, OK, OTHER_VERSION, SHORT, VALUES};
+use crate::tables::{NO_ROW, fault_code};
+use crate::values::CValue;
+use cidr_files::{
+    Counts, Family, Fault, Ipv4Bytes, Ipv6Bytes, Part, TableFault, checked, counts, find, has, open,
+};
+use std::alloc::Global;
+
+/// The size of the header of a file.
+const HEADER: usize = 64;
+
+/// Where the parts of a table lie, in bytes from the begin of the file, and how many elements they have.
+#[repr(C)]
+#[derive(Clone, Copy)]
+pub struct CFileTable {
+    /// Where the first addresses of the ranges begin.
+    pub starts: usize,
+    /// Where the answers of the ranges begin.
+    pub answers: usize,
+    /// Where the first level begins.
+    pub level: usize,
+    /// Where the first addresses of the rows' networks begin.
+    pub addresses: usize,
+    /// Where their prefix lengths begin.
+    pub lengths: usize,
+    /// Where the offsets of the values begin.
+    pub offsets: usize,
+    /// Where the values begin.
+    pub values: usize,
+    /// How many bytes the values have.
+    pub values_len: usize,
+    /// How many rows there are.
+    pub rows: u32,
+    /// How many ranges.
+    pub ranges: u32,
+    /// How many entries the first level has.
+    pub entries: u32,
+    /// The shift of the first level.
+    pub shift: u32,
+}
+
+/// The two tables of a file.
+#[repr(C)]
+#[derive(Clone, Copy)]
+pub struct CFile {
+    /// The table of IPv4 networks.
+    pub ipv4: CFileTable,
+    /// The table of IPv6 networks.
+    pub ipv6: CFileTable,
+}
+
+/// What a look-up finds: a row, and where its value lies; or `u32::MAX` and zeros.
+#[repr(C)]
+#[derive(Clone, Copy)]
+pub struct CFound {
+    /// Where the value begins, in bytes from the begin of the file.
+    pub value: usize,
+    /// How many bytes it has.
+    pub value_len: u32,
+    /// The row among those of its family.
+    pub row: u32,
+}
+
+/// Says where the tables of a file lie, however long it is: 0, or the number of the first error, of the first word, the
+/// version or the length, and then `file` is as it was.
+#[unsafe(no_mangle)]
+pub extern "C" fn pcidr_file_open(bytes: &[u8], file: &mut CFile) -> u32
+    ensures { IsOpened bytes.now file.old file.new result }
+{
+    match open(bytes) {
+        Ok(_) => {
+            put_file(bytes, file);
+            OK
+        }
+        Err(fault) => file_fault_code(&fault),
+    }
+}
+
+/// 0 where the bytes are a file of tables, else the number of what is wrong with them first. It goes once through them, and
+/// allocates the networks, the answers and the first level of a table.
+#[unsafe(no_mangle)]
+pub extern "C" fn pcidr_file_check(alloc: Global, bytes: &[u8]) -> u32
+    ensures { IsFileChecked bytes.now result }
+{
+    match checked(alloc, bytes) {
+        Ok(_) => OK,
+        Err(fault) => file_fault_code(&fault),
+    }
+}
+
+/// The longest match of an address, with its value: 1, or 0 where there is none, and for a value that is no address. It
+/// reads nothing outside of the bytes, whatever they and `file` hold, and allocates nothing.
+#[unsafe(no_mangle)]
+pub extern "C" fn pcidr_file_lookup(
+    bytes: &[u8],
+    file: &CFile,
+    address: &CValue,
+    found: &mut CFound,
+) -> u32
+    ensures found { IsFound bytes.now file.now address.now found.new }
+    ensures answer { IsYesOrNo result (found.new.row ≢ no_row) }
+{
+    *found = found_in(bytes, file, address);
+    if found.row == NO_ROW { 0 } else { 1 }
+}
+
+/// The same of each of many, at its index of `out`: 0, or the number of too little room.
+#[unsafe(no_mangle)]
+pub extern "C" fn pcidr_file_lookup_each(
+    bytes: &[u8],
+    file: &CFile,
+    asked: &[CValue],
+    out: &mut [CFound],
+) -> u32
+    ensures { AreAnsweredIn (IsFound bytes.now file.now) asked.now out.old out.new result }
+{
+    if out.len() < asked.len() {
+        return NO_ROOM;
+    }
+    for i in 0..asked.len() {
+        out[i] = found_in(bytes, file, &asked[i]);
+    }
+    OK
+}
+
+/// 1 where an address is in one of the networks, and 0 where not, and for a value that is no address. It reads nothing
+/// outside of the bytes, whatever they and `file` hold, and allocates nothing.
+#[unsafe(no_mangle)]
+pub extern "C" fn pcidr_set_has(bytes: &[u8], file: &CFile, address: &CValue) -> u32
+    ensures { IsInSet bytes.now file.now address.now result }
+{
+    u32::from(has_in(bytes, file, address))
+}
+
+/// The same of each of many, at its index of `out`: 0, or the number of too little room.
+#[unsafe(no_mangle)]
+pub extern "C" fn pcidr_set_has_each(
+    bytes: &[u8],
+    file: &CFile,
+    asked: &[CValue],
+    out: &mut [u8],
+) -> u32
+    ensures { AreAnsweredIn (IsInSet bytes.now file.now) asked.now out.old out.new result }
+{
+    if out.len() < asked.len() {
+        return NO_ROOM;
+    }
+    for i in 0..asked.len() {
+        out[i] = has_in(bytes, file, &asked[i]);
+    }
+    OK
+}
+
+/// The number of what is wrong with a file.
+fn file_fault_code(fault: &Fault) -> u32
+    ensures value { result ≡ file_fault_code fault.now }
+    ensures above { 0 < result }
+{
+    match fault {
+        Fault::Magic => NO_FILE,
+        Fault::Version(_) => OTHER_VERSION,
+        Fault::Short => SHORT,
+        Fault::Long => LONG,
+        Fault::Ipv4(fault) | Fault::Ipv6(fault) => table_fault_code(fault),
+    }
+}
+
+/// The number of what is wrong with a table.
+fn table_fault_code(fault: &TableFault) -> u32
+    ensures value { result ≡ table_fault_code fault.now }
+    ensures above { 0 < result }
+{
+    match fault {
+        TableFault::Arrays(fault) => fault_code(fault),
+        TableFault::Offsets => VALUES,
+        TableFault::NoMemory => NO_MEMORY,
+    }
+}
+
+/// Makes `file` say where the tables of the bytes lie.
+fn put_file(bytes: &[u8], file: &mut CFile)
+    ensures { file.new ≡ file_in bytes.now }
+{
+    let (ipv4, ipv6) = counts(bytes);
+    let end = put_table(HEADER, 4, &ipv4, &mut file.ipv4);
+    put_table(end, 16, &ipv6, &mut file.ipv6);
+}
+
+/// Makes a table one whose parts begin at a place, and whose addresses have so many bytes, and returns where they end.
+fn put_table(place: usize, size: usize, counts: &Counts, table: &mut CFileTable) -> usize
+    requires place { place < 2 ^ 60 }
+    requires size { size ≤ 16 }
+    ensures table { table.new ≡ table_from place size counts.now }
+    ensures end { result ≡ place + padded_room (sizes_of size counts.now) }
+    ensures below { result < place + 2 ^ 40 }
+{
+    let rows = counts.rows as usize;
+    let ranges = counts.ranges as usize;
+    let entries = counts.entries as usize;
+    let values = counts.values as usize;
+    table.starts = place;
+    table.answers = behind(table.starts, size * ranges);
+    table.level = behind(table.answers, 4 * ranges);
+    table.addresses = behind(table.level, 4 * entries);
+    table.lengths = behind(table.addresses, size * rows);
+    table.offsets = behind(table.lengths, rows);
+    table.values = behind(table.offsets, 4 * (rows + 1));
+    table.values_len = values;
+    table.rows = counts.rows;
+    table.ranges = counts.ranges;
+    table.entries = counts.entries;
+    table.shift = counts.shift;
+    behind(table.values, values)
+}
+
+/// Where the part behind one begins that begins at a place.
+fn behind(place: usize, size: usize) -> usize
+    requires place { place < 2 ^ 61 }
+    requires size { size < 2 ^ 61 }
+    ensures { result ≡ place + padded size }
+{
+    place + (size + 7) / 8 * 8
+}
+
+/// What is found of a value.
+#[inline(always)]
+fn found_in(bytes: &[u8], file: &CFile, asked: &CValue) -> CFound
+    ensures { IsFound bytes.now file.now asked.now result }
+{
+    if let Some(address) = ipv4_address(asked) {
+        return found_at(bytes, &file.ipv4, 4, address);
+    }
+    if let Some(address) = ipv6_address(asked) {
+        return found_at(bytes, &file.ipv6, 16, address);
+    }
+    nothing()
+}
+
+/// What is found in a table.
+#[inline(always)]
+fn found_at<W: Family>(bytes: &[u8], table: &CFileTable, size: usize, address: W) -> CFound
+    requires { size ≤ 16 }
+    ensures { IsFoundAt W.width W.numbers (parts_at size table.now bytes.now) table.now bytes.now (W.value address) result }
+{
+    match find(&part_in(bytes, table, size), address) {
+        Some(found) => CFound {
+            value: table.values.min(bytes.len()) + found.from as usize,
+            value_len: found.to - found.from,
+            row: found.row as u32,
+        },
+        None => nothing(),
+    }
+}
+
+/// What says that nothing is found.
+#[inline(always)]
+fn nothing() -> CFound
+    ensures { result ≡ record { value = 0; value_len = 0; row = no_row } }
+{
+    CFound {
+        value: 0,
+        value_len: 0,
+        row: NO_ROW,
+    }
+}
+
+/// 1 where the value is an address in one of the networks, and 0 where not.
+#[inline(always)]
+fn has_in(bytes: &[u8], file: &CFile, asked: &CValue) -> u8
+    ensures { IsInSet bytes.now file.now asked.now result }
+{
+    if let Some(address) = ipv4_address(asked) {
+        return has_at(bytes, &file.ipv4, 4, address);
+    }
+    if let Some(address) = ipv6_address(asked) {
+        return has_at(bytes, &file.ipv6, 16, address);
+    }
+    0
+}
+
+/// 1 where an address is in one of the networks of a table, and 0 where not.
+#[inline(always)]
+fn has_at<W: Family>(bytes: &[u8], table: &CFileTable, size: usize, address: W) -> u8
+    requires { size ≤ 16 }
+    ensures { IsInSetAt W.width W.numbers (parts_at size table.now bytes.now) table.now.shift (W.value address) result }
+{
+    if has(&part_in(bytes, table, size), address) {
+        1
+    } else {
+        0
+    }
+}
+
+/// The parts that lie where a table says, as far as there are bytes.
+#[inline(always)]
+fn part_in<'a>(bytes: &'a [u8], table: &CFileTable, size: usize) -> Part<'a>
+    requires { size ≤ 16 }
+    ensures parts { parts_in result ≡ parts_at size table.now bytes.now }
+    ensures shift { result.shift ≡ table.now.shift }
+    ensures rows { table.now.rows < 2 ^ 32 }
+{
+    let rows = table.rows as usize;
+    let ranges = table.ranges as usize;
+    Part {
+        starts: bytes_at(bytes, table.starts, size * ranges),
+        answers: bytes_at(bytes, table.answers, 4 * ranges),
+        level: bytes_at(bytes, table.level, 4 * table.entries as usize),
+        addresses: bytes_at(bytes, table.addresses, size * rows),
+        lengths: bytes_at(bytes, table.lengths, rows),
+        offsets: bytes_at(bytes, table.offsets, 4 * (rows + 1)),
+        values: bytes_at(bytes, table.values, table.values_len),
+        shift: table.shift,
+    }
+}
+
+/// So many bytes from a place on, or as many as there are.
+#[inline(always)]
+fn bytes_at(bytes: &[u8], place: usize, size: usize) -> &[u8]
+    ensures { result.now ≡ bytes_at bytes.now place size }
+{
+    let from = place.min(bytes.len());
+    let rest = &bytes[from..];
+    &rest[..size.min(rest.len())]
+}
+
+/// The IPv4 address that a value is, if it is one.
+#[inline(always)]
+fn ipv4_address(value: &CValue) -> Option<Ipv4Bytes>
+    ensures { MatchOption result (¬ ((value.now.tag ≡ 32) × IsLow value.now))
+        (λ address. (value.now.tag ≡ 32) × IsLow value.now × (from_le_bytes w32 address ≡ value.now.low)) }
+{
+    if value.tag != 32 || value.high != 0 || value.low >= 1 << 32 {
+        return None;
+    }
+    Some((value.low as u32).to_le_bytes())
+}
+
+/// The IPv6 address that a value is, if it is one.
+#[inline(always)]
+fn ipv6_address(value: &CValue) -> Option<Ipv6Bytes>
+    ensures { MatchOption result (value.now.tag ≢ 192)
+        (λ address. (value.now.tag ≡ 192) × (wide_word address ≡ number_in value.now)) }
+{
+    if value.tag != 192 {
+        return None;
+    }
+    Some([value.high.to_le_bytes(), value.low.to_le_bytes()])
+}
