@@ -61,6 +61,7 @@ AnyNetwork = Union["Address", "Network", str, OfIpaddress]
 Rows = Union[Mapping[Any, V], Iterable[tuple[AnyNetwork, V]]]
 Key = tuple[int, int]
 
+_new = object.__new__
 _ADDRESSES_AND_NETWORKS = (ipaddress.IPv4Address, ipaddress.IPv6Address, ipaddress.IPv4Network, ipaddress.IPv6Network)
 _INTERFACES = (ipaddress.IPv4Interface, ipaddress.IPv6Interface)  # which are addresses of that module, too
 
@@ -78,7 +79,7 @@ class _Shown:
 
     @classmethod
     def _of(cls: type[S], value: Value) -> S:
-        made = cls.__new__(cls)
+        made = _new(cls)
         made._value = value
         return made
 

@@ -6,6 +6,7 @@ import ctypes.util
 import os
 import struct
 from collections.abc import Callable, Iterable, Sequence
+from ctypes import byref
 from functools import partial
 from typing import TYPE_CHECKING, Any
 
@@ -42,6 +43,8 @@ else:
 
 SIZE, CODE, BYTES, TEXT = ctypes.c_size_t, ctypes.c_uint32, ctypes.c_void_p, ctypes.c_char_p
 VALUE, COUNT = ctypes.POINTER(Value), ctypes.POINTER(ctypes.c_size_t)
+# those that most strings have, as arguments
+SIZES = [SIZE.from_param(size) for size in range(TEXT_ROOM)]
 TABLE = [BYTES, SIZE, BYTES, SIZE, BYTES, SIZE, CODE]
 # of each call that is used here the result and the parameters
 CALLS: dict[str, tuple[Any, list[Any]]] = {
@@ -106,20 +109,25 @@ class _Calls:
     """The calls of the library, named as those of the header but without the `pcidr_`."""
 
     def __init__(self) -> None:
-        self._loaded = loaded = ctypes.CDLL(_find())
+        path = _find()
+        loaded = ctypes.CDLL(path)
         _check_version(loaded.pcidr_version())
+        self._locked = ctypes.PyDLL(path)
         for name, (result, parameters) in CALLS.items():
             call = getattr(loaded, f"pcidr_{name}")
             call.restype, call.argtypes = result, parameters
             setattr(self, name.removesuffix("_by_value"), call)
+        for name in ("read_address", "read_host", "read_network"):
+            setattr(self, name, self.quick(name))
 
-    def with_arguments(self, name: str, arguments: Sequence[int]) -> Call:
-        """A call whose first arguments are given once and for all: turning them into C's takes longer than a look-up. The
-        others have to be C's already."""
+    def quick(self, name: str, arguments: Sequence[int] = ()) -> Call:
+        """A call that ends so soon that Python's lock is kept, and whose first arguments are given once and for all: to give
+        the lock away, or to turn an argument into C's, takes longer. The other arguments have to be C's already."""
         result, parameters = CALLS[name]
-        call = self._loaded[f"pcidr_{name}"]  # another object at each time
+        call = self._locked[f"pcidr_{name}"]  # another object at each time
         call.restype = result
-        return partial(call, *(kind.from_param(argument) for kind, argument in zip(parameters, arguments)))
+        given = [kind.from_param(argument) for kind, argument in zip(parameters, arguments)]
+        return partial(call, *given) if given else call
 
     if TYPE_CHECKING:
 
@@ -137,23 +145,21 @@ def message(code: int) -> str:
     return room.raw[:count].decode()
 
 
-def check(code: int) -> None:
-    """Raises the exception of an error."""
+def check(code: int, *given: object) -> None:
+    """Raises the exception of an error, which names what was given."""
     if code == NO_MEMORY:
         raise MemoryError(message(code))
     if code:
-        raise ValueError(message(code))
+        raise ValueError(": ".join([message(code), *map(repr, given)]))
 
 
 def read(call: Call, text: str) -> Value:
     """The value of a string."""
-    if not isinstance(text, str):
-        raise TypeError(f"no string: {text!r}")
     given = text.encode("utf-8", "surrogatepass")
-    value = Value()
-    code = call(given, len(given), value)
+    size, value = len(given), Value()
+    code = call(given, SIZES[size] if size < TEXT_ROOM else SIZE(size), byref(value))
     if code:
-        raise ValueError(f"{message(code)}: {text!r}")
+        check(code, text)
     return value
 
 
@@ -193,13 +199,13 @@ class Arrays:
         build = getattr(calls, f"ipv{family}_table_build")
         check(build(at, count, ctypes.addressof(starts), room, ctypes.addressof(found), room, *behind, ranges))
         table = [ctypes.addressof(starts), ranges.value, ctypes.addressof(found), ranges.value, *behind, count]
-        self._row = calls.with_arguments(f"ipv{family}_table_lookup", table)
+        self._row = calls.quick(f"ipv{family}_table_lookup", table)
         self._each = partial(getattr(calls, f"ipv{family}_table_lookup_each"), *table)
         self._kept = starts, found, level  # which the calls have by their addresses
 
     def row(self, address: Value) -> int:
         """The row of the longest network that an address is in, or NO_ROW."""
-        return self._row(ctypes.byref(address))
+        return self._row(byref(address))
 
     def rows(self, asked: Values) -> Iterable[int]:
         """The same of many, by one call, with -1 for none."""
