@@ -28,4 +28,6 @@ fi
 cd "$room"
 "$interpreter" -m unittest discover -q -s "$python/tests" || status=1
 "$interpreter" "$python/examples/aggregate.py" "$runs/list" | cmp - "$runs/aggregate.txt" || status=1
+"$interpreter" -c 'from pcidr import Table; Table({"10.0.0.0/8": "core", "10.1.0.0/16": "edge"}).save("routes")'
+"$interpreter" "$python/examples/stored.py" routes 10.1.2.3 10.2.0.0 11.0.0.0 | cmp - "$runs/stored.txt" || status=1
 exit "$status"

@@ -1,6 +1,8 @@
-"""measure.py: times merges and look-ups of many strings by the module. Prints of each a line with its name and the least
-seconds of processor time that it takes of five turns."""
+"""measure.py: times merges, look-ups of many strings and files by the module. Prints of each a line with its name and the
+least seconds of processor time that it takes of five turns."""
+import os
 import random
+import tempfile
 import time
 
 from pcidr import NetworkSet, Table, merge
@@ -57,6 +59,26 @@ def main():
     few = asked[:100_000]
     measure("100,000 strings one by one, whether they are in that set", lambda: [text in held for text in few])
     measure("Table.lookup of 100,000 strings one by one, in that table", lambda: list(map(table.lookup, few)))
+
+    rows = {}
+    while len(rows) < 1_000_000:
+        rows[text(*network())] = b"value %d" % (len(rows) % 1000)
+    with tempfile.TemporaryDirectory() as folder:
+        path = os.path.join(folder, "rows")
+        measure("Table.save of 1,000,000 rows, which are listed", saving(Table(rows), path))
+        measure(f"Table.open of that file of {os.path.getsize(path):,} bytes, which is checked", lambda: Table.open(path))
+        measure("the same without a check", lambda: Table.open(path, check=False))
+        Table((text, b"") for text in texts).save(path)
+        stored, opened = Table.open(path), NetworkSet.open(path)
+        measure("lookup_each of 1,000,000 strings, in a file of 100,000 networks", lambda: stored.lookup_each(asked))
+        measure("lookup of 100,000 strings one by one, in that file", lambda: list(map(stored.lookup, few)))
+        measure("100,000 strings one by one, whether they are in the set of that file", lambda: [text in opened for text in few])
+
+
+def saving(table, path):
+    """Saves a table whose rows have been listed."""
+    next(iter(table))
+    return lambda: table.save(path)
 
 
 if __name__ == "__main__":

@@ -17,9 +17,11 @@ from bisect import bisect_left, bisect_right
 from collections.abc import Callable, ItemsView, Iterable, Iterator, Mapping, MutableMapping, ValuesView
 from itertools import chain
 from operator import attrgetter
-from typing import Any, ClassVar, NamedTuple, TypeVar, Union, overload
+from typing import Any, ClassVar, NamedTuple, Optional, TypeVar, Union, overload
 
+from pcidr._files import Part, Path, Stored, file_of, opened, set_of, write
 from pcidr._library import (
+    ADDRESS_TAGS,
     NO_ROW,
     Arrays,
     Call,
@@ -45,6 +47,7 @@ __all__ = [
     "Host",
     "Network",
     "NetworkSet",
+    "StoredTable",
     "Table",
     "contains_each",
     "merge",
@@ -363,28 +366,70 @@ def _copied(value: Value) -> Value:
     return Value(value.high, value.low, value.tag)
 
 
+def _covered(values: Values) -> Values:
+    """The shortest list of networks with their addresses."""
+    count = cover(values)
+    return (Value * count).from_buffer_copy(values)
+
+
 class NetworkSet:
     """A set of addresses, of both families, that never changes: `|`, `&`, `-` and `^` make others.
 
     It is kept as the shortest list of networks with its addresses. `len` and iteration are of these, and `count` is the
-    number of addresses.
+    number of addresses. The first address that is looked up makes arrays for look-ups, as `Table` has them, in the time
+    that the set took. `save` writes them into a file, which `open` opens.
     """
 
-    __slots__ = ("_values",)
-    _values: Values
+    __slots__ = ("_list", "_file")
+    _list: Values | None
+    _file: Stored | None
 
     def __init__(self, networks: Iterable[AnyNetwork] = ()) -> None:
-        values = _values(networks)
-        count = cover(values)
-        self._values = (Value * count).from_buffer_copy(values)
+        self._list, self._file = _covered(_values(networks)), None
+
+    @classmethod
+    def _of(cls, values: Values | None, file: Stored | None) -> NetworkSet:
+        made = cls.__new__(cls)
+        made._list, made._file = values, file
+        return made
 
     @classmethod
     def _made(cls, call: Call, these: NetworkSet, those: object) -> NetworkSet:
         if not isinstance(those, NetworkSet):
             return NotImplemented
-        made = cls.__new__(cls)
-        made._values = combined(call, these._values, those._values)
-        return made
+        return cls._of(combined(call, these._values, those._values), None)
+
+    @classmethod
+    def open(cls, path: Path, *, check: bool = True) -> NetworkSet:
+        """The set of the addresses in the networks of a file, by `save`, `Table.save` or `netset compile`, which is opened
+        as `Table.open` says."""
+        return cls._of(None, opened(path, check))
+
+    def save(self, path: Path) -> None:
+        """Writes the set into a file, as `Table.save` does."""
+        write(path, self._stored.content)
+
+    def __getstate__(self) -> bytes:
+        return bytes(self._stored.content)
+
+    def __setstate__(self, content: bytes) -> None:
+        self._list, self._file = None, Stored(content)
+
+    @property
+    def _values(self) -> Values:
+        """The networks, which are read from the file when they are first asked for."""
+        if self._list is None:
+            assert self._file
+            self._list = _covered(self._file.networks())
+        return self._list
+
+    @property
+    def _stored(self) -> Stored:
+        """The tables of its file, which are made when they are first asked for."""
+        if self._file is None:
+            values = self._values  # `any`, which is alone, is two networks in a file
+            self._file = Stored(set_of(read_all(_set_strings(values, 1)) if len(values) == 1 else values))
+        return self._file
 
     def __or__(self, other: NetworkSet) -> NetworkSet:
         return self._made(calls.union, self, other)
@@ -398,13 +443,13 @@ class NetworkSet:
     def __xor__(self, other: NetworkSet) -> NetworkSet:
         return self._made(calls.symmetric_difference, self, other)
 
-    def __reduce__(self) -> tuple[Any, ...]:
-        return type(self), (self.to_strings(),)
-
     def __contains__(self, asked: AnyNetwork) -> bool:
         """Whether the set has all addresses of a network. Its own networks ascend and none overlaps another: only the
         last of those that do not come after the asked one may have it."""
-        held, value = self._values, _network_value(asked)
+        value = _network_value(asked)
+        if value.tag in ADDRESS_TAGS:
+            return self._stored.has(value)
+        held = self._values
         behind = bisect_right(range(len(held)), 0, key=lambda place: _compared(calls.compare, held[place], value))
         return behind > 0 and _has(held[behind - 1], value)
 
@@ -417,8 +462,11 @@ class NetworkSet:
         return NetworkSet(["any"]) - self
 
     def contains_each(self, asked: Iterable[AnyNetwork]) -> list[bool]:
-        """For each asked address or network, whether the set has it."""
-        return _contained(self._values, _values(asked))
+        """For each asked address or network, whether the set has it, by one call of the library."""
+        values = _values(asked)
+        if set(tags_of(values)) <= ADDRESS_TAGS:
+            return self._stored.has_each(values)
+        return _contained(self._values, values)
 
     def __le__(self, other: NetworkSet) -> bool:
         return all(_contained(other._values, self._values)) if isinstance(other, NetworkSet) else NotImplemented
@@ -512,26 +560,46 @@ class _Items(ItemsView[Network, V]):
     """The rows of a table, whatever they are when they are asked for."""
 
     __slots__ = ()
-    _mapping: Table[V]
+    _mapping: _Rows[V]
 
     def __iter__(self) -> Iterator[tuple[Network, V]]:
-        return iter(self._mapping._now().rows)
+        return self._mapping._listed()
 
 
 class _ValuesOfRows(ValuesView[V]):
     """The values of a table, whatever they are when they are asked for."""
 
     __slots__ = ()
-    _mapping: Table[V]
+    _mapping: _Rows[V]
 
     def __iter__(self) -> Iterator[V]:
-        return (value for _, value in self._mapping._now().rows)
+        return (value for _, value in self._mapping._listed())
 
     def __contains__(self, value: object) -> bool:
         return any(held is value or held == value for held in self)
 
 
-class Table(MutableMapping[Network, V]):
+class _Rows(Mapping[Network, V]):
+    """What the tables have alike: their rows in order."""
+
+    __slots__ = ()
+
+    def _listed(self) -> Iterator[tuple[Network, V]]:
+        raise NotImplementedError
+
+    def __iter__(self) -> Iterator[Network]:
+        return (network for network, _ in self._listed())
+
+    def values(self) -> ValuesView[V]:
+        """The values, in the order of the networks."""
+        return _ValuesOfRows(self)
+
+    def items(self) -> ItemsView[Network, V]:
+        """The rows, in the order of the networks."""
+        return _Items(self)
+
+
+class Table(_Rows[V], MutableMapping[Network, V]):
     """A table of networks with a value each: ``Table({"10.0.0.0/8": 1})``, a mapping that can be changed as a `dict`.
 
     `lookup` gives the longest network that an address, or a network, is in, with its value. `lookup_each` looks up many
@@ -609,6 +677,31 @@ class Table(MutableMapping[Network, V]):
             return super().__eq__(other)
         return self._rows.copy() == other._rows.copy()
 
+    @staticmethod
+    def open(path: Path, *, check: bool = True) -> StoredTable:
+        """The table in a file that `save` or `netset compile` wrote, which is mapped and not read into memory.
+
+        A file that is none raises `ValueError` with what is wrong first; so does one whose rows are wrong, for which each
+        byte is read once. With ``check=False`` only its header is read: a look-up in wrong rows gives some row or none,
+        or raises `ValueError`, and reads nothing outside of the file.
+
+        Nobody may cut the file short or write into it while it is open, which would end the process: `save` puts another
+        one into its place.
+        """
+        return StoredTable(path, check=check)
+
+    def save(self, path: Path) -> None:
+        """Writes the rows into a file, which `open` opens in any process. It takes the place of the file that is there,
+        with its permissions, once it is whole: an error leaves the old one.
+
+        Values are `bytes`, or strings, which are written in UTF-8 and come back as `bytes`; another one raises
+        `TypeError`, and a string that is not Unicode, or a row of `any`, `ValueError`.
+        """
+        made = self._now()
+        if made.rows and made.rows[0][0].family is None:
+            raise ValueError("a file has no row of 'any': 0.0.0.0/0 and ::/0 are all addresses, too")
+        write(path, file_of(made.networks, [_stored_value(*row) for row in made.rows]))
+
     def __getitem__(self, network: AnyNetwork) -> V:
         """The value of exactly this network; `lookup` has the longest match."""
         key = _key_of(network)
@@ -680,16 +773,8 @@ class Table(MutableMapping[Network, V]):
     def __len__(self) -> int:
         return len(self._rows)
 
-    def __iter__(self) -> Iterator[Network]:
-        return (network for network, _ in self._now().rows)
-
-    def values(self) -> ValuesView[V]:
-        """The values, in the order of the networks."""
-        return _ValuesOfRows(self)
-
-    def items(self) -> ItemsView[Network, V]:
-        """The rows, in the order of the networks."""
-        return _Items(self)
+    def _listed(self) -> Iterator[tuple[Network, V]]:
+        return iter(self._now().rows)
 
     def lookup(self, asked: AnyNetwork) -> tuple[Network, V] | None:
         """The longest network that the address is in, with its value, or None."""
@@ -726,6 +811,128 @@ class Table(MutableMapping[Network, V]):
         """The same as `lookup` for each of many, by one call of the library for each family."""
         values = _values(asked)
         return self._now().lookup_each(values)
+
+
+StoredRow = tuple[Network, bytes]
+
+
+class _KeptRows(dict[int, Optional[StoredRow]]):
+    """Rows of one family in a file, which are made when they are first asked for, and None for NO_ROW. So many are kept."""
+
+    __slots__ = ("part", "_is_checked")
+    MOST = 1 << 17
+
+    def __init__(self, part: Part, is_checked: bool) -> None:
+        self.part, self._is_checked = part, is_checked
+
+    def made(self, row: int) -> StoredRow:
+        """A row, which is not kept."""
+        network = self.part.network(row)
+        if not self._is_checked and not calls.check(network):
+            raise ValueError(f"row {row} of IPv{self.part.FAMILY} in the file has no network")
+        return Network._of(network), self.part.value(row)
+
+    def __missing__(self, row: int) -> StoredRow | None:
+        made = None if row == NO_ROW else self.made(row)
+        if len(self) >= self.MOST:
+            self.clear()
+        self[row] = made
+        return made
+
+
+class StoredTable(_Rows[bytes]):
+    """The table in a file, by `Table.open`: a mapping of networks to bytes, which never changes. ``Table(stored)`` has the
+    same rows, and can be changed.
+
+    Its rows stay in the file, of which each look-up reads some bytes, and whose memory processes share; of those that were
+    found last, at most 131,072 of a family are kept as objects. Any threads may look up in it, and a child after `fork`,
+    too. It is pickled by its bytes, and mapped until it is no longer used.
+    """
+
+    __slots__ = ("_file", "_is_checked", "_kept")
+    _file: Stored
+    _is_checked: bool
+    _kept: Mapping[int, _KeptRows]  # by the tags of addresses
+
+    def __init__(self, path: Path, *, check: bool = True) -> None:
+        self._fill(opened(path, check), check)
+
+    def _fill(self, file: Stored, is_checked: bool) -> None:
+        self._file, self._is_checked = file, is_checked
+        self._kept = {tag: _KeptRows(part, is_checked) for tag, part in file.parts.items()}
+
+    def __getstate__(self) -> tuple[bytes, bool]:
+        return bytes(self._file.content), self._is_checked
+
+    def __setstate__(self, state: tuple[bytes, bool]) -> None:
+        self._fill(Stored(state[0]), state[1])
+
+    def __repr__(self) -> str:
+        return f"<{type(self).__name__} of {len(self)} rows>"
+
+    def save(self, path: Path) -> None:
+        """Writes the same file once more, as `Table.save` does."""
+        write(path, self._file.content)
+
+    def _listed(self) -> Iterator[StoredRow]:
+        return (kept.made(row) for kept in self._kept.values() for row in range(kept.part.rows))
+
+    def __len__(self) -> int:
+        return sum(part.rows for part in self._file.parts.values())
+
+    def __getitem__(self, network: AnyNetwork) -> bytes:
+        """The value of exactly this network; `lookup` has the longest match."""
+        key = _key_of(network)
+        row = self._row(key)
+        if row is None:
+            raise _missing(key)
+        return row[1]
+
+    def _row(self, key: Key) -> StoredRow | None:
+        """The row of exactly this network."""
+        kept = self._kept[32 if key[0] < 64 else 192]
+        row = kept.part.find(key)
+        return None if row is None else kept[row]
+
+    def lookup(self, asked: AnyNetwork) -> StoredRow | None:
+        """The longest network that the address is in, with its value, or None. For a network that is no address it
+        searches once for each length."""
+        value = _network_value(asked)
+        kept = self._kept.get(value.tag)
+        return next(self._matches(value), None) if kept is None else kept[self._file.row(value)]
+
+    def matches(self, asked: AnyNetwork) -> list[StoredRow]:
+        """All rows whose network the address is in, the longest first, by a search for each length."""
+        return list(self._matches(_network_value(asked)))
+
+    def _matches(self, value: Value) -> Iterator[StoredRow]:
+        tags = range(value.tag, -1 if value.tag < 64 else 63, -1)
+        return (row for row in map(self._row, _outer_keys(value, tags)) if row is not None)
+
+    def lookup_each(self, asked: Iterable[AnyNetwork]) -> list[StoredRow | None]:
+        """The same as `lookup` for each of many, by one call of the library where all are addresses."""
+        values = _values(asked)
+        tags = tags_of(values)
+        families = set(tags)
+        if not families <= ADDRESS_TAGS:
+            return [self.lookup(Network._of(value)) for value in values]
+        rows = self._file.rows(values)
+        if len(families) == 1:
+            return list(map(self._kept[tags[0]].__getitem__, rows))
+        ipv4, ipv6 = self._kept.values()
+        return [ipv4[row] if tag == 32 else ipv6[row] for tag, row in zip(tags, rows)]
+
+
+def _stored_value(network: Network, value: object) -> bytes:
+    """What a file has of a value."""
+    if isinstance(value, bytes):
+        return value
+    if not isinstance(value, str):
+        raise TypeError(f"the value of {network} is neither bytes nor a string: {value!r}")
+    try:
+        return value.encode()
+    except UnicodeEncodeError as error:
+        raise ValueError(f"the value of {network} is not Unicode: {value!r}") from error
 
 
 def _rows_by_key(rows: Rows[V]) -> dict[Key, V]:

@@ -15,7 +15,10 @@ TEXT_ROOM = 44
 MESSAGE_ROOM = 100
 NO_ROOM = 11
 NO_MEMORY = 12
+TOO_LONG_VALUES = 22
 NO_ROW = 2**32 - 1
+# The tags of addresses.
+ADDRESS_TAGS = {32, 192}
 # A first level of this many bits is enough for large tables.
 LEVEL_BITS = 18
 
@@ -35,6 +38,39 @@ class Halves(ctypes.Structure):
     _fields_ = [("high", ctypes.c_uint64), ("low", ctypes.c_uint64)]
 
 
+class FileTable(ctypes.Structure):
+    """`pcidr_file_table` of the header: where the parts of a table lie in a file, and how many elements they have."""
+
+    addresses: int
+    lengths: int
+    offsets: int
+    values: int
+    values_len: int
+    rows: int
+    _fields_ = [
+        *((name, ctypes.c_size_t) for name in ("starts", "answers", "level", "addresses", "lengths", "offsets")),
+        *((name, ctypes.c_size_t) for name in ("values", "values_len")),
+        *((name, ctypes.c_uint32) for name in ("rows", "ranges", "entries", "shift")),
+    ]
+
+
+class File(ctypes.Structure):
+    """`pcidr_file` of the header: the tables of a file."""
+
+    ipv4: FileTable
+    ipv6: FileTable
+    _fields_ = [("ipv4", FileTable), ("ipv6", FileTable)]
+
+
+class Found(ctypes.Structure):
+    """`pcidr_found` of the header: a row of a file, and where its value lies."""
+
+    value: int
+    value_len: int
+    row: int
+    _fields_ = [("value", ctypes.c_size_t), ("value_len", ctypes.c_uint32), ("row", ctypes.c_uint32)]
+
+
 Call = Callable[..., int]
 if TYPE_CHECKING:
     Values = ctypes.Array[Value]
@@ -46,6 +82,7 @@ VALUE, COUNT = ctypes.POINTER(Value), ctypes.POINTER(ctypes.c_size_t)
 # those that most strings have, as arguments
 SIZES = [SIZE.from_param(size) for size in range(TEXT_ROOM)]
 TABLE = [BYTES, SIZE, BYTES, SIZE, BYTES, SIZE, CODE]
+FILE = [BYTES, SIZE, BYTES]
 # of each call that is used here the result and the parameters
 CALLS: dict[str, tuple[Any, list[Any]]] = {
     "read_address": (CODE, [TEXT, SIZE, VALUE]),
@@ -82,6 +119,15 @@ CALLS: dict[str, tuple[Any, list[Any]]] = {
     "ipv6_table_lookup": (CODE, [*TABLE, CODE, VALUE]),
     "ipv4_table_lookup_each": (CODE, [*TABLE, CODE, VALUE, SIZE, BYTES, SIZE]),
     "ipv6_table_lookup_each": (CODE, [*TABLE, CODE, VALUE, SIZE, BYTES, SIZE]),
+    "check": (CODE, [VALUE]),
+    "file_open": (CODE, FILE),
+    "file_check": (CODE, [BYTES, SIZE]),
+    "file_lookup": (CODE, [*FILE, VALUE, BYTES]),
+    "file_lookup_each": (CODE, [*FILE, VALUE, SIZE, BYTES, SIZE]),
+    "file_write": (CODE, [VALUE, SIZE, BYTES, SIZE, BYTES, SIZE, BYTES, SIZE, COUNT]),
+    "set_has": (CODE, [*FILE, VALUE]),
+    "set_has_each": (CODE, [*FILE, VALUE, SIZE, BYTES, SIZE]),
+    "set_write": (CODE, [VALUE, SIZE, BYTES, SIZE, COUNT]),
 }
 
 

@@ -1,0 +1,233 @@
+"""Files of look-up tables: how they are made, written and read."""
+from __future__ import annotations
+
+import contextlib
+import ctypes
+import errno
+import mmap
+import os
+import stat
+from array import array
+from bisect import bisect_left
+from collections.abc import Iterable, Sequence
+from ctypes import byref
+from itertools import accumulate
+from typing import Union
+
+from pcidr._library import (
+    NO_ROOM,
+    TOO_LONG_VALUES,
+    Call,
+    File,
+    FileTable,
+    Found,
+    Value,
+    Values,
+    answers,
+    calls,
+    check,
+    message,
+)
+
+Path = Union[str, "os.PathLike[str]"]
+Key = tuple[int, int]
+NO_TAG = 63
+
+
+class _Buffer(ctypes.Structure):
+    """`Py_buffer` of Python."""
+
+    _fields_ = [
+        ("begin", ctypes.c_void_p),
+        ("owner", ctypes.c_void_p),
+        ("sizes", ctypes.c_ssize_t * 2),
+        ("flags", ctypes.c_int * 2),
+        ("others", ctypes.c_void_p * 5),
+    ]
+
+
+def _begin_of(content: bytes | mmap.mmap) -> int:
+    """Where bytes lie, for as long as they live, and a map is not closed. They are read-only, so that `ctypes` makes no
+    array of them."""
+    buffer = _Buffer()
+    ctypes.pythonapi.PyObject_GetBuffer(ctypes.py_object(content), byref(buffer), 0)
+    begin = buffer.begin or 0
+    ctypes.pythonapi.PyBuffer_Release(byref(buffer))
+    return begin
+
+
+class Part:
+    """The rows of IPv4 in a file."""
+
+    __slots__ = ("rows", "_content", "_addresses", "_lengths", "_offsets", "_values")
+    FAMILY, WIDTH, KIND = 4, 4, "I"
+    # by the prefix lengths
+    TAGS = bytes([*range(33), *[NO_TAG] * 223])
+
+    def __init__(self, content: bytes | mmap.mmap, table: FileTable) -> None:
+        def part(place: int, size: int) -> memoryview:
+            return memoryview(content)[place : place + size]
+
+        self.rows, self._content, self._values = table.rows, content, table.values
+        self._addresses = part(table.addresses, self.WIDTH * self.rows).cast(self.KIND)
+        self._lengths = part(table.lengths, self.rows)
+        self._offsets = part(table.offsets, 4 * self.rows + 4).cast("I")
+
+    def key(self, row: int) -> Key:
+        """The tag of a row's network, and the number of its first address."""
+        return self.TAGS[self._lengths[row]], self._addresses[row]
+
+    def network(self, row: int) -> Value:
+        """A row's network."""
+        tag, number = self.key(row)
+        return Value(number >> 64, number & (2**64 - 1), tag)
+
+    def value(self, row: int) -> bytes:
+        """A row's value."""
+        return self._content[self._values + self._offsets[row] : self._values + self._offsets[row + 1]]
+
+    def find(self, key: Key) -> int | None:
+        """The row of exactly this network. They ascend by first address and then by length."""
+        row = bisect_left(range(self.rows), key[::-1], key=lambda row: self.key(row)[::-1])
+        return row if row < self.rows and self.key(row) == key else None
+
+    def put(self, words: memoryview, octets: memoryview) -> None:
+        """Writes all networks, into the words and bytes of values."""
+        words[1::3] = memoryview(array("Q", self._addresses))
+        octets[16::24] = bytes(self._lengths).translate(self.TAGS)
+
+
+class WidePart(Part):
+    """Those of IPv6."""
+
+    __slots__ = ()
+    FAMILY, WIDTH, KIND = 6, 16, "Q"
+    TAGS = bytes([*range(64, 193), *[NO_TAG] * 127])
+
+    def key(self, row: int) -> Key:
+        return self.TAGS[self._lengths[row]], self._addresses[2 * row] << 64 | self._addresses[2 * row + 1]
+
+    def put(self, words: memoryview, octets: memoryview) -> None:
+        words[0::3], words[1::3] = self._addresses[0::2], self._addresses[1::2]
+        octets[16::24] = bytes(self._lengths).translate(self.TAGS)
+
+
+class Stored:
+    """The tables of a file, by its bytes, which never change; they may be a map, which nobody closes."""
+
+    __slots__ = ("content", "parts", "_lookup", "_has", "_opened", "_file")
+
+    def __init__(self, content: bytes | mmap.mmap) -> None:
+        self.content, self._file = content, File()
+        begin, size = _begin_of(content), len(content)
+        check(calls.file_open(begin, size, byref(self._file)))
+        self._opened = [begin, size, ctypes.addressof(self._file)]
+        self._lookup = calls.quick("file_lookup", self._opened)
+        self._has = calls.quick("set_has", self._opened)
+        # by the tags of addresses
+        self.parts: dict[int, Part] = {32: Part(content, self._file.ipv4), 192: WidePart(content, self._file.ipv6)}
+
+    def check(self) -> None:
+        """Raises the error of what is no table."""
+        check(calls.file_check(*self._opened[:2]))
+
+    def row(self, address: Value) -> int:
+        """The row of the longest network that an address is in, in the part of its family, or NO_ROW."""
+        found = Found()
+        self._lookup(byref(address), byref(found))
+        return found.row
+
+    def rows(self, addresses: Values) -> Iterable[int]:
+        """The same of many."""
+        found = (Found * len(addresses))()
+        check(calls.file_lookup_each(*self._opened, addresses, len(addresses), found, len(addresses)))
+        return memoryview(found).cast("B").cast("I")[3::4] if len(addresses) else ()
+
+    def has(self, address: Value) -> bool:
+        """Whether an address is in one of the networks."""
+        return self._has(byref(address)) == 1
+
+    def has_each(self, addresses: Values) -> list[bool]:
+        """The same of many."""
+        room, out = answers("?", len(addresses))
+        check(calls.set_has_each(*self._opened, addresses, len(addresses), room, len(addresses)))
+        return list(out)
+
+    def networks(self) -> Values:
+        """All networks."""
+        ipv4, ipv6 = self.parts.values()
+        out = (Value * (ipv4.rows + ipv6.rows))()
+        if len(out):
+            octets, middle = memoryview(out).cast("B"), ipv4.rows * ctypes.sizeof(Value)
+            for part, its in ((ipv4, octets[:middle]), (ipv6, octets[middle:])):
+                part.put(its.cast("Q"), its)
+        return out
+
+
+def _made(call: Call, networks: Values, *others: object, more: int = 0) -> bytes:
+    """The bytes that a call writes of networks, which ascend, and none is `any`."""
+    room, count = 100 * len(networks) + more + 1024, ctypes.c_size_t()  # enough, as files are today
+    while True:
+        out = (ctypes.c_char * room)()
+        code = call(networks, len(networks), *others, out, room, count)
+        if code != NO_ROOM:
+            check(code)
+            return ctypes.string_at(out, count.value)
+        room = count.value
+
+
+def file_of(networks: Values, values: Sequence[bytes]) -> bytes:
+    """The bytes of a file of rows."""
+    try:
+        offsets = array("I", accumulate(map(len, values), initial=0))
+    except OverflowError:
+        raise ValueError(message(TOO_LONG_VALUES)) from None
+    held, places = b"".join(values), (ctypes.c_uint32 * len(offsets)).from_buffer(offsets)
+    return _made(calls.file_write, networks, places, len(places), held, len(held), more=len(held))
+
+
+def set_of(networks: Values) -> bytes:
+    """The bytes of a file of a set."""
+    return _made(calls.set_write, networks)
+
+
+def opened(path: Path, is_checked: bool) -> Stored:
+    """The tables of a file, which is mapped."""
+    with open(path, "rb") as file:
+        is_empty = os.fstat(file.fileno()).st_size == 0  # of which there is no map
+        content = b"" if is_empty else mmap.mmap(file.fileno(), 0, access=mmap.ACCESS_READ)
+    try:
+        stored = Stored(content)
+        if is_checked:
+            stored.check()
+    except ValueError as error:
+        raise ValueError(f"{error}: {os.fspath(path)!r}") from None
+    return stored
+
+
+def write(path: Path, content: bytes | mmap.mmap) -> None:
+    """Writes a file beside its place, with the permissions of the one that is there, and then renames it: whoever opens
+    it meanwhile gets the old one, and so it stays after an error or an interrupt."""
+    place = os.path.realpath(os.fsdecode(path))
+    beside = f"{place}.{os.urandom(8).hex()}"
+    try:
+        old = os.stat(place)
+    except FileNotFoundError:
+        old = None
+    if old and not stat.S_ISREG(old.st_mode):
+        raise OSError(errno.EINVAL, "not a regular file", place)
+    mode = stat.S_IMODE(old.st_mode) if old else 0o666
+    try:
+        with open(beside, "xb", opener=lambda name, flags: os.open(name, flags, mode)) as file:
+            if old:
+                with contextlib.suppress(PermissionError):
+                    os.fchown(file.fileno(), old.st_uid, old.st_gid)
+                os.fchmod(file.fileno(), mode)
+            file.write(content)
+            file.flush()
+            os.fsync(file.fileno())
+        os.replace(beside, place)
+    except BaseException:
+        with contextlib.suppress(OSError):
+            os.unlink(beside)
+        raise
