@@ -12,6 +12,7 @@ from __future__ import annotations
 
 import ipaddress
 import os
+import re
 import threading
 from bisect import bisect_left, bisect_right
 from collections.abc import Callable, ItemsView, Iterable, Iterator, Mapping, MutableMapping, ValuesView
@@ -66,6 +67,7 @@ Key = tuple[int, int]
 
 _new = object.__new__
 _ADDRESSES_AND_NETWORKS = (ipaddress.IPv4Address, ipaddress.IPv6Address, ipaddress.IPv4Network, ipaddress.IPv6Network)
+_OF_NUMBERS = re.compile("#?_?[bnxX]").fullmatch
 _INTERFACES = (ipaddress.IPv4Interface, ipaddress.IPv6Interface)  # which are addresses of that module, too
 
 
@@ -199,6 +201,15 @@ class Address(_Shown):
     def __bytes__(self) -> bytes:
         return int(self).to_bytes(4 if self.family == 4 else 16, "big")
 
+    def __format__(self, spec: str) -> str:
+        """Of the string, or for b, x, X and n, with # and _ before them, of the number, as `ipaddress` formats it."""
+        return format(self.to_ipaddress() if _OF_NUMBERS(spec) else str(self), spec)
+
+    @property
+    def packed(self) -> bytes:
+        """The bytes of the address, the highest first: 4 or 16."""
+        return bytes(self)
+
     def to_ipaddress(self) -> ipaddress.IPv4Address | ipaddress.IPv6Address:
         """The same address of the module `ipaddress`."""
         return ipaddress.IPv4Address(int(self)) if self.family == 4 else ipaddress.IPv6Address(int(self))
@@ -257,6 +268,18 @@ class Network(_Shown):
 
     def __contains__(self, inner: AnyNetwork) -> bool:
         return _has(self._value, _network_value(inner))
+
+    def subnet_of(self, other: AnyNetwork) -> bool:
+        """Whether all of its addresses are in the other network, which may be of another family."""
+        return _has(_network_value(other), self._value)
+
+    def supernet_of(self, other: AnyNetwork) -> bool:
+        """Whether it has all addresses of the other network."""
+        return other in self
+
+    def overlaps(self, other: AnyNetwork) -> bool:
+        """Whether an address is in both."""
+        return self.supernet_of(other) or self.subnet_of(other)
 
     def to_ipaddress(self) -> ipaddress.IPv4Network | ipaddress.IPv6Network:
         """The same network of the module `ipaddress`, which has none that is like `any`."""
@@ -325,9 +348,9 @@ def _values(given: Iterable[AnyNetwork]) -> Values:
         return array(map(_network_value, listed))
 
 
-def parse_networks(texts: Iterable[str]) -> list[Network]:
+def parse_networks(texts: Iterable[AnyNetwork]) -> list[Network]:
     """The networks of strings, by one call of the library; the first that is none raises `ValueError`."""
-    return [Network._of(_copied(value)) for value in read_all(_listed(texts))]
+    return [Network._of(_copied(value)) for value in _values(texts)]
 
 
 def print_networks(networks: Iterable[Network | Address]) -> list[str]:

@@ -102,9 +102,23 @@ class Values(unittest.TestCase):
         for one in networks:
             for other in networks:
                 self.assertEqual(Network(str(other)) in Network(str(one)), other.subnet_of(one))
+                self.assertEqual(Network(other).subnet_of(one), other.subnet_of(one))
+                self.assertEqual(Network(other).supernet_of(Network(one)), other.supernet_of(one))
+                self.assertEqual(Network(other).overlaps(str(one)), other.overlaps(one))
         self.assertIn(Address("10.0.0.1"), Network("10.0.0.0/8"))
         self.assertNotIn("::ffff:10.0.0.1", Network("10.0.0.0/8"))
         self.assertIn("::1", Network("any"))
+        self.assertTrue(Network("::/0").subnet_of("any") and Network("any").overlaps("10.0.0.0/8"))
+        self.assertFalse(Network("::/0").subnet_of("0.0.0.0/0") or Network("::/0").overlaps("0.0.0.0/0"))
+
+    def test_bytes_and_formats_of_addresses(self):
+        specs = [grid + group + kind for grid in ("", "#") for group in ("", "_") for kind in "bnxX"]
+        for _ in range(200):
+            theirs = random_network()[0]
+            ours = Address(theirs)
+            self.assertEqual((ours.packed, bytes(ours)), (theirs.packed, theirs.packed))
+            self.assertEqual([format(ours, spec) for spec in specs], [format(theirs, spec) for spec in specs])
+            self.assertEqual((f"{ours}", f"{ours:s}", f"{ours!s:^60}"), (f"{theirs}", f"{theirs:s}", f"{theirs!s:^60}"))
 
     def test_walks_from_both_ends(self):
         network = Network("192.0.2.252/30")
@@ -225,6 +239,7 @@ class Batches(unittest.TestCase):
         theirs = [random_network() for _ in range(500)]
         read = pcidr.parse_networks(map(str, theirs))
         self.assertEqual(pcidr.print_networks(read), [long_text(network) for network in theirs])
+        self.assertEqual(pcidr.parse_networks(theirs), read)
         self.assertEqual(pcidr.parse_networks([]), [])
         self.assertEqual(pcidr.print_networks([]), [])
 
