@@ -1,14 +1,36 @@
 -- Reading the arguments one after another.
-use Rattle.std.proofs.Common.{◌≡◌, ◌∙◌, sym, ℕ, ◌+◌, ◌≤◌, List, [], ◌∷◌, ◌++◌, length, take, map, Option, Some, None, IsUtf8, arith}
+use Rattle.std.proofs.Common.{◌≡◌, ◌∙◌, sym, subst, ℕ, suc, ◌+◌, ◌≤◌, List, [], ◌∷◌, ◌++◌, length, take, drop, map, Option, Some, None, String, IsUtf8, arith}
+use Rattle.std.specs.List.{All, AllByRecursion}
 use Rattle.std.specs.Option.{IfSome}
+use Rattle.std.specs.String.{string_bytes}
+use Rattle.std.proofs.Math.Seq.{split_at}
 use Rattle.std.proofs.lemmas.List.{take_more, map-append}
 use Rattle.std.proofs.lemmas.Option.{slice_get_within, get_or_from_slice_get}
-use Rattle.cidr_io.specs.Arguments.{IsArgument, AreUnreadable}
+use Rattle.std.proofs.lemmas.List.Elements.{All-from_recursion}
+use Rattle.std.proofs.lemmas.Str.{IsUtf8-string_bytes}
+use Rattle.cidr_io.specs.Arguments.{IsArgument, IsNotText}
+use Rattle.cidr_io.specs.Shown.{byte_excerpt}
 
--- an argument that is not UTF-8
-pub unreadable : (told : Option (List (List ℕ))) (place : ℕ) (bytes : List ℕ) → IsArgument told place (Some bytes) → ¬ (IsUtf8 bytes) → AreUnreadable told
-unreadable None place bytes at bad = tt
-unreadable (Some given) place bytes at bad = (bytes, (place, slice_get_within given place bytes at, get_or_from_slice_get given place bytes bytes at), bad)
+-- strings are UTF-8
+each_utf8 : {Z : Type 0} (texts : List (String Z)) → AllByRecursion IsUtf8 (map string_bytes texts)
+each_utf8 [] = tt
+each_utf8 (text ∷ texts) = (IsUtf8-string_bytes text, each_utf8 texts)
+
+-- an argument that is not UTF-8, after strings
+pub not_text : {Z : Type 0} (told : Option (List (List ℕ))) (place : ℕ) (texts : List (String Z)) (bytes shown : List ℕ)
+    → IfSome told (λ given. (place ≤ length given) × (map string_bytes texts ≡ take place given)) → IsArgument told place (Some bytes)
+    → ¬ (IsUtf8 bytes) → shown ≡ byte_excerpt bytes → IsNotText told shown
+not_text None place texts bytes shown before at bad is = tt
+not_text (Some given) place texts bytes shown before at bad is = (
+  take place given,
+  drop (suc place) given,
+  bytes,
+  subst (λ argument. given ≡ take place given ++ argument ∷ drop (suc place) given) (get_or_from_slice_get given place bytes bytes at)
+      (split_at given place bytes (slice_get_within given place bytes at)),
+  subst (All IsUtf8) before.1 (All-from_recursion IsUtf8 (map string_bytes texts) (each_utf8 texts)),
+  bad,
+  is,
+)
 
 -- one more argument after those that were read
 pub one_more : {S : Type 0} (bytes_of : S → List ℕ) (told : Option (List (List ℕ))) (place : ℕ) (texts : List S) (text : S) (bytes : List ℕ)

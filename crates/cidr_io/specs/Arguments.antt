@@ -1,6 +1,9 @@
 -- The arguments of a run, without the program's name, each as its bytes.
-use Rattle.std.specs.Prelude.{◌≡◌, ℕ, List, take, Option, Some, None, Result, Ok, Err, IfSome, IsUtf8, ⊤}
-use Rattle.std.specs.List.{slice_get, Contains}
+use Rattle.std.specs.Prelude.{◌≡◌, ℕ, Bool, true, List, ◌∷◌, ◌++◌, take, Option, Some, None, Result, Ok, Err, IfSome, IsUtf8, ⊤}
+use Rattle.std.specs.List.{All, slice_get}
+use Rattle.cidr_io.specs.Shown.{byte_excerpt}
+use Rattle.cidr_io.specs.declared.arguments.ReadError.{ReadError}
+use Rattle.cidr_io.specs.declared.arguments.ReadError.TheVariants.{NotText, NoMemory}
 use Rattle.std.specs.declared.env.FillError.{FillError}
 use Rattle.std.specs.declared.env.FillError.TheVariants.{NotPresent, TooLong}
 
@@ -22,6 +25,12 @@ Fills told place r buf = IfSome told (λ given. BeginsWithArgument given place r
 abbrev pub AreArguments : Option (List (List ℕ)) → List (List ℕ) → Type 0
 AreArguments told arguments = IfSome told (λ given. arguments ≡ given)
 
--- one of them is not UTF-8
-abbrev pub AreUnreadable : Option (List (List ℕ)) → Type 0
-AreUnreadable told = IfSome told (λ given. (argument : List ℕ) × Contains given argument × ¬ (IsUtf8 argument))
+-- the first of them that is not UTF-8 is shown so
+abbrev pub IsNotText : Option (List (List ℕ)) → List ℕ → Type 0
+IsNotText told shown = IfSome told (λ given. (before after : List (List ℕ)) × (argument : List ℕ) × (given ≡ before ++ argument ∷ after)
+    × All IsUtf8 before × ¬ (IsUtf8 argument) × (shown ≡ byte_excerpt argument))
+
+-- why they are not read; `refused` tells whether an allocation was refused
+abbrev pub AreUnread : Option (List (List ℕ)) → Bool → ReadError → Type 0
+AreUnread told refused (NotText shown) = IsNotText told shown.bytes
+AreUnread told refused NoMemory = refused ≡ true

@@ -1,12 +1,13 @@
 //! Reading the arguments of a run, without the program's name.
-ghost use Rattle.std.specs.Prelude.{◌≡◌, ℕ, ◌<◌, List, map, Option, IfErr, IfOk, MatchResult, OnErr, true};
+ghost use Rattle.std.specs.Prelude.{◌≡◌, ℕ, ◌<◌, List, map, Option, IfOk, MatchResult, OnErr, true};
 ghost use Rattle.std.specs.Option.{option_map};
 ghost use Rattle.std.specs.Io.{WritesAtMost};
 ghost use Rattle.std.specs.String.{string_bytes};
-ghost use Rattle.cidr_io.specs.Arguments.{IsArgument, Fills, AreArguments, AreUnreadable};
-ghost use Rattle.cidr_io.specs.declared.arguments.ReadError.TheVariants.{NoMemory, NotText};
+ghost use Rattle.cidr_io.specs.Arguments.{IsArgument, Fills, AreArguments, AreUnread};
 
 use crate::memory::Memory;
+use crate::shown::byte_excerpt;
+use arrayvec::ArrayString;
 use std::alloc::AllocError;
 use std::env::{Env, FillError};
 
@@ -46,8 +47,8 @@ impl<R: Env> Arguments for Given<'_, R> {
 /// Why the arguments can't be read.
 #[derive(Debug, Drop, PartialEq)]
 pub enum ReadError {
-    /// An argument is not UTF-8.
-    NotText,
+    /// An argument is not UTF-8: its beginning, as `byte_excerpt` shows it.
+    NotText(ArrayString<42>),
     /// An allocation for the arguments was refused.
     NoMemory,
 }
@@ -93,23 +94,23 @@ fn bytes_at<M: Memory, A: Arguments>(
     }
 }
 
-/// The arguments as strings, in their order. It reads up to the first error: `NotText` of an argument that is not
+/// The arguments as strings, in their order. It reads up to the first error: `NotText` of the first argument that is not
 /// UTF-8, and `NoMemory` where an allocation was refused, which `memory` remembers.
 pub fn texts_of<M: Memory, A: Arguments>(
     memory: &mut M,
     arguments: &A,
 ) -> Result<Vec<String>, ReadError>
-    ensures texts { MatchResult result (λ texts. AreArguments (A.told arguments.now) (map string_bytes texts.items))
-        (λ e. e ≡ NotText → AreUnreadable (A.told arguments.now)) }
-    ensures refused { IfErr result (λ e. e ≡ NoMemory → M.refused memory.new ≡ true) }
+    ensures { MatchResult result (λ texts. AreArguments (A.told arguments.now) (map string_bytes texts.items))
+        (AreUnread (A.told arguments.now) (M.refused memory.new)) }
 {
     let mut texts = Vec::new(memory.alloc());
     loop {
         let Some(bytes) = bytes_at(memory, arguments, texts.len())? else {
             return Ok(texts);
         };
-        let Ok(text) = String::from_utf8(bytes) else {
-            return Err(ReadError::NotText);
+        let text = match String::from_utf8(bytes) {
+            Ok(text) => text,
+            Err(e) => return Err(ReadError::NotText(byte_excerpt(e.as_bytes()))),
         };
         memory.reserve(&mut texts, 1)?;
         let Ok(()) = texts.push(text) else {

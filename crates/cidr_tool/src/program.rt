@@ -22,7 +22,7 @@ fn answer<M: Memory, A: Arguments, O: Sink>(
 {
     let texts = match texts_of(memory, arguments) {
         Ok(texts) => texts,
-        Err(ReadError::NotText) => return Ok(Err(ToolError::Usage)),
+        Err(ReadError::NotText(_)) => return Ok(Err(ToolError::Usage)),
         Err(ReadError::NoMemory) => return Err(AllocError),
     };
     let slices = borrowed(memory, texts.as_slice())?;

@@ -91,7 +91,9 @@ rows() {
     run 2 '' $'merged: no such command, see: netset help\n' '' merged
     run 2 '' $'-x: no such option, see: netset help merge\n' '' merge -x
     run 2 '' $'ten: no such command, see: netset help\n' '' --help ten
-    run 2 '' $'an argument is not UTF-8, see: netset help\n' '' merge $'\xff'
+    run 2 '' $'\\xff: not UTF-8\n' '' merge $'\xff'
+    run 2 '' $'a\\x1b\\xff: not UTF-8\n' '' merge bad $'a\e\xff' $'\xfe'
+    run 2 '' $'aaaaaaaaaaaaaaaaaaaaaaaaaaaaaaaaaaaaa..: not UTF-8\n' '' merge $'aaaaaaaaaaaaaaaaaaaaaaaaaaaaaaaaaaaaa\xff'
     run 0 $'netset 0.1.0\n' '' '' --version
 }
 

@@ -120,7 +120,7 @@ module _ (verdict : Verdict) (refused closed : Bool) (out new err new_err : Stat
   run_answered words contents (inl (given, are, h)) =
       line_done (line_request words) contents
       (subst (λ (k : List (List ℕ)). RunsLine (line_request k) contents refused closed out new err new_err (answer_status verdict)) are h)
-  run_answered words contents (inr (inl (unread, (same, says, two)))) = absurd (never_two verdict two)
+  run_answered words contents (inr (inl (shown, unread, (same, says, two)))) = absurd (never_two verdict two)
   run_answered words contents (inr (inr (left, (same, says, ends)))) = absurd (never_error verdict error.NoMemory ends)
 
 -- words are one request, read in one way

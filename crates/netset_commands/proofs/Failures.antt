@@ -1,6 +1,8 @@
 -- What follows from the contract of a run that ends with status 2, of an operation on lists without -k.
-use Rattle.std.proofs.Common.{◌≡◌, sym, ◌∙◌, ap, subst, inl, inr, ℕ, Bool, false, List, Contains, IsUtf8, Option, Some, Result, Ok, Err}
+use Rattle.std.proofs.Common.{◌≡◌, sym, ◌∙◌, ap, subst, inl, inr, ℕ, Bool, false, List, ◌∷◌, Contains, IsUtf8, Option, Some, Result, Ok, Err}
 use Rattle.std.proofs.lemmas.Bool.{true≢false}
+use Rattle.std.proofs.lemmas.List.Elements.{Contains-append_right}
+use Rattle.cidr_table.proofs.MapLaws.{contains_first}
 use Rattle.cidr_io.specs.Writing.{State, Tells}
 use Rattle.cidr_io.specs.declared.sink.OutputFailed.{OutputFailed}
 use Rattle.cidr_lists.specs.Lists.{Text}
@@ -61,5 +63,7 @@ module _ (words : List (List ℕ)) (contents : List ℕ → Option (List ℕ)) (
   pub lists_fail : Runs (Some words) contents refused closed out new err new_err 2 → HasFailed
   lists_fail (inl (given, are, runs)) =
       once_failed (subst (λ (k : Result (Reading × Request) (List ℕ)). RunsLine k contents refused closed out new err new_err 2) (ap line_request are ∙ asks) runs)
-  lists_fail (inr (inl ((word, among, bad), ends))) = absurd (bad (text word among))
+  lists_fail (inr (inl (shown, (before, after, word, are, texts, bad, is), ends))) =
+      absurd (bad (text word (subst (λ (k : List (List ℕ)). Contains k word) (sym are)
+      (Contains-append_right before (word ∷ after) word (contains_first word after)))))
   lists_fail (inr (inr (left, (same, says, two)))) = cc

@@ -15,11 +15,10 @@ use Rattle.netset_commands.specs.declared.commands.operations.Operation.TheVaria
 use Rattle.netset_commands.specs.declared.commands.table.Verb.{Verb}
 use Rattle.netset_commands.specs.declared.commands.table.Verb.TheVariants as verb
 use Rattle.netset_commands.specs.declared.errors.Misfit.{Misfit}
-use Rattle.netset_commands.specs.declared.errors.Misfit.TheVariants.{NotText, Unnamed, NoCommand, NoOption, Missing, Extra}
+use Rattle.netset_commands.specs.declared.errors.Misfit.TheVariants.{Unnamed, NoCommand, NoOption, Missing, Extra}
 
 -- ---- the line of a word that is wrong
 abbrev pub misfit_text : Misfit → List ℕ
-misfit_text NotText = codes " is not UTF-8, see: netset help"
 misfit_text Unnamed = codes " is missing, see: netset help"
 misfit_text NoCommand = codes ": no such command, see: netset help"
 misfit_text NoOption = codes ": no such option, see: netset help "

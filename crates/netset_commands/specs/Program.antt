@@ -4,12 +4,12 @@ use Rattle.std.specs.List.{AllZip}
 use Rattle.cidr.specs.texts.Messages.{parse_message}
 use Rattle.cidr.specs.either.IpText.{IsIpNetworkText}
 use Rattle.cidr.specs.declared.cidr.combined.IpCidr.{IpCidr}
-use Rattle.cidr_io.specs.Arguments.{AreArguments, AreUnreadable}
+use Rattle.cidr_io.specs.Arguments.{AreArguments, IsNotText}
 use Rattle.cidr_io.specs.Shown.{excerpt, shown}
 use Rattle.cidr_io.specs.Writing.{State, Answered, Tells}
 use Rattle.cidr_io.specs.declared.sink.OutputFailed.{OutputFailed}
 use Rattle.cidr_lists.specs.Lists.{Text, text_by, ListSays, IsFirstError}
-use Rattle.netset_commands.specs.Arguments.{line_request, misuse_text}
+use Rattle.netset_commands.specs.Arguments.{line_request}
 use Rattle.netset_commands.specs.Commands.{Request, Lists, NotIn, Diff, Free, Check, Match, Look, Single, ReadsInputTwice, input_name, lists_of, read_files, AreTold, IsAnswer, Says}
 use Rattle.netset_commands.specs.Causes.{Cause, FileMayFail}
 use Rattle.netset_commands.specs.Free.{IsBadLength}
@@ -27,7 +27,6 @@ use Rattle.netset_commands.specs.declared.commands.Reading.{Reading}
 use Rattle.cidr_lists.specs.declared.lines.HostBits.{HostBits}
 use Rattle.netset_commands.specs.declared.output.answers.Verdict.{Verdict}
 use Rattle.netset_commands.specs.declared.output.answers.Verdict.TheVariants.{Yes, No}
-use Rattle.netset_commands.specs.declared.errors.Misfit.TheVariants.{NotText}
 use Rattle.netset_commands.specs.declared.errors.Reason.{Reason}
 use Rattle.netset_commands.specs.declared.errors.Reason.TheVariants.{NotFound, Denied, Directory, Unknown}
 use Rattle.netset_commands.specs.declared.errors.CommandError.{CommandError}
@@ -219,16 +218,16 @@ RunsLine (Ok (reading, request)) contents refused closed out new_out err new_err
     RunsOnce reading contents refused request closed out new_out err new_err status
 RunsLine (Err line) contents refused closed out new_out err new_err status = IsMisused line out new_out err new_err status
 
--- the line of arguments that are not UTF-8
-abbrev pub unreadable_line : List ℕ
-unreadable_line = misuse_text (codes "an argument") NotText []
+-- the line of an argument that is not UTF-8, by its beginning as it is shown
+abbrev pub not_text_line : List ℕ → List ℕ
+not_text_line shown = shown ++ codes ": not UTF-8\n"
 
 -- A run, from the arguments and the files to the exit status. `refused` tells whether an allocation was refused, and `closed` tells whether the output has failed since nobody
 -- reads it any more.
 abbrev pub Runs : Option (List (List ℕ)) → (List ℕ → Option (List ℕ)) → Bool → Bool → State → State → State → State → ℕ → Type 0
 Runs words contents refused closed out new_out err new_err status =
     ((given : List (List ℕ)) × AreArguments words given × RunsLine (line_request given) contents refused closed out new_out err new_err status)
-    ⊎ ((AreUnreadable words × IsMisused unreadable_line out new_out err new_err status)
+    ⊎ (((shown : List ℕ) × IsNotText words shown × IsMisused (not_text_line shown) out new_out err new_err status)
     ⊎ ((refused ≡ true) × EndsWith error.NoMemory closed out new_out err new_err status))
 
 -- ---- what private functions promise

@@ -33,8 +33,6 @@ pub enum Reason {
 /// What is wrong with a word of the arguments.
 #[derive(Clone, Copy, Debug, Drop, PartialEq)]
 pub enum Misfit {
-    /// It is not UTF-8.
-    NotText,
     /// It stands for the command, which is missing.
     Unnamed,
     /// There is no command of this name.

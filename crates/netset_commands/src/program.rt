@@ -1,5 +1,6 @@
 //! A run of the program, from its arguments to its exit status.
-ghost use Rattle.std.specs.Prelude.{map, IfErr, MatchOption, Ok};
+ghost use Rattle.std.specs.Prelude.{◌≡◌, ℕ, Bool, true, List, Option, map, IfErr, MatchOption, Ok};
+ghost use Rattle.cidr_io.specs.Arguments.{AreUnread, IsNotText};
 ghost use Rattle.std.specs.String.{string_bytes};
 ghost use Rattle.netset_commands.specs.Causes.{Cause, FileMayFail};
 ghost use Rattle.netset_commands.specs.Combining.{form_of};
@@ -25,13 +26,13 @@ use crate::commands::operations::{Operation, form_of};
 use crate::commands::single::{answer_single, network_of};
 use crate::commands::table::Verb;
 use crate::commands::{Command, Reading, name_input_twice, reading_of};
-use crate::errors::{ArgumentError, CommandError, Misfit, Misuse, UsageError};
+use crate::errors::{ArgumentError, CommandError, UsageError};
 use crate::input::files::{Files, ReadBy, Sources};
 use crate::input::keeping::{Loaded, load};
 use crate::input::several::read_several;
 use crate::output::answers::{Verdict, by_output};
 use crate::output::ranges::write_ranges;
-use crate::output::report::{report, report_misuse};
+use crate::output::report::{report, report_misuse, report_not_text};
 use crate::output::sets::{write_counts, write_sets};
 use cidr_io::arguments::{Arguments, ReadError as Unreadable, borrowed, texts_of};
 use cidr_io::memory::Memory;
@@ -225,12 +226,16 @@ fn answer_texts<M: Memory, F: Files, O: Output, E: Sink>(
     }
 }
 
-/// What is wrong with arguments that are not UTF-8.
-const NOT_TEXT: Misuse<'static> = Misuse {
-    word: "an argument",
-    why: Misfit::NotText,
-    command: "",
-};
+/// An argument that is not UTF-8, as it is shown, where that is why the arguments can't be read; else there was no memory.
+fn not_text(error: &Unreadable) -> Option<&str>
+    ensures { MatchOption result ((words : Option (List (List ℕ))) → (refused : Bool) → AreUnread words refused error.now → refused ≡ true)
+        (λ shown. (words : Option (List (List ℕ))) → (refused : Bool) → AreUnread words refused error.now → IsNotText words shown.now) }
+{
+    match error {
+        Unreadable::NotText(shown) => Some(shown.as_str()),
+        Unreadable::NoMemory => None,
+    }
+}
 
 /// Answers the arguments, reports and returns the exit status.
 fn answer_arguments<M: Memory, A: Arguments, F: Files, O: Output, E: Sink>(
@@ -245,8 +250,10 @@ fn answer_arguments<M: Memory, A: Arguments, F: Files, O: Output, E: Sink>(
 {
     match texts_of(memory, arguments) {
         Ok(texts) => answer_texts(memory, files, texts.as_slice(), out, err),
-        Err(Unreadable::NotText) => report_misuse(&NOT_TEXT, err),
-        Err(Unreadable::NoMemory) => report(&Err(CommandError::NoMemory), false, err),
+        Err(e) => match not_text(&e) {
+            Some(shown) => report_not_text(shown, err),
+            None => report(&Err(CommandError::NoMemory), false, err),
+        },
     }
 }
 

@@ -7,7 +7,7 @@ ghost use Rattle.cidr_io.specs.Writing.{Answered, Tells, State};
 ghost use Rattle.cidr_lists.specs.Messages.{fault_line};
 ghost use Rattle.netset_commands.specs.Arguments.{misfit_text};
 ghost use Rattle.netset_commands.specs.Command.{misuse_line};
-ghost use Rattle.netset_commands.specs.Program.{Reports, ReportsUnless, argument_message, error_line, is_closed_pipe, reason_words, status_of};
+ghost use Rattle.netset_commands.specs.Program.{Reports, ReportsUnless, argument_message, error_line, is_closed_pipe, not_text_line, reason_words, status_of};
 
 use crate::errors::{ArgumentError, CommandError, Misfit, Misuse, Reason};
 use crate::output::answers::Verdict;
@@ -208,7 +208,6 @@ fn misfit_text(why: Misfit) -> ArrayString<48>
 {
     let mut text = ArrayString::new();
     match why {
-        Misfit::NotText => text.push_str(" is not UTF-8, see: netset help"),
         Misfit::Unnamed => text.push_str(" is missing, see: netset help"),
         Misfit::NoCommand => text.push_str(": no such command, see: netset help"),
         Misfit::NoOption => text.push_str(": no such option, see: netset help "),
@@ -234,5 +233,16 @@ pub fn report_misuse<E: Sink>(misuse: &Misuse<'_>, err: &mut E) -> u8
             "\n",
         ],
     );
+    2
+}
+
+/// Writes the line of an argument that is not UTF-8, by its beginning as it is shown, as far as the sink takes it, and
+/// returns the exit status.
+#[inline(never)]
+pub fn report_not_text<E: Sink>(shown: &str, err: &mut E) -> u8
+    ensures status { result ≡ 2 }
+    ensures says { Tells (E.state err.old) (E.state err.new) (not_text_line shown.now) }
+{
+    let _ = write_line(err, &[shown, ": not UTF-8\n"]);
     2
 }

@@ -1,12 +1,18 @@
 use Rattle.std.specs.String.{string_bytes}
 use Rattle.std.proofs.Common.{◌≡◌, ◌+◌, Some, length, rules, ap, sym, subst, ◌∙◌}
 use Rattle.cidr_io.specs.Arguments.{IsArgument}
-use Rattle.cidr_io.proofs.Reading.{unreadable, one_more}
+use Rattle.cidr_io.specs.Shown.{byte_excerpt}
+use Rattle.cidr_io.proofs.Reading.{not_text, one_more}
 use Rattle.cidr_io.proofs.arguments.texts_of.Goals as goal
 
-pub returns-in_default-from_utf8-clause-texts : goal.returns-in_default-from_utf8-clause-texts
-returns-in_default-from_utf8-clause-texts g c _ =
-    unreadable (g.A.Arguments.told c.args.arguments.now) c.len.result c.in-Some.bytes.items (rw c.in-Some.is at c.in_ok-bytes.ensures.argument) (search rules)
+pub returns-in-Err : goal.returns-in-Err
+returns-in-Err g c =
+    let told = g.A.Arguments.told c.args.arguments.now in
+    let texts = c.loop-texts.texts in
+    let bytes = c.in-Some.bytes.items in
+    let given = subst (λ place. IsArgument told place (Some bytes)) c.len.ensures (rw c.in-Some.is at c.in_ok-bytes.ensures.argument) in
+    let same = ap byte_excerpt (c.as_bytes.ensures ∙ ap (λ v. v.items) c.in-Err.ensures.err) in
+    not_text told texts.len texts.items bytes c.byte_excerpt.result.bytes c.loop-texts.invariant given (search rules) (c.byte_excerpt.ensures.text ∙ same)
 
 pub loop-texts-preserved : goal.loop-texts-preserved
 loop-texts-preserved g c =
