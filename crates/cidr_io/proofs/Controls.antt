@@ -1,8 +1,7 @@
 -- Strings as they are shown have no control character.
-use Rattle.std.proofs.Common.{◌≡◌, ℕ, ◌+◌, ◌-◌, ◌*◌, ◌/◌, ◌%◌, ◌<◌, ◌≤◌, Bool, true, false, cond, ◌||◌, suc, get_or, List, [], ◌∷◌, ◌++◌, length, map, codes, refl, sym, ap, ap₂, ◌∙◌, arith, nat_le}
+use Rattle.std.proofs.Common.{◌≡◌, ℕ, ◌+◌, ◌-◌, ◌/◌, ◌%◌, ◌<◌, ◌≤◌, Bool, true, false, cond, ◌||◌, suc, get_or, List, [], ◌∷◌, ◌++◌, length, map, codes, refl, ap₂, ◌∙◌, arith, nat_le}
 use Rattle.std.specs.Char.{digit_char, encode_utf8, is_ascii_control, is_control}
 use Rattle.std.specs.Int.{is_in_range}
-use Rattle.std.specs.List.{list_any}
 use Rattle.std.specs.Str.{chars}
 use Rattle.std.proofs.lemmas.Bool.Decides.{nat_tests}
 use Rattle.std.proofs.lemmas.List.Folds.{list_any-append}

@@ -1,4 +1,4 @@
-use Rattle.std.proofs.Common.{◌≡◌, ◌<◌, ◌∙◌, sym, ap, subst, take, List, ℕ, vec_len, Ok, arith, rules}
+use Rattle.std.proofs.Common.{◌∙◌, sym, ap, subst, take, List, ℕ, Ok, arith, rules}
 use Rattle.std.proofs.lemmas.Result.{err_from_is_err_and}
 use Rattle.std.specs.Io.KnownBytes.{prepend_known}
 use Rattle.cidr_io.specs.Lines.{HasNoFeed, IsFirstFeed, KeepsLines}

@@ -1,4 +1,4 @@
-use Rattle.std.proofs.Common.{◌≡◌, ℕ, List, ◌+◌, length, ap, sym, ◌∙◌, subst, take, get_or, Result, Ok, Err, arith}
+use Rattle.std.proofs.Common.{◌≡◌, ℕ, List, length, ap, sym, ◌∙◌, subst, take, get_or, Ok, Err, arith}
 use Rattle.std.specs.List.{flat_map}
 use Rattle.std.specs.Str.{chars}
 use Rattle.std.proofs.lemmas.Iterator.{YieldsList-from_chars}
@@ -7,8 +7,6 @@ use Rattle.std.proofs.lemmas.List.{length_push}
 use Rattle.std.proofs.lemmas.Result.{err_from_is_err_and}
 use Rattle.cidr_io.specs.Collecting.{Collects}
 use Rattle.cidr_io.specs.Shown.{shown_char}
-use Rattle.cidr_io.specs.Writing.{Part as Beginning}
-use Rattle.cidr_io.specs.declared.sink.OutputFailed.{OutputFailed}
 use Rattle.cidr_io.proofs.Collected.{all_collected, none_collected, part_collected, part_lost}
 use Rattle.cidr_io.proofs.block.Block.push_shown.Goals as goal
 
