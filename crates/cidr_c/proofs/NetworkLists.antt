@@ -119,6 +119,7 @@ delivered these those Holds (Ok set) old new count n code fine holds (inl done) 
   behind = λ _. done.5;
   value = λ z. absurd (omega (arith, z, done.0));
   room = λ z. absurd (omega (arith, z, done.0));
+  asked = λ _. fine;
   codes = inl done.0;
   stays = λ other. absurd (other done.0);
   count_stays = λ other _. absurd (other done.0);
@@ -131,6 +132,7 @@ delivered these those Holds (Ok set) old new count n code fine holds (inr short)
   behind = λ z. absurd (omega (arith, z, short.0));
   value = λ z. absurd (omega (arith, z, short.0));
   room = λ _. (rw short.1 short.2, map any_bits set, holds, short.1 ∙ sym (length-map set any_bits));
+  asked = λ _. fine;
   codes = inr (inr (inl short.0));
   stays = λ _. short.3;
   count_stays = λ _ other. absurd (other short.0);
@@ -143,6 +145,7 @@ delivered these those Holds (Err e) old new count n code fine holds none = recor
   behind = λ z. absurd (omega (arith, z, none.0));
   value = λ z. absurd (omega (arith, z, none.0));
   room = λ z. absurd (omega (arith, z, none.0));
+  asked = λ _. fine;
   codes = inr (inr (inr none.0));
   stays = λ _. none.1;
   count_stays = λ _ _. none.2;

@@ -40,6 +40,7 @@ pub record IsPutInRoom (these those : List CValue) (Holds : List (List Bool) →
   pub value : code ≡ no_value → ¬ (AreNetworkValues these × AreNetworkValues those)
   pub behind : code ≡ 0 → drop count_new new ≡ drop count_new old
   pub room : code ≡ no_room → (length old < count_new) × (set : List (List Bool)) × Holds set × (count_new ≡ length set)
+  pub asked : code ≡ no_room → AreNetworkValues these × AreNetworkValues those
   pub codes : (code ≡ 0) ⊎ ((code ≡ no_value) ⊎ ((code ≡ no_room) ⊎ (code ≡ no_memory)))
   pub stays : code ≢ 0 → new ≡ old
   pub count_stays : code ≢ 0 → code ≢ no_room → count_new ≡ count
