@@ -1,13 +1,17 @@
 -- What is written in a file.
-use Rattle.std.specs.Prelude.{◌≡◌, ℕ, ◌^◌, ◌<◌, List, [], ◌∷◌, length, map}
-use Rattle.cidr_arrays.specs.Arrays.{Represents, key_networks}
+use Rattle.std.specs.Prelude.{◌≡◌, ◌⊎◌, ℕ, ◌^◌, ◌<◌, ◌≤◌, List, [], ◌∷◌, Some, length, map, ⊤}
+use Rattle.std.specs.Int.{from_le_bytes, w32}
+use Rattle.cidr_arrays.specs.Arrays.{AreAscendingNetworks, IsFirstRefused, Represents, key_networks}
+use Rattle.cidr_arrays.specs.declared.building.BuildError.TheVariants.{TooMany, Refused, NoRoom}
 use Rattle.cidr_arrays.specs.declared.key.Key.{Key}
-use Rattle.cidr_files.specs.Layout.{magic, version}
+use Rattle.cidr_files.specs.Layout.{magic, version, wide_word}
 use Rattle.cidr_files.specs.Spelling.{word_bytes}
 use Rattle.cidr_files.specs.Tables.{AreOffsets, stored_networks, offsets_in, part_at}
 use Rattle.cidr_files.specs.Written.{spelled}
 use Rattle.cidr_files.specs.declared.contents.Contents.{Contents}
 use Rattle.cidr_files.specs.declared.contents.Rows.{Rows}
+use Rattle.cidr_files.specs.declared.faults.WriteError.{WriteError}
+use Rattle.cidr_files.specs.declared.faults.WriteError.TheVariants.{Keys, Values, NoMemory}
 use Rattle.cidr_files.specs.declared.layout.Counts.{Counts}
 
 -- they are a table that a check takes, and each count fits in a word
@@ -25,6 +29,34 @@ pub record HasRows {W : Type 0} (numbers : List ℕ → List ℕ) (parts : List 
   pub networks_are : stored_networks numbers parts ≡ key_networks value rows.keys.now
   pub offsets_are : offsets_in parts ≡ rows.offsets.now
   pub values_are : part_at parts 6 ≡ rows.values.now
+
+-- ---- rows that are not written
+-- the values lie one behind the other, an offset for each row and one more, in fewer than 2 ^ 32 bytes
+pub record AreValues {W : Type 0} (rows : Rows W) : Type 0 where
+  pub offsets : AreOffsets rows.offsets.now (length rows.keys.now) (length rows.values.now)
+  pub sizes : length rows.values.now < 2 ^ 32
+
+-- the rows are written, if there is memory
+pub record AreWritable {W : Type 0} (w : ℕ) (value : W → ℕ) (rows : Rows W) : Type 0 where
+  pub few : length rows.keys.now < 2 ^ 31
+  pub values : AreValues rows
+  pub keys : AreAscendingNetworks w (key_networks value rows.keys.now)
+
+-- why rows are not written: too many keys; or else the values don't lie so; or else a key is refused. Memory may be refused
+-- whatever they are
+abbrev pub AreRowsRefused : {W : Type 0} → ℕ → (W → ℕ) → Rows W → WriteError → Type 0
+AreRowsRefused w value rows (Keys TooMany) = 2 ^ 31 ≤ length rows.keys.now
+AreRowsRefused w value rows (Keys (Refused place)) =
+    (length rows.keys.now < 2 ^ 31) × AreValues rows × IsFirstRefused w (key_networks value rows.keys.now) (Some place)
+AreRowsRefused w value rows (Keys NoRoom) = ⊥
+AreRowsRefused w value rows Values = (length rows.keys.now < 2 ^ 31) × ¬ (AreValues rows)
+AreRowsRefused w value rows NoMemory = ⊤
+
+-- why no file is written: for the IPv4 rows, or else for the IPv6 rows
+abbrev pub IsWriteRefused : Rows (List ℕ) → Rows (List (List ℕ)) → WriteError → Type 0
+IsWriteRefused ipv4 ipv6 error =
+    AreRowsRefused 32 (from_le_bytes w32) ipv4 error
+    ⊎ (AreWritable 32 (from_le_bytes w32) ipv4 × AreRowsRefused 128 wide_word ipv6 error)
 
 -- ---- what private functions promise each other
 abbrev pub counts_of : {W : Type 0} → Contents W → Counts

@@ -1,8 +1,8 @@
 //! Files of rows.
-ghost use Rattle.std.specs.Prelude.{◌≡◌, ◌+◌, ◌^◌, ◌≤◌, IfOk};
+ghost use Rattle.std.specs.Prelude.{◌≡◌, ◌+◌, ◌^◌, ◌≤◌, IfErr, IfOk};
 ghost use Rattle.std.specs.Int.{from_le_bytes, w32};
 ghost use Rattle.cidr_files.specs.Built.{AreArraysOf};
-ghost use Rattle.cidr_files.specs.Contents.{AreContents, HasRows};
+ghost use Rattle.cidr_files.specs.Contents.{AreContents, AreRowsRefused, HasRows, IsWriteRefused};
 ghost use Rattle.cidr_files.specs.Layout.{ipv4_parts, ipv6_parts, wide_word, wide_words, words};
 ghost use Rattle.cidr_files.specs.Tables.{IsFile, IsSmall};
 
@@ -15,8 +15,11 @@ use crate::writing::file_of;
 use cidr_arrays::{BuildError, build, fill_level};
 use std::alloc::Global;
 
-/// The bytes of a file of rows. The keys have to ascend and the values to lie one behind the other; the error says which
-/// table's don't.
+/// The bytes of a file of rows. The keys have to ascend and the values to lie one behind the other, in fewer than 2^32
+/// bytes.
+///
+/// The error is the first of the IPv4 rows, or else of the IPv6 rows: too many keys, values that don't lie so, or the
+/// first key that is refused. `NoMemory` may come before any.
 pub fn written(
     alloc: Global,
     ipv4: &Rows<'_, Ipv4Bytes>,
@@ -26,6 +29,7 @@ pub fn written(
     ensures small { IfOk result (λ bytes. IsSmall bytes.items) }
     ensures ipv4 { IfOk result (λ bytes. HasRows words (ipv4_parts bytes.items) (from_le_bytes w32) ipv4.now) }
     ensures ipv6 { IfOk result (λ bytes. HasRows wide_words (ipv6_parts bytes.items) wide_word ipv6.now) }
+    ensures refused { IfErr result (IsWriteRefused ipv4.now ipv6.now) }
 {
     let ipv4_arrays = arrays_of(alloc, ipv4)?;
     let ipv6_arrays = arrays_of(alloc, ipv6)?;
@@ -52,7 +56,8 @@ fn contents_of<'a, W: Family>(rows: &'a Rows<'a, W>, arrays: &'a Arrays<W>) -> C
 
 /// The arrays of rows.
 fn arrays_of<W: Family>(alloc: Global, rows: &Rows<'_, W>) -> Result<Arrays<W>, WriteError>
-    ensures { IfOk result (AreArraysOf W.width W.value rows.now) }
+    ensures arrays { IfOk result (AreArraysOf W.width W.value rows.now) }
+    ensures refused { IfErr result (AreRowsRefused W.width W.value rows.now) }
 {
     if rows.keys.len() >= 1 << 31 {
         return Err(WriteError::Keys(BuildError::TooMany));

@@ -43,12 +43,22 @@ pub enum WriteError {
 }
 
 impl From<AllocError> for WriteError {
+    ghost use Rattle.std.specs.Prelude.{◌≡◌};
+    ghost use Rattle.cidr_files.specs.declared.faults.WriteError.TheVariants.{NoMemory};
+
+    ghost from_gives = { λ _ e. e ≡ NoMemory };
+
     fn from(_error: AllocError) -> WriteError {
         WriteError::NoMemory
     }
 }
 
 impl From<BuildError> for WriteError {
+    ghost use Rattle.std.specs.Prelude.{◌≡◌};
+    ghost use Rattle.cidr_files.specs.declared.faults.WriteError.TheVariants.{Keys};
+
+    ghost from_gives = { λ error e. e ≡ Keys error };
+
     fn from(error: BuildError) -> WriteError {
         WriteError::Keys(error)
     }

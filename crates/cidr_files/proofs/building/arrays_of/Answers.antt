@@ -6,8 +6,8 @@ use Rattle.cidr_files.specs.Tables.{AreOffsets}
 use Rattle.cidr_files.proofs.KeyRows.{same_arrays}
 use Rattle.cidr_files.proofs.building.arrays_of.Goals as goal
 
-pub returns : goal.returns
-returns g c =
+pub returns-clause-arrays : goal.returns-clause-arrays
+returns-clause-arrays g c =
     let w = g.W.Word.width in
     let value = g.W.Word.value in
     let rows = c.args.rows.now in
