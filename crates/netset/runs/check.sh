@@ -568,6 +568,65 @@ refuse() {
     echo "$build ${*@Q}, allocation $n refused: not as wanted" >&2
 }
 
+# le WORD..: words of four bytes, the lowest first.
+le() {
+    local word
+    for word; do
+        printf "\\\\x%02x" $((word & 255)) $((word >> 8 & 255)) $((word >> 16 & 255)) $((word >> 24))
+    done
+}
+
+# saved NAME BYTES: whether a file has exactly these bytes, and none is beside it.
+saved() {
+    if ! printf '%b' "$2" | cmp -s - "$room/$1" || [[ -n $(cd "$room" && compgen -G "$1.new*") ]]; then
+        differs=1
+        echo "$build: the file $1 is not as wanted" >&2
+    fi
+}
+
+# Tables as files of look-ups. Their bytes are put together by hand, from the page of the crate cidr_files.
+rows_of_compiled_tables() {
+    local none row same=$': the same file as TABLE\n'
+    # no row: one range, and the entries of a first level that reads one bit
+    none=$(le 0x44494389 1 0 0 0 1 3 31 0 0 0 1 3 127 0 0)$(le 0 0)$(le 0 0)$(le 0 0 0 0)$(le 0 0)
+    none+=$(le 0 0 0 0)$(le 0 0)$(le 0 0 0 0)$(le 0 0)
+    # 10.0.0.0/8 with the value x: ranges from 0, 10 << 24 and 11 << 24, and a first level that reads two bits
+    row=$(le 0x44494389 1 0 0 1 3 5 30 1 0 0 1 3 127 0 0)$(le 0 0x0a000000 0x0b000000 0)$(le 0 1 0 0)$(le 0 2 2 2 2 0)
+    row+=$(le 0x0a000000 0)$(le 8 0)$(le 0 1)$(le 0x78 0)$(le 0 0 0 0)$(le 0 0)$(le 0 0 0 0)$(le 0 0)
+    run 0 '' '' '' compile nothing compiled
+    saved compiled "$none"
+    run 0 '' '' '# x\n10.0.0.0/8 y\n10.0.0.0/8 \tx \r\n' compile - compiled
+    saved compiled "$row"
+    run 0 '' '' '10.0.0.7/8 x' compile --host-bits -k -- - compiled
+    saved compiled "$row"
+    run 2 '' $'-:1: x: couldn\'t parse address in network: invalid IP address syntax\n' 'x' compile - compiled
+    run 2 '' $'-:1: x: couldn\'t parse address in network: invalid IP address syntax\n-:3: y: couldn\'t parse address in network: invalid IP address syntax\n' \
+        'x\n10.0.0.0/8\ny' compile -k - compiled
+    run 2 '' $'missing: cannot be read\n' '' compile missing compiled
+    run 2 '' "compiled$same" '' compile compiled compiled
+    run 2 '' "compiled$same" '' compile -k compiled compiled
+    run 2 '' "-$same" 'x' compile - -
+    saved compiled "$row"
+    run 3 '' $'.: cannot be written\n' '' compile owners .
+    run 3 '' $'nowhere/compiled: cannot be written\n' '' compile owners nowhere/compiled
+    run 3 '' $': cannot be written\n' '' compile owners ''
+    ln -sf compiled "$room/link"
+    run 3 '' $'link: cannot be written\n' '' compile owners link
+    run 2 '' $'TABLE is missing, see: netset help compile\n' '' compile
+    run 2 '' $'OUT is missing, see: netset help compile\n' '' compile owners
+    run 2 '' $'x: one argument too many, see: netset help compile\n' '' compile owners compiled x
+    run 2 '' $'-v: no such option, see: netset help compile\n' '' compile -v owners compiled
+    saved compiled "$row"
+    # a run that is killed while it writes leaves the old file, and the next one takes another name
+    (cd "$room" && ulimit -f 1 && "$program" compile parts compiled >/dev/null 2>&1) || true
+    rm "$room/compiled.new0"
+    saved compiled "$row"
+    printf 'x' >"$room/compiled.new0"
+    run 0 '' '' '' compile nothing compiled
+    rm "$room/compiled.new0"
+    saved compiled "$none"
+}
+
 # Memory that is refused, to commands that read lists.
 rows_without_memory() {
     local command
@@ -586,6 +645,7 @@ rows_without_memory() {
     refuse '10.0.0.1\n::1 x\n11.0.0.1' match ten_and_eight
     refuse '10.0.0.1\n11.0.0.1' match -c -v both
     refuse '10.0.0.1\n11.0.0.1\n2001:db8::1' look owners
+    refuse '10.0.0.0/8 x\n10.0.0.0/7\n2001:db8::/32 y' compile - compiled
 }
 
 printf '10.0.0.0/8\n' >"$room/ten"
@@ -621,6 +681,7 @@ for build in netset netset.by-rattle; do
     rows_of_findings
     rows_of_matches
     rows_of_look_ups
+    rows_of_compiled_tables
     rows_of_logs
     rows_of_one_network
     rows_of_host_bits

@@ -5,6 +5,7 @@ use cidr_io::arguments::Given;
 use cidr_io::memory::Heap;
 use cidr_io::sink::Tracked;
 use netset_commands::input::files::System;
+use netset_commands::output::folder::Beside;
 use netset_commands::output::terminal::{Erasing, Progress};
 use netset_commands::program::program;
 use std::io::IsTerminal;
@@ -26,7 +27,15 @@ fn main(rt: HostRuntime) -> ExitCode {
         runtime: &rt,
         progress: &progress,
     };
+    let mut folder = Beside { runtime: &rt };
     let arguments = Given { system: &rt };
     let mut memory = Heap::new(rt.alloc());
-    ExitCode::from(program(&mut memory, &arguments, &sources, &mut out, &mut err))
+    ExitCode::from(program(
+        &mut memory,
+        &arguments,
+        &sources,
+        &mut folder,
+        &mut out,
+        &mut err,
+    ))
 }

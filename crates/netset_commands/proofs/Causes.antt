@@ -112,6 +112,7 @@ cause_weaker F G refused (error.Line name number e) f h = tt
 cause_weaker F G refused (error.Input name why) f h = f name.now h
 cause_weaker F G refused error.NoMemory f h = h
 cause_weaker F G refused error.Output f h = tt
+cause_weaker F G refused (error.File name why) f h = tt
 
 pub causes_weaker : (F G : List ℕ → Type 0) (refused : Bool) (r : Result Verdict CommandError) → ((name : List ℕ) → F name → G name) → IfErr r (Cause F refused)
     → IfErr r (Cause G refused)
@@ -138,6 +139,7 @@ argument_cause F refused P (error.Line name number e) h = tt
 argument_cause F refused P (error.Input name why) h = absurd h
 argument_cause F refused P error.NoMemory h = absurd h
 argument_cause F refused P error.Output h = tt
+argument_cause F refused P (error.File name why) h = tt
 
 pub single_cause : (F : List ℕ → Type 0) (refused : Bool) (contents : List ℕ → Option Text) (request : SingleRequest) (s t : State) (r : Result Verdict CommandError)
     → AnswersRequest contents (ASingle request) s t r → IfErr r (Cause F refused)
@@ -158,6 +160,7 @@ stop_cause F refused (error.Argument text e) s t block r (w, wrote, is) h = ende
 stop_cause F refused (error.Line name number e) s t block r (w, wrote, is) h = ended_cause F refused (error.Line name number e) w r is h
 stop_cause F refused (error.Input name why) s t block r (w, wrote, is) h = ended_cause F refused (error.Input name why) w r is h
 stop_cause F refused error.NoMemory s t block r (w, wrote, is) h = ended_cause F refused error.NoMemory w r is h
+stop_cause F refused (error.File name why) s t block r (w, wrote, is) h = ended_cause F refused (error.File name why) w r is h
 
 pub behind_cause : (F : List ℕ → Type 0) (refused : Bool) (file : Bor (List ℕ)) (long : Option ℕ) (r : Result Verdict CommandError) → IfErr r (Cause F refused)
     → IfErr (told_behind file long r) (Cause F refused)
@@ -172,3 +175,4 @@ take_cause F refused P what file number part old new block rest (error.Line name
 take_cause F refused P what file number part old new block rest (error.Input name why) h = absurd h
 take_cause F refused P what file number part old new block rest error.NoMemory h = absurd h
 take_cause F refused P what file number part old new block rest error.Output h = tt
+take_cause F refused P what file number part old new block rest (error.File name why) h = tt

@@ -5,7 +5,7 @@ use Rattle.cidr_io.specs.Writing.{State, Whole, Answered, Tells}
 use Rattle.cidr_io.specs.declared.sink.OutputFailed.{OutputFailed}
 use Rattle.cidr_lists.specs.Lists.{Text}
 use Rattle.netset_commands.specs.Arguments.{line_request}
-use Rattle.netset_commands.specs.Commands.{Request, Lists, NotIn, Diff, Free, Check, Match, Look, Single, Help, Version, IsAnswer, reading_of}
+use Rattle.netset_commands.specs.Commands.{Request, Lists, NotIn, Diff, Free, Check, Match, Look, Compile, Single, Help, Version, IsAnswer, reading_of}
 use Rattle.netset_commands.specs.Program.{AnswersRequest, AnswersWhole, IsRequestRefused, KeepsGoing, Reports, Runs, RunsLine, RunsRequest, answer_status, by_output, status_of, contents_by}
 use Rattle.netset_commands.specs.Typed.{HasAnswered, AnswersTyped}
 use Rattle.netset_commands.specs.declared.output.answers.Verdict.{Verdict}
@@ -13,6 +13,8 @@ use Rattle.netset_commands.specs.declared.output.answers.Verdict.TheVariants.{Ye
 use Rattle.netset_commands.specs.declared.commands.Reading.{Reading}
 use Rattle.netset_commands.specs.declared.errors.CommandError.{CommandError}
 use Rattle.netset_commands.specs.declared.errors.CommandError.TheVariants as error
+use Rattle.netset_commands.specs.declared.errors.FileError.TheVariants.{TooLarge, NotSaved}
+use Rattle.cidr_io.proofs.Chains.{whole_none}
 use Rattle.netset_commands.proofs.Telling.{tells_nothing}
 use Rattle.netset_commands.proofs.Typed.{typed_asks}
 
@@ -21,10 +23,12 @@ at_most_one : (verdict : Verdict) → answer_status verdict ≤ 1
 at_most_one Yes = omega arith
 at_most_one No = omega arith
 
-above_one : (e : CommandError) → 2 ≤ status_of (Err e)
+pub above_one : (e : CommandError) → 2 ≤ status_of (Err e)
 above_one (error.Argument text e) = omega arith
 above_one (error.Line name number e) = omega arith
 above_one (error.Input name why) = omega arith
+above_one (error.File name TooLarge) = omega arith
+above_one (error.File name NotSaved) = omega arith
 above_one error.NoMemory = omega arith
 above_one error.Output = omega arith
 
@@ -63,6 +67,10 @@ whole_done contents request verdict out new (inr (answer, was, w, is, written, b
     let (same, whole) = written_whole out new answer was verdict w by written in
     (answer, subst (λ (k : Verdict). IsAnswer contents request answer k) same is, whole)
 
+-- nothing was written
+same_whole : (out new : State) → new ≡ out → Whole out new []
+same_whole out new same = subst (λ (k : State). Whole out k []) (sym same) (whole_none out)
+
 answer_done : (contents : List ℕ → Option Text) (request : Request) (verdict : Verdict) (out new : State) → AnswersRequest contents request out new (Ok verdict)
     → Written contents request verdict out new
 answer_done contents (Lists operation files) verdict out new h = whole_done contents (Lists operation files) verdict out new h
@@ -74,6 +82,7 @@ answer_done contents (Match options list file) verdict out new (inl h) = whole_d
 answer_done contents (Match options list file) verdict out new (inr (e, is, of, answer, written, belongs)) = cc
 answer_done contents (Look table file) verdict out new (inl h) = whole_done contents (Look table file) verdict out new h
 answer_done contents (Look table file) verdict out new (inr (e, is, of, answer, written, belongs)) = cc
+answer_done contents (Compile table name) verdict out new (same, (differ, done)) = ([], (refl, done), same_whole out new same)
 answer_done contents (Single request) verdict out new h = whole_done contents (Single request) verdict out new h
 answer_done contents (Help topic) verdict out new h = whole_done contents (Help topic) verdict out new h
 answer_done contents Version verdict out new h = whole_done contents Version verdict out new h

@@ -103,6 +103,7 @@ not_read : (contents : List ℕ → Option Text) (names : List (List ℕ)) (i : 
 not_read contents names i name sets (error.Argument text e) within at before h = absurd h
 not_read contents names i name sets error.NoMemory within at before h = tt
 not_read contents names i name sets error.Output within at before h = absurd h
+not_read contents names i name sets (error.File file why) within at before h = absurd h
 not_read contents names i name sets (error.Input file why) within at before h = stops_there contents names i name file.now sets within at before h
 not_read contents names i name sets (error.Line file number e) within at before h =
     (stops_there contents names i name file.now sets within at before h.0, λ text is. h.1 text (ap contents (sym h.0) ∙ is))
@@ -160,5 +161,6 @@ pub others_not_read : (contents : List ℕ → Option Text) (name : List ℕ) (n
 others_not_read contents name names set (error.Argument text e) first h = absurd h
 others_not_read contents name names set error.NoMemory first h = tt
 others_not_read contents name names set error.Output first h = absurd h
+others_not_read contents name names set (error.File file why) first h = absurd h
 others_not_read contents name names set (error.Input file why) first h = stops_behind contents name names set file.now first h
 others_not_read contents name names set (error.Line file number e) first h = (stops_behind contents name names set file.now first h.0, h.1)

@@ -138,6 +138,7 @@ pub file_fault : (contents : List ℕ → Option Text) (names before after : Lis
 file_fault contents names before after name old (error.Argument text e) whole fine h = absurd h
 file_fault contents names before after name old error.NoMemory whole fine h = tt
 file_fault contents names before after name old error.Output whole fine h = absurd h
+file_fault contents names before after name old (error.File file why) whole fine h = absurd h
 file_fault contents names before after name old (error.Input file why) whole fine h =
     subst (Contains names) (sym h) (subst (λ (k : List (List ℕ)). Contains k name) (sym whole)
     (Contains-append_right before (name ∷ after) name (contains_first name after)))

@@ -27,6 +27,7 @@ told : (e : CommandError) (closed : Bool) (err new_err : State) → 2 ≡ status
 told (error.Argument text e) closed err new_err two says = says
 told (error.Line name number e) closed err new_err two says = says
 told (error.Input name why) closed err new_err two says = says
+told (error.File name why) closed err new_err two says = says
 told error.NoMemory closed err new_err two says = cc
 told error.Output closed err new_err two says = cc
 

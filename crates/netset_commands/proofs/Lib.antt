@@ -27,3 +27,5 @@ pub mod Running
 pub mod Typed
 pub mod Consequences
 pub mod Failures
+pub mod Compiling
+pub mod Left

@@ -116,6 +116,7 @@ module _ (contents : List ℕ → Option Text) (kind : Kind) (files : List (Bor 
       (drop (i + 1) names, next_name ∙ ap (λ (k : List ℕ). k ∷ drop (i + 1) names) same)
   error_at error.NoMemory h = h
   error_at error.Output h = h
+  error_at (error.File file why) h = h
 
   pub file_unread : (u : State) (e : CommandError) → KeepsList (contents name) kind name t u (Err e) → IsUnloaded contents kind names s u e
   file_unread u e (lines, tells, why, part) = (

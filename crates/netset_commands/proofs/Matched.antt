@@ -241,6 +241,7 @@ stops_by (error.Line name n e) s t block w other wrote = (w, wrote, refl)
 stops_by (error.Input name why) s t block w other wrote = (w, wrote, refl)
 stops_by error.NoMemory s t block w other wrote = (w, wrote, refl)
 stops_by error.Output s t block w other wrote = absurd (other refl)
+stops_by (error.File name why) s t block w other wrote = (w, wrote, refl)
 
 -- ---- one part
 module _ (P : List ℕ → Result Bool LineError → Type 0) (what : Written) (file : List ℕ) (number : ℕ) where
@@ -471,6 +472,7 @@ module _ (P : List ℕ → Result Bool LineError → Type 0) (what : Written) wh
       (cut_here known left number st.picked long error.NoMemory (λ _ _. tt) st.passed)
       (cut_here known left number st.picked long error.Output (λ _ _. tt) st.passed)
   unread file known left s t u number count block long error.Output r fine h st stops = absurd h
+  unread file known left s t u number count block long (error.File name why) r fine h st stops = absurd h
 
   -- what is left is told too
   pub left_known : (known left : Option (List ℕ)) (s t : State) (number count : ℕ) (block : List ℕ) (long : Option ℕ) → Streamed known left s t number count block long → KnownOf known left
@@ -562,6 +564,7 @@ module _ (P : List ℕ → Result Bool LineError → Type 0) (what : Written) wh
   lost file known left next s t u v number count block rest part more long (error.Argument text e) r fine st n h stops = absurd h.1
   lost file known left next s t u v number count block rest part more long (error.Input name why) r fine st n h stops = absurd h.1
   lost file known left next s t u v number count block rest part more long error.NoMemory r fine st n h stops = absurd h.1
+  lost file known left next s t u v number count block rest part more long (error.File name why) r fine st n h stops = absurd h.1
   lost file known left next s t u v number count block rest part more long (error.Line name m e) r fine st n (one, (same, place, bad, still, kept)) (w, wrote, is) =
       let collected : Holds s u rest (flat_map (line_written what) st.picked) =
       subst (λ (z : State). Holds s z rest (flat_map (line_written what) st.picked)) (sym still)
@@ -601,6 +604,7 @@ stop_same P Q f read left (error.Line name number e) (place, line, after, is, ba
 stop_same P Q f read left (error.Input name why) h = tt
 stop_same P Q f read left error.NoMemory h = tt
 stop_same P Q f read left error.Output h = tt
+stop_same P Q f read left (error.File name why) h = tt
 
 cut_same : (P Q : List ℕ → Result Bool LineError → Type 0) → ((line : List ℕ) (r : Result Bool LineError) → P line r → Q line r) → (what : Written) (text answer : List ℕ) (e : CommandError)
     → IsEndedBy P what text answer e → IsEndedBy Q what text answer e

@@ -103,6 +103,7 @@ told_anyway closed (error.Line name number why) s t is says = absurd is
 told_anyway closed (error.Input name why) s t is says = absurd is
 told_anyway closed error.NoMemory s t is says = absurd is
 told_anyway closed error.Output s t is says = absurd is
+told_anyway closed (error.File name why) s t is says = absurd is
 
 pub run_none : (reading : Reading) (contents : List ℕ → Option (List ℕ)) (refused : Bool) (request : Request) (closed : Bool) (out s t : State) (status : ℕ) (twice : Bool) (names : List (List ℕ)) (e : CommandError)
     → names ≡ lists_of request ++ others_of request → Decides twice (1 < count_by (is_word input_name) names) → twice ≡ true → IsReadTwice e → Reports false (Err e) s t → status ≡ status_of (Err e)

@@ -3,7 +3,7 @@ use Rattle.std.proofs.Common.{◌≡◌, refl, sym, ◌∙◌, ap, subst, inl, i
 use Rattle.std.specs.List.{list_all, list_any}
 use Rattle.std.proofs.lemmas.Bool.{true≢false}
 use Rattle.netset_commands.specs.Arguments.{Parts, and_then, asks_help, counted_request, extra_operand, is_option, joined_arguments, line_request, lists_request, named_verb, no_parts, only_operand, only_options, only_value, part_request, parts_from, read_request, takes, verb_request, word_parts}
-use Rattle.netset_commands.specs.Commands.{Request, Lists, NotIn, Diff, Free, Check, Match, Look, Single, Help, Version, input_name, reading_of}
+use Rattle.netset_commands.specs.Commands.{Request, Lists, NotIn, Diff, Free, Check, Match, Look, Compile, Single, Help, Version, input_name, reading_of}
 use Rattle.netset_commands.specs.Matching.{has, is_word}
 use Rattle.netset_commands.specs.Single.{Show, Split, Nth}
 use Rattle.netset_commands.specs.Table.{commands, name_of, options_of}
@@ -75,6 +75,7 @@ its_options verb.Free = (refl, (refl, (refl, (refl, tt))))
 its_options verb.Check = (refl, (refl, (refl, tt)))
 its_options verb.Match = (refl, (refl, (refl, (refl, (refl, (refl, (refl, (refl, tt))))))))
 its_options verb.Look = (refl, (refl, (refl, (refl, tt))))
+its_options verb.Compile = (refl, (refl, (refl, (refl, tt))))
 its_options verb.Show = (refl, (refl, tt))
 its_options verb.Split = (refl, (refl, tt))
 its_options verb.Nth = (refl, (refl, tt))
@@ -104,6 +105,7 @@ named verb.Free = refl
 named verb.Check = refl
 named verb.Match = refl
 named verb.Look = refl
+named verb.Compile = refl
 named verb.Show = refl
 named verb.Split = refl
 named verb.Nth = refl
@@ -167,6 +169,7 @@ module _ (words options : List (List ℕ)) where
   typed_asks (Look table file) (inl typed) = plain_asks verb.Look (table ∷ file ∷ []) (Look table file) typed refl refl
   typed_asks (Look table file) (inr (input, typed)) =
       plain_asks verb.Look (table ∷ []) (Look table input_name) typed refl refl ∙ ap (λ (k : List ℕ). Ok (reading_of options, Look table k)) (sym input)
+  typed_asks (Compile table name) typed = plain_asks verb.Compile (table ∷ name ∷ []) (Compile table name) typed refl refl
   typed_asks (Single (Show host)) typed = plain_asks verb.Show (host ∷ []) (Single (Show host)) typed refl refl
   typed_asks (Single (Split net len)) typed = plain_asks verb.Split (net ∷ len ∷ []) (Single (Split net len)) typed refl refl
   typed_asks (Single (Nth net place)) typed = plain_asks verb.Nth (net ∷ place ∷ []) (Single (Nth net place)) typed refl refl

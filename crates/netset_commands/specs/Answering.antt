@@ -24,6 +24,7 @@ IsFileError contents name (error.Line file number e) = (file.now ≡ name) × ((
 IsFileError contents name (error.Input file why) = file.now ≡ name
 IsFileError contents name error.NoMemory = Unit {0}
 IsFileError contents name error.Output = ⊥
+IsFileError contents name (error.File file e) = ⊥
 
 -- the networks of the list of a file come behind those before
 abbrev pub AddsFile : Option Text → List ℕ → Lists → Lists → Result (Unit {0}) CommandError → Type 0

@@ -3,7 +3,7 @@
 use Rattle.std.specs.Prelude.{ℕ, ◌==◌, nat_eq, nat_lt, Bool, false, if◌then◌else◌, ◌&&◌, ◌||◌, List, [], ◌∷◌, ◌++◌, length, drop, map, codes, Option, Some, None, Result, Ok, Err, slice_get, slice_index, ok_or, unwrap_or, option_and_then}
 use Rattle.std.specs.List.{after_first, before_first, find, list_all, starts_with}
 use Rattle.cidr_io.specs.Shown.{excerpt}
-use Rattle.netset_commands.specs.Commands.{Request, Lists, NotIn, Diff, Free, Check, Match, Look, Single, Help, Version, input_name, reading_of}
+use Rattle.netset_commands.specs.Commands.{Request, Lists, NotIn, Diff, Free, Check, Match, Look, Compile, Single, Help, Version, input_name, reading_of}
 use Rattle.netset_commands.specs.Matching.{has, is_word}
 use Rattle.netset_commands.specs.Single.{Show, Split, Nth}
 use Rattle.netset_commands.specs.Table.{commands, most_of, name_of, needed_of, options_of, takes_value}
@@ -161,6 +161,7 @@ verb_request verb.Free parts = Ok (Free (operand_or parts.operands 0 []) (operan
 verb_request verb.Check parts = Ok (Check parts.operands)
 verb_request verb.Match parts = Ok (Match parts.options (operand_or parts.operands 0 []) (operand_or parts.operands 1 input_name))
 verb_request verb.Look parts = Ok (Look (operand_or parts.operands 0 []) (operand_or parts.operands 1 input_name))
+verb_request verb.Compile parts = Ok (Compile (operand_or parts.operands 0 []) (operand_or parts.operands 1 []))
 verb_request verb.Show parts = Ok (Single (Show (operand_or parts.operands 0 [])))
 verb_request verb.Split parts = Ok (Single (Split (operand_or parts.operands 0 []) (operand_or parts.operands 1 [])))
 verb_request verb.Nth parts = Ok (Single (Nth (operand_or parts.operands 0 []) (operand_or parts.operands 1 [])))

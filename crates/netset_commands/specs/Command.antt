@@ -1,7 +1,7 @@
 -- The request that a command of the program is.
 use Rattle.std.specs.Prelude.{◌≡◌, ℕ, Bool, true, List, map, Result, Ok, Err}
 use Rattle.netset_commands.specs.Arguments.{Parts, joined_arguments, misuse_text}
-use Rattle.netset_commands.specs.Commands.{Request, Lists, NotIn, Diff, Free, Check, Match, Look, Single as ASingle, Help, Version}
+use Rattle.netset_commands.specs.Commands.{Request, Lists, NotIn, Diff, Free, Check, Match, Look, Compile, Single as ASingle, Help, Version}
 use Rattle.netset_commands.specs.Table.{texts}
 use Rattle.netset_commands.specs.declared.commands.arguments.Next.{Next}
 use Rattle.netset_commands.specs.declared.commands.arguments.Parts.{Parts as GivenParts}
@@ -29,6 +29,7 @@ request_of (command.Free pool len used) = Free pool.now len.now (map (λ file. f
 request_of (command.Check files) = Check (map (λ file. file.now) files.now)
 request_of (command.Match options list file) = Match (map (λ w. w.now) options.now) list.now file.now
 request_of (command.Look table file) = Look table.now file.now
+request_of (command.Compile table name) = Compile table.now name.now
 request_of (command.Single single) = ASingle (single_request single)
 request_of (command.Help topic) = Help topic
 request_of command.Version = Version

@@ -37,6 +37,7 @@ pub data Request : Type 0 where
   Check : List (List ℕ) → Request
   Match : List (List ℕ) → List ℕ → List ℕ → Request
   Look : List ℕ → List ℕ → Request
+  Compile : List ℕ → List ℕ → Request
   Single : SingleRequest → Request
   Help : Option Verb → Request
   Version : Request
@@ -60,6 +61,7 @@ lists_of (Free pool len used) = pool ∷ used
 lists_of (Check files) = read_files files
 lists_of (Match options list file) = list ∷ []
 lists_of (Look table file) = table ∷ []
+lists_of (Compile table name) = table ∷ []
 lists_of request = []
 
 -- what it reads beside them
@@ -143,6 +145,7 @@ IsAnswer contents (Match options list file) answer verdict =
     (networks text : Text) → contents list ≡ Some networks → contents file ≡ Some text → IsMatchOf options networks text.bytes answer verdict
 IsAnswer contents (Look table file) answer verdict =
     (rows text : Text) → contents table ≡ Some rows → contents file ≡ Some text → IsLook rows text.bytes answer verdict
+IsAnswer contents (Compile table name) answer verdict = (answer ≡ []) × (verdict ≡ Yes)
 IsAnswer contents (Single request) answer verdict = IsSingleAnswer request answer verdict
 IsAnswer contents (Help topic) answer verdict = (answer ≡ help_text topic) × (verdict ≡ Yes)
 IsAnswer contents Version answer verdict = (answer ≡ version_text) × (verdict ≡ Yes)

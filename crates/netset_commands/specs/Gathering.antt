@@ -33,6 +33,7 @@ IsNotReadFurther file (error.Line name number e) = ⊥
 IsNotReadFurther file (error.Input name why) = name.now ≡ file
 IsNotReadFurther file error.NoMemory = Unit {0}
 IsNotReadFurther file error.Output = ⊥
+IsNotReadFurther file (error.File name e) = ⊥
 
 -- a line is in error, and nothing is written; or the output failed at a line that is picked
 abbrev pub IsLost : (List ℕ → Result Bool LineError → Type 0) → Written → List ℕ → ℕ → List ℕ → State → State → List ℕ → List ℕ → CommandError → Type 0
@@ -41,6 +42,7 @@ IsLost PicksLine what file number part old new block rest (error.Line name n e) 
     (name.now ≡ file) × (n ≡ number) × PicksLine part (Err e) × (new ≡ old) × (rest ≡ block)
 IsLost PicksLine what file number part old new block rest (error.Input name why) = ⊥
 IsLost PicksLine what file number part old new block rest error.NoMemory = ⊥
+IsLost PicksLine what file number part old new block rest (error.File name e) = ⊥
 IsLost PicksLine what file number part old new block rest error.Output =
     PicksLine part (Ok true) × Part old new (block ++ line_written what part)
 

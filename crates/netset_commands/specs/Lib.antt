@@ -10,6 +10,8 @@ pub mod Entries
 pub mod Findings
 pub mod Matching
 pub mod Look
+pub mod Compiled
+pub mod Saving
 pub mod Combining
 pub mod Table
 pub mod Commands
@@ -21,7 +23,9 @@ pub mod Keeping
 pub mod Opened
 pub mod Program
 pub mod Typed
+pub mod Leaving
 pub mod Loading
 pub mod Gathering
 pub mod Answering
 pub mod LookUps
+pub mod Columns

@@ -10,7 +10,7 @@ use Rattle.cidr_io.specs.Writing.{State, Answered, Tells}
 use Rattle.cidr_io.specs.declared.sink.OutputFailed.{OutputFailed}
 use Rattle.cidr_lists.specs.Lists.{Text, text_by, ListSays, IsFirstError}
 use Rattle.netset_commands.specs.Arguments.{line_request}
-use Rattle.netset_commands.specs.Commands.{Request, Lists, NotIn, Diff, Free, Check, Match, Look, Single, ReadsInputTwice, input_name, lists_of, read_files, AreTold, IsAnswer, Says}
+use Rattle.netset_commands.specs.Commands.{Request, Lists, NotIn, Diff, Free, Check, Match, Look, Compile, Single, ReadsInputTwice, input_name, lists_of, read_files, AreTold, IsAnswer, Says}
 use Rattle.netset_commands.specs.Causes.{Cause, FileMayFail}
 use Rattle.netset_commands.specs.Free.{IsBadLength}
 use Rattle.cidr_lists.specs.Faults.{AreTellings}
@@ -23,6 +23,8 @@ use Rattle.netset_commands.specs.Single.{IsBadSingle, IsNoNetwork, IsNumber}
 use Rattle.netset_commands.specs.Unchecked.{IsUnchecked}
 use Rattle.netset_commands.specs.declared.errors.ArgumentError.{ArgumentError}
 use Rattle.netset_commands.specs.declared.errors.ArgumentError.TheVariants as bad
+use Rattle.netset_commands.specs.declared.errors.FileError.{FileError}
+use Rattle.netset_commands.specs.declared.errors.FileError.TheVariants.{TooLarge, NotSaved}
 use Rattle.netset_commands.specs.declared.commands.Reading.{Reading}
 use Rattle.cidr_lists.specs.declared.lines.HostBits.{HostBits}
 use Rattle.netset_commands.specs.declared.output.answers.Verdict.{Verdict}
@@ -50,10 +52,15 @@ abbrev pub IsBadArgument : (List ℕ → ArgumentError → Type 0) → CommandEr
 IsBadArgument IsBad (error.Argument text e) = IsBad text.now e
 IsBadArgument IsBad e = ⊥
 
+-- the error is that the file to be written is the table that is read
+abbrev pub IsSameFile : List ℕ → List ℕ → CommandError → Type 0
+IsSameFile table name e = (table ≡ name) × IsBadArgument (λ text why. (text ≡ name) × (why ≡ bad.Same)) e
+
 -- an argument that is wrong whatever the lists say
 abbrev pub IsWrong : Request → CommandError → Type 0
 IsWrong (NotIn net files) e = IsBadArgument (λ text bad. (text ≡ net) × IsNoNetwork net bad) e
 IsWrong (Free pool len used) e = IsBadArgument (IsBadLength len) e
+IsWrong (Compile table name) e = IsSameFile table name e
 IsWrong request e = ⊥
 
 -- the error is that this file can't be read
@@ -100,12 +107,25 @@ abbrev pub IsLookUntil : (List ℕ → Option Text) → List ℕ → List ℕ �
 IsLookUntil contents table file answer e =
     (rows text : Text) → contents table ≡ Some rows → contents file ≡ Some text → IsLookCut rows text.bytes answer e
 
+-- the error is that the table is too large for a file, or that the file can't be written
+abbrev pub IsNoFile : List ℕ → List ℕ → CommandError → Type 0
+IsNoFile table name (error.File file TooLarge) = file.now ≡ table
+IsNoFile table name (error.File file NotSaved) = file.now ≡ name
+IsNoFile table name e = ⊥
+
+-- what `compile` answers: yes, or the first of these errors; what it leaves in the folder is said in `Leaving`
+abbrev pub IsCompiled : (List ℕ → Option Text) → List ℕ → List ℕ → Result Verdict CommandError → Type 0
+IsCompiled contents table name (Ok verdict) = (table ≢ name) × (verdict ≡ Yes)
+IsCompiled contents table name (Err e) =
+    IsSameFile table name e ⊎ ((table ≢ name) × (IsUnreadTable (contents table) table e ⊎ IsNoFile table name e))
+
 -- what becomes of a request and of the sink
 abbrev pub AnswersRequest : (List ℕ → Option Text) → Request → State → State → Result Verdict CommandError → Type 0
 AnswersRequest contents (Match options list file) old new r =
     AnswersWhole contents (Match options list file) old new r ⊎ IsCutShort (IsMatchUntil contents options list file) file old new r
 AnswersRequest contents (Look table file) old new r =
     AnswersWhole contents (Look table file) old new r ⊎ IsCutShort (IsLookUntil contents table file) file old new r
+AnswersRequest contents (Compile table name) old new r = (new ≡ old) × IsCompiled contents table name r
 AnswersRequest contents request old new r = AnswersWhole contents request old new r
 
 -- a request is given up only for its cause
@@ -122,6 +142,12 @@ argument_message (bad.Network fault e) = fault_words fault (parse_message e)
 argument_message bad.Length = codes "no prefix length inside the network"
 argument_message bad.Index = codes "no index below 2^128"
 argument_message bad.ReadTwice = codes "standard input can be read only once"
+argument_message bad.Same = codes "the same file as TABLE"
+
+-- the message of a file of look-ups that is not written
+abbrev pub file_message : FileError → List ℕ
+file_message TooLarge = codes ": too large for a file of look-ups\n"
+file_message NotSaved = codes ": cannot be written\n"
 
 -- why a file is not read, as the system tells it where it can't be opened
 abbrev pub reason_words : Reason → List ℕ
@@ -135,6 +161,7 @@ abbrev pub error_line : CommandError → List ℕ
 error_line (error.Argument text e) = excerpt text.now ++ (codes ": " ++ (argument_message e ++ codes "\n"))
 error_line (error.Line name number e) = fault_line name.now (number, e)
 error_line (error.Input name why) = shown name.now ++ (codes ": " ++ (reason_words why ++ codes "\n"))
+error_line (error.File name e) = shown name.now ++ file_message e
 error_line error.NoMemory = codes "no memory\n"
 error_line error.Output = codes "output failed\n"
 
@@ -163,6 +190,7 @@ abbrev pub status_of : Result Verdict CommandError → ℕ
 status_of (Ok verdict) = answer_status verdict
 status_of (Err error.NoMemory) = 3
 status_of (Err error.Output) = 3
+status_of (Err (error.File name NotSaved)) = 3
 status_of (Err e) = 2
 
 -- the run ends with this error, and nothing is written to standard output

@@ -3,9 +3,9 @@ use Rattle.std.specs.Prelude.{ℕ, Bool, false, if◌then◌else◌, List, [], �
 use Rattle.std.specs.List.{concat, flat_map}
 use Rattle.netset_commands.specs.Matching.{has, is_word}
 use Rattle.netset_commands.specs.declared.commands.operations.Operation.TheVariants.{Merge, Nets, Minus, And, Not, Ranges, Count}
-use Rattle.netset_commands.specs.declared.commands.table.TheConstants.{COMMANDS, MERGE, NETS, MINUS, AND, NOT, RANGES, COUNT, DIFF, FREE, CHECK, MATCH, LOOK, SHOW, SPLIT, NTH, HELP, VERSION, OPTIONS, HOST_BITS, KEEP_GOING, LISTS}
+use Rattle.netset_commands.specs.declared.commands.table.TheConstants.{COMMANDS, MERGE, NETS, MINUS, AND, NOT, RANGES, COUNT, DIFF, FREE, CHECK, MATCH, LOOK, COMPILE, SHOW, SPLIT, NTH, HELP, VERSION, OPTIONS, HOST_BITS, KEEP_GOING, LISTS}
 use Rattle.netset_commands.specs.declared.commands.table.Verb.{Verb}
-use Rattle.netset_commands.specs.declared.commands.table.Verb.TheVariants.{Lists, Diff, Free, Check, Match, Look, Show, Split, Nth, Help, Version}
+use Rattle.netset_commands.specs.declared.commands.table.Verb.TheVariants.{Lists, Diff, Free, Check, Match, Look, Compile, Show, Split, Nth, Help, Version}
 use denote.Ref.{Bor}
 
 -- the bytes of some words
@@ -29,6 +29,7 @@ name_of Free = codes "free"
 name_of Check = codes "check"
 name_of Match = codes "match"
 name_of Look = codes "look"
+name_of Compile = codes "compile"
 name_of Show = codes "show"
 name_of Split = codes "split"
 name_of Nth = codes "nth"
@@ -59,6 +60,7 @@ needed_of Diff = codes "A" ∷ codes "B" ∷ []
 needed_of Free = codes "POOL" ∷ codes "LEN" ∷ codes "USED" ∷ []
 needed_of Match = codes "LIST" ∷ []
 needed_of Look = codes "TABLE" ∷ []
+needed_of Compile = codes "TABLE" ∷ codes "OUT" ∷ []
 needed_of Show = codes "HOST" ∷ []
 needed_of Split = codes "NET" ∷ codes "LEN" ∷ []
 needed_of Nth = codes "NET" ∷ codes "INDEX" ∷ []
@@ -88,6 +90,7 @@ about_of Free = FREE.now
 about_of Check = CHECK.now
 about_of Match = MATCH.now
 about_of Look = LOOK.now
+about_of Compile = COMPILE.now
 about_of Show = SHOW.now
 about_of Split = SPLIT.now
 about_of Nth = NTH.now

@@ -5,7 +5,7 @@ use Rattle.std.specs.List.{list_all, list_any}
 use Rattle.cidr_io.specs.Writing.{State, Whole, Tells}
 use Rattle.cidr_lists.specs.Lists.{Text}
 use Rattle.netset_commands.specs.Arguments.{asks_help, is_option, missing_operand, takes}
-use Rattle.netset_commands.specs.Commands.{Request, Lists, NotIn, Diff, Free, Check, Match, Look, Single, Help, Version, IsAnswer, input_name, reading_of}
+use Rattle.netset_commands.specs.Commands.{Request, Lists, NotIn, Diff, Free, Check, Match, Look, Compile, Single, Help, Version, IsAnswer, input_name, reading_of}
 use Rattle.netset_commands.specs.Program.{answer_status, contents_by}
 use Rattle.netset_commands.specs.Single.{Show, Split, Nth}
 use Rattle.netset_commands.specs.Table.{name_of}
@@ -35,6 +35,7 @@ IsTyped words options (Free pool len used) = AreTyped verb.Free options [] (pool
 IsTyped words options (Check files) = AreTyped verb.Check options [] files words
 IsTyped words options (Match given list file) = (given ≡ options) × AreTypedFor verb.Match options list file words
 IsTyped words options (Look table file) = AreTypedFor verb.Look options table file words
+IsTyped words options (Compile table name) = AreTyped verb.Compile options [] (table ∷ name ∷ []) words
 IsTyped words options (Single (Show host)) = AreTyped verb.Show options [] (host ∷ []) words
 IsTyped words options (Single (Split net len)) = AreTyped verb.Split options [] (net ∷ len ∷ []) words
 IsTyped words options (Single (Nth net place)) = AreTyped verb.Nth options [] (net ∷ place ∷ []) words

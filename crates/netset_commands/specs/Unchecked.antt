@@ -27,6 +27,7 @@ IsFileFault contents name (error.Line file number e) =
 IsFileFault contents name (error.Input file why) = file.now ≡ name
 IsFileFault contents name error.NoMemory = Unit {0}
 IsFileFault contents name error.Output = ⊥
+IsFileFault contents name (error.File file e) = ⊥
 
 -- the entries of a file come behind those before
 abbrev pub AddsFileEntries : Option Text → List ℕ → List Entry → List Entry → Result (Unit {0}) CommandError → Type 0

@@ -11,6 +11,7 @@ pub mod arguments;
 pub mod changes;
 pub mod check;
 pub mod combine;
+pub mod compile;
 pub mod free;
 pub mod help;
 pub mod inside;
@@ -45,6 +46,8 @@ pub enum Command<'a> {
     Match(&'a [&'a str], &'a str, &'a str),
     /// The longest networks of the first file that have the addresses of the second one.
     Look(&'a str, &'a str),
+    /// The table that is compiled, and the file that is written.
+    Compile(&'a str, &'a str),
     /// A command on one host or network.
     Single(Single<'a>),
     /// The page of a command, or of all.
@@ -118,7 +121,9 @@ impl<'a> Command<'a> {
                 names.push(*pool)?;
                 names.extend_from_slice(used)?;
             }
-            Command::Match(_, list, _) | Command::Look(list, _) => names.push(*list)?,
+            Command::Match(_, list, _) | Command::Look(list, _) | Command::Compile(list, _) => {
+                names.push(*list)?;
+            }
             Command::Single(_) | Command::Help(_) | Command::Version => {}
         }
         Ok(names)
@@ -144,7 +149,7 @@ impl<'a> Command<'a> {
     {
         match self {
             Command::Check(_) => Kind::Hosts,
-            Command::Look(_, _) => Kind::Rows,
+            Command::Look(_, _) | Command::Compile(_, _) => Kind::Rows,
             _ => Kind::Networks,
         }
     }

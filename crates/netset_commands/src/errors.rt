@@ -86,6 +86,17 @@ pub enum ArgumentError {
     Index,
     /// It is the standard input, which is read already.
     ReadTwice,
+    /// It is the table that is read, and was to be written.
+    Same,
+}
+
+/// Why a file of look-ups is not written.
+#[derive(Clone, Copy, Debug, Drop, PartialEq)]
+pub enum FileError {
+    /// The table has 2^31 networks of a family or more, or values of 2^32 bytes or more.
+    TooLarge,
+    /// The file can't be written; if there was one, it is left as it was.
+    NotSaved,
 }
 
 /// Why a command gave no answer.
@@ -101,6 +112,9 @@ pub enum CommandError<'a> {
     NoMemory,
     /// The output has failed; a beginning of the answer was written.
     Output,
+    /// No file of look-ups is written, since the table of this name doesn't fit in one, or the file of this name can't
+    /// be written; nothing was written.
+    File(&'a str, FileError),
 }
 
 impl From<AllocError> for CommandError<'_> {

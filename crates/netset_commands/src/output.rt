@@ -1,6 +1,8 @@
 //! What is written: answers, and errors.
 
 pub mod answers;
+pub mod compiled;
+pub mod folder;
 pub mod printing;
 pub mod ranges;
 pub mod report;

@@ -6,6 +6,7 @@ ghost use Rattle.netset_commands.specs.Causes.{Cause, FileMayFail};
 ghost use Rattle.netset_commands.specs.Combining.{form_of};
 ghost use Rattle.netset_commands.specs.Arguments.{line_request, read_request};
 ghost use Rattle.netset_commands.specs.Command.{parts_in, request_of};
+ghost use Rattle.netset_commands.specs.Leaving.{Leaves, LeavesBy, LeavesFound, RunLeaves};
 ghost use Rattle.netset_commands.specs.Commands.{Lists};
 ghost use Rattle.netset_commands.specs.Sets.{Prints};
 ghost use Rattle.cidr_lists.specs.Sets.{networks_of};
@@ -17,6 +18,7 @@ use crate::commands::arguments::{Parts, command_of, line_parts};
 use crate::commands::changes::diff;
 use crate::commands::check::check;
 use crate::commands::combine::combination;
+use crate::commands::compile::{compile, same_file};
 use crate::commands::free::{free, length_of};
 use crate::commands::help::write_help;
 use crate::commands::inside::not_in;
@@ -31,6 +33,7 @@ use crate::input::files::{Files, ReadBy, Sources};
 use crate::input::keeping::{Loaded, load};
 use crate::input::several::read_several;
 use crate::output::answers::{Verdict, by_output};
+use crate::output::folder::Folder;
 use crate::output::ranges::write_ranges;
 use crate::output::report::{report, report_misuse, report_not_text};
 use crate::output::sets::{write_counts, write_sets};
@@ -71,13 +74,15 @@ fn lists<'a, M: Memory, F: Sources, O: Sink>(
 }
 
 /// Answers a command.
-fn answer<'a, M: Memory, F: Sources, O: Sink>(
+fn answer<'a, M: Memory, F: Sources, D: Folder, O: Sink>(
     memory: &mut M,
     sources: &F,
+    folder: &mut D,
     command: Command<'a>,
     out: &mut O,
 ) -> Result<Verdict, CommandError<'a>>
     ensures answers { AnswersRequest (F.contents sources.now) (request_of command.entry) (O.state out.old) (O.state out.new) result }
+    ensures leaves { Leaves (F.contents sources.now) (request_of command.entry) (D.saved folder.old) (D.saved folder.new) result }
     ensures cause { IsCaused (F.contents sources.now) (M.refused memory.new) result }
 {
     match command {
@@ -88,6 +93,7 @@ fn answer<'a, M: Memory, F: Sources, O: Sink>(
         Command::Check(files) => check(memory, sources, files, out),
         Command::Match(options, list, file) => matching(memory, sources, options, list, file, out),
         Command::Look(table, file) => look(memory, sources, table, file, out),
+        Command::Compile(table, name) => compile(memory, sources, table, name, folder),
         Command::Single(single) => answer_single(single, out),
         Command::Help(topic) => by_output(Verdict::Yes, write_help(topic, out)),
         Command::Version => by_output(Verdict::Yes, write_text(out, VERSION)),
@@ -108,6 +114,7 @@ fn wrong_argument<'a>(command: Command<'a>) -> Option<CommandError<'a>>
             Some(_) => None,
             None => Some(CommandError::Argument(len, ArgumentError::Length)),
         },
+        Command::Compile(table, name) => same_file(table, name),
         Command::Lists(_, _)
         | Command::Diff(_, _)
         | Command::Check(_)
@@ -121,15 +128,17 @@ fn wrong_argument<'a>(command: Command<'a>) -> Option<CommandError<'a>>
 
 /// Tells the lines in error of the lists of a command while they are read, and answers it if there are none, reports and
 /// returns the exit status.
-fn keep_going<'a, M: Memory, F: Sources, O: Output, E: Sink>(
+fn keep_going<'a, M: Memory, F: Sources, D: Folder, O: Output, E: Sink>(
     memory: &mut M,
     sources: &F,
+    folder: &mut D,
     command: Command<'a>,
     out: &mut O,
     err: &mut E,
 ) -> u8
-    ensures { KeepsGoing (F.contents sources.now) (M.refused memory.new) (request_of command.entry) (O.closed out.new) (O.Sink.state out.old) (O.Sink.state out.new)
+    ensures goes { KeepsGoing (F.contents sources.now) (M.refused memory.new) (request_of command.entry) (O.closed out.new) (O.Sink.state out.old) (O.Sink.state out.new)
         (E.state err.old) (E.state err.new) result }
+    ensures leaves { LeavesBy (F.contents sources.now) (request_of command.entry) (D.saved folder.old) (D.saved folder.new) result }
 {
     if let Some(e) = wrong_argument(command) {
         return report(&Err(e), out.is_closed(), err);
@@ -141,7 +150,7 @@ fn keep_going<'a, M: Memory, F: Sources, O: Output, E: Sink>(
         Ok((_, true)) => 2,
         Ok((lists, false)) => {
             let loaded = Loaded::new(sources, lists.as_slice());
-            let answered = answer(memory, &loaded, command, out);
+            let answered = answer(memory, &loaded, folder, command, out);
             report(&answered, out.is_closed(), err)
         }
         Err(e) => report(&Err(e), out.is_closed(), err),
@@ -156,16 +165,18 @@ fn read_twice<'a>() -> CommandError<'a>
 }
 
 /// Answers a command whose lists are read this way, reports and returns the exit status.
-fn answer_once<'a, M: Memory, F: Files, O: Output, E: Sink>(
+fn answer_once<'a, M: Memory, F: Files, D: Folder, O: Output, E: Sink>(
     memory: &mut M,
     files: &F,
+    folder: &mut D,
     reading: Reading,
     command: Command<'a>,
     out: &mut O,
     err: &mut E,
 ) -> u8
-    ensures { RunsFound (Ok (reading, request_of command.entry)) (F.contents files.now) (M.refused memory.new) (O.closed out.new) (O.Sink.state out.old) (O.Sink.state out.new)
+    ensures runs { RunsFound (Ok (reading, request_of command.entry)) (F.contents files.now) (M.refused memory.new) (O.closed out.new) (O.Sink.state out.old) (O.Sink.state out.new)
         (E.state err.old) (E.state err.new) result }
+    ensures leaves { LeavesFound (Ok (reading, request_of command.entry)) (F.contents files.now) (D.saved folder.old) (D.saved folder.new) result }
 {
     let Ok(names) = command.files(memory) else {
         return report(&Err(CommandError::NoMemory), false, err);
@@ -178,49 +189,53 @@ fn answer_once<'a, M: Memory, F: Files, O: Output, E: Sink>(
         host_bits: reading.host_bits,
     };
     if reading.keeps_going {
-        return keep_going(memory, &sources, command, out, err);
+        return keep_going(memory, &sources, folder, command, out, err);
     }
-    let answered = answer(memory, &sources, command, out);
+    let answered = answer(memory, &sources, folder, command, out);
     report(&answered, out.is_closed(), err)
 }
 
 /// Answers a command and the parts of the words behind it, reports and returns the exit status.
-fn answer_parts<M: Memory, F: Files, O: Output, E: Sink>(
+fn answer_parts<M: Memory, F: Files, D: Folder, O: Output, E: Sink>(
     memory: &mut M,
     files: &F,
+    folder: &mut D,
     verb: Verb,
     parts: &Parts<'_>,
     out: &mut O,
     err: &mut E,
 ) -> u8
-    ensures { RunsFound (read_request verb (parts_in parts.now)) (F.contents files.now) (M.refused memory.new) (O.closed out.new) (O.Sink.state out.old) (O.Sink.state out.new)
+    ensures runs { RunsFound (read_request verb (parts_in parts.now)) (F.contents files.now) (M.refused memory.new) (O.closed out.new) (O.Sink.state out.old) (O.Sink.state out.new)
         (E.state err.old) (E.state err.new) result }
+    ensures leaves { LeavesFound (read_request verb (parts_in parts.now)) (F.contents files.now) (D.saved folder.old) (D.saved folder.new) result }
 {
     match command_of(verb, parts) {
         Ok(command) => {
             let reading = reading_of(parts.options.as_slice());
-            answer_once(memory, files, reading, command, out, err)
+            answer_once(memory, files, folder, reading, command, out, err)
         }
         Err(misuse) => report_misuse(&misuse, err),
     }
 }
 
 /// Answers the arguments as strings, reports and returns the exit status.
-fn answer_texts<M: Memory, F: Files, O: Output, E: Sink>(
+fn answer_texts<M: Memory, F: Files, D: Folder, O: Output, E: Sink>(
     memory: &mut M,
     files: &F,
+    folder: &mut D,
     texts: &[String],
     out: &mut O,
     err: &mut E,
 ) -> u8
-    ensures { RunsFound (line_request (map string_bytes texts.now)) (F.contents files.now) (M.refused memory.new) (O.closed out.new) (O.Sink.state out.old) (O.Sink.state out.new)
+    ensures runs { RunsFound (line_request (map string_bytes texts.now)) (F.contents files.now) (M.refused memory.new) (O.closed out.new) (O.Sink.state out.old) (O.Sink.state out.new)
         (E.state err.old) (E.state err.new) result }
+    ensures leaves { LeavesFound (line_request (map string_bytes texts.now)) (F.contents files.now) (D.saved folder.old) (D.saved folder.new) result }
 {
     let Ok(words) = borrowed(memory, texts) else {
         return report(&Err(CommandError::NoMemory), false, err);
     };
     match line_parts(memory, words.as_slice()) {
-        Ok((verb, parts)) => answer_parts(memory, files, verb, &parts, out, err),
+        Ok((verb, parts)) => answer_parts(memory, files, folder, verb, &parts, out, err),
         Err(UsageError::Misuse(misuse)) => report_misuse(&misuse, err),
         Err(UsageError::NoMemory) => report(&Err(CommandError::NoMemory), false, err),
     }
@@ -238,18 +253,20 @@ fn not_text(error: &Unreadable) -> Option<&str>
 }
 
 /// Answers the arguments, reports and returns the exit status.
-fn answer_arguments<M: Memory, A: Arguments, F: Files, O: Output, E: Sink>(
+fn answer_arguments<M: Memory, A: Arguments, F: Files, D: Folder, O: Output, E: Sink>(
     memory: &mut M,
     arguments: &A,
     files: &F,
+    folder: &mut D,
     out: &mut O,
     err: &mut E,
 ) -> u8
-    ensures { Runs (A.told arguments.now) (F.contents files.now) (M.refused memory.new) (O.closed out.new) (O.Sink.state out.old) (O.Sink.state out.new)
+    ensures runs { Runs (A.told arguments.now) (F.contents files.now) (M.refused memory.new) (O.closed out.new) (O.Sink.state out.old) (O.Sink.state out.new)
         (E.state err.old) (E.state err.new) result }
+    ensures leaves { RunLeaves (A.told arguments.now) (F.contents files.now) (D.saved folder.old) (D.saved folder.new) result }
 {
     match texts_of(memory, arguments) {
-        Ok(texts) => answer_texts(memory, files, texts.as_slice(), out, err),
+        Ok(texts) => answer_texts(memory, files, folder, texts.as_slice(), out, err),
         Err(e) => match not_text(&e) {
             Some(shown) => report_not_text(shown, err),
             None => report(&Err(CommandError::NoMemory), false, err),
@@ -259,13 +276,15 @@ fn answer_arguments<M: Memory, A: Arguments, F: Files, O: Output, E: Sink>(
 
 /// Answers the arguments on `out`, writes the line that belongs to the answer, if there is one, to `err`, and returns
 /// the exit status: 0 for an answer, 1 for none, no or findings, 2 for usage, a file that can't be read and a line in error, 3 where the output
-/// failed or there is no memory. Where nobody reads the output any more, there is no such line.
+/// failed or there is no memory. Where nobody reads the output any more, there is no such line. The file of `compile` is
+/// written to `folder`, and nothing else.
 ///
 /// The contract says twice what is written: in short where the status is 0 or 1 (`answers`), and with all errors (`runs`).
-pub fn program<M: Memory, A: Arguments, F: Files, O: Output, E: Sink>(
+pub fn program<M: Memory, A: Arguments, F: Files, D: Folder, O: Output, E: Sink>(
     memory: &mut M,
     arguments: &A,
     files: &F,
+    folder: &mut D,
     out: &mut O,
     err: &mut E,
 ) -> u8
@@ -273,6 +292,7 @@ pub fn program<M: Memory, A: Arguments, F: Files, O: Output, E: Sink>(
         (E.state err.old) (E.state err.new) result }
     ensures runs { Runs (A.told arguments.now) (F.contents files.now) (M.refused memory.new) (O.closed out.new) (O.Sink.state out.old) (O.Sink.state out.new)
         (E.state err.old) (E.state err.new) result }
+    ensures leaves { RunLeaves (A.told arguments.now) (F.contents files.now) (D.saved folder.old) (D.saved folder.new) result }
 {
-    answer_arguments(memory, arguments, files, out, err)
+    answer_arguments(memory, arguments, files, folder, out, err)
 }

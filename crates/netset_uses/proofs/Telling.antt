@@ -121,6 +121,7 @@ list_failed contents file list refused run told short (error.Input name why, (be
     ap (contents_by Refused contents) this ∙ told_text contents file list told in
     let many : 18446744073709551613 ≤ length list = rw known at cause in
     absurd (omega (arith, many, short))
+list_failed contents file list refused run told short (error.File name why, unread, cause, same, says, two) = absurd unread
 list_failed contents file list refused run told short (error.NoMemory, unread, cause, same, says, two) = cc
 list_failed contents file list refused run told short (error.Output, unread, cause, same, says, two) = absurd unread
 

@@ -9,7 +9,7 @@ ghost use Rattle.netset_commands.specs.declared.output.answers.Verdict.TheVarian
 ghost use Rattle.netset_uses.specs.Runs.{HasPrinted, HasRun, HasToldLine};
 ghost use Rattle.netset_uses.specs.Texts.{contents_of};
 
-use crate::texts::{TextFile, TextFiles, Words};
+use crate::texts::{NoFolder, TextFile, TextFiles, Words};
 use cidr_io::memory::Heap;
 use cidr_io::sink::{Sink, Tracked};
 use cidr_lists::laws::merging_again_changes_nothing;
@@ -38,6 +38,7 @@ pub fn run(alloc: Global, words: &[&str], files: &[TextFile<'_>]) -> Option<Fini
         &mut memory,
         &Words { words },
         &TextFiles { files },
+        &mut NoFolder,
         &mut out,
         &mut err,
     );

@@ -390,6 +390,10 @@ fn verb_command<'a>(verb: Verb, parts: &'a Parts<'a>) -> Result<Command<'a>, Mis
             operand_or(operands, 1, "-"),
         )),
         Verb::Look => Ok(Command::Look(operand_or(operands, 0, ""), operand_or(operands, 1, "-"))),
+        Verb::Compile => Ok(Command::Compile(
+            operand_or(operands, 0, ""),
+            operand_or(operands, 1, ""),
+        )),
         Verb::Show => Ok(Command::Single(Single::Show(operand_or(operands, 0, "")))),
         Verb::Split => Ok(Command::Single(Single::Split(
             operand_or(operands, 0, ""),

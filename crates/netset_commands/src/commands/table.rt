@@ -13,6 +13,7 @@ pub enum Verb {
     Check,
     Match,
     Look,
+    Compile,
     Show,
     Split,
     Nth,
@@ -21,7 +22,7 @@ pub enum Verb {
 }
 
 /// The commands, in their order on the page.
-pub static COMMANDS: [Verb; 17] = [
+pub static COMMANDS: [Verb; 18] = [
     Verb::Lists(Operation::Merge),
     Verb::Lists(Operation::Nets),
     Verb::Lists(Operation::Minus),
@@ -34,6 +35,7 @@ pub static COMMANDS: [Verb; 17] = [
     Verb::Check,
     Verb::Match,
     Verb::Look,
+    Verb::Compile,
     Verb::Show,
     Verb::Split,
     Verb::Nth,
@@ -73,6 +75,9 @@ const MATCH: &str =
 
 const LOOK: &str =
     "netset look TABLE [FILE]\n                        the longest network of each address of FILE in the lines\n                        NET VALUE of TABLE, and its value\n";
+
+const COMPILE: &str =
+    "netset compile TABLE OUT\n                        writes the table into the file OUT, from which addresses are looked\n                        up without reading its lines\n";
 
 const SHOW: &str =
     "netset show HOST        the network of a host: its ends, mask, length and family\n";
@@ -122,6 +127,7 @@ pub fn name_of(command: Verb) -> &'static str
         Verb::Check => "check",
         Verb::Match => "match",
         Verb::Look => "look",
+        Verb::Compile => "compile",
         Verb::Show => "show",
         Verb::Split => "split",
         Verb::Nth => "nth",
@@ -135,7 +141,7 @@ pub fn options_of(command: Verb) -> &'static [&'static str]
     ensures { texts result.now ≡ options_of command }
 {
     match command {
-        Verb::Lists(_) | Verb::Diff | Verb::Free | Verb::Look => {
+        Verb::Lists(_) | Verb::Diff | Verb::Free | Verb::Look | Verb::Compile => {
             &["--host-bits", "-k", "-h", "--help"]
         }
         Verb::Check => &["-k", "-h", "--help"],
@@ -172,6 +178,7 @@ pub fn needed_of(command: Verb) -> &'static [&'static str]
         Verb::Free => &["POOL", "LEN", "USED"],
         Verb::Match => &["LIST"],
         Verb::Look => &["TABLE"],
+        Verb::Compile => &["TABLE", "OUT"],
         Verb::Show => &["HOST"],
         Verb::Split => &["NET", "LEN"],
         Verb::Nth => &["NET", "INDEX"],
@@ -185,7 +192,7 @@ pub fn most_of(command: Verb) -> Option<usize>
 {
     match command {
         Verb::Lists(_) | Verb::Free | Verb::Check => None,
-        Verb::Diff | Verb::Match | Verb::Look | Verb::Split | Verb::Nth => Some(2),
+        Verb::Diff | Verb::Match | Verb::Look | Verb::Compile | Verb::Split | Verb::Nth => Some(2),
         Verb::Show | Verb::Help => Some(1),
         Verb::Version => Some(0),
     }
@@ -208,6 +215,7 @@ pub fn about_of(command: Verb) -> &'static str
         Verb::Check => CHECK,
         Verb::Match => MATCH,
         Verb::Look => LOOK,
+        Verb::Compile => COMPILE,
         Verb::Show => SHOW,
         Verb::Split => SPLIT,
         Verb::Nth => NTH,

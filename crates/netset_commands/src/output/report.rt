@@ -7,9 +7,9 @@ ghost use Rattle.cidr_io.specs.Writing.{Answered, Tells, State};
 ghost use Rattle.cidr_lists.specs.Messages.{fault_line};
 ghost use Rattle.netset_commands.specs.Arguments.{misfit_text};
 ghost use Rattle.netset_commands.specs.Command.{misuse_line};
-ghost use Rattle.netset_commands.specs.Program.{Reports, ReportsUnless, argument_message, error_line, is_closed_pipe, not_text_line, reason_words, status_of};
+ghost use Rattle.netset_commands.specs.Program.{Reports, ReportsUnless, argument_message, error_line, file_message, is_closed_pipe, not_text_line, reason_words, status_of};
 
-use crate::errors::{ArgumentError, CommandError, Misfit, Misuse, Reason};
+use crate::errors::{ArgumentError, CommandError, FileError, Misfit, Misuse, Reason};
 use crate::output::answers::Verdict;
 use arrayvec::ArrayString;
 use cidr_io::block::Block;
@@ -28,6 +28,7 @@ fn argument_message(error: &ArgumentError) -> ArrayString<99>
         ArgumentError::Length => text.push_str("no prefix length inside the network"),
         ArgumentError::Index => text.push_str("no index below 2^128"),
         ArgumentError::ReadTwice => text.push_str("standard input can be read only once"),
+        ArgumentError::Same => text.push_str("the same file as TABLE"),
     }
     text
 }
@@ -101,6 +102,17 @@ fn unread_parts<'a>(name: &'a str, why: &'a str) -> [Part<'a>; 4]
     ]
 }
 
+/// The parts of the line of a file of look-ups that is not written.
+fn unsaved_parts<'a>(name: &'a str, error: FileError) -> [Part<'a>; 2]
+    ensures { flat_map part_text result ≡ shown name.now ++ file_message error }
+{
+    let words: &'a str = match error {
+        FileError::TooLarge => ": too large for a file of look-ups\n",
+        FileError::NotSaved => ": cannot be written\n",
+    };
+    [Part::Shown(name), Part::Plain(words)]
+}
+
 /// Appends the line of a line in error to a block, as far as the sink takes lines.
 pub fn say_fault<E: Sink>(
     block: &mut Block,
@@ -153,6 +165,7 @@ fn say<E: Sink>(error: &CommandError<'_>, err: &mut E)
         }
         CommandError::NoMemory => write_line(err, &["no memory\n"]),
         CommandError::Output => write_line(err, &["output failed\n"]),
+        CommandError::File(name, e) => write_message(err, &unsaved_parts(name, *e)),
     };
 }
 
@@ -182,6 +195,8 @@ fn status_of(error: &CommandError<'_>) -> u8
     match error {
         CommandError::Argument(_, _) | CommandError::Line(_, _, _) | CommandError::Input(_, _) => 2,
         CommandError::NoMemory | CommandError::Output => 3,
+        CommandError::File(_, FileError::TooLarge) => 2,
+        CommandError::File(_, FileError::NotSaved) => 3,
     }
 }
 

@@ -28,6 +28,9 @@ returns-in-Match-clause-answers g c = rw c.in-Match.is c.matching.ensures.answer
 pub returns-in-Look-clause-answers : goal.returns-in-Look-clause-answers
 returns-in-Look-clause-answers g c = rw c.in-Look.is c.look.ensures.answers
 
+pub returns-in-Compile-clause-answers : goal.returns-in-Compile-clause-answers
+returns-in-Compile-clause-answers g c = rw c.in-Compile.is (refl, c.compile.ensures.compiled)
+
 pub returns-in-Single-clause-answers : goal.returns-in-Single-clause-answers
 returns-in-Single-clause-answers g c = rw c.in-Single.is (c.answer_single.ensures (g.F.Sources.contents c.args.sources.now))
 
@@ -57,6 +60,9 @@ returns-in-Match-clause-cause g c = c.matching.ensures.cause
 pub returns-in-Look-clause-cause : goal.returns-in-Look-clause-cause
 returns-in-Look-clause-cause g c = c.look.ensures.cause
 
+pub returns-in-Compile-clause-cause : goal.returns-in-Compile-clause-cause
+returns-in-Compile-clause-cause g c = c.compile.ensures.cause
+
 pub returns-in-Check-clause-cause : goal.returns-in-Check-clause-cause
 returns-in-Check-clause-cause g c = c.check.ensures.cause
 
@@ -70,3 +76,36 @@ returns-in-Help-clause-cause g c = output_cause (FileMayFail (g.F.Sources.conten
 
 pub returns-in-Version-clause-cause : goal.returns-in-Version-clause-cause
 returns-in-Version-clause-cause g c = output_cause (FileMayFail (g.F.Sources.contents c.args.sources.now)) _ _ _ c.by_output-in-Version.result c.by_output-in-Version.ensures
+
+pub returns-in-Lists-clause-leaves : goal.returns-in-Lists-clause-leaves
+returns-in-Lists-clause-leaves g c = rw c.in-Lists.is refl
+
+pub returns-in-NotIn-clause-leaves : goal.returns-in-NotIn-clause-leaves
+returns-in-NotIn-clause-leaves g c = rw c.in-NotIn.is refl
+
+pub returns-in-Diff-clause-leaves : goal.returns-in-Diff-clause-leaves
+returns-in-Diff-clause-leaves g c = rw c.in-Diff.is refl
+
+pub returns-in-Free-clause-leaves : goal.returns-in-Free-clause-leaves
+returns-in-Free-clause-leaves g c = rw c.in-Free.is refl
+
+pub returns-in-Check-clause-leaves : goal.returns-in-Check-clause-leaves
+returns-in-Check-clause-leaves g c = rw c.in-Check.is refl
+
+pub returns-in-Match-clause-leaves : goal.returns-in-Match-clause-leaves
+returns-in-Match-clause-leaves g c = rw c.in-Match.is refl
+
+pub returns-in-Look-clause-leaves : goal.returns-in-Look-clause-leaves
+returns-in-Look-clause-leaves g c = rw c.in-Look.is refl
+
+pub returns-in-Single-clause-leaves : goal.returns-in-Single-clause-leaves
+returns-in-Single-clause-leaves g c = rw c.in-Single.is refl
+
+pub returns-in-Help-clause-leaves : goal.returns-in-Help-clause-leaves
+returns-in-Help-clause-leaves g c = rw c.in-Help.is refl
+
+pub returns-in-Version-clause-leaves : goal.returns-in-Version-clause-leaves
+returns-in-Version-clause-leaves g c = rw c.in-Version.is refl
+
+pub returns-in-Compile-clause-leaves : goal.returns-in-Compile-clause-leaves
+returns-in-Compile-clause-leaves g c = rw c.in-Compile.is c.compile.ensures.leaves

@@ -1,19 +1,21 @@
-use Rattle.std.proofs.Common.{inr}
+use Rattle.std.proofs.Common.{arith, inr}
 use Rattle.netset_commands.specs.Command.{request_of}
+use Rattle.netset_commands.specs.declared.errors.CommandError.TheVariants as error
 use Rattle.netset_commands.proofs.Arguments.{bytes_of}
 use Rattle.netset_commands.proofs.Running.{argument_first, lines_in_error, no_line_in_error, no_names, not_loaded}
+use Rattle.netset_commands.proofs.Left.{left_alone, left_by, not_zero}
 use Rattle.netset_commands.proofs.program.keep_going.Goals as goal
 
-pub returns-in_default-lists : goal.returns-in_default-lists
-returns-in_default-lists g c = inr (
+pub returns-in_default-lists-clause-goes : goal.returns-in_default-lists-clause-goes
+returns-in_default-lists-clause-goes g c = inr (
   c.in_default.ensures,
   no_names (g.F.Sources.contents c.args.sources.now) (request_of c.args.command) (g.M.Memory.refused c.lists.new.memory) (g.O.Output.closed c.args.out.now)
       (g.O.Sink.state c.args.out.now) (g.E.Sink.state c.args.err.now) (g.E.Sink.state c.report-in_default-lists.new.err) c.report-in_default-lists.result
       c.in_default-lists.ensures.refused c.report-in_default-lists.ensures.says c.report-in_default-lists.ensures.status,
 )
 
-pub returns-in-Ok-default-true : goal.returns-in-Ok-default-true
-returns-in-Ok-default-true g c = inr (
+pub returns-in-Ok-default-true-clause-goes : goal.returns-in-Ok-default-true-clause-goes
+returns-in-Ok-default-true-clause-goes g c = inr (
   c.in_default.ensures,
   lines_in_error (g.F.Sources.contents c.args.sources.now) (request_of c.args.command) c.kind.result (bytes_of c.in-Ok.names.items)
       (g.M.Memory.refused c.load.new.memory) (g.O.Output.closed c.args.out.now) (g.O.Sink.state c.args.out.now)
@@ -21,8 +23,8 @@ returns-in-Ok-default-true g c = inr (
       (rw (c.as_slice.ensures.value, c.in-Ok-default-true.field-0-1-test) at c.in-Ok-default-true.ensures.loads),
 )
 
-pub returns-in-Ok-default-false : goal.returns-in-Ok-default-false
-returns-in-Ok-default-false g c = inr (
+pub returns-in-Ok-default-false-clause-goes : goal.returns-in-Ok-default-false-clause-goes
+returns-in-Ok-default-false-clause-goes g c = inr (
   c.in_default.ensures,
   no_line_in_error (g.F.Sources.contents c.args.sources.now) (request_of c.args.command) c.kind.result (bytes_of c.in-Ok.names.items)
       (g.M.Memory.refused c.answer-answered.new.memory) (g.O.Output.closed c.answer-answered.new.out) (g.O.Sink.state c.args.out.now)
@@ -33,8 +35,8 @@ returns-in-Ok-default-false g c = inr (
       (rw c.new-loaded.ensures at c.answer-answered.ensures.cause) (rw c.is_closed-in-Ok-default-false.ensures at c.report-in-Ok-default-false.ensures.says) c.report-in-Ok-default-false.ensures.status,
 )
 
-pub returns : goal.returns
-returns g c = inr (
+pub returns-clause-goes : goal.returns-clause-goes
+returns-clause-goes g c = inr (
   c.in_default.ensures,
   not_loaded (g.F.Sources.contents c.args.sources.now) (request_of c.args.command) c.kind.result (bytes_of c.in-Ok.names.items)
       (g.M.Memory.refused c.load.new.memory) (g.O.Output.closed c.args.out.now) (g.O.Sink.state c.args.out.now)
@@ -42,8 +44,32 @@ returns g c = inr (
       c.report-in-Err.result (rw c.as_slice.ensures.value at c.in-Err.ensures.loads) c.in-Err.ensures.cause (rw c.is_closed-in-Err.ensures at c.report-in-Err.ensures.says) c.report-in-Err.ensures.status,
 )
 
-pub returns-in-Some : goal.returns-in-Some
-returns-in-Some g c =
+pub returns-in-Some-clause-goes : goal.returns-in-Some-clause-goes
+returns-in-Some-clause-goes g c =
     argument_first (g.F.Sources.contents c.args.sources.now) (request_of c.args.command) (g.M.Memory.refused c.args.memory.now) (g.O.Output.closed c.args.out.now)
     (g.O.Sink.state c.args.out.now) (g.E.Sink.state c.args.err.now) (g.E.Sink.state c.report.new.err) c.in-Some.e c.report.result c.in-Some.ensures
     (rw c.is_closed.ensures at c.report.ensures.says) c.report.ensures.status
+
+pub returns-in_default-lists-clause-leaves : goal.returns-in_default-lists-clause-leaves
+returns-in_default-lists-clause-leaves g c =
+    left_alone (g.F.Sources.contents c.args.sources.now) (request_of c.args.command) (g.D.Folder.saved c.args.folder.now) _
+    (not_zero error.NoMemory _ c.report-in_default-lists.ensures.status)
+
+pub returns-in-Some-clause-leaves : goal.returns-in-Some-clause-leaves
+returns-in-Some-clause-leaves g c =
+    left_alone (g.F.Sources.contents c.args.sources.now) (request_of c.args.command) (g.D.Folder.saved c.args.folder.now) _
+    (not_zero c.in-Some.e _ c.report.ensures.status)
+
+pub returns-clause-leaves : goal.returns-clause-leaves
+returns-clause-leaves g c =
+    left_alone (g.F.Sources.contents c.args.sources.now) (request_of c.args.command) (g.D.Folder.saved c.args.folder.now) _
+    (not_zero c.in-Err.e _ c.report-in-Err.ensures.status)
+
+pub returns-in-Ok-default-true-clause-leaves : goal.returns-in-Ok-default-true-clause-leaves
+returns-in-Ok-default-true-clause-leaves g c =
+    left_alone (g.F.Sources.contents c.args.sources.now) (request_of c.args.command) (g.D.Folder.saved c.args.folder.now) 2 (λ zero. omega (arith, zero))
+
+pub returns-in-Ok-default-false-clause-leaves : goal.returns-in-Ok-default-false-clause-leaves
+returns-in-Ok-default-false-clause-leaves g c =
+    left_by (g.F.Sources.contents c.args.sources.now) (request_of c.args.command) (g.D.Folder.saved c.args.folder.now) (g.D.Folder.saved c.answer-answered.new.folder)
+    c.answer-answered.result _ (rw c.new-loaded.ensures at c.answer-answered.ensures.leaves) c.report-in-Ok-default-false.ensures.status

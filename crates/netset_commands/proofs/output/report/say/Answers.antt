@@ -17,3 +17,7 @@ returns-in-Output g c = rw c.in-Output.is (c.write_line-in-Output.result, c.writ
 pub returns-in-Argument : goal.returns-in-Argument
 returns-in-Argument g c =
     rw c.in-Argument.is (c.write_line.result, rw (c.as_str.ensures.value, c.excerpt.ensures.text, c.as_str-in-Argument.ensures.value, c.argument_message.ensures) at c.write_line.ensures)
+
+pub returns-in-File : goal.returns-in-File
+returns-in-File g c =
+    rw c.in-File.is (c.write_message-in-File.result, rw c.unsaved_parts.ensures at c.write_message-in-File.ensures)

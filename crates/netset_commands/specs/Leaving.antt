@@ -1,0 +1,44 @@
+-- What a run leaves in the folder: the file that `compile` writes.
+use Rattle.std.specs.Prelude.{◌≡◌, ◌≢◌, ◌⊎◌, ℕ, Bool, List, Option, Some, Result, Ok, Err}
+use Rattle.cidr.specs.declared.family.Family.{Family}
+use Rattle.cidr_io.specs.Arguments.{AreArguments}
+use Rattle.cidr_lists.specs.Lists.{Text}
+use Rattle.cidr_lists.specs.Tables.{IsTable}
+use Rattle.netset_commands.specs.Arguments.{line_request}
+use Rattle.netset_commands.specs.Commands.{Request, Compile}
+use Rattle.netset_commands.specs.Compiled.{IsFileOf}
+use Rattle.netset_commands.specs.Program.{contents_by}
+use Rattle.netset_commands.specs.Saving.{with_file}
+use Rattle.netset_commands.specs.declared.commands.Reading.{Reading}
+use Rattle.netset_commands.specs.declared.errors.CommandError.{CommandError}
+use Rattle.netset_commands.specs.declared.output.answers.Verdict.{Verdict}
+use Rattle.netset_commands.specs.declared.output.answers.Verdict.TheVariants.{Yes, No}
+
+-- a file of the rows of a table was written under this name, and no other
+abbrev pub IsSaved : Option Text → List ℕ → Option (List (List ℕ × List ℕ)) → Option (List (List ℕ × List ℕ)) → Type 0
+IsSaved contents name old new = (bytes : List ℕ) × (new ≡ with_file name bytes old)
+    × ((text : Text) → contents ≡ Some text → (table : Family → List (List Bool × List ℕ)) × IsTable text table × IsFileOf table bytes)
+
+-- what a request leaves in the folder, by its answer: only `compile` writes a file, if it has an answer
+abbrev pub Leaves : (List ℕ → Option Text) → Request → Option (List (List ℕ × List ℕ)) → Option (List (List ℕ × List ℕ)) → Result Verdict CommandError → Type 0
+Leaves contents (Compile table name) old new (Ok Yes) = IsSaved (contents table) name old new
+Leaves contents (Compile table name) old new (Ok No) = ⊥
+Leaves contents request old new r = new ≡ old
+
+-- the same by the exit status of a run
+abbrev pub LeavesBy : (List ℕ → Option Text) → Request → Option (List (List ℕ × List ℕ)) → Option (List (List ℕ × List ℕ)) → ℕ → Type 0
+LeavesBy contents (Compile table name) old new status =
+    ((status ≡ 0) × IsSaved (contents table) name old new) ⊎ ((status ≢ 0) × (new ≡ old))
+LeavesBy contents request old new status = new ≡ old
+
+-- the same of a request and how its lists are read, or of words that are none
+abbrev pub LeavesFound : Result (Reading × Request) (List ℕ) → (List ℕ → Option (List ℕ)) → Option (List (List ℕ × List ℕ)) → Option (List (List ℕ × List ℕ)) → ℕ → Type 0
+LeavesFound (Ok (reading, request)) contents old new status = LeavesBy (contents_by reading.host_bits contents) request old new status
+LeavesFound (Err line) contents old new status = new ≡ old
+
+-- What a run leaves in the folder, from its arguments, the files that it reads and its exit status. A run with another
+-- status than 0 leaves it as it was.
+abbrev pub RunLeaves : Option (List (List ℕ)) → (List ℕ → Option (List ℕ)) → Option (List (List ℕ × List ℕ)) → Option (List (List ℕ × List ℕ)) → ℕ → Type 0
+RunLeaves words contents old new status =
+    ((given : List (List ℕ)) × AreArguments words given × LeavesFound (line_request given) contents old new status)
+    ⊎ ((status ≢ 0) × (new ≡ old))
