@@ -1,4 +1,4 @@
--- What has to be believed: what lists say, what commands answer, and a run of the program. `Reading`, `Command`,
+-- What has to be believed: what lists say, what commands answer, and a run of the program. `Reading`, `Columns`, `Command`,
 -- `Gathering`, `Loading`, `Answering`, `LookUps` and `Nearness` are what private functions promise.
 pub mod Causes
 pub mod Reading
