@@ -602,7 +602,7 @@ rows_of_compiled_tables() {
     run 2 '' $'-:1: x: couldn\'t parse address in network: invalid IP address syntax\n' 'x' compile - compiled
     run 2 '' $'-:1: x: couldn\'t parse address in network: invalid IP address syntax\n-:3: y: couldn\'t parse address in network: invalid IP address syntax\n' \
         'x\n10.0.0.0/8\ny' compile -k - compiled
-    run 2 '' $'missing: cannot be read\n' '' compile missing compiled
+    run 2 '' $'missing: no such file\n' '' compile missing compiled
     run 2 '' "compiled$same" '' compile compiled compiled
     run 2 '' "compiled$same" '' compile -k compiled compiled
     run 2 '' "-$same" 'x' compile - -
@@ -618,7 +618,7 @@ rows_of_compiled_tables() {
     run 2 '' $'-v: no such option, see: netset help compile\n' '' compile -v owners compiled
     saved compiled "$row"
     # a run that is killed while it writes leaves the old file, and the next one takes another name
-    (cd "$room" && ulimit -f 1 && "$program" compile parts compiled >/dev/null 2>&1) || true
+    { (cd "$room" && ulimit -f 1 && "$program" compile parts compiled) || true; } >/dev/null 2>&1
     rm "$room/compiled.new0"
     saved compiled "$row"
     printf 'x' >"$room/compiled.new0"
