@@ -12,21 +12,35 @@ use crate::word::Word;
 pub enum BuildError {
     /// There are more than 2,147,483,647 keys.
     TooMany,
-    /// The key at this index is no network, or doesn't come after the one before it: the first such key.
+    /// The key at this index, counted from 0, is no network, or doesn't come after the one before it: the first such
+    /// key.
     Refused(usize),
-    /// An array has no room for twice as many ranges as keys, and one more.
+    /// One of the two arrays has fewer elements than twice as many as keys, and one more.
     NoRoom,
 }
 
 /// Writes the ranges of keys that ascend, and returns how many there are: at most twice as many as keys, and one more.
-/// So long the arrays have to be, whatever the keys are; what is behind the ranges is left as it was or written over.
-/// The ranges of keys are unique: two side by side differ in their answers.
+/// So many elements both arrays have to have, whatever the keys are; those behind the ranges are left as they were or
+/// written over. The ranges of keys are unique: two side by side differ in their answers.
 ///
 /// A start is the first address of its range, and its answer how many keys there are up to the longest that has the
 /// addresses of the range: the index of that key and one more, or 0 where no key has them.
 ///
 /// Keys ascend by their first addresses and then by their lengths, and none repeats. The error is the first that
-/// [`BuildError`] names, in its order, and is told before anything is written. It takes O(n): two passes over n keys.
+/// [`BuildError`] names, in its order, and is told before anything is written. It takes O(n), two passes over n keys,
+/// and allocates nothing.
+///
+/// ```
+/// let count = build(keys, starts, answers)?;
+/// Ok(lookup(
+///     &starts[..count],
+///     &answers[..count],
+///     &[],
+///     0,
+///     keys.len(),
+///     address.to_bits(),
+/// ))
+/// ```
 pub fn build<W: Word>(
     keys: &[Key<W>],
     starts: &mut [W],

@@ -17,13 +17,16 @@ pub enum Fault {
     TooMany,
     /// There are not as many answers as starts.
     Counts,
-    /// The shift of the first level is not below the number of bits of an address.
+    /// The shift of the first level is not below the number of bits of an address, 32 or 128.
     Shift,
-    /// The key at this index is no network, or doesn't come after the one before it: the first such key.
+    /// The key at this index, counted from 0, is no network, or doesn't come after the one before it: the first such
+    /// key.
     Refused(usize),
-    /// The range at this index is not that of the keys, which may have fewer or more: the first such range.
+    /// The range at this index, counted from 0, is not that of the keys, or one of the two has fewer ranges: the first
+    /// such range.
     Range(usize),
-    /// The entry of the first level at this index is not the range of its number: the first such entry.
+    /// The entry of the first level at this index, counted from 0, is not the range of its number: the first such
+    /// entry.
     Entry(usize),
 }
 
@@ -31,7 +34,13 @@ pub enum Fault {
 /// and [`fill_level`](crate::fill_level) wrote are accepted, and the error is the first that [`Fault`] names, in its
 /// order. A first level may have any number of entries, also none.
 ///
-/// It takes O(n): two passes over n keys and one over the ranges, and one search for each entry of the first level.
+/// It takes O(n), two passes over n keys and one over the ranges, and O(log n) for each entry of the first level. It
+/// allocates nothing.
+///
+/// ```
+/// check(keys, starts, answers, &[], 0)?;
+/// Ok(lookup(starts, answers, &[], 0, keys.len(), address.to_bits()))
+/// ```
 pub fn check<W: Word>(
     keys: &[Key<W>],
     starts: &[W],

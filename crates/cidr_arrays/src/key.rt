@@ -16,7 +16,8 @@ pub struct Key<W> {
 }
 
 impl<W: Word> Key<W> {
-    /// Whether it is a network: its length is at most the width, and no bit after the prefix is set.
+    /// Whether it is a network: its length is at most the width, 32 or 128, and no bit after the prefix is set.
+    /// 10.0.0.1/8 is none.
     pub fn is_network(&self) -> bool
         ensures { IsTrue result ↔ IsNetwork W.width (W.value self.now.address, self.now.len) }
     {
@@ -27,7 +28,8 @@ impl<W: Word> Key<W> {
         self.address.number() & ones(width - self.len) == 0
     }
 
-    /// Whether it comes before the other: its first address is less, or that is the same and its length is.
+    /// Whether it comes before the other: its first address is less, or that is the same and its length is. So
+    /// 10.0.0.0/8 comes before 10.0.0.0/9, and this before 10.1.0.0/16.
     pub fn precedes(&self, other: &Key<W>) -> bool
         ensures { IsTrue result ↔ Precedes (W.value self.now.address, self.now.len) (W.value other.now.address, other.now.len) }
     {

@@ -6,15 +6,16 @@ use crate::key::ones;
 use crate::search::range_of;
 use crate::word::Word;
 
-/// Writes a first level: entry i, counted from 0, is the index of the last range that begins at most with the number
-/// i * 2^shift.
+/// Writes a first level: entry i, counted from 0, is the index of the last range that begins at the number i * 2^shift
+/// or before it.
 ///
 /// A look-up reads two entries, that of its address without the last `shift` bits and the next. So 2^(w - shift) + 1
 /// entries serve all addresses of w bits; without them an address is searched among all ranges. More entries have the
 /// last range. In IPv6 no look-up reads a level whose shift is below 64.
 ///
-/// The caller has to prove that the starts ascend, the first of them 0, and are at most 2^32, as `build` writes them,
-/// and that `shift` is below the width, 32 or 128. It takes O(log r) for each entry, of r ranges.
+/// The caller has to prove that the starts ascend, that the first of them is 0, and that there are at most 2^32 of
+/// them, as `build` writes them, and that `shift` is below the width, 32 or 128. It takes O(log r) for each entry, of r
+/// ranges.
 pub fn fill_level<W: Word>(starts: &[W], shift: u32, level: &mut [u32])
     requires ordered { AreStarts (map W.value starts.now) }
     requires few { length starts.now ≤ 2 ^ 32 }

@@ -16,6 +16,10 @@ use crate::word::{Index, Word};
 ///
 /// It takes one search among the ranges that the first level leaves, O(log r) for r of them, and one answer. Without a
 /// level, as `&[]` and any shift, these are all ranges.
+///
+/// ```
+/// Ok(lookup(starts, answers, &[], 0, keys.len(), address.to_bits()))
+/// ```
 pub fn lookup<W: Word>(
     starts: &[W],
     answers: &[u32],
@@ -32,7 +36,8 @@ pub fn lookup<W: Word>(
     longest_match(starts, answers, level, shift, rows, address)
 }
 
-/// The same of arrays whose answers and entries are another type's numbers, such as the bytes that a file has.
+/// What [`lookup`] returns, of arrays whose answers and entries are numbers of another type, such as the bytes that a
+/// file has.
 #[inline(always)]
 pub fn longest_match<W: Word, I: Index>(
     starts: &[W],

@@ -9,7 +9,7 @@ pub trait Word: Copy {
     /// How many bits an address has.
     ghost width: { ℕ };
 
-    /// Whether it is at most the other.
+    /// Whether the number is at most that of the other.
     fn is_upto(self, other: Self) -> bool
         ensures { IsTrue result ↔ (value self ≤ value other) };
 

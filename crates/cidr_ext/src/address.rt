@@ -7,7 +7,8 @@ ghost use Rattle.cidr.specs.model.Network.{width_of};
 use crate::shifts::{count_of_ones, greatest};
 use cidr::{Address, Family, IpAddr, Ipv4Addr, Ipv6Addr};
 
-/// Numbers and masks of addresses of the types `Ipv4Addr`, `Ipv6Addr` and `IpAddr`. No call allocates.
+/// Numbers and masks of addresses of the types `Ipv4Addr`, `Ipv6Addr` and `IpAddr`. No call allocates, and each takes
+/// constant time.
 pub trait AddressExt: Address {
     /// The address as a number, whose most significant bits are those of the first octet: below 2^32 in IPv4.
     ///
@@ -19,6 +20,10 @@ pub trait AddressExt: Address {
         ensures width { length (Self.bits self) ≡ width_of (Self.family_of self) };
 
     /// The family of the address.
+    ///
+    /// ```
+    /// Ipv4Addr::new(192, 0, 2, 1).family() // Ipv4
+    /// ```
     fn family(self) -> Family
         ensures { result ≡ Self.family_of self };
 

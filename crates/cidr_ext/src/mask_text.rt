@@ -84,6 +84,10 @@ impl MaskParseError {
     ghost use Rattle.cidr_ext.specs.MaskMessages.{mask_message};
 
     /// The message, as stated at each variant.
+    ///
+    /// ```
+    /// MaskParseError::NoSlash.as_str() // no slash before a mask
+    /// ```
     pub fn as_str(&self) -> &'static str
         ensures { result.now ≡ mask_message self.now }
     {

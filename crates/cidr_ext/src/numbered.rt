@@ -32,6 +32,12 @@ pub trait CidrExt: Cidr {
 
     /// The networks of prefix length `len` inside this one, ascending, or `None` where `len` is below the length of
     /// this network or above the width, 32 or 128. The network of that length itself is its only one.
+    ///
+    /// ```
+    /// let networks = "192.0.2.0/24".parse::<Ipv4Cidr>()?.subnets(26);
+    /// networks.and_then(|networks| networks.last()) // Some(192.0.2.192/26)
+    /// "192.0.2.0/24".parse::<Ipv4Cidr>()?.subnets(23).is_none() // true
+    /// ```
     fn subnets(&self, len: u8) -> Option<Subnets<Self>>
         ensures value { MatchOption result
             ((len < length (Self.prefix self.now)) ⊎ (width_of (Self.family_of self.now) < len))
@@ -107,9 +113,9 @@ pub trait CidrExt: Cidr {
 
     /// The hosts that may have an address of the network, ascending, with its prefix length.
     ///
-    /// In IPv4 these are all addresses but the first and the last, the network and the broadcast address; of a /31
-    /// network they are both (RFC 3021), and of a /32 network the one. In IPv6 they are all, the subnet-router anycast
-    /// address (RFC 4291, 2.6.1) among them.
+    /// In IPv4 these are all addresses but the first and the last, the network and the broadcast address (RFC 1122,
+    /// 3.2.1.3); of a /31 network they are both (RFC 3021), and of a /32 network the one. In IPv6 they are all, the
+    /// subnet-router anycast address (RFC 4291, 2.6.1) among them.
     ///
     /// ```
     /// "192.0.2.48/28".parse::<Ipv4Cidr>()?.usable_hosts().count() // Some(14)

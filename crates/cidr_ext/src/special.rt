@@ -11,9 +11,10 @@ use cidr::Family;
 /// What an address is for, by the IANA IPv4 and IPv6 Special-Purpose Address Registries (RFC 6890), as of May 2025.
 ///
 /// The registries are [`IPV4_ENTRIES`](crate::IPV4_ENTRIES) and [`IPV6_ENTRIES`](crate::IPV6_ENTRIES). A block may be
-/// inside another, and the longest one that contains the address is its entry: 192.0.0.9 is an anycast address,
-/// although 192.0.0.0/24 is not for use. An IPv4-mapped address is `Ipv4Mapped`, whatever its IPv4 address is for. A
-/// look-up compares the address with each entry of the registry, 26 of IPv4 and 25 of IPv6, and allocates nothing.
+/// inside another, and the longest one that contains the address is its entry: 192.0.0.9 is a globally reachable
+/// anycast address, although 192.0.0.0/24 around it is not globally reachable. An IPv4-mapped address is `Ipv4Mapped`,
+/// whatever its IPv4 address is for. A look-up compares the address with each entry of the registry, 26 of IPv4 and 25
+/// of IPv6, and allocates nothing.
 pub trait SpecialAddress: AddressExt {
     /// The longest entry of the registry whose block contains the address, or `None` for an address of no special
     /// purpose.

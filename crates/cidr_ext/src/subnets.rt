@@ -127,6 +127,13 @@ where
 {
     /// Skips `n` networks and takes the next one, in constant time, or returns `None` and leaves none where there are
     /// no more than `n`.
+    ///
+    /// ```
+    /// if let Some(mut networks) = "192.0.2.0/24".parse::<Ipv4Cidr>()?.subnets(26) {
+    ///     networks.nth(2) // Some(192.0.2.128/26)
+    ///     networks.nth(1) // None
+    /// }
+    /// ```
     pub fn nth(&mut self, n: u128) -> Option<C>
         ensures { MatchOption result ((length self.old ≤ n) × (self.new ≡ []))
             (λ network. drop n self.old ≡ in_family C.family_of C.prefix network ∷ self.new) }

@@ -38,8 +38,8 @@ impl<C: NetworkBits + Copy> ReadySet<C> {
     /// The networks of a set, made ready: O(n), some 50 ns a network. It copies them, and takes the memory of
     /// [`ForwardingTable::new`](crate::ForwardingTable::new) besides. The set stays as it was.
     ///
-    /// The error is that there are more than 4,294,967,294 networks, or that an allocation fails, which may be told of
-    /// so many networks too.
+    /// The error is that there are more than 4,294,967,294 networks, or that an allocation fails; of so many networks
+    /// it may be either. It is never `TooLarge`.
     pub fn new(alloc: Global, set: &NetworkSet<C>) -> Result<Self, ForwardingError>
         ensures ok { IfOk result (λ ready. ready ≡ set.now) }
         ensures refused { IfErr result (IsSetRefused set.now) }

@@ -64,9 +64,9 @@ impl<C: NetworkBits + Copy> ForwardingTable<C> {
     /// forwarding table (RFC 1812, 5.2.4.3). An address is looked up as the network of full prefix length.
     ///
     /// It is one search among the starts of ranges, O(log n) at most and a few steps for most addresses: a quarter to
-    /// four fifths of the time of `lookups`. It is a `lookup` in the table where a key of more than 64 bits has the
-    /// first 64 of the look-up key, for a network whose parts have different matches, and for some of fewer than 18
-    /// bits. It allocates nothing.
+    /// four fifths of the time of a look-up by `lookups`. It is a `lookup` in the table where a key of more than 64
+    /// bits has the first 64 of the look-up key, for a network whose parts have different matches, and for some of
+    /// fewer than 18 bits. It allocates nothing.
     ///
     /// ```
     /// ready.find(&"10.0.0.0/15".parse()?) // Some(2)

@@ -15,8 +15,9 @@ use cidr_table::LpmTable;
 
 /// Whether two tables forward the same: each address has the same value in both, or in neither one.
 ///
-/// The caller has to prove that `==` of the values tells equality. It goes through the rows of both once, in a time
-/// that grows with their number and their bits, up to the first network where they differ, and allocates nothing.
+/// The caller has to prove that `==` of the values tells equality, as it does for numbers and addresses. It goes
+/// through the rows of both once, in a time that grows with their number and their bits, up to the first network where
+/// they differ, and allocates nothing.
 ///
 /// ```
 /// forwards_same(&routes, &smallest) // true

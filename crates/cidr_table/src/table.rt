@@ -273,7 +273,7 @@ impl<C: NetworkBits + Copy, V> LpmTable<C, V> {
     }
 
     /// The row at an index, counted from 0 in the order of the keys, or `None` from the number of rows on. The indices
-    /// change with each `insert` of a new key and each `remove`.
+    /// change with each `insert` of a new key and each row that is removed.
     ///
     /// ```
     /// let mut routes = LpmTable::<Ipv4Cidr, u32>::new(rt.alloc());

@@ -120,7 +120,7 @@ impl Ipv4Addr {
     }
 
     /// The printed string, four decimal octets, in an `ArrayString`, so that nothing is allocated. It has at most 15
-    /// bytes.
+    /// bytes. Parsing it gives the same address.
     ///
     /// ```
     /// Ipv4Addr::new(192, 0, 2, 1).to_text() // 192.0.2.1

@@ -179,10 +179,12 @@ impl Ipv6Addr {
         }
     }
 
-    /// The printed string, in an `ArrayString`, so that nothing is allocated. It has at most 39 bytes.
+    /// The printed string, in an `ArrayString`, so that nothing is allocated. It has at most 39 bytes. Parsing it gives
+    /// the same address.
     ///
     /// It is the one canonical form of RFC 5952: lower case, no leading zeros, the longest run of two or more zero
-    /// groups as `::`, and an IPv4-mapped address with its last 32 bits as an IPv4 address.
+    /// groups as `::`, of equally long runs the first one, and an IPv4-mapped address with its last 32 bits as an IPv4
+    /// address.
     ///
     /// ```
     /// "2001:db8:0:0:1:0:0:1".parse::<Ipv6Addr>()?.to_text() // 2001:db8::1:0:0:1

@@ -22,9 +22,9 @@ use std::str::FromStr;
 
 /// An IPv4 or an IPv6 network, or every address of both families.
 ///
-/// It is the type of an entry of an access list that may say `any`. `Any` comes first in the order, then the IPv4
-/// networks, then the IPv6 networks. `Any` has no family, no prefix length and no first address: the calls that return
-/// one of these return `None`.
+/// It is the type of an entry of an access list that may say `any`. Any other string is parsed as that of `IpCidr` is,
+/// with its errors. `Any` comes first in the order, then the IPv4 networks, then the IPv6 networks. `Any` has no
+/// family, no prefix length and no first address: the calls that return one of these return `None`.
 ///
 /// ```
 /// "any".parse::<AnyIpCidr>()? // any
@@ -274,7 +274,7 @@ impl AnyIpCidr {
     }
 
     /// The printed string, in an `ArrayString`, so that nothing is allocated: `any`, or the network without a full
-    /// prefix length. It has at most 43 bytes.
+    /// prefix length. It has at most 43 bytes. Parsing it gives the same value.
     ///
     /// ```
     /// AnyIpCidr::Any.to_text() // any
@@ -334,7 +334,8 @@ pub(crate) fn any_of(
 impl WithLength<AnyIpCidr> {
     ghost use Rattle.cidr.specs.texts.Printed.{forced_text};
 
-    /// The printed string, `any` or the network with its prefix length: at most 43 bytes.
+    /// The printed string, `any` or the network with its prefix length: at most 43 bytes. Parsing it gives the same
+    /// value.
     ///
     /// ```
     /// "::1".parse::<AnyIpCidr>()?.with_length().to_text() // ::1/128

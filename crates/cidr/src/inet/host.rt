@@ -32,7 +32,8 @@ use std::str::FromStr;
 ///
 /// It keeps all bits of the address, and its prefix length, at most 32 in IPv4 and 128 in IPv6, says which network it
 /// is in. Steps stay in the network: they change the bits after the prefix only. Hosts are ordered by address and then
-/// by prefix length. A string with no slash is parsed as a host of full prefix length.
+/// by prefix length. A string is parsed as that of a network is, but that a set bit after the prefix is no error; with
+/// no slash it is a host of full prefix length.
 ///
 /// ```
 /// "192.0.2.50/28".parse::<Ipv4Inet>()? // 192.0.2.50/28
@@ -404,6 +405,7 @@ impl<A: AddressText> WithLength<Host<A>> {
     ghost use Rattle.cidr.specs.texts.Printed.{forced_host_text, longest_text};
 
     /// The printed string, with the prefix length also where that is full: at most 18 bytes in IPv4 and 43 in IPv6.
+    /// Parsing it gives the same host.
     ///
     /// ```
     /// "::1".parse::<Ipv6Inet>()?.with_length().to_text() // ::1/128

@@ -46,6 +46,12 @@ impl<C: NetworkBits + Copy, V> LpmTable<C, V> {
 ///
 /// The caller has to prove that the networks ascend with no repeats, as after `sort_unstable` and `dedup`. The contract
 /// leaves open what is in the slice after the list. It takes one pass over the networks and allocates nothing.
+///
+/// ```
+/// let mut networks: [Ipv4Cidr; 2] = ["10.0.0.0/9".parse()?, "10.128.0.0/9".parse()?];
+/// least_cover_in_place(&mut networks) // 1
+/// networks.first() // Some(10.0.0.0/8)
+/// ```
 pub fn least_cover_in_place<C: NetworkBits + Copy>(networks: &mut [C]) -> usize
     requires { IsStrictlySortedBy C.cmp networks.old }
     ensures fits { result ≤ length networks.old }

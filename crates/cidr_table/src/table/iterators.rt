@@ -210,6 +210,7 @@ impl<C: NetworkBits + Copy, V: Drop> IntoIterator for LpmTable<C, V> {
     }
 }
 
+/// Two tables are equal if they have the same keys, each with an equal value. O(n).
 impl<C: NetworkBits + Copy, V: PartialEq> PartialEq for LpmTable<C, V> {
     ghost eq = { λ one other. pointwise (λ row with. C.eq row.0 with.0 && V.eq row.1 with.1) one.rows other.rows };
 

@@ -3,7 +3,8 @@
 use crate::shifts::{count_of_ones, greatest};
 use cidr::{Address, Family, IpAddr, Ipv4Addr, Ipv6Addr};
 
-/// Numbers and masks of addresses of the types `Ipv4Addr`, `Ipv6Addr` and `IpAddr`. No call allocates.
+/// Numbers and masks of addresses of the types `Ipv4Addr`, `Ipv6Addr` and `IpAddr`. No call allocates, and each takes
+/// constant time.
 pub trait AddressExt: Sized + Address {
     /// The address as a number, whose most significant bits are those of the first octet: below 2^32 in IPv4.
     ///

@@ -78,8 +78,7 @@ impl MaskParseError {
     /// ```
     /// # use cidr::*;
     /// # use cidr_ext::*;
-    /// let error = Ipv4Cidr::from_mask_text("192.0.2.0/255.0.255.0").unwrap_err();
-    /// assert_eq!(format!("{}", error.as_str()), "mask is not contiguous");
+    /// assert_eq!(format!("{}", MaskParseError::NoSlash.as_str()), "no slash before a mask");
     /// # Ok::<(), Box<dyn std::error::Error>>(())
     /// ```
     #[inline]

@@ -28,9 +28,9 @@ pub trait CidrExt: Sized + Cidr {
     /// ```
     /// # use cidr::*;
     /// # use cidr_ext::*;
-    /// let networks = "192.0.2.0/24".parse::<Ipv4Cidr>()?.subnets(26).unwrap();
-    /// assert_eq!(format!("{:?}", networks.size_hint()), "(4, Some(4))");
-    /// assert_eq!(format!("{:?}", networks.last()), "Some(192.0.2.192/26)");
+    /// let networks = "192.0.2.0/24".parse::<Ipv4Cidr>()?.subnets(26);
+    /// assert_eq!(format!("{:?}", networks.and_then(|networks| networks.last())), "Some(192.0.2.192/26)");
+    /// assert!("192.0.2.0/24".parse::<Ipv4Cidr>()?.subnets(23).is_none());
     /// # Ok::<(), Box<dyn std::error::Error>>(())
     /// ```
     fn subnets(&self, len: u8) -> Option<Subnets<Self>>;
@@ -99,9 +99,9 @@ pub trait CidrExt: Sized + Cidr {
 
     /// The hosts that may have an address of the network, ascending, with its prefix length.
     ///
-    /// In IPv4 these are all addresses but the first and the last, the network and the broadcast address; of a /31
-    /// network they are both (RFC 3021), and of a /32 network the one. In IPv6 they are all, the subnet-router anycast
-    /// address (RFC 4291, 2.6.1) among them.
+    /// In IPv4 these are all addresses but the first and the last, the network and the broadcast address (RFC 1122,
+    /// 3.2.1.3); of a /31 network they are both (RFC 3021), and of a /32 network the one. In IPv6 they are all, the
+    /// subnet-router anycast address (RFC 4291, 2.6.1) among them.
     ///
     /// ```
     /// # use cidr::*;

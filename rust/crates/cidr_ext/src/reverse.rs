@@ -12,7 +12,8 @@ use cidr::{Address, Cidr, Family};
 pub trait CidrReverseName: Sized + Cidr {
     /// The domain name of the network in reverse DNS, or `None` where the prefix length doesn't end at a label: it has
     /// to be a multiple of 8 in IPv4 (RFC 1035, 3.5) and of 4 in IPv6 (RFC 3596, 2.5); `reverse_zones` has names for
-    /// the others. Those of RFC 2317, for IPv4 networks smaller than /24, are left out.
+    /// the others. 0.0.0.0/0 is `in-addr.arpa` itself, and ::/0 `ip6.arpa`. Those of RFC 2317, for IPv4 networks
+    /// smaller than /24, are left out.
     ///
     /// The name is in lower case and has no final dot. It has at most 72 bytes, and nothing is allocated.
     ///

@@ -102,9 +102,10 @@ where
     /// ```
     /// # use cidr::*;
     /// # use cidr_ext::*;
-    /// let mut networks = "192.0.2.0/24".parse::<Ipv4Cidr>()?.subnets(26).unwrap();
-    /// assert_eq!(format!("{:?}", networks.nth(2)), "Some(192.0.2.128/26)");
-    /// assert_eq!(format!("{:?}", networks.nth(1)), "None");
+    /// if let Some(mut networks) = "192.0.2.0/24".parse::<Ipv4Cidr>()?.subnets(26) {
+    ///     assert_eq!(format!("{:?}", networks.nth(2)), "Some(192.0.2.128/26)");
+    ///     assert_eq!(format!("{:?}", networks.nth(1)), "None");
+    /// }
     /// # Ok::<(), Box<dyn std::error::Error>>(())
     /// ```
     #[inline]

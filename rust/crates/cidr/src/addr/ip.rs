@@ -52,7 +52,8 @@ impl IpAddr {
         matches!(self, IpAddr::V6(_))
     }
 
-    /// The printed string, as the address of its family prints: at most 15 bytes in IPv4 and 39 in IPv6.
+    /// The printed string, as the address of its family prints, in an `ArrayString`, so that nothing is allocated: at
+    /// most 15 bytes in IPv4 and 39 in IPv6. Parsing it gives the same address.
     ///
     /// ```
     /// # use cidr::{canon::*, errors::*, parsers::*, *};

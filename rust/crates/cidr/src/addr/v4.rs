@@ -89,7 +89,7 @@ impl Ipv4Addr {
     }
 
     /// The printed string, four decimal octets, in an `ArrayString`, so that nothing is allocated. It has at most 15
-    /// bytes.
+    /// bytes. Parsing it gives the same address.
     ///
     /// ```
     /// # use cidr::{canon::*, errors::*, parsers::*, *};

@@ -45,9 +45,9 @@ impl<C: NetworkBits + Copy, V> LpmTable<C, V> {
 /// # use cidr::{errors::*, *};
 /// # use cidr_table::{alloc::*, *};
 /// # type Routes = LpmTable<Ipv4Cidr, u32>;
-/// let mut networks = ["10.0.0.0/9".parse::<Ipv4Cidr>()?, "10.128.0.0/9".parse()?, "192.0.2.0/24".parse()?];
-/// let count = least_cover_in_place(&mut networks);
-/// assert_eq!(format!("{:?}", &networks[..count]), "[10.0.0.0/8, 192.0.2.0/24]");
+/// let mut networks: [Ipv4Cidr; 2] = ["10.0.0.0/9".parse()?, "10.128.0.0/9".parse()?];
+/// assert_eq!(least_cover_in_place(&mut networks), 1);
+/// assert_eq!(format!("{:?}", networks.first()), "Some(10.0.0.0/8)");
 /// # Ok::<(), Box<dyn std::error::Error>>(())
 /// ```
 pub fn least_cover_in_place<C: NetworkBits + Copy>(networks: &mut [C]) -> usize {

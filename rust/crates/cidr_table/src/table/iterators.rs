@@ -169,6 +169,7 @@ impl<C: NetworkBits + Copy, V> IntoIterator for LpmTable<C, V> {
     }
 }
 
+/// Two tables are equal if they have the same keys, each with an equal value. O(n).
 impl<C: NetworkBits + Copy, V: PartialEq> PartialEq for LpmTable<C, V> {
     #[inline]
     fn eq(&self, other: &LpmTable<C, V>) -> bool {
