@@ -19,9 +19,9 @@ pub trait Arguments {
     /// The bytes of each argument, if they are told.
     ghost told: { Self → Option (List (List ℕ)) };
 
-    /// Copies the argument at this index, from 0 on, to the start of `buf`, and returns its length in bytes. The errors
-    /// are `NotPresent` past the last argument, and `TooLong` where `buf` has no room for all of it. The caller has to
-    /// prove that the index is below 2^64 - 1.
+    /// Copies the argument at this index, from 0 on and without the program's name, to the start of `buf`, and returns
+    /// its length in bytes. The errors are `NotPresent` past the last argument, and `TooLong` where `buf` has no room
+    /// for all of it. The caller has to prove that the index is below 2^64 - 1.
     fn copy_to(&self, place: usize, buf: &mut [u8]) -> Result<usize, FillError>
         requires { place < 18446744073709551615 }
         ensures bound { WritesAtMost result buf.new }

@@ -51,8 +51,7 @@ fn feed_in(text: &[u8]) -> Option<usize>
     None
 }
 
-/// Whether a line has more than [`MOST_BYTES`] bytes. Of a line of a [`LineReader`] that says that not all of it is
-/// there.
+/// Whether a line has more than [`MOST_BYTES`] bytes. Of such a line a [`LineReader`] has the first ones alone.
 pub fn is_too_long(line: &[u8]) -> bool
     ensures { Decides result (IsTooLong line.now) }
 {
@@ -179,7 +178,8 @@ fn new_chunk<M: Memory>(memory: &mut M) -> Result<Vec<u8>, AllocError>
 }
 
 /// The bytes of a source, to its end, in memory that grows with them; it is read by 64 KiB at once. The error is the
-/// first: `Failed` where a read of the source fails, or `NoMemory`, which `memory` remembers.
+/// first: `Failed` where a read of the source fails, or `NoMemory`, which `memory` remembers. What was read before it
+/// is lost.
 pub fn read_to_end<M: Memory, S: Source + Drop>(
     memory: &mut M,
     source: S,
@@ -233,9 +233,11 @@ impl<S: Source + Drop> Model for LineReader<S> {
 }
 
 impl<S: Source + Drop> LineReader<S> {
-    /// Over a source, of which nothing is read yet: it is at no line. The error is `NoMemory`, for the room of 64 KiB.
+    /// A reader of a source, of which nothing is read yet: it is at no line. The error is `NoMemory`, for the room of
+    /// 64 KiB.
     pub fn new<M: Memory>(memory: &mut M, source: S) -> Result<LineReader<S>, ReadError>
         ensures left { IfOk result (λ reader. reader.left ≡ S.left source) }
+        ensures line { IfOk result (λ reader. reader.line ≡ []) }
         ensures refused { IfErr result (λ e. (e ≡ NoMemory) × (M.refused memory.new ≡ true)) }
     {
         let chunk = new_chunk(memory)?;
@@ -261,6 +263,7 @@ impl<S: Source + Drop> LineReader<S> {
             (λ text. IsNextLine text self.new.line more self.new.left)) }
         ensures failed { IfErr result (λ e. e ≡ Failed → MayFail self.old.left) }
         ensures refused { IfErr result (λ e. e ≡ NoMemory → M.refused memory.new ≡ true) }
+        ensures stopped { OnErr result (self.new.line ≡ []) }
     {
         let (next, ahead) = (self.next, self.ahead);
         self.start = 0;

@@ -14,22 +14,26 @@ pub trait Memory {
     /// The allocator, for what needs no room yet.
     fn alloc(&self) -> Global;
 
-    /// Makes room for `more` items, which stay as they are. An error is an allocation that was refused.
+    /// Makes room for `more` items behind those that are there, which stay as they are. An error is an allocation that
+    /// was refused, and is remembered.
     fn reserve<T>(&mut self, items: &mut Vec<T>, more: usize) -> Result<(), AllocError>
         ensures items { items.new.items ≡ items.old.items }
         ensures room { OnOk result (vec_len items.new + more ≤ vec_capacity items.new) }
         ensures kept { OnOk result (refused self.new ≡ refused self.old) }
         ensures refused { OnErr result (refused self.new ≡ true) };
 
-    /// What a call has made that allocates from `alloc`, and whose only error is an allocation that was refused: it is
-    /// remembered.
+    /// Passes on what a call has returned that allocates from `alloc`, and whose only error is an allocation that was
+    /// refused; the error is remembered.
     fn watch<T>(&mut self, made: Result<T, AllocError>) -> Result<T, AllocError>
         ensures made { result ≡ made }
+        ensures kept { OnOk result (refused self.new ≡ refused self.old) }
         ensures refused { OnErr result (refused self.new ≡ true) };
 
-    /// Appends an item. An error is an allocation that was refused, and the item is dropped.
+    /// Appends an item. An error is an allocation that was refused: the item is dropped, and the others stay as they are.
     fn push<T: Drop>(&mut self, items: &mut Vec<T>, item: T) -> Result<(), AllocError>
         ensures pushed { OnOk result (items.new.items ≡ items.old.items ++ item ∷ []) }
+        ensures items { OnErr result (items.new.items ≡ items.old.items) }
+        ensures kept { OnOk result (refused self.new ≡ refused self.old) }
         ensures refused { OnErr result (refused self.new ≡ true) }
     {
         self.reserve(items, 1)?;
@@ -56,7 +60,7 @@ impl Model for Heap {
 }
 
 impl Heap {
-    /// Of which nothing was refused yet.
+    /// The memory of a run, of which nothing was refused yet.
     pub fn new(alloc: Global) -> Self
         ensures { result ≡ false }
     {

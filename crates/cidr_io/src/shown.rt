@@ -23,11 +23,7 @@ fn hex_digit(value: u8) -> char
     ensures digit { result ≡ digit_char value }
     ensures ascii { result < 128 }
 {
-    if value < 10 {
-        char::from(b'0' + value)
-    } else {
-        char::from(b'a' + (value - 10))
-    }
+    char::from_digit(u32::from(value), 16).unwrap()
 }
 
 /// `\x` and two hexadecimal digits.
@@ -105,7 +101,8 @@ fn cut_bytes(bytes: &[u8]) -> ArrayString<42>
 }
 
 /// A string in at most 40 bytes and two dots where it goes on, in which a control character is `\x` and its code in two
-/// hexadecimal digits: for a message, which it can neither end nor make another.
+/// hexadecimal digits: so that it neither ends the line of a message nor writes one of its own. A character that turns
+/// the direction of writing stays.
 pub fn excerpt(text: &str) -> ArrayString<42>
     ensures text { result.bytes ≡ excerpt text.now }
     ensures clean { HasNoControl result.bytes }
@@ -113,7 +110,8 @@ pub fn excerpt(text: &str) -> ArrayString<42>
     cut_text(text)
 }
 
-/// The same of a string that is not UTF-8: each byte outside of 32 to 126 is `\x` and two hexadecimal digits.
+/// What `excerpt` shows, of a string that is not UTF-8: each byte outside of 32 to 126 is `\x` and two hexadecimal
+/// digits, as `\xff`.
 pub fn byte_excerpt(bytes: &[u8]) -> ArrayString<42>
     ensures text { result.bytes ≡ byte_excerpt bytes.now }
     ensures clean { HasNoControl result.bytes }

@@ -59,7 +59,7 @@ impl<W: Write> Model for Tracked<W> {
 }
 
 impl<W: Write> Tracked<W> {
-    /// Over this writer, not failed yet.
+    /// A sink over this writer, which has not failed yet.
     pub fn new(out: W) -> Self
         ensures { result ≡ record { writer = out; has_failed = false; is_closed = false } }
     {

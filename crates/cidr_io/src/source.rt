@@ -1,5 +1,6 @@
 //! What a program reads from: a source that may give a part of what it is asked for, and may fail.
-ghost use Rattle.std.specs.Prelude.{ℕ, List, Option, ◌≤◌, length, IfSome};
+ghost use Rattle.std.specs.Prelude.{◌≡◌, ℕ, List, Option, ◌<◌, ◌≤◌, length, take, IfSome, MatchOption};
+ghost use Rattle.std.specs.Io.KnownBytes.{Consumes, IsAtEnd, Keeps};
 ghost use Rattle.cidr_io.specs.Lines.{Gives};
 
 use std::io;
@@ -35,11 +36,14 @@ impl Source for &[u8] {
 const TRIES: usize = 1_000_000;
 
 /// Reads bytes of a reader to the start of `buf`, again where a signal interrupts it; `None` is a read that failed, or
-/// that was interrupted a million times.
+/// that was interrupted a million times, and nothing was read.
 pub fn read_uninterrupted<R: Read>(reader: &mut R, buf: &mut [u8]) -> Option<usize>
-    ensures { IfSome result (λ n. n ≤ length buf.new) }
+    ensures fits { IfSome result (λ n. n ≤ length buf.new) }
+    ensures bytes { MatchOption result (Keeps (R.remaining reader.old) (R.remaining reader.new))
+        (λ n. Consumes (R.remaining reader.old) (R.remaining reader.new) (take n buf.new)) }
+    ensures end { IfSome result (λ n. n ≡ 0 → 0 < length buf.new → IsAtEnd (R.remaining reader.new)) }
 {
-    for _ in 0..TRIES {
+    for _tries in 0..TRIES {
         match reader.read(buf) {
             Ok(count) => return Some(count),
             Err(e) if e.kind() == io::ErrorKind::Interrupted => {}
