@@ -4,6 +4,7 @@ ghost use Rattle.cidr.specs.either.IpAddress.{TellsEqual};
 
 use cidr::AddrParseError;
 use cidr::errors::NetworkParseError;
+use cidr_io::sink::OutputFailed;
 
 /// Why an argument was rejected.
 #[derive(Debug, Drop, PartialEq)]
@@ -44,6 +45,16 @@ impl From<AddrParseError> for ToolError {
 
     fn from(e: AddrParseError) -> ToolError {
         ToolError::Refused(Fault::Address(e))
+    }
+}
+
+impl From<OutputFailed> for ToolError {
+    ghost use Rattle.cidr_tool.specs.declared.errors.ToolError.TheVariants.{Output};
+
+    ghost from_gives = { λ _ t. t ≡ Output };
+
+    fn from(_error: OutputFailed) -> ToolError {
+        ToolError::Output
     }
 }
 

@@ -9,7 +9,6 @@ mod run;
 #[cfg(test)]
 mod tests;
 mod walks;
-mod writing;
 
 use cidr_io::arguments::Given;
 use cidr_io::memory::Heap;

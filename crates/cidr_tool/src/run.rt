@@ -9,31 +9,13 @@ ghost use Rattle.cidr_tool.specs.Answer.{Answers, AnswersRequest, Show, Holds, C
 use crate::commands::{Command, command_of};
 use crate::errors::ToolError;
 use crate::walks::{Ends, write_walk};
-use crate::writing::write_text;
 use arrayvec::ArrayString;
 use cidr::parsers::parse_loose_ip;
 use cidr::{AnyIpCidr, Family, IpAddr, IpCidr};
 use cidr_io::sink::Sink;
+use cidr_io::writing::write_text;
+use itoa::Buffer;
 use std::cmp::Ordering;
-
-/// The number in decimal.
-#[tactic(auto, using(cidr::specs::laws::DecimalLaws::decimal_laws))]
-fn decimal_text(n: u8) -> ArrayString<3>
-    ensures { result.bytes ≡ decimal n }
-{
-    let mut text = ArrayString::new();
-    if n >= 100 {
-        text.push(char::from(b'0' + n / 100));
-        text.push(char::from(b'0' + n / 10 % 10));
-        text.push(char::from(b'0' + n % 10));
-    } else if n >= 10 {
-        text.push(char::from(b'0' + n / 10));
-        text.push(char::from(b'0' + n % 10));
-    } else {
-        text.push(char::from(b'0' + n));
-    }
-    text
-}
 
 /// The most bytes of an answer to `show`: 44 of names and line feeds, 43 of the network, three addresses of 39, a
 /// length of 3 and a family of 4.
@@ -74,7 +56,7 @@ fn shown_network(text: &str, network: &IpCidr) -> Shown
     push_line(
         &mut shown,
         "length ",
-        decimal_text(network.network_length()).as_str(),
+        Buffer::new().format(network.network_length()),
     );
     push_line(&mut shown, "family ", family_name(network.family()));
     shown
@@ -109,7 +91,7 @@ fn show<S: Sink>(net: &str, out: &mut S) -> Result<(), ToolError>
     ensures { AnswersRequest (Show net.now) (S.state out.old) (S.state out.new) result }
 {
     let network = net.parse::<AnyIpCidr>()?;
-    write_text(out, shown(&network).as_str())
+    Ok(write_text(out, shown(&network).as_str())?)
 }
 
 /// The command `in`.
@@ -118,7 +100,7 @@ fn holds<S: Sink>(net: &str, text: &str, out: &mut S) -> Result<(), ToolError>
 {
     let holder = net.parse::<AnyIpCidr>()?;
     let address = text.parse::<IpAddr>()?;
-    write_text(out, yes_or_no(holder.contains(&address)))
+    Ok(write_text(out, yes_or_no(holder.contains(&address)))?)
 }
 
 /// The line that answers a question of yes or no.
@@ -134,7 +116,7 @@ fn compare<S: Sink>(left: &str, right: &str, out: &mut S) -> Result<(), ToolErro
 {
     let first = left.parse::<AnyIpCidr>()?;
     let second = right.parse::<AnyIpCidr>()?;
-    write_text(out, order_name(order_of(&first, &second)))
+    Ok(write_text(out, order_name(order_of(&first, &second)))?)
 }
 
 /// The order of two networks, which is that of their bits.
@@ -172,11 +154,7 @@ fn hex_digit(digit: u8) -> char
     ensures value { result ≡ digit_char digit }
     ensures ascii { result < 128 }
 {
-    if digit < 10 {
-        char::from(b'0' + digit)
-    } else {
-        char::from(b'a' + (digit - 10))
-    }
+    char::from_digit(u32::from(digit), 16).unwrap()
 }
 
 /// Appends the two digits of a byte.
@@ -206,7 +184,7 @@ fn bytes<S: Sink>(net: &str, out: &mut S) -> Result<(), ToolError>
     ensures { AnswersRequest (Bytes net.now) (S.state out.old) (S.state out.new) result }
 {
     let value = net.parse::<AnyIpCidr>()?;
-    write_text(out, hex_line(value.to_compact().as_slice()).as_str())
+    Ok(write_text(out, hex_line(value.to_compact().as_slice()).as_str())?)
 }
 
 /// The longest string of an address, and a line feed.
@@ -227,7 +205,7 @@ fn loose<S: Sink>(text: &str, out: &mut S) -> Result<(), ToolError>
     ensures { AnswersRequest (Loose text.now) (S.state out.old) (S.state out.new) result }
 {
     let address = parse_loose_ip(text)?;
-    write_text(out, address_line(&address).as_str())
+    Ok(write_text(out, address_line(&address).as_str())?)
 }
 
 /// Answers the program's arguments, which come without its name.

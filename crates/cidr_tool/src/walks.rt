@@ -8,10 +8,10 @@ ghost use Rattle.cidr_tool.specs.Writing.{IsAnswerWritten};
 ghost use Rattle.cidr.specs.declared.inet_iterator.driving.End.{End as AnEnd};
 
 use crate::errors::ToolError;
-use crate::writing::write_text;
 use arrayvec::ArrayString;
 use cidr::{End, IpAddr, IpCidr, drive};
 use cidr_io::sink::Sink;
+use cidr_io::writing::write_text;
 use std::marker::Model;
 
 /// The most ends that an argument names.
@@ -113,5 +113,5 @@ pub fn write_walk<S: Sink>(network: &IpCidr, ends: &[End], out: &mut S) -> Resul
     let mut walk = network.iter().addresses();
     drive(&mut walk, ends, answers);
     let lines = lines_of(answers);
-    write_text(out, lines.as_str())
+    Ok(write_text(out, lines.as_str())?)
 }
