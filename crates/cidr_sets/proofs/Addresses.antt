@@ -18,6 +18,11 @@ pub one_list : (w : ℕ) (these those : List (List Bool)) → IsReduced w these 
     → CoverSame w these those → these ≡ those
 one_list w r s h k same = one_cover w r r s h (least_alike w s r s (back w r s same) k)
 
+-- a set of the same addresses is the same list
+pub same_sets : (w : ℕ) (P : List Bool → Type 0) (these those : List (List Bool)) → IsSetOf w P these → IsSetOf w P those → these ≡ those
+same_sets w P r s h k = one_list w r s h.reduced k.reduced
+    (λ a la. (λ c. (k.exact a la).1 ((h.exact a la).0 c), λ c. (h.exact a la).1 ((k.exact a la).0 c)))
+
 pub none_reduced : (w : ℕ) → IsReduced w []
 unfolding IsStrictlySortedBy
 none_reduced w = reduced_is_least w [] tt (λ p c. absurd (contains_nothing p c)) (λ q c d. contains_nothing _ c)

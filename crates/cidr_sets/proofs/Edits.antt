@@ -1,5 +1,6 @@
 -- A set with the addresses of one network more, or without them.
-use Rattle.std.proofs.Common.{◌≡◌, ◌↔◌, ◌⊎◌, ◌<◌, ◌≤◌, Bool, true, false, List, [], ◌∷◌, ◌++◌, length, get_or, refl, sym, ap, ◌∙◌, subst, arith, inl, inr}
+use Rattle.std.proofs.Common.{◌≡◌, ◌↔◌, ◌⊎◌, ℕ, ◌<◌, ◌≤◌, Bool, true, false, List, [], ◌∷◌, ◌++◌, length, take, drop, map, length-append, length-drop, get_or, refl, sym, ap, ◌∙◌, subst, arith, inl, inr}
+use Rattle.std.proofs.lemmas.List.{length-map, length-take-le}
 use Rattle.std.proofs.lemmas.Bool.{cases_lt}
 use Rattle.std.proofs.lemmas.List.Elements.{Contains-append_cases, Contains-append_left, Contains-append_right, Contains-push, Contains-push_cases}
 use Rattle.std.specs.List.{Contains}
@@ -16,8 +17,9 @@ use Rattle.cidr_table.proofs.Order.{before_whole, between_halves, halves_less, l
 use Rattle.cidr_table.proofs.Reduced.{HaveNoHalves, HoldNoOther, reduced_is_least}
 use Rattle.cidr_table.proofs.Stacks.{IsSpread, last_behind, reduced_from_spread, spread_from_reduced, spread_push}
 use Rattle.cidr_sets.specs.Edits.{IsAlone, IsBeside, IsHalf, IsParted}
-use Rattle.cidr_sets.specs.Sets.{IsDifference, IsUnion}
+use Rattle.cidr_sets.specs.Sets.{IsDifference, IsSetOf, IsUnion}
 use Rattle.cidr_sets.specs.Steps.{Ascend, IsBehind, IsDifferenceStep}
+use Rattle.cidr_sets.proofs.Addresses.{same_sets}
 use Rattle.cidr_sets.proofs.Algebra.{covers_within}
 use Rattle.cidr_sets.proofs.Cuts.{member_of_rest}
 use Rattle.cidr_sets.proofs.Members.{IsMemberOf, set_of_members}
@@ -431,3 +433,22 @@ module _ (s : List (List Bool)) (h : IsReduced 129 s) (p : List Bool) (short : l
     reduced = h;
     exact = λ a la. (λ d. inl d, λ d. elim d [ inl e ↦ e | inr e ↦ covers_within s a p ((one_covers p a).0 e) c ]);
   }
+
+-- a set in which one network takes the place of none has one network more
+pub one_more : {C : Type 0} (f : C → List Bool) (xs : List C) (at : ℕ) (q : List Bool) (P : List Bool → Type 0) (set : List (List Bool)) → at ≤ length xs
+    → IsSetOf 129 P (map f (take at xs) ++ q ∷ [] ++ map f (drop at xs)) → IsSetOf 129 P set → length xs < length set
+one_more f xs at q P set fits h told =
+    let front = map f (take at xs) in
+    let back = map f (drop at xs) in
+    let same : front ++ q ∷ [] ++ back ≡ set = same_sets 129 P (front ++ q ∷ [] ++ back) set h told in
+    let whole : length (front ++ q ∷ [] ++ back) ≡ length set = ap length same in
+    omega (
+      arith,
+      whole,
+      length-append (front ++ q ∷ []) back,
+      length-append front (q ∷ []),
+      length-map (take at xs) f,
+      length-map (drop at xs) f,
+      length-take-le at xs fits,
+      length-drop at xs,
+    )

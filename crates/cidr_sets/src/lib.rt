@@ -4,9 +4,10 @@
 //! which a set has addresses of both families. [`NetworkSet`] keeps them in a `Vec`, [`slices`] has some of its calls
 //! in memory of the caller, and [`access`] tells what an access list permits.
 //!
-//! A look-up in n networks takes one or two binary searches, O(log n), and no memory. `union`, `intersection` and
-//! `difference` go through both sets once, and allocate room for their result. `insert` and `remove` move the networks
-//! behind, O(n). A call that returns `AllocError` has changed nothing.
+//! A look-up in n networks takes one or two binary searches, O(log n), and no memory. What counts addresses or finds
+//! free networks looks at each network, O(n). `union`, `intersection` and `difference` go through both sets once, and
+//! allocate room for their result. `insert` and `remove` move the networks behind, O(n). A call that returns
+//! `AllocError` has changed nothing.
 #![tactic(auto)]
 
 pub mod access;

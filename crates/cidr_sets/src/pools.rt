@@ -11,12 +11,13 @@ ghost use Rattle.cidr_sets.specs.PoolLaws.{plain_room, any_room_exact};
 use crate::set::NetworkSet;
 use cidr::{AnyIpCidr, BitString, Ipv4Cidr, Ipv6Cidr, NetworkBits};
 
-/// Networks of which it is known how long those inside them are. `Ipv4Cidr`, `Ipv6Cidr` and `AnyIpCidr` implement it.
+/// Networks of which it is known how long those inside them can be, for the calls of a set that find free networks.
+/// `Ipv4Cidr`, `Ipv6Cidr` and `AnyIpCidr` implement it.
 pub trait Subnets: NetworkBits {
     /// Whether a list of bits is that of a network.
     ghost IsNetwork: { List Bool → Type 0 };
 
-    /// No network inside another one is longer than `room` of that lets.
+    /// A network inside another one has at most as many bits more as the `room` of that one tells.
     ghost deepest: { (q : Self) → IsRoom IsNetwork (Self.bits q) (Self.room q) };
 }
 

@@ -48,16 +48,28 @@ pub trait Addressed: NetworkBits {
     ghost addresses: { HaveEnds IsAddress first_bits last_bits };
 
     /// The network that has only this address.
+    ///
+    /// ```
+    /// Ipv4Cidr::single(Ipv4Addr::new(192, 0, 2, 1)) // 192.0.2.1
+    /// ```
     fn single(address: Self::Address) -> Self
         ensures bits { Self.bits result ≡ address_bits address }
         ensures address { IsAddress (address_bits address) }
         ensures long { 32 ≤ length (address_bits address) };
 
     /// The lowest address of the network; of `Any` that is 0.0.0.0.
+    ///
+    /// ```
+    /// "192.0.2.0/24".parse::<Ipv4Cidr>()?.lowest() // 192.0.2.0
+    /// ```
     fn lowest(&self) -> Self::Address
         ensures { address_bits result ≡ first_bits (Self.bits self.now) };
 
     /// The highest address of the network; of `Any` that is ffff:ffff:ffff:ffff:ffff:ffff:ffff:ffff.
+    ///
+    /// ```
+    /// "192.0.2.0/24".parse::<Ipv4Cidr>()?.highest() // 192.0.2.255
+    /// ```
     fn highest(&self) -> Self::Address
         ensures { address_bits result ≡ last_bits (Self.bits self.now) };
 }
@@ -234,7 +246,8 @@ pub struct AddressRange<A: Copy> {
     pub last: A,
 }
 
-/// The longest ranges of a set that are left, ascending. The call `ranges` makes it.
+/// The longest ranges of a set that are left, ascending. The call `ranges` makes it. A step goes through the networks
+/// of one range, and allocates nothing.
 #[derive(Drop)]
 pub struct Ranges<'a, C: Addressed + Copy> {
     networks: &'a [C],

@@ -28,6 +28,7 @@ pub(crate) fn put<C: Copy>(
     requires within { to ≤ length elements.old.items }
     ensures ok { OnOk result (elements.new.items ≡ take from elements.old.items ++ new ∷ [] ++ drop to elements.old.items) }
     ensures err { OnErr result (elements.new.items ≡ elements.old.items) }
+    ensures grows { OnErr result (from ≡ to) }
 {
     if from == to {
         elements.insert(from, new)?;

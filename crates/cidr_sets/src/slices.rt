@@ -26,6 +26,14 @@ use std::cmp::Ordering;
 ///
 /// The caller has to prove that `out` has room for as many networks as both sets have together, and that these are in
 /// normal form. The contract leaves open what is in `out` after the networks. It goes through both sets once.
+///
+/// ```
+/// let these = ["10.0.0.0/9".parse::<Ipv4Cidr>()?];
+/// let those = ["10.128.0.0/9".parse()?, "192.0.2.0/24".parse()?];
+/// let mut out = [Ipv4Cidr::null(); 3];
+/// slices::union(&these, &those, &mut out) // 2
+/// &out[..2] // [10.0.0.0/8, 192.0.2.0/24]
+/// ```
 pub fn union<C: NetworkBits + Copy>(these: &[C], those: &[C], out: &mut [C]) -> usize
     requires these { IsReduced 129 (map C.bits these.now) }
     requires those { IsReduced 129 (map C.bits those.now) }
@@ -41,8 +49,16 @@ pub fn union<C: NetworkBits + Copy>(these: &[C], those: &[C], out: &mut [C]) -> 
 /// they are.
 ///
 /// The caller has to prove that `out` has room for one network less than both sets have together, and that these are in
-/// normal form. The contract leaves open what is in `out` after the networks. It goes through both sets once, with as
-/// many steps at most as they have networks.
+/// normal form. The contract leaves open what is in `out` after the networks. It goes through both sets once, in at
+/// most as many steps as both have networks.
+///
+/// ```
+/// let these = ["10.0.0.0/8".parse::<Ipv4Cidr>()?];
+/// let those = ["10.1.0.0/16".parse()?, "192.0.2.0/24".parse()?];
+/// let mut out = [Ipv4Cidr::null(); 2];
+/// slices::intersection(&these, &those, &mut out) // 1
+/// &out[..1] // [10.1.0.0/16]
+/// ```
 pub fn intersection<C: NetworkBits + Copy>(these: &[C], those: &[C], out: &mut [C]) -> usize
     requires these { IsReduced 129 (map C.bits these.now) }
     requires those { IsReduced 129 (map C.bits those.now) }

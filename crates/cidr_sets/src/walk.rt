@@ -24,18 +24,30 @@ pub trait AddressSpace: NetworkBits {
     ghost address_bits: { Self.Address → List Bool };
 
     /// The numbers of the first and the last address of a network, as `to_number` has them.
+    ///
+    /// ```
+    /// "192.0.2.0/24".parse::<Ipv4Cidr>()?.ends() // (3221225984, 3221226239)
+    /// ```
     fn ends(&self) -> (u128, u128)
         ensures first { result.0 ≡ number (first_of (width_of family) (Self.bits self.now)) }
         ensures last { result.1 ≡ number (last_of (width_of family) (Self.bits self.now)) }
         ensures fits { length (Self.bits self.now) ≤ width_of family };
 
     /// The number of an address, whose most significant bits are those of the first octet.
+    ///
+    /// ```
+    /// Ipv4Cidr::to_number(Ipv4Addr::new(192, 0, 2, 1)) // 3221225985
+    /// ```
     fn to_number(address: Self::Address) -> u128
         ensures value { result ≡ number (address_bits address) }
         ensures width { length (address_bits address) ≡ width_of family };
 
     /// The address with this number. The caller has to prove that it is below 2^32 in IPv4, or below 2^128 in IPv6, as
     /// each `u128` is.
+    ///
+    /// ```
+    /// Ipv4Cidr::from_number(3221225985) // 192.0.2.1
+    /// ```
     fn from_number(value: u128) -> Self::Address
         requires { value < 2 ^ width_of family }
         ensures { address_bits result ≡ bits (width_of family) value };

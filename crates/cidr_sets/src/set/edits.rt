@@ -1,5 +1,5 @@
 //! Adding a network and taking one out, in the memory of the set.
-ghost use Rattle.std.specs.Prelude.{◌≡◌, ◌∷◌, [], length, map, IsOk, OnOk, OnErr};
+ghost use Rattle.std.specs.Prelude.{◌≡◌, ◌<◌, ◌∷◌, [], Bool, List, length, map, IsOk, OnOk, OnErr};
 ghost use Rattle.cidr_table.specs.Cover.{Covers, IsReduced};
 ghost use Rattle.cidr_sets.specs.Sets.{IsUnion, IsDifference};
 
@@ -28,6 +28,8 @@ impl<C: NetworkBits + Copy> NetworkSet<C> {
         ensures ok { OnOk result (IsUnion 129 (map C.bits self.old) (C.bits network ∷ []) (map C.bits self.new)) }
         ensures err { OnErr result (self.new ≡ self.old) }
         ensures held { Covers (map C.bits self.old) (C.bits network) → IsOk result }
+        ensures grows { OnErr result ((set : List (List Bool))
+            → IsUnion 129 (map C.bits self.old) (C.bits network ∷ []) set → length self.old < length set) }
     {
         known(&network);
         if covers(self.as_slice(), &network) {

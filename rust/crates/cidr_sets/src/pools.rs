@@ -3,7 +3,8 @@
 use crate::set::NetworkSet;
 use cidr::{AnyIpCidr, BitString, Ipv4Cidr, Ipv6Cidr, NetworkBits};
 
-/// Networks of which it is known how long those inside them are. `Ipv4Cidr`, `Ipv6Cidr` and `AnyIpCidr` implement it.
+/// Networks of which it is known how long those inside them can be, for the calls of a set that find free networks.
+/// `Ipv4Cidr`, `Ipv6Cidr` and `AnyIpCidr` implement it.
 pub trait Subnets: Sized + NetworkBits {}
 
 impl Subnets for Ipv4Cidr {}

@@ -180,7 +180,8 @@ pub struct AddressRange<A: Copy> {
     pub last: A,
 }
 
-/// The longest ranges of a set that are left, ascending. The call `ranges` makes it.
+/// The longest ranges of a set that are left, ascending. The call `ranges` makes it. A step goes through the networks
+/// of one range, and allocates nothing.
 pub struct Ranges<'a, C: Addressed + Copy> {
     networks: &'a [C],
 }

@@ -18,6 +18,7 @@ mod edits;
 ///
 /// No network of the list contains another, and no two are the halves of one. Two sets have the same addresses exactly
 /// if their lists are equal. Of `AnyIpCidr`, a set has addresses of both families. It keeps nothing but its networks.
+/// Sets are ordered as their lists are: by the first network that differs, and a beginning of another list comes first.
 pub struct NetworkSet<C: NetworkBits + Copy> {
     networks: Vec<C>,
 }
@@ -42,9 +43,8 @@ impl<C: NetworkBits + Copy> NetworkSet<C> {
     /// The set of the addresses of some networks, which may come in any order, overlap and repeat.
     ///
     /// It allocates room for as many networks as there are, once, and sorts them: O(n log n), some 70 ns for each of a
-    /// million of IPv4, and 15 to 20 where they ascend. It joins the networks of many lists or sets, one behind the
-    /// other: those of 16 take 0.3 to 0.7 of the time of 15 unions in turn. Where the allocation fails, it returns the
-    /// error.
+    /// million of IPv4, and 15 to 20 where they ascend. Of many lists or sets, take the networks one behind the other:
+    /// that of 16 takes 0.3 to 0.7 of the time of 15 unions in turn. Where the allocation fails, it returns the error.
     ///
     /// ```
     /// # use cidr::*;

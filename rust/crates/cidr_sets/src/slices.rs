@@ -23,8 +23,8 @@ use core::cmp::Ordering;
 /// let these = ["10.0.0.0/9".parse::<Ipv4Cidr>()?];
 /// let those = ["10.128.0.0/9".parse()?, "192.0.2.0/24".parse()?];
 /// let mut out = [Ipv4Cidr::null(); 3];
-/// let count = slices::union(&these, &those, &mut out);
-/// assert_eq!(format!("{:?}", &out[..count]), "[10.0.0.0/8, 192.0.2.0/24]");
+/// assert_eq!(slices::union(&these, &those, &mut out), 2);
+/// assert_eq!(format!("{:?}", &out[..2]), "[10.0.0.0/8, 192.0.2.0/24]");
 /// # Ok::<(), Box<dyn std::error::Error>>(())
 /// ```
 #[inline]
@@ -38,8 +38,8 @@ pub fn union<C: NetworkBits + Copy>(these: &[C], those: &[C], out: &mut [C]) -> 
 /// they are.
 ///
 /// The caller has to ensure that `out` has room for one network less than both sets have together, and that these are in
-/// normal form. The contract leaves open what is in `out` after the networks. It goes through both sets once, with as
-/// many steps at most as they have networks.
+/// normal form. The contract leaves open what is in `out` after the networks. It goes through both sets once, in at
+/// most as many steps as both have networks.
 ///
 /// ```
 /// # use cidr::*;
@@ -48,8 +48,8 @@ pub fn union<C: NetworkBits + Copy>(these: &[C], those: &[C], out: &mut [C]) -> 
 /// let these = ["10.0.0.0/8".parse::<Ipv4Cidr>()?];
 /// let those = ["10.1.0.0/16".parse()?, "192.0.2.0/24".parse()?];
 /// let mut out = [Ipv4Cidr::null(); 2];
-/// let count = slices::intersection(&these, &those, &mut out);
-/// assert_eq!(format!("{:?}", &out[..count]), "[10.1.0.0/16]");
+/// assert_eq!(slices::intersection(&these, &those, &mut out), 1);
+/// assert_eq!(format!("{:?}", &out[..1]), "[10.1.0.0/16]");
 /// # Ok::<(), Box<dyn std::error::Error>>(())
 /// ```
 pub fn intersection<C: NetworkBits + Copy>(these: &[C], those: &[C], out: &mut [C]) -> usize {

@@ -1,7 +1,9 @@
-use Rattle.std.proofs.Common.{map, sym, subst}
+use Rattle.std.proofs.Common.{◌<◌, ◌++◌, ◌∷◌, [], List, length, take, drop, map, sym, subst, arith}
 use Rattle.std.proofs.lemmas.Bool.Decides.{not_from_Decides}
+use Rattle.std.proofs.lemmas.Result.{on_err_weaker}
 use Rattle.cidr_table.specs.Cover.{Covers}
-use Rattle.cidr_sets.proofs.Edits.{union_held}
+use Rattle.cidr_sets.specs.Sets.{IsUnion}
+use Rattle.cidr_sets.proofs.Edits.{one_more, union_held}
 use Rattle.cidr_sets.proofs.set.NetworkSet.insert.Goals as goal
 
 pub returns-then-covers-clause-ok : goal.returns-then-covers-clause-ok
@@ -24,3 +26,17 @@ returns-clause-held g c d =
     let f = g.C.BitString.bits in
     absurd (not_from_Decides c.covers.result c.covers.ensures c.if-covers.false
     (subst (λ l. Covers (map f l) (f c.args.network)) (sym c.as_slice.ensures.networks) d))
+
+pub returns-clause-grows : goal.returns-clause-grows
+returns-clause-grows g c =
+    let f = g.C.BitString.bits in
+    let p = f c.args.network in
+    let xs = c.as_slice-2.result.now in
+    let start = c.joined_with-whole.result.1 in
+    let q = f c.joined_with-whole.result.0 in
+    on_err_weaker c.put.result
+    (λ same set told. subst (λ (l : List _). length l < length set) c.as_slice-2.ensures.networks
+    (one_more f xs start q _ set (omega (arith, same, c.joined_with-whole.ensures.within))
+    (subst (λ k. IsUnion 129 (map f xs) (p ∷ []) (map f (take start xs) ++ q ∷ [] ++ map f (drop k xs))) (sym same) c.joined_with-whole.ensures.set)
+    (subst (λ l. IsUnion 129 (map f l) (p ∷ []) set) (sym c.as_slice-2.ensures.networks) told)))
+    c.put.ensures.grows
