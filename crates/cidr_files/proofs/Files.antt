@@ -7,7 +7,7 @@ use Rattle.cidr_arrays.specs.declared.key.Key.{Key}
 use Rattle.cidr_arrays.proofs.Longest.{row_within}
 use Rattle.cidr_arrays.proofs.Numbers.{length_networks}
 use Rattle.cidr.specs.model.Bits.{bits}
-use Rattle.cidr_files.specs.Contents.{AreContents, HasRows, key_addresses, counts_of, head_of, lengths_of, parts_written}
+use Rattle.cidr_files.specs.Contents.{AreContents, HasRows, HasZerosBetween, key_addresses, counts_of, head_of, lengths_of, parts_written}
 use Rattle.cidr_files.specs.Layout.{IsLaidOut, bytes_behind, counts_in, header, ipv4_counts, ipv4_parts, ipv4_sizes, ipv6_counts, ipv6_parts, ipv6_sizes, magic, parts_by_size, padded_room, sizes_of, version, wide_words, words}
 use Rattle.cidr_files.specs.Spelling.{length-spelled, length-wide_bytes, length-word_bytes, spells_wide, spells_words, wide_bytes, word_bytes, words-spelled}
 use Rattle.cidr_files.specs.Tables.{AreOffsets, IsFile, IsSmall, IsStoredTable, stored_networks}
@@ -47,6 +47,11 @@ module _ (a b : Counts) (ipv4 ipv6 : List (List ℕ)) (bytes : List ℕ) (below 
   parts_b =
       ap₂ parts_by_size size_b (ap₂ bytes_behind size_a behind_head ∙ (behind-joined ipv4 (joined_parts ipv6) ∙ sym (append-nil (joined_parts ipv6))))
       ∙ parts_of-joined ipv6 []
+
+  pub zeros_between : HasZerosBetween bytes
+  zeros_between =
+      is ∙ ap₂ (λ (ws ps : List ℕ). spelled word_bytes ws ++ ps) (ap₂ head_of (sym counts_a) (sym counts_b))
+      (ap₂ (λ (x y : List (List ℕ)). joined_parts x ++ joined_parts y) (sym parts_a) (sym parts_b))
 
   pub laid_out : IsLaidOut bytes
   laid_out = record {
@@ -203,7 +208,8 @@ module _ {A B : Type 0} (value_a : A → ℕ) (value_b : B → ℕ) (ipv4 : Cont
 
   module _ (bytes : List ℕ) (is : bytes ≡ spelled word_bytes (head_of (counts_of ipv4) (counts_of ipv6))
       ++ (joined_parts (parts_written value_a word_bytes ipv4) ++ joined_parts (parts_written value_b wide_bytes ipv6))) where
-    pub is_file : IsFile bytes × IsSmall bytes × HasRows words (ipv4_parts bytes) value_a ipv4.rows.now × HasRows wide_words (ipv6_parts bytes) value_b ipv6.rows.now
+    pub is_file : IsFile bytes × IsSmall bytes × HasRows words (ipv4_parts bytes) value_a ipv4.rows.now
+        × HasRows wide_words (ipv6_parts bytes) value_b ipv6.rows.now × HasZerosBetween bytes
     is_file =
         let a = counts_of ipv4 in
         let b = counts_of ipv6 in
@@ -234,4 +240,5 @@ module _ {A B : Type 0} (value_a : A → ℕ) (value_b : B → ℕ) (ipv4 : Cont
           },
           has4,
           has6,
+          zeros_between a b p4 p6 bytes head_below is s4 s6,
         )

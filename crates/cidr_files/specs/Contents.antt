@@ -1,13 +1,13 @@
 -- What is written in a file.
-use Rattle.std.specs.Prelude.{◌≡◌, ◌⊎◌, ℕ, ◌^◌, ◌<◌, ◌≤◌, List, [], ◌∷◌, Some, length, map, ⊤}
+use Rattle.std.specs.Prelude.{◌≡◌, ◌⊎◌, ℕ, ◌^◌, ◌<◌, ◌≤◌, List, [], ◌∷◌, ◌++◌, Some, length, map, ⊤}
 use Rattle.std.specs.Int.{from_le_bytes, w32}
 use Rattle.cidr_arrays.specs.Arrays.{AreAscendingNetworks, IsFirstRefused, Represents, key_networks}
 use Rattle.cidr_arrays.specs.declared.building.BuildError.TheVariants.{TooMany, Refused, NoRoom}
 use Rattle.cidr_arrays.specs.declared.key.Key.{Key}
-use Rattle.cidr_files.specs.Layout.{magic, version, wide_word}
+use Rattle.cidr_files.specs.Layout.{ipv4_counts, ipv4_parts, ipv6_counts, ipv6_parts, magic, version, wide_word}
 use Rattle.cidr_files.specs.Spelling.{word_bytes}
 use Rattle.cidr_files.specs.Tables.{AreOffsets, stored_networks, offsets_in, part_at}
-use Rattle.cidr_files.specs.Written.{spelled}
+use Rattle.cidr_files.specs.Written.{joined_parts, spelled}
 use Rattle.cidr_files.specs.declared.contents.Contents.{Contents}
 use Rattle.cidr_files.specs.declared.contents.Rows.{Rows}
 use Rattle.cidr_files.specs.declared.faults.WriteError.{WriteError}
@@ -29,6 +29,18 @@ pub record HasRows {W : Type 0} (numbers : List ℕ → List ℕ) (parts : List 
   pub networks_are : stored_networks numbers parts ≡ key_networks value rows.keys.now
   pub offsets_are : offsets_in parts ≡ rows.offsets.now
   pub values_are : part_at parts 6 ≡ rows.values.now
+
+-- the words of the header
+abbrev pub head_of : Counts → Counts → List ℕ
+head_of ipv4 ipv6 =
+    magic ∷ version ∷ 0 ∷ 0
+    ∷ ipv4.rows ∷ ipv4.ranges ∷ ipv4.entries ∷ ipv4.shift ∷ ipv4.values ∷ 0
+    ∷ ipv6.rows ∷ ipv6.ranges ∷ ipv6.entries ∷ ipv6.shift ∷ ipv6.values ∷ 0 ∷ []
+
+-- a file is its header and its parts, and all else in it is zeros: the words that are not read, and what is free behind a part
+abbrev pub HasZerosBetween : List ℕ → Type 0
+HasZerosBetween bytes =
+    bytes ≡ spelled word_bytes (head_of (ipv4_counts bytes) (ipv6_counts bytes)) ++ (joined_parts (ipv4_parts bytes) ++ joined_parts (ipv6_parts bytes))
 
 -- ---- rows that are not written
 -- the values lie one behind the other, an offset for each row and one more, in fewer than 2 ^ 32 bytes
@@ -67,13 +79,6 @@ counts_of contents = record {
   shift = contents.shift;
   values = length contents.rows.now.values.now;
 }
-
--- the words of the header
-abbrev pub head_of : Counts → Counts → List ℕ
-head_of ipv4 ipv6 =
-    magic ∷ version ∷ 0 ∷ 0
-    ∷ ipv4.rows ∷ ipv4.ranges ∷ ipv4.entries ∷ ipv4.shift ∷ ipv4.values ∷ 0
-    ∷ ipv6.rows ∷ ipv6.ranges ∷ ipv6.entries ∷ ipv6.shift ∷ ipv6.values ∷ 0 ∷ []
 
 -- the numbers of the addresses of keys, and their lengths
 abbrev pub key_addresses : {W : Type 0} → (W → ℕ) → List (Key W) → List ℕ

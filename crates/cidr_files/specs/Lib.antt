@@ -1,5 +1,5 @@
 -- What has to be believed: where the parts of a file lie (`Layout`), what they say (`Tables`), what is wrong with other bytes
--- (`Faults`) and what is written (`Contents`). `Written` is what private functions promise each other; `FaultLaws` and
+-- (`Faults`) and what is written (`Contents`, and of `Written` what a part is with the zeros behind it). `FaultLaws` and
 -- `Spelling` are checked and not believed.
 pub mod Layout
 pub mod Tables

@@ -1,4 +1,4 @@
--- Bytes as they are written: what private functions promise each other.
+-- Bytes as they are written.
 use Rattle.std.specs.Prelude.{ℕ, ◌-◌, ◌<◌, List, ◌++◌, length, replicate, slice_index_or}
 use Rattle.std.specs.List.{flat_map}
 use Rattle.cidr_files.specs.Layout.{padded}

@@ -2,7 +2,7 @@
 ghost use Rattle.std.specs.Prelude.{◌≡◌, ◌+◌, ◌^◌, ◌≤◌, IfErr, IfOk};
 ghost use Rattle.std.specs.Int.{from_le_bytes, w32};
 ghost use Rattle.cidr_files.specs.Built.{AreArraysOf};
-ghost use Rattle.cidr_files.specs.Contents.{AreContents, AreRowsRefused, HasRows, IsWriteRefused};
+ghost use Rattle.cidr_files.specs.Contents.{AreContents, AreRowsRefused, HasRows, HasZerosBetween, IsWriteRefused};
 ghost use Rattle.cidr_files.specs.Layout.{ipv4_parts, ipv6_parts, wide_word, wide_words, words};
 ghost use Rattle.cidr_files.specs.Tables.{IsFile, IsSmall};
 
@@ -15,11 +15,26 @@ use crate::writing::file_of;
 use cidr_arrays::{BuildError, build, fill_level};
 use std::alloc::Global;
 
-/// The bytes of a file of rows. The keys have to ascend and the values to lie one behind the other, in fewer than 2^32
-/// bytes.
+/// The bytes of a file of rows. It takes O(n) for n rows and a pass over the bytes, and allocates the bytes and the
+/// arrays of both tables.
 ///
-/// The error is the first of the IPv4 rows, or else of the IPv6 rows: too many keys, values that don't lie so, or the
-/// first key that is refused. `NoMemory` may come before any.
+/// The error is the first of the IPv4 rows, or else of the IPv6 rows: more than 2,147,483,647 keys; `Values`, where the
+/// values don't lie one behind the other, in fewer than 2^32 bytes; the first key that is no network or doesn't come
+/// after the one before it, with its index among the rows of its family. `NoMemory` may come before any.
+///
+/// ```
+/// let ipv4 = Rows {
+///     keys: &ipv4,
+///     offsets: &[0, 5, 10, 14],
+///     values: b"outerinnertest",
+/// };
+/// ```
+///
+/// With such rows of IPv6 as well:
+///
+/// ```
+/// written(alloc, &ipv4, &ipv6)
+/// ```
 pub fn written(
     alloc: Global,
     ipv4: &Rows<'_, Ipv4Bytes>,
@@ -27,6 +42,7 @@ pub fn written(
 ) -> Result<Vec<u8>, WriteError>
     ensures file { IfOk result (λ bytes. IsFile bytes.items) }
     ensures small { IfOk result (λ bytes. IsSmall bytes.items) }
+    ensures zeros { IfOk result (λ bytes. HasZerosBetween bytes.items) }
     ensures ipv4 { IfOk result (λ bytes. HasRows words (ipv4_parts bytes.items) (from_le_bytes w32) ipv4.now) }
     ensures ipv6 { IfOk result (λ bytes. HasRows wide_words (ipv6_parts bytes.items) wide_word ipv6.now) }
     ensures refused { IfErr result (IsWriteRefused ipv4.now ipv6.now) }

@@ -12,8 +12,14 @@ use crate::opening::open;
 use cidr_arrays::{Index, Key, Word};
 use std::alloc::{AllocError, Global};
 
-/// The tables of a file, which are checked: one pass over its bytes. The error is the first of those that [`Fault`] names,
-/// in its order.
+/// The tables of a file, by [`open`] and by [`check`](crate::check) of both: one pass over its bytes, and the memory of
+/// a check. The error is the first of those that [`Fault`] names, in its order.
+///
+/// ```
+/// let table = checked(rt.alloc(), file.as_slice())?;
+/// name(&table, Ipv4Addr::new(10, 1, 2, 3)) // Some("inner")
+/// name(&table, Ipv4Addr::new(192, 0, 3, 0)) // None
+/// ```
 pub fn checked(alloc: Global, bytes: &[u8]) -> Result<Table<'_>, Fault>
     ensures file { IfOk result (λ _. IsFile bytes.now) }
     ensures cut { IfOk result (IsTableCutFrom bytes.now) }
@@ -29,8 +35,11 @@ pub fn checked(alloc: Global, bytes: &[u8]) -> Result<Table<'_>, Fault>
     Ok(table)
 }
 
-/// Whether the parts are a table: the arrays are those of the keys, and the values lie one behind the other. It asks for
-/// memory for the keys, the answers and the first level.
+/// Whether the parts are a table: the arrays are those of the keys, and the values lie one behind the other. The error
+/// is the first of those that [`TableFault`] names, in its order, but that `NoMemory` may come before any.
+///
+/// It takes O(n) for n rows, and O(log n) for each entry of the first level. It allocates the keys, the answers and the
+/// first level, and frees them.
 pub fn check<W: Family>(alloc: Global, part: &Part<'_>) -> Result<(), TableFault>
     ensures table { IfOk result (λ _. IsStoredTable W.width W.numbers (parts_in part.now) part.now.shift) }
     ensures refused { IfErr result (IsTableFault W.width W.numbers (parts_in part.now) part.now.shift) }
@@ -93,7 +102,11 @@ fn numbers_of(alloc: Global, bytes: &[u8]) -> Result<Vec<u32>, AllocError>
     Ok(numbers)
 }
 
-/// Whether they are offsets of so many values, which lie one behind the other and have so many bytes.
+/// Whether offsets are those of so many values that lie one behind the other and have so many bytes together: there is
+/// one more of them than rows, the first is 0, none is below the one before it, and the last is the size. One pass, up
+/// to the first that is not so: O(n).
+///
+/// The caller has to prove that there are fewer than 2^63 rows.
 pub fn are_offsets<I: Index>(offsets: &[I], rows: usize, size: usize) -> bool
     requires { rows < 2 ^ 63 }
     ensures { IsTrue result ↔ AreOffsets (map I.place offsets.now) rows size }

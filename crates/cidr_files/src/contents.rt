@@ -10,7 +10,8 @@ use cidr_arrays::Key;
 pub struct Rows<'a, W> {
     /// The networks, by first address and then by length.
     pub keys: &'a [Key<W>],
-    /// Where the value of each begins, and last where they end.
+    /// Where the value of each begins among the values, in bytes from 0 on, and last where they end: one more than
+    /// keys.
     pub offsets: &'a [u32],
     /// The values, one behind the other.
     pub values: &'a [u8],
@@ -23,9 +24,9 @@ pub struct Contents<'a, W> {
     pub rows: &'a Rows<'a, W>,
     /// The first addresses of the ranges.
     pub starts: &'a [W],
-    /// The answers of these.
+    /// The answers of these, as `build` of `cidr_arrays` writes them.
     pub answers: &'a [u32],
-    /// The first level.
+    /// The first level, as `fill_level` of `cidr_arrays` writes it.
     pub level: &'a [u32],
     /// Its shift.
     pub shift: u32,

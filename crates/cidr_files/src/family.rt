@@ -7,10 +7,12 @@ ghost use Rattle.cidr_files.specs.Written.{AreBelow, spelled};
 use cidr_arrays::Word;
 use std::alloc::AllocError;
 
-/// The bytes of an IPv4 address in a file, the lowest first.
+/// The bytes of an IPv4 address in a file: its number, the least significant byte first, which is not network byte
+/// order. 192.0.2.1 is `[1, 2, 0, 192]`.
 pub type Ipv4Bytes = [u8; 4];
 
-/// The bytes of an IPv6 address in a file: its higher half and its lower one, of each the lowest byte first.
+/// The bytes of an IPv6 address in a file: the numbers of its first 64 bits and of its last 64, of each the least
+/// significant byte first.
 pub type Ipv6Bytes = [[u8; 8]; 2];
 
 /// A family of addresses, as files have them: [`Ipv4Bytes`] or [`Ipv6Bytes`].
@@ -24,11 +26,13 @@ pub trait Family: Word {
     /// How many these are.
     ghost size: { ℕ };
 
-    /// The addresses that bytes are.
+    /// The addresses that bytes are, 4 or 16 bytes each. Bytes at the end that are too few for one are left out.
     fn addresses(bytes: &[u8]) -> &[Self]
         ensures { map Self.value result.now ≡ numbers bytes.now };
 
-    /// Writes the bytes of a number.
+    /// Appends the bytes of the address with this number. The caller has to prove that it is below 2^32 in IPv4, or
+    /// below 2^128 in IPv6, as each `u128` is. The error is that an allocation fails; what is behind the old bytes then
+    /// is not told.
     fn put(number: u128, out: &mut Vec<u8>) -> Result<(), AllocError>
         requires { number < 2 ^ Self.width }
         ensures { OnOk result (out.new.items ≡ out.old.items ++ bytes_of number) };

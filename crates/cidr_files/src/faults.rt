@@ -10,7 +10,7 @@ pub enum TableFault {
     Arrays(cidr_arrays::Fault),
     /// The values don't lie one behind the other, or there are not as many as keys.
     Offsets,
-    /// There was no memory to check it; it may be right.
+    /// There was no memory to check it; it may be right or wrong.
     NoMemory,
 }
 
@@ -19,24 +19,25 @@ pub enum TableFault {
 pub enum Fault {
     /// It doesn't begin with the bytes of a file of tables.
     Magic,
-    /// It is of this version, which is another one, such as a newer.
+    /// It is of this version, and not of version 1, which this library reads.
     Version(u32),
     /// It is shorter than its header says, or has not all of its header.
     Short,
     /// It is longer than its header says.
     Long,
-    /// The table of IPv4 networks is none.
+    /// The table of IPv4 networks is none, and this is why.
     Ipv4(TableFault),
-    /// The table of IPv6 networks is none.
+    /// The table of IPv6 networks is none, and this is why; that of IPv4 networks is right.
     Ipv6(TableFault),
 }
 
 /// Why no file was made.
 #[derive(Debug, Drop, PartialEq)]
 pub enum WriteError {
-    /// The keys are too many, or one is refused.
+    /// The keys are too many, or the key at an index is refused: `NoRoom` is never told.
     Keys(BuildError),
-    /// The values don't lie one behind the other, there are not as many as keys, or they have 2^32 bytes or more.
+    /// The values don't lie one behind the other, there are not as many as keys, or they have 2^32 bytes or more
+    /// together.
     Values,
     /// There was no memory.
     NoMemory,

@@ -15,7 +15,7 @@ pub struct Counts {
     pub values: u32,
 }
 
-/// The parts of a table.
+/// The parts of a table, in bytes as the file has them; README.md says what they are.
 #[derive(Clone, Copy)]
 pub struct Part<'a> {
     /// The first addresses of the ranges.

@@ -14,11 +14,11 @@ use cidr_arrays::{Index, longest_match};
 /// What a look-up finds: a row, and where its value lies among the values.
 #[derive(Clone, Copy)]
 pub struct Found {
-    /// The row.
+    /// The index of the row, counted from 0.
     pub row: usize,
-    /// Where its value begins.
+    /// Where its value begins, in bytes from 0 on.
     pub from: u32,
-    /// Where it ends.
+    /// Where it ends: the first byte behind it.
     pub to: u32,
 }
 
@@ -27,6 +27,12 @@ pub struct Found {
 ///
 /// Whatever the bytes are, it reads nothing outside of them, and the row is one of them. It is the longest match in parts
 /// that [`check`](crate::check) accepted.
+///
+/// It takes one search among the ranges that the first level leaves, O(log r) for r of them, and allocates nothing.
+///
+/// ```
+/// let (_row, name) = lookup(&table.ipv4, address.to_bits().to_le_bytes())?;
+/// ```
 pub fn lookup<'a, W: Family>(part: &Part<'a>, address: W) -> Option<(usize, &'a [u8])>
     ensures within { IfSome result (λ found. found.0 < length (stored_networks W.numbers (parts_in part.now))) }
     ensures longest { IfSome result (λ found. AreArrays W.width W.numbers (parts_in part.now) part.now.shift
@@ -44,8 +50,8 @@ pub fn lookup<'a, W: Family>(part: &Part<'a>, address: W) -> Option<(usize, &'a 
     ))
 }
 
-/// The same, with the place of the value: where it begins among the values, and where it ends. In parts that are no table
-/// the place is inside of them, too.
+/// What [`lookup`] finds, with the place of the value among the values in place of its bytes. In parts that are no
+/// table the place is inside of the values, too.
 #[inline(always)]
 pub fn find<W: Family>(part: &Part<'_>, address: W) -> Option<Found>
     ensures within { IfSome result (λ found. found.row < length (stored_networks W.numbers (parts_in part.now))) }
@@ -64,7 +70,12 @@ pub fn find<W: Family>(part: &Part<'_>, address: W) -> Option<Found>
     Some(Found { row, from, to })
 }
 
-/// Whether an address is in one of the networks.
+/// Whether an address is in one of the networks, in parts that [`check`](crate::check) accepted; in others the answer
+/// may be wrong, and nothing outside of them is read. In the time of [`lookup`], without the offsets and the values.
+///
+/// ```
+/// has(&table.ipv6, Ipv6Bytes::of(address.to_bits()))
+/// ```
 pub fn has<W: Family>(part: &Part<'_>, address: W) -> bool
     ensures { AreArrays W.width W.numbers (parts_in part.now) part.now.shift
         → (IsTrue result ↔ ((network : ℕ × ℕ) × Contains (stored_networks W.numbers (parts_in part.now)) network

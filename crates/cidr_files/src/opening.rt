@@ -16,8 +16,8 @@ pub(crate) const VERSION: u32 = 1;
 /// The size of the header.
 const HEADER: usize = 64;
 
-/// The tables of a file, in parts that are not yet checked: a few reads, however long it is. The error is the first of
-/// `Magic`, `Version`, and `Short` or `Long`.
+/// The tables of a file, in parts that are not yet checked: a few reads, however long it is, and no allocation. The
+/// error is the first of `Magic`, `Version`, and `Short` or `Long`.
 pub fn open(bytes: &[u8]) -> Result<Table<'_>, Fault>
     ensures laid_out { IfOk result (λ _. IsLaidOut bytes.now) }
     ensures cut { IfOk result (IsTableCutFrom bytes.now) }
@@ -45,7 +45,8 @@ pub fn open(bytes: &[u8]) -> Result<Table<'_>, Fault>
     Ok(Table { ipv4, ipv6 })
 }
 
-/// The counts of the IPv4 table and of the IPv6 table, as the header of a file has them: what is behind the end counts as 0.
+/// The counts of the IPv4 table and of the IPv6 table, as the header of a file has them: what is behind the end counts
+/// as 0. Whether the bytes are a file is for [`open`].
 pub fn counts(bytes: &[u8]) -> (Counts, Counts)
     ensures ipv4 { result.0 ≡ ipv4_counts bytes.now }
     ensures ipv6 { result.1 ≡ ipv6_counts bytes.now }

@@ -1,7 +1,7 @@
 //! Files of tables, written.
 ghost use Rattle.std.specs.Prelude.{◌≡◌, ◌+◌, ◌%◌, ◌^◌, ◌<◌, ◌++◌, length, map, replicate, IfOk, OnOk};
 ghost use Rattle.std.specs.Int.{from_le_bytes, w32};
-ghost use Rattle.cidr_files.specs.Contents.{AreContents, HasRows, key_addresses, head_of, lengths_of, parts_written};
+ghost use Rattle.cidr_files.specs.Contents.{AreContents, HasRows, HasZerosBetween, key_addresses, head_of, lengths_of, parts_written};
 ghost use Rattle.cidr_files.specs.Layout.{ipv4_parts, ipv6_parts, wide_word, wide_words, words};
 ghost use Rattle.cidr_files.specs.Spelling.{word_bytes};
 ghost use Rattle.cidr_files.specs.Tables.{IsFile, IsSmall};
@@ -14,8 +14,12 @@ use crate::opening::{MAGIC, VERSION};
 use cidr_arrays::Key;
 use std::alloc::{AllocError, Global};
 
-/// The bytes of a file of two tables. What `open` and `check` say of them, or of the same bytes elsewhere, is that they
-/// are these tables.
+/// The bytes of a file of two tables whose arrays the caller has; of rows alone, take `written`. It takes a pass over
+/// the bytes and allocates them. The error is that an allocation fails.
+///
+/// The caller has to prove that each table is one: that its arrays are those of its keys, as `build` and `fill_level`
+/// of `cidr_arrays` write them, that its values lie one behind the other, and that there are fewer than 2^31 keys,
+/// fewer than 2^32 ranges, entries and bytes of values, and a shift below 32, or 128 in IPv6.
 pub fn file_of(
     alloc: Global,
     ipv4: &Contents<'_, Ipv4Bytes>,
@@ -25,6 +29,7 @@ pub fn file_of(
     requires ipv6 { AreContents 128 wide_word ipv6.now }
     ensures file { IfOk result (λ bytes. IsFile bytes.items) }
     ensures small { IfOk result (λ bytes. IsSmall bytes.items) }
+    ensures zeros { IfOk result (λ bytes. HasZerosBetween bytes.items) }
     ensures ipv4 { IfOk result (λ bytes. HasRows words (ipv4_parts bytes.items) (from_le_bytes w32) ipv4.now.rows.now) }
     ensures ipv6 { IfOk result (λ bytes. HasRows wide_words (ipv6_parts bytes.items) wide_word ipv6.now.rows.now) }
 {

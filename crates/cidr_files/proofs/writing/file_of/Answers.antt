@@ -33,4 +33,4 @@ returns c =
     let is : o3 ≡ head ++ (p4 ++ p6) =
     third ∙ (ap (λ (xs : List ℕ). xs ++ p6) second ∙ (append_assoc o1 p4 p6 ∙ ap (λ (xs : List ℕ). xs ++ (p4 ++ p6)) first)) in
     let all = is_file (from_le_bytes w32) wide_word a b c.requires.ipv4 c.requires.ipv6 o3 is in
-    record { file = all.0; small = all.1; ipv4 = all.2; ipv6 = all.3 }
+    record { file = all.0; small = all.1; zeros = all.4; ipv4 = all.2; ipv6 = all.3 }
