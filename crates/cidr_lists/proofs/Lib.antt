@@ -18,4 +18,5 @@ pub mod SameKeys
 pub mod SetSteps
 pub mod ShortTexts
 pub mod Spelled
+pub mod StyledTexts
 pub mod WholeTexts

@@ -66,7 +66,7 @@ module _ (c : ℕ) (far : 16 ≤ digit_value c) (no_dot : dot ≢ c) (no_colon :
       lacks_between text h.front (colon ∷ h.back) h.spelled (lacks_front h.front h.head h.front_text)
       (Lacks-cons c colon h.back no_colon (lacks_back h.back h.tail h.back_text))
 
-  lacks_address : (family : Family) (text : List ℕ) (a : List Bool) → IsAddressText family text a → Lacks c text
+  pub lacks_address : (family : Family) (text : List ℕ) (a : List Bool) → IsAddressText family text a → Lacks c text
   lacks_address Ipv4 text a h = lacks_octets text h.octets h.joined
   lacks_address Ipv6 text a h = lacks_eight text h.groups h.eight
 
@@ -76,7 +76,7 @@ module _ (c : ℕ) (far : 16 ≤ digit_value c) (no_dot : dot ≢ c) (no_colon :
       rw e (Lacks-append c front (slash ∷ back) (lacks_address family front a h)
       (Lacks-cons c slash back no_slash (Lacks-length c back len (omega (arith, far)) no_plus k)))
 
-  lacks_by_family : (family : Family) (text : List ℕ) (p : List Bool) → IsNetworkText family text p → Lacks c text
+  pub lacks_by_family : (family : Family) (text : List ℕ) (p : List Bool) → IsNetworkText family text p → Lacks c text
   lacks_by_family family text p (inl h) = lacks_address family text p h
   lacks_by_family family text p (inr s) = lacks_slashed family text s.front s.back s.address s.len s.spelled s.front_text s.back_text
 

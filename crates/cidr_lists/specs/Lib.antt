@@ -5,6 +5,7 @@ pub mod Entries
 pub mod Faults
 pub mod Fields
 pub mod Findings
+pub mod Formats
 pub mod Lines
 pub mod Lists
 pub mod LookUps

@@ -6,12 +6,12 @@ ghost use Rattle.cidr_lists.specs.Lists.{IsField, IsFirstField, IsNetworkBy, Say
 ghost use Rattle.cidr_lists.specs.Fields.{AreFirstAndRest, IsNoAddressField, IsNoNetworkField, IsNoRow, IsRowSplit, IsSplit};
 
 use crate::errors::{BadText, LineError};
-use crate::lines::{HostBits, network_of, without_comment};
+use crate::lines::{HostBits, is_comment_sign, network_of, without_comment};
 use cidr::{IpAddr, IpCidr};
 use cidr_io::shown::byte_excerpt;
 
-/// What stands before the first ASCII white space, behind white space at the front. A comment sign in it is a byte like
-/// any other.
+/// What stands before the first ASCII white space, behind white space at the front: of ` 192.0.2.1 eth0` it is
+/// `192.0.2.1`. A comment sign in it is a byte like any other. Of white space alone it is empty.
 pub fn first_field(bytes: &[u8]) -> &[u8]
     ensures field { IsFirstField bytes.now result.now }
     ensures within { length result.now ≤ length bytes.now }
@@ -34,8 +34,8 @@ fn parts_of(field: &[u8]) -> (&[u8], &[u8])
     (first, rest.trim_ascii())
 }
 
-/// The first field of a line without its comment, and what stands behind it, without white space at both ends; `None`
-/// for a line that is blank or a comment alone.
+/// The first field of a line without its comment, and what stands behind it, without white space at both ends: of
+/// `192.0.2.1 eth0 # ours` these are `192.0.2.1` and `eth0`. `None` for a line that is blank or a comment alone.
 pub fn split_line(line: &[u8]) -> Option<(&[u8], &[u8])>
     ensures { MatchOption result (IsField line.now []) (λ parts. IsSplit line.now parts.0.now parts.1.now) }
 {
@@ -51,12 +51,15 @@ pub fn split_line(line: &[u8]) -> Option<(&[u8], &[u8])>
 pub fn says_nothing(field: &[u8]) -> bool
     ensures { Decides result (SaysNothing field.now) }
 {
-    without_comment(field).is_empty()
+    match field {
+        [] => true,
+        [first, ..] => is_comment_sign(*first),
+    }
 }
 
 /// The first field of a row of a table, and its value, the rest of the line without white space at both ends, which may
 /// be empty; `None` for a line that is blank or a comment. Only a whole line is a comment here, so that a value may
-/// have `#` and `;`.
+/// have `#` and `;`: of `10.0.0.0/8 west # 2` the value is `west # 2`.
 pub fn split_row(line: &[u8]) -> Option<(&[u8], &[u8])>
     ensures { MatchOption result (IsNoRow line.now) (λ parts. IsRowSplit line.now parts.0.now parts.1.now) }
 {
@@ -68,8 +71,8 @@ pub fn split_row(line: &[u8]) -> Option<(&[u8], &[u8])>
     Some(parts)
 }
 
-/// The network that a field is; an address is one too, and a range is none. The errors are `NotUtf8`, and then
-/// `NoNetwork` with the first error of parsing it.
+/// The network that a field is, or with `HostBits::Cleared` that of the host that it is; an address is one too, and a
+/// range is none. The errors are `NotUtf8`, and then `NoNetwork` with the first error of parsing it.
 pub fn network_in(host_bits: HostBits, field: &[u8]) -> Result<IpCidr, LineError>
     ensures { MatchResult result (IsNetworkBy host_bits field.now) (IsNoNetworkField host_bits field.now) }
 {

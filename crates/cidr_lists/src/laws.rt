@@ -4,9 +4,11 @@ ghost use Rattle.std.specs.Prelude.{◌≡◌, [], ◌∷◌, Bool, List};
 ghost use Rattle.std.specs.List.{AllZip};
 ghost use Rattle.cidr.specs.declared.cidr.combined.IpCidr.{IpCidr};
 ghost use Rattle.cidr.specs.declared.family.Family.{Family};
+ghost use Rattle.cidr_lists.specs.Formats.{bare, styled};
 ghost use Rattle.cidr_lists.specs.Lists.{Text, ListSays, text_by};
-ghost use Rattle.cidr_lists.specs.ReadBack.{AreOfFamilies, AreUnions, SaysJust};
+ghost use Rattle.cidr_lists.specs.ReadBack.{AreOfFamilies, AreUnions, SaysJust, TellsJust};
 ghost use Rattle.cidr_lists.specs.Sets.{printed_sets};
+ghost use Rattle.cidr_lists.specs.declared.formats.Format.TheVariants.{Json, Plain};
 ghost use Rattle.cidr_lists.specs.declared.lines.HostBits.{HostBits};
 
 /// What is printed of networks, read as a list, says these networks, whatever is done with host bits: printed networks
@@ -29,4 +31,17 @@ pub fn merging_again_changes_nothing()
         (said : List (List IpCidr)) → AllZip ListSays texts lists → AreUnions lists networks
         → ListSays (text_by bits (printed_sets networks)) said → AreUnions (said ∷ []) again
         → printed_sets again ≡ printed_sets networks }
+{}
+
+/// What the plain format prints of networks, with nothing in front of them and nothing behind, says these networks,
+/// read as a list.
+pub fn plain_format_is_read()
+    ensures { (bits : HostBits) (networks : Family → List (List Bool)) → AreOfFamilies networks
+        → SaysJust (text_by bits (styled (bare Plain) networks)) networks }
+{}
+
+/// Each line of what is printed of networks as JSON tells its network, by the string of the member `network`: IPv4
+/// before IPv6, in their order, and there are no other lines.
+pub fn json_is_read()
+    ensures { (networks : Family → List (List Bool)) → AreOfFamilies networks → TellsJust (styled (bare Json) networks) networks }
 {}

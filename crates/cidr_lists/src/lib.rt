@@ -14,9 +14,10 @@
 //!   `Sets::have_one` an address anywhere in a line, as in a log.
 //!
 //! A line in error is an `errors::LineError`, whose `message` is the text that follows `FILE:LINE: `: the string that is
-//! wrong, and what is wrong with it. `changes` puts what a second list adds and lacks in order, and `printing` has the
-//! texts of networks, addresses and counts. A call on a line takes time in its length and allocates nothing. Only what
-//! collects, sorts, combines or prints whole lists allocates, and its one other error is that there is no memory.
+//! wrong, and what is wrong with it. `changes` puts what a second list adds and lacks in order, `printing` has the texts
+//! of networks, addresses and counts, and `formats` prints a set for other tools. A call on a line takes time in its
+//! length and allocates nothing. Only what collects, sorts, combines or prints whole lists allocates, and its one other
+//! error is that there is no memory.
 #![tactic(auto)]
 
 pub mod changes;
@@ -25,6 +26,7 @@ pub mod entries;
 pub mod errors;
 pub mod fields;
 pub mod findings;
+pub mod formats;
 pub mod laws;
 pub mod lines;
 pub mod lists;

@@ -46,13 +46,14 @@ pub enum Content {
 }
 
 /// Whether a byte begins a comment.
-fn is_comment_sign(byte: u8) -> bool
+pub(crate) fn is_comment_sign(byte: u8) -> bool
     ensures { result ≡ is_comment_sign byte }
 {
     byte == b'#' || byte == b';'
 }
 
-/// The line without its comment, which goes from the first `#` or `;` to the end.
+/// The line without its comment, which goes from the first `#` or `;` to the end: of `10.0.0.0/8 # ours` it is
+/// `10.0.0.0/8 `, with the space.
 pub fn without_comment(line: &[u8]) -> &[u8]
     ensures { result.now ≡ before_first is_comment_sign line.now }
 {
@@ -157,6 +158,7 @@ fn whole_network(host_bits: HostBits, line: &[u8]) -> Option<IpCidr>
 
 /// What a line says, by what stands before its comment, without white space at both ends: a field with a hyphen is a
 /// range, whose ends are addresses without white space around the hyphen, and any other a network or an address.
+/// `192.0.2.0-192.0.2.9` is a range, and `192.0.2.0 - 192.0.2.9` an error.
 ///
 /// The first error is, in this order: `NotUtf8`; `NoNetwork` without a hyphen; `NoAddress` of what stands before the
 /// first hyphen, or behind it; `TwoFamilies`; `Reversed`. A line of more than 1 MiB is for the caller to find.

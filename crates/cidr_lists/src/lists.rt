@@ -56,7 +56,7 @@ impl Lists {
         }
     }
 
-    /// Adds the networks of other lists behind those of their family.
+    /// Adds the networks of other lists behind those of their family, in the time and memory of these.
     pub fn extend(&mut self, other: &Lists) -> Result<(), AllocError>
         ensures { OnOk result (Grows self.old self.new (listed other.now)) }
     {

@@ -22,7 +22,8 @@ use std::alloc::{AllocError, Global};
 /// host.
 #[derive(Clone, Copy, Debug)]
 pub struct Near {
-    /// The first line that has the network. What follows is kept for that line alone.
+    /// The first line that has the network. The two fields below are set at that line's index alone, where `near_at`
+    /// reads them.
     pub first: usize,
     /// The first line of the longest network around it.
     pub outer: Option<usize>,

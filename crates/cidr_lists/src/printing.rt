@@ -96,7 +96,7 @@ fn all_of_ipv6() -> ArrayString<41>
     text
 }
 
-/// A count in decimal, as `address_count` of a set has it: `None` is 2^128.
+/// A count in decimal, as `address_count` of a set has it: `None` is 2^128. It has at most 39 digits.
 pub fn count_text(count: Option<u128>) -> ArrayString<41>
     ensures { result.bytes ≡ decimal (count_or_all count) }
 {

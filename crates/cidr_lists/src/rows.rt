@@ -69,7 +69,7 @@ impl Rows {
         Ok(())
     }
 
-    /// The same rows in memory of their own.
+    /// The same rows in memory of their own. The error is that an allocation fails.
     pub fn copy(&self, alloc: Global) -> Result<Rows, AllocError>
         ensures { IfOk result (λ rows. AreCopies self.now rows) }
     {

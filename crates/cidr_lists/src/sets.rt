@@ -83,14 +83,14 @@ impl Sets {
         Ok(Sets::of_lists(lists))
     }
 
-    /// Whether there is no address of either family.
+    /// Whether the sets have no address of either family.
     pub fn is_empty(&self) -> bool
         ensures { IsTrue result ↔ ((family : Family) → networks_of self.now family ≡ []) }
     {
         self.v4.is_empty() && self.v6.is_empty()
     }
 
-    /// Whether there are all addresses of a network. Binary search: O(log n).
+    /// Whether the sets have all addresses of a network. Binary search: O(log n).
     pub fn contains(&self, network: &IpCidr) -> bool
         ensures { Decides result (IsWithin (IsInSets self.now) network.now) }
     {
@@ -100,7 +100,7 @@ impl Sets {
         }
     }
 
-    /// Whether there is a network, and all its addresses are there.
+    /// Whether a network is given and the sets have all its addresses: `false` for `None`.
     pub fn have(&self, network: &Option<IpCidr>) -> bool
         ensures { Decides result (LiesIn (IsInSets self.now) network.now) }
     {

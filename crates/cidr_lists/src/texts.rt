@@ -1,5 +1,6 @@
 //! Whole lists as bytes: reading one to its end or to its first line in error, and printing a set. Of the lines
-//! `192.0.2.0/25  # ours` and `192.0.2.128-192.0.2.255` the set is printed as 192.0.2.0/24.
+//! `192.0.2.0/25  # ours` and `192.0.2.128-192.0.2.255` the set is printed as 192.0.2.0/24. The calls are `of_text` of
+//! `Lists` and of `Sets`, and `to_text` of `Sets`.
 ghost use Rattle.std.specs.Prelude.{◌≡◌, ◌≤◌, ◌++◌, length, IfOk, MatchResult, OnOk};
 ghost use Rattle.std.specs.List.{flat_map, position_or_len};
 ghost use Rattle.cidr_lists.specs.Lists.{is_line_feed, kept_of, text_by};
@@ -63,8 +64,8 @@ fn add_line(
 
 impl Lists {
     /// The networks that a list says: a network, an address or a range a line, with white space around it and a comment
-    /// behind it from `#` or `;` on. The first line in error is told, with its number from 1 on. It takes time in the
-    /// length of the text.
+    /// behind it from `#` or `;` on. The error is that of the first line in error, with its number from 1 on, where one
+    /// of more than 1 MiB is `TooLong`; `NoMemory` may come before it. It takes time in the length of the text.
     pub fn of_text(alloc: Global, host_bits: HostBits, text: &[u8]) -> Result<Lists, ListError>
         ensures { MatchResult result (HaveNetworks (text_by host_bits text.now)) (IsListError (text_by host_bits text.now)) }
     {
@@ -127,7 +128,8 @@ fn push_ranges<C: PrintedAddress>(
 }
 
 impl Sets {
-    /// The addresses that a list says, as [`Lists::of_text`] reads it.
+    /// The addresses that a list says, as [`Lists::of_text`] reads it, with its errors. It sorts the networks besides:
+    /// O(n log n).
     pub fn of_text(alloc: Global, host_bits: HostBits, text: &[u8]) -> Result<Sets, ListError>
         ensures { MatchResult result (HaveAddresses (text_by host_bits text.now)) (IsListError (text_by host_bits text.now)) }
     {
@@ -168,7 +170,8 @@ impl Sets {
         Ok(text)
     }
 
-    /// What is printed of the addresses in this form, as bytes.
+    /// What is printed of the addresses in this form, as bytes: a line for each network or range, those of IPv4 first,
+    /// or the lines `IPv4 COUNT` and `IPv6 COUNT`. The error is that an allocation fails.
     pub fn to_text(&self, alloc: Global, form: Form) -> Result<Vec<u8>, AllocError>
         ensures { IfOk result (λ text. IsPrinted form (networks_of self.now) text.items) }
     {

@@ -1,4 +1,4 @@
-//! Addresses anywhere in a line, as in a log.
+//! Addresses anywhere in a line, as in a log: `Sets::have_one` finds them.
 ghost use Rattle.std.specs.Prelude.{◌≡◌, ◌↔◌, ◌≤◌, true, length, ℕ, List, Bool, [], ◌∷◌, ◌++◌, IsTrue};
 ghost use Rattle.std.specs.Bool.{Decides};
 ghost use Rattle.std.specs.List.{position_or_len};

@@ -1,0 +1,235 @@
+-- Sets in the formats of other tools: texts in their pieces, and what is read of them again.
+use Rattle.std.proofs.Common.{◌≡◌, ◌≢◌, refl, sym, ◌∙◌, ap, ap₂, subst, inl, inr, arith, ℕ, ◌+◌, ◌-◌, ◌<◌, ◌≤◌, ◌==◌, Bool, true, false, if◌then◌else◌, List, [], ◌∷◌, ◌++◌, length, length-append, take, drop, get_or, map, slice_index, append_assoc, append-nil, codes, decimal, Option, Some, None, eq-eqb, ne_eqb}
+use Rattle.std.specs.Char.{digit_value}
+use Rattle.std.specs.List.{All, AllZip, find, flat_map, slice_split}
+use Rattle.std.specs.Option.{option_or}
+use Rattle.std.proofs.lemmas.Bool.{cases_eq, true≢false}
+use Rattle.std.proofs.lemmas.Grind.{get_or_default_zero}
+use Rattle.std.proofs.lemmas.List.{drop_more, length-replicate, take-append-drop, take_all, take_more}
+use Rattle.std.proofs.lemmas.List.Folds.{find-append}
+use Rattle.std.proofs.lemmas.List.Splits.{slice_split_at}
+use Rattle.cidr.specs.model.Network.{width_of, first_of, last_of, ones}
+use Rattle.cidr.specs.texts.Ipv4Text.{dot}
+use Rattle.cidr.specs.texts.Ipv6Text.{colon}
+use Rattle.cidr.specs.texts.NetworkText.{IsNetworkText, plus, slash}
+use Rattle.cidr.specs.texts.Printed.{plain_text}
+use Rattle.cidr.specs.texts.PrintedAddress.{address_text}
+use Rattle.cidr.specs.texts.Refusal.{Lacks}
+use Rattle.cidr.specs.laws.NetworkLaws.{length-first_of}
+use Rattle.cidr.specs.declared.family.Family.{Family}
+use Rattle.cidr.specs.declared.family.Family.TheVariants.{Ipv4, Ipv6}
+use Rattle.cidr.proofs.Cuts.{Lacks-append, Lacks-cons, Lacks-length}
+use Rattle.cidr.proofs.NetworkPrinting.{IsAddressText-address_text, IsLengthText-decimal, network_plain}
+use Rattle.cidr_table.specs.Cover.{AreNetworks}
+use Rattle.cidr_table.proofs.MapLaws.{contains_first, contains_later}
+use Rattle.cidr_lists.specs.Formats.{bare, json_layout, laid_out, members, network_by, plain_layout, row, styled}
+use Rattle.cidr_lists.specs.Lists.{is_line_feed, text_by}
+use Rattle.cidr_lists.specs.Printing.{line}
+use Rattle.cidr_lists.specs.ReadBack.{AreOfFamilies, SaysJust, TellsJust, TellsNetwork, quote}
+use Rattle.cidr_lists.specs.Sets.{printed_networks, printed_sets}
+use Rattle.cidr_lists.specs.declared.formats.Format.TheVariants as format
+use Rattle.cidr_lists.specs.declared.formats.Notation.{Notation}
+use Rattle.cidr_lists.specs.declared.lines.HostBits.{HostBits}
+use Rattle.cidr_lists.proofs.PlainTexts.{lacks_address, lacks_by_family}
+use Rattle.cidr_lists.proofs.PrintedLines.{printed_read}
+
+-- ---- texts in their pieces
+pub two_pushed : (old now new a b : List ℕ) → now ≡ old ++ a → new ≡ now ++ b → new ≡ old ++ (a ++ b)
+two_pushed old now new a b first second = second ∙ (ap (λ (k : List ℕ). k ++ b) first ∙ append_assoc old a b)
+
+pub three_pushed : (old one two new a b c : List ℕ) → one ≡ old ++ a → two ≡ one ++ b → new ≡ two ++ c → new ≡ old ++ (a ++ (b ++ c))
+three_pushed old one two new a b c first second third =
+    two_pushed old one new a (b ++ c) first (two_pushed one two new b c second third)
+
+pub four_pushed : (old one two three new a b c d : List ℕ) → one ≡ old ++ a → two ≡ one ++ b → three ≡ two ++ c → new ≡ three ++ d
+    → new ≡ old ++ (a ++ (b ++ (c ++ d)))
+four_pushed old one two three new a b c d first second third fourth =
+    two_pushed old one new a (b ++ (c ++ d)) first (three_pushed one two three new b c d second third fourth)
+
+-- the members of an object of JSON
+seven_pieces : (n a f b l c d : List ℕ) → (((((n ++ a) ++ f) ++ b) ++ l) ++ c) ++ d ≡ n ++ (a ++ (f ++ (b ++ (l ++ (c ++ d)))))
+seven_pieces n a f b l c d = simp append_assoc
+
+pub members_pushed : (text network first last one two three four five new : List ℕ) (len : ℕ) → text ≡ network → one ≡ text ++ codes "\",\"first\":\""
+    → two ≡ one ++ first → three ≡ two ++ codes "\",\"last\":\"" → four ≡ three ++ last → five ≡ four ++ codes "\",\"length\":"
+    → new ≡ five ++ decimal len → new ≡ members network first last len
+members_pushed text network first last one two three four five new len p q r s t u v =
+    let a : one ≡ network ++ codes "\",\"first\":\"" = q ∙ ap (λ (k : List ℕ). k ++ codes "\",\"first\":\"") p in
+    let b = r ∙ ap (λ (k : List ℕ). k ++ first) a in
+    let c = s ∙ ap (λ (k : List ℕ). k ++ codes "\",\"last\":\"") b in
+    let d = t ∙ ap (λ (k : List ℕ). k ++ last) c in
+    let e = u ∙ ap (λ (k : List ℕ). k ++ codes "\",\"length\":") d in
+    v ∙ (ap (λ (k : List ℕ). k ++ decimal len) e
+    ∙ seven_pieces network (codes "\",\"first\":\"") first (codes "\",\"last\":\"") last (codes "\",\"length\":") (decimal len))
+
+-- ---- the format of a name
+if_true : {X : Type 0} (b : Bool) (x y : X) → b ≡ true → (if b then x else y) ≡ x
+if_true true x y h = refl
+if_true false x y h = absurd (true≢false (sym h))
+
+if_false : {X : Type 0} (b : Bool) (x y : X) → b ≡ false → (if b then x else y) ≡ y
+if_false true x y h = absurd (true≢false h)
+if_false false x y h = refl
+
+module _ {X : Type 0} (p : X → Bool) (xs : List X) (i : ℕ) (d : X) (within : i < length xs) (before : find p (take i xs) ≡ None) where
+  pub none_found_yet : p (get_or xs i d) ≡ false → find p (take (i + 1) xs) ≡ None
+  none_found_yet here =
+      ap (find p) (take_more xs i d within) ∙ (find-append p (take i xs) (get_or xs i d ∷ [])
+      ∙ (ap (λ (k : Option X). option_or k (find p (get_or xs i d ∷ []))) before ∙ if_false (p (get_or xs i d)) (Some (get_or xs i d)) None here))
+
+  pub found_here : p (get_or xs i d) ≡ true → Some (get_or xs i d) ≡ find p xs
+  found_here here =
+      sym (ap (find p) (sym (take-append-drop i xs)) ∙ (find-append p (take i xs) (drop i xs)
+      ∙ (ap (λ (k : Option X). option_or k (find p (drop i xs))) before
+      ∙ (ap (find p) (drop_more xs i d within) ∙ if_true (p (get_or xs i d)) (Some (get_or xs i d)) (find p (drop (i + 1) xs)) here))))
+
+pub none_found : {X : Type 0} (p : X → Bool) (xs : List X) (i : ℕ) → length xs ≤ i → find p (take i xs) ≡ None → None ≡ find p xs
+none_found p xs i past before = sym (ap (find p) (sym (take_all i xs past)) ∙ before)
+
+-- ---- lines
+module _ {X : Type 0} (f : X → List ℕ) where
+  -- with line feeds between them and one behind the last
+  pub joined_lines : (x : X) (xs : List X) → f x ++ (flat_map (λ y. 10 ∷ f y) xs ++ 10 ∷ []) ≡ flat_map (λ y. line (f y)) (x ∷ xs)
+  joined_lines x [] = sym (append-nil (f x ++ 10 ∷ []))
+  joined_lines x (y ∷ ys) =
+      ap (λ (k : List ℕ). f x ++ 10 ∷ k) (append_assoc (f y) (flat_map (λ z. 10 ∷ f z) ys) (10 ∷ []) ∙ joined_lines y ys)
+      ∙ sym (append_assoc (f x) (10 ∷ []) (flat_map (λ z. line (f z)) (y ∷ ys)))
+
+  pub same_lines : (g : X → List ℕ) → ((x : X) → f x ≡ g x) → (xs : List X) → flat_map f xs ≡ flat_map g xs
+  same_lines g same [] = refl
+  same_lines g same (x ∷ xs) = ap₂ (λ (a b : List ℕ). a ++ b) (same x) (same_lines g same xs)
+
+-- a string in front of a line feed is a line
+split_in_front : (text rest : List ℕ) → Lacks 10 text → slice_split is_line_feed (line text ++ rest) ≡ text ∷ slice_split is_line_feed rest
+split_in_front text rest none =
+    let apart : All (λ x. is_line_feed x ≡ false) text =
+    λ k d within. ap is_line_feed (get_or_default_zero text k d within) ∙ ne_eqb (slice_index text k) 10 (none k within) in
+    ap (slice_split is_line_feed) (append_assoc text (10 ∷ []) rest) ∙ slice_split_at is_line_feed text 10 rest apart refl
+
+module _ (w : ℕ) (f : List Bool → List ℕ) (apart : (p : List Bool) → length p ≤ w → Lacks 10 (f p)) where
+  pub split_lines : (ps : List (List Bool)) (rest : List ℕ) → AreNetworks w ps
+      → slice_split is_line_feed (flat_map (λ p. line (f p)) ps ++ rest) ≡ map f ps ++ slice_split is_line_feed rest
+  split_lines [] rest fit = refl
+  split_lines (p ∷ ps) rest fit =
+      ap (slice_split is_line_feed) (append_assoc (line (f p)) (flat_map (λ q. line (f q)) ps) rest)
+      ∙ (split_in_front (f p) (flat_map (λ q. line (f q)) ps ++ rest) (apart p (fit p (contains_first p ps)))
+      ∙ ap (λ (k : List (List ℕ)). f p ∷ k) (split_lines ps rest (λ q c. fit q (contains_later p q ps c))))
+
+-- ---- plain
+plain_family : (family : Family) (ps : List (List Bool))
+    → laid_out (λ notation p. network_by notation family p) (plain_layout [] []) ps ≡ printed_networks family ps
+plain_family family [] = refl
+plain_family family (p ∷ ps) =
+    joined_lines (λ (q : List Bool). plain_text family q ++ []) p ps
+    ∙ same_lines (λ q. line (plain_text family q ++ [])) (λ q. line (plain_text family q)) (λ q. ap line (append-nil (plain_text family q))) (p ∷ ps)
+
+pub plain_printed : (networks : Family → List (List Bool)) → styled (bare format.Plain) networks ≡ printed_sets networks
+plain_printed networks =
+    ap₂ (λ (a b : List ℕ). a ++ b) (plain_family Ipv4 (networks Ipv4)) (plain_family Ipv6 (networks Ipv6))
+
+pub plain_read : (bits : HostBits) (networks : Family → List (List Bool)) → AreOfFamilies networks
+    → SaysJust (text_by bits (styled (bare format.Plain) networks)) networks
+plain_read bits networks fit =
+    subst (λ (k : List ℕ). SaysJust (text_by bits k) networks) (sym (plain_printed networks)) (printed_read bits networks fit)
+
+-- ---- JSON
+-- a byte is not among others
+abbrev misses : ℕ → List ℕ → Bool
+misses c [] = true
+misses c (x ∷ xs) = if x == c then false else misses c xs
+
+missed : (c x : ℕ) (xs : List ℕ) → misses c (x ∷ xs) ≡ true → (x ≢ c) × (misses c xs ≡ true)
+missed c x xs h = elim (cases_eq x c) [
+  | inl same ↦ absurd (true≢false (sym h ∙ ap (λ (k : Bool). if k then false else misses c xs) (eq-eqb x c same)))
+  | inr other ↦ (other, sym (ap (λ (k : Bool). if k then false else misses c xs) (ne_eqb x c other)) ∙ h)
+]
+
+lacks_by : (c : ℕ) (xs : List ℕ) → misses c xs ≡ true → Lacks c xs
+lacks_by c [] h = λ i within. absurd (omega (arith, within))
+lacks_by c (x ∷ xs) h = let (other, more) = missed c x xs h in Lacks-cons c x xs other (lacks_by c xs more)
+
+module _ (c : ℕ) (far : 16 ≤ digit_value c) (no_dot : dot ≢ c) (no_colon : colon ≢ c) (no_slash : slash ≢ c) (no_plus : plus ≢ c)
+    (family : Family) (p : List Bool) (fits : length p ≤ width_of family) where
+  lacks_plain : Lacks c (plain_text family p)
+  lacks_plain = lacks_by_family c far no_dot no_colon no_slash no_plus family (plain_text family p) p (network_plain family p fits)
+
+  lacks_end : (a : List Bool) → length a ≡ width_of family → Lacks c (address_text family a)
+  lacks_end a long =
+      lacks_address c far no_dot no_colon no_slash no_plus family (address_text family a) a (IsAddressText-address_text family a long)
+
+  lacks_decimal : length p < 256 → Lacks c (decimal (length p))
+  lacks_decimal small = Lacks-length c (decimal (length p)) (length p) (omega (arith, far)) no_plus (IsLengthText-decimal (length p) small)
+
+length-last_of : (w : ℕ) (p : List Bool) → length p ≤ w → length (last_of w p) ≡ w
+length-last_of w p h = omega (arith, length-append p (ones (w - length p)), length-replicate (w - length p) true)
+
+byte_length : (family : Family) (n : ℕ) → n ≤ width_of family → n < 256
+byte_length Ipv4 n fits = omega (arith, fits)
+byte_length Ipv6 n fits = omega (arith, fits)
+
+module _ (family : Family) (behind : List ℕ) where
+  abbrev object : List Bool → List ℕ
+  object p = row (λ notation q. network_by notation family q) (json_layout behind) p
+
+  json_family : (ps : List (List Bool)) → laid_out (λ notation p. network_by notation family p) (json_layout behind) ps ≡ flat_map (λ p. line (object p)) ps
+  json_family [] = refl
+  json_family (p ∷ ps) = joined_lines object p ps
+
+  object_tells : (p : List Bool) → length p ≤ width_of family → TellsNetwork family (object p) p
+  object_tells p fits =
+      let w = width_of family in
+      let first = address_text family (first_of w p) in
+      let last = address_text family (last_of w p) in
+      let rest = codes ",\"first\":\"" ++ (first ++ (codes "\",\"last\":\"" ++ (last ++ (codes "\",\"length\":" ++ decimal (length p))))) in (
+        plain_text family p,
+        rest ++ behind,
+        ap (λ (k : List ℕ). codes "{\"network\":\"" ++ k) (append_assoc (plain_text family p) (quote ∷ rest) behind),
+        lacks_plain quote (omega arith) (omega arith) (omega arith) (omega arith) (omega arith) family p fits,
+        network_plain family p fits,
+      )
+
+  object_apart : Lacks 10 behind → (p : List Bool) → length p ≤ width_of family → Lacks 10 (object p)
+  object_apart none p fits =
+      let w = width_of family in
+      let first = address_text family (first_of w p) in
+      let last = address_text family (last_of w p) in
+      let len = decimal (length p) in
+      let a = codes "\",\"first\":\"" in
+      let b = codes "\",\"last\":\"" in
+      let c = codes "\",\"length\":" in
+      let front = codes "{\"network\":\"" in
+      let no_first : Lacks 10 first = lacks_end 10 (omega arith) (omega arith) (omega arith) (omega arith) (omega arith) family p fits (first_of w p) (length-first_of w p fits) in
+      let no_last : Lacks 10 last = lacks_end 10 (omega arith) (omega arith) (omega arith) (omega arith) (omega arith) family p fits (last_of w p) (length-last_of w p fits) in
+      let no_len : Lacks 10 len = lacks_decimal 10 (omega arith) (omega arith) (omega arith) (omega arith) (omega arith) family p fits (byte_length family (length p) fits) in
+      let no_network : Lacks 10 (plain_text family p) = lacks_plain 10 (omega arith) (omega arith) (omega arith) (omega arith) (omega arith) family p fits in
+      let members_lack : Lacks 10 (members (plain_text family p) first last (length p)) =
+      Lacks-append 10 (plain_text family p) (a ++ (first ++ (b ++ (last ++ (c ++ len))))) no_network
+      (Lacks-append 10 a (first ++ (b ++ (last ++ (c ++ len)))) (lacks_by 10 a refl)
+      (Lacks-append 10 first (b ++ (last ++ (c ++ len))) no_first
+      (Lacks-append 10 b (last ++ (c ++ len)) (lacks_by 10 b refl)
+      (Lacks-append 10 last (c ++ len) no_last (Lacks-append 10 c len (lacks_by 10 c refl) no_len))))) in
+      Lacks-append 10 front (members (plain_text family p) first last (length p) ++ behind) (lacks_by 10 front refl)
+      (Lacks-append 10 (members (plain_text family p) first last (length p)) behind members_lack none)
+
+  objects_tell : (ps : List (List Bool)) → AreNetworks (width_of family) ps → AllZip (TellsNetwork family) (map object ps) ps
+  objects_tell [] fit = tt
+  objects_tell (p ∷ ps) fit = (object_tells p (fit p (contains_first p ps)), objects_tell ps (λ q c. fit q (contains_later p q ps c)))
+
+pub json_read : (networks : Family → List (List Bool)) → AreOfFamilies networks → TellsJust (styled (bare format.Json) networks) networks
+json_read networks fit =
+    let four = codes ",\"family\":\"IPv4\"}" in
+    let six = codes ",\"family\":\"IPv6\"}" in
+    let last : slice_split is_line_feed (flat_map (λ p. line (object Ipv6 six p)) (networks Ipv6)) ≡ map (object Ipv6 six) (networks Ipv6) ++ [] ∷ [] =
+    ap (slice_split is_line_feed) (sym (append-nil (flat_map (λ p. line (object Ipv6 six p)) (networks Ipv6))))
+    ∙ split_lines 128 (object Ipv6 six) (object_apart Ipv6 six (lacks_by 10 six refl)) (networks Ipv6) [] (fit Ipv6) in
+    let whole : slice_split is_line_feed (styled (bare format.Json) networks)
+    ≡ map (object Ipv4 four) (networks Ipv4) ++ (map (object Ipv6 six) (networks Ipv6) ++ [] ∷ []) =
+    ap (slice_split is_line_feed) (ap₂ (λ (a b : List ℕ). a ++ b) (json_family Ipv4 four (networks Ipv4)) (json_family Ipv6 six (networks Ipv6)))
+    ∙ (split_lines 32 (object Ipv4 four) (object_apart Ipv4 four (lacks_by 10 four refl)) (networks Ipv4) (flat_map (λ p. line (object Ipv6 six p)) (networks Ipv6)) (fit Ipv4)
+    ∙ ap (λ (k : List (List ℕ)). map (object Ipv4 four) (networks Ipv4) ++ k) last) in (
+      map (object Ipv4 four) (networks Ipv4),
+      map (object Ipv6 six) (networks Ipv6),
+      whole,
+      objects_tell Ipv4 four (networks Ipv4) (fit Ipv4),
+      objects_tell Ipv6 six (networks Ipv6) (fit Ipv6),
+    )
