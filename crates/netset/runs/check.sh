@@ -68,9 +68,9 @@ rows() {
     run 0 '' '' '' not --in 10.0.0.0/9 ten
     run 2 '' $'10.0.0.1/8: host bits set; the network is 10.0.0.0/8\n' '' not --in 10.0.0.1/8 missing
     run 2 '' $'missing: no such file\n' '' not --in ::/0 missing
-    run 2 '' $'NET is missing, see: netset help not\n' '' not --in
+    run 2 '' $'VALUE is missing, see: netset help not\n' '' not --in
     run 0 $'::/0\n' '' '' not --in ::/0 -k
-    run 2 '' $'NET is missing, see: netset help not\n' '' not ten --in
+    run 2 '' $'VALUE is missing, see: netset help not\n' '' not ten --in
     run 0 $'10.0.0.1-10.0.0.6\n10.0.0.8\n::1-::2\n' '' \
         '10.0.0.1\n10.0.0.2/31\n::2\n10.0.0.4/31\n10.0.0.6\n10.0.0.8\n::1' ranges
     run 0 $'0.0.0.0-255.255.255.255\n::-ffff:ffff:ffff:ffff:ffff:ffff:ffff:ffff\n' '' \
@@ -133,7 +133,11 @@ rows_of_arguments() {
     page=$'netset merge [FILE..]   the shortest list of networks that has the addresses of all the lists
 --host-bits             a bit set behind the prefix of a network in a list is taken as unset,
                         and is no error
--k                      each line of a list in error is told, and not only the first\n'
+-k                      each line of a list in error is told, and not only the first
+--format NAME           how the networks are written: plain, json, nft, ipset, iptables,
+                        cisco, juniper or bird
+--prefix TEXT, --suffix TEXT
+                        with the format plain, what stands in front of a network and behind\n'
     run 0 "$page" '' '' help merge
     run 0 "$page" '' '' --help merge
     run 0 "$page" '' '' -h merge
@@ -159,6 +163,135 @@ rows_of_arguments() {
     run 2 '' $'-x: no such option, see: netset help help\n' '' help -x
     run 2 '' $'x: one argument too many, see: netset help --version\n' '' --version x
     run 2 '' $': no such command, see: netset help\n' '' ''
+}
+
+# Each format, of both families, of one, of none, and of all addresses.
+rows_of_formats() {
+    local two='2001:db8::/32\n192.0.2.1\n192.0.2.128/25' all='0.0.0.0/0\n::/0'
+    local other=', see: netset help merge'$'\n'
+    run 0 $'192.0.2.1\n192.0.2.128/25\n2001:db8::/32\n' '' "$two" merge --format plain
+    run 0 $'deny 192.0.2.1;\ndeny 192.0.2.128/25;\ndeny 2001:db8::/32;\n' '' "$two" merge --prefix 'deny ' --suffix=';'
+    run 0 $'192.0.2.1 x\n192.0.2.128/25 x\n2001:db8::/32 x\n' '' "$two" nets --suffix ' x' --format=plain
+    run 0 '' '' '' merge --prefix x
+    run 0 $'{"network":"192.0.2.1","first":"192.0.2.1","last":"192.0.2.1","length":32,"family":"IPv4"}
+{"network":"192.0.2.128/25","first":"192.0.2.128","last":"192.0.2.255","length":25,"family":"IPv4"}
+{"network":"2001:db8::/32","first":"2001:db8::","last":"2001:db8:ffff:ffff:ffff:ffff:ffff:ffff","length":32,"family":"IPv6"}\n' \
+        '' "$two" merge --format json
+    run 0 $'{"network":"0.0.0.0/0","first":"0.0.0.0","last":"255.255.255.255","length":0,"family":"IPv4"}
+{"network":"::/0","first":"::","last":"ffff:ffff:ffff:ffff:ffff:ffff:ffff:ffff","length":0,"family":"IPv6"}\n' '' "$all" merge --format json
+    run 0 '' '' '' merge --format json
+    run 0 $'add table inet netset
+add set inet netset netset4 { type ipv4_addr; flags interval; }
+flush set inet netset netset4
+add element inet netset netset4 { 192.0.2.1 }
+add element inet netset netset4 { 192.0.2.128/25 }
+add table inet netset
+add set inet netset netset6 { type ipv6_addr; flags interval; }
+flush set inet netset netset6
+add element inet netset netset6 { 2001:db8::/32 }\n' '' "$two" merge --format nft
+    run 0 $'add table inet netset
+add set inet netset netset4 { type ipv4_addr; flags interval; }
+flush set inet netset netset4
+add table inet netset
+add set inet netset netset6 { type ipv6_addr; flags interval; }
+flush set inet netset netset6\n' '' '' merge --format nft
+    run 0 $'create netset4 hash:net family inet maxelem 4294967295
+flush netset4
+add netset4 192.0.2.1
+add netset4 192.0.2.128/25
+create netset6 hash:net family inet6 maxelem 4294967295
+flush netset6
+add netset6 2001:db8::/32\n' '' "$two" merge --format ipset
+    run 0 $'create netset4 hash:net family inet maxelem 4294967295
+flush netset4
+add netset4 0.0.0.0/1
+add netset4 128.0.0.0/1
+create netset6 hash:net family inet6 maxelem 4294967295
+flush netset6
+add netset6 ::/1
+add netset6 8000::/1\n' '' "$all" merge --format ipset
+    run 0 $'*filter
+:netset - [0:0]
+-4 -A netset -s 192.0.2.1 -j ACCEPT
+-4 -A netset -s 192.0.2.128/25 -j ACCEPT
+-6 -A netset -s 2001:db8::/32 -j ACCEPT
+COMMIT\n' '' "$two" merge --format iptables
+    run 0 $'*filter\n:netset - [0:0]\nCOMMIT\n' '' '' merge --format iptables
+    run 0 $'no ip prefix-list netset4
+ip prefix-list netset4 permit 192.0.2.1/32
+ip prefix-list netset4 permit 192.0.2.128/25 le 32
+no ipv6 prefix-list netset6
+ipv6 prefix-list netset6 permit 2001:db8::/32 le 128\n' '' "$two" merge --format cisco
+    run 0 $'no ip prefix-list netset4
+ip prefix-list netset4 deny 0.0.0.0/0 le 32
+no ipv6 prefix-list netset6
+ipv6 prefix-list netset6 permit ::1/128\n' '' '::1' merge --format cisco
+    run 0 $'no ip prefix-list netset4
+ip prefix-list netset4 permit 10.0.0.0/8 le 32
+no ipv6 prefix-list netset6
+ipv6 prefix-list netset6 deny ::/0 le 128\n' '' '' merge --format cisco ten
+    run 0 $'policy-options {
+    replace:
+    prefix-list netset4 {
+        192.0.2.1/32;
+        192.0.2.128/25;
+    }
+    replace:
+    prefix-list netset6 {
+        2001:db8::/32;
+    }
+}\n' '' "$two" merge --format juniper
+    run 0 $'policy-options {
+    replace:
+    prefix-list netset4 {
+    }
+    replace:
+    prefix-list netset6 {
+    }
+}\n' '' '' merge --format juniper
+    run 0 $'define netset4 = [
+    192.0.2.1/32+,
+    192.0.2.128/25+
+];
+define netset6 = [
+    2001:db8::/32+
+];\n' '' "$two" merge --format bird
+    run 0 $'# netset4 has no network
+define netset6 = [
+    ::1/128+
+];\n' '' '::1' merge --format bird
+    run 0 $'define netset4 = [
+    10.0.0.0/8+
+];
+# netset6 has no network\n' '' '' merge --format bird ten
+    run 0 $'-10.128.0.0/9\n-::/1\n' '' '10.0.0.0/9\n8000::/1' minus --prefix - both -
+    run 0 $'10.0.0.0/9.\n8000::/1.\n' '' '10.0.0.0/9\n8000::/1\n' and both - --suffix .
+    run 0 $'*filter\n:netset - [0:0]\n-6 -A netset -s ::/0 -j ACCEPT\nCOMMIT\n' '' '0.0.0.0/0' not --format iptables
+    run 2 '' "xml: no such format, but plain, json, nft, ipset, iptables, cisco, juniper and bird$other" '' merge --format xml
+    run 2 '' ": no such format, but plain, json, nft, ipset, iptables, cisco, juniper and bird$other" '' merge --format=
+    run 2 '' "--prefix: for the format plain alone$other" '' merge --format json --suffix x --prefix x
+    run 2 '' "--suffix: for the format plain alone$other" '' merge --format nft --suffix x
+    run 2 '' "nft: one argument too many$other" '' merge --format json --format nft
+    run 2 '' "VALUE is missing$other" '' merge --format
+    run 2 '' $'--in: not with --format, --prefix or --suffix, see: netset help not\n' '' not --in ::/0 --format json
+    run 2 '' $'--format: no such option, see: netset help ranges\n' '' ranges --format json
+    run 2 '' $'--format: no such option, see: netset help diff\n' '' diff --format json ten both
+    run 2 '' $'missing: no such file\n' '' merge --format nft missing
+    run 2 '' $'-:1: x: couldn\'t parse address in network: invalid IP address syntax\n' 'x' merge --format json
+    # The tools themselves, where the machine has them.
+    local text=$'2001:db8::/32\n192.0.2.1\n'
+    if command -v jq >/dev/null; then
+        [[ $("$program" merge --format json <<<"$text" | jq -r .network) == "$("$program" merge <<<"$text")" ]] ||
+            { differs=1; echo "$build: jq reads other networks" >&2; }
+    fi
+    if command -v nft >/dev/null && nft list ruleset >/dev/null 2>&1; then
+        "$program" merge --format nft <<<"$text" | nft -c -f - || differs=1
+    fi
+    if command -v bird >/dev/null; then
+        "$program" merge --format bird <<<"$text" >"$room/bird.conf"
+        echo 'protocol device {}' >>"$room/bird.conf"
+        bird -p -c "$room/bird.conf" || differs=1
+    fi
 }
 
 # Lines that are ranges of addresses.
@@ -231,9 +364,30 @@ rows_of_pools() {
     run 2 '' $'129: no prefix length inside the network\n' '' free ten 129 missing
     run 2 '' $'x: no prefix length inside the network\n' '' free missing x -
     run 2 '' $'missing: no such file\n' '' free ten 8 missing
-    run 2 '' $'USED is missing, see: netset help free\n' '' free ten 8
+    run 0 $'10.0.0.0/8\n' '' '' free ten 8
+    run 2 '' $'LEN is missing, see: netset help free\n' '' free ten
     run 2 '' $'-x: no such option, see: netset help free\n' '' free -x 8 ten
     run 1 '' '' '' free ten 8 both -k
+    run 0 $'10.0.0.0/10\n10.64.0.0/10\n' '' '10.128.0.0/9' free 10.0.0.0/8 10 --all -
+    run 0 $'10.0.0.0/10\n10.64.0.0/10\n10.128.0.0/10\n10.192.0.0/10\n' '' '' free --all ten 10
+    run 0 $'10.0.0.0/10\n10.64.0.0/10\n10.128.0.0/10\n' '' '' free --count=3 ten 10
+    run 0 $'10.0.0.0/10\n10.64.0.0/10\n10.128.0.0/10\n10.192.0.0/10\n' '' '' free --count 5 10.0.0.0/8 10 -k
+    run 0 $'10.0.0.0/9\n10.128.0.0/9\n::/9\n80::/9\n' '' '' free both 9 --count 4
+    run 0 $'10.0.0.0/8\n::/8\n' '' '' free both 8 --count 2
+    run 0 '' '' '' free --count 0 ten 10
+    run 1 '' '' '10.0.0.0/9' free --all ten 8 -
+    run 1 '' '' '' free --all 10.0.0.0/8 7
+    run 2 '' $'x: no count below 2^64\n' '' free --count x ten 8 missing
+    run 2 '' $'18446744073709551616: no count below 2^64\n' '' free --count 18446744073709551616 ten 8
+    run 2 '' $'129: no prefix length inside the network\n' '' free --count x ten 129
+    run 2 '' $'x: no count below 2^64\n' '' free -k --count x ten 8 missing
+    run 2 '' $'VALUE is missing, see: netset help free\n' '' free ten 8 --count
+    run 2 '' $'--all: one argument too many, see: netset help free\n' '' free ten 8 --count 1 --all
+    run 2 '' $'2: one argument too many, see: netset help free\n' '' free ten 8 --count 1 --count 2
+    run 2 '' $'10.0.0.1/8: no network and no address, and no file that can be read\n' '' free 10.0.0.1/8 8 missing
+    run 2 '' $'missing: no such file\n' '' free 10.0.0.0/8 8 missing
+    run 2 '' $'bad:1: 10.0.0.0/x: couldn\'t parse length in network: invalid length text\n' '' free -k 10.0.0.0/8 8 bad
+    run 0 $'10.0.0.1\n' '' '' free 10.0.0.1 32
 }
 
 # What is found in lists.
@@ -362,17 +516,24 @@ rows_of_logs() {
 
 # The commands on one host or network.
 rows_of_one_network() {
-    run 0 $'network 192.0.2.0/24\nfirst 192.0.2.0\nlast 192.0.2.255\nmask 255.255.255.0\nlength 24\nfamily IPv4\n' \
+    run 0 $'network 192.0.2.0/24\nfirst 192.0.2.0\nlast 192.0.2.255\nmask 255.255.255.0\nhostmask 0.0.0.255\nlength 24\nfamily IPv4\nusable 192.0.2.1-192.0.2.254\nname 7.2.0.192.in-addr.arpa\n' \
         '' '' show 192.0.2.7/24
-    run 0 $'network ::1\nfirst ::1\nlast ::1\nmask ffff:ffff:ffff:ffff:ffff:ffff:ffff:ffff\nlength 128\nfamily IPv6\n' \
+    run 0 $'network ::1\nfirst ::1\nlast ::1\nmask ffff:ffff:ffff:ffff:ffff:ffff:ffff:ffff\nhostmask ::\nlength 128\nfamily IPv6\nusable ::1\nname 1.0.0.0.0.0.0.0.0.0.0.0.0.0.0.0.0.0.0.0.0.0.0.0.0.0.0.0.0.0.0.0.ip6.arpa\n' \
         '' '' show ::1
+    run 0 $'network 10.0.0.2/31\nfirst 10.0.0.2\nlast 10.0.0.3\nmask 255.255.255.254\nhostmask 0.0.0.1\nlength 31\nfamily IPv4\nusable 10.0.0.2-10.0.0.3\nname 3.0.0.10.in-addr.arpa\n' \
+        '' '' show 10.0.0.3/31
     run 2 '' $'192.0.2.7/33: invalid length for network: Network length 33 is too long for Ipv4 (maximum: 32)\n' '' show 192.0.2.7/33
     run 0 $'192.0.2.0/26\n192.0.2.64/26\n192.0.2.128/26\n192.0.2.192/26\n' '' '' split 192.0.2.0/24 26
     run 0 $'0.0.0.0\n' '' '' split 0.0.0.0/32 32
     run 2 '' $'23: no prefix length inside the network\n' '' split 192.0.2.0/24 23
     run 2 '' $'33: no prefix length inside the network\n' '' split 192.0.2.0/24 33
     run 2 '' $'x: no prefix length inside the network\n' '' split 192.0.2.0/24 x
-    run 2 '' $'192.0.2.1/24: host bits set; the network is 192.0.2.0/24\n' '' split 192.0.2.1/24 x
+    run 2 '' $'192.0.2.1/24: no network and no address, and no file that can be read\n' '' split 192.0.2.1/24 26
+    run 2 '' $'x: no prefix length inside the network\n' '' split 192.0.2.1/24 x
+    run 0 $'10.0.0.0/9\n10.128.0.0/9\n::/9\n' '' '10.0.0.0/9\n::/9\n10.128.0.0/9\n11.0.0.0/10' split - 9
+    run 1 '' '' '10.0.0.0/9' split - 8
+    run 2 '' $'129: no prefix length inside the network\n' '' split missing 129
+    run 2 '' $'-:1: x: couldn\'t parse address in network: invalid IP address syntax\n' 'x' split - 9 -k
     run 0 $'192.0.2.255\n' '' '' nth 192.0.2.0/24 255
     run 1 '' '' '' nth 192.0.2.0/24 256
     run 0 $'ffff:ffff:ffff:ffff:ffff:ffff:ffff:ffff\n' '' '' nth ::/0 340282366920938463463374607431768211455
@@ -521,6 +682,10 @@ rows_where_a_stream_fails() {
     run 3 '' $'output failed\n' '' --help
     run 3 '' $'output failed\n' '' diff - ten
     run 3 '' $'output failed\n' '' free ten 9 eight
+    run 3 '' $'output failed\n' '' split ten 9
+    run 3 '' $'output failed\n' '' reverse ten
+    run 3 '' $'output failed\n' '' mask 24
+    run 3 '' $'output failed\n' '' which 10.0.0.1 ten
     run 1 '' '' '' free ten 7 eight
     run 3 '' $'output failed\n' '' check ten ten
     run 0 '' '' '' check ten
@@ -627,6 +792,112 @@ rows_of_compiled_tables() {
     saved compiled "$none"
 }
 
+# Files of look-ups in the place of TABLE and of LIST: the answers are those of the table that they were made of.
+rows_of_stored_tables() {
+    local addresses found size at other=$': no lines, and no file of look-ups\n'
+    addresses='10.2.0.1\n10.1.2.3 and more\r\n\n # 10.1.2.3\n192.0.2.7#\n192.0.2.8 ;\n2001:DB8:0::1\n\t::1'
+    found=$'10.2.0.1 10.0.0.0/8 ten\n10.1.2.3 10.1.0.0/16 x  y \t; z\n192.0.2.7 192.0.2.7\n192.0.2.8 -\n2001:db8::1 2001:db8::/32 \xff#\n::1 ::/0 all\n'
+    run 0 '' '' '' compile owners compiled
+    run 0 "$found" '' "$addresses" look owners
+    run 0 "$found" '' "$addresses" look compiled
+    run 0 "$found" '' "$addresses" look --host-bits compiled -
+    run 1 $'192.0.2.8 -\n' '' '192.0.2.8\n' look compiled -
+    run 1 '' '' '\n;' look compiled
+    run 0 $'10.0.0.1 10.0.0.0/8 ten\n' '' "$(printed compiled)" look - address
+    run 2 $'10.2.0.1 10.0.0.0/8 ten\n' $'-:2: \\xff: not UTF-8\n' '10.2.0.1\n\xff 10.0.0.1' look compiled
+    run 2 '' $'missing: no such file\n' '' look compiled missing
+    run 0 '' '' '' compile nothing none
+    run 1 $'10.0.0.1 -\n' '' '10.0.0.1' look none
+    run 0 '' '' '10.0.0.0/8 x' compile - one
+    run 1 $'11.0.0.0 -\n::1 -\n' '' '11.0.0.0\n::1' look one
+    # a file that was cut, that has bytes behind its end, that is of another version or was changed
+    size=$(wc -c <"$room/compiled")
+    for at in 8 63 64 65 "$((size / 2))" "$((size - 1))"; do
+        head -c "$at" "$room/compiled" >"$room/part"
+        run 2 '' $'part: a file of look-ups that is cut short\n' '' look part missing
+    done
+    for at in 1 3; do
+        head -c "$at" "$room/compiled" >"$room/part"
+        run 2 '' "part$other" '' look part
+    done
+    run 2 '' "-$other" '\x89PNG\r\n' look - address
+    { cat "$room/compiled" && printf '\0\0\0\0\0\0\0\0'; } >"$room/part"
+    run 2 '' $'part: a file of look-ups with bytes behind its end\n' '' look part
+    with_byte 4 2
+    run 2 '' $'part: a file of look-ups of another version\n' '' look part
+    with_byte 64 1
+    run 2 '' $'part: a file of look-ups that was changed\n' '' look part
+    run 2 '' $'part: a file of look-ups that was changed\n' '' match part
+    # LIST has the networks of the rows
+    run 0 $'10.0.0.1 a\n10.0.0.0/9\n192.0.2.7\n::1\n' '' '10.0.0.1 a\n11.0.0.1\n10.0.0.0/9\n10.0.0.0/7\n192.0.2.7\n::1\n' match compiled
+    run 0 $'11.0.0.1\n10.0.0.0/7\n' '' '10.0.0.1 a\n11.0.0.1\n10.0.0.0/9\n10.0.0.0/7\n192.0.2.7\n::1\n' match -v compiled -
+    run 0 $'1\n' '' 'at 10.0.0.1:80\nat 11.0.0.1' match --any -c one
+    run 1 '' '' '10.0.0.1' match none
+    # with -k, and in other commands, it is read as lines
+    printf '\x89\n' >"$room/part"
+    run 2 '' $'part:1: \\x89: not UTF-8\n' '' compile part two
+    run 2 '' $'part:1: \\x89: not UTF-8\n' '' look -k part
+}
+
+# with_byte PLACE BYTE: part is compiled with this byte at this place.
+with_byte() {
+    cp "$room/compiled" "$room/part"
+    printf '%b' "\\x$2" | dd of="$room/part" bs=1 seek="$1" conv=notrunc status=none
+}
+
+# The bytes of a file as the input of `run` has them.
+printed() {
+    od -An -v -tx1 "$room/$1" | tr -d '\n' | sed 's/ /\\x/g'
+}
+
+# The names of zones, and masks.
+rows_of_descriptions() {
+    local neither=': no network and no address, and no file that can be read'
+    run 0 $'2.0.192.in-addr.arpa\n3.0.192.in-addr.arpa\n' '' '' reverse 192.0.2.0/23
+    run 0 $'1.2.0.192.in-addr.arpa\n' '' '' reverse 192.0.2.1
+    run 0 $'8.b.d.0.1.0.0.2.ip6.arpa\n' '' '' reverse 2001:db8::/32
+    run 0 $'8.b.d.0.1.0.0.2.ip6.arpa\n9.b.d.0.1.0.0.2.ip6.arpa\n' '' '' reverse 2001:db8::/31
+    run 0 $'in-addr.arpa\nip6.arpa\n' '' '0.0.0.0/1\n128.0.0.0/1\n::/0' reverse -
+    run 0 $'10.in-addr.arpa\n' '' '' reverse ./10.1.2.3
+    run 0 $'3.2.1.10.in-addr.arpa\n' '' '' reverse 10.1.2.3
+    run 0 '' '' '' reverse nothing
+    run 0 $'10.in-addr.arpa\n' '' '' reverse --host-bits hosts
+    run 2 '' "192.0.2.0/33$neither"$'\n' '' reverse 192.0.2.0/33
+    run 2 '' "missing$neither"$'\n' '' reverse missing
+    run 2 '' $'bad:1: 10.0.0.0/x: couldn\'t parse length in network: invalid length text\n' '' reverse bad
+    run 2 '' $'NET|FILE is missing, see: netset help reverse\n' '' reverse
+    run 2 '' $'ten: one argument too many, see: netset help reverse\n' '' reverse ten ten
+    run 0 $'10.in-addr.arpa\n' '' '' reverse -k ten
+    run 0 $'1.0.0.10.in-addr.arpa\n' '' '' reverse -k 10.0.0.1
+    run 2 '' $'-:1: x: couldn\'t parse address in network: invalid IP address syntax\n-:3: y: couldn\'t parse address in network: invalid IP address syntax\n' 'x\n\ny' reverse -k -
+    run 0 $'255.0.0.0 0.255.255.255\nff00:: ff:ffff:ffff:ffff:ffff:ffff:ffff:ffff\n' '' '' mask -k 8
+    run 0 $'192.0.2.0 255.255.255.0 0.0.0.255\n' '' '' mask 192.0.2.0/24
+    run 0 $'10.0.0.0 255.0.0.0 0.255.255.255\n:: :: ffff:ffff:ffff:ffff:ffff:ffff:ffff:ffff\n' '' '' mask both
+    run 0 $'255.255.255.255 0.0.0.0\nffff:ffff:: ::ffff:ffff:ffff:ffff:ffff:ffff\n' '' '' mask 32
+    run 0 $'ffff:ffff:8000:: ::7fff:ffff:ffff:ffff:ffff:ffff\n' '' '' mask +33
+    run 0 $'0.0.0.0 255.255.255.255\n:: ffff:ffff:ffff:ffff:ffff:ffff:ffff:ffff\n' '' '' mask 0
+    run 0 $'10.0.0.0 255.0.0.0 0.255.255.255\n' '' '' mask ./24
+    run 2 '' "129$neither"$'\n' '' mask 129
+}
+
+# The lines that have an address.
+rows_of_lines() {
+    run 0 $'ten:1: 10.0.0.0/8\n-:3: 10.1.2.3\n' '' '10.2.0.0/16\n\n10.1.2.3 # x\n' which 10.1.2.3 ten eight -
+    run 0 $'hosts:1: 10.0.0.0/8\n' '' '' which 10.255.255.255 hosts
+    run 0 $'both:2: ::/0\n' '' '' which ::1 both
+    run 0 $'two\\x0alines:1: 10.0.0.0/8\n' '' '' which 10.0.0.1 $'two\nlines'
+    run 0 $'-:1: ::/0\n' '' '::/0' which ::ffff:10.0.0.1
+    run 1 '' '' '' which 11.0.0.0 ten
+    run 1 '' '' '' which 10.0.0.1 nothing
+    run 2 '' $'10.0.0.0/8: no address\n' '' which 10.0.0.0/8 missing
+    run 2 '' $'x: no address\n' '' which -k x missing
+    run 2 '' $'bad:1: 10.0.0.0/x: couldn\'t parse length in network: invalid length text\n' '' which 10.0.0.1 ten bad missing
+    run 2 '' $'missing: no such file\n' '' which 10.0.0.1 ten missing
+    run 2 '' $'-:1: x: couldn\'t parse address in network: invalid IP address syntax\n-:2: y: couldn\'t parse address in network: invalid IP address syntax\n' \
+        'x\ny' which -k 10.0.0.1 -
+    run 2 '' $'ADDR is missing, see: netset help which\n' '' which
+}
+
 # Memory that is refused, to commands that read lists.
 rows_without_memory() {
     local command
@@ -642,13 +913,22 @@ rows_without_memory() {
     refuse '10.0.0.0/9\n' merge --host-bits -
     refuse '10.0.0.0/9\n' merge -k both -
     refuse '10.0.0.0/9\n' free both 9 -
+    refuse '10.0.0.0/9\n' free --all 10.0.0.0/8 9 -
+    refuse '10.0.0.0/9\n' split - 10
+    refuse '10.0.0.0/9\n' reverse -
+    refuse '' mask 10.0.0.0/8
+    refuse '10.0.0.0/9\n' which 10.0.0.1 -
     refuse '10.0.0.1\n::1 x\n11.0.0.1' match ten_and_eight
     refuse '10.0.0.1\n11.0.0.1' match -c -v both
     refuse '10.0.0.1\n11.0.0.1\n2001:db8::1' look owners
     refuse '10.0.0.0/8 x\n10.0.0.0/7\n2001:db8::/32 y' compile - compiled
+    refuse '10.0.0.1\n11.0.0.1\n2001:db8::1' look one
+    refuse '10.0.0.1\n11.0.0.1' match one
 }
 
 printf '10.0.0.0/8\n' >"$room/ten"
+cp "$room/ten" "$room/10.1.2.3"
+cp "$room/ten" "$room/24"
 printf '10.0.0.0/8\n::/0\n' >"$room/both"
 printf '8000::/1\n' >"$room/eight"
 printf '::/1\n' >"$room/seven"
@@ -674,6 +954,7 @@ for build in netset netset.by-rattle; do
     chmod 755 "$program"
     rows
     rows_of_arguments
+    rows_of_formats
     rows_of_ranges
     rows_of_input_twice
     rows_of_changes
@@ -682,8 +963,11 @@ for build in netset netset.by-rattle; do
     rows_of_matches
     rows_of_look_ups
     rows_of_compiled_tables
+    rows_of_stored_tables
     rows_of_logs
     rows_of_one_network
+    rows_of_lines
+    rows_of_descriptions
     rows_of_host_bits
     rows_of_all_errors
     rows_of_long_lines

@@ -12,8 +12,9 @@ use Rattle.netset_commands.specs.Answering.{AreRead, HasAddresses}
 use Rattle.cidr_lists.specs.Combining.{AllHave, FirstAlone, SomeHas}
 use Rattle.netset_commands.specs.Combining.{IsMade, Turned, form_of, step_of, turns}
 use Rattle.cidr_lists.specs.Sets.{Combined, Steps, IsInSets, networks_of, printed_sets}
-use Rattle.netset_commands.specs.Commands.{Lists, NotIn, Says, read_files}
+use Rattle.netset_commands.specs.Commands.{Lists, Styled, NotIn, Says, read_files}
 use Rattle.netset_commands.specs.Program.{AnswersRequest, by_output}
+use Rattle.cidr_lists.specs.Formats.{Style, styled}
 use Rattle.cidr_lists.specs.Lists.{Text, line_networks}
 use Rattle.netset_commands.specs.Sets.{Prints}
 use Rattle.netset_commands.specs.declared.output.answers.Verdict.{Verdict}
@@ -123,6 +124,26 @@ lists_written contents operation files read sets s t w r are made (text, printed
         λ texts told_so.
             let (said, says, has) = are texts told_so in
             (said, says, (networks_of sets, (λ family. set_same _ _ (networks_of sets family) (made family) (λ a wide. made_same IsInSets Says operation read said family a (has_same said read family a wide has))), printed)),
+        refl,
+      ),
+      written,
+      is,
+    )
+
+-- the same in a style
+pub styled_written : (contents : List ℕ → Option Text) (style : Style) (operation : Operation) (files : List (List ℕ)) (read : List Sets) (sets : Sets) (text : List ℕ)
+    (s t : State) (w : Result (Unit {0}) OutputFailed) (r : Result Verdict CommandError) → AreRead contents (read_files files) read
+    → ((family : Family) → IsSetOf 129 (IsMade IsInSets operation read family) (networks_of sets family)) → text ≡ styled style (networks_of sets)
+    → Answered s t text w → r ≡ by_output Yes w → AnswersRequest contents (Styled style operation files) s t r
+styled_written contents style operation files read sets text s t w r are made printed written is =
+    inr (
+      text,
+      Yes,
+      w,
+      (
+        λ texts told_so.
+            let (said, says, has) = are texts told_so in
+            (said, says, networks_of sets, (λ family. set_same _ _ (networks_of sets family) (made family) (λ a wide. made_same IsInSets Says operation read said family a (has_same said read family a wide has))), printed),
         refl,
       ),
       written,

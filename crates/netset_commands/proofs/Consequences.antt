@@ -5,7 +5,7 @@ use Rattle.cidr_io.specs.Writing.{State, Whole, Answered, Tells}
 use Rattle.cidr_io.specs.declared.sink.OutputFailed.{OutputFailed}
 use Rattle.cidr_lists.specs.Lists.{Text}
 use Rattle.netset_commands.specs.Arguments.{line_request}
-use Rattle.netset_commands.specs.Commands.{Request, Lists, NotIn, Diff, Free, Check, Match, Look, Compile, Single, Help, Version, IsAnswer, reading_of}
+use Rattle.netset_commands.specs.Commands.{Request, Lists, Styled, NotIn, Diff, Free, Split, Check, Which, Match, Look, Compile, Describe, Single, Help, Version, IsAnswer, reading_of}
 use Rattle.netset_commands.specs.Program.{AnswersRequest, AnswersWhole, IsRequestRefused, KeepsGoing, Reports, Runs, RunsLine, RunsRequest, answer_status, by_output, status_of, contents_by}
 use Rattle.netset_commands.specs.Typed.{HasAnswered, AnswersTyped}
 use Rattle.netset_commands.specs.declared.output.answers.Verdict.{Verdict}
@@ -13,7 +13,7 @@ use Rattle.netset_commands.specs.declared.output.answers.Verdict.TheVariants.{Ye
 use Rattle.netset_commands.specs.declared.commands.Reading.{Reading}
 use Rattle.netset_commands.specs.declared.errors.CommandError.{CommandError}
 use Rattle.netset_commands.specs.declared.errors.CommandError.TheVariants as error
-use Rattle.netset_commands.specs.declared.errors.FileError.TheVariants.{TooLarge, NotSaved}
+use Rattle.netset_commands.specs.declared.errors.FileError.TheVariants.{TooLarge, NotSaved, Unlike, Version, Short, Long, Changed}
 use Rattle.cidr_io.proofs.Chains.{whole_none}
 use Rattle.netset_commands.proofs.Telling.{tells_nothing}
 use Rattle.netset_commands.proofs.Typed.{typed_asks}
@@ -29,6 +29,11 @@ above_one (error.Line name number e) = omega arith
 above_one (error.Input name why) = omega arith
 above_one (error.File name TooLarge) = omega arith
 above_one (error.File name NotSaved) = omega arith
+above_one (error.File name Unlike) = omega arith
+above_one (error.File name Version) = omega arith
+above_one (error.File name Short) = omega arith
+above_one (error.File name Long) = omega arith
+above_one (error.File name Changed) = omega arith
 above_one error.NoMemory = omega arith
 above_one error.Output = omega arith
 
@@ -74,15 +79,19 @@ same_whole out new same = subst (λ (k : State). Whole out k []) (sym same) (who
 answer_done : (contents : List ℕ → Option Text) (request : Request) (verdict : Verdict) (out new : State) → AnswersRequest contents request out new (Ok verdict)
     → Written contents request verdict out new
 answer_done contents (Lists operation files) verdict out new h = whole_done contents (Lists operation files) verdict out new h
+answer_done contents (Styled style operation files) verdict out new h = whole_done contents (Styled style operation files) verdict out new h
 answer_done contents (NotIn net files) verdict out new h = whole_done contents (NotIn net files) verdict out new h
 answer_done contents (Diff old lists) verdict out new h = whole_done contents (Diff old lists) verdict out new h
-answer_done contents (Free pool len used) verdict out new h = whole_done contents (Free pool len used) verdict out new h
+answer_done contents (Free extent pool len used) verdict out new h = whole_done contents (Free extent pool len used) verdict out new h
+answer_done contents (Split operand len) verdict out new h = whole_done contents (Split operand len) verdict out new h
 answer_done contents (Check files) verdict out new h = whole_done contents (Check files) verdict out new h
+answer_done contents (Which address files) verdict out new h = whole_done contents (Which address files) verdict out new h
 answer_done contents (Match options list file) verdict out new (inl h) = whole_done contents (Match options list file) verdict out new h
 answer_done contents (Match options list file) verdict out new (inr (e, is, of, answer, written, belongs)) = cc
 answer_done contents (Look table file) verdict out new (inl h) = whole_done contents (Look table file) verdict out new h
 answer_done contents (Look table file) verdict out new (inr (e, is, of, answer, written, belongs)) = cc
 answer_done contents (Compile table name) verdict out new (same, (differ, done)) = ([], (refl, done), same_whole out new same)
+answer_done contents (Describe what operand) verdict out new h = whole_done contents (Describe what operand) verdict out new h
 answer_done contents (Single request) verdict out new h = whole_done contents (Single request) verdict out new h
 answer_done contents (Help topic) verdict out new h = whole_done contents (Help topic) verdict out new h
 answer_done contents Version verdict out new h = whole_done contents Version verdict out new h
@@ -106,11 +115,12 @@ module _ (verdict : Verdict) (refused closed : Bool) (out new err new_err : Stat
     keeps_done : KeepsGoing contents refused request closed out new err new_err (answer_status verdict)
         → HasAnswered contents request verdict out new err new_err
     keeps_done (inl (e, wrong, (same, says, ends))) = absurd (never_error verdict e ends)
-    keeps_done (inr (right, (lines, mid, tells, inl (fine, inl (any, same, quiet, two))))) = absurd (never_two verdict two)
-    keeps_done (inr (right, (lines, mid, tells, inl (fine, inr (none, (r, answers, caused, says, ends)))))) =
+    keeps_done (inr (inl (right, (names, are, lines, mid, tells, inl (fine, inl (any, same, quiet, two)))))) = absurd (never_two verdict two)
+    keeps_done (inr (inl (right, (names, are, lines, mid, tells, inl (fine, inr (none, (r, answers, caused, says, ends))))))) =
         request_done mid r ends answers says (subst (λ (k : List ℕ). Tells err mid k) none tells)
-    keeps_done (inr (right, (lines, mid, tells, inr (before, after, split, front, rest, is, fine, begun, e, why, cause, (same, says, ends))))) =
+    keeps_done (inr (inl (right, (names, are, lines, mid, tells, inr (before, after, split, front, rest, is, fine, begun, e, why, cause, (same, says, ends)))))) =
         absurd (never_error verdict e ends)
+    keeps_done (inr (inr (left, (same, says, ends)))) = absurd (never_error verdict error.NoMemory ends)
 
     run_done : (reading : Reading) → RunsRequest reading contents refused request closed out new err new_err (answer_status verdict)
         → HasAnswered contents request verdict out new err new_err

@@ -21,8 +21,9 @@ use Rattle.cidr_lists.specs.Lists.{IsTooLong, Text, lines_of}
 use Rattle.cidr_lists.specs.Fields.{IsBadLine, IsSplit}
 use Rattle.cidr_lists.specs.LookUps.{LineLooks, LookUp, found_line, is_found, look_line, printed_row}
 use Rattle.netset_commands.specs.Look.{TellsFound}
-use Rattle.netset_commands.specs.LookUps.{AreFirstSaid, EndsReading, IsErrorAt, LooksAll, LooksLine, LooksLines, LooksUp, PushesFound, ReadsTable, unread, verdict_of}
-use Rattle.cidr_lists.specs.Tables.{kept, resolved, value_at}
+use Rattle.netset_commands.specs.LookUps.{AreFirstSaid, EndsReading, IsErrorAt, LooksAll, LooksLine, LooksLines, LooksUp, PushesFound, unread, verdict_of}
+use Rattle.cidr_lists.specs.Tables.{resolved, value_at}
+use Rattle.netset_commands.specs.Compiled.{SaysTable}
 use Rattle.netset_commands.specs.Program.{AnswersRequest}
 use Rattle.netset_commands.specs.Reading.{IsNextLine, IsStopped}
 use Rattle.netset_commands.specs.Streaming.{IsCut, IsOfFile, IsWritten}
@@ -33,7 +34,6 @@ use Rattle.netset_commands.specs.declared.errors.ReadError.TheVariants.{Line, In
 use Rattle.netset_commands.specs.declared.commands.look.LookError.{LookError}
 use Rattle.netset_commands.specs.declared.commands.look.LookError.TheVariants.{Reading, Output}
 use Rattle.cidr_lists.specs.declared.rows.Span.{Span}
-use Rattle.cidr_lists.specs.declared.table.Table.{Table}
 use Rattle.cidr_io.proofs.Collected.{collected_more, none_collected}
 use Rattle.netset_commands.proofs.ReadBy.{bytes_read}
 use Rattle.cidr_lists.proofs.Resolved.{looked_up_mapped}
@@ -85,6 +85,29 @@ looks_up_in table values rows address family asked found text s t block rest r o
     (ap (λ (k : Family). option_map (λ (row : List Bool × Span). (plain_text k row.0, value_at values row.1)) found) (sym of)
     ∙ printed_value (address_family address) values found)
     (subst (λ (k : List ℕ). PushesFound k (option_map (λ (row : List Bool × Span). (plain_text family row.0, value_at values row.1)) found) s t block rest r) shows pushed)
+
+-- a row that was found, with its value
+abbrev pub found_row : List Bool × Bor (List ℕ) → List Bool × List ℕ
+found_row row = (row.0, row.1.now)
+
+printed_found : (family : Family) (found : Option (List Bool × Bor (List ℕ)))
+    → option_map (λ (row : List Bool × Bor (List ℕ)). (plain_text family row.0, row.1.now)) found ≡ option_map (printed_row family) (option_map found_row found)
+printed_found family None = refl
+printed_found family (Some row) = refl
+
+pub looks_up_row : (table : Family → List (List Bool × List ℕ)) (address : IpAddr) (family : Family) (asked : List Bool) (found : Option (List Bool × Bor (List ℕ)))
+    (text : List ℕ) (s t : State) (block rest : List ℕ) (r : Result Bool OutputFailed) → address_family address ≡ family → asked ≡ plain_bits address
+    → IsLookedUp (λ (p : List Bool). p) asked (table family) (option_map found_row found) → text ≡ ip_text address
+    → PushesFound text (option_map (λ (row : List Bool × Bor (List ℕ)). (plain_text family row.0, row.1.now)) found) s t block rest r
+    → LooksUp table address s t block rest r
+looks_up_row table address family asked found text s t block rest r of bits looked shows pushed =
+    let row : Option (List Bool × List ℕ) = option_map found_row found in
+    looks_up table address row (option_map (λ (k : List Bool × Bor (List ℕ)). (plain_text family k.0, k.1.now)) found) s t block rest r
+    (subst (λ (k : List Bool). IsLookedUp (λ (p : List Bool). p) k (table (address_family address)) row) bits
+    (subst (λ (k : Family). IsLookedUp (λ (p : List Bool). p) asked (table k) row) (sym of) looked))
+    (ap (λ (k : Family). option_map (λ (row : List Bool × Bor (List ℕ)). (plain_text k row.0, row.1.now)) found) (sym of)
+    ∙ printed_found (address_family address) found)
+    (subst (λ (k : List ℕ). PushesFound k (option_map (λ (row : List Bool × Bor (List ℕ)). (plain_text family row.0, row.1.now)) found) s t block rest r) shows pushed)
 
 -- ---- the line of an address
 pub row_short : (a n v : List ℕ) (test : Bool) → test ≡ (length v == 0) → test ≡ true → found_line a (Some (n, v)) ≡ a ++ (codes " " ++ (n ++ codes "\n"))
@@ -323,20 +346,20 @@ pub nothing_looked : (table : Family → List (List Bool × List ℕ)) (contents
 nothing_looked table contents s failed = ([], record {}, (part_none s [] failed, λ _. refl), nothing_told table contents)
 
 -- ---- the command
-module _ (contents : List ℕ → Option Text) (rows : List ℕ) (file : Bor (List ℕ)) (left : Option (List ℕ)) (table : Table) (s t : State)
-    (reads : ReadsTable (contents rows) rows (Ok table)) (opens : (text : Text) → contents file.now ≡ Some text → left ≡ Some text.bytes) where
+module _ (contents : List ℕ → Option Text) (rows : List ℕ) (file : Bor (List ℕ)) (left : Option (List ℕ)) (table : Family → List (List Bool × List ℕ)) (s t : State)
+    (reads : (text : Text) → contents rows ≡ Some text → SaysTable text table) (opens : (text : Text) → contents file.now ≡ Some text → left ≡ Some text.bytes) where
   tells : (looks : List (Option LookUp)) (found : Bool) → found ≡ list_any is_found looks → TellsFound looks (verdict_of found)
   tells looks true e = sym e
   tells looks false e = sym e
 
-  pub looked_whole : (found : Bool) → LooksAll (kept table) left s t (Ok found) → AnswersRequest contents (Look rows file.now) s t (Ok (verdict_of found))
+  pub looked_whole : (found : Bool) → LooksAll table left s t (Ok found) → AnswersRequest contents (Look rows file.now) s t (Ok (verdict_of found))
   looked_whole found (looks, written, hit, says) = inl (inr (
     flat_map look_line looks,
     verdict_of found,
     Ok tt,
     λ first second is at.
-        let each = bytes_read (λ text. AllZip (LineLooks (kept table)) (lines_of text) looks) left second.bytes (opens second at) says in
-        (kept table, reads first is, looks, each, refl, tells looks found hit),
+        let each = bytes_read (λ text. AllZip (LineLooks table) (lines_of text) looks) left second.bytes (opens second at) says in
+        (table, reads first is, looks, each, refl, tells looks found hit),
     written,
     refl,
   ))
@@ -346,18 +369,18 @@ module _ (contents : List ℕ → Option Text) (rows : List ℕ) (file : Bor (Li
   of_file Input = refl
   of_file NoMemory = tt
 
-  ends_as : (text : List ℕ) (looks : List (Option LookUp)) (e : ReadError) → EndsReading (kept table) text looks e
-      → IsCut (AllZip (LineLooks (kept table))) IsBadLine (lines_of text) looks (unread file e)
-  ends_as text looks (Line number e) h = cut_before (LineLooks (kept table)) IsBadLine text looks number e file h
-  ends_as text looks Input h = cut_behind (LineLooks (kept table)) IsBadLine text looks (error.Input file Unknown) (λ _ _. tt) h
-  ends_as text looks NoMemory h = cut_behind (LineLooks (kept table)) IsBadLine text looks error.NoMemory (λ _ _. tt) h
+  ends_as : (text : List ℕ) (looks : List (Option LookUp)) (e : ReadError) → EndsReading table text looks e
+      → IsCut (AllZip (LineLooks table)) IsBadLine (lines_of text) looks (unread file e)
+  ends_as text looks (Line number e) h = cut_before (LineLooks table) IsBadLine text looks number e file h
+  ends_as text looks Input h = cut_behind (LineLooks table) IsBadLine text looks (error.Input file Unknown) (λ _ _. tt) h
+  ends_as text looks NoMemory h = cut_behind (LineLooks table) IsBadLine text looks error.NoMemory (λ _ _. tt) h
 
   gone : (e : ReadError) (text : List ℕ) → Answered s t text (Ok tt) → IsWritten s t text (unread file e)
   gone (Line number e) text h = h
   gone Input text h = h
   gone NoMemory text h = h
 
-  pub ended_early : (e : ReadError) → LooksAll (kept table) left s t (Err (Reading e)) → AnswersRequest contents (Look rows file.now) s t (Err (unread file e))
+  pub ended_early : (e : ReadError) → LooksAll table left s t (Err (Reading e)) → AnswersRequest contents (Look rows file.now) s t (Err (unread file e))
   ended_early e (looks, written, ends) = inr (
     unread file e,
     refl,
@@ -365,11 +388,11 @@ module _ (contents : List ℕ → Option Text) (rows : List ℕ) (file : Bor (Li
     flat_map look_line looks,
     gone e (flat_map look_line looks) written,
     λ first second is at.
-        let ends_here = bytes_read (λ text. EndsReading (kept table) text looks e) left second.bytes (opens second at) ends in
-        (kept table, reads first is, looks, ends_as second.bytes looks e ends_here, refl),
+        let ends_here = bytes_read (λ text. EndsReading table text looks e) left second.bytes (opens second at) ends in
+        (table, reads first is, looks, ends_as second.bytes looks e ends_here, refl),
   )
 
-  pub output_failed : LooksAll (kept table) left s t (Err Output) → AnswersRequest contents (Look rows file.now) s t (Err error.Output)
+  pub output_failed : LooksAll table left s t (Err Output) → AnswersRequest contents (Look rows file.now) s t (Err error.Output)
   output_failed (looks, f, written, ends) = inr (
     error.Output,
     refl,
@@ -377,6 +400,6 @@ module _ (contents : List ℕ → Option Text) (rows : List ℕ) (file : Bor (Li
     flat_map look_line looks,
     written,
     λ first second is at.
-        let first_lines = bytes_read (λ text. AreFirstSaid (LineLooks (kept table)) text looks) left second.bytes (opens second at) ends in
-        (kept table, reads first is, looks, cut_behind (LineLooks (kept table)) IsBadLine second.bytes looks error.Output (λ _ _. tt) first_lines, refl),
+        let first_lines = bytes_read (λ text. AreFirstSaid (LineLooks table) text looks) left second.bytes (opens second at) ends in
+        (table, reads first is, looks, cut_behind (LineLooks table) IsBadLine second.bytes looks error.Output (λ _ _. tt) first_lines, refl),
   )

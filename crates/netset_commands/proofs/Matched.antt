@@ -12,11 +12,11 @@ use Rattle.cidr.specs.declared.family.Family.{Family}
 use Rattle.cidr_io.specs.Writing.{Answered, State, Whole, Part, Writes}
 use Rattle.cidr_io.specs.declared.sink.OutputFailed.{OutputFailed}
 use Rattle.cidr_io.proofs.Chains.{answered, part_none, then_writes}
-use Rattle.netset_commands.specs.Answering.{HasAddresses, ReadsFile}
+use Rattle.netset_commands.specs.Answering.{AreAddresses}
 use Rattle.cidr_io.specs.Collecting.{Collects, Holds}
 use Rattle.netset_commands.specs.Causes.{TextFails}
 use Rattle.netset_commands.specs.Combining.{Turned}
-use Rattle.netset_commands.specs.Commands.{Match, Says}
+use Rattle.netset_commands.specs.Commands.{HasRow, HoldsOf, Match, Says}
 use Rattle.netset_commands.specs.Gathering.{Finishes, IsCounted, IsDone, IsLost, IsNotReadFurther, NotesLong, Stops, Streams, GathersPart, ended_by, lines_of_part, rest_written, told_behind}
 use Rattle.cidr_lists.specs.Lists.{IsTooLong, Text, is_line_feed, kept_of, lines_of}
 use Rattle.cidr_lists.specs.Within.{AreWithin, HasOneIn, LiesIn}
@@ -25,7 +25,8 @@ use Rattle.cidr_lists.specs.Lines.{last_line, lines_among, lines_in}
 use Rattle.cidr_lists.specs.Fields.{FieldSays}
 use Rattle.netset_commands.specs.Program.{AnswersRequest, by_output}
 use Rattle.netset_commands.specs.Reading.{IsNextLine}
-use Rattle.cidr_lists.specs.Sets.{IsInSets}
+use Rattle.cidr_lists.specs.Sets.{IsInSets, networks_of}
+use Rattle.cidr_sets.specs.Sets.{IsSetOf}
 use Rattle.netset_commands.specs.Streaming.{IsOfFile, IsStop, IsWritten, ReadTo}
 use Rattle.netset_commands.specs.declared.output.answers.Verdict.{Verdict}
 use Rattle.netset_commands.specs.declared.output.answers.Verdict.TheVariants.{Yes, No}
@@ -178,18 +179,18 @@ pub picks_anywhere : (IsIn : Family → List Bool → Type 0) (inverted : Bool) 
 picks_anywhere IsIn inverted line found picked e d = turned_by (HasOneIn IsIn line) inverted found picked e d
 
 -- by the list as by its set
-module _ (said : List (List IpCidr)) (sets : Sets) (h : HasAddresses said sets) where
-  within_same : (family : Family) (prefix : List Bool) → AreWithin (IsInSets sets) family prefix ↔ AreWithin (Says said) family prefix
+module _ (IsIn : Family → List Bool → Type 0) (sets : Sets) (h : (family : Family) → IsSetOf 129 (IsIn family) (networks_of sets family)) where
+  within_same : (family : Family) (prefix : List Bool) → AreWithin (IsInSets sets) family prefix ↔ AreWithin IsIn family prefix
   within_same family prefix = (
     λ k a wide begins. ((h family).exact a wide).0 (k a wide begins),
     λ k a wide begins. ((h family).exact a wide).1 (k a wide begins),
   )
 
-  lies_same : (what : Option IpCidr) → LiesIn (IsInSets sets) what ↔ LiesIn (Says said) what
+  lies_same : (what : Option IpCidr) → LiesIn (IsInSets sets) what ↔ LiesIn IsIn what
   lies_same None = (λ e. e, λ e. e)
   lies_same (Some network) = within_same (network_family network) (network_prefix network)
 
-  one_same : (line : List ℕ) → HasOneIn (IsInSets sets) line ↔ HasOneIn (Says said) line
+  one_same : (line : List ℕ) → HasOneIn (IsInSets sets) line ↔ HasOneIn IsIn line
   one_same line = (
     λ (family, (word, among, (text, bare, (address, spells, within)))).
         (family, (word, among, (text, bare, (address, spells, (within_same family address).0 within)))),
@@ -198,21 +199,21 @@ module _ (said : List (List IpCidr)) (sets : Sets) (h : HasAddresses said sets) 
   )
 
   picks_by_same : (anywhere inverted : Bool) (line : List ℕ) (r : Result Bool LineError) → PicksBy anywhere (IsInSets sets) inverted line r
-      → PicksBy anywhere (Says said) inverted line r
+      → PicksBy anywhere IsIn inverted line r
   picks_by_same true inverted line (Ok picked) d =
-      decides_same (Turned inverted (HasOneIn (IsInSets sets) line)) (Turned inverted (HasOneIn (Says said) line)) picked
-      (turned_same inverted (HasOneIn (IsInSets sets) line) (HasOneIn (Says said) line) (one_same line)) d
+      decides_same (Turned inverted (HasOneIn (IsInSets sets) line)) (Turned inverted (HasOneIn IsIn line)) picked
+      (turned_same inverted (HasOneIn (IsInSets sets) line) (HasOneIn IsIn line) (one_same line)) d
   picks_by_same true inverted line (Err e) bad = absurd bad
   picks_by_same false inverted line (Ok picked) (what, says, d) = (
     what,
     says,
-    decides_same (Turned inverted (LiesIn (IsInSets sets) what)) (Turned inverted (LiesIn (Says said) what)) picked
-        (turned_same inverted (LiesIn (IsInSets sets) what) (LiesIn (Says said) what) (lies_same what)) d,
+    decides_same (Turned inverted (LiesIn (IsInSets sets) what)) (Turned inverted (LiesIn IsIn what)) picked
+        (turned_same inverted (LiesIn (IsInSets sets) what) (LiesIn IsIn what) (lies_same what)) d,
   )
   picks_by_same false inverted line (Err e) bad = bad
 
   picks_same : (anywhere inverted : Bool) (line : List ℕ) (r : Result Bool LineError) → Picks anywhere (IsInSets sets) inverted line r
-      → Picks anywhere (Says said) inverted line r
+      → Picks anywhere IsIn inverted line r
   picks_same anywhere inverted line r (inl long) = inl long
   picks_same anywhere inverted line r (inr (short, picks)) = inr (short, picks_by_same anywhere inverted line r picks)
 
@@ -616,8 +617,13 @@ known_cut : (P Q : List ℕ → Result Bool LineError → Type 0) → ((line : L
     → known ≡ Some text → IfSome known (λ k. IsEndedBy P what k answer e) → IsEndedBy Q what text answer e
 known_cut P Q f what known text answer e is h = cut_same P Q f what text answer e (rw is at h)
 
+-- what follows of the addresses of a list
+of_list : (text : Text) (P Q : (Family → List Bool → Type 0) → Type 0) → ((IsIn : Family → List Bool → Type 0) → P IsIn → Q IsIn) → HoldsOf text P → HoldsOf text Q
+of_list text P Q f (inl (said, says, h)) = inl (said, says, f (Says said) h)
+of_list text P Q f (inr (table, has, h)) = inr (table, has, f (HasRow table) h)
+
 pub matched : (contents : List ℕ → Option Text) (options : List (List ℕ)) (list file : List ℕ) (sets : Sets) (known : Option (List ℕ)) (s t : State) (r : Result Verdict CommandError)
-    → ReadsFile (contents list) list (Ok sets) → ((text : Text) → contents file ≡ Some text → known ≡ Some text.bytes)
+    → ((text : Text) → contents list ≡ Some text → AreAddresses text sets) → ((text : Text) → contents file ≡ Some text → known ≡ Some text.bytes)
     → Streams (Picks (has (codes "--any") options) (IsInSets sets) (has (codes "-v") options)) (written_of options) file known s t r → AnswersRequest contents (Match options list file) s t r
 matched contents options list file sets known s t r reads tells (inl (answer, verdict, w, match, written, is)) =
     inl (inr (
@@ -625,8 +631,8 @@ matched contents options list file sets known s t r reads tells (inl (answer, ve
       verdict,
       w,
       λ networks text p q.
-          let (said, says, same) = reads networks p in
-          (said, says, known_match _ _ (picks_same said sets same (has (codes "--any") options) (has (codes "-v") options)) (written_of options) known text.bytes answer verdict (tells text q) match),
+          of_list networks _ _ (λ IsIn same. known_match _ _ (picks_same IsIn sets same (has (codes "--any") options) (has (codes "-v") options)) (written_of options) known text.bytes answer verdict (tells text q) match)
+          (reads networks p),
       written,
       is,
     ))
@@ -638,6 +644,6 @@ matched contents options list file sets known s t r reads tells (inr (e, is, of_
       answer,
       begun,
       λ networks text p q.
-          let (said, says, same) = reads networks p in
-          (said, says, known_cut _ _ (picks_same said sets same (has (codes "--any") options) (has (codes "-v") options)) (written_of options) known text.bytes answer e (tells text q) cut),
+          of_list networks _ _ (λ IsIn same. known_cut _ _ (picks_same IsIn sets same (has (codes "--any") options) (has (codes "-v") options)) (written_of options) known text.bytes answer e (tells text q) cut)
+          (reads networks p),
     )

@@ -5,7 +5,7 @@ use Rattle.std.specs.Option.{option_or}
 use Rattle.std.proofs.lemmas.Bool.{true≢false}
 use Rattle.std.proofs.lemmas.List.{append-nil, append_assoc, drop_all, drop_more, get_or-map, length-map, map-append, take_all, take_more, take-append-drop}
 use Rattle.std.proofs.lemmas.List.Folds.{find-append, list_all_at}
-use Rattle.netset_commands.specs.Arguments.{Parts, and_then, is_equals, is_option, is_topic, joined_arguments, letter_options, letter_parts, long_parts, misuse_text, no_option, no_parts, only_operand, only_options, only_value, parts_from, short_option, takes, topic_parts, word_parts}
+use Rattle.netset_commands.specs.Arguments.{Parts, and_then, is_equals, is_option, is_topic, joined_arguments, letter_options, letter_parts, long_parts, misuse_text, named_value, no_option, no_parts, only_operand, only_options, only_value, parts_from, short_option, takes, topic_parts, word_parts}
 use Rattle.netset_commands.specs.Command.{AddsParts, IsUsageError}
 use Rattle.netset_commands.specs.Matching.{is_word}
 use Rattle.netset_commands.specs.Table.{name_of, takes_value, texts}
@@ -56,6 +56,18 @@ module _ (options values operands more : List (Bor (List ℕ))) (w : Bor (List �
       same_parts (texts options) (texts values) (texts more) (texts options ++ []) (texts values ++ []) (texts operands ++ w.now ∷ [])
       (sym (append-nil (texts options))) (sym (append-nil (texts values))) (texts_pushed operands more w is)
 
+-- an option and its value
+pub pair_pushed : (options values more both operands : List (Bor (List ℕ))) (name value : Bor (List ℕ)) → more ≡ values ++ name ∷ []
+    → both ≡ more ++ value ∷ []
+    → parts_by (texts options) (texts both) (texts operands) ≡ joined_arguments (parts_by (texts options) (texts values) (texts operands)) (named_value name.now value.now)
+pair_pushed options values more both operands name value first second =
+    same_parts (texts options) (texts both) (texts operands) (texts options ++ []) (texts values ++ name.now ∷ value.now ∷ []) (texts operands ++ [])
+    (sym (append-nil (texts options)))
+    (texts_pushed more both value second
+    ∙ (ap (λ (k : List (List ℕ)). k ++ value.now ∷ []) (texts_pushed values more name first)
+    ∙ append_assoc (texts values) (name.now ∷ []) (value.now ∷ [])))
+    (sym (append-nil (texts operands)))
+
 -- ---- what a word adds
 if_true : {X : Type 0} (b : Bool) (x y : X) → b ≡ true → cond b x y ≡ x
 if_true true x y h = refl
@@ -85,11 +97,11 @@ module _ (verb : Verb) (word : List ℕ) where
   pub long_option : takes verb word ≡ true → long_parts verb word ≡ Ok (only_options (word ∷ []), Any)
   long_option is = if_true (takes verb word) _ _ is
 
-  pub before_value : takes verb word ≡ false → takes_value verb word ≡ true → long_parts verb word ≡ Ok (no_parts, Value)
+  pub before_value : takes verb word ≡ false → takes_value verb word ≡ true → long_parts verb word ≡ Ok (only_value word, Value)
   before_value none is = if_false (takes verb word) _ _ none ∙ if_true (takes_value verb word) _ _ is
 
   pub with_value : takes verb word ≡ false → takes_value verb word ≡ false → takes_value verb (before_first is_equals word) ≡ true
-      → long_parts verb word ≡ Ok (only_value (after_first is_equals word), Any)
+      → long_parts verb word ≡ Ok (named_value (before_first is_equals word) (after_first is_equals word), Any)
   with_value none off is =
       if_false (takes verb word) _ _ none ∙ (if_false (takes_value verb word) _ _ off ∙ if_true (takes_value verb (before_first is_equals word)) _ _ is)
 
@@ -217,7 +229,7 @@ module _ (verb : Verb) (words : List (Bor (List ℕ))) (i : ℕ) (front : Parts)
   at_end : parts_from verb (texts words) Any ≡ behind front (parts_from verb [] next)
   at_end = left ∙ ap (λ (k : List (Bor (List ℕ))). behind front (parts_from verb (texts k) next)) (drop_all i words past)
 
-  pub value_missing : next ≡ Value → parts_from verb (texts words) Any ≡ Err (misuse_text (codes "NET") Missing (name_of verb))
+  pub value_missing : next ≡ Value → parts_from verb (texts words) Any ≡ Err (misuse_text (codes "VALUE") Missing (name_of verb))
   value_missing is = at_end ∙ ap (λ (k : Next). behind front (parts_from verb [] k)) is
 
   pub any_left : next ≡ Any → parts_from verb (texts words) Any ≡ Ok front

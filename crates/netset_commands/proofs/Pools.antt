@@ -1,30 +1,40 @@
--- The first free network of a pool.
-use Rattle.std.proofs.Common.{◌≡◌, inr, ℕ, ◌≤◌, List, ◌∷◌, Option, Result}
+-- The free networks of a pool, and those inside the networks of a list.
+use Rattle.std.proofs.Common.{◌↔◌, refl, sym, subst, arith, inl, inr, ℕ, ◌≤◌, Bool, List, [], ◌∷◌, Option, None, Result, Ok, IfErr}
+use Rattle.cidr.specs.either.IpText.{IsIpNetworkText}
+use Rattle.cidr.specs.declared.cidr.combined.IpCidr.{IpCidr}
 use Rattle.cidr.specs.declared.family.Family.{Family}
-use Rattle.cidr_io.specs.Writing.{State, Answered}
-use Rattle.cidr_io.specs.declared.sink.OutputFailed.{OutputFailed}
-use Rattle.cidr_sets.specs.Sets.{IsSetOf}
-use Rattle.netset_commands.specs.Answering.{AreRead}
-use Rattle.netset_commands.specs.Combining.{IsMade}
-use Rattle.netset_commands.specs.Commands.{Free, Says}
-use Rattle.netset_commands.specs.Free.{IsFreeText}
+use Rattle.cidr_io.specs.Writing.{State}
 use Rattle.cidr_lists.specs.Lists.{Text}
-use Rattle.netset_commands.specs.Program.{AnswersRequest, by_output}
 use Rattle.cidr_lists.specs.Sets.{IsInSets, networks_of}
-use Rattle.netset_commands.specs.Single.{IsNumber}
-use Rattle.netset_commands.specs.declared.output.answers.Verdict.{Verdict}
-use Rattle.netset_commands.specs.declared.errors.CommandError.{CommandError}
-use Rattle.netset_commands.specs.declared.commands.operations.Operation.TheVariants.{Minus}
 use Rattle.cidr_lists.specs.declared.sets.Sets.{Sets}
-use Rattle.netset_commands.proofs.Combining.{has_same, made_same}
 use Rattle.cidr_lists.proofs.SetSteps.{set_same}
+use Rattle.cidr_sets.specs.Sets.{IsSetOf}
+use Rattle.netset_commands.specs.Answering.{AreRead, HasAddresses, ReadsListed, ReadsOperand, SplitsList, SplitsNetwork, TellsFree}
+use Rattle.netset_commands.specs.Combining.{IsMade}
+use Rattle.netset_commands.specs.Commands.{Free, IsFreeOfUsed, Says, Split}
+use Rattle.netset_commands.specs.Free.{Extent, Count, IsBadCount, IsBadFree, IsBadLength, IsMost}
+use Rattle.netset_commands.specs.Operands.{IsNoNetworkText, OfOperand}
+use Rattle.netset_commands.specs.Program.{AnswersRequest, IsBadArgument}
+use Rattle.netset_commands.specs.Single.{IsNumber, split_text}
+use Rattle.netset_commands.specs.declared.commands.operations.Operation.TheVariants.{Minus}
+use Rattle.netset_commands.specs.Causes.{Cause}
+use Rattle.netset_commands.specs.declared.errors.ArgumentError.{ArgumentError}
+use Rattle.netset_commands.specs.declared.errors.ArgumentError.TheVariants as bad
+use Rattle.netset_commands.specs.declared.errors.CommandError.{CommandError}
+use Rattle.netset_commands.specs.declared.errors.CommandError.TheVariants as error
+use Rattle.netset_commands.specs.declared.output.answers.Verdict.{Verdict}
+use Rattle.netset_commands.specs.declared.output.answers.Verdict.TheVariants.{Yes}
+use Rattle.netset_commands.proofs.Causes.{argument_cause, output_cause}
+use Rattle.netset_commands.proofs.Combining.{has_same, made_same}
+use Rattle.netset_commands.proofs.Operands.{operand_weaker}
 
 -- what is free of the sets is free of the lists
-pub free_written : (contents : List ℕ → Option Text) (pool len : List ℕ) (used : List (List ℕ)) (n : ℕ) (read : List Sets) (rest : Sets) (answer : List ℕ)
-    (verdict : Verdict) (s t : State) (w : Result (Unit {0}) OutputFailed) (r : Result Verdict CommandError) → IsNumber len n × (n ≤ 128)
-    → AreRead contents (pool ∷ used) read → ((family : Family) → IsSetOf 129 (IsMade IsInSets Minus read family) (networks_of rest family))
-    → IsFreeText (networks_of rest) n answer verdict → Answered s t answer w → r ≡ by_output verdict w → AnswersRequest contents (Free pool len used) s t r
-free_written contents pool len used n read rest answer verdict s t w r number are made free written is =
+pub free_written : (contents : List ℕ → Option Text) (extent : Extent) (pool len : List ℕ) (used : List (List ℕ)) (n : ℕ) (most : Option ℕ) (first : Sets)
+    (others : List Sets) (rest : Sets) (s t : State) (r : Result Verdict CommandError) → IsNumber len n × (n ≤ 128) → IsMost extent most
+    → ReadsOperand contents pool (Ok first) → AreRead contents used others
+    → ((family : Family) → IsSetOf 129 (IsMade IsInSets Minus (first ∷ others) family) (networks_of rest family))
+    → TellsFree (networks_of rest) n most s t r → AnswersRequest contents (Free extent pool len used) s t r
+free_written contents extent pool len used n most first others rest s t r number count reads are made (answer, verdict, w, free, written, is) =
     inr (
       answer,
       verdict,
@@ -33,16 +43,109 @@ free_written contents pool len used n read rest answer verdict s t w r number ar
         n,
         number.0,
         number.1,
-        λ texts told_so.
-            let (said, says, has) = are texts told_so in (
-              said,
+        most,
+        count,
+        operand_weaker contents pool (λ said. HasAddresses said first) (IsFreeOfUsed contents n most used answer verdict)
+            (λ said has texts told_so.
+            let (all, says, hass) = are texts told_so in (
+              all,
               says,
-              networks_of rest,
-              λ family. set_same _ _ (networks_of rest family) (made family) (λ a wide.
-                  made_same IsInSets Says Minus read said family a (has_same said read family a wide has)),
-              free,
-            ),
+              (
+                networks_of rest,
+                λ family. set_same _ _ (networks_of rest family) (made family) (λ a wide.
+                    made_same IsInSets Says Minus (first ∷ others) (said ∷ all) family a
+                    (has_same (said ∷ all) (first ∷ others) family a wide (has, hass))),
+                free,
+              ),
+            )) reads,
       ),
       written,
       is,
     )
+
+-- the pool says something, whatever that is
+pub pool_read : (contents : List ℕ → Option Text) (pool : List ℕ) (first : Sets) → ReadsOperand contents pool (Ok first) → OfOperand contents pool (λ said. Unit {0})
+pool_read contents pool first reads = operand_weaker contents pool (λ said. HasAddresses said first) (λ said. Unit {0}) (λ said has. tt) reads
+
+-- an address of a list, and of none beside it
+alone : {X : Type 0} (In : X → Family → List Bool → Type 0) (x : X) (family : Family) (a : List Bool) → In x family a ↔ IsMade In Minus (x ∷ []) family a
+alone In x family a = (λ h. (h, λ none. none), λ h. h.0)
+
+-- what is inside the networks of a set is inside those of the list
+pub list_split : (contents : List ℕ → Option Text) (file len : List ℕ) (n : ℕ) (sets : Sets) (s t : State) (r : Result Verdict CommandError)
+    → IsNumber len n × (n ≤ 128) → ReadsListed contents file (Ok sets) → TellsFree (networks_of sets) n None s t r → SplitsList contents file len s t r
+list_split contents file len n sets s t r number reads (answer, verdict, w, free, written, is) =
+    inr (
+      n,
+      number.0,
+      number.1,
+      answer,
+      verdict,
+      w,
+      λ text at.
+          let (said, says, has) = reads text at in (
+            said,
+            says,
+            (networks_of sets, λ family. set_same _ _ (networks_of sets family) (has family) (λ a wide. alone Says said family a), free),
+          ),
+      written,
+      is,
+    )
+
+pub split_in_list : (contents : List ℕ → Option Text) (operand len : List ℕ) (s t : State) (r : Result Verdict CommandError) → IsNoNetworkText operand
+    → SplitsList contents operand len s t r → AnswersRequest contents (Split operand len) s t r
+split_in_list contents operand len s t r none (inl (same, e, is, why)) =
+    subst (AnswersRequest contents (Split operand len) s t) (sym is) (inl (same, inr (none, why)))
+split_in_list contents operand len s t r none (inr (n, number, short, answer, verdict, w, list, written, is)) =
+    inr (answer, verdict, w, (n, number, inr (none, short, list)), written, is)
+
+pub split_in_network : (contents : List ℕ → Option Text) (operand len : List ℕ) (network : IpCidr) (s t : State) (r : Result Verdict CommandError)
+    → IsIpNetworkText operand network → SplitsNetwork network len s t r → AnswersRequest contents (Split operand len) s t r
+split_in_network contents operand len network s t r reads (inl (same, e, is, why)) =
+    subst (AnswersRequest contents (Split operand len) s t) (sym is) (inl (same, inl (network, reads, why)))
+split_in_network contents operand len network s t r reads (inr (n, number, some, w, written, is)) =
+    inr (split_text network n, Yes, w, (n, number, inl (network, reads, some, refl, refl)), written, is)
+
+-- the count is wrong, and the length is not
+pub count_wrong : (extent : Extent) (len : List ℕ) (n : ℕ) (e : CommandError) → IsNumber len n × (n ≤ 128) → IsBadArgument (IsBadCount extent) e
+    → IsBadArgument (IsBadFree extent len) e
+count_wrong extent len n (error.Argument text why) number h = inr (n, number.0, number.1, h)
+count_wrong extent len n (error.Line file line why) number h = absurd h
+count_wrong extent len n (error.Input name why) number h = absurd h
+count_wrong extent len n (error.File name why) number h = absurd h
+count_wrong extent len n error.NoMemory number h = absurd h
+count_wrong extent len n error.Output number h = absurd h
+
+-- what they are given up for
+pub free_cause : (F : List ℕ → Type 0) (refused : Bool) (sets : Family → List (List Bool)) (n : ℕ) (most : Option ℕ) (s t : State) (r : Result Verdict CommandError)
+    → TellsFree sets n most s t r → IfErr r (Cause F refused)
+free_cause F refused sets n most s t r (answer, verdict, w, free, written, is) = output_cause F refused verdict w r is
+
+pub network_cause : (F : List ℕ → Type 0) (refused : Bool) (network : IpCidr) (len : List ℕ) (s t : State) (r : Result Verdict CommandError)
+    → SplitsNetwork network len s t r → IfErr r (Cause F refused)
+network_cause F refused network len s t r (inl (same, e, is, why)) =
+    subst (λ (k : Result Verdict CommandError). IfErr k (Cause F refused)) (sym is) (argument_cause F refused _ e why)
+network_cause F refused network len s t r (inr (n, number, some, w, written, is)) = output_cause F refused Yes w r is
+
+-- arguments that are right are not wrong
+no_bad_length : (len : List ℕ) (n : ℕ) (text : List ℕ) (why : ArgumentError) → IsNumber len n × (n ≤ 128) → ¬ (IsBadLength len text why)
+no_bad_length len n text bad.Length number (same, none) = let long = none n number.0 in absurd (omega (arith, number.1, long))
+no_bad_length len n text why number h = h
+
+no_bad_count : (extent : Extent) (most : Option ℕ) (text : List ℕ) (why : ArgumentError) → IsMost extent most → ¬ (IsBadCount extent text why)
+no_bad_count (Count count) most text bad.Count (m, number, small, is) (same, none) = let large = none m number in absurd (omega (arith, small, large))
+no_bad_count extent most text why count h = h
+
+no_bad_free : (extent : Extent) (len : List ℕ) (n : ℕ) (most : Option ℕ) (text : List ℕ) (why : ArgumentError) → IsNumber len n × (n ≤ 128) → IsMost extent most
+    → ¬ (IsBadFree extent len text why)
+no_bad_free extent len n most text why number count (inl h) = no_bad_length len n text why number h
+no_bad_free extent len n most text why number count (inr (m, same, short, h)) = no_bad_count extent most text why count h
+
+pub free_right : (extent : Extent) (len : List ℕ) (n : ℕ) (most : Option ℕ) (e : CommandError) → IsNumber len n × (n ≤ 128) → IsMost extent most
+    → ¬ (IsBadArgument (IsBadFree extent len) e)
+free_right extent len n most (error.Argument text why) number count h = no_bad_free extent len n most text.now why number count h
+free_right extent len n most (error.Line file line why) number count h = h
+free_right extent len n most (error.Input name why) number count h = h
+free_right extent len n most (error.File name why) number count h = h
+free_right extent len n most error.NoMemory number count h = h
+free_right extent len n most error.Output number count h = h

@@ -1,5 +1,5 @@
 -- Runs with options of reading.
-use Rattle.std.proofs.Common.{◌≡◌, refl, sym, ◌∙◌, ap, subst, inl, inr, ℕ, ◌<◌, ◌++◌, Bool, true, false, List, [], Option, Result, Ok, Err}
+use Rattle.std.proofs.Common.{◌≡◌, refl, sym, ◌∙◌, ap, subst, inl, inr, ℕ, ◌<◌, ◌++◌, Bool, true, false, List, Option, Result, Ok, Err}
 use Rattle.std.proofs.lemmas.Bool.{true≢false}
 use Rattle.std.specs.Bool.{Decides}
 use Rattle.std.specs.List.{count_by}
@@ -7,7 +7,7 @@ use Rattle.cidr_io.specs.Arguments.{AreArguments}
 use Rattle.cidr_io.specs.Writing.{State, Tells}
 use Rattle.netset_commands.specs.Causes.{Cause, FileMayFail}
 use Rattle.netset_commands.specs.Arguments.{Parts, and_then, line_parts, line_request, part_request, read_request}
-use Rattle.netset_commands.specs.Commands.{Request, input_name, lists_of, others_of, reading_of}
+use Rattle.netset_commands.specs.Commands.{AreLists, Request, input_name, lists_of, others_of, reading_of}
 use Rattle.netset_commands.specs.Keeping.{kind_of}
 use Rattle.cidr_lists.specs.Lists.{Text}
 use Rattle.netset_commands.specs.Matching.{is_word}
@@ -20,41 +20,32 @@ use Rattle.netset_commands.specs.declared.errors.CommandError.{CommandError}
 use Rattle.netset_commands.specs.declared.errors.CommandError.TheVariants as error
 use Rattle.netset_commands.specs.declared.input.keeping.Kept.{Kept}
 use Rattle.cidr_lists.specs.declared.lines.Kind.{Kind}
-use Rattle.netset_commands.proofs.Loading.{none_begun, none_told}
 
 -- ---- with lists whose lines in error are told
 module _ (contents : List ℕ → Option Text) (request : Request) (kind : Kind) (names : List (List ℕ)) (refused closed : Bool) (out s t : State) (is_kind : kind ≡ kind_of request)
-    (are : names ≡ lists_of request) where
-  loaded_of : (lists : List Kept) (found : Bool) → AreListsLoaded contents kind names s t lists found → AreListsLoaded contents (kind_of request) (lists_of request) s t lists found
-  loaded_of lists found h =
-      subst (λ (k : List (List ℕ)). AreListsLoaded contents (kind_of request) k s t lists found) are (subst (λ (k : Kind). AreListsLoaded contents k names s t lists found) is_kind h)
+    (are : AreLists request names) where
+  loaded_of : (lists : List Kept) (found : Bool) → AreListsLoaded contents kind names s t lists found → AreListsLoaded contents (kind_of request) names s t lists found
+  loaded_of lists found h = subst (λ (k : Kind). AreListsLoaded contents k names s t lists found) is_kind h
 
-  unloaded_of : (e : CommandError) → IsUnloaded contents kind names s t e → IsUnloaded contents (kind_of request) (lists_of request) s t e
-  unloaded_of e h =
-      subst (λ (k : List (List ℕ)). IsUnloaded contents (kind_of request) k s t e) are (subst (λ (k : Kind). IsUnloaded contents k names s t e) is_kind h)
+  unloaded_of : (e : CommandError) → IsUnloaded contents kind names s t e → IsUnloaded contents (kind_of request) names s t e
+  unloaded_of e h = subst (λ (k : Kind). IsUnloaded contents k names s t e) is_kind h
 
   pub lines_in_error : (lists : List Kept) → AreListsLoaded contents kind names s t lists true → TellsFaults contents refused request closed out out s t 2
   lines_in_error lists h =
       let (lines, (tells, fine), any, kept) = loaded_of lists true h in
-      (lines, t, tells, inl (fine, inl (any, refl, refl, refl)))
+      (names, are, lines, t, tells, inl (fine, inl (any, refl, refl, refl)))
 
   pub no_line_in_error : (lists : List Kept) (new u : State) (r : Result Verdict CommandError) (status : ℕ) → AreListsLoaded contents kind names s t lists false
       → AnswersRequest contents request out new r → IsCaused contents refused r → Reports closed r t u → status ≡ status_of r → TellsFaults contents refused request closed out new s u status
   no_line_in_error lists new u r status h answers caused says is =
       let (lines, (tells, fine), any, kept) = loaded_of lists false h in
-      (lines, t, tells, inl (fine, inr (any, (r, answers, caused, says, is))))
+      (names, are, lines, t, tells, inl (fine, inr (any, (r, answers, caused, says, is))))
 
   pub not_loaded : (u : State) (e : CommandError) (status : ℕ) → IsUnloaded contents kind names s t e → Cause (FileMayFail contents) refused e → Reports closed (Err e) t u → status ≡ status_of (Err e)
       → TellsFaults contents refused request closed out out s u status
   not_loaded u e status h cause says is =
       let (before, after, split, why, front, rest, tells, fine, begun) = unloaded_of e h in
-      (front ++ rest, t, tells, inr (before, after, split, front, rest, refl, fine, begun, e, why, cause, (refl, says, is)))
-
-pub no_names : (contents : List ℕ → Option Text) (request : Request) (refused closed : Bool) (out s u : State) (status : ℕ) → refused ≡ true → Reports closed (Err error.NoMemory) s u → status ≡ status_of (Err error.NoMemory)
-    → TellsFaults contents refused request closed out out s u status
-no_names contents request refused closed out s u status none_left says is =
-    let none = none_told contents (kind_of request) s in
-    ([], s, none.0, inr ([], lists_of request, refl, [], [], refl, none.1, none_begun contents (kind_of request) (lists_of request), error.NoMemory, tt, none_left, (refl, says, is)))
+      (names, are, front ++ rest, t, tells, inr (before, after, split, front, rest, refl, fine, begun, e, why, cause, (refl, says, is)))
 
 -- the first argument that is wrong
 pub argument_first : (contents : List ℕ → Option Text) (request : Request) (refused closed : Bool) (out s u : State) (e : CommandError) (status : ℕ) → IsWrong request e

@@ -2,22 +2,27 @@
 use Rattle.std.proofs.Common.{◌≡◌, refl, sym, ◌∙◌, ap, subst, inl, inr, ℕ, Bool, true, false, ◌||◌, List, [], ◌∷◌, ◌++◌, codes, Option, Some, None, Result, Ok}
 use Rattle.std.specs.List.{list_all, list_any}
 use Rattle.std.proofs.lemmas.Bool.{true≢false}
-use Rattle.netset_commands.specs.Arguments.{Parts, and_then, asks_help, counted_request, extra_operand, is_option, joined_arguments, line_request, lists_request, named_verb, no_parts, only_operand, only_options, only_value, part_request, parts_from, read_request, takes, verb_request, word_parts}
-use Rattle.netset_commands.specs.Commands.{Request, Lists, NotIn, Diff, Free, Check, Match, Look, Compile, Single, Help, Version, input_name, reading_of}
+use Rattle.cidr_lists.specs.Formats.{format_name}
+use Rattle.netset_commands.specs.Arguments.{Parts, and_then, asks_help, counted_request, extent_by, extra_operand, is_option, joined_arguments, line_request, lists_request, named_verb, only_operand, only_options, only_value, part_request, parts_from, read_request, takes, value_of, verb_request, word_parts}
+use Rattle.netset_commands.specs.Commands.{Request, Lists, Styled, NotIn, Diff, Free, Split, Check, Which, Match, Look, Compile, Describe, Single, Help, Version, input_name, reading_of}
+use Rattle.netset_commands.specs.Free.{Extent, First, Count, All}
 use Rattle.netset_commands.specs.Matching.{has, is_word}
-use Rattle.netset_commands.specs.Single.{Show, Split, Nth}
-use Rattle.netset_commands.specs.Table.{commands, name_of, options_of}
+use Rattle.netset_commands.specs.Single.{Show, Nth}
+use Rattle.netset_commands.specs.Table.{commands, name_of, options_of, takes_value}
 use Rattle.netset_commands.specs.Typed.{AreTyped, IsTyped}
 use Rattle.netset_commands.specs.declared.commands.arguments.Next.{Next}
-use Rattle.netset_commands.specs.declared.commands.arguments.Next.TheVariants.{Any}
+use Rattle.netset_commands.specs.declared.commands.arguments.Next.TheVariants.{Any, Value}
+use Rattle.netset_commands.specs.declared.commands.describe.Description.TheVariants.{Zones, Masks}
 use Rattle.netset_commands.specs.declared.commands.operations.Operation.{Operation}
-use Rattle.netset_commands.specs.declared.commands.operations.Operation.TheVariants.{Merge, Nets, Minus, And, Not, Ranges, Count}
+use Rattle.netset_commands.specs.declared.commands.operations.Operation.TheVariants.{Merge, Nets, Minus, And, Not, Ranges}
+use Rattle.netset_commands.specs.declared.commands.operations.Operation.TheVariants as of_lists
 use Rattle.netset_commands.specs.declared.commands.table.Verb.{Verb}
 use Rattle.netset_commands.specs.declared.commands.table.Verb.TheVariants as verb
 use Rattle.netset_commands.proofs.Arguments.{same_text}
-use Rattle.netset_commands.proofs.Parts.{and_first, and_second, if_false, operand_word}
+use Rattle.netset_commands.proofs.Parts.{and_first, and_second, before_value, if_false, long_word, operand_word}
 use Rattle.netset_commands.proofs.Running.{read_one}
 use Rattle.netset_commands.proofs.Telling.{none_of}
+use Rattle.netset_commands.proofs.Values.{styled_request}
 
 -- options, values and operands
 abbrev parts_with : List (List ℕ) → List (List ℕ) → List (List ℕ) → Parts
@@ -42,12 +47,24 @@ operands_alone command (word ∷ words) none =
     one_more command word words (only_operand word) (parts_with [] [] words) (operand_word command word (no_end word (is_word (codes "--") word) refl here) here)
     (operands_alone command words others)
 
--- the network of --in before them
-behind_in : (net : List ℕ) (files : List (List ℕ)) → list_any is_option files ≡ false
-    → parts_from (verb.Lists Not) (codes "--in" ∷ net ∷ files) Any ≡ Ok (parts_with [] (net ∷ []) files)
-behind_in net files none =
-    ap (λ (r : Result Parts (List ℕ)). and_then (and_then r (λ more. Ok (joined_arguments (only_value net) more))) (λ more. Ok (joined_arguments no_parts more)))
-    (operands_alone (verb.Lists Not) files none)
+-- an option with its value before them
+behind_value : (command : Verb) (name value : List ℕ) (files : List (List ℕ)) → word_parts command Any name ≡ Ok (only_value name, Value)
+    → list_any is_option files ≡ false → parts_from command (name ∷ value ∷ files) Any ≡ Ok (parts_with [] (name ∷ value ∷ []) files)
+behind_value command name value files is none =
+    ap (λ (r : Result (Parts × Next) (List ℕ)). and_then r (λ one. and_then (parts_from command (value ∷ files) one.1) (λ rest. Ok (joined_arguments one.0 rest)))) is
+    ∙ ap (λ (r : Result Parts (List ℕ)). and_then (and_then r (λ more. Ok (joined_arguments (only_value value) more))) (λ more. Ok (joined_arguments (only_value name) more)))
+    (operands_alone command files none)
+
+-- an operation has the option --format
+has_format : (operation : Operation) → takes_value (verb.Lists operation) (codes "--format") ≡ true
+    → word_parts (verb.Lists operation) Any (codes "--format") ≡ Ok (only_value (codes "--format"), Value)
+has_format operation takes =
+    long_word (verb.Lists operation) (codes "--format") refl refl refl ∙ before_value (verb.Lists operation) (codes "--format") refl takes
+
+-- how many networks before them
+behind_count : (count : List ℕ) (operands : List (List ℕ)) → list_any is_option operands ≡ false
+    → parts_from verb.Free (codes "--count" ∷ count ∷ operands) Any ≡ Ok (parts_with [] (codes "--count" ∷ count ∷ []) operands)
+behind_count count operands none = behind_value verb.Free (codes "--count") count operands refl none
 
 -- ---- options
 -- the word is an option of the command
@@ -71,13 +88,15 @@ among command (name ∷ names) word (first, each) is =
 its_options : (command : Verb) → HasEach command (options_of command)
 its_options (verb.Lists operation) = (refl, (refl, (refl, (refl, tt))))
 its_options verb.Diff = (refl, (refl, (refl, (refl, tt))))
-its_options verb.Free = (refl, (refl, (refl, (refl, tt))))
+its_options verb.Free = (refl, (refl, (refl, (refl, (refl, tt)))))
 its_options verb.Check = (refl, (refl, (refl, tt)))
+its_options verb.Which = (refl, (refl, (refl, tt)))
 its_options verb.Match = (refl, (refl, (refl, (refl, (refl, (refl, (refl, (refl, tt))))))))
 its_options verb.Look = (refl, (refl, (refl, (refl, tt))))
 its_options verb.Compile = (refl, (refl, (refl, (refl, tt))))
+its_options (verb.Describe what) = (refl, (refl, (refl, (refl, tt))))
 its_options verb.Show = (refl, (refl, tt))
-its_options verb.Split = (refl, (refl, tt))
+its_options verb.Split = (refl, (refl, (refl, (refl, tt))))
 its_options verb.Nth = (refl, (refl, tt))
 its_options verb.Help = (refl, (refl, tt))
 its_options verb.Version = (refl, (refl, tt))
@@ -99,13 +118,16 @@ named (verb.Lists Minus) = refl
 named (verb.Lists And) = refl
 named (verb.Lists Not) = refl
 named (verb.Lists Ranges) = refl
-named (verb.Lists Count) = refl
+named (verb.Lists of_lists.Count) = refl
 named verb.Diff = refl
 named verb.Free = refl
 named verb.Check = refl
+named verb.Which = refl
 named verb.Match = refl
 named verb.Look = refl
 named verb.Compile = refl
+named (verb.Describe Zones) = refl
+named (verb.Describe Masks) = refl
 named verb.Show = refl
 named verb.Split = refl
 named verb.Nth = refl
@@ -119,7 +141,15 @@ without_value Minus files = refl
 without_value And files = refl
 without_value Not files = refl
 without_value Ranges files = refl
-without_value Count files = refl
+without_value of_lists.Count files = refl
+
+-- as many networks as the options say
+extent_asks : (every : Bool) (values : List (List ℕ)) (found : Option (List ℕ)) (extent : Extent) (options : List (List ℕ)) (pool len : List ℕ) (used : List (List ℕ))
+    → has (codes "--all") options ≡ every → value_of verb.Free (codes "--count") values ≡ Ok found → extent_by every found ≡ Ok extent
+    → verb_request verb.Free (parts_with options values (pool ∷ len ∷ used)) ≡ Ok (Free extent pool len used)
+extent_asks every values found extent options pool len used is given by =
+    ap (λ (r : Result (Option (List ℕ)) (List ℕ)). and_then (and_then r (λ count. extent_by (has (codes "--all") options) count)) (λ one. Ok (Free one pool len used))) given
+    ∙ ap (λ (r : Result Extent (List ℕ)). and_then r (λ one. Ok (Free one pool len used))) (ap (λ (b : Bool). extent_by b found) is ∙ by)
 
 -- ---- a command line
 -- a command with the parts of its words
@@ -155,11 +185,26 @@ module _ (words options : List (List ℕ)) where
 
   pub typed_asks : (request : Request) → IsTyped words options request → Asks request
   typed_asks (Lists operation files) typed = plain_asks (verb.Lists operation) files (Lists operation files) typed refl (without_value operation files)
+  typed_asks (Styled style operation files) (plain, takes, (is, all, no_page, none, enough)) =
+      let values = codes "--format" ∷ format_name style.format ∷ [] in
+      line_asks (verb.Lists operation) values values files (is, all, no_page, none, enough)
+      (behind_value (verb.Lists operation) (codes "--format") (format_name style.format) files (has_format operation takes) none) refl
+      (Styled style operation files) (styled_request operation style files plain)
   typed_asks (NotIn net files) (is, all, no_page, none, enough) =
-      line_asks (verb.Lists Not) (codes "--in" ∷ net ∷ []) (net ∷ []) files (is, all, no_page, none, enough) (behind_in net files none) refl (NotIn net files) refl
+      line_asks (verb.Lists Not) (codes "--in" ∷ net ∷ []) (codes "--in" ∷ net ∷ []) files (is, all, no_page, none, enough)
+      (behind_value (verb.Lists Not) (codes "--in") net files refl none) refl (NotIn net files) refl
   typed_asks (Diff old new) typed = plain_asks verb.Diff (old ∷ new ∷ []) (Diff old new) typed refl refl
-  typed_asks (Free pool len used) typed = plain_asks verb.Free (pool ∷ len ∷ used) (Free pool len used) typed refl refl
+  typed_asks (Free First pool len used) (one, typed) =
+      plain_asks verb.Free (pool ∷ len ∷ used) (Free First pool len used) typed refl (extent_asks false [] None First options pool len used one refl refl)
+  typed_asks (Free (Count count) pool len used) (one, (is, all, no_page, none, enough)) =
+      line_asks verb.Free (codes "--count" ∷ count ∷ []) (codes "--count" ∷ count ∷ []) (pool ∷ len ∷ used) (is, all, no_page, none, enough)
+      (behind_count count (pool ∷ len ∷ used) none) refl (Free (Count count) pool len used)
+      (extent_asks false (codes "--count" ∷ count ∷ []) (Some count) (Count count) options pool len used one refl refl)
+  typed_asks (Free All pool len used) (every, typed) =
+      plain_asks verb.Free (pool ∷ len ∷ used) (Free All pool len used) typed refl (extent_asks true [] None All options pool len used every refl refl)
+  typed_asks (Split operand len) typed = plain_asks verb.Split (operand ∷ len ∷ []) (Split operand len) typed refl refl
   typed_asks (Check files) typed = plain_asks verb.Check files (Check files) typed refl refl
+  typed_asks (Which address files) typed = plain_asks verb.Which (address ∷ files) (Which address files) typed refl refl
   typed_asks (Match given list file) (same, inl typed) =
       plain_asks verb.Match (list ∷ file ∷ []) (Match options list file) typed refl refl ∙ ap (λ (k : List (List ℕ)). Ok (reading_of options, Match k list file)) (sym same)
   typed_asks (Match given list file) (same, inr (input, typed)) =
@@ -170,8 +215,8 @@ module _ (words options : List (List ℕ)) where
   typed_asks (Look table file) (inr (input, typed)) =
       plain_asks verb.Look (table ∷ []) (Look table input_name) typed refl refl ∙ ap (λ (k : List ℕ). Ok (reading_of options, Look table k)) (sym input)
   typed_asks (Compile table name) typed = plain_asks verb.Compile (table ∷ name ∷ []) (Compile table name) typed refl refl
+  typed_asks (Describe what operand) typed = plain_asks (verb.Describe what) (operand ∷ []) (Describe what operand) typed refl refl
   typed_asks (Single (Show host)) typed = plain_asks verb.Show (host ∷ []) (Single (Show host)) typed refl refl
-  typed_asks (Single (Split net len)) typed = plain_asks verb.Split (net ∷ len ∷ []) (Single (Split net len)) typed refl refl
   typed_asks (Single (Nth net place)) typed = plain_asks verb.Nth (net ∷ place ∷ []) (Single (Nth net place)) typed refl refl
   typed_asks (Help None) typed = plain_asks verb.Help [] (Help None) typed refl refl
   typed_asks (Help (Some command)) typed =

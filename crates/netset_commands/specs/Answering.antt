@@ -1,5 +1,5 @@
 -- What functions that read several lists promise.
-use Rattle.std.specs.Prelude.{◌≡◌, ℕ, Bool, List, [], ◌∷◌, Option, Some, Result, Ok, Err}
+use Rattle.std.specs.Prelude.{◌≡◌, ◌⊎◌, ℕ, ◌≤◌, Bool, List, [], ◌∷◌, Option, Some, None, Result, Ok, Err}
 use Rattle.std.specs.List.{AllZip}
 use Rattle.cidr.specs.declared.cidr.combined.IpCidr.{IpCidr}
 use Rattle.cidr.specs.declared.family.Family.{Family}
@@ -8,13 +8,27 @@ use Rattle.cidr_lists.specs.Changes.{merged}
 use Rattle.cidr_lists.specs.Lists.{Text, ListSays, IsFirstError, networks_in}
 use Rattle.cidr_lists.specs.Reading.{Grows}
 use Rattle.cidr_lists.specs.Sets.{networks_of}
-use Rattle.netset_commands.specs.Commands.{AreTold, Says}
-use Rattle.netset_commands.specs.Program.{IsUnread}
+use Rattle.netset_commands.specs.Commands.{AreTold, HoldsOf, IsFree, IsTold, Says}
+use Rattle.netset_commands.specs.Program.{HasNoSubnets, IsBadArgument, IsUnread, IsUnreadPool, by_output}
+use Rattle.netset_commands.specs.Stored.{AreFileBytes, IsNotGiven}
+use Rattle.cidr_io.specs.Writing.{State, Answered}
+use Rattle.cidr_io.specs.declared.sink.OutputFailed.{OutputFailed}
+use Rattle.netset_commands.specs.Describing.{told_of}
+use Rattle.netset_commands.specs.Free.{IsBadLength, IsFreeText}
+use Rattle.netset_commands.specs.Single.{HasNone, IsNumber, split_text}
+use Rattle.netset_commands.specs.Operands.{IsUnlisted, IsUnreadOperand, OfList, OfOperand}
+use Rattle.netset_commands.specs.declared.commands.describe.Description.{Description}
+use Rattle.netset_commands.specs.declared.output.answers.Verdict.{Verdict}
+use Rattle.netset_commands.specs.declared.output.answers.Verdict.TheVariants.{Yes}
 use Rattle.cidr_lists.specs.declared.changes.Sign.{Sign}
 use Rattle.netset_commands.specs.declared.errors.CommandError.{CommandError}
+use Rattle.netset_commands.specs.declared.errors.ArgumentError.TheVariants as bad
 use Rattle.netset_commands.specs.declared.errors.CommandError.TheVariants as error
+use Rattle.std.specs.Borrow.{Bor}
 use Rattle.cidr_lists.specs.declared.lists.Lists.{Lists}
 use Rattle.cidr_lists.specs.declared.sets.Sets.{Sets}
+use Rattle.netset_commands.specs.declared.input.begun.Given.{Given}
+use Rattle.netset_commands.specs.declared.input.begun.Given.TheVariants.{Lines, Stored}
 use Rattle.netset_commands.specs.declared.input.several.Several.{Several}
 
 -- why the file of this name is not read
@@ -41,6 +55,22 @@ abbrev pub ReadsFile : Option Text → List ℕ → Result Sets CommandError →
 ReadsFile contents name (Ok sets) = (text : Text) → contents ≡ Some text → (said : List (List IpCidr)) × ListSays text said × HasAddresses said sets
 ReadsFile contents name (Err e) = IsFileError contents name e
 
+-- what a file has in the place of a list: lines, by the addresses that they say, or the bytes of a file of look-ups; or why it is
+-- not read
+abbrev pub GivesList : Option Text → List ℕ → Result (Given Sets) CommandError → Type 0
+GivesList contents name (Ok (Lines sets)) = ReadsFile contents name (Ok sets)
+GivesList contents name (Ok (Stored bytes)) = AreFileBytes contents bytes.items
+GivesList contents name (Err e) = IsNotGiven (IsFileError contents name) contents name e
+
+-- the sets have the addresses of a list, or of the rows of a file of look-ups
+abbrev pub AreAddresses : Text → Sets → Type 0
+AreAddresses text sets = HoldsOf text (λ IsIn. (family : Family) → IsSetOf 129 (IsIn family) (networks_of sets family))
+
+-- the addresses of a file, or why it is not read
+abbrev pub ReadsAddresses : Option Text → List ℕ → Result Sets CommandError → Type 0
+ReadsAddresses contents name (Ok sets) = (text : Text) → contents ≡ Some text → AreAddresses text sets
+ReadsAddresses contents name (Err e) = IsNotGiven (IsFileError contents name) contents name e
+
 -- each list of some files has the addresses of its set
 abbrev pub AreRead : (List ℕ → Option Text) → List (List ℕ) → List Sets → Type 0
 AreRead contents names sets = (texts : List Text) → AreTold contents names texts
@@ -55,6 +85,51 @@ ReadsSeveral contents names (Err e) = IsUnread contents names e
 abbrev pub ReadsBoth : (List ℕ → Option Text) → List ℕ → List ℕ → Result (Sets × Sets) CommandError → Type 0
 ReadsBoth contents old new (Ok (these, those)) = ReadsFile (contents old) old (Ok these) × ReadsFile (contents new) new (Ok those)
 ReadsBoth contents old new (Err e) = IsUnread contents (old ∷ new ∷ []) e
+
+-- an error of reading a file, where that is an operand that is no network and no address
+abbrev pub operand_error : Bor (List ℕ) → CommandError → CommandError
+operand_error operand (error.Input name why) = error.Argument operand bad.Operand
+operand_error operand e = e
+
+-- the addresses of the list of a file, or why it is not read
+abbrev pub ReadsListed : (List ℕ → Option Text) → List ℕ → Result Sets CommandError → Type 0
+ReadsListed contents operand (Ok sets) = OfList (contents operand) (λ said. HasAddresses said sets)
+ReadsListed contents operand (Err e) = IsUnlisted contents operand e
+
+-- the addresses of an operand, or why it is not read
+abbrev pub ReadsOperand : (List ℕ → Option Text) → List ℕ → Result Sets CommandError → Type 0
+ReadsOperand contents operand (Ok sets) = OfOperand contents operand (λ said. HasAddresses said sets)
+ReadsOperand contents operand (Err e) = IsUnreadOperand contents operand e
+
+-- those of a pool and of the lists of what is used, or why they are not read
+abbrev pub ReadsPool : (List ℕ → Option Text) → List ℕ → List (List ℕ) → Result Several CommandError → Type 0
+ReadsPool contents pool used (Ok several) = ReadsOperand contents pool (Ok several.first) × AreRead contents used several.others.items
+ReadsPool contents pool used (Err e) = IsUnreadPool contents pool used e
+
+-- the free networks of sets were told
+abbrev pub TellsFree : (Family → List (List Bool)) → ℕ → Option ℕ → State → State → Result Verdict CommandError → Type 0
+TellsFree sets n most old new r = (answer : List ℕ) × (verdict : Verdict) × (written : Result (Unit {0}) OutputFailed)
+    × IsFreeText sets n most answer verdict × Answered old new answer written × (r ≡ by_output verdict written)
+
+-- the networks inside a network were told, or the length is none of theirs
+abbrev pub SplitsNetwork : IpCidr → List ℕ → State → State → Result Verdict CommandError → Type 0
+SplitsNetwork network len old new r = ((new ≡ old) × (e : CommandError) × (r ≡ Err e) × IsBadArgument (HasNoSubnets network len) e)
+    ⊎ ((n : ℕ) × IsNumber len n × ¬ (HasNone network n) × (written : Result (Unit {0}) OutputFailed)
+    × Answered old new (split_text network n) written × (r ≡ by_output Yes written))
+
+-- those inside the networks of a list were told, or the length is none, or the list is not read
+abbrev pub SplitsList : (List ℕ → Option Text) → List ℕ → List ℕ → State → State → Result Verdict CommandError → Type 0
+SplitsList contents file len old new r =
+    ((new ≡ old) × (e : CommandError) × (r ≡ Err e) × (IsBadArgument (IsBadLength len) e ⊎ ((n : ℕ) × IsNumber len n × (n ≤ 128) × IsUnlisted contents file e)))
+    ⊎ ((n : ℕ) × IsNumber len n × (n ≤ 128) × (answer : List ℕ) × (verdict : Verdict) × (written : Result (Unit {0}) OutputFailed)
+    × OfList (contents file) (λ said. IsFree n None (said ∷ []) answer verdict) × Answered old new answer written × (r ≡ by_output verdict written))
+
+-- what is told of the networks of an operand was written, or it is not read
+abbrev pub DescribesNetworks : (List ℕ → Option Text) → Description → List ℕ → State → State → Result Verdict CommandError → Type 0
+DescribesNetworks contents what operand old new r =
+    ((new ≡ old) × (e : CommandError) × (r ≡ Err e) × IsUnreadOperand contents operand e)
+    ⊎ ((answer : List ℕ) × (written : Result (Unit {0}) OutputFailed) × OfOperand contents operand (λ said. IsTold (told_of what) said answer)
+    × Answered old new answer written × (r ≡ by_output Yes written))
 
 -- the networks of two sets with their signs
 abbrev pub changed : Sets → Sets → Family → List (Sign × List Bool)

@@ -1,21 +1,24 @@
 -- The words of a command line as options and operands, and the request that they are. Options are those of POSIX.1-2024,
 -- XBD 12.2, guidelines 4 to 6 and 10, and long ones, which begin with --; they may also stand behind operands.
-use Rattle.std.specs.Prelude.{ℕ, ◌==◌, nat_eq, nat_lt, Bool, false, if◌then◌else◌, ◌&&◌, ◌||◌, List, [], ◌∷◌, ◌++◌, length, drop, map, codes, Option, Some, None, Result, Ok, Err, slice_get, slice_index, ok_or, unwrap_or, option_and_then}
+use Rattle.std.specs.Prelude.{ℕ, ◌==◌, nat_eq, nat_lt, Bool, true, false, if◌then◌else◌, ◌&&◌, ◌||◌, List, [], ◌∷◌, ◌++◌, length, drop, map, codes, Option, Some, None, Result, Ok, Err, slice_get, slice_index, ok_or, unwrap_or, option_and_then}
 use Rattle.std.specs.List.{after_first, before_first, find, list_all, starts_with}
 use Rattle.cidr_io.specs.Shown.{excerpt}
-use Rattle.netset_commands.specs.Commands.{Request, Lists, NotIn, Diff, Free, Check, Match, Look, Compile, Single, Help, Version, input_name, reading_of}
+use Rattle.cidr_lists.specs.Formats.{Style, bare, format_of}
+use Rattle.cidr_lists.specs.declared.formats.Format.{Format}
+use Rattle.cidr_lists.specs.declared.formats.Format.TheVariants as format
+use Rattle.netset_commands.specs.Commands.{Request, Lists, Styled, NotIn, Diff, Free, Split, Check, Which, Match, Look, Compile, Describe, Single, Help, Version, input_name, reading_of}
+use Rattle.netset_commands.specs.Free.{Extent, First, Count, All}
 use Rattle.netset_commands.specs.Matching.{has, is_word}
-use Rattle.netset_commands.specs.Single.{Show, Split, Nth}
+use Rattle.netset_commands.specs.Single.{Show, Nth}
 use Rattle.netset_commands.specs.Table.{commands, most_of, name_of, needed_of, options_of, takes_value}
 use Rattle.netset_commands.specs.declared.commands.Reading.{Reading}
 use Rattle.netset_commands.specs.declared.commands.arguments.Next.{Next}
 use Rattle.netset_commands.specs.declared.commands.arguments.Next.TheVariants.{Any, Value, Operand}
 use Rattle.netset_commands.specs.declared.commands.operations.Operation.{Operation}
-use Rattle.netset_commands.specs.declared.commands.operations.Operation.TheVariants.{Not}
 use Rattle.netset_commands.specs.declared.commands.table.Verb.{Verb}
 use Rattle.netset_commands.specs.declared.commands.table.Verb.TheVariants as verb
 use Rattle.netset_commands.specs.declared.errors.Misfit.{Misfit}
-use Rattle.netset_commands.specs.declared.errors.Misfit.TheVariants.{Unnamed, NoCommand, NoOption, Missing, Extra}
+use Rattle.netset_commands.specs.declared.errors.Misfit.TheVariants.{Unnamed, NoCommand, NoOption, Missing, Extra, NoFormat, NotPlain, NotStyled}
 
 -- ---- the line of a word that is wrong
 abbrev pub misfit_text : Misfit → List ℕ
@@ -24,6 +27,9 @@ misfit_text NoCommand = codes ": no such command, see: netset help"
 misfit_text NoOption = codes ": no such option, see: netset help "
 misfit_text Missing = codes " is missing, see: netset help "
 misfit_text Extra = codes ": one argument too many, see: netset help "
+misfit_text NoFormat = codes ": no such format, but plain, json, nft, ipset, iptables, cisco, juniper and bird, see: netset help "
+misfit_text NotPlain = codes ": for the format plain alone, see: netset help "
+misfit_text NotStyled = codes ": not with --format, --prefix or --suffix, see: netset help "
 
 -- the word or what is missing, what is wrong with it, and the command whose page is to be seen
 abbrev pub misuse_text : List ℕ → Misfit → List ℕ → List ℕ
@@ -35,7 +41,7 @@ and_then (Ok value) made = made value
 and_then (Err line) made = Err line
 
 -- ---- options and operands
--- of some words: options without a value, each as -v or --any; the values of the others; operands
+-- of some words: options without a value, each as -v or --any; the others, each with its value behind it; operands
 pub record Parts : Type 0 where
   pub options : List (List ℕ)
   pub values : List (List ℕ)
@@ -49,6 +55,9 @@ only_options words = record { options = words; values = []; operands = [] }
 
 abbrev pub only_value : List ℕ → Parts
 only_value word = record { options = []; values = word ∷ []; operands = [] }
+
+abbrev pub named_value : List ℕ → List ℕ → Parts
+named_value name value = record { options = []; values = name ∷ value ∷ []; operands = [] }
 
 abbrev pub only_operand : List ℕ → Parts
 only_operand word = record { options = []; values = []; operands = word ∷ [] }
@@ -99,8 +108,8 @@ topic_parts command word = if is_topic command word then Ok (only_operand word, 
 abbrev pub long_parts : Verb → List ℕ → Result (Parts × Next) (List ℕ)
 long_parts command word =
     if takes command word then Ok (only_options (word ∷ []), Any)
-    else if takes_value command word then Ok (no_parts, Value)
-    else if takes_value command (before_first is_equals word) then Ok (only_value (after_first is_equals word), Any)
+    else if takes_value command word then Ok (only_value word, Value)
+    else if takes_value command (before_first is_equals word) then Ok (named_value (before_first is_equals word) (after_first is_equals word), Any)
     else topic_parts command word
 
 -- what a word adds, and what the next one is: an option or an operand, the value of this option, or behind -- an operand
@@ -114,7 +123,7 @@ word_parts command Any word =
 
 -- the parts of words
 abbrev pub parts_from : Verb → List (List ℕ) → Next → Result Parts (List ℕ)
-parts_from command [] Value = Err (misuse_text (codes "NET") Missing (name_of command))
+parts_from command [] Value = Err (misuse_text (codes "VALUE") Missing (name_of command))
 parts_from command [] next = Ok no_parts
 parts_from command (word ∷ words) next =
     and_then (word_parts command next word) (λ one. and_then (parts_from command words one.1) (λ rest. Ok (joined_arguments one.0 rest)))
@@ -142,11 +151,77 @@ line_parts (word ∷ words) = and_then (named_verb word) (λ command. and_then (
 abbrev pub operand_or : List (List ℕ) → ℕ → List ℕ → List ℕ
 operand_or operands place otherwise = unwrap_or (slice_get operands place) otherwise
 
--- an operation on lists; not may have the values of --in
+-- a value of an option, if it has none yet
+abbrev pub fresh : Verb → Option (List ℕ) → List ℕ → Result (Option (List ℕ)) (List ℕ)
+fresh command None value = Ok (Some value)
+fresh command (Some old) value = Err (misuse_text value Extra (name_of command))
+
+-- the same of an option with its value, if it is the one of this name
+abbrev pub taken_value : Verb → List ℕ → Option (List ℕ) → List ℕ → List ℕ → Result (Option (List ℕ)) (List ℕ)
+taken_value command name found option value = if is_word name option then fresh command found value else Ok found
+
+-- the value of an option among options with their values, behind those before
+abbrev pub value_behind : Verb → List ℕ → Option (List ℕ) → List (List ℕ) → Result (Option (List ℕ)) (List ℕ)
+value_behind command name found (option ∷ value ∷ rest) =
+    and_then (taken_value command name found option value) (λ now. value_behind command name now rest)
+value_behind command name found words = Ok found
+
+-- the value of an option, if it is given; it may be given once
+abbrev pub value_of : Verb → List ℕ → List (List ℕ) → Result (Option (List ℕ)) (List ℕ)
+value_of command name values = value_behind command name None values
+
+-- the format of a name
+abbrev pub named_format : Verb → List ℕ → Result Format (List ℕ)
+named_format command name = ok_or (format_of name) (misuse_text name NoFormat (name_of command))
+
+-- a format with a prefix and a suffix, which only the plain one has
+abbrev pub is_plain : Format → Bool
+is_plain format.Plain = true
+is_plain format = false
+
+abbrev pub style_by : Verb → Format → Bool → Option (List ℕ) → Option (List ℕ) → Result Style (List ℕ)
+style_by command format true prefix suffix = Ok (record { format = format; prefix = unwrap_or prefix []; suffix = unwrap_or suffix [] })
+style_by command format false (Some prefix) suffix = Err (misuse_text (codes "--prefix") NotPlain (name_of command))
+style_by command format false None (Some suffix) = Err (misuse_text (codes "--suffix") NotPlain (name_of command))
+style_by command format false None None = Ok (bare format)
+
+abbrev pub style_of : Verb → Format → Option (List ℕ) → Option (List ℕ) → Result Style (List ℕ)
+style_of command format prefix suffix = style_by command format (is_plain format) prefix suffix
+
+abbrev pub some_style : Verb → Format → Option (List ℕ) → Option (List ℕ) → Result (Option Style) (List ℕ)
+some_style command format prefix suffix = and_then (style_of command format prefix suffix) (λ style. Ok (Some style))
+
+-- how networks are written, if one of the options says it
+abbrev pub chosen_style : Verb → Option (List ℕ) → Option (List ℕ) → Option (List ℕ) → Result (Option Style) (List ℕ)
+chosen_style command None None None = Ok None
+chosen_style command None prefix suffix = some_style command format.Plain prefix suffix
+chosen_style command (Some name) prefix suffix = and_then (named_format command name) (λ format. some_style command format prefix suffix)
+
+abbrev pub style_in_values : Verb → List (List ℕ) → Result (Option Style) (List ℕ)
+style_in_values command values = and_then (value_of command (codes "--format") values)
+    (λ name. and_then (value_of command (codes "--prefix") values)
+    (λ prefix. and_then (value_of command (codes "--suffix") values) (λ suffix. chosen_style command name prefix suffix)))
+
+-- an operation on lists; not may be inside a network
+abbrev pub made_request : Operation → Option (List ℕ) → Option Style → List (List ℕ) → Result Request (List ℕ)
+made_request operation None None files = Ok (Lists operation files)
+made_request operation None (Some style) files = Ok (Styled style operation files)
+made_request operation (Some net) None files = Ok (NotIn net files)
+made_request operation (Some net) (Some style) files = Err (misuse_text (codes "--in") NotStyled (name_of (verb.Lists operation)))
+
 abbrev pub lists_request : Operation → List (List ℕ) → List (List ℕ) → Result Request (List ℕ)
-lists_request Not (net ∷ []) files = Ok (NotIn net files)
-lists_request Not (net ∷ other ∷ nets) files = Err (misuse_text other Extra (codes "not"))
-lists_request operation nets files = Ok (Lists operation files)
+lists_request operation values files = and_then (value_of (verb.Lists operation) (codes "--in") values)
+    (λ net. and_then (style_in_values (verb.Lists operation) values) (λ style. made_request operation net style files))
+
+-- how many networks free is to tell: by the value of --count, or by --all, or the first
+abbrev pub extent_by : Bool → Option (List ℕ) → Result Extent (List ℕ)
+extent_by false None = Ok First
+extent_by true None = Ok All
+extent_by false (Some count) = Ok (Count count)
+extent_by true (Some count) = Err (misuse_text (codes "--all") Extra (codes "free"))
+
+abbrev pub extent_in : Parts → Result Extent (List ℕ)
+extent_in parts = and_then (value_of verb.Free (codes "--count") parts.values) (λ count. extent_by (has (codes "--all") parts.options) count)
 
 -- the command help, of a command or of all
 abbrev pub help_request : List (List ℕ) → Result Request (List ℕ)
@@ -157,13 +232,15 @@ help_request (word ∷ words) = and_then (named_verb word) (λ command. Ok (Help
 abbrev pub verb_request : Verb → Parts → Result Request (List ℕ)
 verb_request (verb.Lists operation) parts = lists_request operation parts.values parts.operands
 verb_request verb.Diff parts = Ok (Diff (operand_or parts.operands 0 []) (operand_or parts.operands 1 []))
-verb_request verb.Free parts = Ok (Free (operand_or parts.operands 0 []) (operand_or parts.operands 1 []) (drop 2 parts.operands))
+verb_request verb.Free parts = and_then (extent_in parts) (λ extent. Ok (Free extent (operand_or parts.operands 0 []) (operand_or parts.operands 1 []) (drop 2 parts.operands)))
 verb_request verb.Check parts = Ok (Check parts.operands)
+verb_request verb.Which parts = Ok (Which (operand_or parts.operands 0 []) (drop 1 parts.operands))
 verb_request verb.Match parts = Ok (Match parts.options (operand_or parts.operands 0 []) (operand_or parts.operands 1 input_name))
 verb_request verb.Look parts = Ok (Look (operand_or parts.operands 0 []) (operand_or parts.operands 1 input_name))
 verb_request verb.Compile parts = Ok (Compile (operand_or parts.operands 0 []) (operand_or parts.operands 1 []))
+verb_request (verb.Describe what) parts = Ok (Describe what (operand_or parts.operands 0 []))
 verb_request verb.Show parts = Ok (Single (Show (operand_or parts.operands 0 [])))
-verb_request verb.Split parts = Ok (Single (Split (operand_or parts.operands 0 []) (operand_or parts.operands 1 [])))
+verb_request verb.Split parts = Ok (Split (operand_or parts.operands 0 []) (operand_or parts.operands 1 []))
 verb_request verb.Nth parts = Ok (Single (Nth (operand_or parts.operands 0 []) (operand_or parts.operands 1 [])))
 verb_request verb.Help parts = help_request parts.operands
 verb_request verb.Version parts = Ok Version

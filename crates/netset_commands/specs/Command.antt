@@ -1,35 +1,49 @@
 -- The request that a command of the program is.
-use Rattle.std.specs.Prelude.{◌≡◌, ℕ, Bool, true, List, map, Result, Ok, Err}
+use Rattle.std.specs.Prelude.{◌≡◌, ℕ, Bool, true, List, map, Option, option_map, Result, Ok, Err}
+use Rattle.cidr_lists.specs.Formats.{style_in}
 use Rattle.netset_commands.specs.Arguments.{Parts, joined_arguments, misuse_text}
-use Rattle.netset_commands.specs.Commands.{Request, Lists, NotIn, Diff, Free, Check, Match, Look, Compile, Single as ASingle, Help, Version}
+use Rattle.netset_commands.specs.Commands.{Request, Lists, Styled, NotIn, Diff, Free, Split, Check, Which, Match, Look, Compile, Describe, Single as ASingle, Help, Version}
+use Rattle.netset_commands.specs.Free.{Extent, First, Count, All}
 use Rattle.netset_commands.specs.Table.{texts}
+use Rattle.netset_commands.specs.declared.commands.free.Extent.{Extent as GivenExtent}
+use Rattle.netset_commands.specs.declared.commands.free.Extent.TheVariants as extent
 use Rattle.netset_commands.specs.declared.commands.arguments.Next.{Next}
 use Rattle.netset_commands.specs.declared.commands.arguments.Parts.{Parts as GivenParts}
 use Rattle.netset_commands.specs.declared.errors.Misuse.{Misuse}
 use Rattle.netset_commands.specs.declared.errors.UsageError.{UsageError}
 use Rattle.netset_commands.specs.declared.errors.UsageError.TheVariants as wrong
-use Rattle.netset_commands.specs.Single.{SingleRequest, Show, Split, Nth}
+use Rattle.netset_commands.specs.Single.{SingleRequest, Show, Nth}
 use Rattle.netset_commands.specs.declared.commands.Command.{Command}
 use Rattle.netset_commands.specs.declared.commands.Command.TheVariants as command
 use Rattle.netset_commands.specs.declared.commands.single.Single.{Single}
 use Rattle.netset_commands.specs.declared.commands.single.Single.TheVariants as single
+use denote.Ref.{Bor}
 
 -- the same command on one host or network with the bytes of its arguments
 abbrev pub single_request : Single → SingleRequest
 single_request (single.Show host) = Show host.now
-single_request (single.Split net len) = Split net.now len.now
 single_request (single.Nth net place) = Nth net.now place.now
+
+-- how many free networks, with the bytes of the argument
+abbrev pub extent_of : GivenExtent → Extent
+extent_of extent.First = First
+extent_of (extent.Count text) = Count text.now
+extent_of extent.All = All
 
 -- the same command with the bytes of its arguments
 abbrev pub request_of : Command → Request
 request_of (command.Lists operation files) = Lists operation (map (λ file. file.now) files.now)
+request_of (command.Styled style operation files) = Styled (style_in style) operation (map (λ file. file.now) files.now)
 request_of (command.NotIn net files) = NotIn net.now (map (λ file. file.now) files.now)
 request_of (command.Diff old new) = Diff old.now new.now
-request_of (command.Free pool len used) = Free pool.now len.now (map (λ file. file.now) used.now)
+request_of (command.Free extent pool len used) = Free (extent_of extent) pool.now len.now (map (λ file. file.now) used.now)
+request_of (command.Split operand len) = Split operand.now len.now
 request_of (command.Check files) = Check (map (λ file. file.now) files.now)
+request_of (command.Which address files) = Which address.now (map (λ file. file.now) files.now)
 request_of (command.Match options list file) = Match (map (λ w. w.now) options.now) list.now file.now
 request_of (command.Look table file) = Look table.now file.now
 request_of (command.Compile table name) = Compile table.now name.now
+request_of (command.Describe what operand) = Describe what operand.now
 request_of (command.Single single) = ASingle (single_request single)
 request_of (command.Help topic) = Help topic
 request_of command.Version = Version
@@ -38,6 +52,10 @@ request_of command.Version = Version
 -- the parts of words by their bytes
 abbrev pub parts_in : GivenParts → Parts
 parts_in parts = record { options = texts parts.options.items; values = texts parts.values.items; operands = texts parts.operands.items }
+
+-- a value that is given, by its bytes
+abbrev pub given : Option (Bor (List ℕ)) → Option (List ℕ)
+given word = option_map (λ (w : Bor (List ℕ)). w.now) word
 
 -- the line of a word that is wrong
 abbrev pub misuse_line : Misuse → List ℕ

@@ -1,20 +1,30 @@
 -- The requests and what each is answered with.
-use Rattle.std.specs.Prelude.{◌≡◌, ℕ, ◌<◌, ◌≤◌, Bool, if◌then◌else◌, List, [], ◌∷◌, ◌++◌, count_by, codes, Option, Some, None}
+use Rattle.std.specs.Prelude.{◌≡◌, ◌⊎◌, ℕ, ◌<◌, ◌≤◌, Bool, if◌then◌else◌, List, [], ◌∷◌, ◌++◌, count_by, codes, drop, Option, Some, None}
 use Rattle.std.specs.List.{AllZip}
+use Rattle.std.specs.Map.{keys_of}
 use Rattle.cidr.specs.either.IpText.{IsIpNetworkText}
 use Rattle.cidr.specs.declared.cidr.combined.IpCidr.{IpCidr}
 use Rattle.cidr.specs.declared.family.Family.{Family}
 use Rattle.cidr_table.specs.Cover.{Covers}
 use Rattle.cidr_sets.specs.Sets.{IsSetOf}
+use Rattle.netset_commands.specs.Compiled.{HasTable}
+use Rattle.netset_commands.specs.Describing.{IsNoLength, IsOfLength, all_told, told_of}
 use Rattle.netset_commands.specs.Findings.{IsCheck}
-use Rattle.netset_commands.specs.Free.{IsFreeText}
+use Rattle.netset_commands.specs.Free.{Extent, IsFreeText, IsMost}
 use Rattle.netset_commands.specs.Look.{IsLook}
 use Rattle.cidr_lists.specs.Lists.{Text, ListSays, line_networks, networks_in}
+use Rattle.cidr_lists.specs.Formats.{Style, styled}
 use Rattle.cidr_lists.specs.Changes.{AreChanges, printed_changes}
 use Rattle.netset_commands.specs.Changes.{AreSame}
 use Rattle.netset_commands.specs.Combining.{form_of, IsMade}
+use Rattle.netset_commands.specs.Operands.{IsNoNetworkText, OfList, OfOperand, ReadsAsNetwork}
 use Rattle.netset_commands.specs.Matching.{has, is_word, written_of, IsMatch, Picks}
 use Rattle.netset_commands.specs.Table.{help_text}
+use Rattle.netset_commands.specs.Which.{IsWhich}
+use Rattle.cidr.specs.either.IpAddress.{IsIpText}
+use Rattle.cidr.specs.declared.addr.ip.IpAddr.{IpAddr}
+use Rattle.netset_commands.specs.declared.commands.describe.Description.{Description}
+use Rattle.netset_commands.specs.declared.commands.describe.Description.TheVariants.{Zones, Masks}
 use Rattle.netset_commands.specs.declared.commands.table.Verb.{Verb}
 use Rattle.netset_commands.specs.declared.commands.Reading.{Reading}
 use Rattle.cidr_lists.specs.declared.lines.HostBits.TheVariants.{Refused, Cleared}
@@ -23,7 +33,7 @@ use Rattle.cidr_lists.specs.declared.sets.Form.TheVariants.{Networks}
 use Rattle.netset_commands.specs.declared.commands.operations.Operation.{Operation}
 use Rattle.netset_commands.specs.declared.commands.operations.Operation.TheVariants.{Minus, Not}
 use Rattle.cidr_lists.specs.Sets.{IsPrinted}
-use Rattle.netset_commands.specs.Single.{SingleRequest, IsNumber, IsSingleAnswer}
+use Rattle.netset_commands.specs.Single.{SingleRequest, HasNone, IsNumber, IsSingleAnswer, split_text}
 use Rattle.netset_commands.specs.declared.output.answers.Verdict.{Verdict}
 use Rattle.netset_commands.specs.declared.output.answers.Verdict.TheVariants.{Yes}
 use Rattle.cidr_lists.specs.declared.changes.Sign.{Sign}
@@ -31,13 +41,17 @@ use Rattle.cidr_lists.specs.declared.changes.Sign.{Sign}
 -- a command and its arguments
 pub data Request : Type 0 where
   Lists : Operation → List (List ℕ) → Request
+  Styled : Style → Operation → List (List ℕ) → Request
   NotIn : List ℕ → List (List ℕ) → Request
   Diff : List ℕ → List ℕ → Request
-  Free : List ℕ → List ℕ → List (List ℕ) → Request
+  Free : Extent → List ℕ → List ℕ → List (List ℕ) → Request
+  Split : List ℕ → List ℕ → Request
   Check : List (List ℕ) → Request
+  Which : List ℕ → List (List ℕ) → Request
   Match : List (List ℕ) → List ℕ → List ℕ → Request
   Look : List ℕ → List ℕ → Request
   Compile : List ℕ → List ℕ → Request
+  Describe : Description → List ℕ → Request
   Single : SingleRequest → Request
   Help : Option Verb → Request
   Version : Request
@@ -52,16 +66,20 @@ read_files [] = input_name ∷ []
 read_files (file ∷ files) = file ∷ files
 
 -- ---- the files of a request
--- the lists that it reads
+-- the lists that it names
 abbrev pub lists_of : Request → List (List ℕ)
 lists_of (Lists operation files) = read_files files
+lists_of (Styled style operation files) = read_files files
 lists_of (NotIn net files) = read_files files
 lists_of (Diff old new) = old ∷ new ∷ []
-lists_of (Free pool len used) = pool ∷ used
+lists_of (Free extent pool len used) = pool ∷ used
+lists_of (Split operand len) = operand ∷ []
 lists_of (Check files) = read_files files
+lists_of (Which address files) = read_files files
 lists_of (Match options list file) = list ∷ []
 lists_of (Look table file) = table ∷ []
 lists_of (Compile table name) = table ∷ []
+lists_of (Describe what operand) = operand ∷ []
 lists_of request = []
 
 -- what it reads beside them
@@ -69,6 +87,22 @@ abbrev pub others_of : Request → List (List ℕ)
 others_of (Match options list file) = file ∷ []
 others_of (Look table file) = file ∷ []
 others_of request = []
+
+-- the operand is no list where this is told of it: a network, an address or, of masks, a prefix length
+abbrev pub IsNoList : Description → List ℕ → Type 0
+IsNoList Zones operand = ReadsAsNetwork operand
+IsNoList Masks operand = ((n : ℕ) × IsNumber operand n × (n ≤ 128)) ⊎ ReadsAsNetwork operand
+
+-- the first of them is no list
+abbrev pub HasNoFirstList : Request → Type 0
+HasNoFirstList (Free extent pool len used) = ReadsAsNetwork pool
+HasNoFirstList (Split operand len) = ReadsAsNetwork operand
+HasNoFirstList (Describe what operand) = IsNoList what operand
+HasNoFirstList request = ⊥
+
+-- these are the lists among them
+abbrev pub AreLists : Request → List (List ℕ) → Type 0
+AreLists request names = (HasNoFirstList request × (names ≡ drop 1 (lists_of request))) ⊎ (¬ (HasNoFirstList request) × (names ≡ lists_of request))
 
 -- the standard input is named twice among them, or once where it is read also without a name
 abbrev pub ReadsInputTwice : Request → Type 0
@@ -100,6 +134,12 @@ abbrev pub IsMadeOf : Operation → List Text → List ℕ → Type 0
 IsMadeOf operation texts answer =
     (said : List (List (List IpCidr))) × AllZip ListSays texts said × IsPrintOf (form_of operation) (IsMade Says operation said) answer
 
+-- the same in a style: what is printed of the shortest list of networks of each family that has these addresses
+abbrev pub IsStyledOf : Style → Operation → List Text → List ℕ → Type 0
+IsStyledOf style operation texts answer = (said : List (List (List IpCidr))) × AllZip ListSays texts said
+    × (sets : Family → List (List Bool)) × ((family : Family) → IsSetOf 129 (IsMade Says operation said family) (sets family))
+    × (answer ≡ styled style sets)
+
 -- the addresses of a network that none of the lists has
 abbrev pub IsNotIn : IpCidr → List Text → List ℕ → Type 0
 IsNotIn network texts answer = (said : List (List (List IpCidr))) × AllZip ListSays texts said
@@ -114,16 +154,45 @@ IsDiff old new answer verdict =
     × ((family : Family) → AreChanges (networks_in family before) (networks_in family after) (changes family))
     × (answer ≡ printed_changes changes) × AreSame changes verdict
 
--- the first network of n bits that has only addresses of the first list that no other has
-abbrev pub IsFree : ℕ → List Text → List ℕ → Verdict → Type 0
-IsFree n texts answer verdict = (said : List (List (List IpCidr))) × AllZip ListSays texts said
-    × (sets : Family → List (List Bool)) × ((family : Family) → IsSetOf 129 (IsMade Says Minus said family) (sets family))
-    × IsFreeText sets n answer verdict
+-- the first networks of n bits that have only addresses of a first list that no other has, at most so many
+abbrev pub IsFree : ℕ → Option ℕ → List (List (List IpCidr)) → List ℕ → Verdict → Type 0
+IsFree n most said answer verdict = (sets : Family → List (List Bool))
+    × ((family : Family) → IsSetOf 129 (IsMade Says Minus said family) (sets family)) × IsFreeText sets n most answer verdict
+
+-- the same of a pool and of files whose lists are used
+abbrev pub IsFreeOfUsed : (List ℕ → Option Text) → ℕ → Option ℕ → List (List ℕ) → List ℕ → Verdict → List (List IpCidr) → Type 0
+IsFreeOfUsed contents n most used answer verdict pool = (texts : List Text) → AreTold contents used texts
+    → (said : List (List (List IpCidr))) × AllZip ListSays texts said × IsFree n most (pool ∷ said) answer verdict
+
+-- the networks of n bits inside a network, or inside the networks of a list
+abbrev pub IsSplit : (List ℕ → Option Text) → List ℕ → ℕ → List ℕ → Verdict → Type 0
+IsSplit contents operand n answer verdict =
+    ((network : IpCidr) × IsIpNetworkText operand network × ¬ (HasNone network n) × (answer ≡ split_text network n) × (verdict ≡ Yes))
+    ⊎ (IsNoNetworkText operand × (n ≤ 128) × OfList (contents operand) (λ said. IsFree n None (said ∷ []) answer verdict))
+
+-- what is told of each network of the shortest list that has the addresses of lines
+abbrev pub IsTold : (IpCidr → List ℕ) → List (List IpCidr) → List ℕ → Type 0
+IsTold told said answer = (sets : Family → List (List Bool)) × ((family : Family) → IsSetOf 129 (Says said family) (sets family))
+    × (answer ≡ all_told told sets)
+
+-- what is told of an operand: of a prefix length, or of networks
+abbrev pub IsDescription : (List ℕ → Option Text) → Description → List ℕ → List ℕ → Type 0
+IsDescription contents what operand answer = IsOfLength what operand answer
+    ⊎ (IsNoLength what operand × OfOperand contents operand (λ said. IsTold (told_of what) said answer))
+
+-- the address is in the network of a row
+abbrev pub HasRow : (Family → List (List Bool × List ℕ)) → Family → List Bool → Type 0
+HasRow table family a = Covers (keys_of (table family)) a
+
+-- this holds of the addresses of a list: those of the networks of its lines, or of the rows of a file of look-ups
+abbrev pub HoldsOf : Text → ((Family → List Bool → Type 0) → Type 0) → Type 0
+HoldsOf text P = ((said : List (List IpCidr)) × ListSays text said × P (Says said))
+    ⊎ ((table : Family → List (List Bool × List ℕ)) × HasTable table text.bytes × P (HasRow table))
 
 -- the lines of a file that a list picks, where no line that was read is too long
 abbrev pub IsMatchOf : List (List ℕ) → Text → List ℕ → List ℕ → Verdict → Type 0
-IsMatchOf options networks text answer verdict = (said : List (List IpCidr)) × ListSays networks said
-    × IsMatch (Picks (has (codes "--any") options) (Says said) (has (codes "-v") options)) (written_of options) text None answer verdict
+IsMatchOf options networks text answer verdict = HoldsOf networks
+    (λ IsIn. IsMatch (Picks (has (codes "--any") options) IsIn (has (codes "-v") options)) (written_of options) text None answer verdict)
 
 -- what `--version` writes
 abbrev pub version_text : List ℕ
@@ -133,19 +202,25 @@ version_text = codes "netset 0.1.0\n"
 abbrev pub IsAnswer : (List ℕ → Option Text) → Request → List ℕ → Verdict → Type 0
 IsAnswer contents (Lists operation files) answer verdict =
     ((texts : List Text) → AreTold contents (read_files files) texts → IsMadeOf operation texts answer) × (verdict ≡ Yes)
+IsAnswer contents (Styled style operation files) answer verdict =
+    ((texts : List Text) → AreTold contents (read_files files) texts → IsStyledOf style operation texts answer) × (verdict ≡ Yes)
 IsAnswer contents (NotIn net files) answer verdict = (network : IpCidr) × IsIpNetworkText net network
     × ((texts : List Text) → AreTold contents (read_files files) texts → IsNotIn network texts answer) × (verdict ≡ Yes)
 IsAnswer contents (Diff old new) answer verdict =
     (before after : Text) → contents old ≡ Some before → contents new ≡ Some after → IsDiff before after answer verdict
-IsAnswer contents (Free pool len used) answer verdict = (n : ℕ) × IsNumber len n × (n ≤ 128)
-    × ((texts : List Text) → AreTold contents (pool ∷ used) texts → IsFree n texts answer verdict)
+IsAnswer contents (Free extent pool len used) answer verdict = (n : ℕ) × IsNumber len n × (n ≤ 128) × (most : Option ℕ) × IsMost extent most
+    × OfOperand contents pool (IsFreeOfUsed contents n most used answer verdict)
+IsAnswer contents (Split operand len) answer verdict = (n : ℕ) × IsNumber len n × IsSplit contents operand n answer verdict
 IsAnswer contents (Check files) answer verdict =
     (texts : List Text) → AreTold contents (read_files files) texts → IsCheck (read_files files) texts answer verdict
+IsAnswer contents (Which text files) answer verdict = (address : IpAddr) × IsIpText text address
+    × ((texts : List Text) → AreTold contents (read_files files) texts → IsWhich address (read_files files) texts answer verdict)
 IsAnswer contents (Match options list file) answer verdict =
     (networks text : Text) → contents list ≡ Some networks → contents file ≡ Some text → IsMatchOf options networks text.bytes answer verdict
 IsAnswer contents (Look table file) answer verdict =
     (rows text : Text) → contents table ≡ Some rows → contents file ≡ Some text → IsLook rows text.bytes answer verdict
 IsAnswer contents (Compile table name) answer verdict = (answer ≡ []) × (verdict ≡ Yes)
+IsAnswer contents (Describe what operand) answer verdict = IsDescription contents what operand answer × (verdict ≡ Yes)
 IsAnswer contents (Single request) answer verdict = IsSingleAnswer request answer verdict
 IsAnswer contents (Help topic) answer verdict = (answer ≡ help_text topic) × (verdict ≡ Yes)
 IsAnswer contents Version answer verdict = (answer ≡ version_text) × (verdict ≡ Yes)

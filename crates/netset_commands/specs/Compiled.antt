@@ -1,10 +1,13 @@
 -- The file of look-ups that a table is compiled into. What bytes are such a file is said in `cidr_files/specs/Tables.antt`.
-use Rattle.std.specs.Prelude.{◌≡◌, ℕ, ◌<◌, Bool, List, [], length, slice_index_or}
+use Rattle.std.specs.Prelude.{◌≡◌, ◌⊎◌, ℕ, ◌^◌, ◌<◌, ◌≤◌, ◌==◌, Bool, false, List, [], ◌∷◌, length, slice_index_or}
+use Rattle.std.specs.List.{sum_by}
 use Rattle.cidr.specs.declared.family.Family.{Family}
 use Rattle.cidr.specs.declared.family.Family.TheVariants.{Ipv4, Ipv6}
 use Rattle.cidr_arrays.specs.Arrays.{prefix_bits}
 use Rattle.cidr_files.specs.Layout.{ipv4_parts, ipv6_parts, wide_words, words}
 use Rattle.cidr_files.specs.Tables.{IsFile, IsSmall, stored_networks, value_in}
+use Rattle.cidr_lists.specs.Lists.{Text}
+use Rattle.cidr_lists.specs.Tables.{IsTable}
 
 -- the rows of a table in a file, where an address has w bits and bytes spell these numbers: each a network and its value
 pub record HasTheRows (w : ℕ) (numbers : List ℕ → List ℕ) (parts : List (List ℕ)) (rows : List (List Bool × List ℕ)) : Type 0 where
@@ -12,9 +15,31 @@ pub record HasTheRows (w : ℕ) (numbers : List ℕ → List ℕ) (parts : List 
   pub networks : (i : ℕ) → i < length rows → prefix_bits w (slice_index_or (stored_networks numbers parts) i (0, 0)) ≡ (slice_index_or rows i ([], [])).0
   pub values : (i : ℕ) → i < length rows → value_in parts i ≡ (slice_index_or rows i ([], [])).1
 
--- the bytes are a file whose rows are those of the table, within the limits of a check
-pub record IsFileOf (table : Family → List (List Bool × List ℕ)) (bytes : List ℕ) : Type 0 where
+-- the bytes are a file whose rows are those of the table
+pub record HasTable (table : Family → List (List Bool × List ℕ)) (bytes : List ℕ) : Type 0 where
   pub file : IsFile bytes
-  pub small : IsSmall bytes
   pub ipv4 : HasTheRows 32 words (ipv4_parts bytes) (table Ipv4)
   pub ipv6 : HasTheRows 128 wide_words (ipv6_parts bytes) (table Ipv6)
+
+-- the same, within the limits of a check
+pub record IsFileOf (table : Family → List (List Bool × List ℕ)) (bytes : List ℕ) : Type 0 where
+  pub has : HasTable table bytes
+  pub small : IsSmall bytes
+
+-- the rows of one family are more than a file has: 2 ^ 31 of them, or values of 2 ^ 32 bytes
+abbrev pub AreTooLarge : List (List Bool × List ℕ) → Type 0
+AreTooLarge rows = (2 ^ 31 ≤ length rows) ⊎ (2 ^ 32 ≤ sum_by (λ (row : List Bool × List ℕ). length row.1) rows)
+
+-- the table is too large for a file: one of its families is
+abbrev pub IsTooLarge : (Family → List (List Bool × List ℕ)) → Type 0
+IsTooLarge table = AreTooLarge (table Ipv4) ⊎ AreTooLarge (table Ipv6)
+
+-- ---- a file in the place of a table
+-- the first byte is that of a file of look-ups, 89 in base sixteen, with which no UTF-8 text begins
+abbrev pub begins_file : List ℕ → Bool
+begins_file [] = false
+begins_file (byte ∷ bytes) = byte == 137
+
+-- what a file says as a table: the rows of its lines, or those of a file of look-ups
+abbrev pub SaysTable : Text → (Family → List (List Bool × List ℕ)) → Type 0
+SaysTable text table = IsTable text table ⊎ HasTable table text.bytes

@@ -1,24 +1,77 @@
--- The first free network of a pool.
-use Rattle.std.specs.Prelude.{◌≡◌, ℕ, ◌<◌, Bool, List, [], Some, None}
-use Rattle.cidr.specs.either.IpText.{ip_network_text}
-use Rattle.cidr.specs.texts.Printed.{plain_text}
+-- The networks of a prefix length that are free in a pool, or inside the networks of a list.
+use Rattle.std.specs.Prelude.{◌≡◌, ◌⊎◌, ℕ, ◌-◌, ◌^◌, ◌<◌, ◌≤◌, nat_lt, if◌then◌else◌, Bool, List, [], ◌++◌, length, take, Option, Some, None, option_map, Result, Ok, Err}
+use Rattle.std.specs.List.{flat_map}
+use Rattle.cidr.specs.either.IpNetwork.{network_family, network_prefix}
+use Rattle.cidr.specs.model.Network.{width_of}
 use Rattle.cidr.specs.declared.cidr.combined.IpCidr.{IpCidr}
+use Rattle.cidr.specs.declared.cidr.combined.IpCidr.TheVariants.{V4, V6}
 use Rattle.cidr.specs.declared.family.Family.{Family}
-use Rattle.cidr_lists.specs.Printing.{line}
-use Rattle.netset_commands.specs.Single.{IsNumber}
+use Rattle.cidr.specs.declared.family.Family.TheVariants.{Ipv4, Ipv6}
+use Rattle.cidr_ext.specs.Subnets.{subnets_of}
+use Rattle.cidr_io.specs.Collecting.{Collects}
+use Rattle.cidr_io.specs.Writing.{State}
+use Rattle.cidr_io.specs.declared.sink.OutputFailed.{OutputFailed}
+use Rattle.cidr_lists.specs.Sets.{IsFreeOf}
+use Rattle.netset_commands.specs.Single.{IsNumber, subnet_line}
 use Rattle.netset_commands.specs.declared.output.answers.Verdict.{Verdict}
 use Rattle.netset_commands.specs.declared.output.answers.Verdict.TheVariants.{Yes, No}
 use Rattle.netset_commands.specs.declared.errors.ArgumentError.{ArgumentError}
 use Rattle.netset_commands.specs.declared.errors.ArgumentError.TheVariants as bad
-use Rattle.cidr_lists.specs.Sets.{IsFreeOf}
 
--- that network as a line, or nothing
-abbrev pub IsFreeText : (Family → List (List Bool)) → ℕ → List ℕ → Verdict → Type 0
-IsFreeText sets n answer Yes =
-    (network : IpCidr) × IsFreeOf sets n (Some network) × (answer ≡ line (ip_network_text plain_text network))
-IsFreeText sets n answer No = IsFreeOf sets n None × (answer ≡ [])
+-- how many of them are asked for: the first, so many of the first as an argument says, or all
+pub data Extent : Type 0 where
+  First : Extent
+  Count : List ℕ → Extent
+  All : Extent
 
+-- at most so many, or all for none
+abbrev pub IsMost : Extent → Option ℕ → Type 0
+IsMost First most = most ≡ Some 1
+IsMost (Count text) most = (m : ℕ) × IsNumber text m × (m < 2 ^ 64) × (most ≡ Some m)
+IsMost All most = most ≡ None
+
+-- the first of a list, at most so many, and how many more there may be behind them
+abbrev pub taken : {X : Type 0} → Option ℕ → List X → List X
+taken None xs = xs
+taken (Some m) xs = take m xs
+
+abbrev pub less : Option ℕ → ℕ → Option ℕ
+less most n = option_map (λ (m : ℕ). m - n) most
+
+-- the networks of n bits inside a network, ascending: none where it is longer, or where its family has none of n bits
+abbrev pub inside_of : ℕ → IpCidr → List (Family × List Bool)
+inside_of n network = if nat_lt n (length (network_prefix network)) then []
+    else (if nat_lt (width_of (network_family network)) n then [] else subnets_of (network_family network) (network_prefix network) n)
+
+-- those inside the networks of sets, IPv4 before IPv6: where these are the shortest list of some addresses, all networks of n
+-- bits that have only such addresses
+abbrev pub all_inside : ℕ → (Family → List (List Bool)) → List (Family × List Bool)
+all_inside n sets = flat_map (λ p. inside_of n (V4 p)) (sets Ipv4) ++ flat_map (λ p. inside_of n (V6 p)) (sets Ipv6)
+
+-- the first of them, one a line, or nothing where there is none
+abbrev pub IsFreeText : (Family → List (List Bool)) → ℕ → Option ℕ → List ℕ → Verdict → Type 0
+IsFreeText sets n most answer Yes =
+    (network : IpCidr) × IsFreeOf sets n (Some network) × (answer ≡ flat_map subnet_line (taken most (all_inside n sets)))
+IsFreeText sets n most answer No = IsFreeOf sets n None × (answer ≡ [])
+
+-- ---- arguments that are wrong
 -- the string is no prefix length
 abbrev pub IsBadLength : List ℕ → List ℕ → ArgumentError → Type 0
 IsBadLength len text bad.Length = (text ≡ len) × ((n : ℕ) → IsNumber len n → 128 < n)
 IsBadLength len text e = ⊥
+
+-- the string is no number below 2^64
+abbrev pub IsBadCount : Extent → List ℕ → ArgumentError → Type 0
+IsBadCount (Count count) text bad.Count = (text ≡ count) × ((m : ℕ) → IsNumber count m → 2 ^ 64 ≤ m)
+IsBadCount extent text e = ⊥
+
+-- the length is none, or else the count
+abbrev pub IsBadFree : Extent → List ℕ → List ℕ → ArgumentError → Type 0
+IsBadFree extent len text e = IsBadLength len text e ⊎ ((n : ℕ) × IsNumber len n × (n ≤ 128) × IsBadCount extent text e)
+
+-- ---- what private functions promise
+-- so many of the networks were collected, one a line
+abbrev pub TakesLines : Option ℕ → List (Family × List Bool) → State → State → List ℕ → List ℕ → Result (Option ℕ) OutputFailed → Type 0
+TakesLines most all old new block rest (Ok left) =
+    Collects old new block rest (flat_map subnet_line (taken most all)) (Ok tt) × (left ≡ less most (length all))
+TakesLines most all old new block rest (Err e) = Collects old new block rest (flat_map subnet_line (taken most all)) (Err e)

@@ -5,7 +5,7 @@ use Rattle.cidr.specs.declared.cidr.combined.IpCidr.{IpCidr}
 use Rattle.cidr.specs.declared.family.Family.{Family}
 use Rattle.cidr_io.specs.Collecting.{HasSaid}
 use Rattle.cidr_io.specs.Writing.{State, Tells}
-use Rattle.netset_commands.specs.Commands.{Request, Check, Look, Compile, AreTold}
+use Rattle.netset_commands.specs.Commands.{Request, Check, Which, Look, Compile, AreTold}
 use Rattle.netset_commands.specs.Entries.{AddsEntry}
 use Rattle.cidr_lists.specs.Entries.{AreEntries}
 use Rattle.cidr_lists.specs.Lists.{Text, LineSays, lines_of, networks_in, text_by}
@@ -29,6 +29,7 @@ use Rattle.cidr_lists.specs.Faults.{IsFaulty, AreErrors, AreTellings, IsPartTold
 -- what the lines of the lists of a request are
 abbrev pub kind_of : Request → Kind
 kind_of (Check files) = kind.Hosts
+kind_of (Which address files) = kind.Hosts
 kind_of (Look table file) = kind.Rows
 kind_of (Compile table name) = kind.Rows
 kind_of request = kind.Networks

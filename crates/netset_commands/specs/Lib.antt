@@ -6,11 +6,16 @@ pub mod Single
 pub mod Sets
 pub mod Changes
 pub mod Free
+pub mod Operands
+pub mod Describing
 pub mod Entries
 pub mod Findings
 pub mod Matching
-pub mod Look
+pub mod Which
 pub mod Compiled
+pub mod Look
+pub mod Stored
+pub mod Begun
 pub mod Saving
 pub mod Combining
 pub mod Table

@@ -4,13 +4,14 @@ use Rattle.std.specs.Prelude.{◌≡◌, ℕ, Bool, true, false, List, Option, S
 use Rattle.std.specs.List.{AllZip, flat_map, list_any}
 use Rattle.cidr.specs.declared.family.Family.{Family}
 use Rattle.cidr_lists.specs.Lists.{Text, IsFirstBad, lines_of}
+use Rattle.netset_commands.specs.Compiled.{SaysTable}
 use Rattle.netset_commands.specs.Streaming.{IsCut}
 use Rattle.netset_commands.specs.declared.output.answers.Verdict.{Verdict}
 use Rattle.netset_commands.specs.declared.output.answers.Verdict.TheVariants.{Yes, No}
 use Rattle.netset_commands.specs.declared.errors.CommandError.{CommandError}
 use Rattle.netset_commands.specs.declared.errors.CommandError.TheVariants as error
 use Rattle.cidr_lists.specs.Fields.{IsBadRow, IsBadLine}
-use Rattle.cidr_lists.specs.Tables.{RowSays, IsTable}
+use Rattle.cidr_lists.specs.Tables.{RowSays}
 use Rattle.cidr_lists.specs.LookUps.{LookUp, LineLooks, look_line, is_found}
 
 -- why the table of a file is not read: its first line in error, the file or memory
@@ -26,13 +27,13 @@ abbrev pub TellsFound : List (Option LookUp) → Verdict → Type 0
 TellsFound looks Yes = list_any is_found looks ≡ true
 TellsFound looks No = list_any is_found looks ≡ false
 
--- the addresses of a text, looked up in the table that another text says
+-- the addresses of a text, looked up in the table that another file says
 abbrev pub IsLook : Text → List ℕ → List ℕ → Verdict → Type 0
-IsLook rows text answer verdict = (table : Family → List (List Bool × List ℕ)) × IsTable rows table
+IsLook rows text answer verdict = (table : Family → List (List Bool × List ℕ)) × SaysTable rows table
     × (looks : List (Option LookUp)) × AllZip (LineLooks table) (lines_of text) looks
     × (answer ≡ flat_map look_line looks) × TellsFound looks verdict
 
 -- the same of the lines that were read, where the text was not read to its end, for this reason
 abbrev pub IsLookCut : Text → List ℕ → List ℕ → CommandError → Type 0
-IsLookCut rows text answer e = (table : Family → List (List Bool × List ℕ)) × IsTable rows table × (looks : List (Option LookUp))
+IsLookCut rows text answer e = (table : Family → List (List Bool × List ℕ)) × SaysTable rows table × (looks : List (Option LookUp))
     × IsCut (AllZip (LineLooks table)) IsBadLine (lines_of text) looks e × (answer ≡ flat_map look_line looks)

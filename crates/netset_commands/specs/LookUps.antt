@@ -14,6 +14,7 @@ use Rattle.cidr_lists.specs.Lists.{Text, lines_of}
 use Rattle.cidr_lists.specs.Fields.{IsBadLine, IsBadRow}
 use Rattle.cidr_lists.specs.Tables.{IsTable, RowSays, Stores, Pushes, kept}
 use Rattle.netset_commands.specs.Look.{IsUnreadTable}
+use Rattle.netset_commands.specs.Stored.{AreFileBytes, IsNoTable}
 use Rattle.cidr_lists.specs.LookUps.{LineLooks, LookUp, found_line, is_found, look_line}
 use Rattle.netset_commands.specs.declared.output.answers.Verdict.{Verdict}
 use Rattle.netset_commands.specs.declared.output.answers.Verdict.TheVariants.{Yes, No}
@@ -24,6 +25,8 @@ use Rattle.cidr_lists.specs.declared.lines.HostBits.{HostBits}
 use Rattle.netset_commands.specs.declared.errors.ReadError.{ReadError}
 use Rattle.netset_commands.specs.declared.errors.Reason.TheVariants.{Unknown}
 use Rattle.netset_commands.specs.declared.errors.ReadError.TheVariants.{Line, Input, NoMemory}
+use Rattle.netset_commands.specs.declared.input.begun.Given.{Given}
+use Rattle.netset_commands.specs.declared.input.begun.Given.TheVariants.{Lines, Stored}
 use Rattle.netset_commands.specs.declared.commands.look.LookError.{LookError}
 use Rattle.netset_commands.specs.declared.commands.look.LookError.TheVariants.{Reading, Output}
 use Rattle.cidr_lists.specs.declared.rows.Rows.{Rows}
@@ -81,6 +84,19 @@ ReadsFileRows contents name (Err e) = IsUnreadTable contents name e
 abbrev pub ReadsTable : Option Text → List ℕ → Result Table CommandError → Type 0
 ReadsTable contents name (Ok table) = (text : Text) → contents ≡ Some text → IsTable text (kept table)
 ReadsTable contents name (Err e) = IsUnreadTable contents name e
+
+-- what a file has in the place of a table: lines, by the rows that they say, or the bytes of a file of look-ups; or why it is
+-- not read
+abbrev pub GivesRows : Option Text → List ℕ → Result (Given Rows) CommandError → Type 0
+GivesRows contents name (Ok (Lines rows)) = ReadsFileRows contents name (Ok rows)
+GivesRows contents name (Ok (Stored bytes)) = AreFileBytes contents bytes.items
+GivesRows contents name (Err e) = IsNoTable contents name e
+
+-- the same with the table of these rows
+abbrev pub GivesTable : Option Text → List ℕ → Result (Given Table) CommandError → Type 0
+GivesTable contents name (Ok (Lines table)) = ReadsTable contents name (Ok table)
+GivesTable contents name (Ok (Stored bytes)) = AreFileBytes contents bytes.items
+GivesTable contents name (Err e) = IsNoTable contents name e
 
 -- an error of reading a file
 abbrev pub unread : Bor (List ℕ) → ReadError → CommandError

@@ -4,27 +4,36 @@ use Rattle.std.specs.List.{AllZip}
 use Rattle.cidr.specs.texts.Messages.{parse_message}
 use Rattle.cidr.specs.either.IpText.{IsIpNetworkText}
 use Rattle.cidr.specs.declared.cidr.combined.IpCidr.{IpCidr}
+use Rattle.cidr.specs.declared.family.Family.{Family}
 use Rattle.cidr_io.specs.Arguments.{AreArguments, IsNotText}
 use Rattle.cidr_io.specs.Shown.{excerpt, shown}
 use Rattle.cidr_io.specs.Writing.{State, Answered, Tells}
 use Rattle.cidr_io.specs.declared.sink.OutputFailed.{OutputFailed}
 use Rattle.cidr_lists.specs.Lists.{Text, text_by, ListSays, IsFirstError}
 use Rattle.netset_commands.specs.Arguments.{line_request}
-use Rattle.netset_commands.specs.Commands.{Request, Lists, NotIn, Diff, Free, Check, Match, Look, Compile, Single, ReadsInputTwice, input_name, lists_of, read_files, AreTold, IsAnswer, Says}
+use Rattle.netset_commands.specs.Commands.{Request, Lists, Styled, NotIn, Diff, Free, Split, Check, Which, Match, Look, Compile, Describe, Single, ReadsInputTwice, input_name, read_files, AreLists, AreTold, HoldsOf, IsAnswer}
 use Rattle.netset_commands.specs.Causes.{Cause, FileMayFail}
-use Rattle.netset_commands.specs.Free.{IsBadLength}
+use Rattle.netset_commands.specs.Compiled.{IsTooLarge}
+use Rattle.netset_commands.specs.Describing.{IsNoLength}
+use Rattle.netset_commands.specs.Free.{IsBadFree, IsBadLength, IsMost}
+use Rattle.netset_commands.specs.Operands.{IsNoNetworkText, IsUnlisted, IsUnreadOperand, OfOperand}
 use Rattle.cidr_lists.specs.Faults.{AreTellings}
 use Rattle.netset_commands.specs.Keeping.{IsBegun, IsLoadError, kind_of}
 use Rattle.cidr_lists.specs.Messages.{fault_line, fault_words}
+use Rattle.cidr_lists.specs.Tables.{IsTable}
 use Rattle.netset_commands.specs.Look.{IsLookCut, IsUnreadTable}
+use Rattle.netset_commands.specs.Stored.{IsNoTable, IsNotGiven}
 use Rattle.netset_commands.specs.Matching.{has, written_of, IsEndedBy, Picks}
 use Rattle.netset_commands.specs.Streaming.{IsCutShort}
-use Rattle.netset_commands.specs.Single.{IsBadSingle, IsNoNetwork, IsNumber}
+use Rattle.netset_commands.specs.Single.{HasNone, IsBadSingle, IsNoNetwork, IsNumber}
 use Rattle.netset_commands.specs.Unchecked.{IsUnchecked}
+use Rattle.netset_commands.specs.Which.{IsNoAddressArgument}
+use Rattle.cidr.specs.either.IpAddress.{IsIpText}
+use Rattle.cidr.specs.declared.addr.ip.IpAddr.{IpAddr}
 use Rattle.netset_commands.specs.declared.errors.ArgumentError.{ArgumentError}
 use Rattle.netset_commands.specs.declared.errors.ArgumentError.TheVariants as bad
 use Rattle.netset_commands.specs.declared.errors.FileError.{FileError}
-use Rattle.netset_commands.specs.declared.errors.FileError.TheVariants.{TooLarge, NotSaved}
+use Rattle.netset_commands.specs.declared.errors.FileError.TheVariants.{TooLarge, NotSaved, Unlike, Version, Short, Long, Changed}
 use Rattle.netset_commands.specs.declared.commands.Reading.{Reading}
 use Rattle.cidr_lists.specs.declared.lines.HostBits.{HostBits}
 use Rattle.netset_commands.specs.declared.output.answers.Verdict.{Verdict}
@@ -59,7 +68,8 @@ IsSameFile table name e = (table ≡ name) × IsBadArgument (λ text why. (text 
 -- an argument that is wrong whatever the lists say
 abbrev pub IsWrong : Request → CommandError → Type 0
 IsWrong (NotIn net files) e = IsBadArgument (λ text bad. (text ≡ net) × IsNoNetwork net bad) e
-IsWrong (Free pool len used) e = IsBadArgument (IsBadLength len) e
+IsWrong (Free extent pool len used) e = IsBadArgument (IsBadFree extent len) e
+IsWrong (Which text files) e = IsBadArgument (IsNoAddressArgument text) e
 IsWrong (Compile table name) e = IsSameFile table name e
 IsWrong request e = ⊥
 
@@ -68,18 +78,34 @@ abbrev pub IsInputError : List ℕ → CommandError → Type 0
 IsInputError file (error.Input name why) = name.now ≡ file
 IsInputError file e = ⊥
 
+-- why a pool and the lists of what is used are not read: the pool, or else the first list that is not read
+abbrev pub IsUnreadPool : (List ℕ → Option Text) → List ℕ → List (List ℕ) → CommandError → Type 0
+IsUnreadPool contents pool used e = IsUnreadOperand contents pool e ⊎ (OfOperand contents pool (λ said. Unit {0}) × IsUnread contents used e)
+
+-- the argument is no prefix length of networks inside a network
+abbrev pub HasNoSubnets : IpCidr → List ℕ → List ℕ → ArgumentError → Type 0
+HasNoSubnets network len text bad.Length = (text ≡ len) × ((n : ℕ) → IsNumber len n → HasNone network n)
+HasNoSubnets network len text e = ⊥
+
 -- why a request is not answered, and nothing is written
 abbrev pub IsRequestRefused : (List ℕ → Option Text) → Request → Result Verdict CommandError → Type 0
 IsRequestRefused contents request (Ok verdict) = ⊥
 IsRequestRefused contents (Lists operation files) (Err e) = IsUnread contents (read_files files) e
+IsRequestRefused contents (Styled style operation files) (Err e) = IsUnread contents (read_files files) e
 IsRequestRefused contents (NotIn net files) (Err e) = IsWrong (NotIn net files) e
     ⊎ ((network : IpCidr) × IsIpNetworkText net network × IsUnread contents (read_files files) e)
 IsRequestRefused contents (Diff old new) (Err e) = IsUnread contents (old ∷ new ∷ []) e
-IsRequestRefused contents (Free pool len used) (Err e) = IsWrong (Free pool len used) e
-    ⊎ ((n : ℕ) × IsNumber len n × (n ≤ 128) × IsUnread contents (pool ∷ used) e)
+IsRequestRefused contents (Free extent pool len used) (Err e) = IsBadArgument (IsBadFree extent len) e
+    ⊎ ((n : ℕ) × IsNumber len n × (n ≤ 128) × (most : Option ℕ) × IsMost extent most × IsUnreadPool contents pool used e)
+IsRequestRefused contents (Split operand len) (Err e) =
+    ((network : IpCidr) × IsIpNetworkText operand network × IsBadArgument (HasNoSubnets network len) e)
+    ⊎ (IsNoNetworkText operand × (IsBadArgument (IsBadLength len) e ⊎ ((n : ℕ) × IsNumber len n × (n ≤ 128) × IsUnlisted contents operand e)))
 IsRequestRefused contents (Check files) (Err e) = IsUnchecked contents (read_files files) e
-IsRequestRefused contents (Match options list file) (Err e) = IsUnread contents (list ∷ []) e ⊎ IsInputError file e
-IsRequestRefused contents (Look table file) (Err e) = IsUnreadTable (contents table) table e ⊎ IsInputError file e
+IsRequestRefused contents (Which text files) (Err e) = IsBadArgument (IsNoAddressArgument text) e
+    ⊎ ((address : IpAddr) × IsIpText text address × IsUnchecked contents (read_files files) e)
+IsRequestRefused contents (Match options list file) (Err e) = IsNotGiven (IsUnread contents (list ∷ [])) (contents list) list e ⊎ IsInputError file e
+IsRequestRefused contents (Look table file) (Err e) = IsNoTable (contents table) table e ⊎ IsInputError file e
+IsRequestRefused contents (Describe what operand) (Err e) = IsNoLength what operand × IsUnreadOperand contents operand e
 IsRequestRefused contents (Single request) (Err e) = IsBadArgument (IsBadSingle request) e
 IsRequestRefused contents request (Err e) = ⊥
 
@@ -99,25 +125,25 @@ AnswersWhole contents request old new r =
 -- what belongs to the lines that `match` has read of its file, if it was not read to its end, or has lines that are too long
 abbrev pub IsMatchUntil : (List ℕ → Option Text) → List (List ℕ) → List ℕ → List ℕ → List ℕ → CommandError → Type 0
 IsMatchUntil contents options list file answer e = (networks text : Text) → contents list ≡ Some networks → contents file ≡ Some text
-    → (said : List (List IpCidr)) × ListSays networks said
-    × IsEndedBy (Picks (has (codes "--any") options) (Says said) (has (codes "-v") options)) (written_of options) text.bytes answer e
+    → HoldsOf networks (λ IsIn. IsEndedBy (Picks (has (codes "--any") options) IsIn (has (codes "-v") options)) (written_of options) text.bytes answer e)
 
 -- the same of `look`
 abbrev pub IsLookUntil : (List ℕ → Option Text) → List ℕ → List ℕ → List ℕ → CommandError → Type 0
 IsLookUntil contents table file answer e =
     (rows text : Text) → contents table ≡ Some rows → contents file ≡ Some text → IsLookCut rows text.bytes answer e
 
--- the error is that the table is too large for a file, or that the file can't be written
-abbrev pub IsNoFile : List ℕ → List ℕ → CommandError → Type 0
-IsNoFile table name (error.File file TooLarge) = file.now ≡ table
-IsNoFile table name (error.File file NotSaved) = file.now ≡ name
-IsNoFile table name e = ⊥
+-- the error is that the table that a text says is too large for a file, or that the file can't be written
+abbrev pub IsNoFile : Option Text → List ℕ → List ℕ → CommandError → Type 0
+IsNoFile contents table name (error.File file TooLarge) = (file.now ≡ table)
+    × ((text : Text) → contents ≡ Some text → (rows : Family → List (List Bool × List ℕ)) × IsTable text rows × IsTooLarge rows)
+IsNoFile contents table name (error.File file NotSaved) = file.now ≡ name
+IsNoFile contents table name e = ⊥
 
 -- what `compile` answers: yes, or the first of these errors; what it leaves in the folder is said in `Leaving`
 abbrev pub IsCompiled : (List ℕ → Option Text) → List ℕ → List ℕ → Result Verdict CommandError → Type 0
 IsCompiled contents table name (Ok verdict) = (table ≢ name) × (verdict ≡ Yes)
 IsCompiled contents table name (Err e) =
-    IsSameFile table name e ⊎ ((table ≢ name) × (IsUnreadTable (contents table) table e ⊎ IsNoFile table name e))
+    IsSameFile table name e ⊎ ((table ≢ name) × (IsUnreadTable (contents table) table e ⊎ IsNoFile (contents table) table name e))
 
 -- what becomes of a request and of the sink
 abbrev pub AnswersRequest : (List ℕ → Option Text) → Request → State → State → Result Verdict CommandError → Type 0
@@ -141,13 +167,21 @@ abbrev pub argument_message : ArgumentError → List ℕ
 argument_message (bad.Network fault e) = fault_words fault (parse_message e)
 argument_message bad.Length = codes "no prefix length inside the network"
 argument_message bad.Index = codes "no index below 2^128"
+argument_message bad.Count = codes "no count below 2^64"
+argument_message bad.NoAddress = codes "no address"
+argument_message bad.Operand = codes "no network and no address, and no file that can be read"
 argument_message bad.ReadTwice = codes "standard input can be read only once"
 argument_message bad.Same = codes "the same file as TABLE"
 
--- the message of a file of look-ups that is not written
+-- the message of a file of look-ups that is not written, or not read
 abbrev pub file_message : FileError → List ℕ
 file_message TooLarge = codes ": too large for a file of look-ups\n"
 file_message NotSaved = codes ": cannot be written\n"
+file_message Unlike = codes ": no lines, and no file of look-ups\n"
+file_message Version = codes ": a file of look-ups of another version\n"
+file_message Short = codes ": a file of look-ups that is cut short\n"
+file_message Long = codes ": a file of look-ups with bytes behind its end\n"
+file_message Changed = codes ": a file of look-ups that was changed\n"
 
 -- why a file is not read, as the system tells it where it can't be opened
 abbrev pub reason_words : Reason → List ℕ
@@ -205,20 +239,21 @@ RunsAnswer contents refused request closed out new_out err new_err status = (r :
 -- a request of whose lists each line in error is told, up to a list that can't be read, and then nothing is written; where
 -- there is none, the request is answered
 abbrev pub TellsFaults : (List ℕ → Option Text) → Bool → Request → Bool → State → State → State → State → ℕ → Type 0
-TellsFaults contents refused request closed out new_out err new_err status = (lines : List ℕ) × (mid : State) × Tells err mid lines
-    × ((((texts : List Text) → AreTold contents (lists_of request) texts → AreTellings (kind_of request) (lists_of request) texts lines)
+TellsFaults contents refused request closed out new_out err new_err status = (names : List (List ℕ)) × AreLists request names × (lines : List ℕ) × (mid : State) × Tells err mid lines
+    × ((((texts : List Text) → AreTold contents names texts → AreTellings (kind_of request) names texts lines)
     × (((lines ≢ []) × (new_out ≡ out) × (new_err ≡ mid) × (status ≡ 2))
     ⊎ ((lines ≡ []) × RunsAnswer contents refused request closed out new_out mid new_err status)))
-    ⊎ ((before after : List (List ℕ)) × (lists_of request ≡ before ++ after) × (front rest : List ℕ) × (lines ≡ front ++ rest)
+    ⊎ ((before after : List (List ℕ)) × (names ≡ before ++ after) × (front rest : List ℕ) × (lines ≡ front ++ rest)
     × ((texts : List Text) → AreTold contents before texts → AreTellings (kind_of request) before texts front)
     × IsBegun contents (kind_of request) after rest × (e : CommandError) × IsLoadError after e × Cause (FileMayFail contents) refused e
     × EndsWith e closed out new_out mid new_err status))
 
--- the same, where no argument is wrong
+-- the same, where no argument is wrong, and there is memory for the names of the lists
 abbrev pub KeepsGoing : (List ℕ → Option Text) → Bool → Request → Bool → State → State → State → State → ℕ → Type 0
 KeepsGoing contents refused request closed out new_out err new_err status =
     ((e : CommandError) × IsWrong request e × EndsWith e closed out new_out err new_err status)
-    ⊎ (((e : CommandError) → ¬ (IsWrong request e)) × TellsFaults contents refused request closed out new_out err new_err status)
+    ⊎ ((((e : CommandError) → ¬ (IsWrong request e)) × TellsFaults contents refused request closed out new_out err new_err status)
+    ⊎ ((refused ≡ true) × EndsWith error.NoMemory closed out new_out err new_err status))
 
 -- what becomes of a request, its lists read this way
 abbrev pub RunsRequest : Reading → (List ℕ → Option Text) → Bool → Request → Bool → State → State → State → State → ℕ → Type 0

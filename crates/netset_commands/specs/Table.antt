@@ -1,11 +1,12 @@
 -- The table of the commands, and the pages of help that it makes.
-use Rattle.std.specs.Prelude.{ℕ, Bool, false, if◌then◌else◌, List, [], ◌∷◌, ◌++◌, map, codes, Option, Some, None}
+use Rattle.std.specs.Prelude.{ℕ, Bool, false, if◌then◌else◌, ◌||◌, List, [], ◌∷◌, ◌++◌, map, codes, Option, Some, None}
 use Rattle.std.specs.List.{concat, flat_map}
 use Rattle.netset_commands.specs.Matching.{has, is_word}
+use Rattle.netset_commands.specs.declared.commands.describe.Description.TheVariants.{Zones, Masks}
 use Rattle.netset_commands.specs.declared.commands.operations.Operation.TheVariants.{Merge, Nets, Minus, And, Not, Ranges, Count}
-use Rattle.netset_commands.specs.declared.commands.table.TheConstants.{COMMANDS, MERGE, NETS, MINUS, AND, NOT, RANGES, COUNT, DIFF, FREE, CHECK, MATCH, LOOK, COMPILE, SHOW, SPLIT, NTH, HELP, VERSION, OPTIONS, HOST_BITS, KEEP_GOING, LISTS}
+use Rattle.netset_commands.specs.declared.commands.table.TheConstants.{COMMANDS, MERGE, NETS, MINUS, AND, NOT, RANGES, COUNT, DIFF, FREE, CHECK, WHICH, MATCH, LOOK, COMPILE, REVERSE, MASK, SHOW, SPLIT, NTH, HELP, VERSION, OPTIONS, HOST_BITS, KEEP_GOING, FORMAT, LISTS}
 use Rattle.netset_commands.specs.declared.commands.table.Verb.{Verb}
-use Rattle.netset_commands.specs.declared.commands.table.Verb.TheVariants.{Lists, Diff, Free, Check, Match, Look, Compile, Show, Split, Nth, Help, Version}
+use Rattle.netset_commands.specs.declared.commands.table.Verb.TheVariants.{Lists, Diff, Free, Check, Which, Match, Look, Compile, Describe, Show, Split, Nth, Help, Version}
 use denote.Ref.{Bor}
 
 -- the bytes of some words
@@ -27,9 +28,12 @@ name_of (Lists Count) = codes "count"
 name_of Diff = codes "diff"
 name_of Free = codes "free"
 name_of Check = codes "check"
+name_of Which = codes "which"
 name_of Match = codes "match"
 name_of Look = codes "look"
 name_of Compile = codes "compile"
+name_of (Describe Zones) = codes "reverse"
+name_of (Describe Masks) = codes "mask"
 name_of Show = codes "show"
 name_of Split = codes "split"
 name_of Nth = codes "nth"
@@ -39,17 +43,26 @@ name_of Version = codes "--version"
 -- the options without a value
 abbrev pub options_of : Verb → List (List ℕ)
 options_of Check = codes "-k" ∷ codes "-h" ∷ codes "--help" ∷ []
+options_of Which = codes "-k" ∷ codes "-h" ∷ codes "--help" ∷ []
 options_of Match = codes "--any" ∷ codes "-v" ∷ codes "-c" ∷ codes "-q" ∷ codes "--host-bits" ∷ codes "-k" ∷ codes "-h" ∷ codes "--help" ∷ []
+options_of Free = codes "--all" ∷ codes "--host-bits" ∷ codes "-k" ∷ codes "-h" ∷ codes "--help" ∷ []
 options_of Show = codes "-h" ∷ codes "--help" ∷ []
-options_of Split = codes "-h" ∷ codes "--help" ∷ []
 options_of Nth = codes "-h" ∷ codes "--help" ∷ []
 options_of Help = codes "-h" ∷ codes "--help" ∷ []
 options_of Version = codes "-h" ∷ codes "--help" ∷ []
 options_of command = codes "--host-bits" ∷ codes "-k" ∷ codes "-h" ∷ codes "--help" ∷ []
 
--- the option with a value: the network of `not --in`
+-- an option with a value that tells how networks are written
+abbrev pub is_of_style : List ℕ → Bool
+is_of_style option = is_word (codes "--format") option || (is_word (codes "--prefix") option || is_word (codes "--suffix") option)
+
+-- the options with a value: the network of `not --in`, how networks are written, and how many `free --count` tells
 abbrev pub takes_value : Verb → List ℕ → Bool
-takes_value (Lists Not) option = is_word (codes "--in") option
+takes_value (Lists Not) option = is_word (codes "--in") option || is_of_style option
+takes_value (Lists Ranges) option = false
+takes_value (Lists Count) option = false
+takes_value (Lists operation) option = is_of_style option
+takes_value Free option = is_word (codes "--count") option
 takes_value command option = false
 
 -- the operands that it needs, by their names on the page
@@ -57,12 +70,15 @@ abbrev pub needed_of : Verb → List (List ℕ)
 needed_of (Lists Minus) = codes "A" ∷ codes "B" ∷ []
 needed_of (Lists And) = codes "A" ∷ codes "B" ∷ []
 needed_of Diff = codes "A" ∷ codes "B" ∷ []
-needed_of Free = codes "POOL" ∷ codes "LEN" ∷ codes "USED" ∷ []
+needed_of Free = codes "POOL" ∷ codes "LEN" ∷ []
+needed_of Which = codes "ADDR" ∷ []
 needed_of Match = codes "LIST" ∷ []
 needed_of Look = codes "TABLE" ∷ []
 needed_of Compile = codes "TABLE" ∷ codes "OUT" ∷ []
+needed_of (Describe Zones) = codes "NET|FILE" ∷ []
+needed_of (Describe Masks) = codes "NET|LEN|FILE" ∷ []
 needed_of Show = codes "HOST" ∷ []
-needed_of Split = codes "NET" ∷ codes "LEN" ∷ []
+needed_of Split = codes "NET|FILE" ∷ codes "LEN" ∷ []
 needed_of Nth = codes "NET" ∷ codes "INDEX" ∷ []
 needed_of command = []
 
@@ -71,6 +87,8 @@ abbrev pub most_of : Verb → Option ℕ
 most_of (Lists operation) = None
 most_of Free = None
 most_of Check = None
+most_of Which = None
+most_of (Describe what) = Some 1
 most_of Show = Some 1
 most_of Help = Some 1
 most_of Version = Some 0
@@ -88,9 +106,12 @@ about_of (Lists Count) = COUNT.now
 about_of Diff = DIFF.now
 about_of Free = FREE.now
 about_of Check = CHECK.now
+about_of Which = WHICH.now
 about_of Match = MATCH.now
 about_of Look = LOOK.now
 about_of Compile = COMPILE.now
+about_of (Describe Zones) = REVERSE.now
+about_of (Describe Masks) = MASK.now
 about_of Show = SHOW.now
 about_of Split = SPLIT.now
 about_of Nth = NTH.now
@@ -101,8 +122,12 @@ about_of Version = VERSION.now
 abbrev pub note_of : Verb → List ℕ → List ℕ → List ℕ
 note_of command option note = if has option (options_of command) then note else []
 
+-- a note on formats, if the command has them
+abbrev pub format_note : Verb → List ℕ
+format_note command = if takes_value command (codes "--format") then FORMAT.now else []
+
 -- the page of a command, or of all
 abbrev pub help_text : Option Verb → List ℕ
 help_text (Some command) =
-    concat (about_of command ∷ note_of command (codes "--host-bits") HOST_BITS.now ∷ note_of command (codes "-k") KEEP_GOING.now ∷ [])
-help_text None = flat_map about_of commands ++ concat (OPTIONS.now ∷ HOST_BITS.now ∷ KEEP_GOING.now ∷ LISTS.now ∷ [])
+    concat (about_of command ∷ note_of command (codes "--host-bits") HOST_BITS.now ∷ note_of command (codes "-k") KEEP_GOING.now ∷ format_note command ∷ [])
+help_text None = flat_map about_of commands ++ concat (OPTIONS.now ∷ HOST_BITS.now ∷ KEEP_GOING.now ∷ FORMAT.now ∷ LISTS.now ∷ [])

@@ -4,11 +4,14 @@ use Rattle.std.specs.Prelude.{◌≡◌, ◌⊎◌, ℕ, true, false, List, [], 
 use Rattle.std.specs.List.{list_all, list_any}
 use Rattle.cidr_io.specs.Writing.{State, Whole, Tells}
 use Rattle.cidr_lists.specs.Lists.{Text}
+use Rattle.cidr_lists.specs.Formats.{bare, format_name}
 use Rattle.netset_commands.specs.Arguments.{asks_help, is_option, missing_operand, takes}
-use Rattle.netset_commands.specs.Commands.{Request, Lists, NotIn, Diff, Free, Check, Match, Look, Compile, Single, Help, Version, IsAnswer, input_name, reading_of}
+use Rattle.netset_commands.specs.Commands.{Request, Lists, Styled, NotIn, Diff, Free, Split, Check, Which, Match, Look, Compile, Describe, Single, Help, Version, IsAnswer, input_name, reading_of}
+use Rattle.netset_commands.specs.Free.{First, Count, All}
+use Rattle.netset_commands.specs.Matching.{has}
 use Rattle.netset_commands.specs.Program.{answer_status, contents_by}
-use Rattle.netset_commands.specs.Single.{Show, Split, Nth}
-use Rattle.netset_commands.specs.Table.{name_of}
+use Rattle.netset_commands.specs.Single.{Show, Nth}
+use Rattle.netset_commands.specs.Table.{name_of, takes_value}
 use Rattle.netset_commands.specs.declared.commands.operations.Operation.TheVariants.{Not}
 use Rattle.netset_commands.specs.declared.commands.table.Verb.{Verb}
 use Rattle.netset_commands.specs.declared.commands.table.Verb.TheVariants as verb
@@ -29,15 +32,23 @@ AreTypedFor command options list file words =
 -- these words, with these options, are a request
 abbrev pub IsTyped : List (List ℕ) → List (List ℕ) → Request → Type 0
 IsTyped words options (Lists operation files) = AreTyped (verb.Lists operation) options [] files words
+IsTyped words options (Styled style operation files) = (style ≡ bare style.format)
+    × (takes_value (verb.Lists operation) (codes "--format") ≡ true)
+    × AreTyped (verb.Lists operation) options (codes "--format" ∷ format_name style.format ∷ []) files words
 IsTyped words options (NotIn net files) = AreTyped (verb.Lists Not) options (codes "--in" ∷ net ∷ []) files words
 IsTyped words options (Diff old new) = AreTyped verb.Diff options [] (old ∷ new ∷ []) words
-IsTyped words options (Free pool len used) = AreTyped verb.Free options [] (pool ∷ len ∷ used) words
+IsTyped words options (Free First pool len used) = (has (codes "--all") options ≡ false) × AreTyped verb.Free options [] (pool ∷ len ∷ used) words
+IsTyped words options (Free (Count count) pool len used) =
+    (has (codes "--all") options ≡ false) × AreTyped verb.Free options (codes "--count" ∷ count ∷ []) (pool ∷ len ∷ used) words
+IsTyped words options (Free All pool len used) = (has (codes "--all") options ≡ true) × AreTyped verb.Free options [] (pool ∷ len ∷ used) words
+IsTyped words options (Split operand len) = AreTyped verb.Split options [] (operand ∷ len ∷ []) words
 IsTyped words options (Check files) = AreTyped verb.Check options [] files words
+IsTyped words options (Which address files) = AreTyped verb.Which options [] (address ∷ files) words
 IsTyped words options (Match given list file) = (given ≡ options) × AreTypedFor verb.Match options list file words
 IsTyped words options (Look table file) = AreTypedFor verb.Look options table file words
 IsTyped words options (Compile table name) = AreTyped verb.Compile options [] (table ∷ name ∷ []) words
+IsTyped words options (Describe what operand) = AreTyped (verb.Describe what) options [] (operand ∷ []) words
 IsTyped words options (Single (Show host)) = AreTyped verb.Show options [] (host ∷ []) words
-IsTyped words options (Single (Split net len)) = AreTyped verb.Split options [] (net ∷ len ∷ []) words
 IsTyped words options (Single (Nth net place)) = AreTyped verb.Nth options [] (net ∷ place ∷ []) words
 IsTyped words options (Help None) = AreTyped verb.Help options [] [] words
 IsTyped words options (Help (Some command)) = AreTyped verb.Help options [] (name_of command ∷ []) words

@@ -2,9 +2,10 @@
 ghost use Rattle.std.specs.Prelude.{◌≡◌, ◌<◌, ◌++◌, count_by, true, IfOk, OnErr};
 ghost use Rattle.std.specs.Bool.{Decides};
 ghost use Rattle.netset_commands.specs.Command.{request_of};
-ghost use Rattle.netset_commands.specs.Commands.{input_name, lists_of, others_of, reading_of};
+ghost use Rattle.netset_commands.specs.Commands.{AreLists, HasNoFirstList, IsNoList, input_name, lists_of, others_of, reading_of};
 ghost use Rattle.netset_commands.specs.Keeping.{kind_of};
 ghost use Rattle.netset_commands.specs.Matching.{is_word};
+ghost use Rattle.netset_commands.specs.Operands.{ReadsAsNetwork};
 ghost use Rattle.netset_commands.specs.Table.{texts};
 
 pub mod arguments;
@@ -12,6 +13,7 @@ pub mod changes;
 pub mod check;
 pub mod combine;
 pub mod compile;
+pub mod describe;
 pub mod free;
 pub mod help;
 pub mod inside;
@@ -19,13 +21,20 @@ pub mod look;
 pub mod matching;
 pub mod operations;
 pub mod single;
+pub mod split;
 pub mod table;
+pub mod which;
 
+use crate::commands::arguments::operands_from;
+use crate::commands::describe::Description;
+use crate::commands::free::{Extent, length_of};
 use crate::commands::matching::has;
 use crate::commands::operations::Operation;
 use crate::commands::single::Single;
 use crate::commands::table::Verb;
+use cidr::IpCidr;
 use cidr_io::memory::Memory;
+use cidr_lists::formats::Style;
 use cidr_lists::lines::{HostBits, Kind};
 use std::alloc::{AllocError, Global};
 
@@ -34,20 +43,28 @@ use std::alloc::{AllocError, Global};
 pub enum Command<'a> {
     /// An operation on the lists of these files.
     Lists(Operation, &'a [&'a str]),
+    /// The same, and how the networks are written.
+    Styled(Style<'a>, Operation, &'a [&'a str]),
     /// The addresses of a network that no list of these files has.
     NotIn(&'a str, &'a [&'a str]),
     /// What the second file adds to the first one, and what it lacks.
     Diff(&'a str, &'a str),
-    /// The first free network of a prefix length in a pool, of whose addresses others are used.
-    Free(&'a str, &'a str, &'a [&'a str]),
+    /// The free networks of a prefix length in a pool, of whose addresses others are used.
+    Free(Extent<'a>, &'a str, &'a str, &'a [&'a str]),
+    /// The networks of a prefix length inside a network, or inside the networks of a list.
+    Split(&'a str, &'a str),
     /// What is found in the lists of these files.
     Check(&'a [&'a str]),
+    /// The lines of the lists of these files that have an address.
+    Which(&'a str, &'a [&'a str]),
     /// The options, the list, and the file of which lines are picked.
     Match(&'a [&'a str], &'a str, &'a str),
     /// The longest networks of the first file that have the addresses of the second one.
     Look(&'a str, &'a str),
     /// The table that is compiled, and the file that is written.
     Compile(&'a str, &'a str),
+    /// What is told of a network, an address or the networks of a list.
+    Describe(Description, &'a str),
     /// A command on one host or network.
     Single(Single<'a>),
     /// The page of a command, or of all.
@@ -91,8 +108,21 @@ pub fn name_input_twice(files: &[&str]) -> bool
     input_count(files) > 1
 }
 
+/// Whether an operand is no list where this is told of it: a network, an address or, of masks, a prefix length.
+fn is_no_list(what: Description, operand: &str) -> bool
+    ensures { Decides result (IsNoList what operand.now) }
+{
+    match what {
+        Description::Zones => is_network(operand),
+        Description::Masks => match length_of(operand) {
+            Some(_) => true,
+            None => is_network(operand),
+        },
+    }
+}
+
 impl<'a> Command<'a> {
-    /// The lists that are read.
+    /// The lists that it names.
     pub fn lists<M: Memory>(&self, memory: &mut M) -> Result<Vec<&'a str>, AllocError>
         ensures names { IfOk result (λ names. texts names.items ≡ lists_of (request_of self.now)) }
         ensures refused { OnErr result (M.refused memory.new ≡ true) }
@@ -101,13 +131,17 @@ impl<'a> Command<'a> {
         memory.watch(listed)
     }
 
-    /// The lists that are read.
+    /// The lists that it names.
     fn list_names(&self, alloc: Global) -> Result<Vec<&'a str>, AllocError>
         ensures { IfOk result (λ names. texts names.items ≡ lists_of (request_of self.now)) }
     {
         let mut names = Vec::new(alloc);
         match self {
-            Command::Lists(_, files) | Command::NotIn(_, files) | Command::Check(files) => {
+            Command::Lists(_, files)
+            | Command::Styled(_, _, files)
+            | Command::NotIn(_, files)
+            | Command::Check(files)
+            | Command::Which(_, files) => {
                 if files.is_empty() {
                     names.push("-")?;
                 }
@@ -117,16 +151,52 @@ impl<'a> Command<'a> {
                 names.push(*old)?;
                 names.push(*new)?;
             }
-            Command::Free(pool, _, used) => {
+            Command::Free(_, pool, _, used) => {
                 names.push(*pool)?;
                 names.extend_from_slice(used)?;
             }
-            Command::Match(_, list, _) | Command::Look(list, _) | Command::Compile(list, _) => {
-                names.push(*list)?;
-            }
+            Command::Match(_, list, _)
+            | Command::Look(list, _)
+            | Command::Compile(list, _)
+            | Command::Split(list, _)
+            | Command::Describe(_, list) => names.push(*list)?,
             Command::Single(_) | Command::Help(_) | Command::Version => {}
         }
         Ok(names)
+    }
+
+    /// Whether the first of the lists is none: a network, an address or, of `mask`, a prefix length.
+    fn has_no_first_list(&self) -> bool
+        ensures { Decides result (HasNoFirstList (request_of self.now)) }
+    {
+        match self {
+            Command::Free(_, pool, _, _) => is_network(pool),
+            Command::Split(operand, _) => is_network(operand),
+            Command::Describe(what, operand) => is_no_list(*what, operand),
+            Command::Lists(_, _)
+            | Command::Styled(_, _, _)
+            | Command::NotIn(_, _)
+            | Command::Diff(_, _)
+            | Command::Check(_)
+            | Command::Which(_, _)
+            | Command::Match(_, _, _)
+            | Command::Look(_, _)
+            | Command::Compile(_, _)
+            | Command::Single(_)
+            | Command::Help(_)
+            | Command::Version => false,
+        }
+    }
+
+    /// Those of its lists that are lists.
+    pub fn read_lists<'n>(&self, lists: &'n [&'n str]) -> &'n [&'n str]
+        ensures { texts lists.now ≡ lists_of (request_of self.now) → AreLists (request_of self.now) (texts result.now) }
+    {
+        if self.has_no_first_list() {
+            operands_from(lists, 1)
+        } else {
+            lists
+        }
     }
 
     /// The files that are read: the lists, and another one behind them.
@@ -148,10 +218,20 @@ impl<'a> Command<'a> {
         ensures { result ≡ kind_of (request_of self.now) }
     {
         match self {
-            Command::Check(_) => Kind::Hosts,
+            Command::Check(_) | Command::Which(_, _) => Kind::Hosts,
             Command::Look(_, _) | Command::Compile(_, _) => Kind::Rows,
             _ => Kind::Networks,
         }
+    }
+}
+
+/// Whether an operand reads as a network or an address.
+fn is_network(operand: &str) -> bool
+    ensures { Decides result (ReadsAsNetwork operand.now) }
+{
+    match operand.parse::<IpCidr>() {
+        Ok(_) => true,
+        Err(_) => false,
     }
 }
 

@@ -43,6 +43,12 @@ pub enum Misfit {
     Missing,
     /// The command takes fewer operands or values.
     Extra,
+    /// There is no format of this name.
+    NoFormat,
+    /// It is an option for the format `plain` alone.
+    NotPlain,
+    /// It is an option that no option of formats goes with.
+    NotStyled,
 }
 
 /// Why the arguments are no command.
@@ -82,6 +88,12 @@ pub enum ArgumentError {
     Network(Option<TextFault>, NetworkParseError),
     /// It is no prefix length of networks inside the network.
     Length,
+    /// It is no network and no address, and no file of this name can be read.
+    Operand,
+    /// It is no address.
+    NoAddress,
+    /// It is no number below 2^64.
+    Count,
     /// It is no index below 2^128.
     Index,
     /// It is the standard input, which is read already.
@@ -90,13 +102,23 @@ pub enum ArgumentError {
     Same,
 }
 
-/// Why a file of look-ups is not written.
+/// Why a file of look-ups is not written, or not read.
 #[derive(Clone, Copy, Debug, Drop, PartialEq)]
 pub enum FileError {
     /// The table has 2^31 networks of a family or more, or values of 2^32 bytes or more.
     TooLarge,
     /// The file can't be written; if there was one, it is left as it was.
     NotSaved,
+    /// It has the first byte of a file of look-ups, with which no line begins, and not the others of its first word.
+    Unlike,
+    /// It is of a version that is not read, such as a newer one.
+    Version,
+    /// It is shorter than its header says.
+    Short,
+    /// It is longer than its header says.
+    Long,
+    /// A table in it is none, as where bytes were changed.
+    Changed,
 }
 
 /// Why a command gave no answer.
@@ -113,7 +135,7 @@ pub enum CommandError<'a> {
     /// The output has failed; a beginning of the answer was written.
     Output,
     /// No file of look-ups is written, since the table of this name doesn't fit in one, or the file of this name can't
-    /// be written; nothing was written.
+    /// be written; or the file of this name begins as one and is none. Nothing was written.
     File(&'a str, FileError),
 }
 

@@ -1,9 +1,12 @@
 //! What is read: files, and what their lines say.
 
+pub mod begun;
 pub mod entries;
 pub mod files;
 pub mod keeping;
 pub mod lists;
+pub mod operands;
 pub mod rows;
 pub mod several;
+pub mod stored;
 pub mod table;

@@ -2,6 +2,7 @@
 
 pub mod answers;
 pub mod compiled;
+pub mod families;
 pub mod folder;
 pub mod printing;
 pub mod ranges;

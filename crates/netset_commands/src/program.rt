@@ -7,7 +7,8 @@ ghost use Rattle.netset_commands.specs.Combining.{form_of};
 ghost use Rattle.netset_commands.specs.Arguments.{line_request, read_request};
 ghost use Rattle.netset_commands.specs.Command.{parts_in, request_of};
 ghost use Rattle.netset_commands.specs.Leaving.{Leaves, LeavesBy, LeavesFound, RunLeaves};
-ghost use Rattle.netset_commands.specs.Commands.{Lists};
+ghost use Rattle.netset_commands.specs.Commands.{Lists, Styled};
+ghost use Rattle.cidr_lists.specs.Formats.{style_in};
 ghost use Rattle.netset_commands.specs.Sets.{Prints};
 ghost use Rattle.cidr_lists.specs.Sets.{networks_of};
 ghost use Rattle.netset_commands.specs.declared.errors.CommandError.{CommandError};
@@ -19,14 +20,17 @@ use crate::commands::changes::diff;
 use crate::commands::check::check;
 use crate::commands::combine::combination;
 use crate::commands::compile::{compile, same_file};
-use crate::commands::free::{free, length_of};
+use crate::commands::describe::describe;
+use crate::commands::free::{free, length_of, most_of};
 use crate::commands::help::write_help;
 use crate::commands::inside::not_in;
 use crate::commands::look::look;
 use crate::commands::matching::matching;
 use crate::commands::operations::{Operation, form_of};
 use crate::commands::single::{answer_single, network_of};
+use crate::commands::split::split;
 use crate::commands::table::Verb;
+use crate::commands::which::{address_of, which};
 use crate::commands::{Command, Reading, name_input_twice, reading_of};
 use crate::errors::{ArgumentError, CommandError, UsageError};
 use crate::input::files::{Files, ReadBy, Sources};
@@ -36,11 +40,12 @@ use crate::output::answers::{Verdict, by_output};
 use crate::output::folder::Folder;
 use crate::output::ranges::write_ranges;
 use crate::output::report::{report, report_misuse, report_not_text};
-use crate::output::sets::{write_counts, write_sets};
+use crate::output::sets::{write_bytes, write_counts, write_sets};
 use cidr_io::arguments::{Arguments, ReadError as Unreadable, borrowed, texts_of};
 use cidr_io::memory::Memory;
 use cidr_io::sink::{Output, OutputFailed, Sink};
 use cidr_io::writing::write_text;
+use cidr_lists::formats::Style;
 use cidr_lists::sets::{Form, Sets};
 
 const VERSION: &str = "netset 0.1.0\n";
@@ -73,6 +78,26 @@ fn lists<'a, M: Memory, F: Sources, O: Sink>(
     by_output(Verdict::Yes, write_made(operation, &sets, out))
 }
 
+/// What an operation makes of the lists of some files, in a style. Its text is made whole before it is written.
+fn styled_lists<'a, M: Memory, F: Sources, O: Sink>(
+    memory: &mut M,
+    sources: &F,
+    style: &Style<'_>,
+    operation: Operation,
+    files: &'a [&'a str],
+    out: &mut O,
+) -> Result<Verdict, CommandError<'a>>
+    ensures answers { AnswersRequest (F.contents sources.now) (Styled (style_in style.now) operation (map (λ file. file.now) files.now)) (O.state out.old) (O.state out.new) result }
+    ensures cause { IfErr result (Cause (FileMayFail (F.contents sources.now)) (M.refused memory.new)) }
+{
+    let several = read_several(memory, sources, files)?;
+    let sets = combination(operation, several);
+    let sets = memory.watch(sets)?;
+    let text = sets.to_style(memory.alloc(), style);
+    let text = memory.watch(text)?;
+    by_output(Verdict::Yes, write_bytes(out, text.as_slice()))
+}
+
 /// Answers a command.
 fn answer<'a, M: Memory, F: Sources, D: Folder, O: Sink>(
     memory: &mut M,
@@ -87,13 +112,21 @@ fn answer<'a, M: Memory, F: Sources, D: Folder, O: Sink>(
 {
     match command {
         Command::Lists(operation, files) => lists(memory, sources, operation, files, out),
+        Command::Styled(style, operation, files) => {
+            styled_lists(memory, sources, &style, operation, files, out)
+        }
         Command::NotIn(net, files) => not_in(memory, sources, net, files, out),
         Command::Diff(old, new) => diff(memory, sources, old, new, out),
-        Command::Free(pool, len, used) => free(memory, sources, pool, len, used, out),
+        Command::Free(extent, pool, len, used) => {
+            free(memory, sources, extent, pool, len, used, out)
+        }
+        Command::Split(operand, len) => split(memory, sources, operand, len, out),
         Command::Check(files) => check(memory, sources, files, out),
+        Command::Which(address, files) => which(memory, sources, address, files, out),
         Command::Match(options, list, file) => matching(memory, sources, options, list, file, out),
         Command::Look(table, file) => look(memory, sources, table, file, out),
         Command::Compile(table, name) => compile(memory, sources, table, name, folder),
+        Command::Describe(what, operand) => describe(memory, sources, what, operand, out),
         Command::Single(single) => answer_single(single, out),
         Command::Help(topic) => by_output(Verdict::Yes, write_help(topic, out)),
         Command::Version => by_output(Verdict::Yes, write_text(out, VERSION)),
@@ -110,16 +143,26 @@ fn wrong_argument<'a>(command: Command<'a>) -> Option<CommandError<'a>>
             Ok(_) => None,
             Err(e) => Some(e),
         },
-        Command::Free(_, len, _) => match length_of(len) {
-            Some(_) => None,
+        Command::Which(address, _) => match address_of(address) {
+            Ok(_) => None,
+            Err(e) => Some(e),
+        },
+        Command::Free(extent, _, len, _) => match length_of(len) {
+            Some(_) => match most_of(extent) {
+                Ok(_) => None,
+                Err(e) => Some(e),
+            },
             None => Some(CommandError::Argument(len, ArgumentError::Length)),
         },
         Command::Compile(table, name) => same_file(table, name),
         Command::Lists(_, _)
+        | Command::Styled(_, _, _)
         | Command::Diff(_, _)
         | Command::Check(_)
         | Command::Match(_, _, _)
         | Command::Look(_, _)
+        | Command::Split(_, _)
+        | Command::Describe(_, _)
         | Command::Single(_)
         | Command::Help(_)
         | Command::Version => None,
@@ -146,7 +189,8 @@ fn keep_going<'a, M: Memory, F: Sources, D: Folder, O: Output, E: Sink>(
     let Ok(names) = command.lists(memory) else {
         return report(&Err(CommandError::NoMemory), false, err);
     };
-    match load(memory, sources, command.kind(), names.as_slice(), err) {
+    let names = command.read_lists(names.as_slice());
+    match load(memory, sources, command.kind(), names, err) {
         Ok((_, true)) => 2,
         Ok((lists, false)) => {
             let loaded = Loaded::new(sources, lists.as_slice());

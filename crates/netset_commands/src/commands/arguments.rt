@@ -1,12 +1,16 @@
 //! The words of a command line as options and operands, and the command that they are.
-ghost use Rattle.std.specs.Prelude.{◌≡◌, ◌<◌, Ok, Err, Bool, true, false, length, drop, MatchOption, MatchResult, option_map};
+ghost use Rattle.std.specs.Prelude.{◌≡◌, ◌<◌, [], Ok, Err, Bool, true, false, length, drop, MatchOption, MatchResult, option_map, unwrap_or};
 ghost use Rattle.std.specs.List.{after_first, before_first};
-ghost use Rattle.netset_commands.specs.Arguments.{asks_help, extra_operand, full_name, help_request, is_equals, is_option, is_topic, letter_parts, line_parts, lists_request, long_parts, missing_operand, named_verb, no_option, no_parts, operand_or, part_request, parts_from, short_option, takes, topic_parts, verb_of, verb_request, word_parts};
-ghost use Rattle.netset_commands.specs.Command.{AddsParts, IsUsageError, misuse_line, parts_in, request_of};
+ghost use Rattle.netset_commands.specs.Arguments.{asks_help, chosen_style, extent_by, extra_operand, fresh, full_name, help_request, is_equals, is_plain, is_option, is_topic, letter_parts, line_parts, lists_request, long_parts, made_request, misuse_text, missing_operand, named_format, named_verb, no_option, no_parts, operand_or, part_request, parts_from, short_option, some_style, style_in_values, style_of, taken_value, takes, topic_parts, value_of, verb_of, verb_request, word_parts};
+ghost use Rattle.netset_commands.specs.Command.{AddsParts, IsUsageError, given, extent_of, misuse_line, parts_in, request_of};
 ghost use Rattle.netset_commands.specs.Matching.{is_word};
-ghost use Rattle.netset_commands.specs.Table.{takes_value, texts};
+ghost use Rattle.netset_commands.specs.Table.{name_of, takes_value, texts};
+ghost use Rattle.netset_commands.specs.declared.errors.Misfit.TheVariants.{NotPlain};
+ghost use Rattle.cidr_lists.specs.Formats.{style_in};
+ghost use Rattle.netset_commands.specs.declared.commands.table.Verb.TheVariants.{Free as AsFree};
 
 use crate::commands::Command;
+use crate::commands::free::Extent;
 use crate::commands::matching::has;
 use crate::commands::operations::Operation;
 use crate::commands::single::Single;
@@ -15,6 +19,7 @@ use crate::commands::table::{
 };
 use crate::errors::{Misfit, Misuse, UsageError};
 use cidr_io::memory::Memory;
+use cidr_lists::formats::{Format, Style, format_of};
 use std::alloc::Global;
 
 /// What the next word behind a command is.
@@ -33,7 +38,7 @@ pub enum Next {
 pub struct Parts<'a> {
     /// The options without a value, each in its own word: `-v` and `-c` for `-vc`.
     pub options: Vec<&'a str>,
-    /// The values of options.
+    /// The options with a value, each with its value behind it.
     pub values: Vec<&'a str>,
     pub operands: Vec<&'a str>,
 }
@@ -67,14 +72,15 @@ fn short_option(command: Verb, letter: u8) -> Option<&'static str>
     None
 }
 
-/// The value behind the `=` of an option that has one.
-fn value_in<'a>(command: Verb, word: &'a str) -> Option<&'a str>
+/// An option in front of `=` and the value behind it, where the option has one.
+fn value_in<'a>(command: Verb, word: &'a str) -> Option<(&'a str, &'a str)>
     ensures { MatchOption result (takes_value command word.now ≡ false → takes_value command (before_first is_equals word.now) ≡ false)
-        (λ value. (takes_value command (before_first is_equals word.now) ≡ true) × (value.now ≡ after_first is_equals word.now)) }
+        (λ pair. (takes_value command (before_first is_equals word.now) ≡ true) × (pair.0.now ≡ before_first is_equals word.now)
+        × (pair.1.now ≡ after_first is_equals word.now)) }
 {
     let (name, value) = word.split_once('=')?;
     if takes_value(command, name) {
-        Some(value)
+        Some((name, value))
     } else {
         None
     }
@@ -166,10 +172,12 @@ impl<'a> Parts<'a> {
             return Ok(Next::Any);
         }
         if takes_value(command, word) {
+            memory.push(&mut self.values, word)?;
             return Ok(Next::Value);
         }
         match value_in(command, word) {
-            Some(value) => {
+            Some((name, value)) => {
+                memory.push(&mut self.values, name)?;
                 memory.push(&mut self.values, value)?;
                 Ok(Next::Any)
             }
@@ -244,7 +252,7 @@ fn parts_of<'a, M: Memory>(
         Next::Any => Ok(parts),
         Next::Operand => Ok(parts),
         Next::Value => Err(UsageError::Misuse(Misuse {
-            word: "NET",
+            word: "VALUE",
             why: Misfit::Missing,
             command: name_of(command),
         })),
@@ -325,7 +333,7 @@ fn operand_or<'a>(operands: &[&'a str], place: usize, otherwise: &'a str) -> &'a
 }
 
 /// The operands from a place on.
-fn operands_from<'a>(operands: &'a [&'a str], place: usize) -> &'a [&'a str]
+pub fn operands_from<'a>(operands: &'a [&'a str], place: usize) -> &'a [&'a str]
     ensures { texts result.now ≡ drop place (texts operands.now) }
 {
     if place < operands.len() {
@@ -335,24 +343,249 @@ fn operands_from<'a>(operands: &'a [&'a str], place: usize) -> &'a [&'a str]
     }
 }
 
-/// The command of an operation on lists; `not` may have the values of `--in`.
-fn lists_command<'a>(
+/// A value of an option, if it has none yet.
+fn fresh<'a>(
+    command: Verb,
+    found: Option<&'a str>,
+    value: &'a str,
+) -> Result<Option<&'a str>, Misuse<'a>>
+    ensures { MatchResult result (λ now. fresh command (given found.entry) value.now ≡ Ok (given now))
+        (λ misuse. fresh command (given found.entry) value.now ≡ Err (misuse_line misuse)) }
+{
+    match found {
+        None => Ok(Some(value)),
+        Some(_) => Err(Misuse {
+            word: value,
+            why: Misfit::Extra,
+            command: name_of(command),
+        }),
+    }
+}
+
+/// The same of an option with its value, if it is the one of this name.
+fn taken_value<'a>(
+    command: Verb,
+    name: &str,
+    found: Option<&'a str>,
+    option: &str,
+    value: &'a str,
+) -> Result<Option<&'a str>, Misuse<'a>>
+    ensures { MatchResult result (λ now. taken_value command name.now (given found.entry) option.now value.now ≡ Ok (given now))
+        (λ misuse. taken_value command name.now (given found.entry) option.now value.now ≡ Err (misuse_line misuse)) }
+{
+    if option == name {
+        return fresh(command, found, value);
+    }
+    Ok(found)
+}
+
+/// The value of an option, if it is given: the error is that it is given twice.
+fn value_of<'a>(
+    command: Verb,
+    name: &str,
+    values: &[&'a str],
+) -> Result<Option<&'a str>, Misuse<'a>>
+    ensures { MatchResult result (λ found. value_of command name.now (texts values.now) ≡ Ok (given found))
+        (λ misuse. value_of command name.now (texts values.now) ≡ Err (misuse_line misuse)) }
+{
+    let mut found = None;
+    let mut at = 0;
+    while values.len() - at > 1 {
+        found = taken_value(command, name, found, values[at], values[at + 1])?;
+        at += 2;
+    }
+    Ok(found)
+}
+
+/// The format of a name.
+fn named_format<'a>(command: Verb, name: &'a str) -> Result<Format, Misuse<'a>>
+    ensures { MatchResult result (λ format. named_format command name.now ≡ Ok format)
+        (λ misuse. named_format command name.now ≡ Err (misuse_line misuse)) }
+{
+    match format_of(name) {
+        Some(format) => Ok(format),
+        None => Err(Misuse {
+            word: name,
+            why: Misfit::NoFormat,
+            command: name_of(command),
+        }),
+    }
+}
+
+/// Whether a format has a prefix and a suffix.
+fn is_plain(format: Format) -> bool
+    ensures { result ≡ is_plain format }
+{
+    format == Format::Plain
+}
+
+/// A value that is given, or nothing.
+fn text_or<'a>(found: Option<&'a str>) -> &'a str
+    ensures { result.now ≡ unwrap_or (given found.entry) [] }
+{
+    match found {
+        Some(text) => text,
+        None => "",
+    }
+}
+
+/// The error of an option that only the format `plain` has.
+fn not_plain<'a>(command: Verb, option: &'static str) -> Misuse<'a>
+    ensures { misuse_line result ≡ misuse_text option.now NotPlain (name_of command) }
+{
+    Misuse {
+        word: option,
+        why: Misfit::NotPlain,
+        command: name_of(command),
+    }
+}
+
+/// A format with a prefix and a suffix, which only the plain one has.
+fn style_of<'a>(
+    command: Verb,
+    format: Format,
+    prefix: Option<&'a str>,
+    suffix: Option<&'a str>,
+) -> Result<Style<'a>, Misuse<'a>>
+    ensures { MatchResult result (λ style. style_of command format (given prefix.entry) (given suffix.entry) ≡ Ok (style_in style))
+        (λ misuse. style_of command format (given prefix.entry) (given suffix.entry) ≡ Err (misuse_line misuse)) }
+{
+    if is_plain(format) {
+        return Ok(Style {
+            format,
+            prefix: text_or(prefix),
+            suffix: text_or(suffix),
+        });
+    }
+    match (prefix, suffix) {
+        (Some(_), _) => Err(not_plain(command, "--prefix")),
+        (None, Some(_)) => Err(not_plain(command, "--suffix")),
+        (None, None) => Ok(Style {
+            format,
+            prefix: "",
+            suffix: "",
+        }),
+    }
+}
+
+/// A format with a prefix and a suffix, as one that is chosen.
+fn some_style<'a>(
+    command: Verb,
+    format: Format,
+    prefix: Option<&'a str>,
+    suffix: Option<&'a str>,
+) -> Result<Option<Style<'a>>, Misuse<'a>>
+    ensures { MatchResult result
+        (λ style. some_style command format (given prefix.entry) (given suffix.entry) ≡ Ok (option_map (λ s. style_in s) style))
+        (λ misuse. some_style command format (given prefix.entry) (given suffix.entry) ≡ Err (misuse_line misuse)) }
+{
+    let style = style_of(command, format, prefix, suffix)?;
+    Ok(Some(style))
+}
+
+/// How networks are written, if one of the options says it.
+fn chosen_style<'a>(
+    command: Verb,
+    name: Option<&'a str>,
+    prefix: Option<&'a str>,
+    suffix: Option<&'a str>,
+) -> Result<Option<Style<'a>>, Misuse<'a>>
+    ensures { MatchResult result
+        (λ style. chosen_style command (given name.entry) (given prefix.entry) (given suffix.entry) ≡ Ok (option_map (λ s. style_in s) style))
+        (λ misuse. chosen_style command (given name.entry) (given prefix.entry) (given suffix.entry) ≡ Err (misuse_line misuse)) }
+{
+    match (name, prefix, suffix) {
+        (None, None, None) => Ok(None),
+        (None, None, Some(_)) => some_style(command, Format::Plain, prefix, suffix),
+        (None, Some(_), _) => some_style(command, Format::Plain, prefix, suffix),
+        (Some(name), _, _) => {
+            let format = named_format(command, name)?;
+            some_style(command, format, prefix, suffix)
+        }
+    }
+}
+
+/// How networks are written, by the options with a value.
+fn style_in_values<'a>(command: Verb, values: &[&'a str]) -> Result<Option<Style<'a>>, Misuse<'a>>
+    ensures { MatchResult result (λ style. style_in_values command (texts values.now) ≡ Ok (option_map (λ s. style_in s) style))
+        (λ misuse. style_in_values command (texts values.now) ≡ Err (misuse_line misuse)) }
+{
+    let name = value_of(command, "--format", values)?;
+    let prefix = value_of(command, "--prefix", values)?;
+    let suffix = value_of(command, "--suffix", values)?;
+    chosen_style(command, name, prefix, suffix)
+}
+
+/// The command of an operation on lists; `not` may be inside a network.
+fn made_command<'a>(
     operation: Operation,
-    nets: &[&'a str],
+    net: Option<&'a str>,
+    style: Option<Style<'a>>,
     files: &'a [&'a str],
 ) -> Result<Command<'a>, Misuse<'a>>
-    ensures { MatchResult result (λ command. lists_request operation (texts nets.now) (texts files.now) ≡ Ok (request_of command))
-        (λ misuse. lists_request operation (texts nets.now) (texts files.now) ≡ Err (misuse_line misuse)) }
+    ensures { MatchResult result
+        (λ command. made_request operation (given net.entry) (option_map (λ s. style_in s) style.entry) (texts files.now) ≡ Ok (request_of command))
+        (λ misuse. made_request operation (given net.entry) (option_map (λ s. style_in s) style.entry) (texts files.now) ≡ Err (misuse_line misuse)) }
 {
-    match (operation, nets) {
-        (Operation::Not, [net]) => Ok(Command::NotIn(net, files)),
-        (Operation::Not, [_, other, ..]) => Err(Misuse {
-            word: other,
-            why: Misfit::Extra,
-            command: "not",
+    match (net, style) {
+        (None, None) => Ok(Command::Lists(operation, files)),
+        (None, Some(style)) => Ok(Command::Styled(style, operation, files)),
+        (Some(net), None) => Ok(Command::NotIn(net, files)),
+        (Some(_), Some(_)) => Err(Misuse {
+            word: "--in",
+            why: Misfit::NotStyled,
+            command: name_of(Verb::Lists(operation)),
         }),
-        _ => Ok(Command::Lists(operation, files)),
     }
+}
+
+/// The command of an operation on lists, by the options with a value.
+fn lists_command<'a>(
+    operation: Operation,
+    values: &[&'a str],
+    files: &'a [&'a str],
+) -> Result<Command<'a>, Misuse<'a>>
+    ensures { MatchResult result (λ command. lists_request operation (texts values.now) (texts files.now) ≡ Ok (request_of command))
+        (λ misuse. lists_request operation (texts values.now) (texts files.now) ≡ Err (misuse_line misuse)) }
+{
+    let verb = Verb::Lists(operation);
+    let net = value_of(verb, "--in", values)?;
+    let style = style_in_values(verb, values)?;
+    made_command(operation, net, style, files)
+}
+
+/// How many networks `free` is to tell, by whether `--all` is given and by the value of `--count`.
+fn extent_by<'a>(all: bool, count: Option<&'a str>) -> Result<Extent<'a>, Misuse<'a>>
+    ensures { MatchResult result (λ extent. extent_by all (given count.entry) ≡ Ok (extent_of extent))
+        (λ misuse. extent_by all (given count.entry) ≡ Err (misuse_line misuse)) }
+{
+    match (all, count) {
+        (false, None) => Ok(Extent::First),
+        (true, None) => Ok(Extent::All),
+        (false, Some(count)) => Ok(Extent::Count(count)),
+        (true, Some(_)) => Err(Misuse {
+            word: "--all",
+            why: Misfit::Extra,
+            command: "free",
+        }),
+    }
+}
+
+/// The command `free`.
+fn free_command<'a>(parts: &'a Parts<'a>) -> Result<Command<'a>, Misuse<'a>>
+    ensures { MatchResult result (λ command. verb_request AsFree (parts_in parts.now) ≡ Ok (request_of command))
+        (λ misuse. verb_request AsFree (parts_in parts.now) ≡ Err (misuse_line misuse)) }
+{
+    let operands = parts.operands.as_slice();
+    let all = has(parts.options.as_slice(), "--all");
+    let count = value_of(Verb::Free, "--count", parts.values.as_slice())?;
+    let extent = extent_by(all, count)?;
+    Ok(Command::Free(
+        extent,
+        operand_or(operands, 0, ""),
+        operand_or(operands, 1, ""),
+        operands_from(operands, 2),
+    ))
 }
 
 /// The command `help`, of the command that an operand names, or of all.
@@ -378,12 +611,11 @@ fn verb_command<'a>(verb: Verb, parts: &'a Parts<'a>) -> Result<Command<'a>, Mis
     match verb {
         Verb::Lists(operation) => lists_command(operation, parts.values.as_slice(), operands),
         Verb::Diff => Ok(Command::Diff(operand_or(operands, 0, ""), operand_or(operands, 1, ""))),
-        Verb::Free => Ok(Command::Free(
-            operand_or(operands, 0, ""),
-            operand_or(operands, 1, ""),
-            operands_from(operands, 2),
-        )),
+        Verb::Free => free_command(parts),
         Verb::Check => Ok(Command::Check(operands)),
+        Verb::Which => {
+            Ok(Command::Which(operand_or(operands, 0, ""), operands_from(operands, 1)))
+        }
         Verb::Match => Ok(Command::Match(
             parts.options.as_slice(),
             operand_or(operands, 0, ""),
@@ -394,11 +626,11 @@ fn verb_command<'a>(verb: Verb, parts: &'a Parts<'a>) -> Result<Command<'a>, Mis
             operand_or(operands, 0, ""),
             operand_or(operands, 1, ""),
         )),
+        Verb::Describe(what) => Ok(Command::Describe(what, operand_or(operands, 0, ""))),
         Verb::Show => Ok(Command::Single(Single::Show(operand_or(operands, 0, "")))),
-        Verb::Split => Ok(Command::Single(Single::Split(
-            operand_or(operands, 0, ""),
-            operand_or(operands, 1, ""),
-        ))),
+        Verb::Split => {
+            Ok(Command::Split(operand_or(operands, 0, ""), operand_or(operands, 1, "")))
+        }
         Verb::Nth => Ok(Command::Single(Single::Nth(
             operand_or(operands, 0, ""),
             operand_or(operands, 1, ""),

@@ -29,7 +29,12 @@ use cidr_lists::near::{Near, near_at, near_lines};
 use itoa::Buffer;
 
 /// The parts of the line of a finding: its place and what is found.
-fn found_parts<'a>(file: &'a str, number: &'a str, words: &'a str, text: &'a str) -> [Part<'a>; 6]
+pub fn found_parts<'a>(
+    file: &'a str,
+    number: &'a str,
+    words: &'a str,
+    text: &'a str,
+) -> [Part<'a>; 6]
     ensures { flat_map part_text result ≡ shown file.now ++ (codes ":" ++ (number.now ++ (words.now ++ (text.now ++ codes "\n")))) }
 {
     let colon: &'a str = ":";

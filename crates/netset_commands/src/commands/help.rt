@@ -3,11 +3,12 @@ ghost use Rattle.std.specs.Prelude.{◌≡◌, ◌++◌, ◌∷◌, [], codes, L
 ghost use Rattle.std.specs.List.{concat, flat_map};
 ghost use Rattle.cidr_io.specs.Collecting.{Collects};
 ghost use Rattle.cidr_io.specs.Writing.{Answered};
-ghost use Rattle.netset_commands.specs.Table.{about_of, help_text, note_of};
+ghost use Rattle.netset_commands.specs.Table.{about_of, format_note, help_text, note_of};
 
 use crate::commands::matching::has;
 use crate::commands::table::{
-    HOST_BITS, KEEP_GOING, LISTS, OPTIONS, Verb, about_of, commands, options_of,
+    FORMAT, HOST_BITS, KEEP_GOING, LISTS, OPTIONS, Verb, about_of, commands, options_of,
+    takes_value,
 };
 use crate::output::report::{push_texts, write_line};
 use cidr_io::block::Block;
@@ -32,7 +33,7 @@ fn push_page<S: Sink>(block: &mut Block, out: &mut S) -> Result<(), OutputFailed
     ensures { Collects (S.state out.old) (S.state out.new) block.old block.new (help_text None) result }
 {
     push_abouts(block, out, commands())?;
-    push_texts(block, out, &[OPTIONS, HOST_BITS, KEEP_GOING, LISTS])
+    push_texts(block, out, &[OPTIONS, HOST_BITS, KEEP_GOING, FORMAT, LISTS])
 }
 
 /// Writes the page of all commands, and flushes.
@@ -58,6 +59,17 @@ fn note_of<'a>(command: Verb, option: &str, note: &'a str) -> &'a str
     }
 }
 
+/// A note on formats, if the command has them.
+fn format_note(command: Verb) -> &'static str
+    ensures { result.now ≡ format_note command }
+{
+    if takes_value(command, "--format") {
+        FORMAT
+    } else {
+        ""
+    }
+}
+
 /// Writes the page of a command, or of all, and flushes. Its block takes no room on the stack of other commands.
 #[inline(never)]
 pub fn write_help<S: Sink>(topic: Option<Verb>, out: &mut S) -> Result<(), OutputFailed>
@@ -70,6 +82,7 @@ pub fn write_help<S: Sink>(topic: Option<Verb>, out: &mut S) -> Result<(), Outpu
                 about_of(command),
                 note_of(command, "--host-bits", HOST_BITS),
                 note_of(command, "-k", KEEP_GOING),
+                format_note(command),
             ],
         ),
         None => write_page(out),

@@ -1,14 +1,17 @@
 //! The longest networks of addresses.
-ghost use Rattle.std.specs.Prelude.{◌≡◌, IfErr, false};
+ghost use Rattle.std.specs.Prelude.{◌≡◌, List, ℕ, IfErr, Some, false};
 ghost use Rattle.netset_commands.specs.Causes.{Cause, LookCause, FileMayFail, TextFails};
 ghost use Rattle.netset_commands.specs.Commands.{Look};
 ghost use Rattle.netset_commands.specs.LookUps.{LooksAll, LooksLine, LooksLines, verdict_of};
-ghost use Rattle.cidr_lists.specs.Tables.{kept};
+ghost use Rattle.cidr_lists.specs.Lists.{Text};
+ghost use Rattle.netset_commands.specs.Compiled.{SaysTable};
 ghost use Rattle.netset_commands.specs.Program.{AnswersRequest};
 
 use crate::errors::{CommandError, ReadError};
+use crate::input::begun::Given;
 use crate::input::files::Sources;
-use crate::input::table::{look_up, read_table, unread};
+use crate::input::stored::Stored;
+use crate::input::table::{LookUps, give_table, unread};
 use crate::output::answers::Verdict;
 use crate::output::printing::catch_up;
 use cidr_io::block::Block;
@@ -18,7 +21,6 @@ use cidr_io::sink::{OutputFailed, Sink};
 use cidr_io::source::Source;
 use cidr_lists::columns::{address_in, split_line};
 use cidr_lists::errors::LineError;
-use cidr_lists::table::Table;
 
 /// Why look-ups end early.
 #[derive(Debug, Drop)]
@@ -53,14 +55,14 @@ impl From<OutputFailed> for LookError {
 }
 
 /// Looks up the address of a line, if it has one, and appends its line to a block; tells whether a network has it.
-fn look_line<S: Sink>(
-    table: &Table,
+fn look_line<T: LookUps, S: Sink>(
+    table: &T,
     number: u64,
     line: &[u8],
     block: &mut Block,
     out: &mut S,
 ) -> Result<bool, LookError>
-    ensures looks { LooksLine (kept table.now) line.now number (S.state out.old) (S.state out.new)
+    ensures looks { LooksLine (T.rows table.now) line.now number (S.state out.old) (S.state out.new)
         block.old block.new result }
     ensures cause { IfErr result (LookCause ⊥ false) }
 {
@@ -72,7 +74,7 @@ fn look_line<S: Sink>(
     };
     match address_in(first) {
         Ok(address) => {
-            let found = look_up(table, &address, block, out)?;
+            let found = table.look_up(&address, block, out)?;
             Ok(found)
         }
         Err(e) => Err(LookError::Reading(ReadError::Line(number, e))),
@@ -81,14 +83,14 @@ fn look_line<S: Sink>(
 
 /// Looks up the address of each line, to the end or to the first line in error, and appends their lines to a block, which
 /// is written before more is read; tells whether a network has one of them.
-fn look_lines<M: Memory, R: Source + Drop, S: Sink>(
+fn look_lines<T: LookUps, M: Memory, R: Source + Drop, S: Sink>(
     memory: &mut M,
-    table: &Table,
+    table: &T,
     reader: &mut LineReader<R>,
     block: &mut Block,
     out: &mut S,
 ) -> Result<bool, LookError>
-    ensures looks { LooksLines (kept table.now) reader.old.left (S.state out.old) (S.state out.new)
+    ensures looks { LooksLines (T.rows table.now) reader.old.left (S.state out.old) (S.state out.new)
         block.old block.new result }
     ensures cause { IfErr result (LookCause (TextFails reader.old.left) (M.refused memory.new)) }
 {
@@ -109,13 +111,13 @@ fn look_lines<M: Memory, R: Source + Drop, S: Sink>(
 
 /// Looks up the address of each line and writes their lines in blocks, also those before a line in error; tells whether
 /// a network has one of them. An output that has failed before gets nothing.
-fn look_all<M: Memory, R: Source + Drop, S: Sink>(
+fn look_all<T: LookUps, M: Memory, R: Source + Drop, S: Sink>(
     memory: &mut M,
-    table: &Table,
+    table: &T,
     reader: &mut LineReader<R>,
     out: &mut S,
 ) -> Result<bool, LookError>
-    ensures looks { LooksAll (kept table.now) reader.old.left (S.state out.old) (S.state out.new) result }
+    ensures looks { LooksAll (T.rows table.now) reader.old.left (S.state out.old) (S.state out.new) result }
     ensures cause { IfErr result (LookCause (TextFails reader.old.left) (M.refused memory.new)) }
 {
     if out.failed() {
@@ -136,10 +138,37 @@ fn look_all<M: Memory, R: Source + Drop, S: Sink>(
 }
 
 /// Yes where an address was found.
-fn verdict_of(found: bool) -> Verdict
+pub fn verdict_of(found: bool) -> Verdict
     ensures { result ≡ verdict_of found }
 {
     if found { Verdict::Yes } else { Verdict::No }
+}
+
+/// Looks up the addresses of a file in a table.
+fn look_in<'a, T: LookUps, M: Memory, F: Sources, O: Sink>(
+    memory: &mut M,
+    sources: &F,
+    table: &T,
+    file: &'a str,
+    out: &mut O,
+) -> Result<Verdict, CommandError<'a>>
+    ensures answers { (name : List ℕ)
+        → ((text : Text) → F.contents sources.now name ≡ Some text → SaysTable text (T.rows table.now))
+        → AnswersRequest (F.contents sources.now) (Look name file.now) (O.state out.old) (O.state out.new) result }
+    ensures cause { IfErr result (Cause (FileMayFail (F.contents sources.now)) (M.refused memory.new)) }
+{
+    let reader = match sources.open(file) {
+        Ok(reader) => reader,
+        Err(why) => return Err(CommandError::Input(file, why)),
+    };
+    let Ok(mut reader) = LineReader::new(memory, reader) else {
+        return Err(CommandError::NoMemory);
+    };
+    match look_all(memory, table, &mut reader, out) {
+        Ok(found) => Ok(verdict_of(found)),
+        Err(LookError::Reading(e)) => Err(unread(file, e)),
+        Err(LookError::Output) => Err(CommandError::Output),
+    }
 }
 
 /// The command `look`.
@@ -153,17 +182,11 @@ pub fn look<'a, M: Memory, F: Sources, O: Sink>(
     ensures answers { AnswersRequest (F.contents sources.now) (Look table.now file.now) (O.state out.old) (O.state out.new) result }
     ensures cause { IfErr result (Cause (FileMayFail (F.contents sources.now)) (M.refused memory.new)) }
 {
-    let rows = read_table(memory, sources, table)?;
-    let reader = match sources.open(file) {
-        Ok(reader) => reader,
-        Err(why) => return Err(CommandError::Input(file, why)),
-    };
-    let Ok(mut reader) = LineReader::new(memory, reader) else {
-        return Err(CommandError::NoMemory);
-    };
-    match look_all(memory, &rows, &mut reader, out) {
-        Ok(found) => Ok(verdict_of(found)),
-        Err(LookError::Reading(e)) => Err(unread(file, e)),
-        Err(LookError::Output) => Err(CommandError::Output),
+    match give_table(memory, sources, table)? {
+        Given::Lines(rows) => look_in(memory, sources, &rows, file, out),
+        Given::Stored(bytes) => {
+            let stored = Stored::check(memory, table, bytes.as_slice())?;
+            look_in(memory, sources, &stored, file, out)
+        }
     }
 }

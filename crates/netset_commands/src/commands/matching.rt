@@ -14,7 +14,7 @@ ghost use Rattle.cidr_lists.specs.Sets.{IsInSets};
 
 use crate::errors::{CommandError, Reason};
 use crate::input::files::Sources;
-use crate::input::several::read_file;
+use crate::input::several::read_addresses;
 use crate::output::answers::{Verdict, by_output};
 use crate::output::printing::catch_up;
 use cidr_io::block::Block;
@@ -364,7 +364,7 @@ pub fn matching<'a, M: Memory, F: Sources, O: Sink>(
         (O.state out.old) (O.state out.new) result }
     ensures cause { IfErr result (Cause (FileMayFail (F.contents sources.now)) (M.refused memory.new)) }
 {
-    let sets = read_file(memory, sources, list)?;
+    let sets = read_addresses(memory, sources, list)?;
     let anywhere = has(options, "--any");
     let inverted = has(options, "-v");
     let written = written_of(options);

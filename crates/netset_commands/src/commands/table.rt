@@ -2,6 +2,7 @@
 ghost use Rattle.std.specs.Prelude.{◌≡◌};
 ghost use Rattle.netset_commands.specs.Table.{about_of, commands, name_of, needed_of, most_of, options_of, takes_value, texts};
 
+use crate::commands::describe::Description;
 use crate::commands::operations::Operation;
 
 /// What a command does.
@@ -11,9 +12,11 @@ pub enum Verb {
     Diff,
     Free,
     Check,
+    Which,
     Match,
     Look,
     Compile,
+    Describe(Description),
     Show,
     Split,
     Nth,
@@ -22,7 +25,7 @@ pub enum Verb {
 }
 
 /// The commands, in their order on the page.
-pub static COMMANDS: [Verb; 18] = [
+pub static COMMANDS: [Verb; 21] = [
     Verb::Lists(Operation::Merge),
     Verb::Lists(Operation::Nets),
     Verb::Lists(Operation::Minus),
@@ -33,9 +36,12 @@ pub static COMMANDS: [Verb; 18] = [
     Verb::Diff,
     Verb::Free,
     Verb::Check,
+    Verb::Which,
     Verb::Match,
     Verb::Look,
     Verb::Compile,
+    Verb::Describe(Description::Zones),
+    Verb::Describe(Description::Masks),
     Verb::Show,
     Verb::Split,
     Verb::Nth,
@@ -65,10 +71,13 @@ const DIFF: &str =
     "netset diff A B         the networks that B adds to A, as +NET, and that it lacks, as -NET\n";
 
 const FREE: &str =
-    "netset free POOL LEN USED..\n                        the first network of this prefix length in the addresses of\n                        POOL that no list of USED has\n";
+    "netset free [--all] [--count N] POOL LEN [USED..]\n                        the first network of this prefix length in the addresses of a\n                        network or of a list that no list of USED has, --all all of\n                        them, --count the first N\n";
 
 const CHECK: &str =
     "netset check [FILE..]   what is found in the lists, whose lines may be hosts too: set host\n                        bits, other forms than the printed one, repeats, networks inside\n                        others, and halves of one network\n";
+
+const WHICH: &str =
+    "netset which ADDR [FILE..]\n                        the lines of the lists that have an address, which may be hosts too,\n                        and their networks\n";
 
 const MATCH: &str =
     "netset match [--any] [-v] [-c] [-q] LIST [FILE]\n                        the lines of FILE whose first field lies in LIST, or with --any those\n                        that have an address of LIST anywhere; -v all the other lines,\n                        -c only their number, -q only the status\n";
@@ -77,12 +86,19 @@ const LOOK: &str =
     "netset look TABLE [FILE]\n                        the longest network of each address of FILE in the lines\n                        NET VALUE of TABLE, and its value\n";
 
 const COMPILE: &str =
-    "netset compile TABLE OUT\n                        writes the table into the file OUT, from which addresses are looked\n                        up without reading its lines\n";
+    "netset compile TABLE OUT\n                        writes the table into the file OUT, which look and match take in the\n                        place of TABLE and LIST, and read none of its lines\n";
+
+const REVERSE: &str =
+    "netset reverse NET|FILE the names in reverse DNS of an address, or of the zones that networks\n                        are delegated in\n";
+
+const MASK: &str =
+    "netset mask NET|LEN|FILE\n                        the first address, the mask and the host mask of networks, or\n                        the masks of a prefix length\n";
 
 const SHOW: &str =
-    "netset show HOST        the network of a host: its ends, mask, length and family\n";
+    "netset show HOST        the network of a host: its ends, masks, length, family and usable\n                        addresses, and the name of the host in reverse DNS\n";
 
-const SPLIT: &str = "netset split NET LEN    the networks of this prefix length inside a network\n";
+const SPLIT: &str =
+    "netset split NET|FILE LEN\n                        the networks of this prefix length inside a network, or inside the\n                        networks of a list\n";
 
 const NTH: &str = "netset nth NET INDEX    the address of a network at an index, from 0 on\n";
 
@@ -96,12 +112,15 @@ pub const HOST_BITS: &str =
 pub const KEEP_GOING: &str =
     "-k                      each line of a list in error is told, and not only the first\n";
 
+pub const FORMAT: &str =
+    "--format NAME           how the networks are written: plain, json, nft, ipset, iptables,\n                        cisco, juniper or bird\n--prefix TEXT, --suffix TEXT\n                        with the format plain, what stands in front of a network and behind\n";
+
 /// What the page says below the commands.
 pub const OPTIONS: &str =
     "\nOptions stand anywhere behind the command; those of one letter may be joined, as -vc:\n";
 
 pub const LISTS: &str =
-    "-h, --help              what this page says of the command\n--                      what is behind it are no options\n--host-bits is for commands that read lists, but check, and -k for all that read lists.\n\nA line of a list is a network, an address or a range FIRST-LAST, and may end in a comment\nfrom # or ; on. The file - is the standard input, which is also read where no file is named.\nStatus: 0 done, 1 none, a difference or findings, 2 usage, a wrong argument, a file that\ncannot be read or a line in error, 3 output or memory.\n";
+    "-h, --help              what this page says of the command\n--                      what is behind it are no options\n--host-bits is for commands that read lists, but check and which, -k for all that read lists, and\n--format, --prefix and --suffix are for merge, nets, minus, and and not.\n\nA line of a list is a network, an address or a range FIRST-LAST, and may end in a comment\nfrom # or ; on. The file - is the standard input, which is also read where no file is named.\nStatus: 0 done, 1 none, a difference or findings, 2 usage, a wrong argument, a file that\ncannot be read or a line in error, 3 output or memory.\n";
 
 /// The commands, in their order on the page.
 pub fn commands() -> &'static [Verb]
@@ -125,9 +144,12 @@ pub fn name_of(command: Verb) -> &'static str
         Verb::Diff => "diff",
         Verb::Free => "free",
         Verb::Check => "check",
+        Verb::Which => "which",
         Verb::Match => "match",
         Verb::Look => "look",
         Verb::Compile => "compile",
+        Verb::Describe(Description::Zones) => "reverse",
+        Verb::Describe(Description::Masks) => "mask",
         Verb::Show => "show",
         Verb::Split => "split",
         Verb::Nth => "nth",
@@ -141,10 +163,14 @@ pub fn options_of(command: Verb) -> &'static [&'static str]
     ensures { texts result.now ≡ options_of command }
 {
     match command {
-        Verb::Lists(_) | Verb::Diff | Verb::Free | Verb::Look | Verb::Compile => {
-            &["--host-bits", "-k", "-h", "--help"]
-        }
-        Verb::Check => &["-k", "-h", "--help"],
+        Verb::Lists(_)
+        | Verb::Diff
+        | Verb::Look
+        | Verb::Compile
+        | Verb::Describe(_)
+        | Verb::Split => { &["--host-bits", "-k", "-h", "--help"] }
+        Verb::Free => &["--all", "--host-bits", "-k", "-h", "--help"],
+        Verb::Check | Verb::Which => &["-k", "-h", "--help"],
         Verb::Match => &[
             "--any",
             "-v",
@@ -155,16 +181,22 @@ pub fn options_of(command: Verb) -> &'static [&'static str]
             "-h",
             "--help",
         ],
-        Verb::Show | Verb::Split | Verb::Nth | Verb::Help | Verb::Version => &["-h", "--help"],
+        Verb::Show | Verb::Nth | Verb::Help | Verb::Version => &["-h", "--help"],
     }
 }
 
-/// Whether a command has an option with a value: the network of `not --in`.
+/// Whether a command has an option with a value: the network of `not --in`, how networks are written, or how many networks
+/// `free --count` tells.
 pub fn takes_value(command: Verb, option: &str) -> bool
     ensures { result ≡ takes_value command option.now }
 {
     match command {
-        Verb::Lists(Operation::Not) => option == "--in",
+        Verb::Lists(Operation::Not) => {
+            option == "--in" || option == "--format" || option == "--prefix" || option == "--suffix"
+        }
+        Verb::Lists(Operation::Ranges) | Verb::Lists(Operation::Count) => false,
+        Verb::Lists(_) => option == "--format" || option == "--prefix" || option == "--suffix",
+        Verb::Free => option == "--count",
         _ => false,
     }
 }
@@ -175,12 +207,15 @@ pub fn needed_of(command: Verb) -> &'static [&'static str]
 {
     match command {
         Verb::Lists(Operation::Minus) | Verb::Lists(Operation::And) | Verb::Diff => &["A", "B"],
-        Verb::Free => &["POOL", "LEN", "USED"],
+        Verb::Free => &["POOL", "LEN"],
+        Verb::Which => &["ADDR"],
         Verb::Match => &["LIST"],
         Verb::Look => &["TABLE"],
         Verb::Compile => &["TABLE", "OUT"],
+        Verb::Describe(Description::Zones) => &["NET|FILE"],
+        Verb::Describe(Description::Masks) => &["NET|LEN|FILE"],
         Verb::Show => &["HOST"],
-        Verb::Split => &["NET", "LEN"],
+        Verb::Split => &["NET|FILE", "LEN"],
         Verb::Nth => &["NET", "INDEX"],
         Verb::Lists(_) | Verb::Check | Verb::Help | Verb::Version => &[],
     }
@@ -191,9 +226,9 @@ pub fn most_of(command: Verb) -> Option<usize>
     ensures { result ≡ most_of command }
 {
     match command {
-        Verb::Lists(_) | Verb::Free | Verb::Check => None,
+        Verb::Lists(_) | Verb::Free | Verb::Check | Verb::Which => None,
         Verb::Diff | Verb::Match | Verb::Look | Verb::Compile | Verb::Split | Verb::Nth => Some(2),
-        Verb::Show | Verb::Help => Some(1),
+        Verb::Describe(_) | Verb::Show | Verb::Help => Some(1),
         Verb::Version => Some(0),
     }
 }
@@ -213,9 +248,12 @@ pub fn about_of(command: Verb) -> &'static str
         Verb::Diff => DIFF,
         Verb::Free => FREE,
         Verb::Check => CHECK,
+        Verb::Which => WHICH,
         Verb::Match => MATCH,
         Verb::Look => LOOK,
         Verb::Compile => COMPILE,
+        Verb::Describe(Description::Zones) => REVERSE,
+        Verb::Describe(Description::Masks) => MASK,
         Verb::Show => SHOW,
         Verb::Split => SPLIT,
         Verb::Nth => NTH,

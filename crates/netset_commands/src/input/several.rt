@@ -2,13 +2,16 @@
 ghost use Rattle.std.specs.Prelude.{◌∷◌, map, IfErr, MatchResult};
 ghost use Rattle.netset_commands.specs.Causes.{Cause, FileMayFail};
 ghost use Rattle.netset_commands.specs.Commands.{read_files};
-ghost use Rattle.netset_commands.specs.Answering.{AddsFile, AreRead, ReadsBoth, ReadsFile, ReadsSeveral};
+ghost use Rattle.netset_commands.specs.Answering.{AddsFile, AreRead, GivesList, ReadsAddresses, ReadsBoth, ReadsFile, ReadsSeveral};
 ghost use Rattle.netset_commands.specs.Program.{IsUnread};
 
 use crate::errors::{CommandError, ReadError, Reason};
+use crate::input::begun::{Given, begin_file, read_whole};
 use crate::input::files::Sources;
 use crate::input::keeping::Said;
 use crate::input::lists::read_list;
+use crate::input::stored::Stored;
+use crate::input::table::unread;
 use cidr_io::memory::Memory;
 use cidr_lists::lists::Lists;
 use cidr_lists::sets::Sets;
@@ -76,8 +79,55 @@ pub fn read_file<'a, M: Memory, F: Sources>(
     Ok(Sets::of_lists(lists))
 }
 
+/// The bytes of a file of look-ups, or the addresses of the list of another file, which is read unless it is read
+/// already.
+fn give_list<'a, M: Memory, F: Sources>(
+    memory: &mut M,
+    sources: &F,
+    file: &'a str,
+) -> Result<Given<Sets>, CommandError<'a>>
+    ensures gives { GivesList (F.contents sources.now file.now) file.now result }
+    ensures cause { IfErr result (Cause (FileMayFail (F.contents sources.now)) (M.refused memory.new)) }
+{
+    let mut lists = Lists::new(memory.alloc());
+    if let Some(Said::Networks(kept)) = sources.kept(file) {
+        let added = lists.extend(kept);
+        memory.watch(added)?;
+        return Ok(Given::Lines(Sets::of_lists(lists)));
+    }
+    let begun = begin_file(sources, file)?;
+    if begun.is_stored() {
+        let bytes = read_whole(memory, file, begun)?;
+        return Ok(Given::Stored(bytes));
+    }
+    match read_list(memory, sources.host_bits(), begun, &mut lists) {
+        Ok(()) => Ok(Given::Lines(Sets::of_lists(lists))),
+        Err(e) => Err(unread(file, e)),
+    }
+}
+
+/// The addresses of a list, or of the rows of a file of look-ups.
+pub fn read_addresses<'a, M: Memory, F: Sources>(
+    memory: &mut M,
+    sources: &F,
+    file: &'a str,
+) -> Result<Sets, CommandError<'a>>
+    ensures reads { ReadsAddresses (F.contents sources.now file.now) file.now result }
+    ensures cause { IfErr result (Cause (FileMayFail (F.contents sources.now)) (M.refused memory.new)) }
+{
+    match give_list(memory, sources, file)? {
+        Given::Lines(sets) => Ok(sets),
+        Given::Stored(bytes) => {
+            let stored = Stored::check(memory, file, bytes.as_slice())?;
+            let sets = stored.addresses(memory.alloc());
+            let sets = memory.watch(sets)?;
+            Ok(sets)
+        }
+    }
+}
+
 /// The addresses of the lists of some files, each.
-fn read_all<'a, M: Memory, F: Sources>(
+pub fn read_all<'a, M: Memory, F: Sources>(
     memory: &mut M,
     sources: &F,
     files: &[&'a str],

@@ -1,12 +1,14 @@
 //! Reading tables, and the longest network of a table that an address is in.
-ghost use Rattle.std.specs.Prelude.{◌≡◌, Some, option_copied, option_map, IfErr};
+ghost use Rattle.std.specs.Prelude.{◌≡◌, Bool, List, ℕ, None, Some, option_copied, option_map, IfErr};
+ghost use Rattle.cidr.specs.declared.family.Family.{Family};
 ghost use Rattle.cidr_io.specs.Collecting.{Collects};
 ghost use Rattle.netset_commands.specs.Causes.{Cause, FileMayFail};
 ghost use Rattle.cidr_lists.specs.LookUps.{found_line};
-ghost use Rattle.netset_commands.specs.LookUps.{LooksUp, PushesFound, ReadsFileRows, ReadsTable, unread};
+ghost use Rattle.netset_commands.specs.LookUps.{GivesRows, GivesTable, LooksUp, PushesFound, ReadsFileRows, ReadsTable, unread};
 ghost use Rattle.cidr_lists.specs.Tables.{kept, value_at};
 
 use crate::errors::{CommandError, ReadError, Reason};
+use crate::input::begun::{Given, begin_file, read_whole};
 use crate::input::files::Sources;
 use crate::input::keeping::Said;
 use crate::input::rows::read_rows;
@@ -19,24 +21,40 @@ use cidr_lists::printing::Printed;
 use cidr_lists::rows::{Rows, Span, value_of};
 use cidr_lists::table::Table;
 
-/// Looks an address up and appends its line to a block; tells whether a network has it.
-pub fn look_up<S: Sink>(
-    table: &Table,
-    address: &IpAddr,
-    block: &mut Block,
-    out: &mut S,
-) -> Result<bool, OutputFailed>
-    ensures { LooksUp (kept table.now) address.now (S.state out.old) (S.state out.new) block.old block.new result }
-{
-    let text = address.to_text();
-    match address {
-        IpAddr::V4(address) => {
-            let found = table.v4.lookup(&Ipv4Cidr::new_host(*address));
-            push_found(block, out, text, table.values.as_slice(), found)
-        }
-        IpAddr::V6(address) => {
-            let found = table.v6.lookup(&Ipv6Cidr::new_host(*address));
-            push_found(block, out, text, table.values.as_slice(), found)
+/// A table in which addresses are looked up.
+pub trait LookUps {
+    /// Its rows of each family.
+    ghost rows: { Self → Family → List (List Bool × List ℕ) };
+
+    /// Looks an address up and appends its line to a block; tells whether a network has it.
+    fn look_up<S: Sink>(
+        &self,
+        address: &IpAddr,
+        block: &mut Block,
+        out: &mut S,
+    ) -> Result<bool, OutputFailed>
+        ensures { LooksUp (rows self.now) address.now (S.state out.old) (S.state out.new) block.old block.new result };
+}
+
+impl LookUps for Table {
+    ghost rows = { kept };
+
+    fn look_up<S: Sink>(
+        &self,
+        address: &IpAddr,
+        block: &mut Block,
+        out: &mut S,
+    ) -> Result<bool, OutputFailed> {
+        let text = address.to_text();
+        match address {
+            IpAddr::V4(address) => {
+                let found = self.v4.lookup(&Ipv4Cidr::new_host(*address));
+                push_found(block, out, text, self.values.as_slice(), found)
+            }
+            IpAddr::V6(address) => {
+                let found = self.v6.lookup(&Ipv6Cidr::new_host(*address));
+                push_found(block, out, text, self.values.as_slice(), found)
+            }
         }
     }
 }
@@ -61,6 +79,33 @@ fn push_row<S: Sink>(
     block.push_line(out, &[address, b" ", network, b" ", value, b"\n"])
 }
 
+/// Appends the line of an address with its network and the value of that to a block.
+pub fn push_match<C: Printed, S: Sink>(
+    block: &mut Block,
+    out: &mut S,
+    address: ArrayString<39>,
+    network: &C,
+    value: &[u8],
+) -> Result<bool, OutputFailed>
+    ensures { PushesFound address.bytes (Some (C.text network.now, value.now))
+        (S.state out.old) (S.state out.new) block.old block.new result }
+{
+    push_row(block, out, address, network.printed(), value)?;
+    Ok(true)
+}
+
+/// Appends the line of an address that has no network to a block.
+pub fn push_none<S: Sink>(
+    block: &mut Block,
+    out: &mut S,
+    address: ArrayString<39>,
+) -> Result<bool, OutputFailed>
+    ensures { PushesFound address.bytes None (S.state out.old) (S.state out.new) block.old block.new result }
+{
+    block.push_line(out, &[address.as_str().as_bytes(), b" -\n"])?;
+    Ok(false)
+}
+
 /// Appends the line of an address to a block, with its network and the value of that; tells whether it has one.
 fn push_found<C: Printed, S: Sink>(
     block: &mut Block,
@@ -73,13 +118,10 @@ fn push_found<C: Printed, S: Sink>(
         (option_map (λ row. (C.text row.0, value_at values.now row.1)) (option_copied found.entry))
         (S.state out.old) (S.state out.new) block.old block.new result }
 {
-    let Some(row) = found else {
-        block.push_line(out, &[address.as_str().as_bytes(), b" -\n"])?;
-        return Ok(false);
-    };
-    let value = value_of(values, row.1);
-    push_row(block, out, address, row.0.printed(), value)?;
-    Ok(true)
+    match found {
+        Some(row) => push_match(block, out, address, &row.0, value_of(values, row.1)),
+        None => push_none(block, out, address),
+    }
 }
 
 /// The error of reading a file.
@@ -109,6 +151,50 @@ fn read_opened<'a, M: Memory, F: Sources>(
     match read_rows(memory, sources.host_bits(), reader) {
         Ok(rows) => Ok(rows),
         Err(e) => Err(unread(file, e)),
+    }
+}
+
+/// The bytes of a file of look-ups, or the rows of another file, which is read unless it is read already.
+fn give_rows<'a, M: Memory, F: Sources>(
+    memory: &mut M,
+    sources: &F,
+    file: &'a str,
+) -> Result<Given<Rows>, CommandError<'a>>
+    ensures gives { GivesRows (F.contents sources.now file.now) file.now result }
+    ensures cause { IfErr result (Cause (FileMayFail (F.contents sources.now)) (M.refused memory.new)) }
+{
+    if let Some(Said::Rows(kept)) = sources.kept(file) {
+        let rows = kept.copy(memory.alloc());
+        let rows = memory.watch(rows)?;
+        return Ok(Given::Lines(rows));
+    }
+    let begun = begin_file(sources, file)?;
+    if begun.is_stored() {
+        let bytes = read_whole(memory, file, begun)?;
+        return Ok(Given::Stored(bytes));
+    }
+    match read_rows(memory, sources.host_bits(), begun) {
+        Ok(rows) => Ok(Given::Lines(rows)),
+        Err(e) => Err(unread(file, e)),
+    }
+}
+
+/// The bytes of a file of look-ups, or the table of another file.
+pub fn give_table<'a, M: Memory, F: Sources>(
+    memory: &mut M,
+    sources: &F,
+    file: &'a str,
+) -> Result<Given<Table>, CommandError<'a>>
+    ensures gives { GivesTable (F.contents sources.now file.now) file.now result }
+    ensures cause { IfErr result (Cause (FileMayFail (F.contents sources.now)) (M.refused memory.new)) }
+{
+    match give_rows(memory, sources, file)? {
+        Given::Lines(rows) => {
+            let table = Table::of_rows(memory.alloc(), rows);
+            let table = memory.watch(table)?;
+            Ok(Given::Lines(table))
+        }
+        Given::Stored(bytes) => Ok(Given::Stored(bytes)),
     }
 }
 

@@ -4,7 +4,7 @@ ghost use Rattle.cidr.specs.model.Bits.{number};
 ghost use Rattle.cidr.specs.model.Network.{first_of};
 ghost use Rattle.cidr_lists.specs.Tables.{kept};
 ghost use Rattle.netset_commands.specs.Columns.{AreColumns, value_bytes};
-ghost use Rattle.netset_commands.specs.Compiled.{IsFileOf};
+ghost use Rattle.netset_commands.specs.Compiled.{IsFileOf, IsTooLarge};
 
 use cidr::{Ipv4Cidr, Ipv6Cidr, NetworkBits};
 use cidr_arrays::{Key, Word};
@@ -96,10 +96,11 @@ fn columns_of<W: Family, C: Keyed<W>>(
     }))
 }
 
-/// The bytes of a file of look-ups that has the rows of a table; `None` where it is too large for one. The error is that
-/// there is no memory.
+/// The bytes of a file of look-ups that has the rows of a table; `None` where it is too large for one: where a family has
+/// 2^31 rows or more, or values of 2^32 bytes or more. The error is that there is no memory.
 pub fn compiled(alloc: Global, table: &Table) -> Result<Option<Vec<u8>>, AllocError>
-    ensures { IfOk result (λ file. IfSome file (λ bytes. IsFileOf (kept table.now) bytes.items)) }
+    ensures file { IfOk result (λ file. IfSome file (λ bytes. IsFileOf (kept table.now) bytes.items)) }
+    ensures large { IfOk result (λ file. IfNone file (IsTooLarge (kept table.now))) }
 {
     let all = table.values.as_slice();
     let made = columns_of::<Ipv4Bytes, Ipv4Cidr>(alloc, table.v4.table().iter().as_slice(), all)?;
@@ -112,7 +113,9 @@ pub fn compiled(alloc: Global, table: &Table) -> Result<Option<Vec<u8>>, AllocEr
     };
     match written(alloc, &ipv4.rows(), &ipv6.rows()) {
         Ok(bytes) => Ok(Some(bytes)),
-        Err(WriteError::NoMemory) => Err(AllocError),
-        Err(_) => Ok(None),
+        Err(e) => match e {
+            WriteError::NoMemory => Err(AllocError),
+            _ => Ok(None),
+        },
     }
 }

@@ -27,6 +27,11 @@ fn argument_message(error: &ArgumentError) -> ArrayString<99>
         ArgumentError::Network(fault, e) => return fault_words(fault, e.to_text()),
         ArgumentError::Length => text.push_str("no prefix length inside the network"),
         ArgumentError::Index => text.push_str("no index below 2^128"),
+        ArgumentError::Count => text.push_str("no count below 2^64"),
+        ArgumentError::NoAddress => text.push_str("no address"),
+        ArgumentError::Operand => {
+            text.push_str("no network and no address, and no file that can be read");
+        }
         ArgumentError::ReadTwice => text.push_str("standard input can be read only once"),
         ArgumentError::Same => text.push_str("the same file as TABLE"),
     }
@@ -102,14 +107,25 @@ fn unread_parts<'a>(name: &'a str, why: &'a str) -> [Part<'a>; 4]
     ]
 }
 
-/// The parts of the line of a file of look-ups that is not written.
-fn unsaved_parts<'a>(name: &'a str, error: FileError) -> [Part<'a>; 2]
-    ensures { flat_map part_text result ≡ shown name.now ++ file_message error }
+/// What is told of a file of look-ups that is not written, or not read.
+fn file_message(error: FileError) -> &'static str
+    ensures { result.now ≡ file_message error }
 {
-    let words: &'a str = match error {
+    match error {
         FileError::TooLarge => ": too large for a file of look-ups\n",
         FileError::NotSaved => ": cannot be written\n",
-    };
+        FileError::Unlike => ": no lines, and no file of look-ups\n",
+        FileError::Version => ": a file of look-ups of another version\n",
+        FileError::Short => ": a file of look-ups that is cut short\n",
+        FileError::Long => ": a file of look-ups with bytes behind its end\n",
+        FileError::Changed => ": a file of look-ups that was changed\n",
+    }
+}
+
+/// The parts of the line of a file of look-ups.
+fn file_parts<'a>(name: &'a str, words: &'a str) -> [Part<'a>; 2]
+    ensures { flat_map part_text result ≡ shown name.now ++ words.now }
+{
     [Part::Shown(name), Part::Plain(words)]
 }
 
@@ -165,7 +181,7 @@ fn say<E: Sink>(error: &CommandError<'_>, err: &mut E)
         }
         CommandError::NoMemory => write_line(err, &["no memory\n"]),
         CommandError::Output => write_line(err, &["output failed\n"]),
-        CommandError::File(name, e) => write_message(err, &unsaved_parts(name, *e)),
+        CommandError::File(name, e) => write_message(err, &file_parts(name, file_message(*e))),
     };
 }
 
@@ -195,8 +211,8 @@ fn status_of(error: &CommandError<'_>) -> u8
     match error {
         CommandError::Argument(_, _) | CommandError::Line(_, _, _) | CommandError::Input(_, _) => 2,
         CommandError::NoMemory | CommandError::Output => 3,
-        CommandError::File(_, FileError::TooLarge) => 2,
         CommandError::File(_, FileError::NotSaved) => 3,
+        CommandError::File(_, _) => 2,
     }
 }
 
@@ -218,7 +234,7 @@ pub fn report<E: Sink>(answer: &Result<Verdict, CommandError<'_>>, closed: bool,
 }
 
 /// What is wrong with a word.
-fn misfit_text(why: Misfit) -> ArrayString<48>
+fn misfit_text(why: Misfit) -> ArrayString<128>
     ensures { result.bytes ≡ misfit_text why }
 {
     let mut text = ArrayString::new();
@@ -228,6 +244,13 @@ fn misfit_text(why: Misfit) -> ArrayString<48>
         Misfit::NoOption => text.push_str(": no such option, see: netset help "),
         Misfit::Missing => text.push_str(" is missing, see: netset help "),
         Misfit::Extra => text.push_str(": one argument too many, see: netset help "),
+        Misfit::NoFormat => text.push_str(
+            ": no such format, but plain, json, nft, ipset, iptables, cisco, juniper and bird, see: netset help ",
+        ),
+        Misfit::NotPlain => text.push_str(": for the format plain alone, see: netset help "),
+        Misfit::NotStyled => {
+            text.push_str(": not with --format, --prefix or --suffix, see: netset help ")
+        }
     }
     text
 }

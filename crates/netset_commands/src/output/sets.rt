@@ -8,7 +8,7 @@ ghost use Rattle.cidr_lists.specs.Sets.{networks_of, printed_sets};
 use crate::output::printing::write_networks;
 use crate::output::report::write_line;
 use cidr_io::sink::{OutputFailed, Sink};
-use cidr_io::writing::flush;
+use cidr_io::writing::{flush, write_all};
 use cidr_lists::printing::count_text;
 use cidr_lists::sets::Sets;
 
@@ -21,6 +21,17 @@ pub fn write_sets<S: Sink>(out: &mut S, sets: &Sets) -> Result<(), OutputFailed>
     }
     write_networks(out, sets.v4.as_slice())?;
     write_networks(out, sets.v6.as_slice())?;
+    flush(out)
+}
+
+/// Writes bytes, and flushes. An output that has failed before gets nothing.
+pub fn write_bytes<S: Sink>(out: &mut S, bytes: &[u8]) -> Result<(), OutputFailed>
+    ensures { Answered (S.state out.old) (S.state out.new) bytes.now result }
+{
+    if out.failed() {
+        return Err(OutputFailed);
+    }
+    write_all(out, bytes)?;
     flush(out)
 }
 

@@ -81,6 +81,8 @@ pub struct Erasing<'a, W: Write + Drop, R: Clock + Eprint> {
 }
 
 impl<W: Write + Drop, R: Clock + Eprint> Write for Erasing<'_, W, R> {
+    ghost contents = { λ e. W.contents e.out };
+
     fn write(&mut self, buf: &[u8]) -> Result<usize> {
         self.progress.hide();
         self.out.write(buf)
@@ -98,6 +100,8 @@ pub struct Watched<'a, S: Read + Drop, R: Clock + Eprint> {
 }
 
 impl<S: Read + Drop, R: Clock + Eprint> Read for Watched<'_, S, R> {
+    ghost remaining = { λ w. S.remaining w.source };
+
     fn read(&mut self, buf: &mut [u8]) -> Result<usize> {
         let read = self.source.read(buf)?;
         self.progress.add(read);

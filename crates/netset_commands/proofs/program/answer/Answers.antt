@@ -10,6 +10,9 @@ use Rattle.netset_commands.proofs.program.answer.Goals as goal
 pub returns-in-Lists-clause-answers : goal.returns-in-Lists-clause-answers
 returns-in-Lists-clause-answers g c = rw c.in-Lists.is c.lists.ensures.answers
 
+pub returns-in-Styled-clause-answers : goal.returns-in-Styled-clause-answers
+returns-in-Styled-clause-answers g c = rw c.in-Styled.is c.styled_lists.ensures.answers
+
 pub returns-in-NotIn-clause-answers : goal.returns-in-NotIn-clause-answers
 returns-in-NotIn-clause-answers g c = rw c.in-NotIn.is c.not_in.ensures.answers
 
@@ -19,8 +22,14 @@ returns-in-Diff-clause-answers g c = rw c.in-Diff.is c.diff.ensures.answers
 pub returns-in-Free-clause-answers : goal.returns-in-Free-clause-answers
 returns-in-Free-clause-answers g c = rw c.in-Free.is c.free.ensures.answers
 
+pub returns-in-Split-clause-answers : goal.returns-in-Split-clause-answers
+returns-in-Split-clause-answers g c = rw c.in-Split.is c.split.ensures.answers
+
 pub returns-in-Check-clause-answers : goal.returns-in-Check-clause-answers
 returns-in-Check-clause-answers g c = rw c.in-Check.is c.check.ensures.answers
+
+pub returns-in-Which-clause-answers : goal.returns-in-Which-clause-answers
+returns-in-Which-clause-answers g c = rw c.in-Which.is c.which.ensures.answers
 
 pub returns-in-Match-clause-answers : goal.returns-in-Match-clause-answers
 returns-in-Match-clause-answers g c = rw c.in-Match.is c.matching.ensures.answers
@@ -30,6 +39,9 @@ returns-in-Look-clause-answers g c = rw c.in-Look.is c.look.ensures.answers
 
 pub returns-in-Compile-clause-answers : goal.returns-in-Compile-clause-answers
 returns-in-Compile-clause-answers g c = rw c.in-Compile.is (refl, c.compile.ensures.compiled)
+
+pub returns-in-Describe-clause-answers : goal.returns-in-Describe-clause-answers
+returns-in-Describe-clause-answers g c = rw c.in-Describe.is c.describe.ensures.answers
 
 pub returns-in-Single-clause-answers : goal.returns-in-Single-clause-answers
 returns-in-Single-clause-answers g c = rw c.in-Single.is (c.answer_single.ensures (g.F.Sources.contents c.args.sources.now))
@@ -45,6 +57,9 @@ returns-in-Version-clause-answers g c =
 pub returns-in-Lists-clause-cause : goal.returns-in-Lists-clause-cause
 returns-in-Lists-clause-cause g c = c.lists.ensures.cause
 
+pub returns-in-Styled-clause-cause : goal.returns-in-Styled-clause-cause
+returns-in-Styled-clause-cause g c = c.styled_lists.ensures.cause
+
 pub returns-in-NotIn-clause-cause : goal.returns-in-NotIn-clause-cause
 returns-in-NotIn-clause-cause g c = c.not_in.ensures.cause
 
@@ -53,6 +68,12 @@ returns-in-Diff-clause-cause g c = c.diff.ensures.cause
 
 pub returns-in-Free-clause-cause : goal.returns-in-Free-clause-cause
 returns-in-Free-clause-cause g c = c.free.ensures.cause
+
+pub returns-in-Split-clause-cause : goal.returns-in-Split-clause-cause
+returns-in-Split-clause-cause g c = c.split.ensures.cause
+
+pub returns-in-Which-clause-cause : goal.returns-in-Which-clause-cause
+returns-in-Which-clause-cause g c = c.which.ensures.cause
 
 pub returns-in-Match-clause-cause : goal.returns-in-Match-clause-cause
 returns-in-Match-clause-cause g c = c.matching.ensures.cause
@@ -65,6 +86,9 @@ returns-in-Compile-clause-cause g c = c.compile.ensures.cause
 
 pub returns-in-Check-clause-cause : goal.returns-in-Check-clause-cause
 returns-in-Check-clause-cause g c = c.check.ensures.cause
+
+pub returns-in-Describe-clause-cause : goal.returns-in-Describe-clause-cause
+returns-in-Describe-clause-cause g c = c.describe.ensures.cause
 
 pub returns-in-Single-clause-cause : goal.returns-in-Single-clause-cause
 returns-in-Single-clause-cause g c =
@@ -80,6 +104,9 @@ returns-in-Version-clause-cause g c = output_cause (FileMayFail (g.F.Sources.con
 pub returns-in-Lists-clause-leaves : goal.returns-in-Lists-clause-leaves
 returns-in-Lists-clause-leaves g c = rw c.in-Lists.is refl
 
+pub returns-in-Styled-clause-leaves : goal.returns-in-Styled-clause-leaves
+returns-in-Styled-clause-leaves g c = rw c.in-Styled.is refl
+
 pub returns-in-NotIn-clause-leaves : goal.returns-in-NotIn-clause-leaves
 returns-in-NotIn-clause-leaves g c = rw c.in-NotIn.is refl
 
@@ -89,14 +116,23 @@ returns-in-Diff-clause-leaves g c = rw c.in-Diff.is refl
 pub returns-in-Free-clause-leaves : goal.returns-in-Free-clause-leaves
 returns-in-Free-clause-leaves g c = rw c.in-Free.is refl
 
+pub returns-in-Split-clause-leaves : goal.returns-in-Split-clause-leaves
+returns-in-Split-clause-leaves g c = rw c.in-Split.is refl
+
 pub returns-in-Check-clause-leaves : goal.returns-in-Check-clause-leaves
 returns-in-Check-clause-leaves g c = rw c.in-Check.is refl
+
+pub returns-in-Which-clause-leaves : goal.returns-in-Which-clause-leaves
+returns-in-Which-clause-leaves g c = rw c.in-Which.is refl
 
 pub returns-in-Match-clause-leaves : goal.returns-in-Match-clause-leaves
 returns-in-Match-clause-leaves g c = rw c.in-Match.is refl
 
 pub returns-in-Look-clause-leaves : goal.returns-in-Look-clause-leaves
 returns-in-Look-clause-leaves g c = rw c.in-Look.is refl
+
+pub returns-in-Describe-clause-leaves : goal.returns-in-Describe-clause-leaves
+returns-in-Describe-clause-leaves g c = rw c.in-Describe.is refl
 
 pub returns-in-Single-clause-leaves : goal.returns-in-Single-clause-leaves
 returns-in-Single-clause-leaves g c = rw c.in-Single.is refl

@@ -1,48 +1,44 @@
-use Rattle.std.proofs.Common.{arith, inr}
+use Rattle.std.proofs.Common.{arith, inl, inr, refl}
 use Rattle.netset_commands.specs.Command.{request_of}
 use Rattle.netset_commands.specs.declared.errors.CommandError.TheVariants as error
 use Rattle.netset_commands.proofs.Arguments.{bytes_of}
-use Rattle.netset_commands.proofs.Running.{argument_first, lines_in_error, no_line_in_error, no_names, not_loaded}
+use Rattle.netset_commands.proofs.Running.{argument_first, lines_in_error, no_line_in_error, not_loaded}
 use Rattle.netset_commands.proofs.Left.{left_alone, left_by, not_zero}
 use Rattle.netset_commands.proofs.program.keep_going.Goals as goal
 
 pub returns-in_default-lists-clause-goes : goal.returns-in_default-lists-clause-goes
-returns-in_default-lists-clause-goes g c = inr (
-  c.in_default.ensures,
-  no_names (g.F.Sources.contents c.args.sources.now) (request_of c.args.command) (g.M.Memory.refused c.lists.new.memory) (g.O.Output.closed c.args.out.now)
-      (g.O.Sink.state c.args.out.now) (g.E.Sink.state c.args.err.now) (g.E.Sink.state c.report-in_default-lists.new.err) c.report-in_default-lists.result
-      c.in_default-lists.ensures.refused c.report-in_default-lists.ensures.says c.report-in_default-lists.ensures.status,
-)
+returns-in_default-lists-clause-goes g c =
+    inr (inr (c.in_default-lists.ensures.refused, (refl, c.report-in_default-lists.ensures.says, c.report-in_default-lists.ensures.status)))
 
 pub returns-in-Ok-default-true-clause-goes : goal.returns-in-Ok-default-true-clause-goes
-returns-in-Ok-default-true-clause-goes g c = inr (
+returns-in-Ok-default-true-clause-goes g c = inr (inl (
   c.in_default.ensures,
-  lines_in_error (g.F.Sources.contents c.args.sources.now) (request_of c.args.command) c.kind.result (bytes_of c.in-Ok.names.items)
+  lines_in_error (g.F.Sources.contents c.args.sources.now) (request_of c.args.command) c.kind.result (bytes_of c.read_lists-names.result.now)
       (g.M.Memory.refused c.load.new.memory) (g.O.Output.closed c.args.out.now) (g.O.Sink.state c.args.out.now)
-      (g.E.Sink.state c.args.err.now) (g.E.Sink.state c.load.new.err) c.kind.ensures c.in-Ok.ensures.names c.in-Ok-default-true.field-0-0.items
-      (rw (c.as_slice.ensures.value, c.in-Ok-default-true.field-0-1-test) at c.in-Ok-default-true.ensures.loads),
-)
+      (g.E.Sink.state c.args.err.now) (g.E.Sink.state c.load.new.err) c.kind.ensures (c.read_lists-names.ensures (rw c.as_slice.ensures.value c.in-Ok.ensures.names)) c.in-Ok-default-true.field-0-0.items
+      (rw (c.in-Ok-default-true.field-0-1-test) at c.in-Ok-default-true.ensures.loads),
+))
 
 pub returns-in-Ok-default-false-clause-goes : goal.returns-in-Ok-default-false-clause-goes
-returns-in-Ok-default-false-clause-goes g c = inr (
+returns-in-Ok-default-false-clause-goes g c = inr (inl (
   c.in_default.ensures,
-  no_line_in_error (g.F.Sources.contents c.args.sources.now) (request_of c.args.command) c.kind.result (bytes_of c.in-Ok.names.items)
+  no_line_in_error (g.F.Sources.contents c.args.sources.now) (request_of c.args.command) c.kind.result (bytes_of c.read_lists-names.result.now)
       (g.M.Memory.refused c.answer-answered.new.memory) (g.O.Output.closed c.answer-answered.new.out) (g.O.Sink.state c.args.out.now)
-      (g.E.Sink.state c.args.err.now) (g.E.Sink.state c.load.new.err) c.kind.ensures c.in-Ok.ensures.names c.in-Ok-default-false.lists.items
+      (g.E.Sink.state c.args.err.now) (g.E.Sink.state c.load.new.err) c.kind.ensures (c.read_lists-names.ensures (rw c.as_slice.ensures.value c.in-Ok.ensures.names)) c.in-Ok-default-false.lists.items
       (g.O.Sink.state c.answer-answered.new.out) (g.E.Sink.state c.report-in-Ok-default-false.new.err) c.answer-answered.result c.report-in-Ok-default-false.result
-      (rw (c.as_slice.ensures.value, c.in-Ok-default-false.field-0-1-test) at c.in-Ok-default-false.ensures.loads)
+      (rw (c.in-Ok-default-false.field-0-1-test) at c.in-Ok-default-false.ensures.loads)
       (rw c.new-loaded.ensures at c.answer-answered.ensures.answers)
       (rw c.new-loaded.ensures at c.answer-answered.ensures.cause) (rw c.is_closed-in-Ok-default-false.ensures at c.report-in-Ok-default-false.ensures.says) c.report-in-Ok-default-false.ensures.status,
-)
+))
 
 pub returns-clause-goes : goal.returns-clause-goes
-returns-clause-goes g c = inr (
+returns-clause-goes g c = inr (inl (
   c.in_default.ensures,
-  not_loaded (g.F.Sources.contents c.args.sources.now) (request_of c.args.command) c.kind.result (bytes_of c.in-Ok.names.items)
+  not_loaded (g.F.Sources.contents c.args.sources.now) (request_of c.args.command) c.kind.result (bytes_of c.read_lists-names.result.now)
       (g.M.Memory.refused c.load.new.memory) (g.O.Output.closed c.args.out.now) (g.O.Sink.state c.args.out.now)
-      (g.E.Sink.state c.args.err.now) (g.E.Sink.state c.load.new.err) c.kind.ensures c.in-Ok.ensures.names (g.E.Sink.state c.report-in-Err.new.err) c.in-Err.e
-      c.report-in-Err.result (rw c.as_slice.ensures.value at c.in-Err.ensures.loads) c.in-Err.ensures.cause (rw c.is_closed-in-Err.ensures at c.report-in-Err.ensures.says) c.report-in-Err.ensures.status,
-)
+      (g.E.Sink.state c.args.err.now) (g.E.Sink.state c.load.new.err) c.kind.ensures (c.read_lists-names.ensures (rw c.as_slice.ensures.value c.in-Ok.ensures.names)) (g.E.Sink.state c.report-in-Err.new.err) c.in-Err.e
+      c.report-in-Err.result c.in-Err.ensures.loads c.in-Err.ensures.cause (rw c.is_closed-in-Err.ensures at c.report-in-Err.ensures.says) c.report-in-Err.ensures.status,
+))
 
 pub returns-in-Some-clause-goes : goal.returns-in-Some-clause-goes
 returns-in-Some-clause-goes g c =

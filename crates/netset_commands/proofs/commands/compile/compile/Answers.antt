@@ -1,4 +1,4 @@
-use Rattle.std.proofs.Common.{sym}
+use Rattle.std.proofs.Common.{inr, refl, sym}
 use Rattle.cidr_lists.specs.Tables.{kept}
 use Rattle.netset_commands.proofs.commands.compile.compile.Goals as goal
 
@@ -9,6 +9,19 @@ returns-in-Ok-clause-leaves g c = (
   λ text is. (
     kept c.in_ok-rows.rows,
     c.in_ok-rows.ensures.reads text is,
-    rw (sym c.in_ok-file.ensures.made, c.in-Some-file.is) at c.compiled-file.ensures,
+    rw (sym c.in_ok-file.ensures.made, c.in-Some-file.is) at c.compiled-file.ensures.file,
+  ),
+)
+
+pub returns-in_default-file-clause-compiled : goal.returns-in_default-file-clause-compiled
+returns-in_default-file-clause-compiled g c = inr (
+  c.in_default.ensures,
+  inr (
+    refl,
+    λ text is. (
+      kept c.in_ok-rows.rows,
+      c.in_ok-rows.ensures.reads text is,
+      rw (sym c.in_ok-file.ensures.made, c.in_default-file.is) at c.compiled-file.ensures.large,
+    ),
   ),
 )

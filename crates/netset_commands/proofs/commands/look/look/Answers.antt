@@ -1,39 +1,28 @@
-use Rattle.std.proofs.Common.{◌∙◌}
+use Rattle.std.proofs.Common.{inl, refl, sym, subst}
 use Rattle.std.proofs.lemmas.Result.{err_from_is_err_and}
-use Rattle.netset_commands.proofs.Causes.{file_cause, not_opened}
-use Rattle.netset_commands.proofs.Looked.{looked_whole, ended_early, output_failed}
+use Rattle.netset_commands.specs.Look.{IsUnreadTable}
+use Rattle.netset_commands.specs.Stored.{AreFileBytes, by_family}
+use Rattle.netset_commands.proofs.Given.{no_file, says_table}
 use Rattle.netset_commands.proofs.commands.look.look.Goals as goal
 
-pub returns-in-Ok-look_all-clause-answers : goal.returns-in-Ok-look_all-clause-answers
-returns-in-Ok-look_all-clause-answers g c =
-    rw c.verdict_of.ensures (looked_whole (g.F.Sources.contents c.args.sources.now) c.args.table.now c.args.file _ c.in_ok-rows.rows
-    (g.O.Sink.state c.args.out.now) (g.O.Sink.state c.look_all.new.out) c.in_ok-rows.ensures.reads
-    (λ text contents. c.in-Ok-new.ensures.left ∙ c.in-Ok.ensures.left text contents)
-    c.in-Ok-look_all.found c.in-Ok-look_all.ensures.looks)
+pub returns-in_err-stored-in-Stored-clause-answers : goal.returns-in_err-stored-in-Stored-clause-answers
+returns-in_err-stored-in-Stored-clause-answers g c =
+    let (y, is, same) = err_from_is_err_and c.from_residual-in_err-stored-in-Stored.result c.from_residual-in_err-stored-in-Stored.ensures.1 in
+    rw (is, same) (inl (inl (
+      refl,
+      inl (no_file (IsUnreadTable (g.F.Sources.contents c.args.sources.now c.args.table.now) c.args.table.now)
+          (g.F.Sources.contents c.args.sources.now c.args.table.now) c.args.table.now c.as_slice.result.now _ tt
+          (subst (AreFileBytes (g.F.Sources.contents c.args.sources.now c.args.table.now)) (sym c.as_slice.ensures.value) (rw c.in-Stored.is at c.in_ok-rows.ensures.gives))
+          c.in_err-stored-in-Stored.ensures.checks),
+    )))
 
-pub returns-in-Err-Reading-clause-answers : goal.returns-in-Err-Reading-clause-answers
-returns-in-Err-Reading-clause-answers g c =
-    rw c.unread.ensures (ended_early (g.F.Sources.contents c.args.sources.now) c.args.table.now c.args.file _ c.in_ok-rows.rows
-    (g.O.Sink.state c.args.out.now) (g.O.Sink.state c.look_all.new.out) c.in_ok-rows.ensures.reads
-    (λ text contents. c.in-Ok-new.ensures.left ∙ c.in-Ok.ensures.left text contents)
-    c.in-Err-Reading.e (rw c.in-Err-Reading.field-0-is at c.in-Err-Reading.ensures.looks))
+pub returns-in-Lines-clause-answers : goal.returns-in-Lines-clause-answers
+returns-in-Lines-clause-answers g c =
+    let gives = rw c.in-Lines.is at c.in_ok-rows.ensures.gives in
+    c.look_in.ensures.answers c.args.table.now (λ text is. inl (gives text is))
 
-pub returns-clause-answers : goal.returns-clause-answers
-returns-clause-answers g c =
-    output_failed (g.F.Sources.contents c.args.sources.now) c.args.table.now c.args.file _ c.in_ok-rows.rows
-    (g.O.Sink.state c.args.out.now) (g.O.Sink.state c.look_all.new.out) c.in_ok-rows.ensures.reads
-    (λ text contents. c.in-Ok-new.ensures.left ∙ c.in-Ok.ensures.left text contents)
-    (rw c.in-Err-Output.field-0-is at c.in-Err-Output.ensures.looks)
-
-pub returns-in_err-rows-clause-cause : goal.returns-in_err-rows-clause-cause
-returns-in_err-rows-clause-cause g c =
-    let (y, is, same) = err_from_is_err_and c.from_residual.result c.from_residual.ensures.1 in
-    rw (is, same) c.in_err-rows.ensures.cause
-
-pub returns-in-Err-clause-cause : goal.returns-in-Err-clause-cause
-returns-in-Err-clause-cause g c = not_opened (g.F.Sources.contents c.args.sources.now) c.args.file.now (c.in-Err.ensures.none)
-
-pub returns-in-Err-Reading-clause-cause : goal.returns-in-Err-Reading-clause-cause
-returns-in-Err-Reading-clause-cause g c =
-    rw c.unread.ensures (file_cause (g.F.Sources.contents c.args.sources.now) c.args.file _ (g.M.Memory.refused c.look_all.new.memory) c.in-Err-Reading.e
-    (λ text contents. c.in-Ok-new.ensures.left ∙ c.in-Ok.ensures.left text contents) (rw c.in-Err-Reading.field-0-is at c.in-Err-Reading.ensures.cause))
+pub returns-in_ok-stored-in-Stored-clause-answers : goal.returns-in_ok-stored-in-Stored-clause-answers
+returns-in_ok-stored-in-Stored-clause-answers g c =
+    c.look_in-in-Stored.ensures.answers c.args.table.now (says_table (g.F.Sources.contents c.args.sources.now c.args.table.now) c.in-Stored.bytes.items
+    (by_family c.in_ok-stored-in-Stored.stored) (rw c.in-Stored.is at c.in_ok-rows.ensures.gives)
+    (rw c.as_slice.ensures.value at c.in_ok-stored-in-Stored.ensures.checks))

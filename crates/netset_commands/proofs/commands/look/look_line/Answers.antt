@@ -1,6 +1,5 @@
 use Rattle.std.proofs.Common.{refl, inl, inr, None, Some}
 use Rattle.std.proofs.lemmas.Result.{err_from_is_err_and}
-use Rattle.cidr_lists.specs.Tables.{kept}
 use Rattle.cidr_io.proofs.Collected.{none_collected}
 use Rattle.netset_commands.proofs.LinesRead.{fits}
 use Rattle.netset_commands.proofs.Looked.{line_lost}
@@ -26,7 +25,7 @@ returns-in_ok-found-in-Ok-clause-looks g c =
 pub returns-in_err-found-in-Ok-clause-looks : goal.returns-in_err-found-in-Ok-clause-looks
 returns-in_err-found-in-Ok-clause-looks g c =
     let (y, is, same) = err_from_is_err_and c.from_residual.result c.from_residual.ensures.1 in
-    line_lost (kept c.args.table.now) c.args.line.now c.args.number (g.S.Sink.state c.args.out.now) (g.S.Sink.state c.look_up.new.out) c.args.block.now c.look_up.new.block
+    line_lost (g.T.LookUps.rows c.args.table.now) c.args.line.now c.args.number (g.S.Sink.state c.args.out.now) (g.S.Sink.state c.look_up.new.out) c.args.block.now c.look_up.new.block
     c.in-Some.first.now _ c.in-Ok.address _ y _ is same (fits c.args.line.now c.is_too_long.result c.is_too_long.ensures c.if-is_too_long.false) c.in-Some.ensures c.in-Ok.ensures c.in_err-found-in-Ok.ensures
 
 pub returns-in-Err-clause-looks : goal.returns-in-Err-clause-looks

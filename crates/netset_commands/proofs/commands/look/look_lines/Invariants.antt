@@ -1,8 +1,7 @@
-use Rattle.cidr_lists.specs.Tables.{kept}
 use Rattle.netset_commands.proofs.Looked.{Looking}
 use Rattle.netset_commands.proofs.commands.look.look_lines.Given as goal
 
 abbrev pub invariant-loop-number : goal.invariant-loop-number
 invariant-loop-number g l =
-    Looking (kept l.table) l.fn.reader.left l.reader.left (g.S.Sink.state l.fn.out) (g.S.Sink.state l.out)
+    Looking (g.T.LookUps.rows l.table) l.fn.reader.left l.reader.left (g.S.Sink.state l.fn.out) (g.S.Sink.state l.out)
     l.fn.block l.block l.found l.number

@@ -1,14 +1,21 @@
-use Rattle.std.proofs.Common.{inl, inr, refl, map, []}
+use Rattle.std.proofs.Common.{inl, inr, refl, map, [], ◌∷◌}
 use Rattle.std.proofs.lemmas.Result.{err_from_is_err_and}
 use Rattle.netset_commands.proofs.Causes.{file_causes, not_opened}
 use Rattle.netset_commands.proofs.EachFile.{first_not_read}
+use Rattle.netset_commands.proofs.Listed.{no_list}
 use Rattle.netset_commands.proofs.Matched.{matched}
+use Rattle.netset_commands.specs.Program.{IsUnread}
 use Rattle.netset_commands.proofs.commands.matching.matching.Goals as goal
 
 pub returns-in_err-sets-clause-answers : goal.returns-in_err-sets-clause-answers
 returns-in_err-sets-clause-answers g c =
     let (y, is, same) = err_from_is_err_and c.from_residual.result c.from_residual.ensures.1 in
-    rw (is, same) (inl (inl (refl, inl (first_not_read (g.F.Sources.contents c.args.sources.now) c.args.list.now [] _ c.in_err-sets.ensures.reads))))
+    rw (is, same) (inl (inl (
+      refl,
+      inl (no_list (IsUnread (g.F.Sources.contents c.args.sources.now) (c.args.list.now ∷ []))
+          (g.F.Sources.contents c.args.sources.now c.args.list.now) c.args.list.now _ (λ e h. first_not_read (g.F.Sources.contents c.args.sources.now) c.args.list.now [] e h)
+          c.in_err-sets.ensures.reads),
+    )))
 
 pub returns-in-Err-clause-answers : goal.returns-in-Err-clause-answers
 returns-in-Err-clause-answers g c = inl (inl (refl, inr refl))

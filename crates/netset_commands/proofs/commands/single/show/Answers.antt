@@ -1,13 +1,13 @@
 use Rattle.std.proofs.Common.{inr, refl}
-use Rattle.cidr.specs.either.IpHost.{host_network}
-use Rattle.netset_commands.specs.Single.{network_lines}
+use Rattle.cidr.specs.either.IpHost.{host_address, host_network}
+use Rattle.netset_commands.specs.Single.{host_lines}
 use Rattle.netset_commands.specs.declared.output.answers.Verdict.TheVariants.{Yes}
 use Rattle.netset_commands.proofs.commands.single.show.Goals as goal
 
 pub returns-in-Ok : goal.returns-in-Ok
 returns-in-Ok g c contents =
     inr (
-      network_lines (host_network c.in-Ok.host),
+      host_lines (host_network c.in-Ok.host) (host_address c.in-Ok.host),
       Yes,
       c.write_host.result,
       (c.in-Ok.host, c.in-Ok.ensures.value, refl, refl),

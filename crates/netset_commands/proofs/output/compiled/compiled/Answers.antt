@@ -1,14 +1,18 @@
-use Rattle.std.proofs.Common.{◌≡◌, ◌∙◌, ap, Bool, List}
+use Rattle.std.proofs.Common.{◌≡◌, ◌∙◌, ap, subst, inl, inr, Bool, List}
 use Rattle.std.specs.Int.{from_le_bytes, w32}
+use Rattle.std.specs.List.Sorted.{IsStrictlySortedBy}
+use Rattle.std.specs.Map.{keys_of}
+use Rattle.cidr.specs.model.Bits.{bit_cmp}
 use Rattle.cidr_files.specs.Layout.{ipv4_parts, ipv6_parts, wide_word, wide_words, words}
 use Rattle.cidr_lists.specs.declared.rows.Span.{Span}
 use Rattle.cidr_table.specs.FiniteMap.{StoredRows}
 use Rattle.netset_commands.specs.Columns.{AreColumns}
 use Rattle.netset_commands.proofs.Compiling.{has_the_rows}
+use Rattle.netset_commands.proofs.Large.{long_values, only_large}
 use Rattle.netset_commands.proofs.output.compiled.compiled.Goals as goal
 
-pub returns-in-Ok : goal.returns-in-Ok
-returns-in-Ok c =
+pub returns-in-Ok-clause-file : goal.returns-in-Ok-clause-file
+returns-in-Ok-clause-file c =
     let rows : StoredRows (List Bool) Span → List (List Bool × Span) = λ t. t.rows in
     let ipv4 : c.as_slice.result.now ≡ c.args.table.now.v4.rows = c.as_slice.ensures.value ∙ (c.iter.ensures.rest ∙ ap rows c.table.ensures) in
     let ipv6 : c.as_slice-2.result.now ≡ c.args.table.now.v6.rows = c.as_slice-2.ensures.value ∙ (c.iter-2.ensures.rest ∙ ap rows c.table-2.ensures) in
@@ -17,12 +21,50 @@ returns-in-Ok c =
     let are6 : AreColumns 128 wide_word (λ (p : List Bool). p) c.args.table.now.values.items c.args.table.now.v6.rows c.in-Some-others.ipv6 =
     rw (c.in-Some-others.is, c.as_slice-all.ensures.value, ipv6) at c.in_ok-others.ensures.made in
     record {
-      file = c.in-Ok.ensures.file;
+      has = record {
+        file = c.in-Ok.ensures.file;
+        ipv4 =
+            has_the_rows 32 (from_le_bytes w32) (λ (p : List Bool). p) c.args.table.now.values.items words (ipv4_parts c.in-Ok.bytes.items) c.args.table.now.v4.rows
+            c.in-Some.ipv4 c.rows.result are4 c.rows.ensures.keys c.rows.ensures.offsets c.rows.ensures.values c.in-Ok.ensures.ipv4;
+        ipv6 =
+            has_the_rows 128 wide_word (λ (p : List Bool). p) c.args.table.now.values.items wide_words (ipv6_parts c.in-Ok.bytes.items) c.args.table.now.v6.rows
+            c.in-Some-others.ipv6 c.rows-2.result are6 c.rows-2.ensures.keys c.rows-2.ensures.offsets c.rows-2.ensures.values c.in-Ok.ensures.ipv6;
+      };
       small = c.in-Ok.ensures.small;
-      ipv4 =
-          has_the_rows 32 (from_le_bytes w32) (λ (p : List Bool). p) c.args.table.now.values.items words (ipv4_parts c.in-Ok.bytes.items) c.args.table.now.v4.rows
-          c.in-Some.ipv4 c.rows.result are4 c.rows.ensures.keys c.rows.ensures.offsets c.rows.ensures.values c.in-Ok.ensures.ipv4;
-      ipv6 =
-          has_the_rows 128 wide_word (λ (p : List Bool). p) c.args.table.now.values.items wide_words (ipv6_parts c.in-Ok.bytes.items) c.args.table.now.v6.rows
-          c.in-Some-others.ipv6 c.rows-2.result are6 c.rows-2.ensures.keys c.rows-2.ensures.offsets c.rows-2.ensures.values c.in-Ok.ensures.ipv6;
     }
+
+pub returns-in_default-clause-large : goal.returns-in_default-clause-large
+returns-in_default-clause-large c =
+    let rows : StoredRows (List Bool) Span → List (List Bool × Span) = λ t. t.rows in
+    let ipv4 : c.as_slice.result.now ≡ c.args.table.now.v4.rows = c.as_slice.ensures.value ∙ (c.iter.ensures.rest ∙ ap rows c.table.ensures) in
+    inl (long_values c.args.table.now.values.items c.args.table.now.v4.rows
+    (rw (c.in_default.is, c.as_slice-all.ensures.value, ipv4) at c.in_ok-made.ensures.large))
+
+pub returns-in_default-others-clause-large : goal.returns-in_default-others-clause-large
+returns-in_default-others-clause-large c =
+    let rows : StoredRows (List Bool) Span → List (List Bool × Span) = λ t. t.rows in
+    let ipv6 : c.as_slice-2.result.now ≡ c.args.table.now.v6.rows = c.as_slice-2.ensures.value ∙ (c.iter-2.ensures.rest ∙ ap rows c.table-2.ensures) in
+    inr (long_values c.args.table.now.values.items c.args.table.now.v6.rows
+    (rw (c.in_default-others.is, c.as_slice-all.ensures.value, ipv6) at c.in_ok-others.ensures.large))
+
+pub returns-clause-large : goal.returns-clause-large
+returns-clause-large c =
+    let rows : StoredRows (List Bool) Span → List (List Bool × Span) = λ t. t.rows in
+    let ipv4 : c.as_slice.result.now ≡ c.args.table.now.v4.rows = c.as_slice.ensures.value ∙ (c.iter.ensures.rest ∙ ap rows c.table.ensures) in
+    let ipv6 : c.as_slice-2.result.now ≡ c.args.table.now.v6.rows = c.as_slice-2.ensures.value ∙ (c.iter-2.ensures.rest ∙ ap rows c.table-2.ensures) in
+    let are4 : AreColumns 32 (from_le_bytes w32) (λ (p : List Bool). p) c.args.table.now.values.items c.args.table.now.v4.rows c.in-Some.ipv4 =
+    rw (c.in-Some.is, c.as_slice-all.ensures.value, ipv4) at c.in_ok-made.ensures.made in
+    let are6 : AreColumns 128 wide_word (λ (p : List Bool). p) c.args.table.now.values.items c.args.table.now.v6.rows c.in-Some-others.ipv6 =
+    rw (c.in-Some-others.is, c.as_slice-all.ensures.value, ipv6) at c.in_ok-others.ensures.made in
+    let sorted4 : IsStrictlySortedBy bit_cmp (keys_of c.args.table.now.v4.rows) =
+    subst (λ (t : StoredRows (List Bool) Span). IsStrictlySortedBy bit_cmp (keys_of t.rows)) c.table.ensures c.iter.ensures.sorted in
+    let sorted6 : IsStrictlySortedBy bit_cmp (keys_of c.args.table.now.v6.rows) =
+    subst (λ (t : StoredRows (List Bool) Span). IsStrictlySortedBy bit_cmp (keys_of t.rows)) c.table-2.ensures c.iter-2.ensures.sorted in
+    elim c.in-Err.ensures.refused [
+      | inl why ↦
+          inl (only_large 32 (from_le_bytes w32) c.args.table.now.values.items c.args.table.now.v4.rows c.in-Some.ipv4 c.rows.result are4 c.rows.ensures.keys
+          c.rows.ensures.offsets c.rows.ensures.values sorted4 c.in-Err.e c.in_default-e.not-NoMemory why)
+      | inr (fine, why) ↦
+          inr (only_large 128 wide_word c.args.table.now.values.items c.args.table.now.v6.rows c.in-Some-others.ipv6 c.rows-2.result are6 c.rows-2.ensures.keys
+          c.rows-2.ensures.offsets c.rows-2.ensures.values sorted6 c.in-Err.e c.in_default-e.not-NoMemory why)
+    ]

@@ -20,4 +20,4 @@ returns-in-Argument g c =
 
 pub returns-in-File : goal.returns-in-File
 returns-in-File g c =
-    rw c.in-File.is (c.write_message-in-File.result, rw c.unsaved_parts.ensures at c.write_message-in-File.ensures)
+    rw c.in-File.is (c.write_message-in-File.result, rw (c.file_parts.ensures, c.file_message.ensures) at c.write_message-in-File.ensures)

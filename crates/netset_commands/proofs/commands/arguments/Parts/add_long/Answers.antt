@@ -1,9 +1,9 @@
-use Rattle.std.proofs.Common.{[], ◌∷◌, ◌∙◌, ap, List, ℕ, Ok, sym}
+use Rattle.std.proofs.Common.{[], ◌∷◌, ◌∙◌, ap₂, List, ℕ, Ok, sym}
 use Rattle.std.proofs.lemmas.Result.{err_from_is_err_and}
-use Rattle.netset_commands.specs.Arguments.{no_parts, only_options, only_value}
+use Rattle.netset_commands.specs.Arguments.{named_value, only_options, only_value}
 use Rattle.netset_commands.specs.Command.{parts_in}
 use Rattle.netset_commands.specs.declared.commands.arguments.Next.TheVariants.{Any}
-use Rattle.netset_commands.proofs.Parts.{added_as, before_value, long_option, none_behind, option_pushed, value_pushed, with_value, without_value}
+use Rattle.netset_commands.proofs.Parts.{added_as, before_value, long_option, option_pushed, pair_pushed, value_pushed, with_value, without_value}
 use Rattle.netset_commands.proofs.commands.arguments.Parts.add_long.Goals as goal
 
 pub returns-then-has : goal.returns-then-has
@@ -20,17 +20,18 @@ returns-in_err-push g c =
 
 pub returns-then-takes_value : goal.returns-then-takes_value
 returns-then-takes_value g c = (
-  no_parts,
+  only_value c.args.word.now,
   before_value c.args.command c.args.word.now (sym (rw c.options_of.ensures at c.has.ensures) ∙ c.if-has.false) (sym c.takes_value.ensures ∙ c.if-takes_value.true),
-  sym (none_behind (parts_in c.args.self.now)),
+  value_pushed c.args.self.now.options.items c.args.self.now.values.items c.args.self.now.operands.items c.push-then-takes_value.new.items.items c.args.word c.in_ok-push-2.ensures.pushed,
 )
 
-pub returns-in_ok-push-in-Some : goal.returns-in_ok-push-in-Some
-returns-in_ok-push-in-Some g c = (
-  only_value c.in-Some.value.now,
+pub returns-in_ok-push-in-Some-2 : goal.returns-in_ok-push-in-Some-2
+returns-in_ok-push-in-Some-2 g c = (
+  named_value c.in-Some.name.now c.in-Some.value.now,
   with_value c.args.command c.args.word.now (sym (rw c.options_of.ensures at c.has.ensures) ∙ c.if-has.false) (sym c.takes_value.ensures ∙ c.if-takes_value.false) c.in-Some.ensures.0
-      ∙ ap (λ (k : List ℕ). Ok (only_value k, Any)) (sym c.in-Some.ensures.1),
-  value_pushed c.args.self.now.options.items c.args.self.now.values.items c.args.self.now.operands.items c.push-in-Some.new.items.items c.in-Some.value c.in_ok-push-in-Some.ensures.pushed,
+      ∙ ap₂ (λ (a b : List ℕ). Ok (named_value a b, Any)) (sym c.in-Some.ensures.1) (sym c.in-Some.ensures.2),
+  pair_pushed c.args.self.now.options.items c.args.self.now.values.items c.push-in-Some.new.items.items c.push-in-Some-2.new.items.items
+      c.args.self.now.operands.items c.in-Some.name c.in-Some.value c.in_ok-push-in-Some.ensures.pushed c.in_ok-push-in-Some-2.ensures.pushed,
 )
 
 pub returns-in-None : goal.returns-in-None

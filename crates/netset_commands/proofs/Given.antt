@@ -1,0 +1,101 @@
+-- Files in the place of a table: files of look-ups, and lines.
+use Rattle.std.proofs.Common.{◌≡◌, sym, ◌∙◌, subst, inr, ℕ, Bool, true, false, List, Bor, Option, Some, None, Err, option_to_list}
+use Rattle.std.specs.Option.{IfSome}
+use Rattle.cidr.specs.declared.family.Family.{Family}
+use Rattle.cidr_lists.specs.Lists.{Text}
+use Rattle.netset_commands.specs.Begun.{IsBegunAt, begun_left}
+use Rattle.netset_commands.specs.Causes.{Cause, FileMayFail}
+use Rattle.netset_commands.specs.Compiled.{HasTable, SaysTable, begins_file}
+use Rattle.netset_commands.specs.Gathering.{IsNotReadFurther}
+use Rattle.netset_commands.specs.Look.{IsUnreadTable}
+use Rattle.netset_commands.specs.LookUps.{unread}
+use Rattle.netset_commands.specs.Stored.{AreFileBytes, ChecksFile, IsFaultTold, IsNoTable, IsNotGiven}
+use Rattle.netset_commands.specs.declared.errors.CommandError.{CommandError}
+use Rattle.netset_commands.specs.declared.errors.CommandError.TheVariants as error
+use Rattle.netset_commands.specs.declared.errors.ReadError.{ReadError}
+use Rattle.netset_commands.specs.declared.errors.ReadError.TheVariants.{Line, Input, NoMemory}
+use Rattle.netset_commands.specs.declared.input.begun.Begun.{Begun}
+use Rattle.netset_commands.proofs.Causes.{cause_weaker, whole_fails, whole_read}
+use Rattle.netset_commands.proofs.ReadBy.{bytes_read}
+
+-- ---- a file whose first byte was read
+module _ {S : Type 0} (left : S → Option (List ℕ)) (contents : Option Text) (begun : Begun S)
+    (told : (text : Text) → contents ≡ Some text → IsBegunAt left text.bytes begun) where
+  pub opens_begun : (text : Text) → contents ≡ Some text → begun_left left begun ≡ Some text.bytes
+  opens_begun text is = (told text is).all_left
+
+  pub begins_as : (test : Bool) → test ≡ begins_file (option_to_list begun.first) → (first : Bool) → test ≡ first
+      → (text : Text) → contents ≡ Some text → begins_file text.bytes ≡ first
+  begins_as test is first here text at = sym (told text at).first ∙ (sym is ∙ here)
+
+  pub file_bytes : (test : Bool) (bytes : List ℕ) → test ≡ begins_file (option_to_list begun.first) → test ≡ true
+      → IfSome (begun_left left begun) (λ text. bytes ≡ text) → AreFileBytes contents bytes
+  file_bytes test bytes is here read = λ text at.
+      (begins_as test is true here text at, whole_read (begun_left left begun) text.bytes bytes (opens_begun text at) read)
+
+-- the first byte of a file that is opened
+pub told_begun : {S : Type 0} (left : S → Option (List ℕ)) (contents : Option Text) (known : Option (List ℕ)) (begun : Begun S)
+    → ((text : Text) → contents ≡ Some text → known ≡ Some text.bytes) → IfSome known (λ text. IsBegunAt left text begun)
+    → (text : Text) → contents ≡ Some text → IsBegunAt left text.bytes begun
+told_begun left contents known begun opens h text is = bytes_read (λ text. IsBegunAt left text begun) known text.bytes (opens text is) h
+
+-- ---- why it is not read
+pub not_read : (IsOther : CommandError → Type 0) (contents : Option Text) (name : List ℕ) (e : CommandError) → ((e : CommandError) → IsNotReadFurther name e → IsOther e)
+    → IsNotReadFurther name e → IsNotGiven IsOther contents name e
+not_read IsOther contents name (error.Argument text e) f h = absurd h
+not_read IsOther contents name (error.Line file number e) f h = absurd h
+not_read IsOther contents name (error.Input file why) f h = f (error.Input file why) h
+not_read IsOther contents name error.NoMemory f h = f error.NoMemory h
+not_read IsOther contents name error.Output f h = absurd h
+not_read IsOther contents name (error.File file why) f h = absurd h
+
+pub no_table_read : (contents : Option Text) (name : List ℕ) (e : CommandError) → IsNotReadFurther name e → IsUnreadTable contents name e
+no_table_read contents name (error.Argument text e) h = absurd h
+no_table_read contents name (error.Line file number e) h = absurd h
+no_table_read contents name (error.Input file why) h = h
+no_table_read contents name error.NoMemory h = tt
+no_table_read contents name error.Output h = absurd h
+no_table_read contents name (error.File file why) h = absurd h
+
+-- it is not opened
+pub none_refused : (F : List ℕ → Type 0) (refused : Bool) (e : CommandError) → Cause F false e → Cause F refused e
+none_refused F refused (error.Argument text e) h = tt
+none_refused F refused (error.Line file number e) h = tt
+none_refused F refused (error.Input file why) h = h
+none_refused F refused error.NoMemory h = cc
+none_refused F refused error.Output h = tt
+none_refused F refused (error.File file why) h = tt
+
+-- it is not read whole
+pub whole_cause : (contents : List ℕ → Option Text) (name : List ℕ) (left : Option (List ℕ)) (refused : Bool) (e : CommandError)
+    → ((text : Text) → contents name ≡ Some text → left ≡ Some text.bytes) → Cause (λ k. (k ≡ name) × (left ≡ None)) refused e
+    → Cause (FileMayFail contents) refused e
+whole_cause contents name left refused e opens h =
+    cause_weaker (λ k. (k ≡ name) × (left ≡ None)) (FileMayFail contents) refused e
+    (λ k c. subst (FileMayFail contents) (sym c.0) (whole_fails contents name left opens c.1)) h
+
+-- a line of it is in error
+pub no_lines : (contents : Option Text) (file : Bor (List ℕ)) (e : ReadError) → ((text : Text) → contents ≡ Some text → begins_file text.bytes ≡ false)
+    → IsUnreadTable contents file.now (unread file e) → IsNoTable contents file.now (unread file e)
+no_lines contents file (Line number e) begins h = (h, begins)
+no_lines contents file Input begins h = h
+no_lines contents file NoMemory begins h = h
+
+-- it is no file of look-ups
+pub no_file : (IsOther : CommandError → Type 0) (contents : Option Text) (name bytes : List ℕ) (e : CommandError) → IsOther error.NoMemory → AreFileBytes contents bytes
+    → ChecksFile name bytes (Err e) → IsNotGiven IsOther contents name e
+no_file IsOther contents name bytes (error.File file why) none are h =
+    (h.0, λ text is. let (begins, same) = are text is in (begins, subst (λ (b : List ℕ). IsFaultTold b why) same h.1))
+no_file IsOther contents name bytes (error.Argument text e) none are h = cc
+no_file IsOther contents name bytes (error.Line file number e) none are h = cc
+no_file IsOther contents name bytes (error.Input file why) none are h = cc
+no_file IsOther contents name bytes error.NoMemory none are h = none
+no_file IsOther contents name bytes error.Output none are h = cc
+
+pub file_cause_of : (contents : List ℕ → Option Text) (refused : Bool) (e : CommandError) → Cause (λ _. ⊥) refused e → Cause (FileMayFail contents) refused e
+file_cause_of contents refused e h = cause_weaker (λ _. ⊥) (FileMayFail contents) refused e (λ name never. absurd never) h
+
+-- ---- its table
+pub says_table : (contents : Option Text) (bytes : List ℕ) (table : Family → List (List Bool × List ℕ)) → AreFileBytes contents bytes → HasTable table bytes
+    → (text : Text) → contents ≡ Some text → SaysTable text table
+says_table contents bytes table are has text is = inr (subst (HasTable table) (are text is).1 has)

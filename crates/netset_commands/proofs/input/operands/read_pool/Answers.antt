@@ -1,0 +1,30 @@
+use Rattle.std.proofs.Common.{inl, inr}
+use Rattle.std.proofs.lemmas.Result.{err_from_is_err_and}
+use Rattle.netset_commands.proofs.Pools.{pool_read}
+use Rattle.netset_commands.proofs.input.operands.read_pool.Goals as goal
+
+pub returns-in_err-first-clause-reads : goal.returns-in_err-first-clause-reads
+returns-in_err-first-clause-reads g c =
+    let (y, is, same) = err_from_is_err_and c.from_residual.result c.from_residual.ensures.1 in
+    rw (is, same) (inl c.in_err-first.ensures.reads)
+
+pub returns-in_err-others-clause-reads : goal.returns-in_err-others-clause-reads
+returns-in_err-others-clause-reads g c =
+    let (y, is, same) = err_from_is_err_and c.from_residual-in_err-others.result c.from_residual-in_err-others.ensures.1 in
+    rw (is, same) (inr (
+      pool_read (g.F.Sources.contents c.args.sources.now) c.args.pool.now c.in_ok-first.first c.in_ok-first.ensures.reads,
+      c.in_err-others.ensures.reads,
+    ))
+
+pub returns-clause-reads : goal.returns-clause-reads
+returns-clause-reads g c = (c.in_ok-first.ensures.reads, c.in_ok-others.ensures.reads)
+
+pub returns-in_err-first-clause-cause : goal.returns-in_err-first-clause-cause
+returns-in_err-first-clause-cause g c =
+    let (y, is, same) = err_from_is_err_and c.from_residual.result c.from_residual.ensures.1 in
+    rw (is, same) c.in_err-first.ensures.cause
+
+pub returns-in_err-others-clause-cause : goal.returns-in_err-others-clause-cause
+returns-in_err-others-clause-cause g c =
+    let (y, is, same) = err_from_is_err_and c.from_residual-in_err-others.result c.from_residual-in_err-others.ensures.1 in
+    rw (is, same) c.in_err-others.ensures.cause

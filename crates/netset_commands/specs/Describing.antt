@@ -1,0 +1,64 @@
+-- What is told of networks, a line or more each: the names of their zones in reverse DNS, or their masks.
+use Rattle.std.specs.Prelude.{◌≡◌, ℕ, ◌+◌, ◌-◌, ◌*◌, ◌/◌, ◌<◌, ◌≤◌, nat_lt, if◌then◌else◌, Bool, List, [], ◌++◌, length, codes}
+use Rattle.std.specs.List.{flat_map}
+use Rattle.cidr.specs.either.IpNetwork.{network_family, network_prefix}
+use Rattle.cidr.specs.model.Network.{first_of, width_of, ones, zeros}
+use Rattle.cidr.specs.texts.PrintedAddress.{address_text}
+use Rattle.cidr.specs.declared.cidr.combined.IpCidr.{IpCidr}
+use Rattle.cidr.specs.declared.cidr.combined.IpCidr.TheVariants.{V4, V6}
+use Rattle.cidr.specs.declared.family.Family.{Family}
+use Rattle.cidr.specs.declared.family.Family.TheVariants.{Ipv4, Ipv6}
+use Rattle.cidr_ext.specs.Reverse.{label_width}
+use Rattle.cidr_ext.specs.Zones.{zones_of}
+use Rattle.cidr_lists.specs.Printing.{line}
+use Rattle.netset_commands.specs.Single.{IsNumber}
+use Rattle.netset_commands.specs.declared.commands.describe.Description.{Description}
+use Rattle.netset_commands.specs.declared.commands.describe.Description.TheVariants.{Zones, Masks}
+
+-- ---- zones
+-- the least length from n on that ends at a label: at an octet in IPv4, at a nibble in IPv6
+abbrev pub zone_length : Family → ℕ → ℕ
+zone_length family n = (n + (label_width family - 1)) / label_width family * label_width family
+
+-- the names of the zones of a network, ascending, one a line
+abbrev pub zone_lines : IpCidr → List ℕ
+zone_lines n =
+    flat_map line (zones_of (network_family n) (network_prefix n) (zone_length (network_family n) (length (network_prefix n))))
+
+-- ---- masks
+-- the mask of a prefix length (RFC 4632, 3.1) and the host mask, its inverse, as a line
+abbrev pub mask_pair : Family → ℕ → List ℕ
+mask_pair family n =
+    address_text family (ones n ++ zeros (width_of family - n))
+    ++ (codes " " ++ line (address_text family (zeros n ++ ones (width_of family - n))))
+
+-- the same behind the first address of a network
+abbrev pub mask_line : IpCidr → List ℕ
+mask_line n =
+    address_text (network_family n) (first_of (width_of (network_family n)) (network_prefix n))
+    ++ (codes " " ++ mask_pair (network_family n) (length (network_prefix n)))
+
+-- the masks of a prefix length: those of IPv4, if it has the length, and those of IPv6
+abbrev pub ipv4_line : ℕ → List ℕ
+ipv4_line n = if nat_lt 32 n then [] else mask_pair Ipv4 n
+
+abbrev pub length_lines : ℕ → List ℕ
+length_lines n = ipv4_line n ++ mask_pair Ipv6 n
+
+-- ---- what is told
+abbrev pub told_of : Description → IpCidr → List ℕ
+told_of Zones network = zone_lines network
+told_of Masks network = mask_line network
+
+-- what is told of each network of sets, IPv4 before IPv6
+abbrev pub all_told : (IpCidr → List ℕ) → (Family → List (List Bool)) → List ℕ
+all_told told sets = flat_map (λ p. told (V4 p)) (sets Ipv4) ++ flat_map (λ p. told (V6 p)) (sets Ipv6)
+
+-- the operand is a prefix length, of which this is told, or it is none
+abbrev pub IsOfLength : Description → List ℕ → List ℕ → Type 0
+IsOfLength Zones operand answer = ⊥
+IsOfLength Masks operand answer = (n : ℕ) × IsNumber operand n × (n ≤ 128) × (answer ≡ length_lines n)
+
+abbrev pub IsNoLength : Description → List ℕ → Type 0
+IsNoLength Zones operand = Unit {0}
+IsNoLength Masks operand = (n : ℕ) → IsNumber operand n → 128 < n

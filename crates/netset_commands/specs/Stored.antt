@@ -1,0 +1,85 @@
+-- Why a table or a list is not read, where it may be a file of look-ups, which `compile` writes.
+use Rattle.std.specs.Prelude.{◌≡◌, ℕ, suc, Bool, true, false, List, [], ◌∷◌, Option, Some, None, Result, Ok, Err}
+use Rattle.cidr.specs.declared.family.Family.{Family}
+use Rattle.cidr.specs.declared.family.Family.TheVariants.{Ipv4, Ipv6}
+use Rattle.cidr_arrays.specs.Arrays.{prefix_bits}
+use Rattle.cidr_files.specs.Faults.{IsFaultOfBytes}
+use Rattle.cidr_files.specs.Layout.{wide_words, words}
+use Rattle.cidr_files.specs.Tables.{IsStoredTable, parts_in, stored_networks, value_in}
+use Rattle.cidr_files.specs.declared.faults.Fault.{Fault}
+use Rattle.cidr_files.specs.declared.faults.Fault.TheVariants as fault
+use Rattle.cidr_files.specs.declared.faults.TableFault.{TableFault}
+use Rattle.cidr_files.specs.declared.faults.TableFault.TheVariants as in_table
+use Rattle.cidr_files.specs.declared.layout.Table.{Table}
+use Rattle.cidr_lists.specs.Lists.{Text}
+use Rattle.netset_commands.specs.Compiled.{HasTable, begins_file}
+use Rattle.netset_commands.specs.Look.{IsUnreadTable}
+use Rattle.netset_commands.specs.declared.errors.CommandError.{CommandError}
+use Rattle.netset_commands.specs.declared.errors.CommandError.TheVariants as error
+use Rattle.netset_commands.specs.declared.errors.FileError.{FileError}
+use Rattle.netset_commands.specs.declared.errors.FileError.TheVariants.{Unlike, Version, Short, Long, Changed}
+
+-- how it is told what is wrong with a table in a file, or that there was no memory to see
+abbrev pub told_in : TableFault → Option FileError
+told_in in_table.NoMemory = None
+told_in f = Some Changed
+
+-- the same of a file
+abbrev pub told_of : Fault → Option FileError
+told_of fault.Magic = Some Unlike
+told_of (fault.Version other) = Some Version
+told_of fault.Short = Some Short
+told_of fault.Long = Some Long
+told_of (fault.Ipv4 f) = told_in f
+told_of (fault.Ipv6 f) = told_in f
+
+-- this is told of bytes that are no file of look-ups
+abbrev pub IsFaultTold : List ℕ → FileError → Type 0
+IsFaultTold bytes why = (f : Fault) × IsFaultOfBytes bytes f × (told_of f ≡ Some why)
+
+-- why a file is not read that may be one of look-ups: it begins as one and is none; or this says why, where a line is in error
+-- only in a file that does not begin as one
+abbrev pub IsNotGiven : (CommandError → Type 0) → Option Text → List ℕ → CommandError → Type 0
+IsNotGiven IsOther contents name (error.File file why) =
+    (file.now ≡ name) × ((text : Text) → contents ≡ Some text → (begins_file text.bytes ≡ true) × IsFaultTold text.bytes why)
+IsNotGiven IsOther contents name (error.Line file number e) = IsOther (error.Line file number e)
+    × ((text : Text) → contents ≡ Some text → begins_file text.bytes ≡ false)
+IsNotGiven IsOther contents name e = IsOther e
+
+-- the same of a table
+abbrev pub IsNoTable : Option Text → List ℕ → CommandError → Type 0
+IsNoTable contents name e = IsNotGiven (IsUnreadTable contents name) contents name e
+
+-- ---- what private functions promise
+-- the rows of a table in a file, from one on that has this place: each network by its bits, and its value
+abbrev pub rows_from : ℕ → (ℕ → List ℕ) → List (ℕ × ℕ) → ℕ → List (List Bool × List ℕ)
+rows_from w value [] place = []
+rows_from w value (network ∷ networks) place = (prefix_bits w network, value place) ∷ rows_from w value networks (suc place)
+
+-- all of them
+abbrev pub rows_in : ℕ → (List ℕ → List ℕ) → List (List ℕ) → List (List Bool × List ℕ)
+rows_in w numbers parts = rows_from w (value_in parts) (stored_networks numbers parts) 0
+
+-- those of IPv4 and those of IPv6
+abbrev pub rows_of : Table → List (List Bool × List ℕ) × List (List Bool × List ℕ)
+rows_of table = (rows_in 32 words (parts_in table.ipv4), rows_in 128 wide_words (parts_in table.ipv6))
+
+-- the same by the family
+abbrev pub by_family : List (List Bool × List ℕ) × List (List Bool × List ℕ) → Family → List (List Bool × List ℕ)
+by_family rows Ipv4 = rows.0
+by_family rows Ipv6 = rows.1
+
+-- the parts of a file are tables
+pub record AreTables (table : Table) : Type 0 where
+  pub ipv4 : IsStoredTable 32 words (parts_in table.ipv4) table.ipv4.shift
+  pub ipv6 : IsStoredTable 128 wide_words (parts_in table.ipv6) table.ipv6.shift
+
+-- these are the bytes of a file that begins as one of look-ups
+abbrev pub AreFileBytes : Option Text → List ℕ → Type 0
+AreFileBytes contents bytes = (text : Text) → contents ≡ Some text → (begins_file text.bytes ≡ true) × (bytes ≡ text.bytes)
+
+-- the tables of a file of these bytes; or why it is none, or memory
+abbrev pub ChecksFile : List ℕ → List ℕ → Result (List (List Bool × List ℕ) × List (List Bool × List ℕ)) CommandError → Type 0
+ChecksFile name bytes (Ok rows) = HasTable (by_family rows) bytes
+ChecksFile name bytes (Err (error.File file why)) = (file.now ≡ name) × IsFaultTold bytes why
+ChecksFile name bytes (Err e) = e ≡ error.NoMemory

@@ -1,0 +1,200 @@
+//! What is told of each network: the names of its zones in reverse DNS, or its masks.
+ghost use Rattle.std.specs.Prelude.{◌≡◌, ◌≤◌, length, IfErr};
+ghost use Rattle.std.specs.List.{flat_map};
+ghost use Rattle.cidr.specs.declared.family.Family.TheVariants.{Ipv6};
+ghost use Rattle.cidr.specs.either.IpNetwork.{network_family, network_prefix};
+ghost use Rattle.cidr_io.specs.Collecting.{Collects};
+ghost use Rattle.cidr_io.specs.Writing.{Answered, Writes};
+ghost use Rattle.cidr_lists.specs.Sets.{networks_of};
+ghost use Rattle.netset_commands.specs.Answering.{DescribesNetworks};
+ghost use Rattle.netset_commands.specs.Causes.{Cause, FileMayFail};
+ghost use Rattle.netset_commands.specs.Commands.{Describe};
+ghost use Rattle.netset_commands.specs.Describing.{all_told, ipv4_line, length_lines, mask_line, mask_pair, told_of, zone_lines};
+ghost use Rattle.netset_commands.specs.Program.{AnswersRequest};
+
+use crate::commands::free::length_of;
+use crate::errors::CommandError;
+use crate::input::files::Sources;
+use crate::input::operands::read_operand;
+use crate::output::answers::{Verdict, by_output};
+use crate::output::families::OneFamily;
+use cidr::{BitString, IpCidr, Ipv4Cidr, Ipv6Cidr};
+use cidr_ext::{CidrExt, CidrReverseName};
+use cidr_io::block::Block;
+use cidr_io::memory::Memory;
+use cidr_io::sink::{OutputFailed, Sink};
+use cidr_io::writing::flush;
+use cidr_lists::sets::Sets;
+
+/// What is told of a network.
+#[derive(Clone, Copy, Debug, Drop, PartialEq)]
+pub enum Description {
+    /// The names of its zones in reverse DNS.
+    Zones,
+    /// Its first address, its mask and its host mask.
+    Masks,
+}
+
+/// Appends the names of the zones of a network to a block, a line each.
+fn push_zones<S: Sink>(block: &mut Block, out: &mut S, network: &IpCidr) -> Result<(), OutputFailed>
+    ensures { Collects (S.state out.old) (S.state out.new) block.old block.new (zone_lines network.now) result }
+{
+    let mut zones = network.reverse_zones();
+    while let Some(name) = zones.next() {
+        block.push_line(out, &[name.as_str().as_bytes(), b"\n"])?;
+    }
+    Ok(())
+}
+
+/// Appends the mask and the host mask of a network to a block, as a line.
+fn push_masks<S: Sink>(block: &mut Block, out: &mut S, network: &IpCidr) -> Result<(), OutputFailed>
+    ensures { Collects (S.state out.old) (S.state out.new) block.old block.new
+        (mask_pair (network_family network.now) (length (network_prefix network.now))) result }
+{
+    let mask = network.mask().to_text();
+    let host_mask = network.host_mask().to_text();
+    block.push_line(
+        out,
+        &[
+            mask.as_str().as_bytes(),
+            b" ",
+            host_mask.as_str().as_bytes(),
+            b"\n",
+        ],
+    )
+}
+
+/// Appends the first address, the mask and the host mask of a network to a block, as a line.
+fn push_network<S: Sink>(
+    block: &mut Block,
+    out: &mut S,
+    network: &IpCidr,
+) -> Result<(), OutputFailed>
+    ensures { Collects (S.state out.old) (S.state out.new) block.old block.new (mask_line network.now) result }
+{
+    let first = network.first_address().to_text();
+    block.push_line(out, &[first.as_str().as_bytes(), b" "])?;
+    push_masks(block, out, network)
+}
+
+/// Appends what is told of a network to a block.
+fn push_told<S: Sink>(
+    block: &mut Block,
+    out: &mut S,
+    what: Description,
+    network: &IpCidr,
+) -> Result<(), OutputFailed>
+    ensures { Collects (S.state out.old) (S.state out.new) block.old block.new (told_of what network.now) result }
+{
+    match what {
+        Description::Zones => push_zones(block, out, network),
+        Description::Masks => push_network(block, out, network),
+    }
+}
+
+/// Writes what is told of networks in blocks.
+fn write_each<C: OneFamily, S: Sink>(
+    out: &mut S,
+    what: Description,
+    networks: &[C],
+) -> Result<(), OutputFailed>
+    ensures { Writes (S.state out.old) (S.state out.new)
+        (flat_map (λ network. told_of what (C.network network)) networks.now) result }
+{
+    let mut block = Block::new();
+    for network in networks {
+        push_told(&mut block, out, what, &network.to_network())?;
+    }
+    block.write(out)
+}
+
+/// Writes what is told of the networks of sets. An output that has failed before gets nothing.
+fn write_told<S: Sink>(out: &mut S, what: Description, sets: &Sets) -> Result<(), OutputFailed>
+    ensures { Answered (S.state out.old) (S.state out.new) (all_told (told_of what) (networks_of sets.now)) result }
+{
+    if out.failed() {
+        return Err(OutputFailed);
+    }
+    write_each(out, what, sets.v4.as_slice())?;
+    write_each(out, what, sets.v6.as_slice())?;
+    flush(out)
+}
+
+/// Tells of the networks of an operand.
+fn describe_networks<'a, M: Memory, F: Sources, O: Sink>(
+    memory: &mut M,
+    sources: &F,
+    what: Description,
+    operand: &'a str,
+    out: &mut O,
+) -> Result<Verdict, CommandError<'a>>
+    ensures describes { DescribesNetworks (F.contents sources.now) what operand.now (O.state out.old) (O.state out.new) result }
+    ensures cause { IfErr result (Cause (FileMayFail (F.contents sources.now)) (M.refused memory.new)) }
+{
+    let sets = read_operand(memory, sources, operand)?;
+    by_output(Verdict::Yes, write_told(out, what, &sets))
+}
+
+/// Appends the masks of a prefix length in IPv4 to a block, if it has the length.
+fn push_ipv4<S: Sink>(block: &mut Block, out: &mut S, len: u8) -> Result<(), OutputFailed>
+    ensures { Collects (S.state out.old) (S.state out.new) block.old block.new (ipv4_line len) result }
+{
+    match Ipv4Cidr::null().subnet(len, 0) {
+        Some(network) => push_masks(block, out, &IpCidr::V4(network)),
+        None => Ok(()),
+    }
+}
+
+/// Appends the masks of a prefix length in IPv6 to a block.
+fn push_ipv6<S: Sink>(block: &mut Block, out: &mut S, len: u8) -> Result<(), OutputFailed>
+    requires { len ≤ 128 }
+    ensures { Collects (S.state out.old) (S.state out.new) block.old block.new (mask_pair Ipv6 len) result }
+{
+    match Ipv6Cidr::null().subnet(len, 0) {
+        Some(network) => push_masks(block, out, &IpCidr::V6(network)),
+        None => Ok(()),
+    }
+}
+
+/// Appends the masks of a prefix length to a block: those of IPv4, if it has the length, and those of IPv6.
+fn push_lengths<S: Sink>(block: &mut Block, out: &mut S, len: u8) -> Result<(), OutputFailed>
+    requires { len ≤ 128 }
+    ensures { Collects (S.state out.old) (S.state out.new) block.old block.new (length_lines len) result }
+{
+    push_ipv4(block, out, len)?;
+    push_ipv6(block, out, len)
+}
+
+/// Writes the masks of a prefix length, and flushes. An output that has failed before gets nothing.
+fn write_lengths<S: Sink>(out: &mut S, len: u8) -> Result<(), OutputFailed>
+    requires { len ≤ 128 }
+    ensures { Answered (S.state out.old) (S.state out.new) (length_lines len) result }
+{
+    if out.failed() {
+        return Err(OutputFailed);
+    }
+    let mut block = Block::new();
+    push_lengths(&mut block, out, len)?;
+    block.flush(out)
+}
+
+/// The commands `reverse` and `mask`.
+pub fn describe<'a, M: Memory, F: Sources, O: Sink>(
+    memory: &mut M,
+    sources: &F,
+    what: Description,
+    operand: &'a str,
+    out: &mut O,
+) -> Result<Verdict, CommandError<'a>>
+    ensures answers { AnswersRequest (F.contents sources.now) (Describe what operand.now)
+        (O.state out.old) (O.state out.new) result }
+    ensures cause { IfErr result (Cause (FileMayFail (F.contents sources.now)) (M.refused memory.new)) }
+{
+    match what {
+        Description::Zones => describe_networks(memory, sources, what, operand, out),
+        Description::Masks => match length_of(operand) {
+            Some(len) => by_output(Verdict::Yes, write_lengths(out, len)),
+            None => describe_networks(memory, sources, what, operand, out),
+        },
+    }
+}

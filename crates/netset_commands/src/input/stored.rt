@@ -1,0 +1,189 @@
+//! Files of look-ups in the place of a table.
+ghost use Rattle.std.specs.Prelude.{◌≡◌, ◌++◌, None, Bool, List, ℕ, IfErr, IfOk, MatchResult, OnOk, map, option_map};
+ghost use Rattle.cidr.specs.declared.family.Family.{Family as AddressFamily};
+ghost use Rattle.cidr.specs.model.Bits.{bits};
+ghost use Rattle.cidr_files.specs.Faults.{IsFaultOfBytes};
+ghost use Rattle.cidr_files.specs.Tables.{IsStoredTable, parts_in, stored_networks};
+ghost use Rattle.cidr_table.specs.Prefixes.{IsLookedUp};
+ghost use Rattle.cidr_arrays.specs.Arrays.{prefix_bits};
+ghost use Rattle.cidr_lists.specs.Sets.{networks_of};
+ghost use Rattle.cidr_sets.specs.Sets.{IsSetOf};
+ghost use Rattle.netset_commands.specs.Causes.{Cause};
+ghost use Rattle.netset_commands.specs.Commands.{HasRow};
+ghost use Rattle.netset_commands.specs.Compiled.{HasTable};
+ghost use Rattle.netset_commands.specs.LookUps.{LooksUp};
+ghost use Rattle.netset_commands.specs.Stored.{ChecksFile, IsFaultTold, by_family, rows_in, told_in, told_of};
+
+use crate::errors::{CommandError, FileError};
+use crate::input::table::{LookUps, push_match, push_none};
+use cidr::{BitString, IpAddr, Ipv4Addr, Ipv4Cidr, Ipv6Addr, Ipv6Cidr};
+use cidr_arrays::Word;
+use cidr_files::{Family, Fault, Ipv4Bytes, Ipv6Bytes, Part, Table, TableFault, checked, lookup};
+use cidr_io::block::Block;
+use cidr_io::memory::Memory;
+use cidr_io::sink::{OutputFailed, Sink};
+use cidr_lists::lists::Lists;
+use cidr_lists::sets::Sets;
+use std::alloc::{AllocError, Global};
+use std::marker::Model;
+
+/// The tables of a file of look-ups, which were checked.
+#[derive(Drop)]
+pub struct Stored<'a> {
+    tables: Table<'a>,
+}
+
+impl<'a> Model for Stored<'a> {
+    ghost use Rattle.std.specs.Prelude.{Bool, List, ℕ};
+    ghost use Rattle.netset_commands.specs.Stored.{AreTables, rows_of};
+
+    ghost Value = { List (List Bool × List ℕ) × List (List Bool × List ℕ) };
+
+    ghost view = { λ s. rows_of s.tables };
+
+    ghost invariant = { λ s. AreTables s.tables };
+}
+
+impl<'a> Stored<'a> {
+    /// The tables of the bytes of a file, or what is told of what is wrong with them. The other error is that there is
+    /// no memory to see.
+    fn of_bytes(alloc: Global, bytes: &'a [u8]) -> Result<Result<Stored<'a>, FileError>, AllocError>
+        ensures { IfOk result
+            (λ made. MatchResult made (λ rows. HasTable (by_family rows) bytes.now) (IsFaultTold bytes.now)) }
+    {
+        match checked(alloc, bytes) {
+            Ok(tables) => Ok(Ok(Stored { tables })),
+            Err(fault) => match told_of(&fault) {
+                Some(why) => Ok(Err(why)),
+                None => Err(AllocError),
+            },
+        }
+    }
+
+    /// The tables of the bytes of the file of a name: one pass over them.
+    pub fn check<'n, M: Memory>(
+        memory: &mut M,
+        name: &'n str,
+        bytes: &'a [u8],
+    ) -> Result<Stored<'a>, CommandError<'n>>
+        ensures checks { ChecksFile name.now bytes.now result }
+        ensures cause { IfErr result (Cause (λ _. ⊥) (M.refused memory.new)) }
+    {
+        let made = Stored::of_bytes(memory.alloc(), bytes);
+        match memory.watch(made)? {
+            Ok(stored) => Ok(stored),
+            Err(why) => Err(CommandError::File(name, why)),
+        }
+    }
+
+    /// The addresses of the networks of its rows. The error is that there is no memory.
+    pub fn addresses(&self, alloc: Global) -> Result<Sets, AllocError>
+        ensures { IfOk result (λ sets. (family : AddressFamily)
+            → IsSetOf 129 (HasRow (by_family self.now) family) (networks_of sets family)) }
+    {
+        let mut lists = Lists::new(alloc);
+        push_networks::<Ipv4Bytes, Ipv4Cidr>(&self.tables.ipv4, &mut lists.v4)?;
+        push_networks::<Ipv6Bytes, Ipv6Cidr>(&self.tables.ipv6, &mut lists.v6)?;
+        Ok(Sets::of_lists(lists))
+    }
+}
+
+/// Adds the networks of the rows of a table to others of their family.
+fn push_networks<W: Family, C: OfFile<W>>(
+    part: &Part<'_>,
+    networks: &mut Vec<C>,
+) -> Result<(), AllocError>
+    ensures { OnOk result (map C.bits networks.new.items ≡ map C.bits networks.old.items
+        ++ map (prefix_bits W.width) (stored_networks W.numbers (parts_in part.now))) }
+{
+    let addresses = W::addresses(part.addresses);
+    for row in 0..addresses.len().min(part.lengths.len()) {
+        let mut network = C::host(addresses[row]);
+        network.clip(usize::from(part.lengths[row]));
+        networks.push(network)?;
+    }
+    Ok(())
+}
+
+/// What is told of what is wrong with a table, or nothing where there was no memory to see.
+fn told_in(fault: &TableFault) -> Option<FileError>
+    ensures { result ≡ told_in fault.now }
+{
+    match fault {
+        TableFault::NoMemory => None,
+        TableFault::Arrays(_) | TableFault::Offsets => Some(FileError::Changed),
+    }
+}
+
+/// The same of a file.
+fn told_of(fault: &Fault) -> Option<FileError>
+    ensures { result ≡ told_of fault.now }
+{
+    match fault {
+        Fault::Magic => Some(FileError::Unlike),
+        Fault::Version(_) => Some(FileError::Version),
+        Fault::Short => Some(FileError::Short),
+        Fault::Long => Some(FileError::Long),
+        Fault::Ipv4(fault) | Fault::Ipv6(fault) => told_in(fault),
+    }
+}
+
+/// Networks of a family, of whose addresses a file has the bytes.
+trait OfFile<W: Family>: BitString + Copy {
+    /// The network of one address.
+    fn host(address: W) -> Self
+        ensures { Self.bits result ≡ bits W.width (W.value address) };
+}
+
+impl OfFile<Ipv4Bytes> for Ipv4Cidr {
+    fn host(address: Ipv4Bytes) -> Ipv4Cidr {
+        Ipv4Cidr::new_host(Ipv4Addr::from_bits(address.number() as u32))
+    }
+}
+
+impl OfFile<Ipv6Bytes> for Ipv6Cidr {
+    fn host(address: Ipv6Bytes) -> Ipv6Cidr {
+        Ipv6Cidr::new_host(Ipv6Addr::from_bits(address.number()))
+    }
+}
+
+/// The longest network of a table that an address is in, and its value.
+fn found_in<'a, W: Family, C: OfFile<W>>(part: &Part<'a>, address: W) -> Option<(C, &'a [u8])>
+    requires { IsStoredTable W.width W.numbers (parts_in part.now) part.now.shift }
+    ensures { IsLookedUp (λ p. p) (bits W.width (W.value address)) (rows_in W.width W.numbers (parts_in part.now))
+        (option_map (λ found. (C.bits found.0, found.1.now)) result) }
+{
+    let (row, value) = lookup(part, address)?;
+    let mut network = C::host(address);
+    network.clip(usize::from(part.lengths[row]));
+    Some((network, value))
+}
+
+impl LookUps for Stored<'_> {
+    ghost rows = { by_family };
+
+    fn look_up<S: Sink>(
+        &self,
+        address: &IpAddr,
+        block: &mut Block,
+        out: &mut S,
+    ) -> Result<bool, OutputFailed> {
+        let text = address.to_text();
+        match address {
+            IpAddr::V4(address) => {
+                let bytes = Ipv4Bytes::of(u128::from(address.to_bits()));
+                match found_in::<Ipv4Bytes, Ipv4Cidr>(&self.tables.ipv4, bytes) {
+                    Some(found) => push_match(block, out, text, &found.0, found.1),
+                    None => push_none(block, out, text),
+                }
+            }
+            IpAddr::V6(address) => {
+                let bytes = Ipv6Bytes::of(address.to_bits());
+                match found_in::<Ipv6Bytes, Ipv6Cidr>(&self.tables.ipv6, bytes) {
+                    Some(found) => push_match(block, out, text, &found.0, found.1),
+                    None => push_none(block, out, text),
+                }
+            }
+        }
+    }
+}
