@@ -63,6 +63,16 @@ PCIDR_ASSERT(offsetof(pcidr_value, low) == 8);
 PCIDR_ASSERT(offsetof(pcidr_value, tag) == 16);
 PCIDR_ASSERT(sizeof(size_t) == 8);
 
+/* A number of up to 128 bits, 2^64 * high + low: that of an IPv6 address, an index or a count. */
+typedef struct pcidr_halves {
+    uint64_t high;
+    uint64_t low;
+} pcidr_halves;
+
+PCIDR_ASSERT(sizeof(pcidr_halves) == 16);
+PCIDR_ASSERT(offsetof(pcidr_halves, high) == 0);
+PCIDR_ASSERT(offsetof(pcidr_halves, low) == 8);
+
 /* What calls return: 0, or the first error that applies. `pcidr_message` has a string for each. */
 enum {
     PCIDR_OK = 0,
@@ -87,12 +97,19 @@ enum {
     PCIDR_OTHER_VERSION = 19,  /* the file is of another version, such as a newer one */
     PCIDR_SHORT = 20,          /* the file is shorter than its header says */
     PCIDR_LONG = 21,           /* the file is longer than its header says */
-    PCIDR_VALUES = 22          /* the values of rows don't lie one behind the other, or have 2^32 bytes or more */
+    PCIDR_VALUES = 22,         /* the values of rows don't lie one behind the other, or have 2^32 bytes or more */
+    PCIDR_NONE = 23,           /* there is no such network, address or number */
+    PCIDR_NO_SLASH = 24,       /* of a network with a mask: there is no slash */
+    PCIDR_MASK = 25,           /* what is after the last slash is no address of the family */
+    PCIDR_SCATTERED = 26       /* it is neither a network mask nor a host mask: its set bits are not all at one end */
 };
 
 /* Room that is enough for any string of a value, and for any message, with the 0 behind it. */
 #define PCIDR_TEXT_ROOM 44
 #define PCIDR_MESSAGE_ROOM 100
+/* Room for a network with its mask, and for a name in reverse DNS, with the 0 behind it. */
+#define PCIDR_MASK_ROOM 80
+#define PCIDR_NAME_ROOM 73
 /* Room for the compact bytes of any value. */
 #define PCIDR_BYTES_ROOM 17
 
@@ -115,6 +132,15 @@ uint32_t pcidr_read_network(const char *text, size_t text_len, pcidr_value *out)
 
 /* The same, but one to four octets without a slash are a network of so many octets: 10.7 is 10.7.0.0/16. */
 uint32_t pcidr_read_short_network(const char *text, size_t text_len, pcidr_value *out);
+
+/* A network with a network mask or a host mask in place of the prefix length, as 192.0.2.0/255.255.255.0 or
+ * 192.0.2.0/0.0.0.255; a mask that could be either is a network mask. Errors: NOT_UTF8, NO_SLASH, ADDRESS, MASK,
+ * SCATTERED, HOST_PART. */
+uint32_t pcidr_read_masked_network(const char *text, size_t text_len, pcidr_value *out);
+
+/* The network that has this name in reverse DNS, as 2.0.192.in-addr.arpa; of an address's name the address. Letters may
+ * be in either case, and a dot may stand at the end. Errors: NOT_UTF8; NONE where no network has it. */
+uint32_t pcidr_read_reverse_name(const char *text, size_t text_len, pcidr_value *out);
 
 /* Reads a text of networks, one a line, as `pcidr_read_network` does, into the front of `out`. Lines are separated by
  * line feeds; the last one has none behind it, so that a text with one at its end has an empty last line, which is no
@@ -142,10 +168,18 @@ size_t pcidr_print_network(const pcidr_value *network, char *out, size_t out_len
 /* A network, always with its prefix length: 10.0.0.5/32. */
 size_t pcidr_print_network_with_length(const pcidr_value *network, char *out, size_t out_len);
 
-/* Prints networks, each with a line feed behind it and without a full prefix length. PCIDR_OK and `count` bytes in `out`;
- * or the error of the first value that has one: PCIDR_NO_VALUE where it is no network, PCIDR_NO_ROOM where the lines up to
- * it have more bytes than `out`. Then what `out` has is not specified and `count` is as it was. 44 bytes for each network
- * are enough. */
+/* The network of a host with its network mask, 192.0.2.0/255.255.255.0, or with its host mask, 192.0.2.0/0.0.0.255. */
+size_t pcidr_print_with_mask(const pcidr_value *host, char *out, size_t out_len);
+size_t pcidr_print_with_host_mask(const pcidr_value *host, char *out, size_t out_len);
+
+/* The name in reverse DNS of the network of a host, 2.0.192.in-addr.arpa, or of an address, whose PTR record is there.
+ * 0 also where the prefix length doesn't end at a label, as it does at a multiple of 8 in IPv4 and of 4 in IPv6. */
+size_t pcidr_print_reverse_name(const pcidr_value *host, char *out, size_t out_len);
+
+/* Prints networks, each with a line feed behind it and without a full prefix length. PCIDR_OK and `count` bytes in `out`,
+ * and what `out` has behind them stays; or the error of the first value that has one: PCIDR_NO_VALUE where it is no
+ * network, PCIDR_NO_ROOM where the lines up to it have more bytes than `out`. Then what `out` has is not specified and
+ * `count` is as it was. 44 bytes for each network are enough. */
 uint32_t pcidr_print_lines(const pcidr_value *networks, size_t networks_len, char *out, size_t out_len, size_t *count);
 
 /* The message of an error, or 0 for a number that is none. */
@@ -153,7 +187,8 @@ size_t pcidr_message(uint32_t code, char *out, size_t out_len);
 
 /* ---- compact bytes: the tag, and the address in network byte order; 1, 5 or 17 bytes */
 
-/* How many bytes it are, or 0 for another value. They are in `out` if there is room for them, else it is as it was. */
+/* How many bytes they are, or 0 for a value that the call does not take. They are in `out` if there is room for them, else
+ * it is as it was. */
 size_t pcidr_network_to_bytes(const pcidr_value *network, uint8_t *out, size_t out_len);
 size_t pcidr_host_to_bytes(const pcidr_value *host, uint8_t *out, size_t out_len);
 
@@ -175,6 +210,15 @@ uint32_t pcidr_network_by_value(pcidr_value host, pcidr_value *out);
 uint32_t pcidr_step_up_by_value(pcidr_value host, uint64_t high, uint64_t low, pcidr_value *out);
 uint32_t pcidr_step_down_by_value(pcidr_value host, uint64_t high, uint64_t low, pcidr_value *out);
 uint32_t pcidr_at_by_value(pcidr_value host, uint64_t high, uint64_t low, pcidr_value *out);
+uint32_t pcidr_host_mask_by_value(pcidr_value host, pcidr_value *out);
+uint32_t pcidr_first_usable_by_value(pcidr_value host, pcidr_value *out);
+uint32_t pcidr_last_usable_by_value(pcidr_value host, pcidr_value *out);
+uint32_t pcidr_nth_by_value(pcidr_value host, uint64_t high, uint64_t low, pcidr_value *out);
+uint32_t pcidr_supernet_by_value(pcidr_value host, uint8_t len, pcidr_value *out);
+uint32_t pcidr_subnet_by_value(pcidr_value host, uint8_t len, uint64_t high, uint64_t low, pcidr_value *out);
+uint32_t pcidr_sibling_by_value(pcidr_value host, pcidr_value *out);
+uint32_t pcidr_next_network_by_value(pcidr_value host, pcidr_value *out);
+uint32_t pcidr_previous_network_by_value(pcidr_value host, pcidr_value *out);
 
 /* The first and the last address of its network, and the mask as an address. */
 static inline uint32_t pcidr_first(const pcidr_value *host, pcidr_value *out) {
@@ -210,6 +254,154 @@ static inline uint32_t pcidr_at(const pcidr_value *host, uint64_t high, uint64_t
     return pcidr_at_by_value(*host, high, low, out);
 }
 
+/* The host mask of its network, the inverse of the mask, as an address: 0.0.0.15 of 192.0.2.48/28. */
+static inline uint32_t pcidr_host_mask(const pcidr_value *host, pcidr_value *out) {
+    return pcidr_host_mask_by_value(*host, out);
+}
+
+/* The first and the last address that hosts may have of its network: in IPv4 all but the first and the last, but of a
+ * /31 network both (RFC 3021) and of a /32 network the one; in IPv6 all. */
+static inline uint32_t pcidr_first_usable(const pcidr_value *host, pcidr_value *out) {
+    return pcidr_first_usable_by_value(*host, out);
+}
+static inline uint32_t pcidr_last_usable(const pcidr_value *host, pcidr_value *out) {
+    return pcidr_last_usable_by_value(*host, out);
+}
+
+/* How many these are. PCIDR_NONE where they are 2^64 or more. */
+uint32_t pcidr_usable_count(const pcidr_value *host, size_t *count);
+
+/* How many addresses its network has. PCIDR_NONE for ::/0, whose 2^128 the two halves have no room for. */
+uint32_t pcidr_address_count(const pcidr_value *host, pcidr_halves *count);
+
+/* Address 2^64 * high + low of its network, counted from 0. PCIDR_NONE where the network has no more than that. */
+static inline uint32_t pcidr_nth(const pcidr_value *host, uint64_t high, uint64_t low, pcidr_value *out) {
+    return pcidr_nth_by_value(*host, high, low, out);
+}
+
+/* The index of an address in its network, the inverse of `pcidr_nth`. PCIDR_NONE where the address is not in it. */
+uint32_t pcidr_position(const pcidr_value *host, const pcidr_value *address, pcidr_halves *index);
+
+/* ---- networks around that of a host: PCIDR_OK; PCIDR_NO_VALUE for what is no host, and then PCIDR_NONE; `out` is as
+ * it was with both */
+
+/* The network of prefix length `len` that contains it. PCIDR_NONE where `len` is above its own. */
+static inline uint32_t pcidr_supernet(const pcidr_value *host, uint8_t len, pcidr_value *out) {
+    return pcidr_supernet_by_value(*host, len, out);
+}
+
+/* Network 2^64 * high + low of prefix length `len` inside it, counted from 0. PCIDR_NONE where `len` is below its own
+ * or above 32 or 128, or where there are no more than that. */
+static inline uint32_t pcidr_subnet(const pcidr_value *host, uint8_t len, uint64_t high, uint64_t low,
+                                    pcidr_value *out) {
+    return pcidr_subnet_by_value(*host, len, high, low, out);
+}
+
+/* The same from that index on: as many as there are and `out` has places for, of which `count` becomes the number; none
+ * where there are no more than that index. What is behind them in `out` stays. PCIDR_NONE only where `len` is below its
+ * own or above 32 or 128; `out` and `count` are as they were after an error. */
+uint32_t pcidr_subnets(const pcidr_value *host, uint8_t len, uint64_t high, uint64_t low, pcidr_value *out,
+                       size_t out_len, size_t *count);
+
+/* The other half of the network that is twice as large: 10.128.0.0/9 of 10.0.0.0/9. PCIDR_NONE for 0.0.0.0/0 and for
+ * ::/0. */
+static inline uint32_t pcidr_sibling(const pcidr_value *host, pcidr_value *out) {
+    return pcidr_sibling_by_value(*host, out);
+}
+
+/* The network of the same length behind it, or before it. PCIDR_NONE for the last one, or the first, of its length. */
+static inline uint32_t pcidr_next_network(const pcidr_value *host, pcidr_value *out) {
+    return pcidr_next_network_by_value(*host, out);
+}
+static inline uint32_t pcidr_previous_network(const pcidr_value *host, pcidr_value *out) {
+    return pcidr_previous_network_by_value(*host, out);
+}
+
+/* ---- masks and special purposes of addresses */
+
+/* The prefix length of a network mask, 28 of 255.255.255.240, or of a host mask, 28 of 0.0.0.15. Errors: NO_VALUE for
+ * what is no address; NONE for one that is no such mask. Then `len` is as it was. */
+uint32_t pcidr_mask_length(const pcidr_value *address, uint8_t *len);
+uint32_t pcidr_host_mask_length(const pcidr_value *address, uint8_t *len);
+
+/* An entry of the IANA IPv4 or IPv6 Special-Purpose Address Registry (RFC 6890), as of May 2025. The columns are 0 for
+ * no, 1 for yes, and 2 where they do not apply. */
+typedef struct pcidr_special {
+    uint64_t high;                /* the first address of the block, which is of the family of the address */
+    uint64_t low;
+    uint16_t rfc;                 /* the number of the RFC */
+    uint8_t len;                  /* the prefix length of the block */
+    uint8_t purpose;              /* one of the purposes below */
+    uint8_t source;               /* may be the source of a packet */
+    uint8_t destination;          /* may be the destination of a packet */
+    uint8_t forwardable;          /* routers forward it */
+    uint8_t globally_reachable;   /* beyond an administrative domain, too */
+    uint8_t reserved_by_protocol; /* implementations treat it in a way of its own */
+} pcidr_special;
+
+PCIDR_ASSERT(sizeof(pcidr_special) == 32);
+PCIDR_ASSERT(offsetof(pcidr_special, high) == 0);
+PCIDR_ASSERT(offsetof(pcidr_special, low) == 8);
+PCIDR_ASSERT(offsetof(pcidr_special, rfc) == 16);
+PCIDR_ASSERT(offsetof(pcidr_special, len) == 18);
+PCIDR_ASSERT(offsetof(pcidr_special, purpose) == 19);
+PCIDR_ASSERT(offsetof(pcidr_special, source) == 20);
+PCIDR_ASSERT(offsetof(pcidr_special, destination) == 21);
+PCIDR_ASSERT(offsetof(pcidr_special, forwardable) == 22);
+PCIDR_ASSERT(offsetof(pcidr_special, globally_reachable) == 23);
+PCIDR_ASSERT(offsetof(pcidr_special, reserved_by_protocol) == 24);
+
+/* The purposes. Two blocks of one purpose share the number, as 127.0.0.0/8 and ::1 do. */
+enum {
+    PCIDR_PURPOSE_THIS_NETWORK = 0,
+    PCIDR_PURPOSE_UNSPECIFIED = 1,
+    PCIDR_PURPOSE_PRIVATE_USE = 2,
+    PCIDR_PURPOSE_UNIQUE_LOCAL = 3,
+    PCIDR_PURPOSE_SHARED_ADDRESS_SPACE = 4,
+    PCIDR_PURPOSE_LOOPBACK = 5,
+    PCIDR_PURPOSE_LINK_LOCAL = 6,
+    PCIDR_PURPOSE_PROTOCOL_ASSIGNMENTS = 7,
+    PCIDR_PURPOSE_SERVICE_CONTINUITY = 8,
+    PCIDR_PURPOSE_DUMMY = 9,
+    PCIDR_PURPOSE_PORT_CONTROL_ANYCAST = 10,
+    PCIDR_PURPOSE_TURN_ANYCAST = 11,
+    PCIDR_PURPOSE_SERVICE_REGISTRATION_ANYCAST = 12,
+    PCIDR_PURPOSE_NAT64_DISCOVERY = 13,
+    PCIDR_PURPOSE_DOCUMENTATION = 14,
+    PCIDR_PURPOSE_AS112 = 15,
+    PCIDR_PURPOSE_DIRECT_AS112 = 16,
+    PCIDR_PURPOSE_MULTICAST_TUNNELING = 17,
+    PCIDR_PURPOSE_SIX_TO_FOUR_RELAY = 18,
+    PCIDR_PURPOSE_SIX_A44_RELAY = 19,
+    PCIDR_PURPOSE_SIX_TO_FOUR = 20,
+    PCIDR_PURPOSE_BENCHMARKING = 21,
+    PCIDR_PURPOSE_RESERVED = 22,
+    PCIDR_PURPOSE_LIMITED_BROADCAST = 23,
+    PCIDR_PURPOSE_IPV4_MAPPED = 24,
+    PCIDR_PURPOSE_TRANSLATION = 25,
+    PCIDR_PURPOSE_DISCARD_ONLY = 26,
+    PCIDR_PURPOSE_TEREDO = 27,
+    PCIDR_PURPOSE_DEPRECATED_ORCHID = 28,
+    PCIDR_PURPOSE_ORCHID_V2 = 29,
+    PCIDR_PURPOSE_DRONE_REMOTE_ID = 30,
+    PCIDR_PURPOSE_SEGMENT_ROUTING = 31
+};
+
+/* The entry of an address: that of the longest block that contains it. Errors: NO_VALUE for what is no address; NONE
+ * for one of no special purpose. Then `out` is as it was. */
+uint32_t pcidr_special_entry(const pcidr_value *address, pcidr_special *out);
+
+/* 1 for yes and 0 for no; 0 also where the value is no address, so that where 0 is what permits, check it first.
+ * Globally reachable is an address without an entry, also a multicast address, or one whose entry says so. Private are
+ * 10.0.0.0/8, 172.16.0.0/12, 192.168.0.0/16 and fc00::/7; multicast addresses 224.0.0.0/4 and ff00::/8. */
+uint32_t pcidr_is_global(const pcidr_value *address);
+uint32_t pcidr_is_private(const pcidr_value *address);
+uint32_t pcidr_is_loopback(const pcidr_value *address);
+uint32_t pcidr_is_link_local(const pcidr_value *address);
+uint32_t pcidr_is_documentation(const pcidr_value *address);
+uint32_t pcidr_is_unspecified(const pcidr_value *address);
+uint32_t pcidr_is_multicast(const pcidr_value *address);
+
 /* ---- networks beside one another */
 
 /* 1 where the value is a network, as each address is, and 0 where not. */
@@ -225,6 +417,13 @@ uint32_t pcidr_check(const pcidr_value *value);
  *     if (pcidr_check(&banned) && pcidr_check(&address) && !pcidr_contains(&banned, &address)) serve();
  */
 uint32_t pcidr_contains(const pcidr_value *outer, const pcidr_value *inner);
+
+/* 1 where both values are networks that have an address in common, and 0 where not: where 0 is what permits, check both
+ * first. */
+uint32_t pcidr_overlaps(const pcidr_value *one, const pcidr_value *other);
+
+/* The longest network that contains both, which of two families is `any`. Error: NO_VALUE, and `out` is as it was. */
+uint32_t pcidr_spanning(const pcidr_value *one, const pcidr_value *other, pcidr_value *out);
 
 /* 0, 1 or 2, where the first value comes before the second, is the same, or comes after it. Of networks `any` comes
  * first, then IPv4, then IPv6; in a family the lower first address, and then the shorter prefix. What is no network comes
@@ -246,14 +445,15 @@ static inline int pcidr_order(const void *one, const void *other) {
  * is taken for the set of its addresses, in any order; networks may repeat and overlap. */
 
 /* Replaces networks by the set of their addresses: the first `count` of them; what is behind stays as it was. Errors:
- * NO_MEMORY, NO_VALUE; then all is as it was. Allocates, and sorts the networks: O(n log n). */
+ * NO_VALUE, or NO_MEMORY; then all is as it was. Allocates, and sorts the networks: O(n log n). */
 uint32_t pcidr_cover(pcidr_value *networks, size_t networks_len, size_t *count);
 
 /* The set of the addresses that one list has or the other (union), that both have (intersection), that the first has and
  * the second has not (difference), or that exactly one has (symmetric difference): the first `count` of `out`, and what
  * is behind them stays. Where `out_len` is too small, PCIDR_NO_ROOM, and `count` is how many networks the set has. Errors:
- * NO_MEMORY, NO_VALUE, NO_ROOM; then `out` is as it was, and `count` too but for NO_ROOM. A union needs room for at
- * most as many networks as both lists have, an intersection for one less. Allocates, and sorts both: O(n log n). */
+ * NO_VALUE, and then NO_ROOM; NO_MEMORY may come before either. Then `out` is as it was, and `count` too but for NO_ROOM.
+ * A union needs room for at most as many networks as both lists have, an intersection for one less. Allocates, and sorts
+ * both: O(n log n). */
 uint32_t pcidr_union(const pcidr_value *these, size_t these_len, const pcidr_value *those, size_t those_len,
                      pcidr_value *out, size_t out_len, size_t *count);
 uint32_t pcidr_intersection(const pcidr_value *these, size_t these_len, const pcidr_value *those, size_t those_len,
@@ -275,6 +475,31 @@ uint32_t pcidr_intersection_in_place(pcidr_value *networks, size_t networks_len,
 uint32_t pcidr_difference_in_place(pcidr_value *networks, size_t networks_len, size_t *count,
                                    const pcidr_value *others, size_t others_len);
 
+/* The set of the addresses of a network that a list has not, in `out`, as of a union. Errors: NO_MEMORY, NO_VALUE,
+ * NO_ROOM. Allocates. */
+uint32_t pcidr_complement(const pcidr_value *networks, size_t networks_len, const pcidr_value *within,
+                          pcidr_value *out, size_t out_len, size_t *count);
+
+/* Whether the second list has all addresses of the first (subset), and whether no address is in both (disjoint): 1 or 0
+ * in `answer`. Errors: NO_MEMORY, NO_VALUE; then `answer` is as it was. Allocates, and sorts both: O(n log n). */
+uint32_t pcidr_is_subset(const pcidr_value *these, size_t these_len, const pcidr_value *those, size_t those_len,
+                         uint32_t *answer);
+uint32_t pcidr_is_disjoint(const pcidr_value *these, size_t these_len, const pcidr_value *those, size_t those_len,
+                           uint32_t *answer);
+
+/* The set of the addresses from the first to the last, both included, in `out`, as of a union: none where the last
+ * comes before the first, and at most 62 networks in IPv4 and 254 in IPv6. IPv4 addresses come before those of IPv6.
+ * Errors: NO_VALUE for what is no address; NO_MEMORY, NO_ROOM. Allocates. */
+uint32_t pcidr_summarize(const pcidr_value *first, const pcidr_value *last, pcidr_value *out, size_t out_len,
+                         size_t *count);
+
+/* The first network of prefix length `len` all of whose addresses are in a list of networks, or the first one in the
+ * smallest network of its set that has one, so that what is large stays whole. Of two families IPv4 comes first: pass
+ * networks of one for that one. `pcidr_difference_in_place` takes it out. Errors: NO_MEMORY, NO_VALUE; NONE where none
+ * is free. Then `out` is as it was. Allocates, and sorts the list. */
+uint32_t pcidr_first_free(const pcidr_value *networks, size_t networks_len, uint8_t len, pcidr_value *out);
+uint32_t pcidr_best_free(const pcidr_value *networks, size_t networks_len, uint8_t len, pcidr_value *out);
+
 /* For each of the asked networks or addresses, 1 where the list has all of its addresses, and 0 where not, at the same
  * index of `out`, whose further places stay. Errors: NO_VALUE for a value of the list, and then NO_ROOM; `out` is as it was
  * with both. Then NO_VALUE for an asked value, and what `out` has at the places of answers is not specified. NO_MEMORY may
@@ -292,6 +517,38 @@ uint32_t pcidr_contains_each(const pcidr_value *networks, size_t networks_len, c
 uint32_t pcidr_longest_match_each(const pcidr_value *networks, size_t networks_len, const pcidr_value *asked,
                                   size_t asked_len, size_t *out, size_t out_len);
 
+/* ---- access lists: rules in order, of which the first whose network contains an address decides; an address in none
+ * of them is denied */
+
+/* A rule. An action of 1 permits the addresses of the network, and any other denies them. */
+typedef struct pcidr_rule {
+    pcidr_value network;
+    uint32_t action;
+} pcidr_rule;
+
+PCIDR_ASSERT(sizeof(pcidr_rule) == 32);
+PCIDR_ASSERT(offsetof(pcidr_rule, network) == 0);
+PCIDR_ASSERT(offsetof(pcidr_rule, action) == 24);
+
+/* 1 where the rules permit the address, and 0 where not, or where one of the values, of any rule, is no network, so
+ * that a permission is refused. Of a larger network it tells whether the first rule that contains all of it permits
+ * it. Does not allocate; O(n). */
+uint32_t pcidr_permits(const pcidr_rule *rules, size_t rules_len, const pcidr_value *address);
+
+/* The set of the addresses that are permitted, in `out`, as of a union. Errors: NO_MEMORY; NO_VALUE for a rule whose
+ * value is no network; NO_ROOM. Allocates; O(n^2) at most. */
+uint32_t pcidr_permitted(const pcidr_rule *rules, size_t rules_len, pcidr_value *out, size_t out_len, size_t *count);
+
+/* The indexes of the rules that no address reaches, since earlier rules decide each address of their networks: the
+ * first `count` of `out`, ascending. Errors as above; with NO_ROOM `count` is how many they are. Allocates; O(n^2) at
+ * most. */
+uint32_t pcidr_shadowed(const pcidr_rule *rules, size_t rules_len, size_t *out, size_t out_len, size_t *count);
+
+/* The indexes of the rules that decide the addresses of a network, each the first rule for some of them, in `out` as
+ * above: of the network of a shadowed rule the earlier rules that cover it. NO_VALUE also where `network` is none. */
+uint32_t pcidr_deciding(const pcidr_rule *rules, size_t rules_len, const pcidr_value *network, size_t *out,
+                        size_t out_len, size_t *count);
+
 /* ---- look-up tables: the longest match, with nothing built at the call
  *
  * A table is made once, of networks of one family, without `any`, that ascend as `pcidr_order` sorts them; none repeats.
@@ -307,16 +564,6 @@ uint32_t pcidr_longest_match_each(const pcidr_value *networks, size_t networks_l
  *     uint32_t row = pcidr_table_lookup(&table, &address);
  *     if (row != PCIDR_NO_ROW) use(networks[row]);
  */
-
-/* The number of an IPv6 address. */
-typedef struct pcidr_halves {
-    uint64_t high;
-    uint64_t low;
-} pcidr_halves;
-
-PCIDR_ASSERT(sizeof(pcidr_halves) == 16);
-PCIDR_ASSERT(offsetof(pcidr_halves, high) == 0);
-PCIDR_ASSERT(offsetof(pcidr_halves, low) == 8);
 
 /* Where a table lies. One of `ipv4_starts` and `ipv6_starts` is null, and the other one says which family it is of.
  *
@@ -445,7 +692,8 @@ static inline uint32_t pcidr_table_lookup_each(const pcidr_table *table, const p
  *         fwrite(bytes + found.value, 1, found.value_len, stdout);
  */
 
-/* Where the parts of one of the two tables lie, in bytes from the begin of the file, and how many elements they have. */
+/* Where the parts of one of the two tables lie, in bytes from the beginning of the file, and how many elements they
+ * have. */
 typedef struct pcidr_file_table {
     size_t starts;     /* where the first addresses of the ranges begin */
     size_t answers;    /* where the answers of the ranges begin */

@@ -20,11 +20,11 @@ AreFirst Answers n asked out =
     (i : ℕ) (v : CValue) → i < n → slice_get asked i ≡ Some v
     → IsNetworkValue v × (answer : ℕ) × (slice_get out i ≡ Some answer) × Answers (network_in v) answer
 
-slice_get-set_here : {A : Type 0} (out : List A) (n : ℕ) (a : A) → n < length out → slice_get (set out n a) n ≡ Some a
+pub slice_get-set_here : {A : Type 0} (out : List A) (n : ℕ) (a : A) → n < length out → slice_get (set out n a) n ≡ Some a
 slice_get-set_here out n a h =
     slice_get-get_or (set out n a) n a (omega (arith, length-set out n a, h)) ∙ ap Some (get_or-set_same out n a a h)
 
-slice_get-set_other : {A : Type 0} (out : List A) (n i : ℕ) (a : A) → i ≢ n → slice_get (set out n a) i ≡ slice_get out i
+pub slice_get-set_other : {A : Type 0} (out : List A) (n i : ℕ) (a : A) → i ≢ n → slice_get (set out n a) i ≡ slice_get out i
 slice_get-set_other out n i a other =
     let size = length-set out n a in
     elim (cases_lt i (length out)) [

@@ -9,11 +9,11 @@ use Rattle.std.proofs.Math.Seq.{take-append_seam, drop-cons, take-length}
 use Rattle.cidr.specs.declared.errors.NetworkParseError.{NetworkParseError}
 use Rattle.cidr.specs.declared.errors.NetworkParseError.TheVariants as parse_error
 use borrow.Rule.Slice.PartMut.{put_mid}
-use Rattle.std.proofs.lemmas.Slice.{take-put_mid, overwrites}
+use Rattle.std.proofs.lemmas.Slice.{drop-put_mid, take-put_mid, overwrites}
 use Rattle.std.proofs.lemmas.List.Concat.{flat_map-append}
 use Rattle.cidr.specs.either.IpText.{any_network_text}
 use Rattle.cidr.specs.texts.Printed.{plain_text}
-use Rattle.cidr_c.proofs.NetworkLists.{networks_more}
+use Rattle.cidr_c.proofs.NetworkLists.{item_more}
 use Rattle.cidr_c.specs.Batches.{AreNetworkValues}
 use Rattle.cidr_c.specs.Values.{IsNetworkValue, network_in}
 use Rattle.cidr_c.specs.Codes.{parse_code}
@@ -162,6 +162,7 @@ put_mid-length at n out ys k e l fits = search (rules, overwrites)
 pub line_put : (at : ℕ) (out ys text : List ℕ) → ys ≡ text → at + length text < length out
     → (at + length text + 1 ≤ length (set (put_mid at (at + length text - at) out ys) (at + length text) 10))
     × (take (at + length text + 1) (set (put_mid at (at + length text - at) out ys) (at + length text) 10) ≡ take at out ++ (text ++ 10 ∷ []))
+    × (drop (at + length text + 1) (set (put_mid at (at + length text - at) out ys) (at + length text) 10) ≡ drop (at + length text + 1) out)
 line_put at out ys text same fits =
     let mid = put_mid at (at + length text - at) out ys in
     let lens : length ys ≡ length text = ap length same in
@@ -171,6 +172,8 @@ line_put at out ys text same fits =
     take-put_mid at (at + length text - at) out ys (at + length text) (omega (arith, lens)) (omega (arith, fits)) ∙ ap (λ (t : List ℕ). take at out ++ t) same in (
       omega (arith, size, fits, length-set mid (at + length text) 10),
       take_more_set mid (at + length text) 10 within ∙ (ap (λ (t : List ℕ). t ++ 10 ∷ []) front ∙ append_assoc (take at out) text (10 ∷ [])),
+      drop-set-lt (at + length text + 1) mid (at + length text) 10 (omega arith)
+          ∙ drop-put_mid at (at + length text - at) out ys (at + length text + 1) (omega arith) (omega (arith, fits)) (omega (arith, lens)),
     )
 
 line_more : (values : List CValue) (i : ℕ) (d : CValue) → i < length values
@@ -198,7 +201,7 @@ module _ (values : List CValue) (i end : ℕ) (out : List ℕ) (within : end ≤
       → AreNetworkValues (take (i + 1) values) × (length out < length (printed_lines (take (i + 1) values)))
   line_over d text lt fine here is past =
       let line : List ℕ = any_network_text plain_text (network_in (get_or values i d)) in (
-        (networks_more values i d (map network_in (take i values)) lt fine refl here).0,
+        (item_more IsNetworkValue network_in values i d (map network_in (take i values)) lt fine refl here).0,
         omega (
           arith,
           past,
@@ -211,6 +214,15 @@ module _ (values : List CValue) (i end : ℕ) (out : List ℕ) (within : end ≤
         ),
       )
 
+-- what is behind a place stays behind a later one
+pub same_behind : (end next : ℕ) (old out new : List ℕ) → end ≤ next → drop end out ≡ drop end old → drop next new ≡ drop next out
+    → drop next new ≡ drop next old
+same_behind end next old out new later before put =
+    let e : end + (next - end) ≡ next = omega arith in
+    let at : (bytes : List ℕ) → drop next bytes ≡ drop (next - end) (drop end bytes) =
+    λ bytes. ap (λ k. drop k bytes) (sym e) ∙ sym (drop-drop (next - end) end bytes) in
+    put ∙ (at out ∙ (ap (drop (next - end)) before ∙ sym (at old)))
+
 -- one line more
 pub line_printed : (values : List CValue) (i : ℕ) (d : CValue) (text out new : List ℕ) (end next : ℕ) → i < length values
     → AreNetworkValues (take i values) → take end out ≡ printed_lines (take i values)
@@ -218,5 +230,5 @@ pub line_printed : (values : List CValue) (i : ℕ) (d : CValue) (text out new :
     → (next ≤ length new) × (take next new ≡ take end out ++ (text ++ 10 ∷ []))
     → (next ≤ length new) × AreNetworkValues (take (i + 1) values) × (take next new ≡ printed_lines (take (i + 1) values))
 line_printed values i d text out new end next lt fine so_far here is put =
-    let more = networks_more values i d (map network_in (take i values)) lt fine refl here in
+    let more = item_more IsNetworkValue network_in values i d (map network_in (take i values)) lt fine refl here in
     (put.0, more.0, put.1 ∙ (ap (λ (t : List ℕ). t ++ (text ++ 10 ∷ [])) so_far ∙ (ap (λ (t : List ℕ). printed_lines (take i values) ++ (t ++ 10 ∷ [])) is ∙ sym (line_more values i d lt))))

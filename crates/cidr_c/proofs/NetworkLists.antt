@@ -1,29 +1,29 @@
 -- Sets and lists of networks as C has them.
-use Rattle.std.proofs.Common.{◌≡◌, ◌↔◌, ◌⊎◌, ℕ, ◌+◌, ◌<◌, ◌≤◌, Bool, List, [], ◌∷◌, ◌++◌, length, map, drop, take, get_or, Result, Ok, Err, inl, inr, refl, sym, ap, ◌∙◌, arith, suc, zero}
-use Rattle.std.specs.Prelude.{IfOk}
+use Rattle.std.proofs.Common.{◌≡◌, ℕ, ◌+◌, ◌<◌, ◌≤◌, Bool, List, [], ◌∷◌, ◌++◌, length, map, drop, take, get_or, Result, Ok, Err, inl, inr, refl, sym, ap, ◌∙◌, arith, suc, zero}
+use Rattle.std.specs.Prelude.{All, IfOk}
 use Rattle.std.proofs.lemmas.List.{take_more, map-append, length-map}
 use Rattle.std.proofs.lemmas.Simd.{map-map}
 use Rattle.std.proofs.lemmas.List.Elements.{All-append}
 use Rattle.cidr.specs.either.IpNetwork.{any_bits}
 use Rattle.cidr.specs.declared.cidr.any.AnyIpCidr.{AnyIpCidr}
 use Rattle.cidr_table.specs.Cover.{Covers}
-use Rattle.cidr_sets.specs.Sets.{IsSetOf, IsUnion, IsIntersection, IsDifference, IsSymmetricDifference}
+use Rattle.cidr_sets.specs.Sets.{IsSetOf}
 use Rattle.cidr_c.specs.Batches.{AreNetworkValues, bits_in, IsLeft, IsPutInRoom, IsDelivered}
-use Rattle.cidr_c.specs.Values.{IsNetworkValue, network_in}
+use Rattle.cidr_c.specs.Values.{network_in}
 use Rattle.cidr_c.specs.declared.values.CValue.{CValue}
 
-only_one : (v : CValue) → IsNetworkValue v → AreNetworkValues (v ∷ [])
-only_one v h zero d lt = h
-only_one v h (suc k) d lt = absurd (omega (arith, lt))
+only_one : {A : Type 0} (Holds : A → Type 0) (a : A) → Holds a → All Holds (a ∷ [])
+only_one Holds a h zero d lt = h
+only_one Holds a h (suc k) d lt = absurd (omega (arith, lt))
 
--- one network more
-pub networks_more : (vs : List CValue) (i : ℕ) (d : CValue) (ns : List AnyIpCidr) → i < length vs
-    → AreNetworkValues (take i vs) → ns ≡ map network_in (take i vs) → IsNetworkValue (get_or vs i d)
-    → AreNetworkValues (take (i + 1) vs) × (ns ++ network_in (get_or vs i d) ∷ [] ≡ map network_in (take (i + 1) vs))
-networks_more vs i d ns h fine same here =
-    let e = take_more vs i d h in (
-      rw e (All-append IsNetworkValue (take i vs) (get_or vs i d ∷ []) fine (only_one (get_or vs i d) here)),
-      rw (e, map-append network_in (take i vs) (get_or vs i d ∷ []), same) refl,
+-- one value more
+pub item_more : {A B : Type 0} (Holds : A → Type 0) (made : A → B) (xs : List A) (i : ℕ) (d : A) (ys : List B) → i < length xs
+    → All Holds (take i xs) → ys ≡ map made (take i xs) → Holds (get_or xs i d)
+    → All Holds (take (i + 1) xs) × (ys ++ made (get_or xs i d) ∷ [] ≡ map made (take (i + 1) xs))
+item_more Holds made xs i d ys h fine same here =
+    let e = take_more xs i d h in (
+      rw e (All-append Holds (take i xs) (get_or xs i d ∷ []) fine (only_one Holds (get_or xs i d) here)),
+      rw (e, map-append made (take i xs) (get_or xs i d ∷ []), same) refl,
     )
 
 -- the bits of networks are those of the values that they were made of
@@ -51,68 +51,20 @@ left old new set shown count n same is read fine put behind = record {
   stays = λ other. absurd (other refl);
 }
 
--- ---- set algebra
-same_set : (w : ℕ) (P Q : List Bool → Type 0) (s : List (List Bool)) → ((a : List Bool) → length a ≡ w → P a ↔ Q a)
-    → IsSetOf w P s → IsSetOf w Q s
-same_set w P Q s same set = record {
-  reduced = set.reduced;
-  exact = λ a l. (λ h. (same a l).0 ((set.exact a l).0 h), λ h. (set.exact a l).1 ((same a l).1 h));
-}
-
-module _ (these those : List (List Bool)) (one other s : List (List Bool))
-    (is_one : IsSetOf 129 (Covers these) one) (is_other : IsSetOf 129 (Covers those) other) where
-  pub union_of : IsUnion 129 one other s → IsUnion 129 these those s
-  union_of set =
-      same_set 129 (λ a. Covers one a ⊎ Covers other a) (λ a. Covers these a ⊎ Covers those a) s
-      (λ a l. (
-        λ h. elim h [ inl x ↦ inl ((is_one.exact a l).0 x) | inr y ↦ inr ((is_other.exact a l).0 y) ],
-        λ h. elim h [ inl x ↦ inl ((is_one.exact a l).1 x) | inr y ↦ inr ((is_other.exact a l).1 y) ],
-      )) set
-
-  pub intersection_of : IsIntersection 129 one other s → IsIntersection 129 these those s
-  intersection_of set =
-      same_set 129 (λ a. Covers one a × Covers other a) (λ a. Covers these a × Covers those a) s
-      (λ a l. (
-        λ h. ((is_one.exact a l).0 h.0, (is_other.exact a l).0 h.1),
-        λ h. ((is_one.exact a l).1 h.0, (is_other.exact a l).1 h.1),
-      )) set
-
-  pub difference_of : IsDifference 129 one other s → IsDifference 129 these those s
-  difference_of set =
-      same_set 129 (λ a. Covers one a × ¬ (Covers other a)) (λ a. Covers these a × ¬ (Covers those a)) s
-      (λ a l. (
-        λ h. ((is_one.exact a l).0 h.0, λ y. h.1 ((is_other.exact a l).1 y)),
-        λ h. ((is_one.exact a l).1 h.0, λ y. h.1 ((is_other.exact a l).0 y)),
-      )) set
-
-  pub symmetric_difference_of : IsSymmetricDifference 129 one other s → IsSymmetricDifference 129 these those s
-  symmetric_difference_of set =
-      same_set 129 (λ a. (Covers one a × ¬ (Covers other a)) ⊎ (Covers other a × ¬ (Covers one a)))
-      (λ a. (Covers these a × ¬ (Covers those a)) ⊎ (Covers those a × ¬ (Covers these a))) s
-      (λ a l. (
-        λ h. elim h [
-          | inl x ↦ inl ((is_one.exact a l).0 x.0, λ y. x.1 ((is_other.exact a l).1 y))
-          | inr x ↦ inr ((is_other.exact a l).0 x.0, λ y. x.1 ((is_one.exact a l).1 y))
-        ],
-        λ h. elim h [
-          | inl x ↦ inl ((is_one.exact a l).1 x.0, λ y. x.1 ((is_other.exact a l).0 y))
-          | inr x ↦ inr ((is_other.exact a l).1 x.0, λ y. x.1 ((is_one.exact a l).0 y))
-        ],
-      )) set
-
+-- ---- sets in the caller's room
 pub if_ok : {E : Type 0} (P Q : List (List Bool) → Type 0) (r : Result (List AnyIpCidr) E)
     → ((set : List (List Bool)) → P set → Q set)
     → IfOk r (λ set. P (map any_bits set)) → IfOk r (λ set. Q (map any_bits set))
 if_ok P Q (Ok x) more h = more (map any_bits x) h
 if_ok P Q (Err e) more h = h
 
--- a set of two lists, in the caller's room
-pub delivered : {E : Type 0} (these those : List CValue) (Holds : List (List Bool) → Type 0) (r : Result (List AnyIpCidr) E)
-    (old new : List CValue) (count n code : ℕ) → AreNetworkValues these × AreNetworkValues those
+-- a set that holds
+pub delivered : {E : Type 0} (IsTaken : Type 0) (Holds : List (List Bool) → Type 0) (r : Result (List AnyIpCidr) E)
+    (old new : List CValue) (count n code : ℕ) → IsTaken
     → IfOk r (λ set. Holds (map any_bits set)) → IsDelivered r old new count n code
-    → IsPutInRoom these those Holds old new count n code
-delivered these those Holds (Ok set) old new count n code fine holds (inl done) = record {
-  networks = λ _. fine;
+    → IsPutInRoom IsTaken Holds old new count n code
+delivered IsTaken Holds (Ok set) old new count n code fine holds (inl done) = record {
+  taken = λ _. fine;
   fits = λ _. rw done.1 done.2;
   left = λ _. done.3;
   holds = λ _. rw (← bits_of (take n new) set (sym done.4)) holds;
@@ -124,8 +76,8 @@ delivered these those Holds (Ok set) old new count n code fine holds (inl done) 
   stays = λ other. absurd (other done.0);
   count_stays = λ other _. absurd (other done.0);
 }
-delivered these those Holds (Ok set) old new count n code fine holds (inr short) = record {
-  networks = λ z. absurd (omega (arith, z, short.0));
+delivered IsTaken Holds (Ok set) old new count n code fine holds (inr short) = record {
+  taken = λ z. absurd (omega (arith, z, short.0));
   fits = λ z. absurd (omega (arith, z, short.0));
   left = λ z. absurd (omega (arith, z, short.0));
   holds = λ z. absurd (omega (arith, z, short.0));
@@ -137,8 +89,8 @@ delivered these those Holds (Ok set) old new count n code fine holds (inr short)
   stays = λ _. short.3;
   count_stays = λ _ other. absurd (other short.0);
 }
-delivered these those Holds (Err e) old new count n code fine holds none = record {
-  networks = λ z. absurd (omega (arith, z, none.0));
+delivered IsTaken Holds (Err e) old new count n code fine holds none = record {
+  taken = λ z. absurd (omega (arith, z, none.0));
   fits = λ z. absurd (omega (arith, z, none.0));
   left = λ z. absurd (omega (arith, z, none.0));
   holds = λ z. absurd (omega (arith, z, none.0));

@@ -66,7 +66,7 @@ asked=(10.1.2.3 10.1.255.255 11.0.0.0)
 "$room/lookup" "${asked[@]}" >"$room/lookup.txt"
 same lookup.txt
 "$compiler" -std=c99 "${strict[@]}" -o "$room/file" "$crate/examples/file.c" "$lib/libpcidr.a"
-for program in examples/networks examples/filter examples/lookup examples/file runs/wrong runs/memory runs/tables runs/files; do
+for program in examples/networks examples/filter examples/lookup examples/file runs/calls runs/wrong runs/memory runs/tables runs/files; do
     made=$room/$(basename "$program").checked
     refusing=()
     [[ $program != runs/memory ]] || refusing=("-Wl,--wrap=malloc,--wrap=realloc")
@@ -85,6 +85,7 @@ same file.txt
 head -c 100 "$room/names" >"$room/short"
 ! "$room/file.checked" "$room/short" 10.1.2.3 2>"$room/file.err" || wrong "a file that is cut short is read"
 [[ $(cat "$room/file.err") == "$room/short: file is shorter than its header says" ]] || wrong "the message of a file that is cut short"
+"$room/calls.checked" || wrong "a call around networks, of a pool or an access list"
 "$room/wrong.checked" || wrong "a call with a wrong argument"
 "$room/memory.checked" || wrong "a call without memory"
 if "$compiler" -g -fsanitize=thread -std=c11 "${strict[@]}" -o "$room/readers" "$here/readers.c" "$lib/libpcidr.a" -pthread 2>"$room/log"; then

@@ -44,6 +44,20 @@ static uint32_t longest_match_each(void) {
     return pcidr_longest_match_each(networks, COUNT, others, COUNT, matches, COUNT);
 }
 
+static const pcidr_value first = {0, 1, 32}, last = {0, 6, 32};
+static pcidr_rule rules[COUNT];
+static uint32_t summarize(void) { return pcidr_summarize(&first, &last, out, ROOM, &count); }
+static uint32_t first_free(void) { return pcidr_first_free(networks, COUNT, 9, out); }
+static uint32_t best_free(void) { return pcidr_best_free(networks, COUNT, 9, out); }
+static uint32_t permitted(void) { return pcidr_permitted(rules, COUNT, out, ROOM, &count); }
+static uint32_t shadowed(void) { return pcidr_shadowed(rules, COUNT, matches, COUNT, &count); }
+
+static uint32_t deciding(void) { return pcidr_deciding(rules, COUNT, &networks[0], matches, COUNT, &count); }
+static uint32_t answer;
+static uint32_t complement(void) { return pcidr_complement(networks, COUNT / 2, &networks[0], out, ROOM, &count); }
+static uint32_t is_subset(void) { return pcidr_is_subset(networks, COUNT, others, COUNT, &answer); }
+static uint32_t is_disjoint(void) { return pcidr_is_disjoint(networks, COUNT, others, COUNT, &answer); }
+
 static uint32_t build_table(void) { return pcidr_table_build(&table, ascending, COUNT, &count); }
 static uint32_t check_table(void) { return pcidr_table_check(&built, ascending, COUNT); }
 
@@ -61,6 +75,8 @@ static void set_values(void) {
         networks[i].low = i * 37 % COUNT << 26, networks[i].tag = 6;
         others[i].low = i * 23 % COUNT << 27 & 0xffffffff, others[i].tag = 9;
         ascending[i].low = i << 26, ascending[i].tag = 6;
+        rules[i].network = networks[i], rules[i].action = i % 2;
+        if (i == COUNT - 1) rules[i].network = networks[0];
     }
     table.ipv4_starts = starts, table.answers = found, table.ranges = 2 * COUNT + 1;
     table.level = level, table.level_len = 3, table.shift = 31;
@@ -85,7 +101,8 @@ static int is_left(void) {
 int main(void) {
     static uint32_t (*const calls[])(void) = {
         cover, make_union, intersection, difference, symmetric_difference, union_in_place, intersection_in_place,
-        difference_in_place, contains_each, longest_match_each, build_table, check_table, write_file, write_set, check_file};
+        difference_in_place, contains_each, longest_match_each, summarize, first_free, best_free, permitted, shadowed, deciding, complement, is_subset,
+        is_disjoint, build_table, check_table, write_file, write_set, check_file};
     for (size_t i = 0; i < sizeof calls / sizeof *calls; i++) {
         uint32_t code = PCIDR_NO_MEMORY;
         size_t refused = 0;

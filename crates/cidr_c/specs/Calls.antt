@@ -1,6 +1,6 @@
 -- What calls return and leave where C has room for it.
-use Rattle.std.specs.Prelude.{◌≡◌, ◌≢◌, ◌↔◌, ℕ, ◌<◌, ◌≤◌, List, ◌∷◌, ◌++◌, length, drop, suc, Result, Ok, Err, IsUtf8}
-use Rattle.cidr_c.specs.Codes.{not_utf8, no_value, wrapped, compact_code}
+use Rattle.std.specs.Prelude.{◌≡◌, ◌≢◌, ◌⊎◌, ◌↔◌, ℕ, ◌<◌, ◌≤◌, List, ◌∷◌, ◌++◌, length, drop, suc, Option, Some, None, Result, Ok, Err, IsUtf8}
+use Rattle.cidr_c.specs.Codes.{not_utf8, no_such, no_value, wrapped, compact_code}
 use Rattle.cidr.specs.declared.errors.CompactError.{CompactError}
 use Rattle.cidr_c.specs.declared.values.CValue.{CValue}
 
@@ -54,3 +54,23 @@ pub record IsReadBytes {A : Type 0} (Reads : List ℕ → Result (A × ℕ) Comp
 -- 1 for yes and 0 for no
 abbrev pub IsYesOrNo : ℕ → Type 0 → Type 0
 IsYesOrNo code Holds = (code ≤ 1) × ((code ≡ 1) ↔ Holds)
+
+-- any value at all
+abbrev pub IsAny : {P : Type 0} → P → Type 0
+IsAny p = Unit {0}
+
+-- making a value of others, of which there may be none: 0, and the value, of which Holds is true; or the number of the error,
+-- of what the call does not take and then of none, and all is as it was
+pub record IsSought {P A : Type 0} (IsTaken IsNone : Type 0) (IsValue : P → Type 0) (value_in : P → A) (Holds : A → Type 0)
+    (old new : P) (code : ℕ) : Type 0 where
+  pub found : code ≡ 0 → IsTaken × IsValue new × Holds (value_in new)
+  pub none : code ≡ no_such → IsTaken × IsNone
+  pub refused : code ≡ no_value → ¬ IsTaken
+  pub codes : (code ≡ 0) ⊎ ((code ≡ no_such) ⊎ (code ≡ no_value))
+  pub stays : code ≢ 0 → new ≡ old
+
+-- ---- what private functions promise each other
+-- what a library's call found, where C has room for it
+abbrev pub IsPut : {P A : Type 0} → (P → Type 0) → (P → A) → Option A → P → P → ℕ → Type 0
+IsPut IsValue value_in (Some a) old new code = (code ≡ 0) × IsValue new × (value_in new ≡ a)
+IsPut IsValue value_in None old new code = (code ≡ no_such) × (new ≡ old)

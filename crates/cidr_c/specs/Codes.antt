@@ -7,6 +7,8 @@ use Rattle.cidr.specs.declared.errors.CompactError.{CompactError}
 use Rattle.cidr.specs.declared.errors.CompactError.TheVariants as compact_error
 use Rattle.cidr.specs.declared.errors.NetworkParseError.{NetworkParseError}
 use Rattle.cidr.specs.declared.errors.NetworkParseError.TheVariants as parse_error
+use Rattle.cidr_ext.specs.declared.mask_text.MaskParseError.{MaskParseError}
+use Rattle.cidr_ext.specs.declared.mask_text.MaskParseError.TheVariants as mask_error
 
 -- a string is not UTF-8
 abbrev pub not_utf8 : ℕ
@@ -79,6 +81,30 @@ long_file = 21
 abbrev pub wrong_values : ℕ
 wrong_values = 22
 
+-- there is none
+abbrev pub no_such : ℕ
+no_such = 23
+
+-- a string with a mask has no slash
+abbrev pub no_slash : ℕ
+no_slash = 24
+
+-- what is behind the slash is no address of the family
+abbrev pub no_mask : ℕ
+no_mask = 25
+
+-- it is neither a network mask nor a host mask
+abbrev pub scattered_mask : ℕ
+scattered_mask = 26
+
+-- the errors of parsing a network with a mask
+abbrev pub mask_code : MaskParseError → ℕ
+mask_code mask_error.NoSlash = no_slash
+mask_code mask_error.InvalidAddress = 2
+mask_code mask_error.InvalidMask = no_mask
+mask_code mask_error.NonContiguousMask = scattered_mask
+mask_code mask_error.InvalidHostPart = 5
+
 -- a comparison as a number
 abbrev pub order_code : Ordering → ℕ
 order_code Less = 0
@@ -110,4 +136,8 @@ message code =
     else (if code == 20 then codes "file is shorter than its header says"
     else (if code == 21 then codes "file is longer than its header says"
     else (if code == 22 then codes "values don't lie one behind the other"
-    else [])))))))))))))))))))))
+    else (if code == 23 then codes "there is none"
+    else (if code == 24 then codes "no slash before a mask"
+    else (if code == 25 then codes "invalid mask"
+    else (if code == 26 then codes "mask is not contiguous"
+    else [])))))))))))))))))))))))))

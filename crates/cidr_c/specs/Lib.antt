@@ -1,6 +1,7 @@
 pub mod Batches
 pub mod Calls
 pub mod Codes
+pub mod Combining
 pub mod Files
 pub mod Lines
 pub mod Lookups
@@ -8,3 +9,7 @@ pub mod Orders
 pub mod Tables
 pub mod Values
 pub mod Writing
+pub mod Networks
+pub mod Special
+pub mod Pools
+pub mod Rules

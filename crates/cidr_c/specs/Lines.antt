@@ -57,11 +57,12 @@ printed_lines values = flat_map (λ v. any_network_text plain_text (network_in v
 abbrev pub HaveRoom : List CValue → (room i : ℕ) → Type 0
 HaveRoom values room i = AreNetworkValues (take i values) × (length (printed_lines (take i values)) ≤ room)
 
--- it is there, and `count` is how many bytes it has; or there is an error, and `count` stays: that of the first value that is
--- no network, or whose line has no room. There is room where there are 44 bytes for each network
-pub record AreLinesPrinted (values : List CValue) (new : List ℕ) (count count_new code : ℕ) : Type 0 where
+-- it is there, `count` is how many bytes it has, and what is behind them stays; or there is an error, and `count` stays: that
+-- of the first value that is no network, or whose line has no room. There is room where there are 44 bytes for each network
+pub record AreLinesPrinted (values : List CValue) (old new : List ℕ) (count count_new code : ℕ) : Type 0 where
   pub networks : code ≡ 0 → AreNetworkValues values
   pub text : code ≡ 0 → (count_new ≤ length new) × (take count_new new ≡ printed_lines values)
+  pub behind : code ≡ 0 → drop count_new new ≡ drop count_new old
   pub value : code ≡ no_value → ¬ (AreNetworkValues values)
   pub room : 44 * length values ≤ length new → code ≢ no_room
   pub codes : (code ≡ 0) ⊎ ((code ≡ no_value) ⊎ (code ≡ no_room))

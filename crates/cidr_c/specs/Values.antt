@@ -1,17 +1,20 @@
 -- Values as C has them: a number in two halves, and a tag, which tells the family and the prefix length as that of the
 -- compact bytes does.
-use Rattle.std.specs.Prelude.{◌≡◌, ℕ, ◌+◌, ◌-◌, ◌*◌, ◌^◌, ◌<◌, ◌≤◌, ◌⊎◌, ◌==◌, take, drop, nat_lt, if◌then◌else◌}
+use Rattle.std.specs.Prelude.{◌≡◌, ℕ, Bool, List, ◌+◌, ◌-◌, ◌*◌, ◌^◌, ◌<◌, ◌≤◌, ◌⊎◌, ◌==◌, take, drop, nat_lt, if◌then◌else◌}
 use Rattle.std.specs.Ordering.{nat_cmp, ordering_then}
 use Rattle.std.specs.declared.cmp.Ordering.{Ordering}
 use Rattle.cidr.specs.model.Bits.{bits, bit_cmp}
-use Rattle.cidr.specs.model.Network.{zeros}
+use Rattle.cidr.specs.model.Network.{width_of, zeros}
 use Rattle.cidr.specs.model.Host.{host_of}
 use Rattle.cidr.specs.either.IpAddress.{ip_address_bits}
-use Rattle.cidr.specs.either.IpHost.{host_address, host_parts}
+use Rattle.cidr.specs.either.IpHost.{host_address, host_network, host_parts}
+use Rattle.cidr.specs.either.IpNetwork.{network_family, network_prefix}
 use Rattle.cidr.specs.declared.addr.ip.IpAddr.{IpAddr}
 use Rattle.cidr.specs.declared.addr.ip.IpAddr.TheVariants as address
 use Rattle.cidr.specs.declared.cidr.any.AnyIpCidr.{AnyIpCidr}
 use Rattle.cidr.specs.declared.cidr.any.AnyIpCidr.TheVariants as network
+use Rattle.cidr.specs.declared.cidr.combined.IpCidr.{IpCidr}
+use Rattle.cidr.specs.declared.family.Family.{Family}
 use Rattle.cidr.specs.declared.inet.combined.IpInet.{IpInet}
 use Rattle.cidr.specs.declared.inet.combined.IpInet.TheVariants as host
 use Rattle.cidr_c.specs.declared.values.CValue.{CValue}
@@ -68,3 +71,22 @@ network_in v =
 abbrev pub host_order : IpInet → IpInet → Ordering
 host_order a b =
     ordering_then (bit_cmp (ip_address_bits (host_address a)) (ip_address_bits (host_address b))) (nat_cmp (host_parts a).len (host_parts b).len)
+
+-- ---- the network of a host
+-- a network but `Any`
+abbrev pub IsIpNetworkValue : CValue → Type 0
+IsIpNetworkValue v = IsHostValue v × IsNetworkValue v
+
+-- the network that a host is in; of such a network itself
+abbrev pub ip_network_in : CValue → IpCidr
+ip_network_in v = host_network (host_in v)
+
+-- its family, the bits that its addresses begin with, and how many an address has
+abbrev pub family_in : CValue → Family
+family_in v = network_family (ip_network_in v)
+
+abbrev pub prefix_in : CValue → List Bool
+prefix_in v = network_prefix (ip_network_in v)
+
+abbrev pub width_in : CValue → ℕ
+width_in v = width_of (family_in v)

@@ -1,8 +1,9 @@
 //! The numbers of the errors.
 ghost use Rattle.std.specs.Prelude.{◌≡◌, ◌<◌};
-ghost use Rattle.cidr_c.specs.Codes.{compact_code, message, not_utf8, order_code, parse_code};
+ghost use Rattle.cidr_c.specs.Codes.{compact_code, mask_code, message, not_utf8, order_code, parse_code};
 
 use cidr::errors::{CompactError, NetworkParseError};
+use cidr_ext::MaskParseError;
 use std::cmp::Ordering;
 
 /// There is no error.
@@ -23,7 +24,7 @@ pub const TRUNCATED: u32 = 6;
 pub const TAG: u32 = 7;
 /// Compact bytes are those of `any`.
 pub const ANY: u32 = 8;
-/// Compact bytes are of the other family.
+/// Compact bytes are of the other family; no call returns this yet.
 pub const FAMILY: u32 = 9;
 /// A value is none that the call takes.
 pub const NO_VALUE: u32 = 10;
@@ -33,9 +34,9 @@ pub const NO_ROOM: u32 = 11;
 pub const NO_MEMORY: u32 = 12;
 /// A step leaves the network.
 pub const WRAPPED: u32 = 13;
-/// A string is no address.
+/// A string that is to be an address alone is none.
 pub const NOT_ADDRESS: u32 = 14;
-/// There are too many networks.
+/// There are more than 2,147,483,647 networks.
 pub const TOO_MANY: u32 = 15;
 /// A shift is not below the number of bits of an address.
 pub const SHIFT: u32 = 16;
@@ -49,8 +50,17 @@ pub const OTHER_VERSION: u32 = 19;
 pub const SHORT: u32 = 20;
 /// A file is longer than its header says.
 pub const LONG: u32 = 21;
-/// Values don't lie one behind the other, or are too long together.
+/// Values don't lie one behind the other, or have 2^32 bytes or more together.
 pub const VALUES: u32 = 22;
+
+/// There is none.
+pub const NONE: u32 = 23;
+/// A string with a mask has no slash.
+pub const NO_SLASH: u32 = 24;
+/// What is behind the slash is no address of the family.
+pub const MASK: u32 = 25;
+/// It is neither a network mask nor a host mask.
+pub const SCATTERED: u32 = 26;
 
 /// The number of an error of parsing.
 pub fn parse_code(error: &NetworkParseError) -> u32
@@ -76,6 +86,20 @@ pub fn compact_code(error: &CompactError) -> u32
         CompactError::InvalidAny => ANY,
         CompactError::InvalidFamily(_) => FAMILY,
         CompactError::InvalidHostPart => HOST_PART,
+    }
+}
+
+/// The number of an error of parsing a network with a mask.
+pub fn mask_code(error: &MaskParseError) -> u32
+    ensures value { result ≡ mask_code error.now }
+    ensures above { not_utf8 < result }
+{
+    match error {
+        MaskParseError::NoSlash => NO_SLASH,
+        MaskParseError::InvalidAddress => ADDRESS,
+        MaskParseError::InvalidMask => MASK,
+        MaskParseError::NonContiguousMask => SCATTERED,
+        MaskParseError::InvalidHostPart => HOST_PART,
     }
 }
 
@@ -117,6 +141,10 @@ pub fn message(code: u32) -> &'static str
         20 => "file is shorter than its header says",
         21 => "file is longer than its header says",
         22 => "values don't lie one behind the other",
+        23 => "there is none",
+        24 => "no slash before a mask",
+        25 => "invalid mask",
+        26 => "mask is not contiguous",
         _ => "",
     }
 }

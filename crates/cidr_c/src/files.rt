@@ -19,7 +19,7 @@ use std::alloc::Global;
 /// The size of the header of a file.
 const HEADER: usize = 64;
 
-/// Where the parts of a table lie, in bytes from the begin of the file, and how many elements they have.
+/// Where the parts of a table lie, in bytes from the beginning of the file, and how many elements they have.
 #[repr(C)]
 #[derive(Clone, Copy)]
 pub struct CFileTable {
@@ -63,7 +63,7 @@ pub struct CFile {
 #[repr(C)]
 #[derive(Clone, Copy)]
 pub struct CFound {
-    /// Where the value begins, in bytes from the begin of the file.
+    /// Where the value begins, in bytes from the beginning of the file.
     pub value: usize,
     /// How many bytes it has.
     pub value_len: u32,

@@ -1,17 +1,27 @@
 //! `cidr` for C and Python: values by value, strings by pointer and length.
 #![tactic(auto)]
 
+mod around;
 mod batches;
 mod bytes;
 mod codes;
+mod comparing;
 mod files;
+mod finding;
 mod laws;
 mod lines;
 mod lookups;
+mod masks;
+mod names;
 mod parts;
+mod pools;
 mod printing;
+mod ranges;
 mod reading;
+mod rules;
 mod sets;
+mod special;
+mod subnets;
 mod tables;
 mod values;
 mod writing;

@@ -1,5 +1,5 @@
 //! Texts of networks, one a line.
-ghost use Rattle.std.specs.Prelude.{◌≡◌, ◌+◌, ◌≤◌, ◌++◌, ◌∷◌, [], length, take, MatchOption};
+ghost use Rattle.std.specs.Prelude.{◌≡◌, ◌+◌, ◌≤◌, ◌++◌, ◌∷◌, [], drop, length, take, IfSome, MatchOption};
 ghost use Rattle.cidr_c.specs.Lines.{AreLinesPrinted, AreLinesRead, IsFirstLine, IsLineRead};
 
 use crate::codes::{NO_ROOM, NO_VALUE, OK};
@@ -54,10 +54,12 @@ fn read_into(line: &[u8], out: &mut [CValue], place: usize) -> u32
     pcidr_read_network(line, &mut out[place])
 }
 
-/// Prints networks, one a line and each with a line feed behind it, and says how many bytes that are.
+/// Prints networks, one a line and each with a line feed behind it: 0, and `count` becomes how many bytes these are.
+/// Else the number of the first value's error: it is no network, or there is too little room for its line; then `count`
+/// is as it was, and what `out` has isn't told.
 #[unsafe(no_mangle)]
 pub extern "C" fn pcidr_print_lines(networks: &[CValue], out: &mut [u8], count: &mut usize) -> u32
-    ensures { AreLinesPrinted networks.now out.new count.old count.new result }
+    ensures { AreLinesPrinted networks.now out.old out.new count.old count.new result }
 {
     let mut end = 0;
     for value in networks {
@@ -79,6 +81,7 @@ fn print_line(text: &str, out: &mut [u8], at: usize) -> Option<usize>
     ensures line { MatchOption result (out.new ≡ out.old) (λ end. (end ≤ length out.new)
         × (take end out.new ≡ take at out.old ++ (text.now ++ 10 ∷ []))) }
     ensures room { MatchOption result (length out.old ≤ at + length text.now) (λ end. end ≡ at + length text.now + 1) }
+    ensures behind { IfSome result (λ end. drop end out.new ≡ drop end out.old) }
     ensures size { length out.new ≡ length out.old }
 {
     let bytes = text.as_bytes();

@@ -12,6 +12,7 @@ ghost use Rattle.cidr_c.specs.Codes.{order_code};
 ghost use Rattle.cidr_c.specs.Values.{IsAddressValue, IsHostValue, IsNetworkValue, address_in, host_in, host_order, network_in};
 
 use crate::codes::{NO_VALUE, OK, WRAPPED, order_code};
+use crate::finding::joined;
 use crate::values::{
     CValue, host_of, ipv4_network, ipv6_network, is_ipv4, is_ipv6, network_of, put_address,
     put_host, put_network,
@@ -258,11 +259,4 @@ pub extern "C" fn pcidr_at_by_value(host: CValue, high: u64, low: u64, out: &mut
     let (host, wraps) = host.first().overflowing_add(joined(high, low));
     put_host(&host, out);
     if wraps { WRAPPED } else { OK }
-}
-
-/// The number of two halves.
-fn joined(high: u64, low: u64) -> u128
-    ensures { result ≡ high * 2 ^ 64 + low }
-{
-    u128::from(high) * (1 << 64) + u128::from(low)
 }

@@ -1,11 +1,13 @@
 //! Look-up tables in arrays of the caller.
-ghost use Rattle.std.specs.Prelude.{◌≡◌, ◌≢◌, ◌<◌, ℕ, map, IfOk, MatchOption};
-ghost use Rattle.cidr_arrays.specs.Arrays.{key_networks};
+ghost use Rattle.std.specs.Prelude.{◌≡◌, ◌≢◌, ◌<◌, ℕ, List, length, map, IfOk, IfSome, MatchOption};
+ghost use Rattle.cidr.specs.model.Bits.{bits};
+ghost use Rattle.cidr_table.specs.Prefixes.{IsLongestMatch};
+ghost use Rattle.cidr_arrays.specs.Arrays.{Represents, key_networks, prefix_bits};
 ghost use Rattle.cidr_c.specs.Tables.{AreFound, IsBuilt, IsChecked, IsRowFound, fault_code, ipv4_number, ipv4_pair, ipv6_number, ipv6_pair, room_of};
 
 use crate::codes::{NO_MEMORY, NO_ROOM, NO_TABLE, NO_VALUE, OK, SHIFT, TOO_MANY};
 use crate::values::CValue;
-use cidr_arrays::{BuildError, Fault, Halves, Key, Word, build, check, fill_level, lookup};
+use cidr_arrays::{BuildError, Fault, Halves, Key, Word, build, check, fill_level, longest_match};
 use cidr_files::{Ipv4Bytes, Ipv6Bytes};
 use std::alloc::{AllocError, Global};
 
@@ -26,6 +28,11 @@ pub trait Family: Word {
     fn key_in(value: &CValue) -> Key<Self>
         ensures address { Self.value result.address ≡ (pair value.now).0 }
         ensures len { result.len ≡ (pair value.now).1 };
+
+    /// The address that a value is, if it is one of the family.
+    fn address_in(value: &CValue) -> Option<Self>
+        ensures { MatchOption result ((pair value.now).1 ≢ Self.width)
+            (λ address. ((pair value.now).1 ≡ Self.width) × (Self.value address ≡ (pair value.now).0)) };
 }
 
 impl Family for u32 {
@@ -43,6 +50,14 @@ impl Family for u32 {
             address: value.low as u32,
             len: u32::from(value.tag),
         }
+    }
+
+    #[inline(always)]
+    fn address_in(value: &CValue) -> Option<u32> {
+        if value.tag != 32 || value.high != 0 || value.low >= 1 << 32 {
+            return None;
+        }
+        Some(value.low as u32)
     }
 }
 
@@ -66,6 +81,17 @@ impl Family for Halves {
             len: u32::from(value.tag - 64),
         }
     }
+
+    #[inline(always)]
+    fn address_in(value: &CValue) -> Option<Halves> {
+        if value.tag != 192 {
+            return None;
+        }
+        Some(Halves {
+            high: value.high,
+            low: value.low,
+        })
+    }
 }
 
 impl Family for Ipv4Bytes {
@@ -77,6 +103,11 @@ impl Family for Ipv4Bytes {
             address: key.address.to_le_bytes(),
             len: key.len,
         }
+    }
+
+    #[inline(always)]
+    fn address_in(value: &CValue) -> Option<Ipv4Bytes> {
+        Some(u32::address_in(value)?.to_le_bytes())
     }
 }
 
@@ -93,19 +124,11 @@ impl Family for Ipv6Bytes {
             len: key.len,
         }
     }
-}
 
-/// The address that a value is, if it is one of the family.
-#[inline(always)]
-fn address_in<W: Family>(value: &CValue) -> Option<W>
-    ensures { MatchOption result ((W.pair value.now).1 ≢ W.width)
-        (λ address. ((W.pair value.now).1 ≡ W.width) × (W.value address ≡ (W.pair value.now).0)) }
-{
-    let key = W::key_in(value);
-    if key.len == W::width() {
-        Some(key.address)
-    } else {
-        None
+    #[inline(always)]
+    fn address_in(value: &CValue) -> Option<Ipv6Bytes> {
+        let address = Halves::address_in(value)?;
+        Some([address.high.to_le_bytes(), address.low.to_le_bytes()])
     }
 }
 
@@ -168,13 +191,31 @@ fn row_in<W: Family>(
 ) -> u32
     ensures { IsRowFound W.width (map W.value starts.now) answers.now level.now shift rows (W.pair asked.now) result }
 {
-    let Some(address) = address_in(asked) else {
+    let Some(address) = W::address_in(asked) else {
         return NO_ROW;
     };
-    match lookup(starts, answers, level, shift, rows as usize, address) {
+    match row_of(starts, answers, level, shift, rows as usize, address) {
         Some(row) => row as u32,
         None => NO_ROW,
     }
+}
+
+/// The row of the longest match, put into the place of its call.
+#[inline(always)]
+fn row_of<W: Word>(
+    starts: &[W],
+    answers: &[u32],
+    level: &[u32],
+    shift: u32,
+    rows: usize,
+    address: W,
+) -> Option<usize>
+    ensures within { IfSome result (λ row. row < rows) }
+    ensures longest { (networks : List (ℕ × ℕ)) → length networks ≡ rows
+        → Represents W.width networks (map W.value starts.now) answers.now level.now shift
+        → IsLongestMatch (prefix_bits W.width) (bits W.width (W.value address)) networks result }
+{
+    longest_match(starts, answers, level, shift, rows, address)
 }
 
 /// The rows of many.

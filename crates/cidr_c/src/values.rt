@@ -2,9 +2,11 @@
 ghost use Rattle.std.specs.Prelude.{◌≡◌, ◌<◌, ◌≤◌, ◌^◌, ◌↔◌, IsTrue, MatchOption};
 ghost use Rattle.cidr.specs.model.Bits.{bits};
 ghost use Rattle.cidr.specs.declared.cidr.any.AnyIpCidr.TheVariants.{V4, V6};
-ghost use Rattle.cidr_c.specs.Values.{IsLow, IsAddressValue, IsHostValue, IsNetworkValue, address_in, host_in, network_in, number_in};
+ghost use Rattle.cidr_c.specs.Values.{IsLow, IsAddressValue, IsHostValue, IsIpNetworkValue, IsNetworkValue, address_in, host_in, ip_network_in, network_in, number_in};
 
-use cidr::{AnyIpCidr, IpAddr, IpInet, Ipv4Addr, Ipv4Cidr, Ipv4Inet, Ipv6Addr, Ipv6Cidr, Ipv6Inet};
+use cidr::{
+    AnyIpCidr, IpAddr, IpCidr, IpInet, Ipv4Addr, Ipv4Cidr, Ipv4Inet, Ipv6Addr, Ipv6Cidr, Ipv6Inet,
+};
 
 /// The tag of the first IPv6 prefix length.
 const IPV6: u8 = 64;
@@ -135,6 +137,16 @@ pub fn host_of(value: &CValue) -> Option<IpInet>
     }
 }
 
+/// The network that a host is in, if the value is a host.
+#[inline(always)]
+pub fn ip_network_of(value: &CValue) -> Option<IpCidr>
+    ensures { MatchOption result (¬ (IsHostValue value.now))
+        (λ network. IsHostValue value.now × (network ≡ ip_network_in value.now)) }
+{
+    let host = host_of(value)?;
+    Some(host.network())
+}
+
 /// The address that a value is, if it is one.
 pub fn address_of(value: &CValue) -> Option<IpAddr>
     ensures { MatchOption result (¬ (IsAddressValue value.now))
@@ -192,6 +204,24 @@ pub fn put_network(network: &AnyIpCidr, out: &mut CValue)
         }
         AnyIpCidr::V4(network) => put_ipv4(network.first_address(), network.network_length(), out),
         AnyIpCidr::V6(network) => {
+            put_ipv6(
+                network.first_address(),
+                network.network_length() + IPV6,
+                out,
+            )
+        }
+    }
+}
+
+/// Makes the value a network of one family.
+#[inline(always)]
+pub fn put_ip_network(network: &IpCidr, out: &mut CValue)
+    ensures is_network { IsIpNetworkValue out.new }
+    ensures network { ip_network_in out.new ≡ network.now }
+{
+    match network {
+        IpCidr::V4(network) => put_ipv4(network.first_address(), network.network_length(), out),
+        IpCidr::V6(network) => {
             put_ipv6(
                 network.first_address(),
                 network.network_length() + IPV6,

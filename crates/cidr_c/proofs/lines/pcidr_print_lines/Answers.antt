@@ -3,7 +3,7 @@ use Rattle.cidr.specs.either.IpText.{any_network_text}
 use Rattle.cidr.specs.texts.Printed.{plain_text}
 use Rattle.cidr.specs.declared.cidr.any.AnyIpCidr.{AnyIpCidr}
 use Rattle.cidr_c.specs.declared.values.CValue.{CValue}
-use Rattle.cidr_c.proofs.LineSteps.{line_over, line_printed, lines_fit}
+use Rattle.cidr_c.proofs.LineSteps.{line_over, line_printed, lines_fit, same_behind}
 use Rattle.cidr_c.proofs.lines.pcidr_print_lines.Goals as goal
 
 pub loop-value-preserved : goal.loop-value-preserved
@@ -18,6 +18,8 @@ loop-value-preserved c =
       more.2,
       omega (arith, c.in-Some-print_line.ensures.room, c.to_text.ensures.len, ap length c.as_str.ensures.value, so_far.3),
       c.print_line.ensures.size ∙ so_far.4,
+      same_behind c.loop-value.end c.in-Some-print_line.next c.args.out.now c.loop-value.out c.print_line.new.out
+          (omega (arith, c.in-Some-print_line.ensures.room)) so_far.5 c.in-Some-print_line.ensures.behind,
     )
 
 pub returns-in-None : goal.returns-in-None
@@ -33,6 +35,7 @@ returns-in-None c =
     record {
       networks = λ z. absurd (omega (arith, z));
       text = λ z. absurd (omega (arith, z));
+      behind = λ z. absurd (omega (arith, z));
       value = λ z. absurd (omega (arith, z));
       room = λ enough _. omega (arith, enough, c.in-None.ensures.room, c.to_text.ensures.len, ap length c.as_str.ensures.value, l.invariant.3, ap length same, c.loop-value-test.true);
       codes = inr (inr refl);

@@ -1,0 +1,33 @@
+-- The ends of walks over hosts, and host masks, of either family.
+use Rattle.std.proofs.Common.{◌≡◌, ◌∷◌, ◌++◌, [], List, ap}
+use Rattle.cidr.specs.model.Host.{Host}
+use Rattle.cidr.specs.model.Network.{width_of}
+use Rattle.cidr.specs.either.IpAddress.{address_family, plain_bits}
+use Rattle.cidr.specs.either.IpHost.{host_address, host_family, host_parts}
+use Rattle.cidr.specs.either.IpNetwork.{address_by, network_family, network_prefix}
+use Rattle.cidr.specs.declared.addr.ip.IpAddr.{IpAddr}
+use Rattle.cidr.specs.declared.addr.ip.IpAddr.TheVariants as address
+use Rattle.cidr.specs.declared.cidr.combined.IpCidr.{IpCidr}
+use Rattle.cidr.specs.declared.cidr.combined.IpCidr.TheVariants as network
+use Rattle.cidr.specs.declared.family.Family.{Family}
+use Rattle.cidr.specs.declared.inet.combined.IpInet.{IpInet}
+use Rattle.cidr.specs.declared.inet.combined.IpInet.TheVariants.{V4, V6}
+use Rattle.cidr_ext.specs.Inside.{host_mask_of}
+use Rattle.cidr_c.specs.Networks.{IsFirstHost, IsLastHost}
+
+pub first_host : (host : IpInet) (hosts rest : List (Family × Host)) → hosts ≡ (host_family host, host_parts host) ∷ rest
+    → IsFirstHost hosts (host_address host)
+first_host (V4 h) hosts rest e = (h.len, rest, e)
+first_host (V6 h) hosts rest e = (h.len, rest, e)
+
+pub last_host : (host : IpInet) (hosts rest : List (Family × Host)) → hosts ≡ rest ++ (host_family host, host_parts host) ∷ []
+    → IsLastHost hosts (host_address host)
+last_host (V4 h) hosts rest e = (h.len, rest, e)
+last_host (V6 h) hosts rest e = (h.len, rest, e)
+
+pub mask_address : (n : IpCidr) (a : IpAddr) → plain_bits a ≡ host_mask_of (width_of (network_family n)) (network_prefix n)
+    → address_family a ≡ network_family n → a ≡ address_by host_mask_of n
+mask_address (network.V4 p) (address.V4 a) e same = ap address.V4 e
+mask_address (network.V6 p) (address.V6 a) e same = ap address.V6 e
+mask_address (network.V4 p) (address.V6 a) e same = cc
+mask_address (network.V6 p) (address.V4 a) e same = cc

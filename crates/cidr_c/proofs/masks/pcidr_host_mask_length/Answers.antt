@@ -1,0 +1,16 @@
+use Rattle.std.proofs.Common.{ℕ}
+use Rattle.cidr.specs.declared.addr.ip.IpAddr.{IpAddr}
+use Rattle.cidr.specs.either.IpAddress.{address_family, plain_bits}
+use Rattle.cidr.specs.model.Network.{width_of}
+use Rattle.cidr_c.specs.Calls.{IsAny}
+use Rattle.cidr_c.proofs.Sought.{sought}
+use Rattle.cidr_c.specs.Values.{IsAddressValue, address_in}
+use Rattle.cidr_ext.specs.Inside.{IsHostMaskOf}
+use Rattle.cidr_c.proofs.masks.pcidr_host_mask_length.Goals as goal
+
+pub returns-in-Some : goal.returns-in-Some
+returns-in-Some c =
+    sought (IsAddressValue c.args.address.now) (λ (a : IpAddr). (n : ℕ) → ¬ (IsHostMaskOf (width_of (address_family a)) n (plain_bits a))) IsAny
+    (λ n. n) (λ (a : IpAddr) (n : ℕ). IsHostMaskOf (width_of (address_family a)) n (plain_bits a))
+    c.in-Some.address (address_in c.args.address.now) c.host_mask_length.result c.args.len.now c.put_plain.new.out c.put_plain.result
+    c.in-Some.ensures c.host_mask_length.ensures c.put_plain.ensures

@@ -1,0 +1,11 @@
+use Rattle.cidr.specs.declared.addr.ip.IpAddr.{IpAddr}
+use Rattle.cidr.specs.either.IpAddress.{address_family, plain_bits}
+use Rattle.cidr_c.proofs.Sought.{answered}
+use Rattle.cidr_c.specs.Values.{IsAddressValue, address_in}
+use Rattle.cidr_ext.specs.Special.{IsGlobal}
+use Rattle.cidr_c.proofs.special.pcidr_is_global.Goals as goal
+
+pub returns-in-Some : goal.returns-in-Some
+returns-in-Some c =
+    answered (IsAddressValue c.args.address.now) (λ (a : IpAddr). IsGlobal (address_family a) (plain_bits a))
+    c.in-Some.address (address_in c.args.address.now) c.is_global.result c.yes_or_no.result c.in-Some.ensures c.is_global.ensures c.yes_or_no.ensures

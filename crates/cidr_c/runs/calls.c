@@ -1,0 +1,242 @@
+/* Calls around networks, of names, masks, special purposes, ranges, pools and access lists, on values whose answers stand
+ * in RFCs or are counted by hand, and with arguments that are none. */
+#include <pcidr.h>
+#include <stdio.h>
+#include <string.h>
+
+static int failures;
+
+#define WANT(holds)                                             \
+    do {                                                        \
+        if (!(holds)) {                                         \
+            fprintf(stderr, "line %d: %s\n", __LINE__, #holds); \
+            failures++;                                         \
+        }                                                       \
+    } while (0)
+
+/* A mark in what is written, to see that an error leaves it. */
+static const pcidr_value mark = {7, 8, 9};
+/* What no call takes. */
+static const pcidr_value none = {0, 0, 33};
+static pcidr_value out;
+
+/* The host that a string is; of `any` the network. */
+static pcidr_value value(const char *text) {
+    pcidr_value made = none;
+    if (pcidr_read_host(text, strlen(text), &made) != PCIDR_OK) WANT(pcidr_read_network(text, strlen(text), &made) == PCIDR_OK);
+    return made;
+}
+
+static int is_same(pcidr_value a, pcidr_value b) { return a.high == b.high && a.low == b.low && a.tag == b.tag; }
+
+/* Whether `out` is the host or the network of a string; sets the mark again. */
+static int is(const char *text) {
+    int same = is_same(out, value(text));
+    out = mark;
+    return same;
+}
+
+static int is_left(void) { return is_same(out, mark); }
+
+static void around(void) {
+    pcidr_value host = value("10.128.0.5/9"), all = value("::/0"), any = value("any"), four = value("192.0.2.48/28");
+    pcidr_halves number = {1, 2};
+    size_t count = 77;
+    WANT(pcidr_supernet(&host, 6, &out) == PCIDR_OK && is("8.0.0.0/6"));
+    WANT(pcidr_supernet(&host, 9, &out) == PCIDR_OK && is("10.128.0.0/9"));
+    WANT(pcidr_supernet(&host, 10, &out) == PCIDR_NONE && is_left());
+    WANT(pcidr_supernet(&host, 255, &out) == PCIDR_NONE && is_left());
+    WANT(pcidr_supernet(&any, 0, &out) == PCIDR_NO_VALUE && is_left());
+    WANT(pcidr_subnet(&four, 30, 0, 3, &out) == PCIDR_OK && is("192.0.2.60/30"));
+    WANT(pcidr_subnet(&four, 30, 0, 4, &out) == PCIDR_NONE && is_left());
+    WANT(pcidr_subnet(&four, 30, 1, 0, &out) == PCIDR_NONE && is_left());
+    WANT(pcidr_subnet(&four, 27, 0, 0, &out) == PCIDR_NONE && is_left());
+    WANT(pcidr_subnet(&four, 33, 0, 0, &out) == PCIDR_NONE && is_left());
+    WANT(pcidr_subnet(&all, 128, UINT64_MAX, UINT64_MAX, &out) == PCIDR_OK &&
+         is("ffff:ffff:ffff:ffff:ffff:ffff:ffff:ffff"));
+    WANT(pcidr_sibling(&host, &out) == PCIDR_OK && is("10.0.0.0/9"));
+    WANT(pcidr_sibling(&all, &out) == PCIDR_NONE && is_left());
+    WANT(pcidr_next_network(&four, &out) == PCIDR_OK && is("192.0.2.64/28"));
+    WANT(pcidr_previous_network(&four, &out) == PCIDR_OK && is("192.0.2.32/28"));
+    WANT(pcidr_next_network(&all, &out) == PCIDR_NONE && is_left());
+    WANT(pcidr_previous_network(&all, &out) == PCIDR_NONE && is_left());
+    WANT(pcidr_host_mask(&four, &out) == PCIDR_OK && is("0.0.0.15"));
+    WANT(pcidr_host_mask(&any, &out) == PCIDR_NO_VALUE && is_left());
+    WANT(pcidr_nth(&four, 0, 15, &out) == PCIDR_OK && is("192.0.2.63"));
+    WANT(pcidr_nth(&four, 0, 16, &out) == PCIDR_NONE && is_left());
+    WANT(pcidr_nth(&none, 0, 0, &out) == PCIDR_NO_VALUE && is_left());
+    pcidr_value inside = value("192.0.2.63"), outside = value("192.0.2.64");
+    WANT(pcidr_position(&four, &outside, &number) == PCIDR_NONE && number.high == 1 && number.low == 2);
+    WANT(pcidr_position(&four, &four, &number) == PCIDR_NO_VALUE && number.high == 1 && number.low == 2);
+    WANT(pcidr_position(&four, &inside, &number) == PCIDR_OK && number.high == 0 && number.low == 15);
+    pcidr_value half = value("2001:db8::/63");
+    WANT(pcidr_address_count(&half, &number) == PCIDR_OK && number.high == 2 && number.low == 0);
+    WANT(pcidr_address_count(&all, &number) == PCIDR_NONE && number.high == 2);
+    WANT(pcidr_first_usable(&four, &out) == PCIDR_OK && is("192.0.2.49"));
+    WANT(pcidr_last_usable(&four, &out) == PCIDR_OK && is("192.0.2.62"));
+    pcidr_value pair = value("192.0.2.48/31"), lone = value("192.0.2.48"), link = value("2001:db8::/64");
+    WANT(pcidr_first_usable(&pair, &out) == PCIDR_OK && is("192.0.2.48"));
+    WANT(pcidr_last_usable(&pair, &out) == PCIDR_OK && is("192.0.2.49"));
+    WANT(pcidr_last_usable(&lone, &out) == PCIDR_OK && is("192.0.2.48"));
+    WANT(pcidr_first_usable(&link, &out) == PCIDR_OK && is("2001:db8::"));
+    WANT(pcidr_last_usable(&any, &out) == PCIDR_NO_VALUE && is_left());
+    WANT(pcidr_usable_count(&link, &count) == PCIDR_NONE && count == 77);
+    WANT(pcidr_usable_count(&four, &count) == PCIDR_OK && count == 14);
+    WANT(pcidr_usable_count(&pair, &count) == PCIDR_OK && count == 2);
+    /* the result may take the place of the host */
+    WANT(pcidr_supernet(&host, 8, &host) == PCIDR_OK && is_same(host, value("10.0.0.0/8")));
+}
+
+static void subnets(void) {
+    pcidr_value four = value("192.0.2.48/28"), room[6];
+    size_t count = 77;
+    for (size_t i = 0; i < 6; i++) room[i] = mark;
+    WANT(pcidr_subnets(&four, 27, 0, 0, room, 6, &count) == PCIDR_NONE && count == 77 && is_same(room[0], mark));
+    WANT(pcidr_subnets(&none, 30, 0, 0, room, 6, &count) == PCIDR_NO_VALUE && count == 77 && is_same(room[0], mark));
+    WANT(pcidr_subnets(&four, 30, 0, 1, room, 6, &count) == PCIDR_OK && count == 3);
+    WANT(is_same(room[0], value("192.0.2.52/30")) && is_same(room[2], value("192.0.2.60/30")) && is_same(room[3], mark));
+    WANT(pcidr_subnets(&four, 32, 0, 0, room, 2, &count) == PCIDR_OK && count == 2 && is_same(room[1], value("192.0.2.49")));
+    WANT(pcidr_subnets(&four, 30, UINT64_MAX, UINT64_MAX, room, 6, &count) == PCIDR_OK && count == 0);
+    WANT(pcidr_subnets(&four, 30, 0, 0, NULL, 0, &count) == PCIDR_OK && count == 0);
+}
+
+static void beside(void) {
+    pcidr_value wide = value("192.0.0.0/16"), inner = value("192.0.2.0/24"), other = value("192.0.3.0/25");
+    pcidr_value six = value("2001:db8::/32"), host = value("192.0.2.1/24");
+    WANT(pcidr_overlaps(&wide, &inner) == 1 && pcidr_overlaps(&inner, &wide) == 1 && pcidr_overlaps(&inner, &other) == 0);
+    WANT(pcidr_overlaps(&wide, &six) == 0 && pcidr_overlaps(&wide, &host) == 0 && pcidr_overlaps(&none, &none) == 0);
+    WANT(pcidr_spanning(&inner, &other, &out) == PCIDR_OK && is("192.0.2.0/23"));
+    WANT(pcidr_spanning(&inner, &six, &out) == PCIDR_OK && is("any"));
+    WANT(pcidr_spanning(&inner, &host, &out) == PCIDR_NO_VALUE && is_left());
+}
+
+static uint32_t masked(const char *text) { return pcidr_read_masked_network(text, strlen(text), &out); }
+static uint32_t named(const char *text) { return pcidr_read_reverse_name(text, strlen(text), &out); }
+
+static void masks_and_names(void) {
+    char text[PCIDR_MASK_ROOM];
+    uint8_t len = 99;
+    pcidr_value four = value("192.0.2.1/24"), six = value("2001:db8::/32"), any = value("any"), odd = value("192.0.2.0/25");
+    WANT(pcidr_print_with_mask(&four, text, sizeof text) == 23 && strcmp(text, "192.0.2.0/255.255.255.0") == 0);
+    WANT(pcidr_print_with_host_mask(&four, text, sizeof text) == 19 && strcmp(text, "192.0.2.0/0.0.0.255") == 0);
+    WANT(pcidr_print_with_mask(&six, text, sizeof text) == 22 && strcmp(text, "2001:db8::/ffff:ffff::") == 0);
+    WANT(pcidr_print_with_mask(&any, text, sizeof text) == 0 && pcidr_print_with_mask(&four, NULL, 0) == 23);
+    WANT(masked("192.0.2.0/255.255.255.0") == PCIDR_OK && is("192.0.2.0/24"));
+    WANT(masked("192.0.2.0/0.0.0.255") == PCIDR_OK && is("192.0.2.0/24"));
+    WANT(masked("0.0.0.0/0.0.0.0") == PCIDR_OK && is("0.0.0.0/0"));
+    WANT(masked("192.0.2.0") == PCIDR_NO_SLASH && is_left());
+    WANT(masked("192.0.2/255.255.255.0") == PCIDR_ADDRESS && is_left());
+    WANT(masked("192.0.2.0/24") == PCIDR_MASK && is_left());
+    WANT(masked("192.0.2.0/255.0.255.0") == PCIDR_SCATTERED && is_left());
+    WANT(masked("192.0.2.1/255.255.255.0") == PCIDR_HOST_PART && is_left());
+    WANT(masked("\xff/") == PCIDR_NOT_UTF8 && is_left());
+    pcidr_value mask = value("255.255.255.240"), inverse = value("0.0.0.15"), other = value("255.0.255.0");
+    WANT(pcidr_mask_length(&mask, &len) == PCIDR_OK && len == 28);
+    WANT(pcidr_host_mask_length(&inverse, &len) == PCIDR_OK && len == 28);
+    WANT(pcidr_mask_length(&other, &len) == PCIDR_NONE && pcidr_host_mask_length(&mask, &len) == PCIDR_NONE && len == 28);
+    WANT(pcidr_mask_length(&four, &len) == PCIDR_NO_VALUE && len == 28);
+    WANT(pcidr_print_reverse_name(&four, text, sizeof text) == 20 && strcmp(text, "2.0.192.in-addr.arpa") == 0);
+    WANT(pcidr_print_reverse_name(&six, text, sizeof text) == 24 && strcmp(text, "8.b.d.0.1.0.0.2.ip6.arpa") == 0);
+    WANT(pcidr_print_reverse_name(&odd, text, sizeof text) == 0 && pcidr_print_reverse_name(&any, text, sizeof text) == 0);
+    WANT(named("2.0.192.in-addr.arpa") == PCIDR_OK && is("192.0.2.0/24"));
+    WANT(named("8.B.D.0.1.0.0.2.IP6.ARPA.") == PCIDR_OK && is("2001:db8::/32"));
+    WANT(named("1.2.0.192.in-addr.arpa") == PCIDR_OK && is("192.0.2.1"));
+    WANT(named("02.0.192.in-addr.arpa") == PCIDR_NONE && is_left());
+    WANT(named("") == PCIDR_NONE && named("\xff") == PCIDR_NOT_UTF8 && is_left());
+}
+
+static void purposes(void) {
+    pcidr_special entry;
+    pcidr_value anycast = value("192.0.0.9"), free_one = value("8.8.8.8"), local = value("fe80::1"), shared = value("100.64.0.1");
+    pcidr_value unique = value("fd00::1"), loop = value("127.1.2.3"), network = value("10.0.0.0/8"), many = value("ff02::1");
+    pcidr_value zero = value("::"), book = value("3fff::1");
+    memset(&entry, 9, sizeof entry);
+    WANT(pcidr_special_entry(&free_one, &entry) == PCIDR_NONE && entry.len == 9);
+    WANT(pcidr_special_entry(&network, &entry) == PCIDR_NO_VALUE && entry.len == 9);
+    WANT(pcidr_special_entry(&anycast, &entry) == PCIDR_OK && entry.purpose == PCIDR_PURPOSE_PORT_CONTROL_ANYCAST);
+    WANT(entry.rfc == 7723 && entry.len == 32 && entry.high == 0 && entry.low == anycast.low && entry.globally_reachable == 1);
+    WANT(pcidr_special_entry(&local, &entry) == PCIDR_OK && entry.purpose == PCIDR_PURPOSE_LINK_LOCAL && entry.len == 10);
+    WANT(entry.high == (uint64_t)0xfe80 << 48 && entry.low == 0 && entry.forwardable == 0 && entry.reserved_by_protocol == 1);
+    WANT(pcidr_is_global(&free_one) == 1 && pcidr_is_global(&shared) == 0 && pcidr_is_global(&network) == 0);
+    WANT(pcidr_is_private(&unique) == 1 && pcidr_is_private(&shared) == 0 && pcidr_is_private(&network) == 0);
+    WANT(pcidr_is_loopback(&loop) == 1 && pcidr_is_loopback(&zero) == 0 && pcidr_is_loopback(&none) == 0);
+    WANT(pcidr_is_link_local(&local) == 1 && pcidr_is_link_local(&loop) == 0);
+    WANT(pcidr_is_documentation(&book) == 1 && pcidr_is_documentation(&loop) == 0);
+    WANT(pcidr_is_unspecified(&zero) == 1 && pcidr_is_unspecified(&loop) == 0);
+    WANT(pcidr_is_multicast(&many) == 1 && pcidr_is_multicast(&local) == 0);
+}
+
+static void ranges_and_pools(void) {
+    pcidr_value first = value("10.0.0.1"), last = value("10.0.0.6"), pair = value("10.0.0.2/31"), room[4], pool[3];
+    size_t count = 77;
+    WANT(pcidr_summarize(&first, &last, room, 3, &count) == PCIDR_NO_ROOM && count == 4);
+    WANT(pcidr_summarize(&first, &last, room, 4, &count) == PCIDR_OK && count == 4);
+    WANT(is_same(room[0], first) && is_same(room[1], pair) && is_same(room[2], value("10.0.0.4/31")));
+    WANT(pcidr_summarize(&last, &first, room, 4, &count) == PCIDR_OK && count == 0);
+    WANT(pcidr_summarize(&first, &pair, room, 4, &count) == PCIDR_NO_VALUE && count == 0);
+    pool[0] = value("10.0.2.0/23"), pool[1] = value("10.0.1.64/26"), pool[2] = value("10.0.0.0/24");
+    out = mark;
+    WANT(pcidr_first_free(pool, 3, 26, &out) == PCIDR_OK && is("10.0.0.0/26"));
+    WANT(pcidr_best_free(pool, 3, 26, &out) == PCIDR_OK && is("10.0.1.64/26"));
+    WANT(pcidr_best_free(pool, 3, 22, &out) == PCIDR_NONE && is_left());
+    WANT(pcidr_first_free(pool, 3, 255, &out) == PCIDR_NONE && is_left());
+    WANT(pcidr_first_free(NULL, 0, 0, &out) == PCIDR_NONE && is_left());
+    pool[1] = none;
+    WANT(pcidr_first_free(pool, 3, 26, &out) == PCIDR_NO_VALUE && is_left());
+    pool[1] = value("2001:db8::/32");
+    WANT(pcidr_first_free(pool, 3, 32, &out) == PCIDR_OK && is("10.0.0.0/32"));
+    WANT(pcidr_first_free(pool, 3, 64, &out) == PCIDR_OK && is("2001:db8::/64"));
+}
+
+static void sets(void) {
+    pcidr_value wide = value("10.0.0.0/8"), half = value("10.0.0.0/9"), other = value("10.128.0.0/9"), room[2];
+    size_t count = 77;
+    uint32_t answer = 9;
+    WANT(pcidr_complement(&half, 1, &wide, room, 2, &count) == PCIDR_OK && count == 1 && is_same(room[0], other));
+    WANT(pcidr_complement(&wide, 1, &half, NULL, 0, &count) == PCIDR_OK && count == 0);
+    WANT(pcidr_complement(NULL, 0, &wide, NULL, 0, &count) == PCIDR_NO_ROOM && count == 1);
+    WANT(pcidr_complement(&half, 1, &none, room, 2, &count) == PCIDR_NO_VALUE && count == 1);
+    WANT(pcidr_is_subset(&none, 1, &wide, 1, &answer) == PCIDR_NO_VALUE && answer == 9);
+    WANT(pcidr_is_disjoint(&wide, 1, &none, 1, &answer) == PCIDR_NO_VALUE && answer == 9);
+    WANT(pcidr_is_subset(&half, 1, &wide, 1, &answer) == PCIDR_OK && answer == 1);
+    WANT(pcidr_is_subset(&wide, 1, &half, 1, &answer) == PCIDR_OK && answer == 0);
+    WANT(pcidr_is_subset(NULL, 0, NULL, 0, &answer) == PCIDR_OK && answer == 1);
+    WANT(pcidr_is_disjoint(&half, 1, &other, 1, &answer) == PCIDR_OK && answer == 1);
+    WANT(pcidr_is_disjoint(&half, 1, &wide, 1, &answer) == PCIDR_OK && answer == 0);
+}
+
+static void access_lists(void) {
+    pcidr_rule rules[3] = {{{0, 0, 0}, 0}, {{0, 0, 0}, 1}, {{0, 0, 0}, 7}};
+    pcidr_value room[3];
+    size_t count = 77, indexes[2] = {5, 5};
+    rules[0].network = value("10.0.0.0/9"), rules[1].network = value("10.0.0.0/8"), rules[2].network = value("10.1.0.0/16");
+    WANT(pcidr_permitted(rules, 3, room, 3, &count) == PCIDR_OK && count == 1 && is_same(room[0], value("10.128.0.0/9")));
+    WANT(pcidr_permitted(rules, 3, NULL, 0, &count) == PCIDR_NO_ROOM && count == 1);
+    WANT(pcidr_permitted(NULL, 0, room, 3, &count) == PCIDR_OK && count == 0);
+    WANT(pcidr_shadowed(rules, 3, NULL, 0, &count) == PCIDR_NO_ROOM && count == 1);
+    WANT(pcidr_shadowed(rules, 3, indexes, 2, &count) == PCIDR_OK && count == 1 && indexes[0] == 2 && indexes[1] == 5);
+    WANT(pcidr_deciding(rules, 3, &rules[1].network, indexes, 2, &count) == PCIDR_OK && count == 2 && indexes[1] == 1);
+    WANT(pcidr_deciding(rules, 3, &rules[2].network, indexes, 2, &count) == PCIDR_OK && count == 1 && indexes[0] == 0);
+    WANT(pcidr_deciding(rules, 3, &none, indexes, 2, &count) == PCIDR_NO_VALUE && count == 1);
+    indexes[0] = 2;
+    pcidr_value allowed = value("10.128.0.1"), denied = value("10.1.2.3"), other = value("11.0.0.1");
+    WANT(pcidr_permits(rules, 3, &allowed) == 1 && pcidr_permits(rules, 3, &denied) == 0);
+    WANT(pcidr_permits(rules, 3, &other) == 0 && pcidr_permits(rules, 3, &none) == 0 && pcidr_permits(NULL, 0, &allowed) == 0);
+    rules[2].network = none, count = 77;
+    WANT(pcidr_permits(rules, 3, &allowed) == 0);
+    WANT(pcidr_permitted(rules, 3, room, 3, &count) == PCIDR_NO_VALUE && count == 77);
+    WANT(pcidr_shadowed(rules, 3, indexes, 2, &count) == PCIDR_NO_VALUE && count == 77 && indexes[0] == 2);
+}
+
+int main(void) {
+    out = mark;
+    around();
+    subnets();
+    beside();
+    masks_and_names();
+    purposes();
+    ranges_and_pools();
+    sets();
+    access_lists();
+    return failures != 0;
+}

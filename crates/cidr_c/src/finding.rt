@@ -1,0 +1,87 @@
+//! What the calls of the libraries find, where C has room for it.
+ghost use Rattle.std.specs.Prelude.{◌≡◌, ◌*◌, ◌+◌, ◌^◌, IsTrue};
+ghost use Rattle.cidr_c.specs.Calls.{IsAny, IsPut, IsYesOrNo};
+ghost use Rattle.cidr_c.specs.Tables.{ipv6_number};
+ghost use Rattle.cidr_c.specs.Values.{IsAddressValue, IsIpNetworkValue, IsNetworkValue, address_in, ip_network_in, network_in};
+
+use crate::codes::{NONE, OK};
+use crate::values::{CValue, put_address, put_ip_network, put_network};
+use cidr::{AnyIpCidr, IpAddr, IpCidr};
+use cidr_arrays::Halves;
+
+/// Makes the value the network, if there is one.
+#[inline(always)]
+pub fn put_found_network(found: Option<IpCidr>, out: &mut CValue) -> u32
+    ensures { IsPut IsIpNetworkValue ip_network_in found out.old out.new result }
+{
+    let Some(network) = found else {
+        return NONE;
+    };
+    put_ip_network(&network, out);
+    OK
+}
+
+/// Makes the value the network, which may be `any`, if there is one.
+#[inline(always)]
+pub fn put_any_found(found: Option<AnyIpCidr>, out: &mut CValue) -> u32
+    ensures { IsPut IsNetworkValue network_in found out.old out.new result }
+{
+    let Some(network) = found else {
+        return NONE;
+    };
+    put_network(&network, out);
+    OK
+}
+
+/// Makes the value the address, if there is one.
+#[inline(always)]
+pub fn put_found_address(found: Option<IpAddr>, out: &mut CValue) -> u32
+    ensures { IsPut IsAddressValue address_in found out.old out.new result }
+{
+    let Some(address) = found else {
+        return NONE;
+    };
+    put_address(&address, out);
+    OK
+}
+
+/// Makes two halves the number, if there is one.
+pub fn put_number(found: Option<u128>, out: &mut Halves) -> u32
+    ensures { IsPut IsAny ipv6_number found out.old out.new result }
+{
+    let Some(number) = found else {
+        return NONE;
+    };
+    *out = Halves {
+        high: (number / (1 << 64)) as u64,
+        low: (number % (1 << 64)) as u64,
+    };
+    OK
+}
+
+/// Makes a plain number the one that was found, if there is one.
+pub fn put_plain<T: Copy>(found: Option<T>, out: &mut T) -> u32
+    ensures { IsPut IsAny (λ n. n) found out.old out.new result }
+{
+    let Some(number) = found else {
+        return NONE;
+    };
+    *out = number;
+    OK
+}
+
+/// The number of two halves.
+#[inline(always)]
+pub fn joined(high: u64, low: u64) -> u128
+    ensures { result ≡ high * 2 ^ 64 + low }
+{
+    u128::from(high) * (1 << 64) + u128::from(low)
+}
+
+/// 1 for yes and 0 for no.
+#[inline(always)]
+pub fn yes_or_no(answer: bool) -> u32
+    ensures { IsYesOrNo result (IsTrue answer) }
+{
+    u32::from(answer)
+}

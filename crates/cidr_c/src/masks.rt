@@ -1,0 +1,88 @@
+//! Masks of networks, as addresses and in strings.
+ghost use Rattle.std.specs.Prelude.{◌≡◌, ℕ};
+ghost use Rattle.cidr.specs.either.IpAddress.{address_family, plain_bits};
+ghost use Rattle.cidr.specs.either.IpNetwork.{network_family, network_prefix};
+ghost use Rattle.cidr_ext.specs.Inside.{IsHostMaskOf, IsMaskOf};
+ghost use Rattle.cidr_ext.specs.MaskText.{ReadsMaskText, host_mask_text, mask_text};
+ghost use Rattle.cidr_c.specs.Calls.{IsPrintedInto, IsRead, IsUnprinted};
+ghost use Rattle.cidr_c.specs.Codes.{mask_code};
+ghost use Rattle.cidr_c.specs.Networks.{IsLengthSought, address_bits_in, address_width_in};
+ghost use Rattle.cidr_c.specs.Values.{IsAddressValue, IsHostValue, IsIpNetworkValue, family_in, ip_network_in, prefix_in};
+
+use crate::codes::{NO_VALUE, NOT_UTF8, OK, mask_code};
+use crate::finding::put_plain;
+use crate::printing::print;
+use crate::values::{CValue, address_of, ip_network_of, put_ip_network};
+use cidr::IpCidr;
+use cidr_ext::{AddressExt, CidrMaskText};
+
+/// The prefix length of a network mask, or none where a set bit of the address follows an unset one.
+#[unsafe(no_mangle)]
+pub extern "C" fn pcidr_mask_length(address: &CValue, len: &mut u8) -> u32
+    ensures { IsLengthSought (IsAddressValue address.now)
+        ((n : ℕ) → ¬ (IsMaskOf (address_width_in address.now) n (address_bits_in address.now)))
+        (λ n. IsMaskOf (address_width_in address.now) n (address_bits_in address.now)) len.old len.new result }
+{
+    match address_of(address) {
+        Some(address) => put_plain(address.mask_length(), len),
+        None => NO_VALUE,
+    }
+}
+
+/// The prefix length of a host mask, or none where an unset bit of the address follows a set one.
+#[unsafe(no_mangle)]
+pub extern "C" fn pcidr_host_mask_length(address: &CValue, len: &mut u8) -> u32
+    ensures { IsLengthSought (IsAddressValue address.now)
+        ((n : ℕ) → ¬ (IsHostMaskOf (address_width_in address.now) n (address_bits_in address.now)))
+        (λ n. IsHostMaskOf (address_width_in address.now) n (address_bits_in address.now)) len.old len.new result }
+{
+    match address_of(address) {
+        Some(address) => put_plain(address.host_mask_length(), len),
+        None => NO_VALUE,
+    }
+}
+
+/// Writes the network of a host with its network mask, and returns the length, at most 79; 0 where the value is no host.
+#[unsafe(no_mangle)]
+pub extern "C" fn pcidr_print_with_mask(host: &CValue, out: &mut [u8]) -> usize
+    ensures host { IsHostValue host.now →
+        IsPrintedInto (mask_text (family_in host.now) (prefix_in host.now)) out.old out.new result }
+    ensures other { ¬ (IsHostValue host.now) → IsUnprinted out.old out.new result }
+{
+    match ip_network_of(host) {
+        Some(network) => print(network.to_mask_text().as_str(), out),
+        None => 0,
+    }
+}
+
+/// Writes the network of a host with its host mask, and returns the length, at most 79; 0 where the value is no host.
+#[unsafe(no_mangle)]
+pub extern "C" fn pcidr_print_with_host_mask(host: &CValue, out: &mut [u8]) -> usize
+    ensures host { IsHostValue host.now →
+        IsPrintedInto (host_mask_text (family_in host.now) (prefix_in host.now)) out.old out.new result }
+    ensures other { ¬ (IsHostValue host.now) → IsUnprinted out.old out.new result }
+{
+    match ip_network_of(host) {
+        Some(network) => print(network.to_host_mask_text().as_str(), out),
+        None => 0,
+    }
+}
+
+/// Reads a network with a network mask or a host mask in place of the prefix length: 0 and the network in `out`, or the
+/// number of the first error.
+#[unsafe(no_mangle)]
+pub extern "C" fn pcidr_read_masked_network(text: &[u8], out: &mut CValue) -> u32
+    ensures { IsRead (ReadsMaskText network_family network_prefix address_family plain_bits) mask_code
+        IsIpNetworkValue ip_network_in text.now out.old out.new result }
+{
+    let Ok(text) = str::from_utf8(text) else {
+        return NOT_UTF8;
+    };
+    match IpCidr::from_mask_text(text) {
+        Ok(network) => {
+            put_ip_network(&network, out);
+            OK
+        }
+        Err(e) => mask_code(&e),
+    }
+}

@@ -1,0 +1,41 @@
+//! Names in reverse DNS.
+ghost use Rattle.cidr_ext.specs.Reverse.{EndsAtLabel, reverse_text};
+ghost use Rattle.cidr_c.specs.Calls.{IsPrintedInto, IsUnprinted};
+ghost use Rattle.cidr_c.specs.Networks.{IsNameRead};
+ghost use Rattle.cidr_c.specs.Values.{IsHostValue, family_in, prefix_in};
+
+use crate::codes::NOT_UTF8;
+use crate::finding::put_found_network;
+use crate::printing::print;
+use crate::values::{CValue, ip_network_of};
+use cidr::IpCidr;
+use cidr_ext::CidrReverseName;
+
+/// Writes the name in reverse DNS of the network of a host, and returns its length, at most 72; 0 where its prefix length
+/// doesn't end at a label, or the value is no host.
+#[unsafe(no_mangle)]
+pub extern "C" fn pcidr_print_reverse_name(host: &CValue, out: &mut [u8]) -> usize
+    ensures named { IsHostValue host.now → EndsAtLabel (family_in host.now) (prefix_in host.now) →
+        IsPrintedInto (reverse_text (family_in host.now) (prefix_in host.now)) out.old out.new result }
+    ensures other { ¬ (IsHostValue host.now × EndsAtLabel (family_in host.now) (prefix_in host.now)) →
+        IsUnprinted out.old out.new result }
+{
+    let Some(network) = ip_network_of(host) else {
+        return 0;
+    };
+    match network.reverse_name() {
+        Some(name) => print(name.as_str(), out),
+        None => 0,
+    }
+}
+
+/// Reads a name in reverse DNS: 0 and the network that has it in `out`, or the number of the error.
+#[unsafe(no_mangle)]
+pub extern "C" fn pcidr_read_reverse_name(text: &[u8], out: &mut CValue) -> u32
+    ensures { IsNameRead text.now out.old out.new result }
+{
+    let Ok(name) = str::from_utf8(text) else {
+        return NOT_UTF8;
+    };
+    put_found_network(IpCidr::from_reverse_name(name), out)
+}

@@ -1,0 +1,43 @@
+//! Free networks of pools.
+ghost use Rattle.cidr_sets.specs.Pools.{IsBestFree, IsFirstFree};
+ghost use Rattle.cidr_table.specs.CoverAddresses.{IsIpNetworkBits};
+ghost use Rattle.cidr_c.specs.Pools.{IsFreeSought};
+
+use crate::finding::put_any_found;
+use crate::sets::set_of;
+use crate::values::CValue;
+use std::alloc::Global;
+
+/// The first network of prefix length `len` all of whose addresses are in a list of networks: 0 and the network in `out`, or
+/// the number of the error. IPv4 networks come before those of IPv6.
+#[unsafe(no_mangle)]
+pub extern "C" fn pcidr_first_free(
+    alloc: Global,
+    networks: &[CValue],
+    len: u8,
+    out: &mut CValue,
+) -> u32
+    ensures { IsFreeSought (IsFirstFree IsIpNetworkBits) networks.now len out.old out.new result }
+{
+    match set_of(alloc, networks) {
+        Ok(set) => put_any_found(set.first_free(usize::from(len) + 1), out),
+        Err(code) => code,
+    }
+}
+
+/// The first network of prefix length `len` in the smallest network of the set of a list that has one, so that what is large
+/// stays whole: 0 and the network in `out`, or the number of the error.
+#[unsafe(no_mangle)]
+pub extern "C" fn pcidr_best_free(
+    alloc: Global,
+    networks: &[CValue],
+    len: u8,
+    out: &mut CValue,
+) -> u32
+    ensures { IsFreeSought (IsBestFree IsIpNetworkBits) networks.now len out.old out.new result }
+{
+    match set_of(alloc, networks) {
+        Ok(set) => put_any_found(set.best_free(usize::from(len) + 1), out),
+        Err(code) => code,
+    }
+}

@@ -1,0 +1,212 @@
+//! What addresses are for, by the registries of IANA.
+ghost use Rattle.std.specs.Prelude.{◌≡◌, ◌⊎◌};
+ghost use Rattle.cidr.specs.model.Network.{BeginsWith};
+ghost use Rattle.cidr_ext.specs.Special.{HasNoEntry, HasPurpose, IsEntryOf, IsGlobal, multicast_of};
+ghost use Rattle.cidr_ext.specs.declared.registry.SpecialEntry.{SpecialEntry};
+ghost use Rattle.cidr_ext.specs.declared.registry.Purpose.TheVariants as purpose;
+ghost use Rattle.cidr_c.specs.Calls.{IsAny, IsSought, IsYesOrNo};
+ghost use Rattle.cidr_c.specs.Networks.{address_bits_in, address_family_in};
+ghost use Rattle.cidr_c.specs.Special.{column_code, purpose_code, special_of};
+ghost use Rattle.cidr_c.specs.Values.{IsAddressValue};
+
+use crate::codes::{NO_VALUE, NONE, OK};
+use crate::finding::yes_or_no;
+use crate::values::{CValue, address_of};
+use cidr_ext::{Purpose, SpecialAddress, SpecialEntry};
+
+/// An entry of the registries of addresses for special purposes. The columns are 0 for no, 1 for yes, and 2 where they do
+/// not apply.
+#[repr(C)]
+#[derive(Clone, Copy)]
+pub struct CSpecial {
+    /// The upper half of the first address of the block.
+    pub high: u64,
+    /// The lower half.
+    pub low: u64,
+    /// The number of the RFC.
+    pub rfc: u16,
+    /// Its prefix length.
+    pub len: u8,
+    /// What the block is for.
+    pub purpose: u8,
+    /// Whether it is valid as a source.
+    pub source: u8,
+    /// Whether it is valid as a destination.
+    pub destination: u8,
+    /// Whether routers forward it.
+    pub forwardable: u8,
+    /// Whether it is globally reachable.
+    pub globally_reachable: u8,
+    /// Whether implementations treat it in a way of its own.
+    pub reserved_by_protocol: u8,
+}
+
+/// The entry of an address, that with the longest block that contains it, or none where no block does.
+#[unsafe(no_mangle)]
+pub extern "C" fn pcidr_special_entry(address: &CValue, out: &mut CSpecial) -> u32
+    ensures { IsSought (IsAddressValue address.now)
+        (HasNoEntry (address_family_in address.now) (address_bits_in address.now)) IsAny (λ special. special)
+        (λ special. (entry : SpecialEntry) × IsEntryOf (address_family_in address.now) (address_bits_in address.now) entry
+        × (special ≡ special_of entry)) out.old out.new result }
+{
+    let Some(address) = address_of(address) else {
+        return NO_VALUE;
+    };
+    let Some(entry) = address.special_entry() else {
+        return NONE;
+    };
+    put_entry(entry, out);
+    OK
+}
+
+/// Makes the room the entry. Each field is written by itself, as those of a value are.
+fn put_entry(entry: &SpecialEntry, out: &mut CSpecial)
+    ensures { out.new ≡ special_of entry.now }
+{
+    out.high = (entry.first / (1 << 64)) as u64;
+    out.low = (entry.first % (1 << 64)) as u64;
+    out.rfc = entry.rfc;
+    out.len = entry.len;
+    out.purpose = purpose_code(entry.purpose);
+    out.source = column_code(entry.source);
+    out.destination = column_code(entry.destination);
+    out.forwardable = column_code(entry.forwardable);
+    out.globally_reachable = column_code(entry.globally_reachable);
+    out.reserved_by_protocol = column_code(entry.reserved_by_protocol);
+}
+
+/// A column of the registry as a number.
+fn column_code(column: Option<bool>) -> u8
+    ensures { result ≡ column_code column }
+{
+    match column {
+        Some(false) => 0,
+        Some(true) => 1,
+        None => 2,
+    }
+}
+
+/// What a block is for, as a number.
+fn purpose_code(purpose: Purpose) -> u8
+    ensures { result ≡ purpose_code purpose }
+{
+    match purpose {
+        Purpose::ThisNetwork => 0,
+        Purpose::Unspecified => 1,
+        Purpose::PrivateUse => 2,
+        Purpose::UniqueLocal => 3,
+        Purpose::SharedAddressSpace => 4,
+        Purpose::Loopback => 5,
+        Purpose::LinkLocal => 6,
+        Purpose::ProtocolAssignments => 7,
+        Purpose::ServiceContinuity => 8,
+        Purpose::Dummy => 9,
+        Purpose::PortControlAnycast => 10,
+        Purpose::TurnAnycast => 11,
+        Purpose::ServiceRegistrationAnycast => 12,
+        Purpose::Nat64Discovery => 13,
+        Purpose::Documentation => 14,
+        Purpose::As112 => 15,
+        Purpose::DirectAs112 => 16,
+        Purpose::MulticastTunneling => 17,
+        Purpose::SixToFourRelay => 18,
+        Purpose::SixA44Relay => 19,
+        Purpose::SixToFour => 20,
+        Purpose::Benchmarking => 21,
+        Purpose::Reserved => 22,
+        Purpose::LimitedBroadcast => 23,
+        Purpose::Ipv4Mapped => 24,
+        Purpose::Translation => 25,
+        Purpose::DiscardOnly => 26,
+        Purpose::Teredo => 27,
+        Purpose::DeprecatedOrchid => 28,
+        Purpose::OrchidV2 => 29,
+        Purpose::DroneRemoteId => 30,
+        Purpose::SegmentRouting => 31,
+    }
+}
+
+/// 1 where the value is an address that is globally reachable by the registries: it has no entry, or one that says so, and 0 where not.
+#[unsafe(no_mangle)]
+pub extern "C" fn pcidr_is_global(address: &CValue) -> u32
+    ensures { IsYesOrNo result (IsAddressValue address.now
+        × IsGlobal (address_family_in address.now) (address_bits_in address.now)) }
+{
+    match address_of(address) {
+        Some(address) => yes_or_no(address.is_global()),
+        None => 0,
+    }
+}
+
+/// 1 where the value is an address that is private (RFC 1918) or unique-local (RFC 4193), and 0 where not.
+#[unsafe(no_mangle)]
+pub extern "C" fn pcidr_is_private(address: &CValue) -> u32
+    ensures { IsYesOrNo result (IsAddressValue address.now
+        × (HasPurpose purpose.PrivateUse (address_family_in address.now) (address_bits_in address.now)
+        ⊎ HasPurpose purpose.UniqueLocal (address_family_in address.now) (address_bits_in address.now))) }
+{
+    match address_of(address) {
+        Some(address) => yes_or_no(address.is_private()),
+        None => 0,
+    }
+}
+
+/// 1 where the value is an address that is for loopback, and 0 where not.
+#[unsafe(no_mangle)]
+pub extern "C" fn pcidr_is_loopback(address: &CValue) -> u32
+    ensures { IsYesOrNo result (IsAddressValue address.now
+        × HasPurpose purpose.Loopback (address_family_in address.now) (address_bits_in address.now)) }
+{
+    match address_of(address) {
+        Some(address) => yes_or_no(address.is_loopback()),
+        None => 0,
+    }
+}
+
+/// 1 where the value is an address that is a unicast address of one link, and 0 where not.
+#[unsafe(no_mangle)]
+pub extern "C" fn pcidr_is_link_local(address: &CValue) -> u32
+    ensures { IsYesOrNo result (IsAddressValue address.now
+        × HasPurpose purpose.LinkLocal (address_family_in address.now) (address_bits_in address.now)) }
+{
+    match address_of(address) {
+        Some(address) => yes_or_no(address.is_link_local()),
+        None => 0,
+    }
+}
+
+/// 1 where the value is an address that is for documentation, and 0 where not.
+#[unsafe(no_mangle)]
+pub extern "C" fn pcidr_is_documentation(address: &CValue) -> u32
+    ensures { IsYesOrNo result (IsAddressValue address.now
+        × HasPurpose purpose.Documentation (address_family_in address.now) (address_bits_in address.now)) }
+{
+    match address_of(address) {
+        Some(address) => yes_or_no(address.is_documentation()),
+        None => 0,
+    }
+}
+
+/// 1 where the value is an address that is 0.0.0.0 or ::, and 0 where not.
+#[unsafe(no_mangle)]
+pub extern "C" fn pcidr_is_unspecified(address: &CValue) -> u32
+    ensures { IsYesOrNo result (IsAddressValue address.now
+        × HasPurpose purpose.Unspecified (address_family_in address.now) (address_bits_in address.now)) }
+{
+    match address_of(address) {
+        Some(address) => yes_or_no(address.is_unspecified()),
+        None => 0,
+    }
+}
+
+/// 1 where the value is an address that is a multicast address, and 0 where not.
+#[unsafe(no_mangle)]
+pub extern "C" fn pcidr_is_multicast(address: &CValue) -> u32
+    ensures { IsYesOrNo result (IsAddressValue address.now
+        × BeginsWith (address_bits_in address.now) (multicast_of (address_family_in address.now))) }
+{
+    match address_of(address) {
+        Some(address) => yes_or_no(address.is_multicast()),
+        None => 0,
+    }
+}
