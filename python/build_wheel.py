@@ -2,7 +2,8 @@
 """build_wheel.py OUT: puts a wheel of the module, with the library inside, into the folder OUT.
 
 The library is the one that PCIDR_LIBRARY names, or else what crates/cidr_c/build makes. Nothing but Python is used, so
-that no package has to be fetched; `pip` calls the same function, as PEP 517 says.
+that no package has to be fetched; `pip` calls the same function, as PEP 517 says. Where there is a C compiler, `cc` or
+the one that CC names, and this Python is 3.11 or later and has its header, the wheel has the extension in C, too.
 """
 from __future__ import annotations
 
@@ -54,6 +55,24 @@ def library() -> bytes:
         return Path(room, "libpcidr.so").read_bytes()
 
 
+def extension() -> bytes | None:
+    """The extension, for Python 3.11 and later, or None where it can't be compiled."""
+    python = Path(sysconfig.get_path("include"))
+    if sys.version_info < (3, 11) or not (python / "Python.h").exists():
+        return None
+    with tempfile.TemporaryDirectory() as room:
+        made = Path(room, "_fast.abi3.so")
+        words = [*os.environ.get("CC", "cc").split(), "-O2", "-shared", "-fPIC", "-I", str(python)]
+        words += ["-I", str(HERE.parent / "crates" / "cidr_c" / "include"), "-o", str(made)]
+        words += [str(HERE / "pcidr" / "_fast.c"), "-ldl"]
+        try:
+            subprocess.run(words, check=True, stdout=sys.stderr)
+        except (OSError, subprocess.CalledProcessError) as error:
+            print(f"build_wheel.py: the wheel has no extension: {error}", file=sys.stderr)
+            return None
+        return made.read_bytes()
+
+
 def module_version() -> str:
     """The version that the module has in its `__version__`."""
     found = re.search(r'^__version__ = "(.+)"$', (HERE / "pcidr" / "__init__.py").read_text(encoding="utf-8"), re.M)
@@ -66,6 +85,9 @@ def files(version: str, tag: str) -> dict[str, bytes]:
     module = [*sorted((HERE / "pcidr").glob("*.py")), HERE / "pcidr" / "py.typed"]
     made = {f"pcidr/{path.name}": path.read_bytes() for path in module}
     made["pcidr/libpcidr.so"] = library()
+    fast = extension()
+    if fast is not None:
+        made["pcidr/_fast.abi3.so"] = fast
     described = f"pcidr-{version}.dist-info"
     made[f"{described}/LICENSE"] = (HERE.parent / "LICENSE").read_bytes()
     made[f"{described}/METADATA"] = METADATA.format(version=version).encode()

@@ -1,11 +1,15 @@
-"""measure.py: times merges, look-ups of many strings and files by the module. Prints of each a line with its name and the
-least seconds of processor time that it takes of five turns."""
+"""measure.py: times calls of one value beside those of `ipaddress`, and merges, look-ups of many addresses and files by
+the module. Prints of each a line with its name and the least time of some turns: nanoseconds of a call, or seconds of
+processor time."""
+import ipaddress
 import os
 import random
 import tempfile
 import time
+import timeit
+from array import array
 
-from pcidr import NetworkSet, Table, merge
+from pcidr import Address, Network, NetworkSet, Table, merge
 
 RANDOM = random.Random(1)
 TURNS = 5
@@ -43,10 +47,41 @@ def measure(name, call):
         start = time.process_time()
         call()
         least = min(least, time.process_time() - start)
-    print(f"{name}\t{least:.2f}")
+    print(f"{name}\t{least:.3f}")
+
+
+# Calls of one value, and what they are beside.
+CALLS = {
+    'Address("10.1.2.3")': 'ipaddress.IPv4Address("10.1.2.3")',
+    'Address("2001:db8::1")': 'ipaddress.IPv6Address("2001:db8::1")',
+    'Network("10.0.0.0/8")': 'ipaddress.IPv4Network("10.0.0.0/8")',
+    "address in network": "their_address in their_network",
+    "address < other": "their_address < their_other",
+    "network.first": "their_network.network_address",
+    "network.netmask": "their_network.netmask",
+    "network.prefixlen": "their_network.prefixlen",
+    "address.packed": "their_address.packed",
+    "address + 1": "their_address + 1",
+    "str(address)": "str(their_address)",
+    'table.lookup("10.1.2.3")': None,
+    '"10.1.2.3" in held': None,
+}
+
+
+def measure_calls():
+    """Prints how long calls of one value take, and those of `ipaddress`."""
+    names = {"Address": Address, "Network": Network, "ipaddress": ipaddress}
+    names |= {"address": Address("10.1.2.3"), "other": Address("10.1.2.4"), "network": Network("10.0.0.0/8")}
+    names |= {f"their_{name}": names[name].to_ipaddress() for name in ("address", "other", "network")}
+    names |= {"table": Table({"10.0.0.0/8": 1}), "held": NetworkSet(["10.0.0.0/8"])}
+    names["table"].lookup_each(["10.1.2.3"])
+    for ours, theirs in CALLS.items():
+        least = [min(timeit.repeat(call, globals=names, number=20_000, repeat=9)) for call in (ours, theirs) if call]
+        print("\t".join([ours, *(f"{seconds / 20_000 * 1e9:.0f}" for seconds in least)]))
 
 
 def main():
+    measure_calls()
     many = [text(*network()) for _ in range(900_000)]
     measure(f"merge of 900,000 strings, of which {len(merge(many)):,} networks are left", lambda: merge(many))
     networks = [network() for _ in range(100_000)]
@@ -56,6 +91,17 @@ def main():
     held, table = NetworkSet(texts), Table(zip(texts, range(len(texts))))
     measure("NetworkSet.contains_each of 1,000,000 strings, in a set of 100,000 networks", lambda: held.contains_each(asked))
     measure("Table.lookup_each of 1,000,000 strings, in a table of 100,000 networks", lambda: table.lookup_each(asked))
+    ipv4 = [each for each in networks if each[0] == 32]
+    while len(ipv4) < 100_000:
+        ipv4 += [each for each in [network()] if each[0] == 32]
+    rows_of_ipv4 = Table((text(*chosen), place) for place, chosen in enumerate(ipv4))
+    numbers = array("I", (address(*RANDOM.choice(ipv4))[1] if i % 2 else RANDOM.getrandbits(32) for i in range(1_000_000)))
+    rows_of_ipv4.lookup_each(asked[:1])
+    measure("Table.lookup_packed of 1,000,000 numbers in an array, in a table of 100,000 IPv4 networks",
+            lambda: rows_of_ipv4.lookup_packed(numbers))
+    numbers.byteswap()
+    packed = memoryview(numbers).cast("B")
+    measure("the same of packed addresses in a memoryview", lambda: rows_of_ipv4.lookup_packed(packed))
     few = asked[:100_000]
     measure("100,000 strings one by one, whether they are in that set", lambda: [text in held for text in few])
     measure("Table.lookup of 100,000 strings one by one, in that table", lambda: list(map(table.lookup, few)))
@@ -71,6 +117,8 @@ def main():
         Table((text, b"") for text in texts).save(path)
         stored, opened = Table.open(path), NetworkSet.open(path)
         measure("lookup_each of 1,000,000 strings, in a file of 100,000 networks", lambda: stored.lookup_each(asked))
+        opening = iter([Table.open(path) for _ in range(TURNS)])
+        measure("the same of one string each, which no look-up has found before", lambda: list(map(next(opening).lookup, few)))
         measure("lookup of 100,000 strings one by one, in that file", lambda: list(map(stored.lookup, few)))
         measure("100,000 strings one by one, whether they are in the set of that file", lambda: [text in opened for text in few])
 

@@ -2,7 +2,7 @@
 from pcidr import Address, Network, NetworkSet, Table, merge
 
 network = Network("192.0.2.48/28")
-print(network.first, network.last, network.mask)  # 192.0.2.48 192.0.2.63 255.255.255.240
+print(network.first, network.last, network.netmask)  # 192.0.2.48 192.0.2.63 255.255.255.240
 print(Address("192.0.2.50") in network)  # True
 print(merge(["10.0.0.0/9", "10.128.0.0/9"]))  # ['10.0.0.0/8']
 

@@ -12,22 +12,11 @@ from bisect import bisect_left
 from collections.abc import Iterable, Sequence
 from ctypes import byref
 from itertools import accumulate
-from typing import Union
+from typing import Any, Union
 
-from pcidr._library import (
-    NO_ROOM,
-    TOO_LONG_VALUES,
-    Call,
-    File,
-    FileTable,
-    Found,
-    Value,
-    Values,
-    answers,
-    calls,
-    check,
-    message,
-)
+from pcidr._calls import Code, File, FileTable, Found, Value
+from pcidr._kinds import file_finder
+from pcidr._library import PACKED, Buffer, Call, Unpacked, Values, answers, calls, check, message
 
 Path = Union[str, "os.PathLike[str]"]
 Key = tuple[int, int]
@@ -79,12 +68,12 @@ class Part:
 
     def network(self, row: int) -> Value:
         """A row's network."""
-        tag, number = self.key(row)
-        return Value(number >> 64, number & (2**64 - 1), tag)
+        return Value(0, self._addresses[row], self.TAGS[self._lengths[row]])
 
     def value(self, row: int) -> bytes:
         """A row's value."""
-        return self._content[self._values + self._offsets[row] : self._values + self._offsets[row + 1]]
+        begin, offsets = self._values, self._offsets
+        return self._content[begin + offsets[row] : begin + offsets[row + 1]]
 
     def find(self, key: Key) -> int | None:
         """The row of exactly this network. They ascend by first address and then by length."""
@@ -107,6 +96,9 @@ class WidePart(Part):
     def key(self, row: int) -> Key:
         return self.TAGS[self._lengths[row]], self._addresses[2 * row] << 64 | self._addresses[2 * row + 1]
 
+    def network(self, row: int) -> Value:
+        return Value(self._addresses[2 * row], self._addresses[2 * row + 1], self.TAGS[self._lengths[row]])
+
     def put(self, words: memoryview, octets: memoryview) -> None:
         words[0::3], words[1::3] = self._addresses[0::2], self._addresses[1::2]
         octets[16::24] = bytes(self._lengths).translate(self.TAGS)
@@ -115,17 +107,23 @@ class WidePart(Part):
 class Stored:
     """The tables of a file, by its bytes, which never change; they may be a map, which nobody closes."""
 
-    __slots__ = ("content", "parts", "_lookup", "_has", "_opened", "_file")
+    __slots__ = ("content", "parts", "find", "_lookup", "_has", "_opened", "_file")
 
     def __init__(self, content: bytes | mmap.mmap) -> None:
         self.content, self._file = content, File()
         begin, size = _begin_of(content), len(content)
         check(calls.file_open(begin, size, byref(self._file)))
-        self._opened = [begin, size, ctypes.addressof(self._file)]
+        self._opened: list[Any] = [begin, size, self._file]
         self._lookup = calls.quick("file_lookup", self._opened)
         self._has = calls.quick("set_has", self._opened)
+        self.find = self.finder((), ())
         # by the tags of addresses
         self.parts: dict[int, Part] = {32: Part(content, self._file.ipv4), 192: WidePart(content, self._file.ipv6)}
+
+    def finder(self, ipv4: Any, ipv6: Any) -> Any:
+        """What looks up one address in C, with what has the row of a number for each family; without it None."""
+        place = ctypes.addressof(self._file)
+        return file_finder and file_finder((self.content, self._file), *self._opened[:2], place, ipv4, ipv6)
 
     def check(self) -> None:
         """Raises the error of what is no table."""
@@ -143,14 +141,24 @@ class Stored:
         check(calls.file_lookup_each(*self._opened, addresses, len(addresses), found, len(addresses)))
         return memoryview(found).cast("B").cast("I")[3::4] if len(addresses) else ()
 
+    def packed_rows(self, addresses: Buffer, version: int) -> memoryview:
+        """The same of packed addresses."""
+        asked, begin = Unpacked(addresses, version), 0
+        rows, found = memoryview(bytearray(4 * len(asked))).cast("I"), (Found * min(PACKED, len(asked)))()
+        for values, count in asked:
+            check(calls.file_lookup_each(*self._opened, values, count, found, count))
+            rows[begin : begin + count] = memoryview(found).cast("B").cast("I")[3 : 4 * count : 4]
+            begin += count
+        return rows
+
     def has(self, address: Value) -> bool:
         """Whether an address is in one of the networks."""
         return self._has(byref(address)) == 1
 
-    def has_each(self, addresses: Values) -> list[bool]:
-        """The same of many."""
-        room, out = answers("?", len(addresses))
-        check(calls.set_has_each(*self._opened, addresses, len(addresses), room, len(addresses)))
+    def has_each(self, addresses: Values, count: int) -> list[bool]:
+        """The same of the first ones of many."""
+        room, out = answers("?", count)
+        check(calls.set_has_each(*self._opened, addresses, count, room, count))
         return list(out)
 
     def networks(self) -> Values:
@@ -170,7 +178,7 @@ def _made(call: Call, networks: Values, *others: object, more: int = 0) -> bytes
     while True:
         out = (ctypes.c_char * room)()
         code = call(networks, len(networks), *others, out, room, count)
-        if code != NO_ROOM:
+        if code != Code.NO_ROOM:
             check(code)
             return ctypes.string_at(out, count.value)
         room = count.value
@@ -181,7 +189,7 @@ def file_of(networks: Values, values: Sequence[bytes]) -> bytes:
     try:
         offsets = array("I", accumulate(map(len, values), initial=0))
     except OverflowError:
-        raise ValueError(message(TOO_LONG_VALUES)) from None
+        raise ValueError(message(Code.VALUES)) from None
     held, places = b"".join(values), (ctypes.c_uint32 * len(offsets)).from_buffer(offsets)
     return _made(calls.file_write, networks, places, len(places), held, len(held), more=len(held))
 

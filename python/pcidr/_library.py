@@ -5,130 +5,34 @@ import ctypes
 import ctypes.util
 import os
 import struct
-from collections.abc import Callable, Iterable, Sequence
+from array import array as pack
+from collections.abc import Callable, Iterable, Iterator, Sequence
 from ctypes import byref
 from functools import partial
-from typing import TYPE_CHECKING, Any
+from typing import TYPE_CHECKING, Any, TypeVar
 
+from pcidr._calls import CALLS, MESSAGE_ROOM, TEXT_ROOM, Calls, Code, Halves, Value
+
+# The version of the library that the module wants.
 VERSION = (0, 3)
-TEXT_ROOM = 44
-MESSAGE_ROOM = 100
-NO_ROOM = 11
-NO_MEMORY = 12
-TOO_LONG_VALUES = 22
-NO_ROW = 2**32 - 1
 # The tags of addresses.
 ADDRESS_TAGS = {32, 192}
 # A first level of this many bits is enough for large tables.
 LEVEL_BITS = 18
+# So many packed addresses are looked up at a time, whose values stay in the nearer caches.
+PACKED = 1 << 13
 
-
-class Value(ctypes.Structure):
-    """`pcidr_value` of the header: an address, a host or a network."""
-
-    high: int
-    low: int
-    tag: int
-    _fields_ = [("high", ctypes.c_uint64), ("low", ctypes.c_uint64), ("tag", ctypes.c_uint8)]
-
-
-class Halves(ctypes.Structure):
-    """`pcidr_halves` of the header: the number of an IPv6 address."""
-
-    _fields_ = [("high", ctypes.c_uint64), ("low", ctypes.c_uint64)]
-
-
-class FileTable(ctypes.Structure):
-    """`pcidr_file_table` of the header: where the parts of a table lie in a file, and how many elements they have."""
-
-    addresses: int
-    lengths: int
-    offsets: int
-    values: int
-    values_len: int
-    rows: int
-    _fields_ = [
-        *((name, ctypes.c_size_t) for name in ("starts", "answers", "level", "addresses", "lengths", "offsets")),
-        *((name, ctypes.c_size_t) for name in ("values", "values_len")),
-        *((name, ctypes.c_uint32) for name in ("rows", "ranges", "entries", "shift")),
-    ]
-
-
-class File(ctypes.Structure):
-    """`pcidr_file` of the header: the tables of a file."""
-
-    ipv4: FileTable
-    ipv6: FileTable
-    _fields_ = [("ipv4", FileTable), ("ipv6", FileTable)]
-
-
-class Found(ctypes.Structure):
-    """`pcidr_found` of the header: a row of a file, and where its value lies."""
-
-    value: int
-    value_len: int
-    row: int
-    _fields_ = [("value", ctypes.c_size_t), ("value_len", ctypes.c_uint32), ("row", ctypes.c_uint32)]
-
-
+T = TypeVar("T", ctypes.c_size_t, Value)
 Call = Callable[..., int]
+# What has packed addresses: whatever `memoryview` takes.
+Buffer = Any
 if TYPE_CHECKING:
     Values = ctypes.Array[Value]
 else:
     Values = ctypes.Array
 
-SIZE, CODE, BYTES, TEXT = ctypes.c_size_t, ctypes.c_uint32, ctypes.c_void_p, ctypes.c_char_p
-VALUE, COUNT = ctypes.POINTER(Value), ctypes.POINTER(ctypes.c_size_t)
 # those that most strings have, as arguments
-SIZES = [SIZE.from_param(size) for size in range(TEXT_ROOM)]
-TABLE = [BYTES, SIZE, BYTES, SIZE, BYTES, SIZE, CODE]
-FILE = [BYTES, SIZE, BYTES]
-# of each call that is used here the result and the parameters
-CALLS: dict[str, tuple[Any, list[Any]]] = {
-    "read_address": (CODE, [TEXT, SIZE, VALUE]),
-    "read_host": (CODE, [TEXT, SIZE, VALUE]),
-    "read_network": (CODE, [TEXT, SIZE, VALUE]),
-    "read_lines": (CODE, [TEXT, SIZE, VALUE, SIZE, COUNT]),
-    "print_address": (SIZE, [VALUE, TEXT, SIZE]),
-    "print_host": (SIZE, [VALUE, TEXT, SIZE]),
-    "print_host_with_length": (SIZE, [VALUE, TEXT, SIZE]),
-    "print_network": (SIZE, [VALUE, TEXT, SIZE]),
-    "print_network_with_length": (SIZE, [VALUE, TEXT, SIZE]),
-    "print_lines": (CODE, [VALUE, SIZE, TEXT, SIZE, COUNT]),
-    "message": (SIZE, [CODE, TEXT, SIZE]),
-    "first_by_value": (CODE, [Value, VALUE]),
-    "last_by_value": (CODE, [Value, VALUE]),
-    "mask_by_value": (CODE, [Value, VALUE]),
-    "address_by_value": (CODE, [Value, VALUE]),
-    "network_by_value": (CODE, [Value, VALUE]),
-    "at_by_value": (CODE, [Value, ctypes.c_uint64, ctypes.c_uint64, VALUE]),
-    "contains": (CODE, [VALUE, VALUE]),
-    "compare": (CODE, [VALUE, VALUE]),
-    "compare_hosts": (CODE, [VALUE, VALUE]),
-    "cover": (CODE, [VALUE, SIZE, COUNT]),
-    "union": (CODE, [VALUE, SIZE, VALUE, SIZE, VALUE, SIZE, COUNT]),
-    "intersection": (CODE, [VALUE, SIZE, VALUE, SIZE, VALUE, SIZE, COUNT]),
-    "difference": (CODE, [VALUE, SIZE, VALUE, SIZE, VALUE, SIZE, COUNT]),
-    "symmetric_difference": (CODE, [VALUE, SIZE, VALUE, SIZE, VALUE, SIZE, COUNT]),
-    "contains_each": (CODE, [VALUE, SIZE, VALUE, SIZE, BYTES, SIZE]),
-    "longest_match_each": (CODE, [VALUE, SIZE, VALUE, SIZE, BYTES, SIZE]),
-    "table_room": (SIZE, [CODE]),
-    "ipv4_table_build": (CODE, [BYTES, SIZE, *TABLE, COUNT]),
-    "ipv6_table_build": (CODE, [BYTES, SIZE, *TABLE, COUNT]),
-    "ipv4_table_lookup": (CODE, [*TABLE, CODE, VALUE]),
-    "ipv6_table_lookup": (CODE, [*TABLE, CODE, VALUE]),
-    "ipv4_table_lookup_each": (CODE, [*TABLE, CODE, VALUE, SIZE, BYTES, SIZE]),
-    "ipv6_table_lookup_each": (CODE, [*TABLE, CODE, VALUE, SIZE, BYTES, SIZE]),
-    "check": (CODE, [VALUE]),
-    "file_open": (CODE, FILE),
-    "file_check": (CODE, [BYTES, SIZE]),
-    "file_lookup": (CODE, [*FILE, VALUE, BYTES]),
-    "file_lookup_each": (CODE, [*FILE, VALUE, SIZE, BYTES, SIZE]),
-    "file_write": (CODE, [VALUE, SIZE, BYTES, SIZE, BYTES, SIZE, BYTES, SIZE, COUNT]),
-    "set_has": (CODE, [*FILE, VALUE]),
-    "set_has_each": (CODE, [*FILE, VALUE, SIZE, BYTES, SIZE]),
-    "set_write": (CODE, [VALUE, SIZE, BYTES, SIZE, COUNT]),
-}
+SIZES = [ctypes.c_size_t.from_param(size) for size in range(TEXT_ROOM)]
 
 
 def _find() -> str:
@@ -151,19 +55,24 @@ def _check_version(version: int) -> None:
         raise ImportError(f"libpcidr.so is of version {major}.{minor}, and this module wants {VERSION[0]}.{VERSION[1]}")
 
 
-class _Calls:
+PATH = _find()
+
+
+class _Loaded(Calls):
     """The calls of the library, named as those of the header but without the `pcidr_`."""
 
     def __init__(self) -> None:
-        path = _find()
-        loaded = ctypes.CDLL(path)
+        loaded = ctypes.CDLL(PATH)
         _check_version(loaded.pcidr_version())
-        self._locked = ctypes.PyDLL(path)
+        self._locked = ctypes.PyDLL(PATH)
         for name, (result, parameters) in CALLS.items():
-            call = getattr(loaded, f"pcidr_{name}")
+            try:
+                call = getattr(loaded, f"pcidr_{name}")
+            except AttributeError as error:
+                raise ImportError(f"{PATH} lacks a call of this module: {error}") from None
             call.restype, call.argtypes = result, parameters
             setattr(self, name.removesuffix("_by_value"), call)
-        for name in ("read_address", "read_host", "read_network"):
+        for name in ("read_address", "read_host", "read_network", "read_reverse_name"):
             setattr(self, name, self.quick(name))
 
     def quick(self, name: str, arguments: Sequence[int] = ()) -> Call:
@@ -175,13 +84,8 @@ class _Calls:
         given = [kind.from_param(argument) for kind, argument in zip(parameters, arguments)]
         return partial(call, *given) if given else call
 
-    if TYPE_CHECKING:
 
-        def __getattr__(self, name: str) -> Call:
-            ...
-
-
-calls = _Calls()
+calls = _Loaded()
 
 
 def message(code: int) -> str:
@@ -193,7 +97,7 @@ def message(code: int) -> str:
 
 def check(code: int, *given: object) -> None:
     """Raises the exception of an error, which names what was given."""
-    if code == NO_MEMORY:
+    if code == Code.NO_MEMORY:
         raise MemoryError(message(code))
     if code:
         raise ValueError(": ".join([message(code), *map(repr, given)]))
@@ -203,16 +107,22 @@ def read(call: Call, text: str) -> Value:
     """The value of a string."""
     given = text.encode("utf-8", "surrogatepass")
     size, value = len(given), Value()
-    code = call(given, SIZES[size] if size < TEXT_ROOM else SIZE(size), byref(value))
+    code = call(given, SIZES[size] if size < TEXT_ROOM else ctypes.c_size_t(size), byref(value))
     if code:
         check(code, text)
     return value
 
 
-def printed(call: Call, value: Value) -> str:
-    """The string of a value."""
-    room = ctypes.create_string_buffer(TEXT_ROOM)
-    count = call(value, room, TEXT_ROOM)
+def tried(call: Call, text: str) -> tuple[int, Value]:
+    """What a call says of a string, and its value."""
+    given, value = text.encode("utf-8", "surrogatepass"), Value()
+    return call(given, len(given), value), value
+
+
+def printed(call: Call, value: Value, most: int = TEXT_ROOM) -> str:
+    """The string of a value, which is empty where it has none, with room for so many bytes."""
+    room = ctypes.create_string_buffer(most)
+    count = call(value, room, most)
     return room.raw[:count].decode()
 
 
@@ -220,6 +130,18 @@ def array(values: Iterable[Value]) -> Values:
     """An array of values."""
     listed = list(values)
     return (Value * len(listed))(*listed)
+
+
+def values_at(keys: Sequence[tuple[int, int]]) -> Values:
+    """An array of values, by their tags and the numbers of their addresses."""
+    out = (Value * len(keys))()
+    if keys:
+        octets, low = memoryview(out).cast("B"), 2**64 - 1
+        words = octets.cast("Q")
+        words[0::3] = memoryview(pack("Q", [number >> 64 for _, number in keys]))
+        words[1::3] = memoryview(pack("Q", [number & low for _, number in keys]))
+        octets[16::24] = bytes([tag for tag, _ in keys])
+    return out
 
 
 def answers(kind: str, count: int) -> tuple[ctypes.Array[ctypes.c_char], Iterable[Any]]:
@@ -232,7 +154,7 @@ def answers(kind: str, count: int) -> tuple[ctypes.Array[ctypes.c_char], Iterabl
 class Arrays:
     """The look-up table of networks of one family, in arrays that never change once they are made."""
 
-    __slots__ = ("_row", "_each", "_kept")
+    __slots__ = ("table", "_row", "_each", "_kept")
 
     def __init__(self, family: int, networks: Values, first: int, count: int) -> None:
         """The table of those from `first` on, so many, which ascend."""
@@ -245,6 +167,7 @@ class Arrays:
         build = getattr(calls, f"ipv{family}_table_build")
         check(build(at, count, ctypes.addressof(starts), room, ctypes.addressof(found), room, *behind, ranges))
         table = [ctypes.addressof(starts), ranges.value, ctypes.addressof(found), ranges.value, *behind, count]
+        self.table = tuple(table)
         self._row = calls.quick(f"ipv{family}_table_lookup", table)
         self._each = partial(getattr(calls, f"ipv{family}_table_lookup_each"), *table)
         self._kept = starts, found, level  # which the calls have by their addresses
@@ -258,6 +181,60 @@ class Arrays:
         room, out = answers("i", len(asked))
         check(self._each(asked, len(asked), room, len(asked)))
         return out
+
+    def packed_rows(self, addresses: Buffer, version: int) -> memoryview:
+        """The same of packed addresses."""
+        asked = Unpacked(addresses, version)
+        room = (ctypes.c_int32 * len(asked))()
+        place, end = ctypes.addressof(room), ctypes.addressof(room) + ctypes.sizeof(room)
+        for values, count in asked:
+            check(self._each(values, count, place, (end - place) // 4))
+            place += 4 * count
+        return memoryview(room).cast("B").cast("i") if len(asked) else memoryview(b"").cast("i")
+
+
+class Unpacked:
+    """Packed addresses of a family as values. They are bytes, the highest first, or in IPv4 also numbers as this
+    processor has them, in any memory that lies in one piece: `bytes`, an `array`, a `memoryview` or an array of numpy.
+    It is not copied as a whole."""
+
+    __slots__ = ("_octets", "_width", "_is_number")
+
+    def __init__(self, addresses: Buffer, version: int) -> None:
+        width = {4: 4, 6: 16}.get(version)
+        if width is None:
+            raise ValueError(f"no family of addresses: {version}")
+        given = memoryview(addresses)
+        order, kind = given.format[:-1], given.format[-1:]
+        is_number = kind in "IL" and given.itemsize == 4 == width
+        if not is_number and not (kind in "Bbcs" and given.itemsize in (1, width)):
+            raise TypeError(f"no packed addresses of IPv{version}: items of the format {given.format!r}")
+        # a view without items in more than one dimension can't be cast
+        self._octets, self._width = given.cast("B") if given.nbytes else memoryview(b""), width
+        self._is_number = is_number and order not in (">", "!")
+        size = len(self._octets)
+        if size % width:
+            raise ValueError(f"packed addresses of IPv{version} have {width} bytes each: {size} bytes in all")
+
+    def __len__(self) -> int:
+        return len(self._octets) // self._width
+
+    def __iter__(self) -> Iterator[tuple[Values, int]]:
+        """Some at a time: an array, which is always the same one, and how many of it."""
+        width = self._width
+        values = (Value * max(1, min(PACKED, len(self))))()
+        out = memoryview(values).cast("B")
+        out[16::24] = bytes([32 if width == 4 else 192]) * len(values)
+        for begin in range(0, len(self._octets), width * PACKED):
+            part = self._octets[begin : begin + width * PACKED]
+            count = len(part) // width
+            if self._is_number:
+                out.cast("I")[2 : 6 * count : 6] = part.cast("I")
+            else:  # of the two halves the lower one comes second, and each has its lowest byte first
+                for place in range(width):
+                    at = 11 - place if width == 4 else 7 - place if place < 8 else 23 - place
+                    out[at : 24 * count : 24] = part[place::width]
+            yield values, count
 
 
 def tags_of(values: Values) -> bytes:
@@ -296,13 +273,18 @@ def cover(values: Values) -> int:
     return count.value
 
 
+def filled(kind: type[T], room: int, call: Call, *given: object) -> ctypes.Array[T]:
+    """The array that a call writes, which says how many elements it has where there is too little room."""
+    count = ctypes.c_size_t()
+    while True:
+        out = (kind * room)()
+        code = call(*given, out, room, count)
+        if code != Code.NO_ROOM:
+            check(code)
+            return (kind * count.value).from_buffer_copy(out)
+        room = count.value
+
+
 def combined(call: Call, these: Values, those: Values) -> Values:
     """The set that a call makes of two sets."""
-    room, count = len(these) + len(those), ctypes.c_size_t()
-    while True:
-        out = (Value * room)()
-        code = call(these, len(these), those, len(those), out, room, count)
-        if code != NO_ROOM:
-            check(code)
-            return (Value * count.value).from_buffer_copy(out)
-        room = count.value
+    return filled(Value, len(these) + len(those), call, these, len(these), those, len(those))

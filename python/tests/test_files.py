@@ -83,7 +83,7 @@ class Tables(InFolder):
                 self.assertEqual(list(map(stored.lookup, asked)), table.lookup_each(asked))
                 self.assertEqual(list(map(stored.lookup, networks)), table.lookup_each(networks))
                 self.assertEqual(stored.lookup_each(networks + asked), table.lookup_each(networks + asked))
-                self.assertEqual([*map(stored.matches, asked + networks)], [*map(table.matches, asked + networks)])
+                self.assertEqual([*map(stored.covering, asked + networks)], [*map(table.covering, asked + networks)])
                 self.assertEqual([*map(stored.get, networks)], [*map(table.get, networks)])
                 self.assertEqual((len(stored), list(stored), list(stored.values())), (len(table), [*table], [*table.values()]))
                 self.assertEqual(stored.lookup_each([]), [])
@@ -110,7 +110,7 @@ class Tables(InFolder):
         table = near_table(200)
         asked = around(table)
         stored, wanted = self.opened(self.saved(table)), table.lookup_each(asked)
-        with mock.patch.object(pcidr._KeptRows, "MOST", 5):
+        with mock.patch.object(pcidr._tables._KeptRows, "MOST", 5):
             for _ in range(3):
                 self.assertEqual(stored.lookup_each(asked), wanted)
                 self.assertEqual([*map(stored.lookup, asked)], wanted)
@@ -187,7 +187,7 @@ class Wrong(InFolder):
                 return ValueError
 
         answers = [answer(stored.lookup, address) for address in self.asked]
-        for other in (stored.lookup_each, stored.get, stored.matches):
+        for other in (stored.lookup_each, stored.get, stored.covering):
             answer(other, self.asked if other == stored.lookup_each else RANDOM.choice(self.asked))
         answer(list, stored.items())
         answer(list, NetworkSet.open(self.path, check=False))

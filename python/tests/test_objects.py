@@ -62,10 +62,19 @@ class Values(unittest.TestCase):
         with self.assertRaises(ValueError):
             Network(ipaddress.ip_interface("10.0.0.5/8"))
 
+    def test_bytes_whose_length_is_said_wrong(self):
+        class Other(bytearray):
+            def __len__(self):
+                return 4
+
+        self.assertEqual(Address(Other(bytes(15) + b"\1")), Address("::1"))
+        with self.assertRaises(ValueError):
+            Address(Other(bytes(5)))
+
     def test_wrong_types(self):
-        for wrong in (5, None, b"::1", ["::1"], object()):
+        for wrong in (5, None, b"::1", ["::1"], object(), ("::1",)):
             for kind in (Address, Host, Network):
-                with self.assertRaises(TypeError):
+                with self.assertRaises(ValueError if wrong == b"::1" else TypeError):
                     kind(wrong)
             with self.assertRaises(TypeError):
                 wrong in Network("any")
@@ -73,6 +82,62 @@ class Values(unittest.TestCase):
             Host("10.0.0.0/8") in Network("10.0.0.0/8")
         with self.assertRaises(TypeError):
             ipaddress.ip_interface("10.0.0.0/8") in Network("10.0.0.0/8")
+
+    def test_a_class_below_without_its_init(self):
+        class Left(Network):
+            def __init__(self):
+                pass
+
+        network = Network("10.0.0.0/8")
+        for call in (lambda: "10.0.0.1" in Left(), lambda: Left() in network, lambda: Left() == Network("0.0.0.0/0")):
+            try:
+                self.assertFalse(call())
+            except AttributeError:  # without the extension
+                pass
+        table = Table({"any": 1})
+        for call in (lambda: table.lookup(Left()), lambda: table.setdefault(Left(), 2), lambda: NetworkSet([Left()])):
+            with self.assertRaises(AttributeError):
+                call()
+        self.assertEqual(table, Table({"any": 1}))
+
+    def test_numbers_of_other_classes(self):
+        """Whatever has `__index__` is a number, and one without, as a float, is none."""
+
+        class Three:
+            def __index__(self):
+                return 3
+
+        network, pool = Network("10.0.0.0/24"), NetworkSet(["0.0.0.0/0"])
+        self.assertEqual(network[Three()], Address("10.0.0.3"))
+        self.assertEqual(network.supernet(Three()), Network("10.0.0.0/21"))
+        self.assertEqual(network.supernet(new_prefix=Three()), Network("0.0.0.0/3"))
+        self.assertEqual(list(network.subnets(Three()))[1], Network("10.0.0.32/27"))
+        self.assertEqual(Address.from_int(Three(), 6), Address("::3"))
+        self.assertEqual(pool.first_free(Three()), Network("0.0.0.0/3"))
+        for wrong in (1.5, 1.0, "1", None, slice(1)):
+            for call in (
+                lambda: network[wrong],
+                lambda: network.supernet(wrong),
+                lambda: network.subnets(wrong),
+                lambda: network.supernet(new_prefix=wrong) if wrong is not None else 1 + wrong,
+                lambda: Address.from_int(wrong, 4),
+                lambda: pool.best_free(wrong),
+                lambda: Address("::") + wrong,
+            ):
+                with self.assertRaises(TypeError):
+                    call()
+
+    def test_integers_of_a_class_below(self):
+        class Odd(int):
+            def __abs__(self):
+                return "odd"
+
+            def __neg__(self):
+                return 7
+
+        for count in (5, 2**63, 2**64, 2**70, 2**127):
+            self.assertEqual(int(Address("::") + Odd(count)), count)
+            self.assertEqual(int(Address.from_int(2**128 - 1, 6) - Odd(count)), 2**128 - 1 - count)
 
     def test_one_where_a_list_is_wanted(self):
         sets = NetworkSet().contains_each, NetworkSet().isdisjoint
@@ -154,8 +219,8 @@ class Tables(unittest.TestCase):
             self.assertEqual([table.lookup(text) for text in asked], table.lookup_each(asked))
             for text in asked:
                 wanted = [row for row in table.items() if text in row[0]]
-                wanted.sort(key=lambda row: -1 if row[0].length is None else row[0].length, reverse=True)
-                self.assertEqual(table.matches(text), wanted)
+                wanted.sort(key=lambda row: -1 if row[0].prefixlen is None else row[0].prefixlen, reverse=True)
+                self.assertEqual(table.covering(text), wanted)
 
     def test_the_calls_of_a_dict(self):
         table = Table({"10.0.0.0/8": 1, "::/0": None})

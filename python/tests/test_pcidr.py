@@ -34,13 +34,13 @@ class Values(unittest.TestCase):
             theirs = random_network()
             ours = Network(str(theirs))
             self.assertEqual(str(ours), long_text(theirs))
-            self.assertEqual(ours.with_length, str(theirs))
+            self.assertEqual(ours.with_prefixlen, str(theirs))
             self.assertEqual(str(ours.first), str(theirs[0]))
             self.assertEqual(str(ours.last), str(theirs[-1]))
-            self.assertEqual(str(ours.mask), str(theirs.netmask))
-            self.assertEqual(ours.length, theirs.prefixlen)
-            self.assertEqual(ours.family, theirs.version)
-            self.assertEqual(ours.count, theirs.num_addresses)
+            self.assertEqual(str(ours.netmask), str(theirs.netmask))
+            self.assertEqual(ours.prefixlen, theirs.prefixlen)
+            self.assertEqual(ours.version, theirs.version)
+            self.assertEqual(ours.num_addresses, theirs.num_addresses)
             place = RANDOM.randrange(theirs.num_addresses)
             self.assertEqual(str(ours[place]), str(theirs[place]))
             self.assertEqual(int(ours[place]), int(theirs[place]))
@@ -51,10 +51,10 @@ class Values(unittest.TestCase):
             address = network[RANDOM.randrange(network.num_addresses)]
             theirs = ipaddress.ip_interface(f"{address}/{network.prefixlen}")
             ours = Host(str(theirs))
-            self.assertEqual(str(ours.address), str(theirs.ip))
+            self.assertEqual(str(ours.ip), str(theirs.ip))
             self.assertEqual(ours.network, Network(str(theirs.network)))
-            self.assertIn(ours.address, ours.network)
-            self.assertEqual(ours.with_length, str(theirs))
+            self.assertIn(ours.ip, ours.network)
+            self.assertEqual(ours.with_prefixlen, str(theirs))
             self.assertEqual(str(ours), long_text(theirs.network) if theirs.network.num_addresses == 1 else str(theirs))
 
     def test_strings_that_are_none(self):
@@ -94,7 +94,7 @@ class Values(unittest.TestCase):
                   [random_network() for _ in range(200)] + near_networks(100)]
         ours = sorted(Host(str(host)) for host in theirs)
         wanted = sorted(theirs, key=lambda host: (host.version, int(host.ip), host.network.prefixlen))
-        self.assertEqual([host.with_length for host in ours], list(map(str, wanted)))
+        self.assertEqual([host.with_prefixlen for host in ours], list(map(str, wanted)))
         self.assertLess(Host("10.0.0.0"), Host("10.0.0.1/8"))
 
     def test_containment(self):
@@ -153,7 +153,7 @@ class Sets(unittest.TestCase):
             self.assertEqual(addresses(one ^ other), mine ^ theirs)
             self.assertEqual(one <= other, mine <= theirs)
             self.assertEqual(one == other, mine == theirs)
-            self.assertEqual(one.count, len(mine))
+            self.assertEqual(one.size, len(mine))
             asked = [f"192.0.2.{i}" for i in range(256)]
             self.assertEqual(one.contains_each(asked), [address in mine for address in asked])
             self.assertEqual("192.0.2.7" in one, "192.0.2.7" in mine)
@@ -161,7 +161,7 @@ class Sets(unittest.TestCase):
     def test_a_difference_may_have_more_networks(self):
         rest = NetworkSet(["::/0"]) - NetworkSet(["::1"])
         self.assertEqual(len(rest), 128)
-        self.assertEqual(rest.count, 2**128 - 1)
+        self.assertEqual(rest.size, 2**128 - 1)
         self.assertEqual(rest | NetworkSet(["::1"]), NetworkSet(["::/0"]))
 
 
@@ -186,7 +186,7 @@ class Tables(unittest.TestCase):
         for rows in (names, names[1:], names[1:3], names[3:], names[:1], []):
             for asked in (four, six, [*four, *six], ["::ffff:10.1.2.3"]):
                 table = Table((name, name) for name in rows)
-                wanted = [next(iter(table.matches(text)), None) for text in asked]
+                wanted = [next(iter(table.covering(text)), None) for text in asked]
                 self.assertIsNone(table._snapshot)
                 for _ in range(len(rows) + 2):
                     self.assertEqual([table.lookup(text) for text in asked], wanted)

@@ -14,7 +14,7 @@ import weakref
 from unittest import mock
 
 import pcidr
-from pcidr import Network, Table
+from pcidr import MutableNetworkSet, Network, Table
 
 PATIENCE = 20  # seconds, after which a thread counts as stuck
 ASKED = "10.1.2.3"
@@ -26,7 +26,7 @@ def rows():
 
 def lookups(table):
     """What the three ways to look up say, which must agree."""
-    one, (each,), many = table.lookup(ASKED), table.lookup_each([ASKED]), table.matches(ASKED)
+    one, (each,), many = table.lookup(ASKED), table.lookup_each([ASKED]), table.covering(ASKED)
     assert one == each == (many[0] if many else None), (one, each, many)
     assert dict(table.items()) == {network: table[network] for network in table}
     return None if one is None else one[1]
@@ -35,11 +35,11 @@ def lookups(table):
 class AtOpcode:
     """A trace function that calls `act` once, before one opcode of those that the module executes, counted from 0."""
 
-    def __init__(self, place, act):
-        self.place, self.act, self.done = place, act, False
+    def __init__(self, place, act, path=pcidr._tables.__file__):
+        self.place, self.act, self.path, self.done = place, act, path, False
 
     def __call__(self, frame, event, argument):
-        if frame.f_code.co_filename != pcidr.__file__:
+        if frame.f_code.co_filename != self.path:
             return None
         frame.f_trace_opcodes = True
         if event == "opcode" and not self.done:
@@ -76,7 +76,7 @@ def at_each_opcode(test, operation, act, outdated=False):
 
 
 def another_lock():
-    return mock.patch.object(pcidr, "_changing", type(pcidr._changing)())
+    return mock.patch.object(pcidr._tables, "_changing", type(pcidr._tables._changing)())
 
 
 def change(table):
@@ -113,7 +113,7 @@ class Interleaved(unittest.TestCase):
             lambda table: table.lookup(ASKED)[1]: ("old", "new"),
             lambda table: (setattr(table, "_looks", 9), table.lookup(ASKED)[1])[1]: ("old", "new"),
             lambda table: table.lookup_each([ASKED])[0][1]: ("old", "new"),
-            lambda table: [value for _, value in table.matches(ASKED)]: (["old", "wide"], ["new", "wide"]),
+            lambda table: [value for _, value in table.covering(ASKED)]: (["old", "wide"], ["new", "wide"]),
             lambda table: [value for _, value in table.items()][:2]: (["wide", "old"], ["wide", "new"]),
         }
         for look, wanted in looks.items():
@@ -225,7 +225,7 @@ class Interleaved(unittest.TestCase):
     def nested(self):
         """A change within a change, as a handler of a signal makes it."""
         def both():
-            with pcidr._changing:
+            with pcidr._tables._changing:
                 change(table)
 
         table = rows()
@@ -279,6 +279,41 @@ class Interrupted(unittest.TestCase):
             for outdated in (False, True):
                 for table, _ in at_each_opcode(self, look, interrupt, outdated):
                     self.assertEqual(lookups(table), "old")
+
+
+class OfSets(unittest.TestCase):
+    """A set that changes, with an interrupt or another change before each opcode of a change."""
+
+    def at_each(self, act):
+        """Sets with 10.0.0.0/8, each after 192.0.2.0/24 was added and `act` called once meanwhile."""
+        sys._getframe().f_trace_opcodes = True
+        for place in itertools.count():
+            held, before = MutableNetworkSet(["10.0.0.0/8"]), sys.gettrace()
+            hook = AtOpcode(place, lambda: act(held), pcidr._sets.__file__)
+            sys.settrace(hook)
+            try:
+                held.add("192.0.2.0/24")
+            except KeyboardInterrupt:
+                pass
+            finally:
+                sys.settrace(before)
+            if not hook.done:
+                break
+            yield held
+        self.assertGreater(place, 8, "the hook sees no opcodes")
+
+    def test_an_interrupt(self):
+        seen = set()
+        for held in self.at_each(interrupt):
+            self.assertEqual(("10.1.2.3" in held, "192.0.2.7" in held), (True, len(held) == 2))
+            seen.add(len(held))
+            held.remove("10.0.0.0/9")
+            self.assertIn("10.128.0.0/9", held)
+        self.assertEqual(seen, {1, 2})
+
+    def test_a_change_within_a_change(self):
+        for held in self.at_each(lambda held: held.add("2001:db8::/32")):
+            self.assertEqual(held.to_strings(), ["10.0.0.0/8", "192.0.2.0/24", "2001:db8::/32"])
 
 
 class Signals(unittest.TestCase):
@@ -342,7 +377,7 @@ class Threads(unittest.TestCase):
         looks = (
             lambda: table.lookup(ASKED)[1],
             lambda: table.lookup_each([ASKED])[0][1],
-            lambda: next(value for _, value in table.matches(ASKED)),
+            lambda: next(value for _, value in table.covering(ASKED)),
             lambda: [*table.values()][-2],  # before that of ::/0
         )
         wanted = ("wide", "/16", "/24", "/25")
@@ -364,14 +399,14 @@ class Threads(unittest.TestCase):
 
     def hooked(self, table, call):
         """What the first look-up of a table returns, where another thread makes a call while the rows are listed."""
-        real, results = pcidr.array, []
+        real, results = pcidr._tables.values_at, []
 
-        def array(values):
-            with mock.patch.object(pcidr, "array", real):
+        def values_at(keys):
+            with mock.patch.object(pcidr._tables, "values_at", real):
                 results.append(in_thread(self, call))
-            return real(values)
+            return real(keys)
 
-        with mock.patch.object(pcidr, "array", array):
+        with mock.patch.object(pcidr._tables, "values_at", values_at):
             first = table.lookup_each([ASKED])[0][1]
         self.assertEqual(len(results), 1)
         return first, results[0]
@@ -389,11 +424,11 @@ class Threads(unittest.TestCase):
 
     def test_a_look_up_does_not_wait_for_a_writer(self):
         table = rows()
-        with pcidr._changing:
+        with pcidr._tables._changing:
             self.assertEqual(in_thread(self, lambda: table.lookup(ASKED)[1]), "old")
-            self.assertEqual(in_thread(self, lambda: len(table.matches(ASKED))), 2)
+            self.assertEqual(in_thread(self, lambda: len(table.covering(ASKED))), 2)
         lookups(table)
-        with pcidr._changing:
+        with pcidr._tables._changing:
             self.assertEqual(in_thread(self, lambda: lookups(table)), "old")
 
     def test_what_changes_or_lists_rows_waits_for_a_writer(self):
@@ -407,7 +442,7 @@ class Threads(unittest.TestCase):
         for name, call in calls.items():
             table = rows()
             before = dict(table._rows)
-            with pcidr._changing:
+            with pcidr._tables._changing:
                 thread = threading.Thread(target=call, args=(table,), daemon=True)
                 thread.start()
                 thread.join(0.05)
@@ -449,7 +484,7 @@ class Threads(unittest.TestCase):
         for drop in drops:
             done = []
             # A slow reader has left the rows of an earlier version.
-            table._snapshot = pcidr._Snapshot(object(), ((Network("any"), Value()),), pcidr.array(()))
+            table._snapshot = pcidr._tables._Snapshot(object(), ((Network("any"), Value()),), pcidr._tables.values_at([]))
             drop(table)
             self.assertEqual(done, [None])
 

@@ -1,0 +1,134 @@
+#!/usr/bin/env python3
+"""make_calls.py [--check]: writes pcidr/_calls.py, the stubs of the calls, from the header of the library for C. With
+--check it writes nothing, and prints each line of that file which the header has otherwise or has no more."""
+from __future__ import annotations
+
+import re
+import sys
+from pathlib import Path
+
+HERE = Path(__file__).resolve().parent
+HEADER = HERE.parent / "crates" / "cidr_c" / "include" / "pcidr.h"
+MADE = HERE / "pcidr" / "_calls.py"
+SCALARS = {f"uint{bits}_t": f"c_uint{bits}" for bits in (8, 16, 32, 64)} | {"size_t": "c_size_t"}
+LIMITS = {"UINT32_MAX": "0xFFFFFFFF", "SIZE_MAX": "0xFFFFFFFFFFFFFFFF"}
+HEAD = '''\
+"""The numbers, structs and calls of `pcidr.h`, which `make_calls.py` writes from it."""
+from __future__ import annotations
+
+from collections.abc import Callable
+from ctypes import POINTER, Structure, c_char_p, c_size_t, c_uint8, c_uint16, c_uint32, c_uint64, c_void_p
+from enum import IntEnum
+from typing import Any
+'''
+
+
+def without_comments(header: str) -> str:
+    return re.sub(r"/\*.*?\*/", "", header, flags=re.S)
+
+
+def class_name(struct: str) -> str:
+    """`FileTable` of `pcidr_file_table`."""
+    return "".join(word.capitalize() for word in struct.removeprefix("pcidr_").split("_"))
+
+
+def kind_of(declared: str) -> str:
+    """The type of `ctypes` for a type of C that is no pointer."""
+    return SCALARS.get(declared) or class_name(declared)
+
+
+def numbers(header: str) -> list[str]:
+    """The constants that the header defines."""
+    found = re.findall(r"^#define PCIDR_(\w+) (0x[0-9a-f]+u?|[0-9]+|UINT32_MAX|SIZE_MAX)$", header, re.M)
+    return [f"{name} = {LIMITS.get(number, number.rstrip('u'))}" for name, number in found]
+
+
+def enums(header: str) -> list[list[str]]:
+    """The enums: the one of the errors, and those whose names begin with a word of their own."""
+    made = []
+    for body in re.findall(r"^enum \{(.*?)\};", header, re.M | re.S):
+        found = re.findall(r"PCIDR_(\w+) = (\d+)", body)
+        word = "" if found[0][0] == "OK" else found[0][0].split("_")[0]
+        name = word.capitalize() if word else "Code"
+        about = f"`PCIDR_{word}_..`." if word else "What calls return: `OK`, or the error."
+        lines = [f"    {each.removeprefix(f'{word}_')} = {number}" for each, number in found]
+        made.append([f"class {name}(IntEnum):", f'    """{about}"""', "", *lines])
+    return made
+
+
+def structs(header: str) -> list[list[str]]:
+    """The structs that have no pointer in them, which are those that calls take."""
+    made = []
+    for name, body in re.findall(r"^typedef struct (\w+) \{(.*?)\} \w+;", header, re.M | re.S):
+        fields = re.findall(r"(\w+) (\*?)(\w+);", body)
+        if any(star for _, star, _ in fields):
+            continue
+        lines = [f"class {class_name(name)}(Structure):", f'    """`{name}`."""', ""]
+        lines += [f"    {field}: {'int' if kind in SCALARS else class_name(kind)}" for kind, _, field in fields]
+        typed = [f'("{field}", {kind_of(kind)})' for kind, _, field in fields]
+        whole = f"    _fields_ = [{', '.join(typed)}]"
+        apart = ["    _fields_ = [", *(f"        {each}," for each in typed), "    ]"]
+        lines += [whole] if len(whole) <= 120 else apart
+        made.append(lines)
+    return made
+
+
+def parameter_of(declared: str, following: str) -> str:
+    """The type of `ctypes` for a parameter: an array, which has its length behind it, is any memory."""
+    kind, star, name = re.fullmatch(r"(?:const )?(\w+) (\*?)(\w+)", declared).groups()  # type: ignore[union-attr]
+    if not star:
+        return kind_of(kind)
+    if kind == "char":
+        return "c_char_p"
+    return "c_void_p" if following.endswith(f" {name}_len") else f"POINTER({kind_of(kind)})"
+
+
+def calls(header: str) -> dict[str, tuple[str, list[str]]]:
+    """Of each call the result and the parameters."""
+    made = {}
+    for result, name, listed in re.findall(r"^(\w+) pcidr_(\w+)\(([^()]*)\);", header, re.M):
+        parameters = [" ".join(each.split()) for each in listed.split(",") if each.strip() != "void"]
+        following = [*parameters[1:], ""]
+        made[name] = kind_of(result), [parameter_of(*both) for both in zip(parameters, following)]
+    return made
+
+
+def wrapped(line: str, parts: list[str]) -> list[str]:
+    """A line that ends in a list, which is one line or has one for each part."""
+    whole = f"{line}[{', '.join(parts)}]),"
+    return [whole] if len(whole) <= 120 else [f"{line}[", *(f"        {part}," for part in parts), "    ]),"]
+
+
+def stubs(header: str) -> str:
+    """The whole file."""
+    bare, made = without_comments(header), calls(without_comments(header))
+    table = ["# of each call the result and the parameters", "CALLS: dict[str, tuple[Any, list[Any]]] = {"]
+    for name, (result, parameters) in made.items():
+        table += wrapped(f'    "{name}": ({result}, ', parameters)
+    typed = ["class Calls:", '    """The calls, without the `_by_value` behind some names."""', ""]
+    for name, (_, parameters) in made.items():
+        given = ", ".join("int" if kind in SCALARS.values() else "Any" for kind in parameters)
+        typed.append(f"    {name.removesuffix('_by_value')}: Callable[[{given}], int]")
+    parts = [*enums(bare), *structs(bare), [*table, "}"], typed]
+    return "\n\n\n".join(["\n".join([HEAD, *numbers(bare)]), *("\n".join(part) for part in parts)]) + "\n"
+
+
+def joined(stubs: str) -> list[str]:
+    """The lines of the file, of which one has the whole list of a call or a struct, whose order counts."""
+    return re.sub(r"\[\n[^]]*\]", lambda found: " ".join(found[0].split()), stubs).split("\n")
+
+
+def main() -> None:
+    made = stubs(HEADER.read_text(encoding="utf-8"))
+    if sys.argv[1:] != ["--check"]:
+        MADE.write_text(made, encoding="utf-8")
+        return
+    theirs = set(joined(made))
+    wrong = [line for line in joined(MADE.read_text(encoding="utf-8")) if line not in theirs]
+    for line in wrong:
+        print(f"pcidr/_calls.py: pcidr.h has no such line: {line.strip()}")
+    sys.exit(1 if wrong else 0)
+
+
+if __name__ == "__main__":
+    main()

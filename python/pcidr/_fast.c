@@ -1,0 +1,756 @@
+/* What addresses, hosts and networks have of the library, as `_shown.py` has it by `ctypes`: each call passes values to
+ * libpcidr, and has no logic of its own. For the stable ABI from Python 3.11 on.
+ *
+ * `connect` loads the library, and `register` says what the module's classes and functions are.
+ *
+ * What the header of a later Python makes of it runs by 3.11, too: so None and NotImplemented are returned by `Py_NewRef`,
+ * since the macros for it add no reference there, and no format has a `#`, whose sizes are ints then. */
+#define Py_LIMITED_API 0x030b0000
+#include <Python.h>
+#include <dlfcn.h>
+#include <string.h>
+
+#include "pcidr.h"
+
+typedef uint32_t (*reader)(const char *, size_t, pcidr_value *);
+typedef size_t (*printer)(const pcidr_value *, char *, size_t);
+typedef uint32_t (*comparer)(const pcidr_value *, const pcidr_value *);
+typedef uint32_t (*part)(pcidr_value, pcidr_value *);
+
+/* Which calls are those of addresses, of hosts and of networks. */
+typedef struct {
+    reader read;
+    printer print;
+    comparer compare;
+} kind;
+
+static kind addresses, hosts, networks;
+static comparer contains;
+static part first_part, last_part, mask_part, host_mask_part, address_part, network_part;
+static uint32_t (*step_up)(pcidr_value, uint64_t, uint64_t, pcidr_value *);
+static uint32_t (*step_down)(pcidr_value, uint64_t, uint64_t, pcidr_value *);
+
+/* Of the module: the classes, `Value` of `ctypes`, and what is called where there is no quick way. */
+static PyObject *address_class, *network_class, *value_class, *check_code, *network_value, *counts;
+
+typedef struct {
+    PyObject_HEAD
+    pcidr_value value;
+} shown;
+
+static PyTypeObject *shown_type;
+
+/* The interpreter that all of these are of. There is one of each, and others do without this module. */
+static int64_t owner = -1;
+
+static int is_owned(void) {
+    int64_t asking = PyInterpreterState_GetID(PyInterpreterState_Get());
+    if (owner < 0) owner = asking;
+    if (owner == asking) return 1;
+    PyErr_SetString(PyExc_ImportError, "pcidr._fast is of another interpreter");
+    return 0;
+}
+
+static pcidr_value *value_in(PyObject *self) {
+    return &((shown *)self)->value;
+}
+
+/* A new object of a class with a value. */
+static PyObject *made_of(PyObject *class, const pcidr_value *value) {
+    PyObject *made = PyType_GenericAlloc((PyTypeObject *)class, 0);
+    if (made) *value_in(made) = *value;
+    return made;
+}
+
+/* Copies the value out of a `Value` of `ctypes`. */
+static int copied(PyObject *given, pcidr_value *value) {
+    Py_buffer buffer;
+    if (PyObject_GetBuffer(given, &buffer, PyBUF_SIMPLE)) return -1;
+    int is_value = buffer.len == (Py_ssize_t)sizeof *value;
+    if (is_value) memcpy(value, buffer.buf, sizeof *value);
+    PyBuffer_Release(&buffer);
+    if (!is_value) PyErr_SetString(PyExc_TypeError, "no value of the library");
+    return is_value ? 0 : -1;
+}
+
+/* Raises the exception of an error, which names what was given. */
+static int raised(uint32_t code, PyObject *given) {
+    PyObject *none = PyObject_CallFunction(check_code, "IO", (unsigned)code, given);
+    Py_XDECREF(none);
+    return -1;
+}
+
+/* Reads a string. Half of a pair, which UTF-8 does not have, is passed on for the library to refuse. */
+static int read_string(reader read, PyObject *given, pcidr_value *value) {
+    Py_ssize_t size;
+    const char *text = PyUnicode_AsUTF8AndSize(given, &size);
+    if (text) {
+        uint32_t code = read(text, (size_t)size, value);
+        return code ? raised(code, given) : 0;
+    }
+    PyErr_Clear();
+    PyObject *bytes = PyUnicode_AsEncodedString(given, "utf-8", "surrogatepass");
+    char *begin;
+    if (!bytes) return -1;
+    if (PyBytes_AsStringAndSize(bytes, &begin, &size)) {
+        Py_DECREF(bytes);
+        return -1;
+    }
+    uint32_t code = read(begin, (size_t)size, value);
+    Py_DECREF(bytes);
+    return code ? raised(code, given) : 0;
+}
+
+/* ---- what all have alike */
+
+/* A tag of no value, which `__init__` replaces: a class below that leaves it out has no network of all addresses. */
+enum { NO_TAG = 63 };
+
+static PyObject *shown_new(PyTypeObject *type, PyObject *arguments, PyObject *named) {
+    (void)arguments, (void)named;
+    PyObject *made = PyType_GenericAlloc(type, 0);
+    if (made) value_in(made)->tag = NO_TAG;
+    return made;
+}
+
+static void shown_dealloc(PyObject *self) {
+    PyTypeObject *type = Py_TYPE(self);
+    ((freefunc)PyType_GetSlot(type, Py_tp_free))(self);
+    Py_DECREF(type);
+}
+
+static Py_hash_t shown_hash(PyObject *self) {
+    pcidr_value *value = value_in(self);
+    PyObject *key = Py_BuildValue("(BKK)", value->tag, (unsigned long long)value->high, (unsigned long long)value->low);
+    if (!key) return -1;
+    Py_hash_t hash = PyObject_Hash(key);
+    Py_DECREF(key);
+    return hash;
+}
+
+static PyObject *shown_value(PyObject *self, void *unused) {
+    (void)unused;
+    pcidr_value *value = value_in(self);
+    if (value->tag == NO_TAG) return PyErr_Format(PyExc_AttributeError, "no __init__ has set the value");
+    return PyObject_CallFunction(value_class, "KKB", (unsigned long long)value->high, (unsigned long long)value->low,
+                                 value->tag);
+}
+
+static PyObject *shown_of(PyObject *class, PyObject *given) {
+    pcidr_value value;
+    return copied(given, &value) ? NULL : made_of(class, &value);
+}
+
+static PyObject *shown_become(PyObject *self, PyObject *given) {
+    if (copied(given, value_in(self))) return NULL;
+    return Py_NewRef(Py_None);
+}
+
+static PyObject *shown_version(PyObject *self, void *unused) {
+    (void)unused;
+    uint8_t tag = value_in(self)->tag;
+    if (tag == 255) return Py_NewRef(Py_None);
+    return PyLong_FromLong(tag < 64 ? 4 : 6);
+}
+
+static PyObject *shown_prefixlen(PyObject *self, void *unused) {
+    (void)unused;
+    uint8_t tag = value_in(self)->tag;
+    if (tag == 255) return Py_NewRef(Py_None);
+    return PyLong_FromLong(tag < 64 ? tag : tag - 64);
+}
+
+static PyObject *shown_max_prefixlen(PyObject *self, void *unused) {
+    (void)unused;
+    uint8_t tag = value_in(self)->tag;
+    if (tag == 255) return Py_NewRef(Py_None);
+    return PyLong_FromLong(tag < 64 ? 32 : 128);
+}
+
+/* A part of a value, by a call of the library. */
+static PyObject *part_of(PyObject *self, part call, PyObject *class) {
+    pcidr_value out;
+    uint32_t code = call(*value_in(self), &out);
+    if (!code) return made_of(class, &out);
+    raised(code, self);
+    return NULL;
+}
+
+static PyObject *shown_first(PyObject *self, void *unused) {
+    (void)unused;
+    return part_of(self, first_part, address_class);
+}
+
+static PyObject *shown_last(PyObject *self, void *unused) {
+    (void)unused;
+    return part_of(self, last_part, address_class);
+}
+
+static PyObject *shown_netmask(PyObject *self, void *unused) {
+    (void)unused;
+    return part_of(self, mask_part, address_class);
+}
+
+static PyObject *shown_hostmask(PyObject *self, void *unused) {
+    (void)unused;
+    return part_of(self, host_mask_part, address_class);
+}
+
+/* The address that a call of the module makes of the value. */
+static PyObject *shown_part(PyObject *self, PyObject *call) {
+    PyObject *given = shown_value(self, NULL), *out = given ? PyObject_CallNoArgs(value_class) : NULL;
+    PyObject *code = out ? PyObject_CallFunctionObjArgs(call, given, out, NULL) : NULL;
+    PyObject *none = code ? PyObject_CallFunctionObjArgs(check_code, code, self, NULL) : NULL;
+    PyObject *made = none ? shown_of(address_class, out) : NULL;
+    Py_XDECREF(given);
+    Py_XDECREF(out);
+    Py_XDECREF(code);
+    Py_XDECREF(none);
+    return made;
+}
+
+static PyMethodDef shown_methods[] = {
+    {"_of", shown_of, METH_O | METH_CLASS, NULL},
+    {"_become", shown_become, METH_O, NULL},
+    {"_part", shown_part, METH_O, NULL},
+    {NULL, NULL, 0, NULL},
+};
+
+static PyGetSetDef shown_attributes[] = {
+    {"_value", shown_value, NULL, NULL, NULL},
+    {"version", shown_version, NULL, "4 or 6, or None for the network `any`.", NULL},
+    {"prefixlen", shown_prefixlen, NULL, "The prefix length, or None for the network `any`.", NULL},
+    {"max_prefixlen", shown_max_prefixlen, NULL, "The number of bits of an address: 32 or 128.", NULL},
+    {"first", shown_first, NULL, "The first address of the network; `any` raises `ValueError`.", NULL},
+    {"last", shown_last, NULL, "The last address of the network, as `first` has the first one.", NULL},
+    {"netmask", shown_netmask, NULL, "The mask of the network, as an address; `any` raises `ValueError`.", NULL},
+    {"hostmask", shown_hostmask, NULL, "The inverse of the mask, as an address; `any` raises `ValueError`.", NULL},
+    {NULL, NULL, NULL, NULL, NULL},
+};
+
+static PyType_Slot shown_slots[] = {
+    {Py_tp_doc, "A value of the library, which never changes."},
+    {Py_tp_new, shown_new},
+    {Py_tp_dealloc, shown_dealloc},
+    {Py_tp_hash, shown_hash},
+    {Py_tp_methods, shown_methods},
+    {Py_tp_getset, shown_attributes},
+    {0, NULL},
+};
+
+/* ---- what depends on the kind */
+
+static int filled(PyObject *self, PyObject *arguments, PyObject *named, const kind *of) {
+    PyObject *given;
+    char *names[] = {"given", NULL};
+    if (named || PyTuple_Size(arguments) != 1) {
+        if (!PyArg_ParseTupleAndKeywords(arguments, named, "O", names, &given)) return -1;
+    } else {
+        given = PyTuple_GetItem(arguments, 0);
+    }
+    if (PyUnicode_Check(given)) return read_string(of->read, given, value_in(self));
+    PyObject *value = PyObject_CallMethod(self, "_read_other", "(O)", given);
+    int failed = !value || copied(value, value_in(self));
+    Py_XDECREF(value);
+    return failed ? -1 : 0;
+}
+
+static PyObject *printed(PyObject *self, const kind *of) {
+    char room[PCIDR_TEXT_ROOM];
+    size_t length = of->print(value_in(self), room, sizeof room);
+    return PyUnicode_FromStringAndSize(room, (Py_ssize_t)length);
+}
+
+static PyObject *compared(PyObject *self, PyObject *other, int operation, const kind *of) {
+    if (Py_TYPE(self) != Py_TYPE(other)) return Py_NewRef(Py_NotImplemented);
+    int order = (int)of->compare(value_in(self), value_in(other)) - 1;
+    switch (operation) {
+        case Py_LT: return PyBool_FromLong(order < 0);
+        case Py_LE: return PyBool_FromLong(order <= 0);
+        case Py_EQ: return PyBool_FromLong(order == 0);
+        case Py_NE: return PyBool_FromLong(order != 0);
+        case Py_GT: return PyBool_FromLong(order > 0);
+        default: return PyBool_FromLong(order >= 0);
+    }
+}
+
+static int address_init(PyObject *self, PyObject *arguments, PyObject *named) {
+    return filled(self, arguments, named, &addresses);
+}
+
+static PyObject *address_str(PyObject *self) {
+    return printed(self, &addresses);
+}
+
+static PyObject *address_compare(PyObject *self, PyObject *other, int operation) {
+    return compared(self, other, operation, &addresses);
+}
+
+/* The bytes of an address, the highest first, and how many they are. */
+static Py_ssize_t packed_into(const pcidr_value *address, unsigned char *out) {
+    Py_ssize_t width = address->tag < 64 ? 4 : 16;
+    for (Py_ssize_t place = 0; place < width; place++) {
+        Py_ssize_t above = width - 1 - place;
+        out[place] = (unsigned char)((above < 8 ? address->low : address->high) >> 8 * (above % 8));
+    }
+    return width;
+}
+
+static PyObject *address_packed(PyObject *self, void *unused) {
+    (void)unused;
+    unsigned char packed[16];
+    return PyBytes_FromStringAndSize((char *)packed, packed_into(value_in(self), packed));
+}
+
+static PyObject *address_int(PyObject *self) {
+    pcidr_value *value = value_in(self);
+    if (!value->high) return PyLong_FromUnsignedLongLong(value->low);
+    PyObject *packed = address_packed(self, NULL);
+    PyObject *number = packed ? PyObject_CallMethod((PyObject *)&PyLong_Type, "from_bytes", "Os", packed, "big") : NULL;
+    Py_XDECREF(packed);
+    return number;
+}
+
+/* The address so many further in its family, by a step of the library in the network of all its addresses. */
+static PyObject *moved(PyObject *self, PyObject *count, int is_back) {
+    if (!PyObject_TypeCheck(self, shown_type) || !PyLong_Check(count)) return Py_NewRef(Py_NotImplemented);
+    int beyond;
+    long long steps = PyLong_AsLongLongAndOverflow(count, &beyond);
+    pcidr_value all = *value_in(self), out;
+    uint8_t full = all.tag;
+    unsigned long long high = 0, low = steps < 0 ? 0 - (unsigned long long)steps : (unsigned long long)steps;
+    int is_down = (beyond ? beyond < 0 : steps < 0) != is_back;
+    uint32_t code = PCIDR_WRAPPED;
+    if (beyond) { /* more than 63 bits */
+        PyObject *bits = PyLong_FromLong(64), *exact = PyNumber_Index(count); /* without the methods of a class below */
+        PyObject *positive = exact ? PyNumber_Absolute(exact) : NULL;
+        PyObject *above = bits && positive ? PyNumber_Rshift(positive, bits) : NULL;
+        if (above) low = PyLong_AsUnsignedLongLongMask(positive), high = PyLong_AsUnsignedLongLong(above);
+        int fits = above && !PyErr_Occurred();
+        if (above && !fits && PyErr_ExceptionMatches(PyExc_OverflowError)) PyErr_Clear();
+        Py_XDECREF(bits);
+        Py_XDECREF(exact);
+        Py_XDECREF(positive);
+        Py_XDECREF(above);
+        if (PyErr_Occurred()) return NULL;
+        beyond = !fits;
+    }
+    all.tag = full < 64 ? 0 : 64;
+    if (!beyond) code = (is_down ? step_down : step_up)(all, high, low, &out);
+    if (code) {
+        PyObject *none = PyObject_CallFunction(check_code, "IOO", (unsigned)code, self, count);
+        Py_XDECREF(none);
+        return NULL;
+    }
+    out.tag = full;
+    return made_of((PyObject *)Py_TYPE(self), &out);
+}
+
+static PyObject *address_add(PyObject *self, PyObject *count) {
+    return moved(self, count, 0);
+}
+
+static PyObject *address_subtract(PyObject *self, PyObject *count) {
+    return moved(self, count, 1);
+}
+
+static PyGetSetDef address_attributes[] = {
+    {"packed", address_packed, NULL, "The bytes of the address, the highest first: 4 or 16.", NULL},
+    {NULL, NULL, NULL, NULL, NULL},
+};
+
+static PyType_Slot address_slots[] = {
+    {Py_tp_getset, address_attributes},
+    {Py_nb_int, address_int},
+    {Py_nb_add, address_add},
+    {Py_nb_subtract, address_subtract},
+    {Py_tp_init, address_init},
+    {Py_tp_str, address_str},
+    {Py_tp_richcompare, address_compare},
+    {Py_tp_hash, shown_hash},
+    {0, NULL},
+};
+
+static int host_init(PyObject *self, PyObject *arguments, PyObject *named) {
+    return filled(self, arguments, named, &hosts);
+}
+
+static PyObject *host_str(PyObject *self) {
+    return printed(self, &hosts);
+}
+
+static PyObject *host_compare(PyObject *self, PyObject *other, int operation) {
+    return compared(self, other, operation, &hosts);
+}
+
+static PyObject *host_ip(PyObject *self, void *unused) {
+    (void)unused;
+    return part_of(self, address_part, address_class);
+}
+
+static PyObject *host_network(PyObject *self, void *unused) {
+    (void)unused;
+    return part_of(self, network_part, network_class);
+}
+
+static PyGetSetDef host_attributes[] = {
+    {"ip", host_ip, NULL, "The address.", NULL},
+    {"network", host_network, NULL, "The network.", NULL},
+    {NULL, NULL, NULL, NULL, NULL},
+};
+
+static PyType_Slot host_slots[] = {
+    {Py_tp_init, host_init},
+    {Py_tp_str, host_str},
+    {Py_tp_richcompare, host_compare},
+    {Py_tp_hash, shown_hash},
+    {Py_tp_getset, host_attributes},
+    {0, NULL},
+};
+
+static int network_init(PyObject *self, PyObject *arguments, PyObject *named) {
+    return filled(self, arguments, named, &networks);
+}
+
+static PyObject *network_str(PyObject *self) {
+    return printed(self, &networks);
+}
+
+static PyObject *network_compare(PyObject *self, PyObject *other, int operation) {
+    return compared(self, other, operation, &networks);
+}
+
+/* Whether a network has an address or a network. */
+static int network_contains(PyObject *self, PyObject *inner) {
+    pcidr_value read;
+    const pcidr_value *value = &read;
+    PyObject *class = (PyObject *)Py_TYPE(inner);
+    if (class == address_class || class == network_class) {
+        value = value_in(inner);
+    } else if (PyUnicode_Check(inner)) {
+        if (read_string(networks.read, inner, &read)) return -1;
+    } else {
+        PyObject *given = PyObject_CallFunctionObjArgs(network_value, inner, NULL);
+        int failed = !given || copied(given, &read);
+        Py_XDECREF(given);
+        if (failed) return -1;
+    }
+    return contains(value_in(self), value) == 1;
+}
+
+static PyObject *network_num_addresses(PyObject *self, void *unused) {
+    (void)unused;
+    return PySequence_GetItem(counts, value_in(self)->tag);
+}
+
+static PyGetSetDef network_attributes[] = {
+    {"num_addresses", network_num_addresses, NULL, "The number of addresses; `len` stops at 2^63.", NULL},
+    {"network_address", shown_first, NULL, "The first address.", NULL},
+    {"broadcast_address", shown_last, NULL, "The last address, which is that of broadcasts in IPv4.", NULL},
+    {NULL, NULL, NULL, NULL, NULL},
+};
+
+static PyType_Slot network_slots[] = {
+    {Py_tp_init, network_init},
+    {Py_tp_str, network_str},
+    {Py_tp_richcompare, network_compare},
+    {Py_tp_hash, shown_hash},
+    {Py_sq_contains, network_contains},
+    {Py_tp_getset, network_attributes},
+    {0, NULL},
+};
+
+/* ---- look-ups of one address, in the arrays of a table or in the bytes of a file */
+
+static uint32_t (*ipv4_row)(const uint32_t *, size_t, const uint32_t *, size_t, const uint32_t *, size_t, uint32_t,
+                            uint32_t, const pcidr_value *);
+static uint32_t (*ipv6_row)(const pcidr_halves *, size_t, const uint32_t *, size_t, const uint32_t *, size_t, uint32_t,
+                            uint32_t, const pcidr_value *);
+static uint32_t (*file_row)(const uint8_t *, size_t, const pcidr_file *, const pcidr_value *, pcidr_found *);
+static uint32_t (*file_has)(const uint8_t *, size_t, const pcidr_file *, const pcidr_value *);
+
+typedef struct {
+    PyObject_HEAD
+    PyObject *kept;    /* what has the memory */
+    PyObject *rows[2]; /* of each family */
+    pcidr_table tables[2];
+    const uint8_t *bytes; /* or null: then the tables are asked */
+    size_t bytes_len;
+    const pcidr_file *file;
+} finder;
+
+static PyTypeObject *finder_type;
+
+static int finder_traverse(PyObject *self, visitproc visit, void *arg) {
+    finder *it = (finder *)self;
+    Py_VISIT(Py_TYPE(self));
+    Py_VISIT(it->kept);
+    Py_VISIT(it->rows[0]);
+    Py_VISIT(it->rows[1]);
+    return 0;
+}
+
+static int finder_clear(PyObject *self) {
+    finder *it = (finder *)self;
+    Py_CLEAR(it->kept);
+    Py_CLEAR(it->rows[0]);
+    Py_CLEAR(it->rows[1]);
+    return 0;
+}
+
+static void finder_dealloc(PyObject *self) {
+    PyTypeObject *type = Py_TYPE(self);
+    PyObject_GC_UnTrack(self);
+    finder_clear(self);
+    ((freefunc)PyType_GetSlot(type, Py_tp_free))(self);
+    Py_DECREF(type);
+}
+
+/* Which family an address is of, 0 or 1, and its value; 2 where it is no address, or an object of another class; -1
+ * after an exception. */
+static int asked(PyObject *given, pcidr_value *value) {
+    PyObject *class = (PyObject *)Py_TYPE(given);
+    if (PyUnicode_Check(given)) {
+        if (read_string(networks.read, given, value)) return -1;
+    } else if (class == address_class || class == network_class) {
+        *value = *value_in(given);
+    } else {
+        return 2;
+    }
+    return value->tag == 32 ? 0 : value->tag == 192 ? 1 : 2;
+}
+
+/* The row of an address, which is the last one of its family's where it is in none; NotImplemented for what is none. */
+static PyObject *finder_call(PyObject *self, PyObject *given) {
+    finder *it = (finder *)self;
+    pcidr_value value;
+    int family = asked(given, &value);
+    if (family < 0) return NULL;
+    if (family == 2 || !it->kept) return Py_NewRef(Py_NotImplemented);
+    PyObject *rows = it->rows[family];
+    if (it->bytes) {
+        pcidr_found found;
+        file_row(it->bytes, it->bytes_len, it->file, &value, &found);
+        PyObject *row = PyLong_FromUnsignedLong(found.row), *made = row ? PyObject_GetItem(rows, row) : NULL;
+        Py_XDECREF(row);
+        return made;
+    }
+    const pcidr_table *of = &it->tables[family];
+    uint32_t row = family ? ipv6_row(of->ipv6_starts, of->ranges, of->answers, of->ranges, of->level, of->level_len,
+                                     of->shift, of->rows, &value)
+                          : ipv4_row(of->ipv4_starts, of->ranges, of->answers, of->ranges, of->level, of->level_len,
+                                     of->shift, of->rows, &value);
+    PyObject *made = PyTuple_GetItem(rows, row == PCIDR_NO_ROW ? PyTuple_Size(rows) - 1 : (Py_ssize_t)row);
+    Py_XINCREF(made);
+    return made;
+}
+
+/* Whether an address is in one of the networks of a file; NotImplemented for what is none. */
+static PyObject *finder_has(PyObject *self, PyObject *given) {
+    finder *it = (finder *)self;
+    pcidr_value value;
+    int family = asked(given, &value);
+    if (family < 0) return NULL;
+    if (family == 2 || !it->kept || !it->bytes) return Py_NewRef(Py_NotImplemented);
+    return PyBool_FromLong(file_has(it->bytes, it->bytes_len, it->file, &value) == 1);
+}
+
+static PyMethodDef finder_methods[] = {
+    {"row", finder_call, METH_O, NULL},
+    {"has", finder_has, METH_O, NULL},
+    {NULL, NULL, 0, NULL},
+};
+
+static PyType_Slot finder_slots[] = {
+    {Py_tp_doc, "Looks up one address."},
+    {Py_tp_traverse, finder_traverse},
+    {Py_tp_clear, finder_clear},
+    {Py_tp_dealloc, finder_dealloc},
+    {Py_tp_methods, finder_methods},
+    {0, NULL},
+};
+
+/* A finder with rows, and what has their memory. */
+static finder *finder_made(PyObject *kept, PyObject *ipv4, PyObject *ipv6) {
+    finder *made = (finder *)PyType_GenericAlloc(finder_type, 0);
+    if (made) made->kept = Py_NewRef(kept), made->rows[0] = Py_NewRef(ipv4), made->rows[1] = Py_NewRef(ipv6);
+    return made;
+}
+
+/* Of a table: of each family the arguments of a look-up, as Python has them, and the rows. */
+static PyObject *table_finder(PyObject *module, PyObject *arguments) {
+    (void)module;
+    PyObject *kept, *rows[2];
+    unsigned long long at[2][3];
+    Py_ssize_t ranges[2], answers[2], level[2];
+    unsigned shift[2], count[2];
+    if (!PyArg_ParseTuple(arguments, "O(KnKnKnII)O!(KnKnKnII)O!", &kept, &at[0][0], &ranges[0], &at[0][1], &answers[0],
+                          &at[0][2], &level[0], &shift[0], &count[0], &PyTuple_Type, &rows[0], &at[1][0], &ranges[1],
+                          &at[1][1], &answers[1], &at[1][2], &level[1], &shift[1], &count[1], &PyTuple_Type, &rows[1]))
+        return NULL;
+    for (int family = 0; family < 2; family++)
+        if (ranges[family] != answers[family] || PyTuple_Size(rows[family]) != (Py_ssize_t)count[family] + 1)
+            return PyErr_Format(PyExc_ValueError, "rows and arrays differ");
+    finder *made = finder_made(kept, rows[0], rows[1]);
+    for (int family = 0; made && family < 2; family++) {
+        pcidr_table *of = &made->tables[family];
+        void *starts = (void *)(uintptr_t)at[family][0];
+        if (family) of->ipv6_starts = starts;
+        else of->ipv4_starts = starts;
+        of->answers = (uint32_t *)(uintptr_t)at[family][1];
+        of->level = (uint32_t *)(uintptr_t)at[family][2];
+        of->ranges = (size_t)ranges[family];
+        of->level_len = (size_t)level[family];
+        of->shift = shift[family];
+        of->rows = count[family];
+    }
+    return (PyObject *)made;
+}
+
+/* Of a file: where its bytes and its `pcidr_file` lie, and what has the row of a number, for each family. */
+static PyObject *file_finder(PyObject *module, PyObject *arguments) {
+    (void)module;
+    PyObject *kept, *ipv4, *ipv6;
+    unsigned long long begin, file;
+    Py_ssize_t size;
+    if (!PyArg_ParseTuple(arguments, "OKnKOO", &kept, &begin, &size, &file, &ipv4, &ipv6)) return NULL;
+    finder *made = finder_made(kept, ipv4, ipv6);
+    if (made) {
+        made->bytes = (const uint8_t *)(uintptr_t)begin;
+        made->bytes_len = (size_t)size;
+        made->file = (const pcidr_file *)(uintptr_t)file;
+    }
+    return (PyObject *)made;
+}
+
+/* ---- many values */
+
+/* Writes the values of a list of objects into memory, which has room for them. */
+static PyObject *put_values(PyObject *module, PyObject *arguments) {
+    (void)module;
+    PyObject *listed;
+    Py_buffer room;
+    if (!PyArg_ParseTuple(arguments, "O!w*", &PyList_Type, &listed, &room)) return NULL;
+    Py_ssize_t count = PyList_Size(listed), place = 0;
+    char *out = room.buf;
+    int fits = room.len >= count * (Py_ssize_t)sizeof(pcidr_value);
+    for (; fits && place < count; place++, out += sizeof(pcidr_value)) {
+        PyObject *each = PyList_GetItem(listed, place);
+        if (!PyObject_TypeCheck(each, shown_type)) break;
+        memcpy(out, value_in(each), sizeof(pcidr_value));
+    }
+    PyBuffer_Release(&room);
+    if (place == count && fits) return Py_NewRef(Py_None);
+    PyErr_SetString(PyExc_TypeError, "a list of addresses, hosts and networks, and room for them, are wanted");
+    return NULL;
+}
+
+/* A list of objects of a class, one for each value in memory. */
+static PyObject *each_value(PyObject *module, PyObject *arguments) {
+    (void)module;
+    PyObject *class;
+    Py_buffer values;
+    if (!PyArg_ParseTuple(arguments, "O!y*", &PyType_Type, &class, &values)) return NULL;
+    Py_ssize_t count = values.len / (Py_ssize_t)sizeof(pcidr_value);
+    PyObject *listed = PyType_IsSubtype((PyTypeObject *)class, shown_type) ? PyList_New(count) : NULL;
+    const char *in = values.buf;
+    for (Py_ssize_t place = 0; listed && place < count; place++, in += sizeof(pcidr_value)) {
+        pcidr_value value;
+        memcpy(&value, in, sizeof value);
+        PyObject *made = made_of(class, &value);
+        if (!made || PyList_SetItem(listed, place, made)) Py_CLEAR(listed);
+    }
+    PyBuffer_Release(&values);
+    if (!listed && !PyErr_Occurred()) PyErr_SetString(PyExc_TypeError, "a class of values is wanted");
+    return listed;
+}
+
+/* ---- the module */
+
+/* Loads the library, once and for all. */
+static PyObject *connect(PyObject *module, PyObject *arguments) {
+    (void)module;
+    PyObject *encoded;
+    if (!is_owned() || !PyArg_ParseTuple(arguments, "O&", PyUnicode_FSConverter, &encoded)) return NULL;
+    void *library = dlopen(PyBytes_AsString(encoded), RTLD_NOW | RTLD_LOCAL);
+    Py_DECREF(encoded);
+    if (!library) return PyErr_Format(PyExc_ImportError, "%s", dlerror());
+    const struct {
+        const char *name;
+        void *place;
+    } calls[] = {
+        {"pcidr_read_address", &addresses.read},     {"pcidr_read_host", &hosts.read},
+        {"pcidr_read_network", &networks.read},      {"pcidr_print_address", &addresses.print},
+        {"pcidr_print_host", &hosts.print},          {"pcidr_print_network", &networks.print},
+        {"pcidr_compare", &addresses.compare},       {"pcidr_compare_hosts", &hosts.compare},
+        {"pcidr_compare", &networks.compare},        {"pcidr_contains", &contains},
+        {"pcidr_first_by_value", &first_part},       {"pcidr_last_by_value", &last_part},
+        {"pcidr_mask_by_value", &mask_part},         {"pcidr_address_by_value", &address_part},
+        {"pcidr_network_by_value", &network_part},   {"pcidr_step_up_by_value", &step_up},
+        {"pcidr_step_down_by_value", &step_down},    {"pcidr_ipv4_table_lookup", &ipv4_row},
+        {"pcidr_ipv6_table_lookup", &ipv6_row},      {"pcidr_file_lookup", &file_row},
+        {"pcidr_set_has", &file_has},                {"pcidr_host_mask_by_value", &host_mask_part},
+    };
+    for (size_t place = 0; place < sizeof calls / sizeof *calls; place++) {
+        void *found = dlsym(library, calls[place].name);
+        if (!found) return PyErr_Format(PyExc_ImportError, "the library has no %s", calls[place].name);
+        memcpy(calls[place].place, &found, sizeof found);
+    }
+    return Py_NewRef(Py_None);
+}
+
+/* Takes the classes and functions of the module. */
+static PyObject *take(PyObject *module, PyObject *arguments) {
+    (void)module;
+    PyObject *given[6];
+    if (!PyArg_ParseTuple(arguments, "OOOOOO!", &given[0], &given[1], &given[2], &given[3], &given[4], &PyTuple_Type,
+                          &given[5]))
+        return NULL;
+    PyObject **places[6] = {&address_class, &network_class, &value_class, &check_code, &network_value, &counts};
+    for (size_t place = 0; place < 6; place++) {
+        Py_INCREF(given[place]);
+        Py_XDECREF(*places[place]);
+        *places[place] = given[place];
+    }
+    return Py_NewRef(Py_None);
+}
+
+static PyMethodDef functions[] = {
+    {"connect", connect, METH_VARARGS, "Loads the library."},
+    {"register", take, METH_VARARGS, "Takes the classes, functions and counts of the module."},
+    {"table_finder", table_finder, METH_VARARGS, "What looks up addresses in the arrays of a table."},
+    {"file_finder", file_finder, METH_VARARGS, "What looks up addresses in the bytes of a file."},
+    {"put_values", put_values, METH_VARARGS, "Writes the values of a list of objects into memory."},
+    {"each_value", each_value, METH_VARARGS, "A list of objects of a class, one for each value in memory."},
+    {NULL, NULL, 0, NULL},
+};
+
+static struct PyModuleDef definition = {
+    PyModuleDef_HEAD_INIT, "pcidr._fast", "Addresses, hosts and networks in C.", -1, functions, NULL, NULL, NULL, NULL,
+};
+
+/* A class in the module, below the first one where there is a base. */
+static PyTypeObject *added(PyObject *module, const char *name, PyType_Slot *slots, PyTypeObject *base) {
+    unsigned flags = Py_TPFLAGS_DEFAULT | Py_TPFLAGS_BASETYPE;
+    PyType_Spec spec = {name, sizeof(shown), 0, flags, slots};
+    PyObject *made = PyType_FromModuleAndSpec(module, &spec, (PyObject *)base);
+    if (made && PyModule_AddObjectRef(module, strrchr(name, '.') + 1, made)) Py_CLEAR(made);
+    return (PyTypeObject *)made;
+}
+
+PyMODINIT_FUNC PyInit__fast(void) {
+    PyObject *module = is_owned() ? PyModule_Create(&definition) : NULL;
+    if (!module) return NULL;
+    /* what an interpreter that has ended left here */
+    address_class = network_class = value_class = check_code = network_value = counts = NULL;
+    shown_type = added(module, "pcidr._fast.Shown", shown_slots, NULL);
+    unsigned flags = Py_TPFLAGS_DEFAULT | Py_TPFLAGS_HAVE_GC | Py_TPFLAGS_DISALLOW_INSTANTIATION;
+    PyType_Spec spec = {"pcidr._fast.Finder", sizeof(finder), 0, flags, finder_slots};
+    finder_type = (PyTypeObject *)PyType_FromModuleAndSpec(module, &spec, NULL);
+    if (shown_type && finder_type && added(module, "pcidr._fast.OfAddress", address_slots, shown_type) &&
+        added(module, "pcidr._fast.OfHost", host_slots, shown_type) &&
+        added(module, "pcidr._fast.OfNetwork", network_slots, shown_type))
+        return module;
+    Py_DECREF(module);
+    return NULL;
+}

@@ -1,0 +1,529 @@
+"""Addresses, hosts and networks."""
+from __future__ import annotations
+
+import ctypes
+import ipaddress
+import re
+import warnings
+from collections.abc import Iterator
+from operator import index as integer
+from typing import TYPE_CHECKING, Any, NamedTuple, Union
+
+from pcidr._calls import MASK_ROOM, NAME_ROOM, Code, Purpose, Special, Value
+from pcidr._kinds import OfAddress, OfHost, OfNetwork, Shown, each_of, register
+from pcidr._library import Call, array, calls, check, combined, printed, read, tried
+
+OfIpaddress = Union[ipaddress.IPv4Address, ipaddress.IPv6Address, ipaddress.IPv4Network, ipaddress.IPv6Network]
+Packed = Union[bytes, bytearray]
+AnyAddress = Union["Address", str, Packed, ipaddress.IPv4Address, ipaddress.IPv6Address]
+AnyNetwork = Union["Address", "Network", str, OfIpaddress]
+WithLength = tuple[AnyAddress, Union[int, str]]
+AnyHost = Union["Address", "Host", "Network", str, Packed, OfIpaddress, WithLength]
+
+ADDRESSES_AND_NETWORKS = (ipaddress.IPv4Address, ipaddress.IPv6Address, ipaddress.IPv4Network, ipaddress.IPv6Network)
+_INTERFACES = (ipaddress.IPv4Interface, ipaddress.IPv6Interface)  # which are addresses of that module, too
+_OF_NUMBERS = re.compile("#?_?[bnxX]").fullmatch
+_WIDTHS = {4: 32, 6: 128}
+_ADDRESS_TAGS = {4: 32, 6: 192}
+_LOW = 2**64 - 1
+_SUBNETS = 256  # so many at a time
+
+
+def _numbered(number: int, tag: int) -> Value:
+    return Value(number >> 64, number & _LOW, tag)
+
+
+def _read_packed(given: Packed) -> Value:
+    """The value of an address as bytes, the highest first."""
+    packed = bytes(given)  # of a `bytearray` another thread may change the length
+    tag = {4: 32, 16: 192}.get(len(packed))
+    if tag is None:
+        raise ValueError(f"a packed address has 4 or 16 bytes: {packed!r}")
+    return _numbered(int.from_bytes(packed, "big"), tag)
+
+
+def _text(given: object) -> str:
+    """The string of what a value is made of: a string, a value, one of `ipaddress`, or an address and a length."""
+    if isinstance(given, str):
+        return given
+    if isinstance(given, (Shown, *ADDRESSES_AND_NETWORKS)):
+        return str(given)
+    if isinstance(given, (bytes, bytearray)):
+        return str(Address(given))
+    if isinstance(given, tuple) and len(given) == 2:
+        address, length = given
+        return f"{Address(address)}/{length}"
+    raise TypeError(f"no string, value or object of ipaddress: {given!r}")
+
+
+def _masked(text: str) -> Value | None:
+    """The value of a host with a mask in place of the prefix length, or None where what is behind the slash is none."""
+    head, _, tail = text.rpartition("/")
+    try:
+        address, mask = Address(head), Address(tail)
+    except ValueError:
+        return None
+    if address.version != mask.version:
+        return None
+    length = ctypes.c_uint8()
+    if calls.mask_length(mask._value, length) and calls.host_mask_length(mask._value, length):
+        check(Code.SCATTERED, text)
+    return _numbered(int(address), (0 if address.version == 4 else 64) + length.value)
+
+
+def network_value(given: object) -> Value:
+    """The value of what stands for a network or an address."""
+    if isinstance(given, str):
+        return read(calls.read_network, given)
+    if isinstance(given, (Address, Network)):
+        return given._value
+    if isinstance(given, ADDRESSES_AND_NETWORKS) and not isinstance(given, _INTERFACES):
+        return read(calls.read_network, str(given))
+    raise TypeError(f"no network or address: {given!r}")
+
+
+def renamed(old: str, new: str) -> Any:
+    """An attribute by its old name, which warns."""
+
+    def get(self: Any) -> Any:
+        warnings.warn(f"{type(self).__name__}.{old} is {new} now", DeprecationWarning, stacklevel=2)
+        return getattr(self, new)
+
+    return property(get, doc=f"The old name of `{new}`.")
+
+
+class _Common(Shown):
+    """What all of them have alike."""
+
+    __slots__ = ()
+
+    if TYPE_CHECKING:
+
+        def __init__(self, given: AnyHost) -> None:
+            ...
+
+        @property
+        def first(self) -> Address:
+            ...
+
+        @property
+        def last(self) -> Address:
+            ...
+
+        @property
+        def netmask(self) -> Address:
+            ...
+
+        @property
+        def hostmask(self) -> Address:
+            ...
+
+    @classmethod
+    def _read_other(cls, given: Any) -> Value:
+        if isinstance(given, (bytes, bytearray)):
+            return _read_packed(given)
+        return cls(_text(given))._value
+
+    def __repr__(self) -> str:
+        return f"{type(self).__name__}({str(self)!r})"
+
+    def __format__(self, spec: str) -> str:
+        return format(str(self), spec)
+
+    def __reduce__(self) -> tuple[Any, ...]:
+        return type(self), (str(self),)
+
+    def to_ipaddress(self) -> Any:
+        """The same of the module `ipaddress`."""
+        raise NotImplementedError
+
+    @property
+    def exploded(self) -> str:
+        """The string with all zeros of IPv6, as `ipaddress` writes it."""
+        return str(self.to_ipaddress().exploded)
+
+    @property
+    def compressed(self) -> str:
+        """The string as `ipaddress` writes it, which has the prefix length also where that is full."""
+        return str(self.to_ipaddress())
+
+    def _has_all(self, call: Call) -> bool:
+        """Whether a call says yes of all of its addresses."""
+        raise NotImplementedError
+
+    @property
+    def is_private(self) -> bool:
+        """Whether it is private: in 10.0.0.0/8, 172.16.0.0/12, 192.168.0.0/16 or fc00::/7. `ipaddress` calls private
+        what is not globally reachable."""
+        return self._has_all(calls.is_private)
+
+    @property
+    def is_loopback(self) -> bool:
+        """Whether it is in 127.0.0.0/8, or is ::1."""
+        return self._has_all(calls.is_loopback)
+
+    @property
+    def is_link_local(self) -> bool:
+        """Whether it is in 169.254.0.0/16 or fe80::/10."""
+        return self._has_all(calls.is_link_local)
+
+    @property
+    def is_multicast(self) -> bool:
+        """Whether it is in 224.0.0.0/4 or ff00::/8."""
+        return self._has_all(calls.is_multicast)
+
+    @property
+    def is_unspecified(self) -> bool:
+        """Whether it is 0.0.0.0 or ::."""
+        return self._has_all(calls.is_unspecified)
+
+    @property
+    def is_documentation(self) -> bool:
+        """Whether it is in a block for documentation, as 192.0.2.0/24 and 2001:db8::/32 are."""
+        return self._has_all(calls.is_documentation)
+
+    @property
+    def reverse_pointer(self) -> str:
+        """Its domain name in reverse DNS: ``1.2.0.192.in-addr.arpa``. A network whose prefix doesn't end at a label of
+        such a name, 8 bits or 4 in IPv6, raises `ValueError`."""
+        name = printed(calls.print_reverse_name, self._named(), NAME_ROOM)
+        if not name:
+            raise ValueError(f"{self} has no name in reverse DNS")
+        return name
+
+    def _named(self) -> Value:
+        """The value whose name in reverse DNS it is."""
+        return self._value
+
+    family = renamed("family", "version")
+    length = renamed("length", "prefixlen")
+    mask = renamed("mask", "netmask")
+
+
+class SpecialEntry(NamedTuple):
+    """An entry of the IANA registries of addresses for special purposes, as of May 2025: its block, what that is for,
+    the number of the RFC, and the columns, of which None stands for "N/A"."""
+
+    network: Network
+    purpose: Purpose
+    rfc: int
+    source: bool | None
+    destination: bool | None
+    forwardable: bool | None
+    globally_reachable: bool | None
+    reserved_by_protocol: bool | None
+
+
+class Address(_Common, OfAddress):
+    """An IPv4 or IPv6 address, as ``Address("10.0.0.1")``. IPv4 addresses come before IPv6 addresses. A string that is
+    none raises `ValueError`; a prefix length is not taken. `bytes` are a packed address, 4 or 16 of them.
+
+    ``address + 1`` and ``address - 1`` are the addresses beside it; beyond the last one of the family, and before the
+    first one, they raise `ValueError`.
+    """
+
+    __slots__ = ()
+
+    if TYPE_CHECKING:
+
+        def __add__(self, count: int) -> Address:
+            ...
+
+        def __sub__(self, count: int) -> Address:
+            ...
+
+    @classmethod
+    def from_int(cls, number: int, version: int) -> Address:
+        """The address of a family, 4 or 6, with this number; one that it doesn't have raises `ValueError`."""
+        exact = integer(number)
+        if version not in _WIDTHS or not 0 <= exact < 1 << _WIDTHS[version]:
+            raise ValueError(f"no address of IPv{version}: {number}")
+        return cls._of(_numbered(exact, _ADDRESS_TAGS[version]))
+
+    def _has_all(self, call: Call) -> bool:
+        return call(self._value) == 1
+
+    @property
+    def is_global(self) -> bool:
+        """Whether it is globally reachable by the registries of IANA: where it is in none of their blocks, or in one
+        that they say so of."""
+        return calls.is_global(self._value) == 1
+
+    @property
+    def special_entry(self) -> SpecialEntry | None:
+        """The entry of the longest block for special purposes that it is in, or None."""
+        out = Special()
+        code = calls.special_entry(self._value, out)
+        if code == Code.NONE:
+            return None
+        check(code, self)
+        block = Network._of(Value(out.high, out.low, (0 if self.version == 4 else 64) + out.len))
+        columns = out.source, out.destination, out.forwardable, out.globally_reachable, out.reserved_by_protocol
+        return SpecialEntry(block, Purpose(out.purpose), out.rfc, *((False, True, None)[column] for column in columns))
+
+    def __bytes__(self) -> bytes:
+        return self.packed
+
+    def __format__(self, spec: str) -> str:
+        """Of the string, or for b, x, X and n, with # and _ before them, of the number, as `ipaddress` formats it."""
+        return format(self.to_ipaddress() if _OF_NUMBERS(spec) else str(self), spec)
+
+    def to_ipaddress(self) -> ipaddress.IPv4Address | ipaddress.IPv6Address:
+        """The same address of the module `ipaddress`."""
+        return ipaddress.IPv4Address(int(self)) if self.version == 4 else ipaddress.IPv6Address(int(self))
+
+
+class _WithPrefix(_Common):
+    """What hosts and networks have alike."""
+
+    __slots__ = ()
+
+    @property
+    def with_prefixlen(self) -> str:
+        """The string with its prefix length also where that is full: ``192.0.2.1/32``."""
+        raise NotImplementedError
+
+    @property
+    def with_netmask(self) -> str:
+        """The string with the mask in place of the prefix length: ``192.0.2.0/255.255.255.0``."""
+        raise NotImplementedError
+
+    @property
+    def with_hostmask(self) -> str:
+        """The string with the inverse of the mask in place of the prefix length: ``192.0.2.0/0.0.0.255``."""
+        raise NotImplementedError
+
+    with_length = renamed("with_length", "with_prefixlen")
+
+
+class Host(_WithPrefix, OfHost):
+    """An address in its network, as ``Host("10.0.0.5/8")``, in the order of the addresses and then of the lengths. A
+    string that is none raises `ValueError`; an address alone has full prefix length. ``Host((address, 8))`` is another
+    way to write it. `ipaddress` calls it an interface."""
+
+    __slots__ = ()
+
+    if TYPE_CHECKING:
+
+        @property
+        def ip(self) -> Address:
+            ...
+
+        @property
+        def network(self) -> Network:
+            ...
+
+    def __init__(self, given: AnyHost) -> None:
+        try:
+            super().__init__(given)
+            return
+        except ValueError as error:
+            wrong = error
+        masked = _masked(_text(given))
+        if masked is None:
+            raise wrong
+        self._become(masked)
+
+    def _has_all(self, call: Call) -> bool:
+        return call(self.ip._value) == 1
+
+    def _named(self) -> Value:
+        return self.ip._value
+
+    @property
+    def with_prefixlen(self) -> str:
+        return printed(calls.print_host_with_length, self._value)
+
+    @property
+    def with_netmask(self) -> str:
+        return f"{self.ip}/{self.netmask}"
+
+    @property
+    def with_hostmask(self) -> str:
+        return f"{self.ip}/{self.hostmask}"
+
+    @property
+    def packed(self) -> bytes:
+        """The bytes of the address, the highest first: 4 or 16."""
+        return self.ip.packed
+
+    def __int__(self) -> int:
+        return int(self.ip)
+
+    def to_ipaddress(self) -> ipaddress.IPv4Interface | ipaddress.IPv6Interface:
+        """The same host of the module `ipaddress`, which calls it an interface."""
+        return ipaddress.ip_interface(self.with_prefixlen)
+
+    address = renamed("address", "ip")
+
+
+class Network(_WithPrefix, OfNetwork):
+    """An IPv4 or IPv6 network, as ``Network("10.0.0.0/8")``, or ``Network("any")``, which has all addresses.
+
+    A string that is none raises `ValueError`, also where a bit after the prefix is set; with ``strict=False`` such bits
+    are cleared. ``Network((address, 8))`` is another way to write it. ``in`` takes an address, a network, or a string
+    of one. Iteration gives the addresses from the first on, `reversed` from the last on, and ``network[i]`` the address
+    at an index. `any` comes first in the order, then IPv4, then IPv6.
+    """
+
+    __slots__ = ()
+
+    if TYPE_CHECKING:
+
+        @property
+        def network_address(self) -> Address:
+            ...
+
+        @property
+        def broadcast_address(self) -> Address:
+            ...
+
+        def __contains__(self, inner: AnyNetwork) -> bool:
+            ...
+
+    def __init__(self, given: AnyHost, strict: bool = True) -> None:
+        try:
+            super().__init__(given)
+            return
+        except ValueError as error:
+            wrong = error
+        text = _text(given)
+        code, value = tried(calls.read_masked_network, text)
+        if code and not strict:
+            value = Host(text).network._value
+        elif code in (Code.HOST_PART, Code.SCATTERED):
+            check(code, text)
+        elif code:
+            raise wrong
+        self._become(value)
+
+    @property
+    def with_prefixlen(self) -> str:
+        return printed(calls.print_network_with_length, self._value)
+
+    @property
+    def with_netmask(self) -> str:
+        return self._with(calls.print_with_mask)
+
+    @property
+    def with_hostmask(self) -> str:
+        return self._with(calls.print_with_host_mask)
+
+    def _with(self, call: Call) -> str:
+        self._own_length()
+        return printed(call, self._value, MASK_ROOM)
+
+    def _has_all(self, call: Call) -> bool:
+        """Such blocks are networks, and no network has the begin of one and the end of another."""
+        return call(self.first._value) == call(self.last._value) == 1
+
+    def subnet_of(self, other: AnyNetwork) -> bool:
+        """Whether all of its addresses are in the other network, which may be of another family."""
+        return calls.contains(network_value(other), self._value) == 1
+
+    def supernet_of(self, other: AnyNetwork) -> bool:
+        """Whether it has all addresses of the other network."""
+        return other in self
+
+    def overlaps(self, other: AnyNetwork) -> bool:
+        """Whether an address is in both."""
+        return calls.overlaps(self._value, network_value(other)) == 1
+
+    def _length_of(self, difference: int, length: int | None, sign: int) -> int:
+        """The prefix length that is asked for, by a difference to this one or by itself."""
+        own = self._own_length()
+        if length is not None and difference != 1:
+            raise ValueError("prefixlen_diff and new_prefix are both given")
+        wanted = own + sign * integer(difference) if length is None else integer(length)
+        if (wanted - own) * sign < 0 or not 0 <= wanted <= _WIDTHS[4 if self._value.tag < 64 else 6]:
+            raise ValueError(f"{self} has no {'subnets' if sign > 0 else 'supernet'} of prefix length {wanted}")
+        return wanted
+
+    def _own_length(self) -> int:
+        own = self.prefixlen
+        if own is None:
+            raise ValueError("any has addresses of two families")
+        return own
+
+    def supernet(self, prefixlen_diff: int = 1, new_prefix: int | None = None) -> Network:
+        """The network with so many fewer bits in its prefix, or of this prefix length, that it is in. One that has no
+        such network raises `ValueError`, but that 0.0.0.0/0 and ::/0 are their own, as in `ipaddress`."""
+        own = self._own_length()
+        if own == 0:
+            return self
+        wanted, out = self._length_of(prefixlen_diff, new_prefix, -1), Value()
+        check(calls.supernet(self._value, wanted, out))
+        return Network._of(out)
+
+    def subnets(self, prefixlen_diff: int = 1, new_prefix: int | None = None) -> Iterator[Network]:
+        """The networks in it with so many more bits in their prefix, or of this prefix length, ascending. A network of
+        one address is its own, as in `ipaddress`."""
+        own = self._own_length()
+        if own == self.max_prefixlen:
+            return iter([self])
+        return self._each_subnet(self._length_of(prefixlen_diff, new_prefix, 1))
+
+    def _each_subnet(self, length: int) -> Iterator[Network]:
+        """The networks in it of a prefix length, some at a time."""
+        room, count, place = (Value * _SUBNETS)(), ctypes.c_size_t(_SUBNETS), 0
+        while count.value == _SUBNETS:
+            check(calls.subnets(self._value, length, place >> 64, place & _LOW, room, _SUBNETS, count))
+            yield from each_of(Network, room, count.value)
+            place += _SUBNETS
+
+    def hosts(self) -> Iterator[Address]:
+        """The addresses that hosts may have: in IPv4 all but the first and the last one, and of a network of one or two
+        addresses these; in IPv6 all, of which `ipaddress` leaves the first one out."""
+        self._own_length()
+        first, last = self._part(calls.first_usable), self._part(calls.last_usable)
+        return (Address.from_int(number, first.version) for number in range(int(first), int(last) + 1))
+
+    @classmethod
+    def from_reverse_pointer(cls, name: str) -> Network:
+        """The network, or the address as a network, with this name in reverse DNS; another name raises `ValueError`."""
+        return cls._of(read(calls.read_reverse_name, name))
+
+    def address_exclude(self, other: AnyNetwork) -> Iterator[Network]:
+        """The networks of its addresses that are not in the other one, ascending. One that isn't in it raises
+        `ValueError`."""
+        inner = network_value(other)
+        if calls.contains(self._value, inner) != 1:
+            raise ValueError(f"{other} is not in {self}")
+        return iter(each_of(Network, combined(calls.difference, array([self._value]), array([inner]))))
+
+    def to_ipaddress(self) -> ipaddress.IPv4Network | ipaddress.IPv6Network:
+        """The same network of the module `ipaddress`, which has none that is like `any`."""
+        self._own_length()
+        return ipaddress.ip_network(self.with_prefixlen)
+
+    def __bool__(self) -> bool:
+        return True  # each network has an address; `len`, which `bool` would ask, stops at 2^63
+
+    def __len__(self) -> int:
+        return self.num_addresses
+
+    def __getitem__(self, index: int) -> Address:
+        given = integer(index)
+        place = given + self.num_addresses if given < 0 else given
+        if self.prefixlen is None or not 0 <= place < self.num_addresses:
+            raise IndexError(f"{self} has no address {index}")
+        out = Value()
+        check(calls.nth(self._value, place >> 64, place & _LOW, out))
+        return Address._of(out)
+
+    def __iter__(self) -> Iterator[Address]:
+        self._own_length()
+        return (self[i] for i in range(self.num_addresses))
+
+    def __reversed__(self) -> Iterator[Address]:
+        self._own_length()
+        return (self[i] for i in range(self.num_addresses - 1, -1, -1))
+
+    count = renamed("count", "num_addresses")
+
+
+# By the tags, how many addresses a network has.
+_COUNTS = tuple(1 << (32 if tag < 33 else 192) - tag if tag < 33 or 64 <= tag < 193 else 0 for tag in range(255))
+register(Address, Network, check, network_value, (*_COUNTS, 2**32 + 2**128))
+for _kind in (Address, Host, Network, SpecialEntry, Purpose):
+    _kind.__module__ = "pcidr"
