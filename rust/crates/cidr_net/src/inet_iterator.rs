@@ -18,8 +18,8 @@ pub(crate) mod driving;
 /// make it.
 ///
 /// `next` takes the lowest of them and `next_back` the highest, in constant time. Once either has returned `None`, both
-/// return `None` from then on. It does not allocate, and `nth`, `last` and the like take one step each: for the number
-/// of addresses use `checked_count`.
+/// return `None` from then on. It does not allocate. `nth`, `last` and the like take a step for each host that they
+/// pass: for the number of addresses use `checked_count`, which takes none.
 ///
 /// ```
 /// # use cidr::{errors::*, more::{canon::*, *}, parsers::*, *};
@@ -217,8 +217,8 @@ where
 /// An iterator over the addresses of a network or a pair that are left, ascending. The call `addresses` of
 /// `InetIterator` makes it.
 ///
-/// `next` takes the lowest of them and `next_back` the highest. Once either has returned `None`, both return `None`
-/// from then on.
+/// `next` takes the lowest of them and `next_back` the highest, in constant time and without allocating. Once either
+/// has returned `None`, both return `None` from then on.
 ///
 /// ```
 /// # use cidr::{errors::*, more::{canon::*, *}, parsers::*, *};

@@ -208,10 +208,11 @@
 //! 3. `NetworkLengthTooLongError`: the prefix length is above 32 or 128.
 //! 4. `InvalidHostPart`: a bit after the prefix is set. A host is never rejected for this.
 //!
-//! A string without a slash is a network or a host of full prefix length. In either family, the first error is that of
-//! the family that has the address. `new` of a network returns the errors 3 and 4, in this order, and `new` of a host
-//! error 3. A pair from addresses is rejected for two families, then for error 3, then where the prefixes differ; a
-//! pair of hosts for two families, two prefix lengths or two networks.
+//! A string without a slash is a network or a host of full prefix length. Where a string may be of either family, the
+//! first error is that of the family that has the address, and `AddrParseError` where neither has it. `new` of a
+//! network returns the errors 3 and 4, in this order, and `new` of a host error 3. A pair from addresses is rejected
+//! for two families, then for error 3, then where the prefixes differ; a pair of hosts for two families, two prefix
+//! lengths or two networks.
 //!
 //! Compact bytes: no byte (`Truncated`), `InvalidTag`, too few octets (`Truncated`), `InvalidAny`, `InvalidFamily`,
 //! and of networks `InvalidHostPart`. Prefix bytes: no byte (`Truncated`), `LengthTooLong`, too few octets

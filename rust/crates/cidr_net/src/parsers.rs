@@ -4,7 +4,8 @@
 //! `Ipv4Addr::from_str` or a closure around one of the loose parsers or around your own: it gets what precedes the last
 //! slash of a string, or the whole string where there is none. The `full` forms have a second parser for strings with
 //! no slash; those with `ignore_hostbits` ignore set bits after the prefix, and return the network that has the
-//! address; those with `any` know `any`.
+//! address; those with `any` know `any`. The caller has to ensure that a parser that is passed may be called with every
+//! string, as a function or closure with no condition of its own may.
 //!
 //! The loose parsers take IPv4 addresses as POSIX `inet_addr` has them, the short ones the first octets of a network.
 

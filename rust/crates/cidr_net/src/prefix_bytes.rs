@@ -11,8 +11,8 @@ use cidr_support::arrayvec::ArrayVec;
 
 mod octets;
 
-/// Networks of one family that are written as routing protocols write prefixes: BGP-4 (RFC 4271, section 4.3) and its
-/// multiprotocol extensions (RFC 4760, section 5).
+/// Networks of one family that are written as routing protocols write prefixes: BGP-4 (RFC 4271, 4.3) and its
+/// multiprotocol extensions (RFC 4760, 5).
 ///
 /// The prefix length in bits comes first, in one octet, and then as many octets as hold the prefix, the first bits
 /// first; 0.0.0.0/0 has no octet but the length. The family isn't written, so that networks of either family have no
@@ -32,7 +32,7 @@ pub trait PrefixBytes: Sized + NetworkBits {
     fn to_prefix_bytes(&self) -> ArrayVec<u8, 17>;
 
     /// The network whose prefix bytes come first, and how many they are. The bytes after them are ignored, and so are
-    /// the bits of the last octet after the prefix (RFC 4271, section 4.3: their value is irrelevant).
+    /// the bits of the last octet after the prefix (RFC 4271, 4.3: their value is irrelevant).
     ///
     /// Where no network's bytes come first, it returns the first error of: no byte (`Truncated`), `LengthTooLong`, too
     /// few octets (`Truncated`).

@@ -20,9 +20,9 @@ use core::str::FromStr;
 
 /// An IPv4 or an IPv6 network, or every address of both families.
 ///
-/// It is the type of an entry of an access list that may say `any`. `Any` comes first in the order, then the IPv4
-/// networks, then the IPv6 networks. `Any` has no family, no prefix length and no first address: the calls that return
-/// one of these return `None`.
+/// It is the type of an entry of an access list that may say `any`. Any other string is parsed as that of `IpCidr` is,
+/// with its errors. `Any` comes first in the order, then the IPv4 networks, then the IPv6 networks. `Any` has no
+/// family, no prefix length and no first address: the calls that return one of these return `None`.
 ///
 /// ```
 /// # use cidr::{errors::*, more::{canon::*, *}, parsers::*, *};
@@ -297,7 +297,7 @@ impl AnyIpCidr {
     }
 
     /// The printed string, in an `ArrayString`, so that nothing is allocated: `any`, or the network without a full
-    /// prefix length. It has at most 43 bytes.
+    /// prefix length. It has at most 43 bytes. Parsing it gives the same value.
     ///
     /// ```
     /// # use cidr::{errors::*, more::{canon::*, *}, parsers::*, *};
@@ -353,7 +353,8 @@ pub(crate) fn any_of(
 }
 
 impl WithLength<AnyIpCidr> {
-    /// The printed string, `any` or the network with its prefix length: at most 43 bytes.
+    /// The printed string, `any` or the network with its prefix length: at most 43 bytes. Parsing it gives the same
+    /// value.
     ///
     /// ```
     /// # use cidr::{errors::*, more::{canon::*, *}, parsers::*, *};

@@ -22,8 +22,9 @@ use core::str::FromStr;
 
 /// An IPv4 or an IPv6 network.
 ///
-/// Parsing tries IPv4 first; the error is that of the family that has the address. All IPv4 networks come before all
-/// IPv6 networks, and those of one family are ordered by first address and then by prefix length.
+/// A string is parsed in the form of the family of its address, and no string is of both. The errors are those of that
+/// family; where the address is of neither, the error is the `AddrParseError` of `IpAddr`. All IPv4 networks come
+/// before all IPv6 networks, and those of one family are ordered by first address and then by prefix length.
 ///
 /// ```
 /// # use cidr::{errors::*, more::{canon::*, *}, parsers::*, *};
@@ -296,7 +297,7 @@ impl IpCidr {
     }
 
     /// The printed string, without a full prefix length, in an `ArrayString`, so that nothing is allocated. It has at
-    /// most 18 bytes in IPv4 and 43 in IPv6.
+    /// most 18 bytes in IPv4 and 43 in IPv6. Parsing it gives the same network.
     ///
     /// ```
     /// # use cidr::{errors::*, more::{canon::*, *}, parsers::*, *};
@@ -328,6 +329,7 @@ impl IpCidr {
 
 impl WithLength<IpCidr> {
     /// The printed string, with the prefix length also where that is full: at most 18 bytes in IPv4 and 43 in IPv6.
+    /// Parsing it gives the same network.
     ///
     /// ```
     /// # use cidr::{errors::*, more::{canon::*, *}, parsers::*, *};

@@ -27,7 +27,9 @@ use core::str::FromStr;
 ///
 /// 192.0.2.48/28 has the addresses from 192.0.2.48 to 192.0.2.63. The prefix length is at most 32 in IPv4 and 128 in
 /// IPv6, and no bit of the first address after the prefix is set. It is parsed from an address, a slash and the prefix
-/// length (RFC 4632, 3.1; RFC 4291, 2.3); an address with no slash is the network of full prefix length.
+/// length (RFC 4632, 3.1; RFC 4291, 2.3); an address with no slash is the network of full prefix length. The prefix
+/// length is decimal, and may have a plus and zeros before it, as in the crate `cidr`: /+8 and /08 are /8. White space
+/// and a mask in place of the prefix length are errors; their order is that of `NetworkParseError`.
 ///
 /// Networks are ordered by first address and then by prefix length, shortest first.
 ///
@@ -693,6 +695,7 @@ impl<A: AddressText> Network<A> {
 
 impl<A: AddressText> WithLength<Network<A>> {
     /// The printed string, with the prefix length also where that is full: at most 18 bytes in IPv4 and 43 in IPv6.
+    /// Parsing it gives the same network.
     ///
     /// ```
     /// # use cidr::{errors::*, more::{canon::*, *}, parsers::*, *};

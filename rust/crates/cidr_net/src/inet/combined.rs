@@ -22,7 +22,8 @@ use core::str::FromStr;
 /// An IPv4 or an IPv6 host: an address in its network.
 ///
 /// All IPv4 hosts come before all IPv6 hosts, and those of one family are ordered by address and then by prefix length.
-/// Steps stay in the network.
+/// A string is parsed as that of `IpCidr` is, but that a set bit after the prefix is no error. Steps stay in the
+/// network.
 ///
 /// ```
 /// # use cidr::{errors::*, more::{canon::*, *}, parsers::*, *};
@@ -417,7 +418,7 @@ impl IpInet {
     }
 
     /// The printed string, with all bits of the address and without a full prefix length, in an `ArrayString`, so that
-    /// nothing is allocated. It has at most 18 bytes in IPv4 and 43 in IPv6.
+    /// nothing is allocated. It has at most 18 bytes in IPv4 and 43 in IPv6. Parsing it gives the same host.
     ///
     /// ```
     /// # use cidr::{errors::*, more::{canon::*, *}, parsers::*, *};
@@ -449,6 +450,7 @@ impl IpInet {
 
 impl WithLength<IpInet> {
     /// The printed string, with the prefix length also where that is full: at most 18 bytes in IPv4 and 43 in IPv6.
+    /// Parsing it gives the same host.
     ///
     /// ```
     /// # use cidr::{errors::*, more::{canon::*, *}, parsers::*, *};

@@ -27,7 +27,8 @@ use core::str::FromStr;
 ///
 /// It keeps all bits of the address, and its prefix length, at most 32 in IPv4 and 128 in IPv6, says which network it
 /// is in. Steps stay in the network: they change the bits after the prefix only. Hosts are ordered by address and then
-/// by prefix length. A string with no slash is parsed as a host of full prefix length.
+/// by prefix length. A string is parsed as that of a network is, but that a set bit after the prefix is no error; with
+/// no slash it is a host of full prefix length.
 ///
 /// ```
 /// # use cidr::{errors::*, more::{canon::*, *}, parsers::*, *};
@@ -867,6 +868,7 @@ impl<A: AddressText> Host<A> {
 
 impl<A: AddressText> WithLength<Host<A>> {
     /// The printed string, with the prefix length also where that is full: at most 18 bytes in IPv4 and 43 in IPv6.
+    /// Parsing it gives the same host.
     ///
     /// ```
     /// # use cidr::{errors::*, more::{canon::*, *}, parsers::*, *};

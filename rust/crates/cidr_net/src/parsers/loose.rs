@@ -40,7 +40,9 @@ impl Part for LoosePart {
 /// The last number fills what the octets before it leave of the 32 bits. A number that begins with `0x` or `0X` is
 /// hexadecimal, any other that begins with `0` is octal, and the rest are decimal: `010` is 8, and `08` is no number. A
 /// decimal number may have a plus before it, as in the crate `cidr`, and then zeros: `+010` is 10. There may be any
-/// number of leading zeros, and no number wraps: for `4294967296`, `256.1` and `1.16777216` it returns `None`.
+/// number of leading zeros, and no number wraps: for `4294967296`, `256.1` and `1.16777216` it returns `None`. So it
+/// does where anything else stands before or after the numbers, also white space, which some C libraries skip;
+/// 255.255.255.255 is an address like any other, and no error as in C.
 ///
 /// ```
 /// # use cidr::{errors::*, more::{canon::*, *}, parsers::*, *};
