@@ -9,7 +9,7 @@ use Rattle.std.specs.List.{Contains}
 use Rattle.cidr.specs.model.Bits.{bits, number}
 use Rattle.cidr.specs.model.Network.{BeginsWith}
 use Rattle.cidr.specs.laws.BitLaws.{length-bits, number-bits, bits-append}
-use Rattle.cidr_table.specs.Prefixes.{IsLongestMatch}
+use Rattle.cidr_table.specs.model.Prefixes.{IsLongestMatch}
 use Rattle.cidr_arrays.specs.Arrays.{AreAscendingNetworks, IsNetwork, last_number_in, prefix_bits, row_of}
 use Rattle.cidr_arrays.specs.Passing.{HasNumber, IsLastWithNumber, at}
 use Rattle.cidr_arrays.proofs.Numbers.{nests}

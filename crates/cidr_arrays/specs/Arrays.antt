@@ -2,7 +2,7 @@
 -- has at k, and ends before the next start.
 use Rattle.std.specs.Prelude.{◌≡◌, ◌≢◌, ℕ, zero, suc, ◌+◌, ◌-◌, ◌*◌, ◌%◌, ◌^◌, ◌<◌, ◌≤◌, ◌⊎◌, Bool, List, Option, Some, None, length, map, take, slice_index_or}
 use Rattle.cidr.specs.model.Bits.{bits}
-use Rattle.cidr_table.specs.Prefixes.{IsLongestMatch}
+use Rattle.cidr_table.specs.model.Prefixes.{IsLongestMatch}
 use Rattle.cidr_arrays.specs.declared.building.BuildError.{BuildError}
 use Rattle.cidr_arrays.specs.declared.building.BuildError.TheVariants.{TooMany, Refused, NoRoom}
 use Rattle.cidr_arrays.specs.declared.key.Key.{Key}

@@ -1,7 +1,7 @@
 //! The longest match of an address, by arrays.
 ghost use Rattle.std.specs.Prelude.{◌≡◌, ℕ, ◌+◌, ◌-◌, ◌<◌, ◌≤◌, ◌⊎◌, List, length, map, slice_index_or, IfSome};
 ghost use Rattle.cidr.specs.model.Bits.{bits};
-ghost use Rattle.cidr_table.specs.Prefixes.{IsLongestMatch};
+ghost use Rattle.cidr_table.specs.model.Prefixes.{IsLongestMatch};
 ghost use Rattle.cidr_arrays.specs.Arrays.{IsRangeOf, Represents, prefix_bits, row_of};
 ghost use Rattle.cidr_arrays.specs.Passing.{IsSearchable};
 

@@ -5,13 +5,13 @@ use Rattle.std.proofs.lemmas.List.{length-set, get_or-set_same, get_or-set_other
 use Rattle.std.proofs.lemmas.Option.{get_or_from_slice_get, slice_get_within, slice_get_past, slice_get-get_or}
 use Rattle.cidr.specs.either.IpNetwork.{any_bits}
 use Rattle.cidr.specs.declared.cidr.any.AnyIpCidr.{AnyIpCidr}
-use Rattle.cidr_table.specs.Cover.{Covers, IsFull}
-use Rattle.cidr_sets.specs.Sets.{IsSetOf}
-use Rattle.cidr_c.specs.Calls.{IsYesOrNo}
-use Rattle.cidr_c.specs.Batches.{AreNetworkValues, bits_in}
-use Rattle.cidr_c.specs.Files.{AreAnsweredIn}
-use Rattle.cidr_c.specs.Lookups.{AreAnswered, AreContained}
-use Rattle.cidr_c.specs.Values.{IsNetworkValue, network_in}
+use Rattle.cidr_table.specs.model.Cover.{Covers, IsFull}
+use Rattle.cidr_sets.specs.model.Sets.{IsSetOf}
+use Rattle.cidr_c.specs.calls.Calls.{IsYesOrNo}
+use Rattle.cidr_c.specs.calls.Batches.{AreNetworkValues, bits_in}
+use Rattle.cidr_c.specs.model.Files.{AreAnsweredIn}
+use Rattle.cidr_c.specs.calls.Lookups.{AreAnswered, AreContained}
+use Rattle.cidr_c.specs.model.Values.{IsNetworkValue, network_in}
 use Rattle.cidr_c.specs.declared.values.CValue.{CValue}
 
 -- the first n are answered

@@ -2,8 +2,8 @@
 use Rattle.std.proofs.Common.{◌≡◌, ◌⊎◌, ℕ, List, map, take, inl, inr, refl}
 use Rattle.std.proofs.lemmas.Bool.{cases_eq}
 use Rattle.cidr_arrays.specs.FaultLaws.{no_fault}
-use Rattle.cidr_c.specs.Codes.{no_memory}
-use Rattle.cidr_c.specs.Tables.{IsBuilt, IsChecked}
+use Rattle.cidr_c.specs.model.Codes.{no_memory}
+use Rattle.cidr_c.specs.model.Tables.{IsBuilt, IsChecked}
 
 pub accepted : {A : Type 0} (w : ℕ) (value : A → ℕ) (networks : List (ℕ × ℕ)) (starts : List A) (answers level : List ℕ) (shift count ranges code : ℕ)
     → IsBuilt w value networks starts answers level shift count ranges 0

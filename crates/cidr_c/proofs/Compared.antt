@@ -2,11 +2,11 @@
 use Rattle.std.proofs.Common.{◌↔◌, ℕ, Bool, List, inl, refl, arith}
 use Rattle.std.specs.Prelude.{IsTrue}
 use Rattle.cidr.specs.model.Network.{BeginsWith}
-use Rattle.cidr_table.specs.Cover.{Covers}
-use Rattle.cidr_sets.specs.Sets.{AreDisjoint, IsComplement, IsSetOf, IsSubset}
-use Rattle.cidr_c.specs.Batches.{IsAnswered}
-use Rattle.cidr_c.specs.Calls.{IsYesOrNo}
-use Rattle.cidr_c.specs.Combining.{same_set}
+use Rattle.cidr_table.specs.model.Cover.{Covers}
+use Rattle.cidr_sets.specs.model.Sets.{AreDisjoint, IsComplement, IsSetOf, IsSubset}
+use Rattle.cidr_c.specs.calls.Batches.{IsAnswered}
+use Rattle.cidr_c.specs.calls.Calls.{IsYesOrNo}
+use Rattle.cidr_c.specs.laws.Combining.{same_set}
 
 module _ (these those one other : List (List Bool)) (is_one : IsSetOf 129 (Covers these) one) (is_other : IsSetOf 129 (Covers those) other) where
   pub subset_of : IsSubset 129 one other ↔ IsSubset 129 these those

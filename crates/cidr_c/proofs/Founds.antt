@@ -4,14 +4,14 @@ use Rattle.std.proofs.lemmas.List.{length-drop, length-take}
 use Rattle.std.proofs.lemmas.Slice.Zip.{length-zip}
 use Rattle.std.specs.List.{slice_range}
 use Rattle.cidr.specs.model.Bits.{bits}
-use Rattle.cidr_table.specs.Prefixes.{IsLongestMatch}
+use Rattle.cidr_table.specs.model.Prefixes.{IsLongestMatch}
 use Rattle.cidr_arrays.specs.Arrays.{prefix_bits}
 use Rattle.cidr_files.specs.Layout.{ipv4_counts, ipv4_parts, ipv6_counts, ipv6_parts, wide_words, words}
 use Rattle.cidr_files.specs.Tables.{AreArrays, AreOffsets, offsets_in, part_at, stored_networks, value_in}
-use Rattle.cidr_c.specs.Calls.{IsYesOrNo}
-use Rattle.cidr_c.specs.Files.{IsFound, IsFoundAt, IsInNetworks, IsInSet, IsInSetAt, IsMatched, bytes_at, parts_at}
-use Rattle.cidr_c.specs.Tables.{no_row}
-use Rattle.cidr_c.specs.Values.{IsLow, number_in}
+use Rattle.cidr_c.specs.calls.Calls.{IsYesOrNo}
+use Rattle.cidr_c.specs.model.Files.{IsFound, IsFoundAt, IsInNetworks, IsInSet, IsInSetAt, IsMatched, bytes_at, parts_at}
+use Rattle.cidr_c.specs.model.Tables.{no_row}
+use Rattle.cidr_c.specs.model.Values.{IsLow, number_in}
 use Rattle.cidr_c.specs.declared.files.CFile.{CFile}
 use Rattle.cidr_c.specs.declared.files.CFileTable.{CFileTable}
 use Rattle.cidr_c.specs.declared.files.CFound.{CFound}

@@ -3,12 +3,12 @@ use Rattle.std.proofs.Common.{ℕ, ◌+◌, Bool, List, Option, Some, None, inl,
 use Rattle.std.specs.Option.{option_map}
 use Rattle.cidr.specs.either.IpNetwork.{any_bits}
 use Rattle.cidr.specs.declared.cidr.any.AnyIpCidr.{AnyIpCidr}
-use Rattle.cidr_table.specs.Cover.{Covers}
-use Rattle.cidr_sets.specs.Sets.{IsSetOf}
-use Rattle.cidr_c.specs.Batches.{AreNetworkValues, bits_in}
-use Rattle.cidr_c.specs.Calls.{IsPut}
-use Rattle.cidr_c.specs.Pools.{IsFreeSought}
-use Rattle.cidr_c.specs.Values.{IsNetworkValue, network_in}
+use Rattle.cidr_table.specs.model.Cover.{Covers}
+use Rattle.cidr_sets.specs.model.Sets.{IsSetOf}
+use Rattle.cidr_c.specs.calls.Batches.{AreNetworkValues, bits_in}
+use Rattle.cidr_c.specs.calls.Calls.{IsPut}
+use Rattle.cidr_c.specs.model.Pools.{IsFreeSought}
+use Rattle.cidr_c.specs.model.Values.{IsNetworkValue, network_in}
 use Rattle.cidr_c.specs.declared.values.CValue.{CValue}
 
 pub free_sought : (IsFree : List (List Bool) → ℕ → Option (List Bool) → Type 0) (networks : List CValue) (len : ℕ) (set : List (List Bool))

@@ -12,8 +12,8 @@ use Rattle.cidr.specs.declared.cidr.combined.IpCidr.TheVariants as network
 use Rattle.cidr.specs.declared.family.Family.{Family}
 use Rattle.cidr.specs.declared.inet.combined.IpInet.{IpInet}
 use Rattle.cidr.specs.declared.inet.combined.IpInet.TheVariants.{V4, V6}
-use Rattle.cidr_ext.specs.Inside.{host_mask_of}
-use Rattle.cidr_c.specs.Networks.{IsFirstHost, IsLastHost}
+use Rattle.cidr_ext.specs.model.Inside.{host_mask_of}
+use Rattle.cidr_c.specs.model.Networks.{IsFirstHost, IsLastHost}
 
 pub first_host : (host : IpInet) (hosts rest : List (Family × Host)) → hosts ≡ (host_family host, host_parts host) ∷ rest
     → IsFirstHost hosts (host_address host)

@@ -7,13 +7,13 @@ use Rattle.std.proofs.lemmas.List.{take_more, length-take-le}
 use Rattle.cidr.specs.either.IpNetwork.{any_bits}
 use Rattle.cidr.specs.model.Network.{BeginsWith}
 use Rattle.cidr.specs.declared.cidr.any.AnyIpCidr.{AnyIpCidr}
-use Rattle.cidr_table.specs.Loading.{placed}
+use Rattle.cidr_table.specs.model.Loading.{placed}
 use Rattle.cidr_table.proofs.LastPlaces.{placed_push}
 use Rattle.cidr_table.proofs.LastRows.{EndsAt, last_row}
 use Rattle.cidr_table.proofs.MapLaws.{contains_cases, contains_nothing}
-use Rattle.cidr_c.specs.Lookups.{AreMatched, AreIndexed, IsLongestIndex, IsRowIndex}
-use Rattle.cidr_c.specs.Batches.{AreNetworkValues}
-use Rattle.cidr_c.specs.Values.{network_in}
+use Rattle.cidr_c.specs.calls.Lookups.{AreMatched, AreIndexed, IsLongestIndex, IsRowIndex}
+use Rattle.cidr_c.specs.calls.Batches.{AreNetworkValues}
+use Rattle.cidr_c.specs.model.Values.{network_in}
 use Rattle.cidr_c.specs.declared.values.CValue.{CValue}
 use Rattle.cidr_c.proofs.Answering.{AreFirst, all}
 

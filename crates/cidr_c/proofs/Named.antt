@@ -3,10 +3,10 @@ use Rattle.std.proofs.Common.{◌≡◌, ℕ, List, Option, Some, None, inl, inr
 use Rattle.std.specs.Prelude.{IfSome, IsUtf8}
 use Rattle.cidr.specs.either.IpNetwork.{network_family, network_prefix}
 use Rattle.cidr.specs.declared.cidr.combined.IpCidr.{IpCidr}
-use Rattle.cidr_ext.specs.Reverse.{IsReverseName}
-use Rattle.cidr_c.specs.Calls.{IsPut}
-use Rattle.cidr_c.specs.Networks.{IsNameRead}
-use Rattle.cidr_c.specs.Values.{IsIpNetworkValue, ip_network_in}
+use Rattle.cidr_ext.specs.texts.Reverse.{IsReverseName}
+use Rattle.cidr_c.specs.calls.Calls.{IsPut}
+use Rattle.cidr_c.specs.model.Networks.{IsNameRead}
+use Rattle.cidr_c.specs.model.Values.{IsIpNetworkValue, ip_network_in}
 use Rattle.cidr_c.specs.declared.values.CValue.{CValue}
 
 -- the network has the name

@@ -6,10 +6,10 @@ use Rattle.std.proofs.lemmas.Simd.{map-map}
 use Rattle.std.proofs.lemmas.List.Elements.{All-append}
 use Rattle.cidr.specs.either.IpNetwork.{any_bits}
 use Rattle.cidr.specs.declared.cidr.any.AnyIpCidr.{AnyIpCidr}
-use Rattle.cidr_table.specs.Cover.{Covers}
-use Rattle.cidr_sets.specs.Sets.{IsSetOf}
-use Rattle.cidr_c.specs.Batches.{AreNetworkValues, bits_in, IsLeft, IsPutInRoom, IsDelivered}
-use Rattle.cidr_c.specs.Values.{network_in}
+use Rattle.cidr_table.specs.model.Cover.{Covers}
+use Rattle.cidr_sets.specs.model.Sets.{IsSetOf}
+use Rattle.cidr_c.specs.calls.Batches.{AreNetworkValues, bits_in, IsLeft, IsPutInRoom, IsDelivered}
+use Rattle.cidr_c.specs.model.Values.{network_in}
 use Rattle.cidr_c.specs.declared.values.CValue.{CValue}
 
 only_one : {A : Type 0} (Holds : A → Type 0) (a : A) → Holds a → All Holds (a ∷ [])

@@ -6,11 +6,11 @@ use Rattle.cidr.specs.model.Bits.{bits}
 use Rattle.cidr.specs.model.Network.{BeginsWith, width_of, zeros, network_from}
 use Rattle.cidr.specs.either.IpNetwork.{any_bits}
 use Rattle.cidr.specs.declared.cidr.any.AnyIpCidr.{AnyIpCidr}
-use Rattle.cidr_c.specs.Calls.{IsYesOrNo}
+use Rattle.cidr_c.specs.calls.Calls.{IsYesOrNo}
 use Rattle.cidr.specs.declared.family.Family.{Family}
 use Rattle.cidr.specs.declared.errors.NetworkParseError.{NetworkParseError}
 use Rattle.cidr.specs.declared.cidr.any.AnyIpCidr.TheVariants.{V4, V6}
-use Rattle.cidr_c.specs.Values.{number_in, IsLow, IsNetworkValue, network_in}
+use Rattle.cidr_c.specs.model.Values.{number_in, IsLow, IsNetworkValue, network_in}
 use Rattle.cidr_c.specs.declared.values.CValue.{CValue}
 
 -- no bit of the address after the prefix is set

@@ -12,9 +12,9 @@ use Rattle.cidr.specs.declared.cidr.any.AnyIpCidr.{AnyIpCidr}
 use Rattle.cidr.specs.either.IpNetwork.{any_bits}
 use Rattle.cidr.specs.either.IpAddress.{ip_address_bits}
 use Rattle.cidr.specs.either.IpHost.{host_address, host_parts}
-use Rattle.cidr_c.specs.Codes.{order_code}
-use Rattle.cidr_c.specs.Orders.{IsCompared, IsTotal, field_order, host_value_order, network_order}
-use Rattle.cidr_c.specs.Values.{IsHostValue, IsNetworkValue, host_in, network_in}
+use Rattle.cidr_c.specs.model.Codes.{order_code}
+use Rattle.cidr_c.specs.model.Orders.{IsCompared, IsTotal, field_order, host_value_order, network_order}
+use Rattle.cidr_c.specs.model.Values.{IsHostValue, IsNetworkValue, host_in, network_in}
 use Rattle.cidr_c.specs.declared.values.CValue.{CValue}
 
 network_order_total : IsTotalOrder network_order

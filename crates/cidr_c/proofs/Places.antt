@@ -5,7 +5,7 @@ use Rattle.std.specs.List.{slice_range}
 use Rattle.cidr_files.specs.Layout.{bytes_behind, header, ipv4_counts, ipv4_parts, ipv4_sizes, ipv6_counts, ipv6_parts, ipv6_sizes, padded, padded_room, parts_by_size, sizes_of}
 use Rattle.cidr_files.specs.Tables.{IsStoredTable}
 use Rattle.cidr_files.specs.declared.layout.Counts.{Counts}
-use Rattle.cidr_c.specs.Files.{bytes_at, file_in, parts_at, table_from}
+use Rattle.cidr_c.specs.model.Files.{bytes_at, file_in, parts_at, table_from}
 use Rattle.cidr_c.specs.declared.files.CFile.{CFile}
 
 -- parts of these sizes, the first at a place and each behind the one before

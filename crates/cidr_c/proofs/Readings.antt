@@ -1,7 +1,7 @@
 -- What reading a string gives, from what the library's parser says of it.
 use Rattle.std.proofs.Common.{◌≡◌, ℕ, ◌<◌, List, Result, Ok, Err, refl, arith}
 use Rattle.std.specs.Prelude.{IsUtf8}
-use Rattle.cidr_c.specs.Calls.{IsRead}
+use Rattle.cidr_c.specs.calls.Calls.{IsRead}
 use Rattle.cidr_c.specs.declared.values.CValue.{CValue}
 
 module _ {A E : Type 0} (Reads : List ℕ → Result A E → Type 0) (code_of : E → ℕ) (IsValue : CValue → Type 0) (value_in : CValue → A)

@@ -6,7 +6,7 @@ use Rattle.std.specs.List.Sorted.{IsStrictlyIncreasing}
 use Rattle.cidr.specs.either.IpNetwork.{any_bits}
 use Rattle.cidr.specs.declared.cidr.any.AnyIpCidr.{AnyIpCidr}
 use Rattle.cidr_sets.specs.declared.access.Rule.{Rule}
-use Rattle.cidr_c.specs.Rules.{AreIndexesPut, AreIndexesSought, rule_actions, rule_bits, rule_in}
+use Rattle.cidr_c.specs.model.Rules.{AreIndexesPut, AreIndexesSought, rule_actions, rule_bits, rule_in}
 use Rattle.cidr_c.specs.declared.rules.CRule.{CRule}
 
 pub bits_of_rules : (rules : List CRule) (xs : List (Rule AnyIpCidr)) → xs ≡ map rule_in rules

@@ -1,7 +1,7 @@
 -- What a call of a library found, and what C gets of it.
 use Rattle.std.proofs.Common.{◌≡◌, ◌↔◌, ℕ, Bool, Option, Some, None, inl, inr, refl, sym, subst, arith}
 use Rattle.std.specs.Prelude.{IsTrue, MatchOption}
-use Rattle.cidr_c.specs.Calls.{IsPut, IsSought, IsYesOrNo}
+use Rattle.cidr_c.specs.calls.Calls.{IsPut, IsSought, IsYesOrNo}
 
 -- what was found of n, where m is the same
 pub sought : {P A N : Type 0} (IsTaken : Type 0) (IsNone : N → Type 0) (IsValue : P → Type 0) (value_in : P → A) (Holds : N → A → Type 0)

@@ -6,9 +6,9 @@ use Rattle.cidr.specs.either.IpNetwork.{network_family, network_prefix}
 use Rattle.cidr.specs.model.Network.{width_of}
 use Rattle.cidr.specs.declared.cidr.combined.IpCidr.{IpCidr}
 use Rattle.cidr.specs.declared.cidr.combined.IpCidr.TheVariants.{V4, V6}
-use Rattle.cidr_ext.specs.Subnets.{NoSubnetAt}
-use Rattle.cidr_c.specs.Networks.{AreFirstSubnets, AreSubnetsPut}
-use Rattle.cidr_c.specs.Values.{IsHostValue, ip_network_in}
+use Rattle.cidr_ext.specs.model.Subnets.{NoSubnetAt}
+use Rattle.cidr_c.specs.model.Networks.{AreFirstSubnets, AreSubnetsPut}
+use Rattle.cidr_c.specs.model.Values.{IsHostValue, ip_network_in}
 use Rattle.cidr_c.specs.declared.values.CValue.{CValue}
 use Rattle.cidr_c.proofs.Answering.{slice_get-set_here, slice_get-set_other}
 

@@ -4,8 +4,8 @@ use Rattle.std.proofs.lemmas.List.{drop-drop, drop-take, get_or-drop, get_or-map
 use Rattle.std.specs.List.{slice_range}
 use Rattle.cidr_files.specs.Layout.{ipv4_parts, ipv6_parts, wide_words, words}
 use Rattle.cidr_files.specs.Tables.{AreOffsets, IsFile, offsets_in, part_at, stored_networks}
-use Rattle.cidr_c.specs.Tables.{ipv4_pair, ipv6_pair}
-use Rattle.cidr_c.specs.Writing.{AreValues, IsFileOf, IsFileWritten, IsFirstRefusedAt, ipv4_rows, value_of}
+use Rattle.cidr_c.specs.model.Tables.{ipv4_pair, ipv6_pair}
+use Rattle.cidr_c.specs.calls.Writing.{AreValues, IsFileOf, IsFileWritten, IsFirstRefusedAt, ipv4_rows, value_of}
 use Rattle.cidr_c.specs.declared.values.CValue.{CValue}
 
 -- ---- how many IPv4 values stand first

@@ -1,15 +1,5 @@
-pub mod Batches
-pub mod Calls
-pub mod Codes
-pub mod Combining
-pub mod Files
-pub mod Lines
-pub mod Lookups
-pub mod Orders
-pub mod Tables
-pub mod Values
-pub mod Writing
-pub mod Networks
-pub mod Special
-pub mod Pools
-pub mod Rules
+-- What has to be believed: the model, and what calls return and leave. A law that a trait cites is checked and not
+-- believed.
+pub mod model
+pub mod calls
+pub mod laws

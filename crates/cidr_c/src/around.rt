@@ -2,12 +2,12 @@
 ghost use Rattle.std.specs.Prelude.{◌≡◌, ◌+◌, ◌-◌, ◌*◌, ◌^◌, ◌<◌, ◌≤◌, ◌⊎◌, [], length, MatchOption};
 ghost use Rattle.cidr.specs.model.Network.{BeginsWith, ones, zeros};
 ghost use Rattle.cidr.specs.either.IpNetwork.{address_by, any_bits, network_family, network_prefix};
-ghost use Rattle.cidr_ext.specs.Inside.{IsAddressAt, host_mask_of, usable_of};
-ghost use Rattle.cidr_ext.specs.Subnets.{IsNextNetwork, IsSubnetAt, NoSubnetAt};
-ghost use Rattle.cidr_ext.specs.Tree.{AreSiblings, IsSpanning, IsSupernet};
-ghost use Rattle.cidr_c.specs.Calls.{IsConverted, IsSought, IsYesOrNo};
-ghost use Rattle.cidr_c.specs.Networks.{IsAddressSought, IsFirstHost, IsLastHost, IsLengthSought, IsNetworkSought, IsNumberSought, IsUsableSought, address_bits_in, address_family_in, usable_in};
-ghost use Rattle.cidr_c.specs.Values.{IsAddressValue, IsHostValue, IsNetworkValue, address_in, family_in, ip_network_in, network_in, prefix_in, width_in};
+ghost use Rattle.cidr_ext.specs.model.Inside.{IsAddressAt, host_mask_of, usable_of};
+ghost use Rattle.cidr_ext.specs.model.Subnets.{IsNextNetwork, IsSubnetAt, NoSubnetAt};
+ghost use Rattle.cidr_ext.specs.model.Tree.{AreSiblings, IsSpanning, IsSupernet};
+ghost use Rattle.cidr_c.specs.calls.Calls.{IsConverted, IsSought, IsYesOrNo};
+ghost use Rattle.cidr_c.specs.model.Networks.{IsAddressSought, IsFirstHost, IsLastHost, IsLengthSought, IsNetworkSought, IsNumberSought, IsUsableSought, address_bits_in, address_family_in, usable_in};
+ghost use Rattle.cidr_c.specs.model.Values.{IsAddressValue, IsHostValue, IsNetworkValue, address_in, family_in, ip_network_in, network_in, prefix_in, width_in};
 
 use crate::codes::{NO_VALUE, OK};
 use crate::finding::{

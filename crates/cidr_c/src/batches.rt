@@ -1,8 +1,8 @@
 //! Many networks at once.
 ghost use Rattle.std.specs.Prelude.{◌≡◌, ◌⊎◌, ◌≤◌, drop, length, map, take, MatchResult};
-ghost use Rattle.cidr_c.specs.Batches.{AreNetworkValues};
-ghost use Rattle.cidr_c.specs.Codes.{no_memory, no_value};
-ghost use Rattle.cidr_c.specs.Values.{network_in};
+ghost use Rattle.cidr_c.specs.calls.Batches.{AreNetworkValues};
+ghost use Rattle.cidr_c.specs.model.Codes.{no_memory, no_value};
+ghost use Rattle.cidr_c.specs.model.Values.{network_in};
 
 use crate::codes::{NO_MEMORY, NO_VALUE};
 use crate::values::{CValue, network_of, put_network};

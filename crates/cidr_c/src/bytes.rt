@@ -3,8 +3,8 @@ ghost use Rattle.cidr.specs.bytes.Compact.{ReadsCompact, any_network_bytes, ip_h
 ghost use Rattle.cidr.specs.bytes.CompactRefusal.{Both, IsAnyBytesRefused, IsHostBytesRefused};
 ghost use Rattle.cidr.specs.either.IpHost.{IsIpHost};
 ghost use Rattle.cidr.specs.either.IpNetwork.{IsAnyNetwork};
-ghost use Rattle.cidr_c.specs.Calls.{IsReadBytes};
-ghost use Rattle.cidr_c.specs.Values.{IsHostValue, IsNetworkValue, host_in, network_in};
+ghost use Rattle.cidr_c.specs.calls.Calls.{IsReadBytes};
+ghost use Rattle.cidr_c.specs.model.Values.{IsHostValue, IsNetworkValue, host_in, network_in};
 
 use crate::codes::{OK, compact_code};
 use crate::values::{CValue, put_host, put_network};

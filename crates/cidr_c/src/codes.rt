@@ -1,6 +1,6 @@
 //! The numbers of the errors.
 ghost use Rattle.std.specs.Prelude.{◌≡◌, ◌<◌};
-ghost use Rattle.cidr_c.specs.Codes.{compact_code, mask_code, message, not_utf8, order_code, parse_code};
+ghost use Rattle.cidr_c.specs.model.Codes.{compact_code, mask_code, message, not_utf8, order_code, parse_code};
 
 use cidr::errors::{CompactError, NetworkParseError};
 use cidr_ext::MaskParseError;

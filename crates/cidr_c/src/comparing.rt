@@ -1,8 +1,8 @@
 //! Sets beside sets.
 ghost use Rattle.cidr.specs.either.IpNetwork.{any_bits};
-ghost use Rattle.cidr_sets.specs.Sets.{AreDisjoint, IsComplement, IsSubset};
-ghost use Rattle.cidr_c.specs.Batches.{AreBothNetworks, AreNetworkValues, IsAnswered, IsPutInRoom, bits_in};
-ghost use Rattle.cidr_c.specs.Values.{IsNetworkValue, network_in};
+ghost use Rattle.cidr_sets.specs.model.Sets.{AreDisjoint, IsComplement, IsSubset};
+ghost use Rattle.cidr_c.specs.calls.Batches.{AreBothNetworks, AreNetworkValues, IsAnswered, IsPutInRoom, bits_in};
+ghost use Rattle.cidr_c.specs.model.Values.{IsNetworkValue, network_in};
 
 use crate::codes::{NO_VALUE, OK};
 use crate::finding::yes_or_no;

@@ -3,10 +3,10 @@ ghost use Rattle.std.specs.Prelude.{◌≡◌, ◌≢◌, ◌+◌, ◌^◌, ◌<
 ghost use Rattle.std.specs.Int.{from_le_bytes, w32};
 ghost use Rattle.cidr_files.specs.Layout.{padded, padded_room, sizes_of, wide_word};
 ghost use Rattle.cidr_files.specs.Tables.{parts_in};
-ghost use Rattle.cidr_c.specs.Calls.{IsYesOrNo};
-ghost use Rattle.cidr_c.specs.Files.{AreAnsweredIn, IsFileChecked, IsFound, IsFoundAt, IsInSet, IsInSetAt, IsOpened, bytes_at, file_fault_code, file_in, parts_at, table_fault_code, table_from};
-ghost use Rattle.cidr_c.specs.Tables.{no_row};
-ghost use Rattle.cidr_c.specs.Values.{IsLow, number_in};
+ghost use Rattle.cidr_c.specs.calls.Calls.{IsYesOrNo};
+ghost use Rattle.cidr_c.specs.model.Files.{AreAnsweredIn, IsFileChecked, IsFound, IsFoundAt, IsInSet, IsInSetAt, IsOpened, bytes_at, file_fault_code, file_in, parts_at, table_fault_code, table_from};
+ghost use Rattle.cidr_c.specs.model.Tables.{no_row};
+ghost use Rattle.cidr_c.specs.model.Values.{IsLow, number_in};
 
 use crate::codes::{LONG, NO_FILE, NO_MEMORY, NO_ROOM, OK, OTHER_VERSION, SHORT, VALUES};
 use crate::tables::{NO_ROW, fault_code};

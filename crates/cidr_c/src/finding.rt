@@ -1,8 +1,8 @@
 //! What the calls of the libraries find, where C has room for it.
 ghost use Rattle.std.specs.Prelude.{◌≡◌, ◌*◌, ◌+◌, ◌^◌, IsTrue};
-ghost use Rattle.cidr_c.specs.Calls.{IsAny, IsPut, IsYesOrNo};
-ghost use Rattle.cidr_c.specs.Tables.{ipv6_number};
-ghost use Rattle.cidr_c.specs.Values.{IsAddressValue, IsIpNetworkValue, IsNetworkValue, address_in, ip_network_in, network_in};
+ghost use Rattle.cidr_c.specs.calls.Calls.{IsAny, IsPut, IsYesOrNo};
+ghost use Rattle.cidr_c.specs.model.Tables.{ipv6_number};
+ghost use Rattle.cidr_c.specs.model.Values.{IsAddressValue, IsIpNetworkValue, IsNetworkValue, address_in, ip_network_in, network_in};
 
 use crate::codes::{NONE, OK};
 use crate::values::{CValue, put_address, put_ip_network, put_network};

@@ -1,10 +1,10 @@
 //! What holds of the calls together, as the contract of a function that does nothing.
 ghost use Rattle.std.specs.Prelude.{◌≡◌, ◌⊎◌, ℕ, List, map, take};
 ghost use Rattle.cidr_arrays.specs.declared.word.Halves.{Halves};
-ghost use Rattle.cidr_c.specs.Codes.{no_memory};
-ghost use Rattle.cidr_c.specs.Orders.{IsCompared, IsTotal, host_value_order, network_order};
-ghost use Rattle.cidr_c.specs.Tables.{IsBuilt, IsChecked, ipv4_number, ipv6_number};
-ghost use Rattle.cidr_c.specs.Values.{IsHostValue, IsNetworkValue};
+ghost use Rattle.cidr_c.specs.model.Codes.{no_memory};
+ghost use Rattle.cidr_c.specs.model.Orders.{IsCompared, IsTotal, host_value_order, network_order};
+ghost use Rattle.cidr_c.specs.model.Tables.{IsBuilt, IsChecked, ipv4_number, ipv6_number};
+ghost use Rattle.cidr_c.specs.model.Values.{IsHostValue, IsNetworkValue};
 
 /// What `pcidr_compare` and `pcidr_compare_hosts` return is a total order of all values, whatever their fields are.
 #[tactic(auto, using(crate::proofs::Orders::networks_total, crate::proofs::Orders::hosts_total))]

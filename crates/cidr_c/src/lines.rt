@@ -1,6 +1,6 @@
 //! Texts of networks, one a line.
 ghost use Rattle.std.specs.Prelude.{◌≡◌, ◌+◌, ◌≤◌, ◌++◌, ◌∷◌, [], drop, length, take, IfSome, MatchOption};
-ghost use Rattle.cidr_c.specs.Lines.{AreLinesPrinted, AreLinesRead, IsFirstLine, IsLineRead};
+ghost use Rattle.cidr_c.specs.calls.Lines.{AreLinesPrinted, AreLinesRead, IsFirstLine, IsLineRead};
 
 use crate::codes::{NO_ROOM, NO_VALUE, OK};
 use crate::reading::pcidr_read_network;

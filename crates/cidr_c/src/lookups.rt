@@ -1,13 +1,13 @@
 //! Look-ups of many networks at once.
 ghost use Rattle.std.specs.Prelude.{◌≡◌, ◌⊎◌, map, IfOk, MatchResult};
 ghost use Rattle.cidr.specs.either.IpNetwork.{any_bits};
-ghost use Rattle.cidr_table.specs.Cover.{IsFull};
-ghost use Rattle.cidr_table.specs.Loading.{placed};
-ghost use Rattle.cidr_c.specs.Batches.{AreNetworkValues};
-ghost use Rattle.cidr_c.specs.Calls.{IsYesOrNo};
-ghost use Rattle.cidr_c.specs.Codes.{no_memory, no_value};
-ghost use Rattle.cidr_c.specs.Lookups.{AreContained, AreIndexed, AreMatched, IsRowIndex};
-ghost use Rattle.cidr_c.specs.Values.{network_in};
+ghost use Rattle.cidr_table.specs.model.Cover.{IsFull};
+ghost use Rattle.cidr_table.specs.model.Loading.{placed};
+ghost use Rattle.cidr_c.specs.calls.Batches.{AreNetworkValues};
+ghost use Rattle.cidr_c.specs.calls.Calls.{IsYesOrNo};
+ghost use Rattle.cidr_c.specs.model.Codes.{no_memory, no_value};
+ghost use Rattle.cidr_c.specs.calls.Lookups.{AreContained, AreIndexed, AreMatched, IsRowIndex};
+ghost use Rattle.cidr_c.specs.model.Values.{network_in};
 
 use crate::batches::networks_of;
 use crate::codes::{NO_MEMORY, NO_ROOM, NO_VALUE, OK};

@@ -2,12 +2,12 @@
 ghost use Rattle.std.specs.Prelude.{◌≡◌, ℕ};
 ghost use Rattle.cidr.specs.either.IpAddress.{address_family, plain_bits};
 ghost use Rattle.cidr.specs.either.IpNetwork.{network_family, network_prefix};
-ghost use Rattle.cidr_ext.specs.Inside.{IsHostMaskOf, IsMaskOf};
-ghost use Rattle.cidr_ext.specs.MaskText.{ReadsMaskText, host_mask_text, mask_text};
-ghost use Rattle.cidr_c.specs.Calls.{IsPrintedInto, IsRead, IsUnprinted};
-ghost use Rattle.cidr_c.specs.Codes.{mask_code};
-ghost use Rattle.cidr_c.specs.Networks.{IsLengthSought, address_bits_in, address_width_in};
-ghost use Rattle.cidr_c.specs.Values.{IsAddressValue, IsHostValue, IsIpNetworkValue, family_in, ip_network_in, prefix_in};
+ghost use Rattle.cidr_ext.specs.model.Inside.{IsHostMaskOf, IsMaskOf};
+ghost use Rattle.cidr_ext.specs.texts.MaskText.{ReadsMaskText, host_mask_text, mask_text};
+ghost use Rattle.cidr_c.specs.calls.Calls.{IsPrintedInto, IsRead, IsUnprinted};
+ghost use Rattle.cidr_c.specs.model.Codes.{mask_code};
+ghost use Rattle.cidr_c.specs.model.Networks.{IsLengthSought, address_bits_in, address_width_in};
+ghost use Rattle.cidr_c.specs.model.Values.{IsAddressValue, IsHostValue, IsIpNetworkValue, family_in, ip_network_in, prefix_in};
 
 use crate::codes::{NO_VALUE, NOT_UTF8, OK, mask_code};
 use crate::finding::put_plain;

@@ -1,8 +1,8 @@
 //! Names in reverse DNS.
-ghost use Rattle.cidr_ext.specs.Reverse.{EndsAtLabel, reverse_text};
-ghost use Rattle.cidr_c.specs.Calls.{IsPrintedInto, IsUnprinted};
-ghost use Rattle.cidr_c.specs.Networks.{IsNameRead};
-ghost use Rattle.cidr_c.specs.Values.{IsHostValue, family_in, prefix_in};
+ghost use Rattle.cidr_ext.specs.texts.Reverse.{EndsAtLabel, reverse_text};
+ghost use Rattle.cidr_c.specs.calls.Calls.{IsPrintedInto, IsUnprinted};
+ghost use Rattle.cidr_c.specs.model.Networks.{IsNameRead};
+ghost use Rattle.cidr_c.specs.model.Values.{IsHostValue, family_in, prefix_in};
 
 use crate::codes::NOT_UTF8;
 use crate::finding::put_found_network;

@@ -6,10 +6,10 @@ ghost use Rattle.cidr.specs.model.Host.{first_host};
 ghost use Rattle.cidr.specs.either.IpHost.{IpWrapsDown, IpWrapsUp, host_address, host_at, host_network, ip_stepped_down, ip_stepped_up};
 ghost use Rattle.cidr.specs.either.IpNetwork.{address_by, any_bits, any_of};
 ghost use Rattle.cidr.specs.declared.cidr.any.AnyIpCidr.TheVariants.{V4, V6};
-ghost use Rattle.cidr_c.specs.Calls.{IsYesOrNo, IsConverted, IsStepped};
-ghost use Rattle.cidr_c.specs.Orders.{IsCompared, field_order, host_value_order, network_order};
-ghost use Rattle.cidr_c.specs.Codes.{order_code};
-ghost use Rattle.cidr_c.specs.Values.{IsAddressValue, IsHostValue, IsNetworkValue, address_in, host_in, host_order, network_in};
+ghost use Rattle.cidr_c.specs.calls.Calls.{IsYesOrNo, IsConverted, IsStepped};
+ghost use Rattle.cidr_c.specs.model.Orders.{IsCompared, field_order, host_value_order, network_order};
+ghost use Rattle.cidr_c.specs.model.Codes.{order_code};
+ghost use Rattle.cidr_c.specs.model.Values.{IsAddressValue, IsHostValue, IsNetworkValue, address_in, host_in, host_order, network_in};
 
 use crate::codes::{NO_VALUE, OK, WRAPPED, order_code};
 use crate::finding::joined;

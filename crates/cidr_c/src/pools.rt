@@ -1,7 +1,7 @@
 //! Free networks of pools.
-ghost use Rattle.cidr_sets.specs.Pools.{IsBestFree, IsFirstFree};
-ghost use Rattle.cidr_table.specs.CoverAddresses.{IsIpNetworkBits};
-ghost use Rattle.cidr_c.specs.Pools.{IsFreeSought};
+ghost use Rattle.cidr_sets.specs.model.Pools.{IsBestFree, IsFirstFree};
+ghost use Rattle.cidr_table.specs.model.CoverAddresses.{IsIpNetworkBits};
+ghost use Rattle.cidr_c.specs.model.Pools.{IsFreeSought};
 
 use crate::finding::put_any_found;
 use crate::sets::set_of;

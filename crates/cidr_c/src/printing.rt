@@ -4,9 +4,9 @@ ghost use Rattle.cidr.specs.bytes.Compact.{any_network_bytes, ip_host_bytes};
 ghost use Rattle.cidr.specs.either.IpText.{any_network_text, ip_host_text};
 ghost use Rattle.cidr.specs.texts.Printed.{forced_host_text, forced_text, plain_host_text, plain_text};
 ghost use Rattle.cidr.specs.texts.PrintedAddress.{ip_text};
-ghost use Rattle.cidr_c.specs.Calls.{IsPrintedInto, IsUnprinted, IsWrittenInto};
-ghost use Rattle.cidr_c.specs.Codes.{message};
-ghost use Rattle.cidr_c.specs.Values.{IsAddressValue, IsHostValue, IsNetworkValue, address_in, host_in, network_in};
+ghost use Rattle.cidr_c.specs.calls.Calls.{IsPrintedInto, IsUnprinted, IsWrittenInto};
+ghost use Rattle.cidr_c.specs.model.Codes.{message};
+ghost use Rattle.cidr_c.specs.model.Values.{IsAddressValue, IsHostValue, IsNetworkValue, address_in, host_in, network_in};
 
 use crate::codes::message;
 use crate::values::{CValue, address_of, host_of, network_of};

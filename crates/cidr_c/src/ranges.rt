@@ -1,9 +1,9 @@
 //! Ranges of addresses.
 ghost use Rattle.cidr.specs.either.IpAddress.{ip_address_bits};
-ghost use Rattle.cidr_sets.specs.Ranges.{IsBetween};
-ghost use Rattle.cidr_sets.specs.Sets.{IsSetOf};
-ghost use Rattle.cidr_c.specs.Batches.{IsPutInRoom};
-ghost use Rattle.cidr_c.specs.Values.{IsAddressValue, address_in};
+ghost use Rattle.cidr_sets.specs.model.Ranges.{IsBetween};
+ghost use Rattle.cidr_sets.specs.model.Sets.{IsSetOf};
+ghost use Rattle.cidr_c.specs.calls.Batches.{IsPutInRoom};
+ghost use Rattle.cidr_c.specs.model.Values.{IsAddressValue, address_in};
 
 use crate::codes::NO_VALUE;
 use crate::sets::deliver;

@@ -6,9 +6,9 @@ ghost use Rattle.cidr.specs.texts.LooseText.{IsLooseIpText};
 ghost use Rattle.cidr.specs.texts.Messages.{ip_error};
 ghost use Rattle.cidr.specs.texts.ShortText.{IsShortIpText, ReadsShort};
 ghost use Rattle.cidr.specs.declared.errors.NetworkParseError.TheVariants as parse_error;
-ghost use Rattle.cidr_c.specs.Calls.{IsRead};
-ghost use Rattle.cidr_c.specs.Codes.{address_code, parse_code};
-ghost use Rattle.cidr_c.specs.Values.{IsAddressValue, IsHostValue, IsNetworkValue, address_in, host_in, network_in};
+ghost use Rattle.cidr_c.specs.calls.Calls.{IsRead};
+ghost use Rattle.cidr_c.specs.model.Codes.{address_code, parse_code};
+ghost use Rattle.cidr_c.specs.model.Values.{IsAddressValue, IsHostValue, IsNetworkValue, address_in, host_in, network_in};
 
 use crate::codes::{NOT_ADDRESS, NOT_UTF8, OK, parse_code};
 use crate::values::{CValue, put_address, put_host, put_network};

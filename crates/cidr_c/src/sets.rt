@@ -2,10 +2,10 @@
 //! network, and then too little room; no memory may come before either. After an error the room is as it was.
 ghost use Rattle.std.specs.Prelude.{Bool, IfOk, List, map, take};
 ghost use Rattle.cidr.specs.either.IpNetwork.{any_bits};
-ghost use Rattle.cidr_table.specs.Cover.{Covers};
-ghost use Rattle.cidr_sets.specs.Sets.{IsDifference, IsIntersection, IsSetOf, IsSymmetricDifference, IsUnion};
-ghost use Rattle.cidr_c.specs.Combining.{IsOfAddresses, difference_of, intersection_of, symmetric_difference_of, union_of};
-ghost use Rattle.cidr_c.specs.Batches.{AreBothNetworks, AreSetsRead, IsDelivered, IsLeft, IsPutInRoom, IsSetRead, bits_in};
+ghost use Rattle.cidr_table.specs.model.Cover.{Covers};
+ghost use Rattle.cidr_sets.specs.model.Sets.{IsDifference, IsIntersection, IsSetOf, IsSymmetricDifference, IsUnion};
+ghost use Rattle.cidr_c.specs.laws.Combining.{IsOfAddresses, difference_of, intersection_of, symmetric_difference_of, union_of};
+ghost use Rattle.cidr_c.specs.calls.Batches.{AreBothNetworks, AreSetsRead, IsDelivered, IsLeft, IsPutInRoom, IsSetRead, bits_in};
 
 use crate::batches::{networks_of, put};
 use crate::codes::{NO_MEMORY, NO_ROOM, OK};

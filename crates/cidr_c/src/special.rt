@@ -1,13 +1,13 @@
 //! What addresses are for, by the registries of IANA.
 ghost use Rattle.std.specs.Prelude.{◌≡◌, ◌⊎◌};
 ghost use Rattle.cidr.specs.model.Network.{BeginsWith};
-ghost use Rattle.cidr_ext.specs.Special.{HasNoEntry, HasPurpose, IsEntryOf, IsGlobal, multicast_of};
+ghost use Rattle.cidr_ext.specs.model.Special.{HasNoEntry, HasPurpose, IsEntryOf, IsGlobal, multicast_of};
 ghost use Rattle.cidr_ext.specs.declared.registry.SpecialEntry.{SpecialEntry};
 ghost use Rattle.cidr_ext.specs.declared.registry.Purpose.TheVariants as purpose;
-ghost use Rattle.cidr_c.specs.Calls.{IsAny, IsSought, IsYesOrNo};
-ghost use Rattle.cidr_c.specs.Networks.{address_bits_in, address_family_in};
-ghost use Rattle.cidr_c.specs.Special.{column_code, purpose_code, special_of};
-ghost use Rattle.cidr_c.specs.Values.{IsAddressValue};
+ghost use Rattle.cidr_c.specs.calls.Calls.{IsAny, IsSought, IsYesOrNo};
+ghost use Rattle.cidr_c.specs.model.Networks.{address_bits_in, address_family_in};
+ghost use Rattle.cidr_c.specs.model.Special.{column_code, purpose_code, special_of};
+ghost use Rattle.cidr_c.specs.model.Values.{IsAddressValue};
 
 use crate::codes::{NO_VALUE, NONE, OK};
 use crate::finding::yes_or_no;

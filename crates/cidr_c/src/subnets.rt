@@ -2,8 +2,8 @@
 ghost use Rattle.std.specs.Prelude.{◌≡◌, ◌+◌, ◌*◌, ◌^◌, MatchOption};
 ghost use Rattle.cidr.specs.either.IpNetwork.{network_family, network_prefix};
 ghost use Rattle.cidr.specs.model.Network.{width_of};
-ghost use Rattle.cidr_ext.specs.Subnets.{IsSubnetAt, NoSubnetAt};
-ghost use Rattle.cidr_c.specs.Networks.{AreFirstSubnets, AreSubnetsPut};
+ghost use Rattle.cidr_ext.specs.model.Subnets.{IsSubnetAt, NoSubnetAt};
+ghost use Rattle.cidr_c.specs.model.Networks.{AreFirstSubnets, AreSubnetsPut};
 
 use crate::codes::{NO_VALUE, NONE, OK};
 use crate::finding::joined;

@@ -1,9 +1,9 @@
 //! Look-up tables in arrays of the caller.
 ghost use Rattle.std.specs.Prelude.{◌≡◌, ◌≢◌, ◌<◌, ℕ, List, length, map, IfOk, IfSome, MatchOption};
 ghost use Rattle.cidr.specs.model.Bits.{bits};
-ghost use Rattle.cidr_table.specs.Prefixes.{IsLongestMatch};
+ghost use Rattle.cidr_table.specs.model.Prefixes.{IsLongestMatch};
 ghost use Rattle.cidr_arrays.specs.Arrays.{Represents, key_networks, prefix_bits};
-ghost use Rattle.cidr_c.specs.Tables.{AreFound, IsBuilt, IsChecked, IsRowFound, fault_code, ipv4_number, ipv4_pair, ipv6_number, ipv6_pair, room_of};
+ghost use Rattle.cidr_c.specs.model.Tables.{AreFound, IsBuilt, IsChecked, IsRowFound, fault_code, ipv4_number, ipv4_pair, ipv6_number, ipv6_pair, room_of};
 
 use crate::codes::{NO_MEMORY, NO_ROOM, NO_TABLE, NO_VALUE, OK, SHIFT, TOO_MANY};
 use crate::values::CValue;

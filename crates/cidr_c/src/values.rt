@@ -2,7 +2,7 @@
 ghost use Rattle.std.specs.Prelude.{◌≡◌, ◌<◌, ◌≤◌, ◌^◌, ◌↔◌, IsTrue, MatchOption};
 ghost use Rattle.cidr.specs.model.Bits.{bits};
 ghost use Rattle.cidr.specs.declared.cidr.any.AnyIpCidr.TheVariants.{V4, V6};
-ghost use Rattle.cidr_c.specs.Values.{IsLow, IsAddressValue, IsHostValue, IsIpNetworkValue, IsNetworkValue, address_in, host_in, ip_network_in, network_in, number_in};
+ghost use Rattle.cidr_c.specs.model.Values.{IsLow, IsAddressValue, IsHostValue, IsIpNetworkValue, IsNetworkValue, address_in, host_in, ip_network_in, network_in, number_in};
 
 use cidr::{
     AnyIpCidr, IpAddr, IpCidr, IpInet, Ipv4Addr, Ipv4Cidr, Ipv4Inet, Ipv6Addr, Ipv6Cidr, Ipv6Inet,

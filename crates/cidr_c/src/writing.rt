@@ -1,7 +1,7 @@
 //! Files of look-up tables, written.
 ghost use Rattle.std.specs.Prelude.{◌≡◌, ◌+◌, ◌-◌, ◌^◌, ◌<◌, ◌≤◌, ◌⊎◌, drop, length, map, take, IfOk};
-ghost use Rattle.cidr_c.specs.Codes.{no_room};
-ghost use Rattle.cidr_c.specs.Writing.{AreValues, IsFileWritten, IsSetWritten, ipv4_rows};
+ghost use Rattle.cidr_c.specs.model.Codes.{no_room};
+ghost use Rattle.cidr_c.specs.calls.Writing.{AreValues, IsFileWritten, IsSetWritten, ipv4_rows};
 
 use crate::codes::{NO_MEMORY, NO_ROOM, NO_VALUE, OK, TOO_MANY, VALUES};
 use crate::tables::keys_in;

@@ -10,7 +10,7 @@ use Rattle.cidr.specs.model.Network.{width_of, zeros, ones, first_of, last_of, n
 use Rattle.cidr.specs.laws.BitLaws.{number-lt, number-append, bits-number}
 use Rattle.cidr.specs.declared.errors.NetworkParseError.{NetworkParseError}
 use Rattle.cidr.specs.declared.family.Family.{Family}
-use Rattle.cidr_ext.specs.Inside.{IsAddressAt, host_mask_of}
+use Rattle.cidr_ext.specs.model.Inside.{IsAddressAt, host_mask_of}
 use Rattle.cidr_ext.proofs.Indexes.{number-zeros, from_first, made_of}
 
 module _ (w i : ℕ) (p : List Bool) where

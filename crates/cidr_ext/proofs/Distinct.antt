@@ -3,7 +3,7 @@ use Rattle.std.proofs.Common.{◌≡◌, ℕ, ◌+◌, ◌-◌, ◌/◌, ◌^◌
 use Rattle.std.proofs.lemmas.List.Elements.{Contains-push_cases, Contains-append_cases}
 use Rattle.std.specs.List.{Contains}
 use Rattle.cidr_ext.specs.declared.registry.SpecialEntry.{SpecialEntry}
-use Rattle.cidr_ext.specs.Entries.{has_block, same_block, none_same, are_entries}
+use Rattle.cidr_ext.specs.internal.Entries.{has_block, same_block, none_same, are_entries}
 
 both : (a b : Bool) → (a && b) ≡ true → (a ≡ true) × (b ≡ true)
 both true b h = (refl, h)

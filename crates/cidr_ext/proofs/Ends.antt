@@ -7,7 +7,7 @@ use Rattle.std.specs.Iterator.{UpTo, at_most, item_count, MakesProgress}
 use Rattle.std.specs.Iterator.SizeHint.{IsExactHint}
 use Rattle.cidr.specs.model.Bits.{bits}
 use Rattle.cidr.specs.declared.family.Family.{Family}
-use Rattle.cidr_ext.specs.Subnets.{subnets_from, subnets_left, index_count, IsSubnetAt, NoSubnetAt}
+use Rattle.cidr_ext.specs.model.Subnets.{subnets_from, subnets_left, index_count, IsSubnetAt, NoSubnetAt}
 
 module _ (f : Family) (p : List Bool) (n : ℕ) where
   abbrev at : ℕ → Family × List Bool

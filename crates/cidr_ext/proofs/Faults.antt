@@ -16,9 +16,9 @@ use Rattle.cidr.specs.model.Network.{width_of}
 use Rattle.cidr.specs.declared.addr.ip.IpAddr.{IpAddr}
 use Rattle.cidr.specs.declared.cidr.combined.IpCidr.{IpCidr}
 use Rattle.cidr.proofs.EitherAddresses.{one_ip_address}
-use Rattle.cidr_ext.specs.MaskText.{IsLengthOfMask}
+use Rattle.cidr_ext.specs.texts.MaskText.{IsLengthOfMask}
 use Rattle.cidr_ext.specs.declared.text_faults.TextFault.TheVariants.{LeadingZero, NumberAbove255, NotFourOctets, LongGroup, MaskForLength, HostBits}
-use Rattle.cidr_ext.specs.TextFaults.{behind_slash, has_large_number, has_leading_zero, has_other_count, HasFault, HasNoFault, is_above_255, is_byte, is_long, is_number, IsMask, some_group}
+use Rattle.cidr_ext.specs.texts.TextFaults.{behind_slash, has_large_number, has_leading_zero, has_other_count, HasFault, HasNoFault, is_above_255, is_byte, is_long, is_number, IsMask, some_group}
 
 pub digits_are_all : (text : List ℕ) → list_all is_ascii_digit text ≡ all_ascii_digits text
 digits_are_all [] = refl

@@ -11,8 +11,8 @@ use Rattle.cidr.specs.declared.family.Family.TheVariants.{Ipv4, Ipv6}
 use Rattle.cidr_ext.specs.declared.registry.Purpose.{Purpose}
 use Rattle.cidr_ext.specs.declared.registry.SpecialEntry.{SpecialEntry}
 use Rattle.cidr_ext.specs.declared.registry.TheConstants.{IPV4_ENTRIES, IPV6_ENTRIES}
-use Rattle.cidr_ext.specs.Special.{entries_of, block_of, HasNoEntry, IsEntryOf, HasPurpose, multicast_of}
-use Rattle.cidr_ext.specs.Entries.{has_block, same_block, none_same, are_entries, IsOneLongest}
+use Rattle.cidr_ext.specs.model.Special.{entries_of, block_of, HasNoEntry, IsEntryOf, HasPurpose, multicast_of}
+use Rattle.cidr_ext.specs.internal.Entries.{has_block, same_block, none_same, are_entries, IsOneLongest}
 use Rattle.cidr_ext.proofs.InsideIpv6.{front_bits}
 use Rattle.cidr_ext.proofs.Distinct.{fits, alike}
 

@@ -8,7 +8,7 @@ use Rattle.cidr.specs.model.Bits.{bit_cmp, bit_eq}
 use Rattle.cidr.specs.model.BitString.{IsSharedLength}
 use Rattle.cidr.specs.model.Network.{zeros, first_of, BeginsWith}
 use Rattle.cidr.specs.laws.BitLaws.{bit_eq_Decides, bit_eq_ties}
-use Rattle.cidr_ext.specs.Tree.{IsHalfOf, AreSiblings, IsSupernet, HaveCommon}
+use Rattle.cidr_ext.specs.model.Tree.{IsHalfOf, AreSiblings, IsSupernet, HaveCommon}
 
 pub not_longer : (p q : List Bool) → BeginsWith q p → length p ≤ length q
 not_longer p q h = omega (arith, ap length h, length-take (length p) q)

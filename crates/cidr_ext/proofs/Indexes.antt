@@ -13,7 +13,7 @@ use Rattle.cidr.specs.laws.BitLaws.{length-bits, number-bits, bits-zero, bits-ca
 use Rattle.cidr.specs.declared.errors.NetworkParseError.{NetworkParseError}
 use Rattle.cidr.specs.declared.family.Family.{Family}
 use Rattle.cidr.specs.declared.family.Family.TheVariants.{Ipv4, Ipv6}
-use Rattle.cidr_ext.specs.Subnets.{IsSubnetAt, NoSubnetAt}
+use Rattle.cidr_ext.specs.model.Subnets.{IsSubnetAt, NoSubnetAt}
 
 pub number-zeros : (n : ℕ) → number (zeros n) ≡ 0
 number-zeros n = ap number (sym (bits-zero n)) ∙ number-bits n 0 (pow_pos n)

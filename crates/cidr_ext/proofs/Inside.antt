@@ -9,7 +9,7 @@ use Rattle.cidr.specs.model.Bits.{bits, number}
 use Rattle.cidr.specs.model.Network.{BeginsWith}
 use Rattle.cidr.specs.laws.BitLaws.{length-bits, number-lt, bits-number, number-bits, number-append, bit_cmp-numbers}
 use Rattle.cidr.specs.declared.family.Family.{Family}
-use Rattle.cidr_ext.specs.Subnets.{AscendEachOnce, subnets_of, HasExactlySubnets}
+use Rattle.cidr_ext.specs.model.Subnets.{AscendEachOnce, subnets_of, HasExactlySubnets}
 
 module _ (f : Family) (p : List Bool) (n : ℕ) (longer : length p ≤ n) where
   at : ℕ → Family × List Bool

@@ -8,7 +8,7 @@ use Rattle.cidr.specs.model.Network.{zeros, first_of, BeginsWith, network_from}
 use Rattle.cidr.specs.laws.BitLaws.{bits-append, bits-cat, bits_high, bits-number, length-bits, number-bits, number-lt}
 use Rattle.cidr.specs.declared.family.Family.TheVariants.{Ipv4, Ipv6}
 use Rattle.cidr.specs.declared.errors.NetworkParseError.{NetworkParseError}
-use Rattle.cidr_ext.specs.InsideIpv6.{IsIpv4Behind, mapped_front, nat64_front}
+use Rattle.cidr_ext.specs.model.InsideIpv6.{IsIpv4Behind, mapped_front, nat64_front}
 use Rattle.cidr_ext.proofs.Indexes.{made_of}
 
 -- ---- a list of j + k bits, in front and behind

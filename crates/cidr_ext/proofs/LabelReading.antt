@@ -10,8 +10,8 @@ use Rattle.cidr.specs.laws.BitLaws.{length-bits, number-bits, number-append, num
 use Rattle.cidr.specs.texts.Ipv4Text.{dot}
 use Rattle.cidr.specs.declared.family.Family.{Family}
 use Rattle.cidr.specs.declared.family.Family.TheVariants.{Ipv4, Ipv6}
-use Rattle.cidr_ext.specs.Reverse.{label_width, label_text, labels_text}
-use Rattle.cidr_ext.specs.LabelReading.{IsFirstLabel, NoFirstLabel, HasLabels}
+use Rattle.cidr_ext.specs.texts.Reverse.{label_width, label_text, labels_text}
+use Rattle.cidr_ext.specs.internal.LabelReading.{IsFirstLabel, NoFirstLabel, HasLabels}
 use Rattle.cidr_ext.proofs.Labels.{parts_of-more}
 use Rattle.cidr_ext.proofs.OctetLabels.{same_octet, lower_decimal}
 

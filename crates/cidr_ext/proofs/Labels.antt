@@ -10,7 +10,7 @@ use Rattle.cidr.specs.laws.BitLaws.{number-append, number-lt}
 use Rattle.cidr.specs.texts.Ipv4Text.{dot}
 use Rattle.cidr.specs.declared.family.Family.{Family}
 use Rattle.cidr.specs.declared.family.Family.TheVariants.{Ipv4, Ipv6}
-use Rattle.cidr_ext.specs.Reverse.{label_width, label_text, labels_text, domain_of, labels_of, reverse_text, longest_label, EndsAtLabel}
+use Rattle.cidr_ext.specs.texts.Reverse.{label_width, label_text, labels_text, domain_of, labels_of, reverse_text, longest_label, EndsAtLabel}
 use Rattle.cidr_ext.proofs.Indexes.{number-zeros}
 
 -- what a name takes fits

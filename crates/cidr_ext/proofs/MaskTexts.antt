@@ -22,8 +22,8 @@ use Rattle.cidr.proofs.Cuts.{not_lacking, one_cut}
 use Rattle.cidr.proofs.EitherAddresses.{one_family}
 use Rattle.cidr.proofs.NetworkPrinting.{IsAddressText-address_text, pushed_slash}
 use Rattle.cidr.proofs.NetworkTexts.{address_grammar}
-use Rattle.cidr_ext.specs.Inside.{IsMaskOf, IsHostMaskOf, host_mask_of}
-use Rattle.cidr_ext.specs.MaskText.{IsLengthOfMask, IsMaskText, ReadsMaskText, mask_text, host_mask_text}
+use Rattle.cidr_ext.specs.model.Inside.{IsMaskOf, IsHostMaskOf, host_mask_of}
+use Rattle.cidr_ext.specs.texts.MaskText.{IsLengthOfMask, IsMaskText, ReadsMaskText, mask_text, host_mask_text}
 use Rattle.cidr_ext.specs.declared.mask_text.MaskParseError.{MaskParseError}
 use Rattle.cidr_ext.specs.declared.mask_text.MaskParseError.TheVariants.{InvalidAddress, InvalidMask, NonContiguousMask, InvalidHostPart}
 use Rattle.cidr_ext.proofs.Masks.{number-mask, length-mask, number-host_mask, length-host_mask}

@@ -8,7 +8,7 @@ use Rattle.cidr.specs.model.Bits.{bits, number}
 use Rattle.cidr.specs.model.Network.{width_of, zeros, ones}
 use Rattle.cidr.specs.declared.family.Family.{Family}
 use Rattle.cidr.specs.laws.BitLaws.{number-bits, number-lt, number-append, bits-number, bits-ones}
-use Rattle.cidr_ext.specs.Inside.{IsMaskOf, IsHostMaskOf}
+use Rattle.cidr_ext.specs.model.Inside.{IsMaskOf, IsHostMaskOf}
 use Rattle.cidr_ext.proofs.Indexes.{number-zeros, width_fits}
 
 number-ones : (n : ℕ) → number (ones n) ≡ 2 ^ n - 1

@@ -4,7 +4,7 @@ use Rattle.std.proofs.lemmas.List.{take_more}
 use Rattle.std.proofs.lemmas.List.Elements.{Contains-push, Contains-push_cases, Contains-append_left}
 use Rattle.std.specs.List.{Contains}
 use Rattle.cidr_ext.specs.declared.registry.SpecialEntry.{SpecialEntry}
-use Rattle.cidr_ext.specs.Entries.{IsOneLongest}
+use Rattle.cidr_ext.specs.internal.Entries.{IsOneLongest}
 
 module _ (p : SpecialEntry → Bool) (xs : List SpecialEntry) (i : ℕ) (d : SpecialEntry) (within : i < length xs) where
   more : take (i + 1) xs ≡ take i xs ++ get_or xs i d ∷ []

@@ -8,8 +8,8 @@ use Rattle.cidr.specs.laws.BitLaws.{length-bits}
 use Rattle.cidr.specs.texts.Ipv4Text.{dot}
 use Rattle.cidr.specs.declared.family.Family.{Family}
 use Rattle.cidr.specs.declared.family.Family.TheVariants.{Ipv4, Ipv6}
-use Rattle.cidr_ext.specs.Reverse.{domain_of, label_width, labels_of, labels_text, reverse_text, EndsAtLabel, IsSameName, IsReverseAddressName, IsReverseName}
-use Rattle.cidr_ext.specs.LabelReading.{HasName, IsNamedBy, IsWithoutDot}
+use Rattle.cidr_ext.specs.texts.Reverse.{domain_of, label_width, labels_of, labels_text, reverse_text, EndsAtLabel, IsSameName, IsReverseAddressName, IsReverseName}
+use Rattle.cidr_ext.specs.internal.LabelReading.{HasName, IsNamedBy, IsWithoutDot}
 use Rattle.cidr_ext.proofs.Labels.{exact}
 use Rattle.cidr_ext.proofs.LabelReading.{lower_labels}
 use Rattle.cidr_ext.proofs.OctetLabels.{dot_first}

@@ -5,9 +5,9 @@ use Rattle.cidr.specs.model.Network.{width_of}
 use Rattle.cidr.specs.laws.BitLaws.{bits-number}
 use Rattle.cidr.specs.either.ByFamily.{IsKnownBy}
 use Rattle.cidr.specs.declared.family.Family.{Family}
-use Rattle.cidr_ext.specs.Inside.{IsAddressAt}
-use Rattle.cidr_ext.specs.Reverse.{IsReverseName, IsReverseAddressName}
-use Rattle.cidr_ext.specs.Subnets.{IsSubnetAt, NoSubnetAt}
+use Rattle.cidr_ext.specs.model.Inside.{IsAddressAt}
+use Rattle.cidr_ext.specs.texts.Reverse.{IsReverseName, IsReverseAddressName}
+use Rattle.cidr_ext.specs.model.Subnets.{IsSubnetAt, NoSubnetAt}
 use Rattle.cidr_ext.proofs.Labels.{whole_labels}
 
 -- a value of the bits that were read: a network or an address

@@ -12,7 +12,7 @@ use Rattle.cidr.specs.declared.family.Family.{Family}
 use Rattle.cidr.specs.model.Host.{Host, host_of, stepped_up, stepped_down, host_part, WrapsUp, WrapsDown}
 use Rattle.cidr.specs.model.Network.{width_of, zeros, ones, first_of, network_from}
 use Rattle.cidr.specs.laws.BitLaws.{length-bits, number-bits, number-lt, number-append, bits-number, bits-zero, bits-ones, bits-cat}
-use Rattle.cidr_ext.specs.Subnets.{IsNextNetwork}
+use Rattle.cidr_ext.specs.model.Subnets.{IsNextNetwork}
 use Rattle.cidr_ext.proofs.Indexes.{number-zeros, network_made}
 
 number-first_of : (w : ℕ) (p : List Bool) → number (first_of w p) ≡ number p * 2 ^ (w - length p)

@@ -6,7 +6,7 @@ use Rattle.std.specs.Char.{to_ascii_lowercase}
 use Rattle.cidr.specs.laws.DecimalLaws.{pushed_one, pushed_two, pushed_three}
 use Rattle.cidr.specs.texts.Ipv4Text.{dot}
 use Rattle.cidr.specs.declared.family.Family.TheVariants.{Ipv4}
-use Rattle.cidr_ext.specs.LabelReading.{IsFirstLabel, NoFirstLabel}
+use Rattle.cidr_ext.specs.internal.LabelReading.{IsFirstLabel, NoFirstLabel}
 
 -- ---- case
 pub stays : (x : ℕ) → x < 65 → to_ascii_lowercase x ≡ x

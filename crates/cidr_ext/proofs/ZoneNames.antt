@@ -6,9 +6,9 @@ use Rattle.std.specs.List.{Contains}
 use Rattle.cidr.specs.model.Network.{width_of}
 use Rattle.cidr.specs.declared.family.Family.{Family}
 use Rattle.cidr.specs.declared.family.Family.TheVariants.{Ipv4, Ipv6}
-use Rattle.cidr_ext.specs.Reverse.{label_width, reverse_text, EndsAtLabel}
-use Rattle.cidr_ext.specs.Subnets.{HasExactlySubnets}
-use Rattle.cidr_ext.specs.Zones.{EndAtLabel, IsZoneLength, names_of}
+use Rattle.cidr_ext.specs.texts.Reverse.{label_width, reverse_text, EndsAtLabel}
+use Rattle.cidr_ext.specs.model.Subnets.{HasExactlySubnets}
+use Rattle.cidr_ext.specs.texts.Zones.{EndAtLabel, IsZoneLength, names_of}
 
 first_in : {X : Type 0} (x : X) (xs : List X) → Contains (x ∷ xs) x
 first_in x xs = Contains-append_left (x ∷ []) xs x (Contains-push [] x)

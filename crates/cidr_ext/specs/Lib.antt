@@ -1,14 +1,6 @@
--- What the calls return, as relations between lists of bits.
-pub mod Tree
-pub mod Subnets
-pub mod Inside
-pub mod InsideIpv6
-pub mod Reverse
-pub mod Zones
-pub mod LabelReading
-pub mod Special
-pub mod Entries
-pub mod MaskText
-pub mod Families
-pub mod MaskMessages
-pub mod TextFaults
+-- What has to be believed: the model, and the strings. The other two are checked and not believed: a law that a trait
+-- cites, and what private functions promise each other.
+pub mod model
+pub mod texts
+pub mod laws
+pub mod internal

@@ -1,6 +1,6 @@
 //! Addresses as numbers.
 ghost use Rattle.std.specs.Prelude.{◌≡◌, ◌-◌, ◌<◌, ◌≤◌, ℕ, length, MatchOption};
-ghost use Rattle.cidr_ext.specs.Inside.{IsHostMaskOf, IsMaskOf};
+ghost use Rattle.cidr_ext.specs.model.Inside.{IsHostMaskOf, IsMaskOf};
 ghost use Rattle.cidr.specs.model.Bits.{number};
 ghost use Rattle.cidr.specs.model.Network.{width_of};
 

@@ -1,7 +1,7 @@
 //! Networks of either family as the nodes of two trees of prefixes.
 ghost use Rattle.std.specs.Prelude.{◌≡◌, ◌≢◌, ◌↔◌, ◌<◌, ◌⊎◌, ◌++◌, ◌∷◌, [], IsTrue, MatchOption, false, length, true};
 ghost use Rattle.cidr.specs.model.Network.{BeginsWith, width_of};
-ghost use Rattle.cidr_ext.specs.Tree.{AreSiblings, IsHalfOf, IsSpanning, IsSupernet};
+ghost use Rattle.cidr_ext.specs.model.Tree.{AreSiblings, IsHalfOf, IsSpanning, IsSupernet};
 
 use crate::network::NetworkExt;
 use cidr::{Cidr, IpCidr};

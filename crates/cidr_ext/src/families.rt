@@ -1,7 +1,7 @@
 //! The networks of all addresses of a family.
 ghost use Rattle.std.specs.Prelude.{◌≡◌, ◌≢◌, [], Bool, List, length, refl, MatchOption};
 ghost use Rattle.cidr.specs.model.Network.{width_of};
-ghost use Rattle.cidr_ext.specs.Families.{ip_addresses};
+ghost use Rattle.cidr_ext.specs.laws.Families.{ip_addresses};
 
 use cidr::{BitString, Cidr, Family, IpCidr, Ipv4Cidr, Ipv6Cidr};
 

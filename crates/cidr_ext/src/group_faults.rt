@@ -4,7 +4,7 @@ ghost use Rattle.std.specs.List.{list_all, list_any};
 ghost use Rattle.std.specs.Str.{all_ascii_digits};
 ghost use Rattle.std.specs.Char.{is_ascii_hexdigit};
 ghost use Rattle.cidr.specs.texts.Ipv4Text.{dot};
-ghost use Rattle.cidr_ext.specs.TextFaults.{before_slash, begins_with_zero, group_test, group_texts, is_above_255, is_byte, is_dotted, is_long, is_number, octet_texts, some_group};
+ghost use Rattle.cidr_ext.specs.texts.TextFaults.{before_slash, begins_with_zero, group_test, group_texts, is_above_255, is_byte, is_dotted, is_long, is_number, octet_texts, some_group};
 
 /// What may be wrong with a group.
 #[derive(Clone, Copy)]

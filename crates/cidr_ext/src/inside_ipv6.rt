@@ -2,7 +2,7 @@
 ghost use Rattle.std.specs.Prelude.{◌≡◌, ◌^◌, ◌<◌, ◌≤◌, ◌++◌, length, MatchOption};
 ghost use Rattle.cidr.specs.model.Bits.{bits};
 ghost use Rattle.cidr.specs.model.Network.{BeginsWith};
-ghost use Rattle.cidr_ext.specs.InsideIpv6.{IsIpv4Behind, mapped_front, nat64_front, six_to_four_front};
+ghost use Rattle.cidr_ext.specs.model.InsideIpv6.{IsIpv4Behind, mapped_front, nat64_front, six_to_four_front};
 
 use cidr::{Address, Cidr, Ipv4Addr, Ipv4Cidr, Ipv6Addr, Ipv6Cidr};
 

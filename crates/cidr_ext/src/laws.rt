@@ -2,8 +2,8 @@
 ghost use Rattle.std.specs.Prelude.{◌≡◌, ◌≤◌, ℕ, Bool, List, length};
 ghost use Rattle.cidr.specs.model.Network.{width_of};
 ghost use Rattle.cidr.specs.declared.family.Family.{Family};
-ghost use Rattle.cidr_ext.specs.Reverse.{EndsAtLabel, IsReverseAddressName, IsReverseName, reverse_text};
-ghost use Rattle.cidr_ext.specs.Subnets.{AscendEachOnce, subnets_of};
+ghost use Rattle.cidr_ext.specs.texts.Reverse.{EndsAtLabel, IsReverseAddressName, IsReverseName, reverse_text};
+ghost use Rattle.cidr_ext.specs.model.Subnets.{AscendEachOnce, subnets_of};
 
 /// The printed name of a network is its name, so that `from_reverse_name` of it gives the network.
 pub fn printed_name_is_read()

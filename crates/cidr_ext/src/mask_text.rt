@@ -5,7 +5,7 @@ ghost use Rattle.cidr.specs.texts.AddressText.{IsAddressText};
 ghost use Rattle.cidr.specs.texts.NetworkText.{slash};
 ghost use Rattle.cidr.specs.texts.PrintedAddress.{address_text, longest_address};
 ghost use Rattle.cidr.specs.texts.Refusal.{CutsAtLastSlash, Lacks};
-ghost use Rattle.cidr_ext.specs.MaskText.{host_mask_text, IsLengthOfMask, IsMaskText, mask_text, ReadsMaskText};
+ghost use Rattle.cidr_ext.specs.texts.MaskText.{host_mask_text, IsLengthOfMask, IsMaskText, mask_text, ReadsMaskText};
 
 use crate::address::AddressExt;
 use crate::families::WholeFamily;
@@ -81,7 +81,7 @@ pub enum MaskParseError {
 }
 
 impl MaskParseError {
-    ghost use Rattle.cidr_ext.specs.MaskMessages.{mask_message};
+    ghost use Rattle.cidr_ext.specs.texts.MaskMessages.{mask_message};
 
     /// The message, as stated at each variant.
     ///
@@ -102,7 +102,7 @@ impl MaskParseError {
 }
 
 impl fmt::Display for MaskParseError {
-    ghost use Rattle.cidr_ext.specs.MaskMessages.{mask_message};
+    ghost use Rattle.cidr_ext.specs.texts.MaskMessages.{mask_message};
 
     ghost output = { λ e. Some (mask_message e) };
 
@@ -112,7 +112,7 @@ impl fmt::Display for MaskParseError {
 }
 
 impl fmt::Debug for MaskParseError {
-    ghost use Rattle.cidr_ext.specs.MaskMessages.{mask_message};
+    ghost use Rattle.cidr_ext.specs.texts.MaskMessages.{mask_message};
 
     ghost debug_output = { λ e. Some (mask_message e) };
 

@@ -1,7 +1,7 @@
 //! Networks as the nodes of a tree of prefixes.
 ghost use Rattle.std.specs.Prelude.{◌≡◌, ◌↔◌, ◌-◌, ◌<◌, ◌≤◌, ◌⊎◌, ◌++◌, ◌∷◌, [], IsTrue, MatchOption, false, length, true, ℕ};
 ghost use Rattle.cidr.specs.model.Network.{BeginsWith};
-ghost use Rattle.cidr_ext.specs.Tree.{AreSiblings, HaveCommon, IsHalfOf, IsSpanning, IsSupernet};
+ghost use Rattle.cidr_ext.specs.model.Tree.{AreSiblings, HaveCommon, IsHalfOf, IsSpanning, IsSupernet};
 
 use cidr::NetworkBits;
 

@@ -2,8 +2,8 @@
 ghost use Rattle.std.specs.Prelude.{◌≡◌, ◌-◌, ◌^◌, ◌<◌, ◌≤◌, ◌⊎◌, length, MatchOption, IfSome};
 ghost use Rattle.cidr.specs.model.Host.{host_of};
 ghost use Rattle.cidr.specs.model.Network.{BeginsWith, first_of, ones, width_of, zeros};
-ghost use Rattle.cidr_ext.specs.Inside.{host_mask_of, IsAddressAt, usable_of};
-ghost use Rattle.cidr_ext.specs.Subnets.{HasExactlySubnets, IsNextNetwork, IsSubnetAt, NoSubnetAt, subnets_of};
+ghost use Rattle.cidr_ext.specs.model.Inside.{host_mask_of, IsAddressAt, usable_of};
+ghost use Rattle.cidr_ext.specs.model.Subnets.{HasExactlySubnets, IsNextNetwork, IsSubnetAt, NoSubnetAt, subnets_of};
 
 use crate::address::AddressExt;
 use crate::shifts::{fits, greatest, shifted};

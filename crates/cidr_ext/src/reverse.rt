@@ -4,8 +4,8 @@ ghost use Rattle.std.specs.Char.{digit_char};
 ghost use Rattle.cidr.specs.model.Address.{parts_of};
 ghost use Rattle.cidr.specs.model.Bits.{number};
 ghost use Rattle.cidr.specs.texts.Ipv4Text.{dot};
-ghost use Rattle.cidr_ext.specs.Zones.{IsZoneLength, zones_of};
-ghost use Rattle.cidr_ext.specs.Reverse.{domain_of, EndsAtLabel, IsReverseAddressName, IsReverseName, label_text, label_width, labels_text, longest_label, reverse_text};
+ghost use Rattle.cidr_ext.specs.texts.Zones.{IsZoneLength, zones_of};
+ghost use Rattle.cidr_ext.specs.texts.Reverse.{domain_of, EndsAtLabel, IsReverseAddressName, IsReverseName, label_text, label_width, labels_text, longest_label, reverse_text};
 
 use crate::address::AddressExt;
 use crate::families::WholeFamily;

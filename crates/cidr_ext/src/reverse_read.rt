@@ -6,8 +6,8 @@ ghost use Rattle.cidr.specs.model.Bits.{bits, number};
 ghost use Rattle.cidr.specs.model.Network.{width_of};
 ghost use Rattle.cidr.specs.texts.Ipv4Text.{dot};
 ghost use Rattle.cidr.specs.declared.family.Family.TheVariants.{Ipv4, Ipv6};
-ghost use Rattle.cidr_ext.specs.Reverse.{domain_of, IsReverseName, label_text, label_width, labels_text};
-ghost use Rattle.cidr_ext.specs.LabelReading.{HasLabels, HasName, IsNamedBy, IsWithoutDot, TakesLabel};
+ghost use Rattle.cidr_ext.specs.texts.Reverse.{domain_of, IsReverseName, label_text, label_width, labels_text};
+ghost use Rattle.cidr_ext.specs.internal.LabelReading.{HasLabels, HasName, IsNamedBy, IsWithoutDot, TakesLabel};
 
 use crate::reverse::{domain, label_bits};
 use cidr::Family;

@@ -3,7 +3,7 @@ ghost use Rattle.std.specs.Prelude.{◌≡◌, ◌≤◌, length, IfSome};
 ghost use Rattle.std.specs.Iterator.{YieldsFirstBy, YieldsLastBy, item_count, UpTo, at_most};
 ghost use Rattle.std.specs.Iterator.SizeHint.{IsExactHint, IsWithinCount};
 ghost use Rattle.cidr.specs.model.Network.{width_of};
-ghost use Rattle.cidr_ext.specs.Zones.{EndAtLabel, IsZoneLength, names_of};
+ghost use Rattle.cidr_ext.specs.texts.Zones.{EndAtLabel, IsZoneLength, names_of};
 
 use crate::address::AddressExt;
 use crate::reverse::CidrReverseName;
@@ -24,7 +24,7 @@ pub struct ReverseZones<C: Cidr> {
 
 impl<C: Cidr> Model for ReverseZones<C> {
     ghost use Rattle.std.specs.Prelude.{List, ℕ};
-    ghost use Rattle.cidr_ext.specs.Zones.{EndAtLabel, names_of};
+    ghost use Rattle.cidr_ext.specs.texts.Zones.{EndAtLabel, names_of};
 
     ghost Value = { List (List ℕ) };
 

@@ -1,8 +1,8 @@
 //! Addresses for special purposes.
 ghost use Rattle.std.specs.Prelude.{◌≡◌, ◌↔◌, ◌<◌, ◌≤◌, ◌⊎◌, IsTrue, MatchOption, true};
 ghost use Rattle.cidr.specs.model.Network.{width_of, BeginsWith};
-ghost use Rattle.cidr_ext.specs.Entries.{are_entries, has_block, IsOneLongest};
-ghost use Rattle.cidr_ext.specs.Special.{HasNoEntry, HasPurpose, IsEntryOf, IsGlobal, entries_of, multicast_of};
+ghost use Rattle.cidr_ext.specs.internal.Entries.{are_entries, has_block, IsOneLongest};
+ghost use Rattle.cidr_ext.specs.model.Special.{HasNoEntry, HasPurpose, IsEntryOf, IsGlobal, entries_of, multicast_of};
 
 use crate::address::AddressExt;
 use crate::registry::{IPV4_ENTRIES, IPV6_ENTRIES, Purpose, SpecialEntry};
@@ -152,7 +152,7 @@ impl<A: AddressExt> SpecialAddress for A {}
 
 impl SpecialEntry {
     /// Whether the block contains the address with this number.
-    #[tactic(auto, unfolding(crate::specs::Entries::has_block))]
+    #[tactic(auto, unfolding(crate::specs::internal::Entries::has_block))]
     fn contains(&self, width: u8, number: u128) -> bool
         requires { width ≤ 128 }
         ensures { result ≡ has_block width number self.now }

@@ -4,7 +4,7 @@ ghost use Rattle.std.specs.Iterator.{YieldsFirstBy, YieldsLastBy, item_count, Up
 ghost use Rattle.std.specs.Iterator.SizeHint.{IsExactHint, IsWithinCount};
 ghost use Rattle.cidr.specs.model.Network.{width_of};
 ghost use Rattle.cidr.specs.model.Views.{in_family};
-ghost use Rattle.cidr_ext.specs.Subnets.{index_count, subnets_of};
+ghost use Rattle.cidr_ext.specs.model.Subnets.{index_count, subnets_of};
 
 use crate::address::AddressExt;
 use crate::numbered::CidrExt;
@@ -37,7 +37,7 @@ impl<C: Cidr> Model for Subnets<C> {
     ghost use Rattle.std.specs.Prelude.{List, Bool, IfSome, ◌≤◌, ◌<◌, ◌-◌, ◌^◌, length};
     ghost use Rattle.cidr.specs.model.Network.{width_of};
     ghost use Rattle.cidr.specs.declared.family.Family.{Family};
-    ghost use Rattle.cidr_ext.specs.Subnets.{subnets_left};
+    ghost use Rattle.cidr_ext.specs.model.Subnets.{subnets_left};
 
     ghost Value = { List (Family × List Bool) };
 

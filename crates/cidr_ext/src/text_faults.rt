@@ -1,7 +1,7 @@
 //! What is wrong with a string that is no network, no address and no range of addresses.
 ghost use Rattle.std.specs.Prelude.{◌≡◌, ℕ, Some, MatchOption};
 ghost use Rattle.std.specs.Bool.{Decides};
-ghost use Rattle.cidr_ext.specs.TextFaults.{behind_slash, HasFault, HasNoFault, IsFirstFault, IsMask};
+ghost use Rattle.cidr_ext.specs.texts.TextFaults.{behind_slash, HasFault, HasNoFault, IsFirstFault, IsMask};
 ghost use Rattle.cidr_ext.specs.declared.text_faults.TextFault.TheVariants.{HostBits as SetBits};
 ghost use Rattle.cidr.specs.declared.cidr.combined.IpCidr.{IpCidr};
 
@@ -32,7 +32,7 @@ pub enum TextFault {
 }
 
 impl TextFault {
-    ghost use Rattle.cidr_ext.specs.TextFaults.{fault_message};
+    ghost use Rattle.cidr_ext.specs.texts.TextFaults.{fault_message};
 
     /// The message, of at most 73 bytes. Nothing is allocated.
     ///
@@ -59,7 +59,7 @@ impl TextFault {
 }
 
 impl fmt::Display for TextFault {
-    ghost use Rattle.cidr_ext.specs.TextFaults.{fault_message};
+    ghost use Rattle.cidr_ext.specs.texts.TextFaults.{fault_message};
 
     ghost output = { λ e. Some (fault_message e) };
 
@@ -69,7 +69,7 @@ impl fmt::Display for TextFault {
 }
 
 impl fmt::Debug for TextFault {
-    ghost use Rattle.cidr_ext.specs.TextFaults.{fault_message};
+    ghost use Rattle.cidr_ext.specs.texts.TextFaults.{fault_message};
 
     ghost debug_output = { λ e. Some (fault_message e) };
 

@@ -15,7 +15,7 @@ use Rattle.std.specs.declared.cmp.Ordering.TheVariants.{Less}
 use Rattle.cidr.specs.model.Bits.{bit_cmp}
 use Rattle.cidr.specs.model.BitString.{leading}
 use Rattle.cidr.specs.model.Network.{BeginsWith}
-use Rattle.cidr_table.specs.Prefixes.{IsLongestRow}
+use Rattle.cidr_table.specs.model.Prefixes.{IsLongestRow}
 use Rattle.cidr_table.proofs.Insides.{key_at}
 use Rattle.cidr_table.proofs.Matching.{shorter}
 use Rattle.cidr_fib.specs.Ranges.{AreMatchCodes, AreCodes, IsMatchCode, IsRangeCode, last_leading}

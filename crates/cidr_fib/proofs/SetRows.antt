@@ -9,8 +9,8 @@ use Rattle.std.specs.Option.{is_some, option_map}
 use Rattle.std.specs.declared.cmp.Ordering.{Ordering}
 use Rattle.cidr.specs.model.Bits.{bit_cmp}
 use Rattle.cidr.specs.model.Network.{BeginsWith}
-use Rattle.cidr_table.specs.Cover.{Covers, IsReduced}
-use Rattle.cidr_table.specs.Prefixes.{IsLookedUp, IsValueLookedUp}
+use Rattle.cidr_table.specs.model.Cover.{Covers, IsReduced}
+use Rattle.cidr_table.specs.model.Prefixes.{IsLookedUp, IsValueLookedUp}
 use Rattle.cidr_table.proofs.MapLaws.{contains_cases, contains_first, contains_later, contains_nothing}
 use Rattle.cidr_sets.proofs.Steps.{sorted_by}
 

@@ -6,7 +6,7 @@ use Rattle.cidr_fib.specs.declared.find.Ranges.{Ranges}
 use Rattle.cidr_fib.specs.declared.find.Ranges.TheVariants.{Whole, Parted, Marked}
 use Rattle.cidr_fib.specs.declared.starts.Starts.{Starts}
 use Rattle.cidr_fib.specs.declared.starts.Starts.TheVariants.{Narrow, Wide}
-use Rattle.cidr_table.specs.Prefixes.{IsValueLookedUp}
+use Rattle.cidr_table.specs.model.Prefixes.{IsValueLookedUp}
 
 -- the starts, of which narrow ones are kept without their last 32 bits
 abbrev pub numbers : Starts → List ℕ

@@ -1,6 +1,6 @@
 //! Sets of addresses, made ready for look-ups.
 ghost use Rattle.std.specs.Prelude.{◌≡◌, ◌↔◌, ◌≤◌, length, map, IfOk, IfErr, IsTrue};
-ghost use Rattle.cidr_table.specs.Cover.{Covers, IsFull};
+ghost use Rattle.cidr_table.specs.model.Cover.{Covers, IsFull};
 ghost use Rattle.cidr_fib.specs.Errors.{IsSetRefused};
 
 use crate::error::ForwardingError;
@@ -25,7 +25,7 @@ pub struct ReadySet<C: NetworkBits + Copy> {
 impl<C: NetworkBits + Copy> Model for ReadySet<C> {
     ghost use Rattle.std.specs.Prelude.{List, map};
     ghost use Rattle.std.specs.Map.{keys_of};
-    ghost use Rattle.cidr_table.specs.Cover.{IsReduced};
+    ghost use Rattle.cidr_table.specs.model.Cover.{IsReduced};
 
     ghost Value = { List C };
 

@@ -1,6 +1,6 @@
 //! Forwarding tables, each with the table that it is made of.
 ghost use Rattle.std.specs.Prelude.{◌≡◌, IfOk, IfErr};
-ghost use Rattle.cidr_table.specs.Prefixes.{IsValueLookedUp};
+ghost use Rattle.cidr_table.specs.model.Prefixes.{IsValueLookedUp};
 ghost use Rattle.cidr_fib.specs.Errors.{AreRowsRefused};
 
 use crate::error::ForwardingError;
@@ -23,7 +23,7 @@ pub struct ForwardingTable<C: NetworkBits + Copy> {
 
 impl<C: NetworkBits + Copy> Model for ForwardingTable<C> {
     ghost use Rattle.std.specs.Prelude.{ℕ};
-    ghost use Rattle.cidr_table.specs.FiniteMap.{StoredRows};
+    ghost use Rattle.cidr_table.specs.model.FiniteMap.{StoredRows};
     ghost use Rattle.cidr_fib.specs.Ranges.{HaveAnswers};
 
     ghost Value = { StoredRows C ℕ };

@@ -2,7 +2,7 @@
 ghost use Rattle.std.specs.Prelude.{◌≡◌, ◌↔◌, ℕ, ◌+◌, ◌^◌, ◌<◌, ◌≤◌, length, slice_index_or, slice_range, Contains, Some, None, IfSome, IsTrue};
 ghost use Rattle.cidr.specs.model.Bits.{bits};
 ghost use Rattle.cidr.specs.model.Network.{BeginsWith};
-ghost use Rattle.cidr_table.specs.Prefixes.{IsLongestMatch};
+ghost use Rattle.cidr_table.specs.model.Prefixes.{IsLongestMatch};
 ghost use Rattle.cidr_arrays.specs.Arrays.{prefix_bits};
 ghost use Rattle.cidr_files.specs.Layout.{words};
 ghost use Rattle.cidr_files.specs.Tables.{AreArrays, AreOffsets, stored_networks, offsets_in, part_at, parts_in, value_in};

@@ -6,8 +6,8 @@ use Rattle.std.specs.List.Sorted.{IsStrictlySortedBy}
 use Rattle.std.specs.Option.{option_eq}
 use Rattle.std.proofs.lemmas.Bool.{cases_lt}
 use Rattle.cidr.specs.model.Network.{HasWidth}
-use Rattle.cidr_table.specs.CoverAddresses.{IsIpAddressBits}
-use Rattle.cidr_table.specs.Prefixes.{IsValueLookedUp}
+use Rattle.cidr_table.specs.model.CoverAddresses.{IsIpAddressBits}
+use Rattle.cidr_table.specs.model.Prefixes.{IsValueLookedUp}
 use Rattle.cidr_forwarding.specs.Forwarding.{in_bits, AreNetworksOf, AreIpRows, ForwardSame}
 use Rattle.cidr_forwarding.specs.Trees.{own, below, Region, Even, Halves, region, all_are, agree}
 use Rattle.cidr_forwarding.specs.Plans.{tails, planned, IsNode, AreDeep, NextIs}

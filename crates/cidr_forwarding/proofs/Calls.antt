@@ -3,7 +3,7 @@ use Rattle.std.proofs.Common.{◌≡◌, ◌↔◌, ◌≤◌, Bool, List, [], �
 use Rattle.std.specs.List.{Contains}
 use Rattle.std.specs.Option.{option_map}
 use Rattle.cidr.specs.model.Network.{BeginsWith}
-use Rattle.cidr_table.specs.Prefixes.{IsLongestRow, IsLookedUp, IsValueLookedUp}
+use Rattle.cidr_table.specs.model.Prefixes.{IsLongestRow, IsLookedUp, IsValueLookedUp}
 use Rattle.cidr_forwarding.specs.Forwarding.{in_bits, ForwardSame, ForwardSameHoled}
 use Rattle.cidr_table.proofs.MapLaws.{contains_first, contains_later, contains_cases, contains_nothing}
 

@@ -10,7 +10,7 @@ use Rattle.std.specs.Bool.{Decides}
 use Rattle.std.specs.Option.{option_eq}
 use Rattle.cidr.specs.model.Bits.{bit_cmp}
 use Rattle.cidr.specs.model.Network.{HasWidth}
-use Rattle.cidr_table.specs.CoverAddresses.{IsIpAddressBits}
+use Rattle.cidr_table.specs.model.CoverAddresses.{IsIpAddressBits}
 use Rattle.cidr_forwarding.specs.Forwarding.{in_bits, AreNetworksOf, AreIpRows, IsSmallest, IsSmallestHoled}
 use Rattle.cidr_forwarding.specs.Trees.{region, AllFitWidth}
 use Rattle.cidr_forwarding.specs.Choices.{put, is_free}

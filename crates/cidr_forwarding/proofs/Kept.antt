@@ -1,6 +1,6 @@
 -- The rows that are put are of networks that are no longer than those of the rows before, and of the same families.
 use Rattle.std.proofs.Common.{ℕ, zero, suc, ◌≤◌, Bool, true, false, cond, List, [], ◌∷◌, ◌++◌, length, Option, Some, None, sym, subst, arith, inl, inr}
-use Rattle.cidr_table.specs.CoverAddresses.{IsIpNetworkBits}
+use Rattle.cidr_table.specs.model.CoverAddresses.{IsIpNetworkBits}
 use Rattle.cidr_table.proofs.MapLaws.{contains_cases, contains_nothing}
 use Rattle.cidr_forwarding.specs.Forwarding.{in_bits, AreNetworksOf, AreIpRows}
 use Rattle.cidr_forwarding.specs.Trees.{own, below, under, Region, Even, Halves, deeper, region, AllFitWidth}

@@ -2,7 +2,7 @@
 use Rattle.std.proofs.Common.{◌≡◌, ◌≢◌, ◌⊎◌, ℕ, zero, suc, Bool, true, false, List, [], ◌∷◌, length, take, Option, Some, None, refl, sym, ap, ◌∙◌, subst, arith, inl, inr}
 use Rattle.std.specs.List.{Contains}
 use Rattle.cidr.specs.model.Network.{BeginsWith}
-use Rattle.cidr_table.specs.Prefixes.{IsLongestRow, IsLookedUp}
+use Rattle.cidr_table.specs.model.Prefixes.{IsLongestRow, IsLookedUp}
 use Rattle.cidr_table.proofs.MapLaws.{contains_first, contains_later, contains_cases, contains_nothing}
 use Rattle.cidr_forwarding.proofs.RowParts.{forward}
 use Rattle.cidr_forwarding.specs.Trees.{own, below_step, below}

@@ -1,6 +1,6 @@
 -- Rows as a forwarding by halves, and that the addresses of a width and those of both families fit it.
 use Rattle.std.proofs.Common.{◌≡◌, ℕ, zero, suc, ◌≤◌, Bool, true, false, List, [], ◌∷◌, length, refl, sym, ap, ap₂, ◌∙◌, subst, arith}
-use Rattle.cidr_table.specs.CoverAddresses.{IsIpAddressBits, IsIpNetworkBits}
+use Rattle.cidr_table.specs.model.CoverAddresses.{IsIpAddressBits, IsIpNetworkBits}
 use Rattle.cidr_forwarding.proofs.RowParts.{forward, forward_none}
 use Rattle.cidr_forwarding.proofs.Regions.{at, Fits}
 use Rattle.cidr_forwarding.specs.Trees.{Region, Halves, own, below_step, below, deeper, region, AllFitWidth}

@@ -6,7 +6,7 @@ use Rattle.std.specs.Map.{keys_of}
 use Rattle.std.specs.Option.{option_map, option_eq}
 use Rattle.cidr.specs.model.Bits.{bit_cmp}
 use Rattle.cidr.specs.model.Network.{BeginsWith}
-use Rattle.cidr_table.specs.Prefixes.{IsLookedUp, IsValueLookedUp}
+use Rattle.cidr_table.specs.model.Prefixes.{IsLookedUp, IsValueLookedUp}
 use Rattle.cidr_forwarding.specs.Forwarding.{ForwardSame, IsSmallest, row_value, ForwardSameHoled, IsSmallestHoled}
 use Rattle.cidr_forwarding.proofs.RowParts.{forward, AreFree}
 use Rattle.cidr_forwarding.proofs.Regions.{at, Fits}

@@ -6,8 +6,8 @@ use Rattle.std.specs.List.{Contains}
 use Rattle.std.specs.List.Sorted.{IsStrictlySortedBy}
 use Rattle.std.specs.Map.{keys_of}
 use Rattle.cidr.specs.model.Bits.{bit_cmp}
-use Rattle.cidr_table.specs.CoverAddresses.{IsIpNetworkBits}
-use Rattle.cidr_table.specs.Prefixes.{IsValueLookedUp}
+use Rattle.cidr_table.specs.model.CoverAddresses.{IsIpNetworkBits}
+use Rattle.cidr_table.specs.model.Prefixes.{IsValueLookedUp}
 
 -- the value of a row that may be a hole: none where there is no row or where it is a hole
 abbrev pub row_value : {V : Type 0} → Option (Option V) → Option V

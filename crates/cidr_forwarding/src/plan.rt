@@ -5,7 +5,7 @@ ghost use Rattle.std.specs.List.Sorted.{IsStrictlySortedBy};
 ghost use Rattle.std.specs.Map.{keys_of};
 ghost use Rattle.cidr.specs.either.IpAddress.{TellsEqual};
 ghost use Rattle.cidr.specs.model.Network.{HasWidth};
-ghost use Rattle.cidr_table.specs.CoverAddresses.{IsIpAddressBits};
+ghost use Rattle.cidr_table.specs.model.CoverAddresses.{IsIpAddressBits};
 ghost use Rattle.cidr_forwarding.specs.Forwarding.{in_bits, AreNetworksOf, AreIpRows, IsSmallest, IsSmallestHoled};
 ghost use Rattle.cidr_forwarding.specs.Choices.{EndsIn, is_listed, head_or, noted, counted};
 ghost use Rattle.cidr_forwarding.specs.Plans.{planned, measured, IsNode, AreDeep, AreOf, AreOfOne, behind, choices, put_rows};

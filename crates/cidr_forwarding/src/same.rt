@@ -3,7 +3,7 @@ ghost use Rattle.std.specs.Prelude.{◌≡◌, ◌↔◌, ℕ, ◌<◌, ◌≤�
 ghost use Rattle.std.specs.Option.{option_eq};
 ghost use Rattle.cidr.specs.either.IpAddress.{TellsEqual};
 ghost use Rattle.cidr.specs.model.Network.{HasWidth};
-ghost use Rattle.cidr_table.specs.CoverAddresses.{IsIpAddressBits};
+ghost use Rattle.cidr_table.specs.model.CoverAddresses.{IsIpAddressBits};
 ghost use Rattle.cidr_forwarding.specs.Forwarding.{AreNetworksOf, AreIpRows, ForwardSame};
 ghost use Rattle.cidr_forwarding.specs.Trees.{agree};
 ghost use Rattle.cidr_forwarding.specs.Plans.{planned, IsNode, AreDeep};

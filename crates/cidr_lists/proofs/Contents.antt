@@ -12,8 +12,8 @@ use Rattle.cidr.specs.declared.cidr.combined.IpCidr.{IpCidr}
 use Rattle.cidr.specs.declared.cidr.combined.IpCidr.TheVariants.{V4, V6}
 use Rattle.cidr.specs.declared.family.Family.TheVariants.{Ipv4, Ipv6}
 use Rattle.cidr.specs.texts.Refusal.{Lacks}
-use Rattle.cidr_sets.specs.Ranges.{IsBetween}
-use Rattle.cidr_sets.specs.Sets.{IsSetOf}
+use Rattle.cidr_sets.specs.model.Ranges.{IsBetween}
+use Rattle.cidr_sets.specs.model.Sets.{IsSetOf}
 use Rattle.cidr_lists.specs.Lists.{IsFieldError, hyphen, line_networks}
 use Rattle.cidr_lists.specs.Reading.{AddsContent, Grows, IsNoEnd, ReadsField}
 use Rattle.cidr_lists.specs.declared.errors.LineError.{LineError}

@@ -6,7 +6,7 @@ use Rattle.std.proofs.lemmas.Bool.{cases_eq, cases_lt}
 use Rattle.std.proofs.lemmas.List.{get_or-set_other, get_or-set_same, length-set}
 use Rattle.std.proofs.lemmas.List.Elements.{Contains-append_left, Contains-push, Contains-push_cases}
 use Rattle.std.proofs.lemmas.Option.{none-some, same_Some, slice_get-get_or, slice_get_past, slice_get_within}
-use Rattle.cidr_ext.specs.Tree.{AreSiblings}
+use Rattle.cidr_ext.specs.model.Tree.{AreSiblings}
 use Rattle.cidr_table.proofs.MapLaws.{contains_nothing}
 use Rattle.cidr_lists.specs.Findings.{AreBitsInside}
 use Rattle.cidr_lists.specs.Nearness.{AreNearKept, AreOthersSame, HasRow, IsChain, IsClosed, IsClosedHalf, IsLast, IsLeast, IsRowAround, IsRowHalf, IsRowNear, IsSameRow, PutsFirst, PutsHalf}

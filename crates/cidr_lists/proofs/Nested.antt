@@ -8,7 +8,7 @@ use Rattle.std.proofs.lemmas.List.{length_push, same_from_push, take-append-le, 
 use Rattle.cidr.specs.laws.BitLaws.{bit_cmp_total}
 use Rattle.cidr.specs.model.Bits.{bit_cmp}
 use Rattle.cidr.specs.model.Network.{BeginsWith}
-use Rattle.cidr_ext.specs.Tree.{AreSiblings}
+use Rattle.cidr_ext.specs.model.Tree.{AreSiblings}
 use Rattle.cidr_table.proofs.Beginnings.{begins_length, bits_exact, not_before}
 use Rattle.cidr_lists.specs.Findings.{AreBitsInside}
 

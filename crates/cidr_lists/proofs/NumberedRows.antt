@@ -17,7 +17,7 @@ use Rattle.cidr.specs.either.IpNetwork.{network_bits, network_prefix}
 use Rattle.cidr.specs.model.Bits.{bit_cmp}
 use Rattle.cidr.specs.declared.cidr.combined.IpCidr.{IpCidr}
 use Rattle.cidr.specs.declared.cidr.combined.IpCidr.TheVariants.{V4, V6}
-use Rattle.cidr_ext.specs.Tree.{AreSiblings}
+use Rattle.cidr_ext.specs.model.Tree.{AreSiblings}
 use Rattle.cidr_table.proofs.MapLaws.{contains_nothing}
 use Rattle.cidr_lists.specs.Findings.{AreHalves, AreBitsInside, IsInside}
 use Rattle.cidr_lists.specs.Nearness.{AreRowsInOrder, AreNearKept, AreNear, AreOthersSame, AreRows, AreRowsOf, IsAroundAt, IsFirstIndex, IsHalfAt, IsLast, IsLeast, IsNear, IsRowAround, IsRowHalf, IsRowNear}

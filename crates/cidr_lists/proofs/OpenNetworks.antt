@@ -7,7 +7,7 @@ use Rattle.std.proofs.lemmas.List.{append-nil, length_push, take_at}
 use Rattle.std.proofs.lemmas.List.Elements.{Contains-append_cases, Contains-append_left, Contains-append_right, Contains-push, Contains-push_cases}
 use Rattle.cidr.specs.model.Bits.{bit_cmp}
 use Rattle.cidr.specs.model.Network.{BeginsWith}
-use Rattle.cidr_ext.specs.Tree.{AreSiblings}
+use Rattle.cidr_ext.specs.model.Tree.{AreSiblings}
 use Rattle.cidr_table.proofs.Beginnings.{begins_between, begins_length}
 use Rattle.cidr_table.proofs.MapLaws.{contains_cases, contains_first, contains_later, contains_nothing}
 use Rattle.cidr_lists.specs.Findings.{AreBitsInside}

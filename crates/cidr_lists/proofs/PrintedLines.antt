@@ -20,7 +20,7 @@ use Rattle.cidr.specs.declared.inet.combined.IpInet.TheVariants as host
 use Rattle.cidr.proofs.Cuts.{not_lacking}
 use Rattle.cidr.proofs.EitherTexts.{one_ip_host, one_ip_network}
 use Rattle.cidr.proofs.NetworkPrinting.{host_plain, network_plain}
-use Rattle.cidr_table.specs.Cover.{AreNetworks}
+use Rattle.cidr_table.specs.model.Cover.{AreNetworks}
 use Rattle.cidr_table.proofs.MapLaws.{contains_first, contains_later}
 use Rattle.cidr_lists.specs.Lists.{IsContent, IsNetworkBy, IsTooLong, LineSays, ListSays, hyphen, is_line_feed, kept_of, lines_of, most_bytes, line_networks, networks_in, text_by, AreContentNetworks as AreOfContent}
 use Rattle.cidr_lists.specs.Printing.{line}

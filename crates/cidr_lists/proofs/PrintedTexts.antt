@@ -6,8 +6,8 @@ use Rattle.cidr.specs.model.Bits.{bit_eq}
 use Rattle.cidr.specs.texts.PrintedAddress.{address_text}
 use Rattle.cidr.specs.declared.family.Family.{Family}
 use Rattle.cidr.specs.declared.family.Family.TheVariants.{Ipv4, Ipv6}
-use Rattle.cidr_table.specs.Cover.{Covers}
-use Rattle.cidr_sets.specs.Ranges.{AreRanges}
+use Rattle.cidr_table.specs.model.Cover.{Covers}
+use Rattle.cidr_sets.specs.model.Ranges.{AreRanges}
 use Rattle.cidr_lists.specs.Printing.{line}
 use Rattle.cidr_lists.specs.Sets.{IsPrinted, networks_of, range_line}
 use Rattle.cidr_lists.specs.declared.sets.Form.TheVariants.{Ranges}

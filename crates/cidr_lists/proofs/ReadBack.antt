@@ -4,7 +4,7 @@ use Rattle.std.specs.List.{AllZip}
 use Rattle.cidr.specs.declared.cidr.combined.IpCidr.{IpCidr}
 use Rattle.cidr.specs.declared.family.Family.{Family}
 use Rattle.cidr.specs.declared.family.Family.TheVariants.{Ipv4, Ipv6}
-use Rattle.cidr_table.specs.Cover.{Covers}
+use Rattle.cidr_table.specs.model.Cover.{Covers}
 use Rattle.cidr_sets.proofs.Addresses.{one_list}
 use Rattle.cidr_lists.specs.Lists.{ListSays, Text, networks_in, text_by}
 use Rattle.cidr_lists.specs.ReadBack.{AreUnions, SaysJust}

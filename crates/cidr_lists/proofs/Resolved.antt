@@ -4,10 +4,10 @@ use Rattle.std.specs.List.{Contains}
 use Rattle.std.specs.Map.{keys_of}
 use Rattle.std.proofs.lemmas.Option.{slice_get-map, slice_get_cases}
 use Rattle.cidr.specs.model.Network.{BeginsWith}
-use Rattle.cidr_table.specs.LastRows.{AreLastRows, IsLastRow}
-use Rattle.cidr_table.specs.Prefixes.{IsLookedUp}
+use Rattle.cidr_table.specs.model.LastRows.{AreLastRows, IsLastRow}
+use Rattle.cidr_table.specs.model.Prefixes.{IsLookedUp}
 use Rattle.cidr_table.proofs.MapLaws.{contains_cases, contains_first, contains_later, contains_nothing}
-use Rattle.cidr_table.specs.FiniteMap.{StoredRows}
+use Rattle.cidr_table.specs.model.FiniteMap.{StoredRows}
 use Rattle.cidr_lists.specs.Tables.{resolved, value_at}
 use Rattle.cidr_lists.specs.declared.rows.Span.{Span}
 

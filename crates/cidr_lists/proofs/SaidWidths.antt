@@ -18,11 +18,11 @@ use Rattle.cidr.specs.declared.family.Family.{Family}
 use Rattle.cidr.specs.declared.family.Family.TheVariants.{Ipv4, Ipv6}
 use Rattle.cidr.specs.declared.inet.combined.IpInet.{IpInet}
 use Rattle.cidr.specs.declared.inet.combined.IpInet.TheVariants as host
-use Rattle.cidr_table.specs.Cover.{AreNetworks, Covers, parent}
+use Rattle.cidr_table.specs.model.Cover.{AreNetworks, Covers, parent}
 use Rattle.cidr_table.proofs.Halves.{length_parent}
 use Rattle.cidr_table.proofs.MapLaws.{contains_nothing}
-use Rattle.cidr_sets.specs.Ranges.{IsBetween}
-use Rattle.cidr_sets.specs.Sets.{IsSetOf}
+use Rattle.cidr_sets.specs.model.Ranges.{IsBetween}
+use Rattle.cidr_sets.specs.model.Sets.{IsSetOf}
 use Rattle.cidr_lists.specs.Combining.{SomeHas}
 use Rattle.cidr_lists.specs.Lists.{IsContent, IsNetworkBy, LineSays, ListSays, AreContentNetworks as AreOfContent, Text, lines_of, line_networks, networks_in}
 use Rattle.cidr_lists.specs.ReadBack.{AreOfFamilies, AreUnions}

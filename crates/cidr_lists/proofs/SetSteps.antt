@@ -7,9 +7,9 @@ use Rattle.cidr.specs.model.Network.{BeginsWith, FitsWidth}
 use Rattle.cidr.specs.declared.cidr.combined.IpCidr.{IpCidr}
 use Rattle.cidr.specs.declared.family.Family.{Family}
 use Rattle.cidr.specs.declared.family.Family.TheVariants.{Ipv4, Ipv6}
-use Rattle.cidr_table.specs.Cover.{Covers, IsReduced, IsFull}
-use Rattle.cidr_sets.specs.Counts.{HaveCount}
-use Rattle.cidr_sets.specs.Sets.{IsComplement, IsSetOf}
+use Rattle.cidr_table.specs.model.Cover.{Covers, IsReduced, IsFull}
+use Rattle.cidr_sets.specs.model.Counts.{HaveCount}
+use Rattle.cidr_sets.specs.model.Sets.{IsComplement, IsSetOf}
 use Rattle.cidr_lists.specs.Sets.{Combined, Steps, IsInSets, count_or_all, networks_of}
 use Rattle.cidr_lists.specs.Lists.{line_networks}
 use Rattle.cidr_lists.specs.Reading.{Grows, listed}
@@ -17,7 +17,7 @@ use Rattle.cidr_lists.specs.declared.lists.Lists.{Lists as Networks}
 use Rattle.cidr_lists.specs.declared.sets.Step.{Step}
 use Rattle.cidr_lists.specs.declared.sets.Step.TheVariants.{Union, Difference, Intersection}
 use Rattle.cidr_lists.specs.declared.sets.Sets.{Sets}
-use Rattle.cidr_sets.specs.Pools.{IsFirstFree}
+use Rattle.cidr_sets.specs.model.Pools.{IsFirstFree}
 
 -- ---- either way
 pub same : (P : Type 0) → P ↔ P

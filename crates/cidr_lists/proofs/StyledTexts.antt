@@ -20,7 +20,7 @@ use Rattle.cidr.specs.declared.family.Family.{Family}
 use Rattle.cidr.specs.declared.family.Family.TheVariants.{Ipv4, Ipv6}
 use Rattle.cidr.proofs.Cuts.{Lacks-append, Lacks-cons, Lacks-length}
 use Rattle.cidr.proofs.NetworkPrinting.{IsAddressText-address_text, IsLengthText-decimal, network_plain}
-use Rattle.cidr_table.specs.Cover.{AreNetworks}
+use Rattle.cidr_table.specs.model.Cover.{AreNetworks}
 use Rattle.cidr_table.proofs.MapLaws.{contains_first, contains_later}
 use Rattle.cidr_lists.specs.Formats.{bare, json_layout, laid_out, members, network_by, plain_layout, row, styled}
 use Rattle.cidr_lists.specs.Lists.{is_line_feed, text_by}

@@ -9,8 +9,8 @@ use Rattle.std.proofs.lemmas.List.Sums.{fails_before_first}
 use Rattle.cidr.specs.declared.cidr.combined.IpCidr.{IpCidr}
 use Rattle.cidr.specs.declared.family.Family.{Family}
 use Rattle.cidr.specs.declared.family.Family.TheVariants.{Ipv4, Ipv6}
-use Rattle.cidr_sets.specs.Sets.{IsSetOf}
-use Rattle.cidr_table.specs.Cover.{Covers}
+use Rattle.cidr_sets.specs.model.Sets.{IsSetOf}
+use Rattle.cidr_table.specs.model.Cover.{Covers}
 use Rattle.cidr_lists.specs.Lists.{AreContentNetworks, HasBadField, IsContent, IsField, IsInError, LineSays, is_line_feed, kept_of, lines_of, most_bytes, line_networks, networks_in, text_by}
 use Rattle.cidr_lists.specs.Reading.{Grows, listed}
 use Rattle.cidr_lists.specs.Sets.{networks_of}

@@ -9,7 +9,7 @@ use Rattle.cidr.specs.model.Network.{BeginsWith}
 use Rattle.cidr.specs.texts.Printed.{plain_host_text, plain_text}
 use Rattle.cidr.specs.declared.cidr.combined.IpCidr.{IpCidr}
 use Rattle.cidr.specs.declared.inet.combined.IpInet.{IpInet}
-use Rattle.cidr_ext.specs.Tree.{AreSiblings}
+use Rattle.cidr_ext.specs.model.Tree.{AreSiblings}
 use Rattle.cidr_io.specs.Shown.{shown}
 use Rattle.cidr_lists.specs.Printing.{line}
 use Rattle.cidr_lists.specs.declared.entries.Entry.{Entry}

@@ -5,7 +5,7 @@ use Rattle.cidr.specs.texts.Printed.{plain_text}
 use Rattle.cidr.specs.texts.PrintedAddress.{ip_text}
 use Rattle.cidr.specs.declared.addr.ip.IpAddr.{IpAddr}
 use Rattle.cidr.specs.declared.family.Family.{Family}
-use Rattle.cidr_table.specs.Prefixes.{IsLookedUp}
+use Rattle.cidr_table.specs.model.Prefixes.{IsLookedUp}
 use Rattle.cidr_lists.specs.Lists.{IsField, IsTooLong}
 use Rattle.cidr_lists.specs.Fields.{IsSplit}
 

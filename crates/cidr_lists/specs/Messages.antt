@@ -1,7 +1,7 @@
 -- The messages of lines in error: the string that is wrong, as it is shown, and what is wrong with it.
 use Rattle.std.specs.Prelude.{◌≡◌, ℕ, Bool, true, false, if◌then◌else◌, List, ◌++◌, codes, decimal, Option, Some, None}
 use Rattle.cidr.specs.texts.Messages.{address_message, parse_message}
-use Rattle.cidr_ext.specs.TextFaults.{IsFaultOf, fault_message}
+use Rattle.cidr_ext.specs.texts.TextFaults.{IsFaultOf, fault_message}
 use Rattle.cidr_ext.specs.declared.text_faults.TextFault.{TextFault}
 use Rattle.cidr_ext.specs.declared.text_faults.TextFault.TheVariants.{MaskForLength, HostBits}
 use Rattle.cidr_io.specs.Shown.{excerpt, shown}

@@ -7,7 +7,7 @@ use Rattle.cidr.specs.model.Bits.{bit_cmp}
 use Rattle.cidr.specs.model.Network.{BeginsWith}
 use Rattle.cidr.specs.declared.cidr.combined.IpCidr.{IpCidr}
 use Rattle.cidr.specs.declared.cidr.combined.IpCidr.TheVariants.{V4, V6}
-use Rattle.cidr_ext.specs.Tree.{AreSiblings}
+use Rattle.cidr_ext.specs.model.Tree.{AreSiblings}
 use Rattle.cidr_lists.specs.Findings.{AreHalves, AreBitsInside, IsInside}
 use Rattle.cidr_lists.specs.declared.near.Near.{Near}
 use Rattle.cidr_lists.specs.declared.near.Numbered.{Numbered}

@@ -7,8 +7,8 @@ use Rattle.cidr.specs.declared.family.Family.TheVariants.{Ipv4, Ipv6}
 use Rattle.cidr.specs.model.Network.{width_of}
 use Rattle.cidr.specs.texts.NetworkText.{IsNetworkText}
 use Rattle.cidr.specs.texts.Refusal.{Lacks}
-use Rattle.cidr_table.specs.Cover.{AreNetworks}
-use Rattle.cidr_sets.specs.Sets.{IsSetOf}
+use Rattle.cidr_table.specs.model.Cover.{AreNetworks}
+use Rattle.cidr_sets.specs.model.Sets.{IsSetOf}
 use Rattle.cidr_lists.specs.Combining.{SomeHas}
 use Rattle.cidr_lists.specs.Lists.{Text, ListSays, is_line_feed, networks_in}
 use Rattle.cidr_lists.specs.Texts.{SaysAddress}

@@ -9,14 +9,14 @@ use Rattle.cidr.specs.declared.family.Family.TheVariants.{Ipv4, Ipv6}
 use Rattle.cidr.specs.model.Network.{width_of, FitsWidth}
 use Rattle.cidr.specs.declared.cidr.combined.IpCidr.{IpCidr}
 use Rattle.cidr.specs.declared.cidr.combined.IpCidr.TheVariants.{V4, V6}
-use Rattle.cidr_table.specs.Cover.{Covers}
+use Rattle.cidr_table.specs.model.Cover.{Covers}
 use Rattle.cidr_lists.specs.Printing.{line}
-use Rattle.cidr_sets.specs.Counts.{HaveCount}
-use Rattle.cidr_sets.specs.Ranges.{AreRanges}
+use Rattle.cidr_sets.specs.model.Counts.{HaveCount}
+use Rattle.cidr_sets.specs.model.Ranges.{AreRanges}
 use Rattle.cidr_lists.specs.declared.sets.Form.{Form}
 use Rattle.cidr_lists.specs.declared.sets.Form.TheVariants.{Networks, Ranges, Counts}
 use Rattle.cidr_lists.specs.declared.sets.Sets.{Sets}
-use Rattle.cidr_sets.specs.Pools.{IsFirstFree}
+use Rattle.cidr_sets.specs.model.Pools.{IsFirstFree}
 use Rattle.cidr_lists.specs.declared.sets.Step.{Step}
 use Rattle.cidr_lists.specs.declared.sets.Step.TheVariants.{Union, Difference, Intersection}
 

@@ -1,7 +1,7 @@
 //! The networks that lists say.
 ghost use Rattle.std.specs.Prelude.{◌≡◌, List, [], ◌∷◌, ◌++◌, map, OnOk};
-ghost use Rattle.cidr_sets.specs.Ranges.{IsBetween};
-ghost use Rattle.cidr_sets.specs.Sets.{IsSetOf};
+ghost use Rattle.cidr_sets.specs.model.Ranges.{IsBetween};
+ghost use Rattle.cidr_sets.specs.model.Sets.{IsSetOf};
 ghost use Rattle.cidr_lists.specs.Lists.{line_networks};
 ghost use Rattle.cidr_lists.specs.Reading.{AddsContent, Grows, listed};
 

@@ -1,8 +1,8 @@
 //! The addresses of lists as sets, and sets put together.
 ghost use Rattle.std.specs.Prelude.{◌≡◌, ◌↔◌, [], IfOk, IsTrue, ◌∷◌, map};
 ghost use Rattle.cidr.specs.declared.family.Family.{Family};
-ghost use Rattle.cidr_table.specs.Cover.{Covers, IsReduced};
-ghost use Rattle.cidr_sets.specs.Sets.{IsSetOf};
+ghost use Rattle.cidr_table.specs.model.Cover.{Covers, IsReduced};
+ghost use Rattle.cidr_sets.specs.model.Sets.{IsSetOf};
 ghost use Rattle.cidr_lists.specs.Reading.{listed};
 ghost use Rattle.cidr_lists.specs.Sets.{networks_of, Combined, Steps, IsInSets, IsFreeOf};
 ghost use Rattle.std.specs.Bool.{Decides};

@@ -1,7 +1,7 @@
 //! Tables that are ready for look-ups.
 ghost use Rattle.std.specs.Prelude.{map, IfOk};
 ghost use Rattle.cidr.specs.declared.family.Family.{Family};
-ghost use Rattle.cidr_table.specs.LastRows.{AreLastRows};
+ghost use Rattle.cidr_table.specs.model.LastRows.{AreLastRows};
 ghost use Rattle.cidr_lists.specs.Tables.{kept, resolved, stored};
 
 use crate::rows::{Rows, Span};

@@ -19,7 +19,7 @@ use Rattle.cidr.specs.laws.BitLaws.{length-bits, number-bits, number-lt, bits-nu
 use Rattle.cidr.specs.declared.family.Family.{Family}
 use Rattle.cidr.specs.declared.family.Family.TheVariants.{Ipv4, Ipv6}
 use Rattle.cidr.proofs.NetworkWalks.{network_walk-exact}
-use Rattle.cidr_table.specs.Cover.{Covers, IsReduced}
+use Rattle.cidr_table.specs.model.Cover.{Covers, IsReduced}
 use Rattle.cidr_table.proofs.Ascending.{first_less, all_less, sorted_append}
 use Rattle.cidr_table.proofs.Beginnings.{begins_length, begins_between, not_before}
 use Rattle.cidr_table.proofs.Halves.{begins_both}
@@ -27,8 +27,8 @@ use Rattle.cidr_table.proofs.MapLaws.{contains_first, contains_later, contains_c
 use Rattle.cidr_table.proofs.Order.{less_not_itself}
 use Rattle.cidr_table.proofs.Reduced.{HoldNoOther}
 use Rattle.cidr_table.proofs.Stacks.{spread_from_reduced}
-use Rattle.cidr_sets.specs.AddressLists.{numbered, ends_of, addresses_in}
-use Rattle.cidr_sets.specs.Counts.{AreAddresses, HaveCount}
+use Rattle.cidr_sets.specs.internal.AddressLists.{numbered, ends_of, addresses_in}
+use Rattle.cidr_sets.specs.model.Counts.{AreAddresses, HaveCount}
 use Rattle.cidr_sets.proofs.AddressWalks.{whole_ends, ends_are}
 
 below_from_less : (m n : ℕ) → nat_cmp m n ≡ Less → m < n

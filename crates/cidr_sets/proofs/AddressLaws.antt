@@ -8,7 +8,7 @@ use Rattle.cidr.specs.model.Bits.{bit_cmp}
 use Rattle.cidr_table.proofs.Ascending.{first_less}
 use Rattle.cidr_table.proofs.MapLaws.{contains_first, contains_later, contains_cases, contains_nothing}
 use Rattle.cidr_table.proofs.Order.{less_not_itself, not_both}
-use Rattle.cidr_sets.specs.Counts.{AreAddresses}
+use Rattle.cidr_sets.specs.model.Counts.{AreAddresses}
 
 -- these have no other elements than those
 abbrev Within : List (List Bool) → List (List Bool) → Type 0

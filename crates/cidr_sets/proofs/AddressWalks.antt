@@ -9,7 +9,7 @@ use Rattle.cidr.specs.model.Bits.{bits, number}
 use Rattle.cidr.specs.model.Network.{zeros, ones, first_of, last_of}
 use Rattle.cidr.specs.laws.BitLaws.{number-append, number-lt}
 use Rattle.cidr.proofs.NetworkNumbers.{number-zeros}
-use Rattle.cidr_sets.specs.AddressLists.{numbered, AreEndNumbers, ends_of, addresses_in, left_of}
+use Rattle.cidr_sets.specs.internal.AddressLists.{numbered, AreEndNumbers, ends_of, addresses_in, left_of}
 
 module _ (w : ℕ) where
   -- ---- one network

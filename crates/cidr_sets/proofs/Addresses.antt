@@ -3,15 +3,15 @@ use Rattle.std.proofs.Common.{◌≡◌, ◌↔◌, ℕ, ◌≤◌, Bool, List, 
 use Rattle.std.specs.List.{Contains}
 use Rattle.std.specs.List.Sorted.{IsStrictlySortedBy}
 use Rattle.cidr.specs.model.Network.{BeginsWith}
-use Rattle.cidr_table.specs.Cover.{Covers, IsFull, IsLeastCover, CoverSame}
-use Rattle.cidr_table.specs.Cover.{IsReduced}
+use Rattle.cidr_table.specs.model.Cover.{Covers, IsFull, IsLeastCover, CoverSame}
+use Rattle.cidr_table.specs.model.Cover.{IsReduced}
 use Rattle.cidr_table.proofs.Halves.{begins_begins}
 use Rattle.cidr_table.proofs.MapLaws.{contains_first, contains_later, contains_cases, contains_nothing}
 use Rattle.cidr_table.proofs.Members.{begins_member}
 use Rattle.cidr_table.proofs.Reduced.{back, least_alike, reduced_is_least}
 use Rattle.cidr_table.proofs.Refinements.{exact}
 use Rattle.cidr_table.proofs.Uniqueness.{one_cover}
-use Rattle.cidr_sets.specs.Sets.{IsSetOf}
+use Rattle.cidr_sets.specs.model.Sets.{IsSetOf}
 
 -- ---- normal forms
 pub one_list : (w : ℕ) (these those : List (List Bool)) → IsReduced w these → IsReduced w those

@@ -7,11 +7,11 @@ use Rattle.std.specs.Bool.{Decides}
 use Rattle.std.specs.List.{Contains}
 use Rattle.std.specs.Option.{is_some, option_map}
 use Rattle.cidr.specs.model.Network.{BeginsWith}
-use Rattle.cidr_table.specs.Cover.{Covers}
-use Rattle.cidr_table.specs.Cover.{IsReduced}
+use Rattle.cidr_table.specs.model.Cover.{Covers}
+use Rattle.cidr_table.specs.model.Cover.{IsReduced}
 use Rattle.cidr_table.proofs.Halves.{begins_begins, begins_both}
-use Rattle.cidr_sets.specs.Searches.{IsFirstInside}
-use Rattle.cidr_sets.specs.Sets.{IsUnion, IsDifference, IsSymmetricDifference, Meets, AreDisjoint}
+use Rattle.cidr_sets.specs.model.Searches.{IsFirstInside}
+use Rattle.cidr_sets.specs.model.Sets.{IsUnion, IsDifference, IsSymmetricDifference, Meets, AreDisjoint}
 use Rattle.cidr_sets.proofs.Addresses.{covers_by, covers_to, set_alike}
 
 -- what covers a network covers its addresses

@@ -8,14 +8,14 @@ use Rattle.std.specs.declared.cmp.Ordering.TheVariants.{Less}
 use Rattle.cidr.specs.model.Bits.{bit_cmp}
 use Rattle.cidr.specs.model.Network.{BeginsWith}
 use Rattle.cidr.specs.laws.BitLaws.{bit_cmp_total}
-use Rattle.cidr_table.specs.Cover.{parent}
+use Rattle.cidr_table.specs.model.Cover.{parent}
 use Rattle.cidr_table.proofs.Ascending.{sorted_push}
 use Rattle.cidr_table.proofs.Halves.{begins_begins, begins_itself, either_half, half_begins, parent_half}
 use Rattle.cidr_table.proofs.MapLaws.{contains_nothing}
 use Rattle.cidr_table.proofs.Reduced.{covers_more}
-use Rattle.cidr_sets.specs.Ranges.{IsBetween, IsFilled, IsOverfull, IsPart, IsBetweenEdges, Reaches, all_bits, most, side}
-use Rattle.cidr_sets.specs.Sets.{IsSetOf}
-use Rattle.cidr_sets.specs.Steps.{Ascend, IsBehind}
+use Rattle.cidr_sets.specs.model.Ranges.{IsBetween, IsFilled, IsOverfull, IsPart, IsBetweenEdges, Reaches, all_bits, most, side}
+use Rattle.cidr_sets.specs.model.Sets.{IsSetOf}
+use Rattle.cidr_sets.specs.internal.Steps.{Ascend, IsBehind}
 use Rattle.cidr_sets.proofs.Addresses.{set_alike}
 use Rattle.cidr_sets.proofs.Cuts.{inner_behind, upper_behind}
 use Rattle.cidr_sets.proofs.Joining.{unfilled}

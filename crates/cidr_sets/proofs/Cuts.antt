@@ -11,7 +11,7 @@ use Rattle.std.specs.declared.cmp.Ordering.TheVariants.{Less, Equal, Greater}
 use Rattle.cidr.specs.model.Bits.{bit_cmp}
 use Rattle.cidr.specs.model.Network.{BeginsWith}
 use Rattle.cidr.specs.laws.BitLaws.{bit_cmp_total}
-use Rattle.cidr_table.specs.Cover.{AreNetworks, Covers, IsMember, IsReduced, parent}
+use Rattle.cidr_table.specs.model.Cover.{AreNetworks, Covers, IsMember, IsReduced, parent}
 use Rattle.cidr_table.proofs.Ascending.{first_less, sorted_push}
 use Rattle.cidr_table.proofs.Beginnings.{begins_between, begins_length, bits_exact, not_before}
 use Rattle.cidr_table.proofs.Halves.{begins_begins, begins_both, begins_itself, either_half, half_begins, length_half, parent_half, same_length}
@@ -19,8 +19,8 @@ use Rattle.cidr_table.proofs.MapLaws.{contains_cases, contains_first, contains_l
 use Rattle.cidr_table.proofs.Order.{halves_less, less_not_itself, lower_less, not_both}
 use Rattle.cidr_table.proofs.Reduced.{HoldNoOther, covers_more, reduced_is_least}
 use Rattle.cidr_table.proofs.Stacks.{spread_from_reduced}
-use Rattle.cidr_sets.specs.Sets.{IsComplement, IsDifference}
-use Rattle.cidr_sets.specs.Steps.{Ascend, IsBehind, IsDifferenceStep, IsOver, IsRest, IsSkipped}
+use Rattle.cidr_sets.specs.model.Sets.{IsComplement, IsDifference}
+use Rattle.cidr_sets.specs.internal.Steps.{Ascend, IsBehind, IsDifferenceStep, IsOver, IsRest, IsSkipped}
 use Rattle.cidr_sets.proofs.Addresses.{set_alike}
 use Rattle.cidr_sets.proofs.Algebra.{covers_within, some_address}
 use Rattle.cidr_sets.proofs.Members.{IsMemberOf, members_fit, set_of_members}

@@ -8,7 +8,7 @@ use Rattle.std.specs.declared.cmp.Ordering.TheVariants.{Less}
 use Rattle.cidr.specs.model.Bits.{bit_cmp}
 use Rattle.cidr.specs.model.Network.{BeginsWith}
 use Rattle.cidr.specs.laws.BitLaws.{bit_cmp_total}
-use Rattle.cidr_table.specs.Cover.{AreNetworks, Covers, IsReduced, parent}
+use Rattle.cidr_table.specs.model.Cover.{AreNetworks, Covers, IsReduced, parent}
 use Rattle.cidr_table.proofs.Ascending.{first_less, sorted_append, sorted_front}
 use Rattle.cidr_table.proofs.Beginnings.{begins_length, not_before}
 use Rattle.cidr_table.proofs.Halves.{begins_begins, begins_both, begins_itself, begins_parent, either_half, half_begins, length_half, length_parent, next_bit, parent_half, same_length}
@@ -16,9 +16,9 @@ use Rattle.cidr_table.proofs.MapLaws.{contains_cases, contains_first, contains_l
 use Rattle.cidr_table.proofs.Order.{before_whole, between_halves, halves_less, last_bits, lower_less, not_both, whole_less}
 use Rattle.cidr_table.proofs.Reduced.{HaveNoHalves, HoldNoOther, reduced_is_least}
 use Rattle.cidr_table.proofs.Stacks.{IsSpread, last_behind, reduced_from_spread, spread_from_reduced, spread_push}
-use Rattle.cidr_sets.specs.Edits.{IsAlone, IsBeside, IsHalf, IsParted}
-use Rattle.cidr_sets.specs.Sets.{IsDifference, IsSetOf, IsUnion}
-use Rattle.cidr_sets.specs.Steps.{Ascend, IsBehind, IsDifferenceStep}
+use Rattle.cidr_sets.specs.internal.Edits.{IsAlone, IsBeside, IsHalf, IsParted}
+use Rattle.cidr_sets.specs.model.Sets.{IsDifference, IsSetOf, IsUnion}
+use Rattle.cidr_sets.specs.internal.Steps.{Ascend, IsBehind, IsDifferenceStep}
 use Rattle.cidr_sets.proofs.Addresses.{same_sets}
 use Rattle.cidr_sets.proofs.Algebra.{covers_within}
 use Rattle.cidr_sets.proofs.Cuts.{member_of_rest}

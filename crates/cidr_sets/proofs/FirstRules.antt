@@ -8,13 +8,13 @@ use Rattle.std.specs.Bool.{Decides}
 use Rattle.std.specs.List.{Contains, slice_get}
 use Rattle.std.specs.List.Sorted.{IsStrictlyIncreasing}
 use Rattle.cidr.specs.model.Network.{BeginsWith}
-use Rattle.cidr_table.specs.Cover.{Covers, IsFull}
-use Rattle.cidr_table.specs.Places.{begins_with}
+use Rattle.cidr_table.specs.model.Cover.{Covers, IsFull}
+use Rattle.cidr_table.specs.internal.Places.{begins_with}
 use Rattle.cidr_table.proofs.Beginnings.{begins_decides}
 use Rattle.cidr_table.proofs.MapLaws.{contains_first, contains_later, contains_cases, contains_nothing}
 use Rattle.cidr_table.proofs.Reduced.{covers_more}
-use Rattle.cidr_sets.specs.Sets.{IsSetOf, IsUnion, IsDifference, Meets}
-use Rattle.cidr_sets.specs.FirstRules.{IsFirstRule, IsPermitted, IsDeciding, AreDecidingRules, IsShadowed}
+use Rattle.cidr_sets.specs.model.Sets.{IsSetOf, IsUnion, IsDifference, Meets}
+use Rattle.cidr_sets.specs.model.FirstRules.{IsFirstRule, IsPermitted, IsDeciding, AreDecidingRules, IsShadowed}
 use Rattle.cidr_sets.specs.declared.access.Action.{Action}
 use Rattle.cidr_sets.specs.declared.access.Action.TheVariants.{Permit, Deny}
 use Rattle.cidr_sets.proofs.Addresses.{none_reduced, set_alike, one_list}

@@ -9,13 +9,13 @@ use Rattle.std.specs.declared.cmp.Ordering.TheVariants.{Less, Greater}
 use Rattle.cidr.specs.model.Bits.{bit_cmp}
 use Rattle.cidr.specs.model.Network.{BeginsWith, zeros}
 use Rattle.cidr.specs.laws.BitLaws.{bit_cmp_total}
-use Rattle.cidr_table.specs.Cover.{Covers}
-use Rattle.cidr_table.specs.Cover.{IsReduced}
+use Rattle.cidr_table.specs.model.Cover.{Covers}
+use Rattle.cidr_table.specs.model.Cover.{IsReduced}
 use Rattle.cidr_table.proofs.Beginnings.{bits_same, begins_length, begins_between, not_before}
 use Rattle.cidr_table.proofs.Halves.{either_half}
 use Rattle.cidr_table.proofs.MapLaws.{contains_first, contains_cases, contains_nothing}
 use Rattle.cidr_table.proofs.Order.{halves_less}
-use Rattle.cidr_sets.specs.Pools.{IsFreeNetwork, IsFirstFree, IsBestFree, IsSmaller, IsRoom}
+use Rattle.cidr_sets.specs.model.Pools.{IsFreeNetwork, IsFirstFree, IsBestFree, IsSmaller, IsRoom}
 use Rattle.cidr_sets.proofs.Addresses.{covers_by, covers_to, map_contains, map_contained}
 
 -- ---- the lowest network in another

@@ -6,7 +6,7 @@ use Rattle.std.specs.declared.cmp.Ordering.TheVariants.{Less, Equal, Greater}
 use Rattle.std.specs.List.Sorted.{IsStrictlySortedBy}
 use Rattle.cidr.specs.model.Bits.{bit_cmp}
 use Rattle.cidr_table.proofs.Halving.{HasLeft, halved}
-use Rattle.cidr_sets.specs.Searches.{IsUpto}
+use Rattle.cidr_sets.specs.model.Searches.{IsUpto}
 use Rattle.cidr_sets.proofs.Places.{upto_before, from_behind}
 
 -- the place is one of the `left` from `low` on or the next one

@@ -11,11 +11,11 @@ use Rattle.std.specs.declared.cmp.Ordering.{Ordering}
 use Rattle.std.specs.declared.cmp.Ordering.TheVariants.{Less, Equal, Greater}
 use Rattle.cidr.specs.model.Bits.{bit_cmp}
 use Rattle.cidr.specs.model.Network.{BeginsWith}
-use Rattle.cidr_table.specs.Cover.{Covers, IsReduced}
+use Rattle.cidr_table.specs.model.Cover.{Covers, IsReduced}
 use Rattle.cidr_table.proofs.MapLaws.{contains_cases, contains_first, contains_later, contains_nothing}
 use Rattle.cidr_table.proofs.Order.{less_not_itself}
 use Rattle.cidr_table.proofs.Stacks.{spread_from_reduced}
-use Rattle.cidr_sets.specs.Ranges.{AreRanges, IsBetween, IsGap, IsPadded, Reaches, all_bits, join, joined_ranges, touches}
+use Rattle.cidr_sets.specs.model.Ranges.{AreRanges, IsBetween, IsGap, IsPadded, Reaches, all_bits, join, joined_ranges, touches}
 use Rattle.cidr_sets.proofs.Algebra.{some_address}
 use Rattle.cidr_sets.proofs.Runs.{join_apart, join_touching, joined_more, true_or}
 use Rattle.cidr_sets.proofs.Sides.{between_reaches, both_sides, edge_reaches, filled_reaches, reaches_down, reaches_up}

@@ -5,14 +5,14 @@ use Rattle.std.specs.declared.cmp.Ordering.TheVariants.{Less}
 use Rattle.std.proofs.lemmas.Map.Keys.{sorted_tail}
 use Rattle.cidr.specs.model.Bits.{bit_cmp}
 use Rattle.cidr.specs.model.Network.{BeginsWith}
-use Rattle.cidr_table.specs.Cover.{Covers, IsMember, IsReduced, parent}
+use Rattle.cidr_table.specs.model.Cover.{Covers, IsMember, IsReduced, parent}
 use Rattle.cidr_table.proofs.Ascending.{first_less}
 use Rattle.cidr_table.proofs.Containing.{contains_between, split_at}
 use Rattle.cidr_table.proofs.MapLaws.{contains_first, contains_later}
 use Rattle.cidr_table.proofs.Members.{one_member}
 use Rattle.cidr_table.proofs.Order.{less_not_itself}
-use Rattle.cidr_sets.specs.Sets.{IsSetOf}
-use Rattle.cidr_sets.specs.Steps.{Ascend}
+use Rattle.cidr_sets.specs.model.Sets.{IsSetOf}
+use Rattle.cidr_sets.specs.internal.Steps.{Ascend}
 use Rattle.cidr_sets.proofs.Algebra.{some_address}
 
 -- the same for a set that isn't told by networks

@@ -9,12 +9,12 @@ use Rattle.std.specs.declared.cmp.Ordering.TheVariants.{Greater}
 use Rattle.cidr.specs.laws.BitLaws.{bit_cmp-numbers, bits-number, length-bits, number-bits, number-lt}
 use Rattle.cidr.specs.model.Bits.{bit_cmp, bits, number}
 use Rattle.cidr.specs.model.Network.{BeginsWith, first_of, last_of}
-use Rattle.cidr_table.specs.Cover.{Covers, parent}
+use Rattle.cidr_table.specs.model.Cover.{Covers, parent}
 use Rattle.cidr_table.proofs.Beginnings.{begins_first, begins_length}
 use Rattle.cidr_table.proofs.Halves.{begins_begins, begins_both, begins_itself, parent_begins}
 use Rattle.cidr_table.proofs.MapLaws.{contains_cases, contains_first, contains_later, contains_nothing}
-use Rattle.cidr_sets.specs.Ranges.{AreBeginless, AreComplete, AreRanges, HaveEnds, IsBetween, IsGap, IsPadded, Reaches, join, joined_ranges, touches}
-use Rattle.cidr_sets.specs.Sets.{IsSetOf}
+use Rattle.cidr_sets.specs.model.Ranges.{AreBeginless, AreComplete, AreRanges, HaveEnds, IsBetween, IsGap, IsPadded, Reaches, join, joined_ranges, touches}
+use Rattle.cidr_sets.specs.model.Sets.{IsSetOf}
 use Rattle.cidr_sets.proofs.Algebra.{some_address}
 use Rattle.cidr_sets.proofs.Joining.{contained_map, pad}
 use Rattle.cidr_sets.proofs.Runs.{join_apart, join_touching, joined_more, true_or}

@@ -8,15 +8,15 @@ use Rattle.std.specs.declared.cmp.Ordering.{Ordering}
 use Rattle.std.specs.declared.cmp.Ordering.TheVariants.{Less, Equal, Greater}
 use Rattle.cidr.specs.model.Bits.{bit_cmp}
 use Rattle.cidr.specs.model.Network.{BeginsWith}
-use Rattle.cidr_table.specs.Cover.{Covers, IsReduced}
+use Rattle.cidr_table.specs.model.Cover.{Covers, IsReduced}
 use Rattle.cidr_table.proofs.Ascending.{sorted_front}
 use Rattle.cidr_table.proofs.Beginnings.{bits_exact}
 use Rattle.cidr_table.proofs.Halves.{begins_itself}
 use Rattle.cidr_table.proofs.Order.{between, less_not_itself}
 use Rattle.cidr_table.proofs.Stacks.{spread_from_reduced}
-use Rattle.cidr_sets.specs.Edits.{IsParted}
-use Rattle.cidr_sets.specs.Searches.{IsUpto}
-use Rattle.cidr_sets.specs.Steps.{Ascend}
+use Rattle.cidr_sets.specs.internal.Edits.{IsParted}
+use Rattle.cidr_sets.specs.model.Searches.{IsUpto}
+use Rattle.cidr_sets.specs.internal.Steps.{Ascend}
 use Rattle.cidr_sets.proofs.Cuts.{suffix_ascends}
 use Rattle.cidr_sets.proofs.Steps.{turned}
 

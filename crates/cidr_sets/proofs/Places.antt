@@ -11,12 +11,12 @@ use Rattle.std.specs.declared.cmp.Ordering.TheVariants.{Less, Equal, Greater}
 use Rattle.cidr.specs.model.Bits.{bit_cmp}
 use Rattle.cidr.specs.model.Network.{BeginsWith}
 use Rattle.cidr.specs.laws.BitLaws.{bit_cmp_total}
-use Rattle.cidr_table.specs.Cover.{Covers}
-use Rattle.cidr_table.specs.Cover.{IsReduced}
+use Rattle.cidr_table.specs.model.Cover.{Covers}
+use Rattle.cidr_table.specs.model.Cover.{IsReduced}
 use Rattle.cidr_table.proofs.Beginnings.{bits_exact, not_before, begins_between}
 use Rattle.cidr_table.proofs.Halves.{begins_itself}
 use Rattle.cidr_table.proofs.Stacks.{spread_from_reduced}
-use Rattle.cidr_sets.specs.Searches.{IsUpto}
+use Rattle.cidr_sets.specs.model.Searches.{IsUpto}
 
 at_most_two : (r : Ordering) → ordering_index r ≤ 2
 at_most_two Less = omega arith

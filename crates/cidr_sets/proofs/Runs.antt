@@ -7,7 +7,7 @@ use Rattle.std.specs.List.{slice_get}
 use Rattle.cidr.specs.model.BitString.{IsSharedLength}
 use Rattle.cidr.specs.model.Network.{BeginsWith}
 use Rattle.cidr_table.proofs.Halves.{length_half, next_bit, same_length}
-use Rattle.cidr_sets.specs.Ranges.{all_bits, join, joined_ranges, touches}
+use Rattle.cidr_sets.specs.model.Ranges.{all_bits, join, joined_ranges, touches}
 
 -- ---- whether no address is between two networks
 kept : (b : Bool) (t : List Bool) → all_bits b (b ∷ t) ≡ all_bits b t

@@ -9,14 +9,14 @@ use Rattle.std.specs.declared.cmp.Ordering.TheVariants.{Less, Greater}
 use Rattle.cidr.specs.model.BitString.{IsSharedLength}
 use Rattle.cidr.specs.model.Bits.{bit_cmp}
 use Rattle.cidr.specs.model.Network.{BeginsWith}
-use Rattle.cidr_table.specs.Cover.{Covers}
+use Rattle.cidr_table.specs.model.Cover.{Covers}
 use Rattle.cidr_table.proofs.Beginnings.{begins_length, bits_same}
 use Rattle.cidr_table.proofs.Halves.{begins_begins, begins_both, either_half, half_begins, length_half}
 use Rattle.cidr_table.proofs.MapLaws.{contains_cases, contains_first, contains_nothing}
 use Rattle.cidr_table.proofs.Order.{less_not_itself, lower_less}
 use Rattle.cidr_table.proofs.Reduced.{covers_more}
-use Rattle.cidr_sets.specs.Ranges.{AreBeginless, IsBetween, Reaches}
-use Rattle.cidr_sets.specs.Sets.{IsSetOf}
+use Rattle.cidr_sets.specs.model.Ranges.{AreBeginless, IsBetween, Reaches}
+use Rattle.cidr_sets.specs.model.Sets.{IsSetOf}
 use Rattle.cidr_sets.proofs.Addresses.{covers_by, covers_to, set_alike}
 
 -- ---- the order of bits, on one side of an edge

@@ -13,7 +13,7 @@ use Rattle.std.specs.declared.cmp.Ordering.TheVariants.{Less, Equal, Greater}
 use Rattle.cidr.specs.model.Bits.{bit_cmp}
 use Rattle.cidr.specs.model.Network.{BeginsWith}
 use Rattle.cidr.specs.laws.BitLaws.{bit_cmp_total}
-use Rattle.cidr_table.specs.Cover.{Covers, IsMember, IsReduced}
+use Rattle.cidr_table.specs.model.Cover.{Covers, IsMember, IsReduced}
 use Rattle.cidr_table.proofs.Ascending.{first_less, sorted_push}
 use Rattle.cidr_table.proofs.Beginnings.{before_longer, begins_between, begins_length, bits_exact, not_before}
 use Rattle.cidr_table.proofs.Halves.{begins_both, begins_itself}
@@ -21,8 +21,8 @@ use Rattle.cidr_table.proofs.MapLaws.{contains_cases, contains_first, contains_l
 use Rattle.cidr_table.proofs.Members.{key_full}
 use Rattle.cidr_table.proofs.Order.{not_both}
 use Rattle.cidr_table.proofs.Reduced.{covers_more}
-use Rattle.cidr_sets.specs.Sets.{IsIntersection}
-use Rattle.cidr_sets.specs.Steps.{Ascend, BeginsWithSome, IsUnionStep, IsIntersectionStep}
+use Rattle.cidr_sets.specs.model.Sets.{IsIntersection}
+use Rattle.cidr_sets.specs.internal.Steps.{Ascend, BeginsWithSome, IsUnionStep, IsIntersectionStep}
 use Rattle.cidr_sets.proofs.Algebra.{covers_within}
 use Rattle.cidr_sets.proofs.Members.{all_members}
 

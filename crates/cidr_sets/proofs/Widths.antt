@@ -6,14 +6,14 @@ use Rattle.std.proofs.lemmas.List.{get_or-take, length-replicate, length-take, l
 use Rattle.std.proofs.lemmas.Option.{slice_get_within, get_or_from_slice_get}
 use Rattle.std.specs.List.{Contains}
 use Rattle.cidr.specs.model.Network.{BeginsWith}
-use Rattle.cidr_table.specs.Cover.{AreNetworks, Covers, IsReduced}
-use Rattle.cidr_table.specs.CoverAddresses.{AreIpNetworks, IsIpAddressBits, IsIpNetworkBits}
+use Rattle.cidr_table.specs.model.Cover.{AreNetworks, Covers, IsReduced}
+use Rattle.cidr_table.specs.model.CoverAddresses.{AreIpNetworks, IsIpAddressBits, IsIpNetworkBits}
 use Rattle.cidr_table.proofs.Beginnings.{begins_first, begins_length}
 use Rattle.cidr_table.proofs.Halves.{begins_begins, begins_both, begins_itself}
 use Rattle.cidr_table.proofs.Members.{one_member}
 use Rattle.cidr_table.proofs.Stacks.{reduced_from_spread, spread_from_reduced}
-use Rattle.cidr_sets.specs.FirstRules.{IsFirstRule, IsPermitted}
-use Rattle.cidr_sets.specs.Sets.{IsSetOf}
+use Rattle.cidr_sets.specs.model.FirstRules.{IsFirstRule, IsPermitted}
+use Rattle.cidr_sets.specs.model.Sets.{IsSetOf}
 use Rattle.cidr_sets.specs.declared.access.Action.{Action}
 use Rattle.cidr_sets.proofs.Addresses.{covers_from_full}
 

@@ -4,8 +4,8 @@ ghost use Rattle.std.specs.Bool.{Decides};
 ghost use Rattle.std.specs.List.{All, slice_get};
 ghost use Rattle.std.specs.List.Sorted.{IsStrictlyIncreasing};
 ghost use Rattle.cidr.specs.model.Network.{BeginsWith};
-ghost use Rattle.cidr_sets.specs.Sets.{IsSetOf};
-ghost use Rattle.cidr_sets.specs.FirstRules.{IsFirstRule, IsPermitted, IsDeciding, AreDecidingRules, IsShadowed};
+ghost use Rattle.cidr_sets.specs.model.Sets.{IsSetOf};
+ghost use Rattle.cidr_sets.specs.model.FirstRules.{IsFirstRule, IsPermitted, IsDeciding, AreDecidingRules, IsShadowed};
 ghost use Rattle.cidr_sets.specs.declared.access.Action.{Action};
 ghost use Rattle.cidr_sets.specs.declared.access.Action.TheVariants.{Permit};
 

@@ -3,13 +3,13 @@
 ghost use Rattle.std.specs.Prelude.{◌≡◌, ◌↔◌, ◌≤◌, [], ℕ, Bool, List, length, map};
 ghost use Rattle.std.specs.Cmp.Lexicographic.{pointwise};
 ghost use Rattle.cidr.specs.either.IpAddress.{TellsEqual};
-ghost use Rattle.cidr_table.specs.Cover.{AreNetworks, Covers, CoverSame, IsFull};
-ghost use Rattle.cidr_table.specs.Cover.{IsReduced};
-ghost use Rattle.cidr_table.specs.CoverAddresses.{AreIpNetworks, IsIpAddressBits};
-ghost use Rattle.cidr_sets.specs.Counts.{AreAddresses};
-ghost use Rattle.cidr_sets.specs.FirstRules.{IsPermitted};
-ghost use Rattle.cidr_sets.specs.Ranges.{AreRanges, IsInSome};
-ghost use Rattle.cidr_sets.specs.Sets.{IsSetOf};
+ghost use Rattle.cidr_table.specs.model.Cover.{AreNetworks, Covers, CoverSame, IsFull};
+ghost use Rattle.cidr_table.specs.model.Cover.{IsReduced};
+ghost use Rattle.cidr_table.specs.model.CoverAddresses.{AreIpNetworks, IsIpAddressBits};
+ghost use Rattle.cidr_sets.specs.model.Counts.{AreAddresses};
+ghost use Rattle.cidr_sets.specs.model.FirstRules.{IsPermitted};
+ghost use Rattle.cidr_sets.specs.model.Ranges.{AreRanges, IsInSome};
+ghost use Rattle.cidr_sets.specs.model.Sets.{IsSetOf};
 ghost use Rattle.cidr_sets.specs.declared.access.Action.{Action};
 
 use cidr::NetworkBits;

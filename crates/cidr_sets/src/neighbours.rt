@@ -2,9 +2,9 @@
 ghost use Rattle.std.specs.Prelude.{◌≡◌, ◌+◌, ◌-◌, ◌<◌, ◌≤◌, ◌++◌, ◌∷◌, [], length, map, take, drop, slice_index_or, IfSome, MatchOption};
 ghost use Rattle.std.specs.Bool.{Decides};
 ghost use Rattle.cidr.specs.model.Network.{BeginsWith};
-ghost use Rattle.cidr_table.specs.Cover.{Covers, IsReduced, parent};
-ghost use Rattle.cidr_sets.specs.Edits.{IsAlone, IsBeside, IsHalf, IsParted};
-ghost use Rattle.cidr_sets.specs.Sets.{IsUnion};
+ghost use Rattle.cidr_table.specs.model.Cover.{Covers, IsReduced, parent};
+ghost use Rattle.cidr_sets.specs.internal.Edits.{IsAlone, IsBeside, IsHalf, IsParted};
+ghost use Rattle.cidr_sets.specs.model.Sets.{IsUnion};
 
 use crate::search::{is_inside, known, upto};
 use cidr::{BitString, NetworkBits};

@@ -3,10 +3,10 @@ ghost use Rattle.std.specs.Prelude.{◌≡◌, ◌+◌, ◌-◌, ◌≤◌, ◌�
 ghost use Rattle.std.specs.Bool.{Decides};
 ghost use Rattle.std.specs.Option.{option_map};
 ghost use Rattle.cidr.specs.model.Network.{FitsWidth, zeros};
-ghost use Rattle.cidr_table.specs.CoverAddresses.{IsIpNetworkBits};
-ghost use Rattle.cidr_table.specs.Cover.{IsReduced};
-ghost use Rattle.cidr_sets.specs.Pools.{IsFirstFree, IsBestFree, IsRoom, IsSmaller};
-ghost use Rattle.cidr_sets.specs.PoolLaws.{plain_room, any_room_exact};
+ghost use Rattle.cidr_table.specs.model.CoverAddresses.{IsIpNetworkBits};
+ghost use Rattle.cidr_table.specs.model.Cover.{IsReduced};
+ghost use Rattle.cidr_sets.specs.model.Pools.{IsFirstFree, IsBestFree, IsRoom, IsSmaller};
+ghost use Rattle.cidr_sets.specs.laws.PoolLaws.{plain_room, any_room_exact};
 
 use crate::set::NetworkSet;
 use cidr::{AnyIpCidr, BitString, Ipv4Cidr, Ipv6Cidr, NetworkBits};

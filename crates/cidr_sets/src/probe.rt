@@ -2,7 +2,7 @@
 ghost use Rattle.std.specs.Prelude.{◌≡◌, ℕ, ◌+◌, ◌^◌, ◌<◌, ◌≤◌, length, map, slice_index_or};
 ghost use Rattle.std.specs.Bool.{Decides};
 ghost use Rattle.cidr.specs.model.Network.{BeginsWith};
-ghost use Rattle.cidr_table.specs.Cover.{Covers, IsReduced};
+ghost use Rattle.cidr_table.specs.model.Cover.{Covers, IsReduced};
 
 use crate::count::{Count, tick, zero_count};
 use crate::search::{is_inside, place};
@@ -39,7 +39,7 @@ pub struct Networks<'a, C> {
 }
 
 impl<'a, C> Model for Networks<'a, C> {
-    ghost use Rattle.cidr_sets.specs.Searches.{ProbedNetworks};
+    ghost use Rattle.cidr_sets.specs.model.Searches.{ProbedNetworks};
 
     ghost Value = { ProbedNetworks C };
 

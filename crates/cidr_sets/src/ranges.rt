@@ -5,11 +5,11 @@ ghost use Rattle.std.specs.declared.cmp.Ordering.TheVariants.{Greater};
 ghost use Rattle.cidr.specs.model.Bits.{bit_cmp};
 ghost use Rattle.cidr.specs.model.Network.{BeginsWith, HasWidth, first_of, last_of};
 ghost use Rattle.cidr.specs.either.IpAddress.{ip_address_bits};
-ghost use Rattle.cidr_table.specs.Cover.{Covers, IsReduced};
-ghost use Rattle.cidr_table.specs.CoverAddresses.{IsIpAddressBits};
-ghost use Rattle.cidr_sets.specs.Ranges.{AreBeginless, AreComplete, AreRanges, HaveEnds, IsBetween, IsPadded, Reaches, all_bits, any_first, any_last, touches};
-ghost use Rattle.cidr_sets.specs.RangeLaws.{plain_beginless, ip_beginless, plain_complete, ip_complete, plain_ends, any_ends, plain_inside, any_inside, v4_fits, v6_fits};
-ghost use Rattle.cidr_sets.specs.Sets.{IsSetOf};
+ghost use Rattle.cidr_table.specs.model.Cover.{Covers, IsReduced};
+ghost use Rattle.cidr_table.specs.model.CoverAddresses.{IsIpAddressBits};
+ghost use Rattle.cidr_sets.specs.model.Ranges.{AreBeginless, AreComplete, AreRanges, HaveEnds, IsBetween, IsPadded, Reaches, all_bits, any_first, any_last, touches};
+ghost use Rattle.cidr_sets.specs.laws.RangeLaws.{plain_beginless, ip_beginless, plain_complete, ip_complete, plain_ends, any_ends, plain_inside, any_inside, v4_fits, v6_fits};
+ghost use Rattle.cidr_sets.specs.model.Sets.{IsSetOf};
 
 use crate::search::known;
 use crate::set::{NetworkSet, reduced};
@@ -255,7 +255,7 @@ pub struct Ranges<'a, C: Addressed + Copy> {
 
 impl<'a, C: Addressed + Copy> Model for Ranges<'a, C> {
     ghost use Rattle.std.specs.Prelude.{List, Bool, map};
-    ghost use Rattle.cidr_sets.specs.Ranges.{joined_ranges};
+    ghost use Rattle.cidr_sets.specs.model.Ranges.{joined_ranges};
 
     ghost Value = { List (List Bool × List Bool) };
 

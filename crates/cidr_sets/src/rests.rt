@@ -4,7 +4,7 @@ ghost use Rattle.std.specs.Bool.{Decides};
 ghost use Rattle.std.specs.declared.cmp.Ordering.TheVariants.{Less};
 ghost use Rattle.cidr.specs.model.Bits.{bit_cmp};
 ghost use Rattle.cidr.specs.model.Network.{BeginsWith};
-ghost use Rattle.cidr_sets.specs.Steps.{Ascend, IsSkipped};
+ghost use Rattle.cidr_sets.specs.internal.Steps.{Ascend, IsSkipped};
 
 use crate::search::{is_inside, known};
 use cidr::{BitString, NetworkBits};

@@ -2,9 +2,9 @@
 ghost use Rattle.std.specs.Prelude.{◌≡◌, ℕ, ◌<◌, ◌≤◌, ◌+◌, ◌^◌, length, map};
 ghost use Rattle.std.specs.Bool.{Decides};
 ghost use Rattle.cidr.specs.model.Network.{BeginsWith};
-ghost use Rattle.cidr_table.specs.Cover.{Covers};
-ghost use Rattle.cidr_table.specs.Cover.{IsReduced};
-ghost use Rattle.cidr_sets.specs.Searches.{IsUpto};
+ghost use Rattle.cidr_table.specs.model.Cover.{Covers};
+ghost use Rattle.cidr_table.specs.model.Cover.{IsReduced};
+ghost use Rattle.cidr_sets.specs.model.Searches.{IsUpto};
 
 use crate::probe::{Networks, contains};
 use cidr::{BitString, NetworkBits};

@@ -2,10 +2,10 @@
 ghost use Rattle.std.specs.Prelude.{◌≡◌, ◌↔◌, ◌<◌, ◌≤◌, ◌^◌, [], length, map, IfOk, IsTrue};
 ghost use Rattle.std.specs.Slice.Iter.{iter_rest};
 ghost use Rattle.std.specs.Iterator.Adapters.{IterYieldsInOrder, IterYieldsInReverse};
-ghost use Rattle.cidr_table.specs.Cover.{Covers, IsFull};
-ghost use Rattle.cidr_table.specs.Cover.{IsReduced};
-ghost use Rattle.cidr_sets.specs.Sets.{IsSetOf};
-ghost use Rattle.cidr_sets.specs.Steps.{Ascend};
+ghost use Rattle.cidr_table.specs.model.Cover.{Covers, IsFull};
+ghost use Rattle.cidr_table.specs.model.Cover.{IsReduced};
+ghost use Rattle.cidr_sets.specs.model.Sets.{IsSetOf};
+ghost use Rattle.cidr_sets.specs.internal.Steps.{Ascend};
 
 use crate::probe::{Networks, contains};
 use crate::search::known;
@@ -33,7 +33,7 @@ pub struct NetworkSet<C: NetworkBits + Copy> {
 
 impl<C: NetworkBits + Copy> Model for NetworkSet<C> {
     ghost use Rattle.std.specs.Prelude.{List, map};
-    ghost use Rattle.cidr_table.specs.Cover.{IsReduced};
+    ghost use Rattle.cidr_table.specs.model.Cover.{IsReduced};
 
     ghost Value = { List C };
 

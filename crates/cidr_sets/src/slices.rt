@@ -9,10 +9,10 @@ ghost use Rattle.std.specs.declared.cmp.Ordering.TheVariants.{Less};
 ghost use Rattle.std.specs.Bool.{Decides};
 ghost use Rattle.cidr.specs.model.Bits.{bit_cmp};
 ghost use Rattle.cidr.specs.model.Network.{BeginsWith};
-ghost use Rattle.cidr_table.specs.Cover.{AreNetworks, Covers, IsReduced};
-ghost use Rattle.cidr_sets.specs.Sets.{IsSetOf, IsUnion, IsIntersection, IsDifference, IsComplement};
-ghost use Rattle.cidr_sets.specs.Ranges.{IsBetween, IsFilled, IsOverfull, IsBetweenEdges, all_bits, most, side};
-ghost use Rattle.cidr_sets.specs.Steps.{Ascend, IsDifferenceStep, IsUnionStep, IsOver, IsIntersectionStep};
+ghost use Rattle.cidr_table.specs.model.Cover.{AreNetworks, Covers, IsReduced};
+ghost use Rattle.cidr_sets.specs.model.Sets.{IsSetOf, IsUnion, IsIntersection, IsDifference, IsComplement};
+ghost use Rattle.cidr_sets.specs.model.Ranges.{IsBetween, IsFilled, IsOverfull, IsBetweenEdges, all_bits, most, side};
+ghost use Rattle.cidr_sets.specs.internal.Steps.{Ascend, IsDifferenceStep, IsUnionStep, IsOver, IsIntersectionStep};
 
 use crate::ranges::{Addressed, all_from};
 use crate::rests::{half, is_passed, skip};

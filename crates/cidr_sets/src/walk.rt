@@ -5,8 +5,8 @@ ghost use Rattle.cidr.specs.model.Bits.{bits, number};
 ghost use Rattle.cidr.specs.model.Network.{first_of, last_of, width_of};
 ghost use Rattle.cidr.specs.declared.family.Family.{Family};
 ghost use Rattle.cidr.specs.declared.family.Family.TheVariants.{Ipv4, Ipv6};
-ghost use Rattle.cidr_sets.specs.AddressLists.{left_of};
-ghost use Rattle.cidr_sets.specs.Counts.{AreAddresses};
+ghost use Rattle.cidr_sets.specs.internal.AddressLists.{left_of};
+ghost use Rattle.cidr_sets.specs.model.Counts.{AreAddresses};
 
 use cidr::{Ipv4Addr, Ipv4Cidr, Ipv6Addr, Ipv6Cidr, NetworkBits};
 use std::iter::FusedIterator;
@@ -124,7 +124,7 @@ pub struct SetAddresses<'a, C: AddressSpace> {
 impl<'a, C: AddressSpace> Model for SetAddresses<'a, C> {
     ghost use Rattle.std.specs.Prelude.{List, Bool, map};
     ghost use Rattle.cidr.specs.model.Network.{width_of};
-    ghost use Rattle.cidr_sets.specs.AddressLists.{AreEndNumbers, left_of};
+    ghost use Rattle.cidr_sets.specs.internal.AddressLists.{AreEndNumbers, left_of};
 
     ghost Value = { List (List Bool) };
 

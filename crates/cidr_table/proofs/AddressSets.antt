@@ -3,8 +3,8 @@ use Rattle.std.proofs.Common.{◌≡◌, ◌↔◌, ℕ, ◌-◌, ◌≤◌, Boo
 use Rattle.std.proofs.lemmas.List.{take_at, length-replicate, length-take-le}
 use Rattle.std.specs.List.{Contains}
 use Rattle.cidr.specs.model.Network.{BeginsWith}
-use Rattle.cidr_table.specs.Cover.{Covers, CoverSame, AreNetworks}
-use Rattle.cidr_table.specs.CoverAddresses.{IsIpAddressBits, IsIpNetworkBits, AreIpNetworks, HoldSameIp}
+use Rattle.cidr_table.specs.model.Cover.{Covers, CoverSame, AreNetworks}
+use Rattle.cidr_table.specs.model.CoverAddresses.{IsIpAddressBits, IsIpNetworkBits, AreIpNetworks, HoldSameIp}
 use Rattle.cidr_table.proofs.Halves.{begins_itself, begins_begins, begins_both}
 use Rattle.cidr_table.proofs.Beginnings.{begins_length}
 

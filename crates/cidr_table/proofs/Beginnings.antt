@@ -11,7 +11,7 @@ use Rattle.std.specs.declared.cmp.Ordering.TheVariants.{Less, Equal, Greater}
 use Rattle.cidr.specs.model.Bits.{bit_cmp}
 use Rattle.cidr.specs.model.BitString.{IsSharedLength}
 use Rattle.cidr.specs.model.Network.{BeginsWith}
-use Rattle.cidr_table.specs.Places.{begins_with}
+use Rattle.cidr_table.specs.internal.Places.{begins_with}
 
 -- only the same bits are equal in their order
 bool_exact : (x y : Bool) → bool_cmp x y ≡ Equal → x ≡ y

@@ -6,7 +6,7 @@ use Rattle.std.specs.List.{Contains}
 use Rattle.std.specs.List.Sorted.{IsStrictlySortedBy}
 use Rattle.cidr.specs.model.Bits.{bit_cmp}
 use Rattle.cidr.specs.model.Network.{BeginsWith}
-use Rattle.cidr_table.specs.Cover.{IsFull, parent, IsMember, IsLeastCover}
+use Rattle.cidr_table.specs.model.Cover.{IsFull, parent, IsMember, IsLeastCover}
 use Rattle.cidr_table.proofs.Ascending.{sorted_append}
 use Rattle.cidr_table.proofs.Halves.{begins_itself, begins_begins, same_length, length_half, half_begins, either_half, parent_half}
 use Rattle.cidr_table.proofs.MapLaws.{contains_first, contains_cases, contains_nothing}

@@ -2,7 +2,7 @@
 use Rattle.std.proofs.Common.{◌≡◌, ◌⊎◌, ◌+◌, ◌-◌, ◌<◌, ◌≤◌, Bool, true, false, List, [], ◌∷◌, ◌++◌, length, get_or, take, refl, sym, ap, ◌∙◌, arith, inl, inr, length-append}
 use Rattle.std.proofs.lemmas.List.{take-take, take_at, take_all, take_more, length-take-le}
 use Rattle.cidr.specs.model.Network.{BeginsWith}
-use Rattle.cidr_table.specs.Cover.{parent}
+use Rattle.cidr_table.specs.model.Cover.{parent}
 use Rattle.cidr_table.proofs.Beginnings.{begins_length}
 
 pub begins_itself : (p : List Bool) → BeginsWith p p

@@ -8,7 +8,7 @@ use Rattle.std.specs.Ordering.{ordering_reverse, is_lt, is_eq, is_gt}
 use Rattle.std.specs.declared.cmp.Ordering.{Ordering}
 use Rattle.std.specs.declared.cmp.Ordering.TheVariants.{Less, Equal, Greater}
 use Rattle.std.specs.List.Sorted.{IsStrictlySortedBy}
-use Rattle.cidr_table.specs.Places.{IsAt, IsPlace}
+use Rattle.cidr_table.specs.internal.Places.{IsAt, IsPlace}
 
 pub is_Less : (r : Ordering) → true ≡ is_lt r → r ≡ Less
 is_Less Less h = refl

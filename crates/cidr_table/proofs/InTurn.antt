@@ -4,7 +4,7 @@ use Rattle.std.proofs.Math.Seq.{drop-cons, take-suc-set}
 use Rattle.std.proofs.lemmas.List.{drop-set-lt, drop_all, take-append-drop, length-map}
 use Rattle.std.specs.Map.{keys_of}
 use Rattle.std.specs.Borrow.{Bor, MutBor}
-use Rattle.cidr_table.specs.Writing.{CallLeaves, AreWrittenInTurn}
+use Rattle.cidr_table.specs.model.Writing.{CallLeaves, AreWrittenInTurn}
 use Rattle.cidr_table.proofs.InPlace.{same_later}
 
 pub call_leaves : {F C V : Type 0} (steps : F → Bor C × (MutBor V × Unit {0}) → Unit {0} × (MutBor V × Unit {0}) → F → Type 0) {f f' : F} {key : Bor C} {value after : MutBor V}

@@ -13,8 +13,8 @@ use Rattle.std.specs.declared.cmp.Ordering.{Ordering}
 use Rattle.std.specs.declared.cmp.Ordering.TheVariants.{Less, Greater}
 use Rattle.cidr.specs.model.Bits.{bit_cmp}
 use Rattle.cidr.specs.model.Network.{BeginsWith}
-use Rattle.cidr_table.specs.Places.{IsAt, IsLowerBound, begins_with}
-use Rattle.cidr_table.specs.Prefixes.{AreInside}
+use Rattle.cidr_table.specs.internal.Places.{IsAt, IsLowerBound, begins_with}
+use Rattle.cidr_table.specs.model.Prefixes.{AreInside}
 use Rattle.cidr_table.proofs.Beginnings.{not_before, begins_between, begins_decides}
 
 -- a key that is there is the first that is not before it

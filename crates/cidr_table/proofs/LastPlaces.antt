@@ -10,8 +10,8 @@ use Rattle.std.specs.Map.{keys_of}
 use Rattle.std.specs.Ordering.{is_lt, nat_cmp, ordering_then, ordering_reverse, MatchOrdering}
 use Rattle.std.specs.declared.cmp.Ordering.{Ordering}
 use Rattle.std.specs.declared.cmp.Ordering.TheVariants.{Less, Equal, Greater}
-use Rattle.cidr_table.specs.Loading.{placed, IsLastPlace, AreLast}
-use Rattle.cidr_table.specs.LastRows.{AreLastRows}
+use Rattle.cidr_table.specs.model.Loading.{placed, IsLastPlace, AreLast}
+use Rattle.cidr_table.specs.model.LastRows.{AreLastRows}
 use Rattle.cidr_table.proofs.LastRows.{EndsAt, end_of, last_row, end_contains, no_key}
 use Rattle.cidr_table.proofs.MapLaws.{contains_first, contains_later, contains_cases, contains_nothing, contains_key}
 use Rattle.cidr_table.proofs.Merging.{any_of}

@@ -8,8 +8,8 @@ use Rattle.std.specs.List.{Contains, AllByRecursion}
 use Rattle.std.specs.List.Retain.{DedupsFrom, IsDeduped}
 use Rattle.std.specs.List.Sorted.{IsStrictlySortedBy}
 use Rattle.std.specs.Map.{keys_of}
-use Rattle.cidr_table.specs.LastRows.{IsLastRow, AreLastRows}
-use Rattle.cidr_table.specs.Sorting.{AreAscending, rows_of, AreRowsKept}
+use Rattle.cidr_table.specs.model.LastRows.{IsLastRow, AreLastRows}
+use Rattle.cidr_table.specs.internal.Sorting.{AreAscending, rows_of, AreRowsKept}
 use Rattle.cidr_table.proofs.MapLaws.{contains_first, contains_later, contains_cases, contains_nothing, contains_key}
 use Rattle.cidr_table.proofs.Merging.{passed, filter_in, any_of, flipped, less_then}
 

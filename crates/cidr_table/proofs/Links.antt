@@ -15,9 +15,9 @@ use Rattle.cidr.specs.model.Bits.{bit_cmp}
 use Rattle.cidr.specs.model.BitString.{IsSharedLength}
 use Rattle.cidr.specs.model.Network.{BeginsWith}
 use Rattle.cidr.specs.laws.BitLaws.{bit_cmp_total}
-use Rattle.cidr_table.specs.Above.{IsReached, AreLinks}
-use Rattle.cidr_table.specs.Places.{IsAt, BelongsAt}
-use Rattle.cidr_table.specs.Prefixes.{IsLongestRow}
+use Rattle.cidr_table.specs.internal.Above.{IsReached, AreLinks}
+use Rattle.cidr_table.specs.internal.Places.{IsAt, BelongsAt}
+use Rattle.cidr_table.specs.model.Prefixes.{IsLongestRow}
 use Rattle.cidr_table.proofs.Beginnings.{bits_same, begins_length, not_before, begins_between}
 use Rattle.cidr_table.proofs.Insides.{key_at}
 

@@ -8,7 +8,7 @@ use Rattle.std.specs.Cmp.{IsTotalOrder}
 use Rattle.std.specs.Ordering.{ordering_reverse, match_ordering, is_eq}
 use Rattle.std.specs.declared.cmp.Ordering.{Ordering}
 use Rattle.std.specs.declared.cmp.Ordering.TheVariants.{Less, Equal, Greater}
-use Rattle.cidr_table.specs.FiniteMap.{IsUnder, IsInserted, IsRemoved}
+use Rattle.cidr_table.specs.model.FiniteMap.{IsUnder, IsInserted, IsRemoved}
 
 module _ {X : Type 0} where
   pub contains_first : (x : X) (xs : List X) → Contains (x ∷ xs) x

@@ -13,11 +13,11 @@ use Rattle.std.specs.declared.cmp.Ordering.TheVariants.{Less, Greater}
 use Rattle.cidr.specs.model.Bits.{bit_cmp}
 use Rattle.cidr.specs.model.BitString.{IsSharedLength}
 use Rattle.cidr.specs.model.Network.{BeginsWith}
-use Rattle.cidr_table.specs.Places.{IsLowerBound, begins_with, matching}
+use Rattle.cidr_table.specs.internal.Places.{IsLowerBound, begins_with, matching}
 use Rattle.std.specs.List.{items_where_true}
 use Rattle.std.specs.List.Retain.{IsFiltered}
-use Rattle.cidr_table.specs.FiniteMap.{IsUnder, AreCloned}
-use Rattle.cidr_table.specs.Prefixes.{AreMatching, AreShortestFirst, AreOutside}
+use Rattle.cidr_table.specs.model.FiniteMap.{IsUnder, AreCloned}
+use Rattle.cidr_table.specs.model.Prefixes.{AreMatching, AreShortestFirst, AreOutside}
 use Rattle.cidr_table.proofs.Beginnings.{begins_decides, not_before}
 use Rattle.cidr_table.proofs.Insides.{sorted_drop}
 use Rattle.cidr_table.proofs.MapLaws.{contains_first, contains_later, contains_cases, contains_nothing, contains_key}

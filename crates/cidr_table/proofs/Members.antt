@@ -4,7 +4,7 @@ use Rattle.std.proofs.lemmas.Bool.{cases_lt}
 use Rattle.std.proofs.lemmas.List.{take_at, length-replicate}
 use Rattle.std.specs.List.{Contains}
 use Rattle.cidr.specs.model.Network.{BeginsWith}
-use Rattle.cidr_table.specs.Cover.{Covers, IsFull, parent, IsMember, CoverSame}
+use Rattle.cidr_table.specs.model.Cover.{Covers, IsFull, parent, IsMember, CoverSame}
 use Rattle.cidr_table.proofs.Halves.{begins_itself, begins_begins, begins_both, same_length, length_parent, begins_parent, parent_begins, length_half, half_begins, either_half, empty, same_or_not}
 use Rattle.cidr_table.proofs.MapLaws.{contains_first, contains_later, contains_cases, contains_nothing}
 

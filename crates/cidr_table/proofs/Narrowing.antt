@@ -13,8 +13,8 @@ use Rattle.std.specs.declared.cmp.Ordering.{Ordering}
 use Rattle.std.specs.declared.cmp.Ordering.TheVariants.{Less, Equal, Greater}
 use Rattle.cidr.specs.model.Bits.{bit_cmp}
 use Rattle.cidr.specs.model.Network.{BeginsWith}
-use Rattle.cidr_table.specs.Places.{IsAt, BelongsAt, IsShared}
-use Rattle.cidr_table.specs.Prefixes.{IsLongestAt}
+use Rattle.cidr_table.specs.internal.Places.{IsAt, BelongsAt, IsShared}
+use Rattle.cidr_table.specs.model.Prefixes.{IsLongestAt}
 use Rattle.cidr_table.proofs.Beginnings.{bits_exact, bits_same, begins_length, begins_first, not_before}
 
 -- what begins the asked bits stands before `end` and has at most `len` bits, and of the comparisons that the lengths from

@@ -11,8 +11,8 @@ use Rattle.std.specs.Map.{keys_of}
 use Rattle.std.specs.declared.cmp.Ordering.{Ordering}
 use Rattle.std.specs.declared.cmp.Ordering.TheVariants.{Less}
 use Rattle.cidr.specs.model.Bits.{bit_cmp}
-use Rattle.cidr_table.specs.Cover.{Covers, CoverSame, IsLeastCover, parent}
-use Rattle.cidr_table.specs.CoverStack.{AreHalvesInOrder, AreBefore, IsReduced, IsPushed}
+use Rattle.cidr_table.specs.model.Cover.{Covers, CoverSame, IsLeastCover, parent}
+use Rattle.cidr_table.specs.internal.CoverStack.{AreHalvesInOrder, AreBefore, IsReduced, IsPushed}
 use Rattle.cidr_table.proofs.Halves.{parent_half}
 use Rattle.cidr_table.proofs.Reduced.{same_itself, same_trans, back, least_alike, reduced_is_least, skip_covers, push_covers}
 use Rattle.cidr_table.proofs.Refinements.{exact}

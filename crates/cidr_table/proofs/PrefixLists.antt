@@ -1,7 +1,7 @@
 -- A list of prefixes, read one after the other.
 use Rattle.std.proofs.Common.{◌≡◌, ℕ, ◌-◌, ◌<◌, ◌≤◌, Bool, List, [], ◌∷◌, ◌++◌, length, take, drop, Ok, refl, sym, ap, ◌∙◌, arith, take-append-drop, take_all, length-take, length-drop}
 use Rattle.cidr.specs.bytes.Prefix.{HasPrefix, ReadsPrefix}
-use Rattle.cidr_table.specs.Loading.{IsListed, IsLoadRefused}
+use Rattle.cidr_table.specs.model.Loading.{IsListed, IsLoadRefused}
 use Rattle.cidr_table.specs.declared.table.load.LoadError.TheVariants.{NoMemory}
 
 -- ---- what is read from the front, and what is behind it

@@ -6,7 +6,7 @@ use Rattle.std.specs.List.{Contains}
 use Rattle.std.specs.List.Sorted.{IsStrictlySortedBy}
 use Rattle.cidr.specs.model.Bits.{bit_cmp}
 use Rattle.cidr.specs.model.Network.{BeginsWith}
-use Rattle.cidr_table.specs.Cover.{Covers, IsFull, parent, IsMember, IsLeastCover, CoverSame, AreNetworks}
+use Rattle.cidr_table.specs.model.Cover.{Covers, IsFull, parent, IsMember, IsLeastCover, CoverSame, AreNetworks}
 use Rattle.cidr_table.proofs.Halves.{begins_itself, begins_begins, begins_both, same_length, length_parent, begins_parent, length_half, half_begins, either_half}
 use Rattle.cidr_table.proofs.Beginnings.{begins_length}
 use Rattle.cidr_table.proofs.MapLaws.{contains_first, contains_cases, contains_nothing}

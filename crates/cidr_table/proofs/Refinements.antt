@@ -6,8 +6,8 @@ use Rattle.std.specs.List.Sorted.{IsStrictlySortedBy}
 use Rattle.std.specs.declared.cmp.Ordering.TheVariants.{Less}
 use Rattle.cidr.specs.model.Bits.{bit_cmp}
 use Rattle.cidr.specs.model.Network.{BeginsWith}
-use Rattle.cidr_table.specs.Cover.{IsFull, IsLeastCover, CoverSame, AreNetworks, IsRefinement}
-use Rattle.cidr_table.specs.CoverAddresses.{AreIpNetworks}
+use Rattle.cidr_table.specs.model.Cover.{IsFull, IsLeastCover, CoverSame, AreNetworks, IsRefinement}
+use Rattle.cidr_table.specs.model.CoverAddresses.{AreIpNetworks}
 use Rattle.cidr_table.proofs.AddressSets.{ip_beginning}
 use Rattle.cidr_table.proofs.Ascending.{first_less}
 use Rattle.cidr_table.proofs.Beginnings.{begins_length}

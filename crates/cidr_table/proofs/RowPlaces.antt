@@ -11,8 +11,8 @@ use Rattle.std.specs.declared.cmp.Ordering.TheVariants.{Less, Equal, Greater}
 use Rattle.std.proofs.lemmas.List.{length-map}
 use Rattle.std.proofs.lemmas.Cmp.{tied_back, alike_right}
 use Rattle.std.proofs.lemmas.Map.Keys.{Less-from_sorted}
-use Rattle.cidr_table.specs.Places.{IsAt, BelongsAt}
-use Rattle.cidr_table.specs.LentRows.{with_value_at}
+use Rattle.cidr_table.specs.internal.Places.{IsAt, BelongsAt}
+use Rattle.cidr_table.specs.internal.LentRows.{with_value_at}
 
 pub sorted_none : {C : Type 0} (cmp : C → C → Ordering) → IsStrictlySortedBy cmp []
 unfolding IsStrictlySortedBy

@@ -5,7 +5,7 @@ use Rattle.std.specs.declared.cmp.Ordering.TheVariants.{Less}
 use Rattle.cidr.specs.model.Bits.{bit_cmp}
 use Rattle.cidr.specs.model.BitString.{IsSharedLength}
 use Rattle.cidr.specs.model.Network.{BeginsWith}
-use Rattle.cidr_table.specs.CoverStack.{AreHalvesInOrder}
+use Rattle.cidr_table.specs.internal.CoverStack.{AreHalvesInOrder}
 use Rattle.cidr_table.proofs.Halves.{same_length, next_bit, length_half, half_begins}
 use Rattle.cidr_table.proofs.Beginnings.{begins_length}
 use Rattle.cidr_table.proofs.Order.{less_not_itself, lower_less, last_bits}

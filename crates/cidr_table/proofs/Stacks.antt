@@ -8,8 +8,8 @@ use Rattle.std.specs.List.Sorted.{IsStrictlySortedBy}
 use Rattle.std.specs.declared.cmp.Ordering.TheVariants.{Less}
 use Rattle.cidr.specs.model.Bits.{bit_cmp}
 use Rattle.cidr.specs.model.Network.{BeginsWith}
-use Rattle.cidr_table.specs.Cover.{Covers, CoverSame, AreNetworks}
-use Rattle.cidr_table.specs.CoverStack.{AreHalvesInOrder, AreBefore, IsReduced, IsPushed}
+use Rattle.cidr_table.specs.model.Cover.{Covers, CoverSame, AreNetworks}
+use Rattle.cidr_table.specs.internal.CoverStack.{AreHalvesInOrder, AreBefore, IsReduced, IsPushed}
 use Rattle.cidr_table.proofs.Ascending.{sorted_front, sorted_push}
 use Rattle.cidr_table.proofs.Halves.{begins_itself, begins_begins, length_half, half_begins, parent_half}
 use Rattle.cidr_table.proofs.MapLaws.{contains_first}

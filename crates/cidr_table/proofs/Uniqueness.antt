@@ -5,7 +5,7 @@ use Rattle.std.specs.List.{Contains}
 use Rattle.std.specs.List.Sorted.{IsStrictlySortedBy}
 use Rattle.std.specs.declared.cmp.Ordering.TheVariants.{Less}
 use Rattle.cidr.specs.model.Bits.{bit_cmp}
-use Rattle.cidr_table.specs.Cover.{IsLeastCover}
+use Rattle.cidr_table.specs.model.Cover.{IsLeastCover}
 use Rattle.cidr_table.proofs.Order.{less_not_itself, not_both}
 use Rattle.cidr_table.proofs.Ascending.{first_less}
 use Rattle.cidr_table.proofs.MapLaws.{contains_first, contains_later, contains_cases, contains_nothing}

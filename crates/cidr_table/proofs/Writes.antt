@@ -2,10 +2,10 @@
 use Rattle.std.proofs.Common.{◌≡◌, ◌<◌, refl, sym, ap, arith, ℕ, zero, suc, List, [], ◌∷◌, length, get_or, set, slice_get, Bool, Option, Some, None, unwrap_or}
 use Rattle.std.specs.Map.{keys_of, values_of}
 use Rattle.std.specs.Option.{option_map, OnSome, IfSome}
-use Rattle.cidr_table.specs.FiniteMap.{IsUnder, StoredRows}
-use Rattle.cidr_table.specs.Prefixes.{IsLongestRow, IsValueLookedUp}
-use Rattle.cidr_table.specs.Lends.{IsWrittenUnder, IsWrittenInLongest, IsWrittenAt}
-use Rattle.cidr_table.specs.LentRows.{with_value_at}
+use Rattle.cidr_table.specs.model.FiniteMap.{IsUnder, StoredRows}
+use Rattle.cidr_table.specs.model.Prefixes.{IsLongestRow, IsValueLookedUp}
+use Rattle.cidr_table.specs.model.Lends.{IsWrittenUnder, IsWrittenInLongest, IsWrittenAt}
+use Rattle.cidr_table.specs.internal.LentRows.{with_value_at}
 use Rattle.cidr_table.proofs.MapLaws.{contains_key}
 
 module _ {C V : Type 0} where

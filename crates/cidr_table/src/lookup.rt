@@ -1,7 +1,7 @@
 //! The longest match: the look-up over whatever compares its keys.
 ghost use Rattle.std.specs.Prelude.{◌≡◌, ℕ, ◌+◌, ◌*◌, ◌^◌, ◌<◌, ◌≤◌, length};
 ghost use Rattle.std.specs.List.Sorted.{IsStrictlySortedBy};
-ghost use Rattle.cidr_table.specs.Prefixes.{IsLongestMatch};
+ghost use Rattle.cidr_table.specs.model.Prefixes.{IsLongestMatch};
 
 use crate::probe::Probe;
 use crate::search::{binary_digits, clipped, search_back, shared_len};

@@ -16,7 +16,7 @@ pub struct Rows<'a, C, V> {
 }
 
 impl<'a, C, V> Model for Rows<'a, C, V> {
-    ghost use Rattle.cidr_table.specs.FiniteMap.{ProbedRows};
+    ghost use Rattle.cidr_table.specs.model.FiniteMap.{ProbedRows};
 
     ghost Value = { ProbedRows C V };
 

@@ -2,7 +2,7 @@
 ghost use Rattle.std.specs.Prelude.{◌≡◌, ℕ, ◌+◌, ◌-◌, ◌^◌, ◌<◌, ◌≤◌, length, slice_index_or, take};
 ghost use Rattle.std.specs.List.Sorted.{IsStrictlySortedBy};
 ghost use Rattle.std.specs.declared.cmp.Ordering.TheVariants.{Less};
-ghost use Rattle.cidr_table.specs.Places.{IsPlace, IsShared};
+ghost use Rattle.cidr_table.specs.internal.Places.{IsPlace, IsShared};
 
 use crate::probe::Probe;
 use cidr::{BitString, NetworkBits};

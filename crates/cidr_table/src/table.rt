@@ -4,9 +4,9 @@ ghost use Rattle.std.specs.Slice.Iter.{iter_rest};
 ghost use Rattle.std.specs.Iterator.Adapters.{IterYieldsInOrder, IterYieldsInReverse};
 ghost use Rattle.std.specs.List.Sorted.{IsStrictlySortedBy};
 ghost use Rattle.std.specs.Map.{keys_of};
-ghost use Rattle.cidr_table.specs.FiniteMap.{IsUnder, IsInserted, IsRemoved};
-ghost use Rattle.cidr_table.specs.Prefixes.{AreInside};
-ghost use Rattle.cidr_table.specs.Places.{IsPlace, IsLowerBound, begins_with};
+ghost use Rattle.cidr_table.specs.model.FiniteMap.{IsUnder, IsInserted, IsRemoved};
+ghost use Rattle.cidr_table.specs.model.Prefixes.{AreInside};
+ghost use Rattle.cidr_table.specs.internal.Places.{IsPlace, IsLowerBound, begins_with};
 
 use crate::rows::Rows;
 use crate::search::search;
@@ -42,7 +42,7 @@ impl<C: NetworkBits + Copy, V> Model for LpmTable<C, V> {
     ghost use Rattle.std.specs.List.Sorted.{IsStrictlySortedBy};
     ghost use Rattle.std.specs.Map.{keys_of};
     ghost use Rattle.std.specs.Vec.{vec_capacity};
-    ghost use Rattle.cidr_table.specs.FiniteMap.{StoredRows};
+    ghost use Rattle.cidr_table.specs.model.FiniteMap.{StoredRows};
 
     ghost Value = { StoredRows C V };
 

@@ -8,7 +8,7 @@ use Rattle.std.specs.Bool.{Decides, beq}
 use Rattle.std.specs.List.{Contains, slice_get}
 use Rattle.std.specs.Option.{option_map}
 use Rattle.cidr.specs.model.Network.{BeginsWith}
-use Rattle.cidr_sets.specs.FirstRules.{IsFirstRule, IsDeciding, IsShadowed}
+use Rattle.cidr_sets.specs.model.FirstRules.{IsFirstRule, IsDeciding, IsShadowed}
 use Rattle.cidr_uses.specs.AccessList.{AreDeciders}
 
 pub first_contained : (xs : List ℕ) (i : ℕ) → Some i ≡ slice_get xs 0 → Contains xs i

@@ -4,7 +4,7 @@ use Rattle.std.proofs.lemmas.List.{take-take, length-map, get_or-map}
 use Rattle.std.proofs.lemmas.List.Elements.{Contains-push, Contains-push_cases, Contains-append_left}
 use Rattle.std.specs.List.{Any, Contains}
 use Rattle.cidr.specs.model.Network.{BeginsWith}
-use Rattle.cidr_table.specs.Cover.{Covers, CoverSame, AreNetworks, IsFull, IsLeastCover, IsRefinement}
+use Rattle.cidr_table.specs.model.Cover.{Covers, CoverSame, AreNetworks, IsFull, IsLeastCover, IsRefinement}
 
 pub begins_begins : (a p q : List Bool) → BeginsWith a p → BeginsWith p q → BeginsWith a q
 begins_begins a p q h k =

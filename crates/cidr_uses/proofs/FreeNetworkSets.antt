@@ -1,8 +1,8 @@
 -- The free networks of the difference of two sets.
 use Rattle.std.proofs.Common.{◌↔◌, ℕ, ◌≤◌, Bool, List, length, Option, Some, None}
-use Rattle.cidr_table.specs.Cover.{Covers, IsFull, IsReduced}
-use Rattle.cidr_sets.specs.Pools.{IsFreeNetwork, IsFirstFree}
-use Rattle.cidr_sets.specs.Sets.{IsDifference}
+use Rattle.cidr_table.specs.model.Cover.{Covers, IsFull, IsReduced}
+use Rattle.cidr_sets.specs.model.Pools.{IsFreeNetwork, IsFirstFree}
+use Rattle.cidr_sets.specs.model.Sets.{IsDifference}
 use Rattle.cidr_uses.specs.FreeNetworks.{IsAvailable, IsFirstAvailable}
 use Rattle.cidr_uses.proofs.Aggregates.{begins_begins}
 

@@ -4,8 +4,8 @@ use Rattle.std.proofs.lemmas.List.{map-append}
 use Rattle.std.proofs.lemmas.List.Elements.{Contains-append_right}
 use Rattle.std.specs.List.{Contains}
 use Rattle.cidr.specs.declared.family.Family.{Family}
-use Rattle.cidr_ext.specs.Reverse.{reverse_text}
-use Rattle.cidr_ext.specs.Zones.{names_of, EndAtLabel}
+use Rattle.cidr_ext.specs.texts.Reverse.{reverse_text}
+use Rattle.cidr_ext.specs.texts.Zones.{names_of, EndAtLabel}
 
 module _ (q : Family × List Bool) (now left : List (Family × List Bool)) (is : now ≡ q ∷ left) where
   pub rest_ends : EndAtLabel now → EndAtLabel left

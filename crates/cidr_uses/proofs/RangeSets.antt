@@ -3,9 +3,9 @@ use Rattle.std.proofs.Common.{◌≡◌, ◌↔◌, ◌⊎◌, ℕ, Bool, List, 
 use Rattle.std.proofs.lemmas.List.{map-append}
 use Rattle.std.proofs.lemmas.List.Elements.{Contains-append_left, Contains-push, Contains-push_cases}
 use Rattle.std.specs.List.{Contains}
-use Rattle.cidr_table.specs.Cover.{Covers}
-use Rattle.cidr_sets.specs.Ranges.{IsBetween, IsInSome}
-use Rattle.cidr_sets.specs.Sets.{IsSetOf, IsUnion}
+use Rattle.cidr_table.specs.model.Cover.{Covers}
+use Rattle.cidr_sets.specs.model.Ranges.{IsBetween, IsInSome}
+use Rattle.cidr_sets.specs.model.Sets.{IsSetOf, IsUnion}
 
 in_one_more : (rs : List (List Bool × List Bool)) (r : List Bool × List Bool) (a : List Bool)
     → IsInSome (rs ++ r ∷ []) a ↔ (IsInSome rs a ⊎ IsBetween r.0 r.1 a)

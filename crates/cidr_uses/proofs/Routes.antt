@@ -9,8 +9,8 @@ use Rattle.cidr.specs.declared.addr.ip.IpAddr.{IpAddr}
 use Rattle.cidr.specs.declared.addr.ip.IpAddr.TheVariants.{V4, V6}
 use Rattle.cidr.specs.either.IpAddress.{ip_address_bits}
 use Rattle.cidr.specs.either.IpNetwork.{any_bits, any_of, lone_network}
-use Rattle.cidr_table.specs.FiniteMap.{IsUnder}
-use Rattle.cidr_table.specs.Loading.{IsLastPlace}
+use Rattle.cidr_table.specs.model.FiniteMap.{IsUnder}
+use Rattle.cidr_table.specs.model.Loading.{IsLastPlace}
 
 module _ {C V : Type 0} where
   -- the row at the place of a key

@@ -5,7 +5,7 @@ use Rattle.std.specs.List.{Contains}
 use Rattle.cidr.specs.declared.family.Family.{Family}
 use Rattle.cidr.specs.model.Network.{BeginsWith}
 use Rattle.cidr_uses.specs.Parts.{IsPartition}
-use Rattle.cidr_ext.specs.Subnets.{HasExactlySubnets}
+use Rattle.cidr_ext.specs.model.Subnets.{HasExactlySubnets}
 
 pair_one : (p q : Family × List Bool) → p.0 ≡ q.0 → p.1 ≡ q.1 → p ≡ q
 pair_one (x, y) (v, z) e f = cc

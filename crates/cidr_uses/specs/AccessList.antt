@@ -6,7 +6,7 @@ use Rattle.cidr.specs.either.IpNetwork.{any_bits}
 use Rattle.cidr.specs.model.Network.{BeginsWith}
 use Rattle.cidr.specs.declared.addr.ip.IpAddr.{IpAddr}
 use Rattle.cidr.specs.declared.cidr.any.AnyIpCidr.{AnyIpCidr}
-use Rattle.cidr_sets.specs.FirstRules.{IsFirstRule}
+use Rattle.cidr_sets.specs.model.FirstRules.{IsFirstRule}
 
 -- the address is in the entry's network: it has its family and begins with its bits, and every address matches `any`
 abbrev pub Matches : IpAddr → AnyIpCidr → Type 0

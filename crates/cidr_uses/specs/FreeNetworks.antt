@@ -4,7 +4,7 @@ use Rattle.std.specs.Prelude.{◌≡◌, ◌≢◌, ℕ, ◌≤◌, Bool, List, 
 use Rattle.std.specs.declared.cmp.Ordering.TheVariants.{Greater}
 use Rattle.cidr.specs.model.Bits.{bit_cmp}
 use Rattle.cidr.specs.model.Network.{BeginsWith}
-use Rattle.cidr_table.specs.Cover.{Covers}
+use Rattle.cidr_table.specs.model.Cover.{Covers}
 
 abbrev pub IsUnused : List (List Bool) → List (List Bool) → List Bool → Type 0
 IsUnused pool used p = (a : List Bool) → length a ≡ 129 → BeginsWith a p → Covers pool a × ¬ (Covers used a)

@@ -1,8 +1,8 @@
 -- Routes: rows of a table, of which the longest key that an address or a network begins with decides.
 use Rattle.std.specs.Prelude.{◌≡◌, ℕ, ◌+◌, ◌-◌, ◌^◌, ◌≤◌, min, Bool, List, [], length, Contains, Option, MatchOption}
 use Rattle.cidr.specs.model.Network.{BeginsWith}
-use Rattle.cidr_table.specs.FiniteMap.{IsInserted}
-use Rattle.cidr_table.specs.Loading.{IsListed, IsLastPlace}
+use Rattle.cidr_table.specs.model.FiniteMap.{IsInserted}
+use Rattle.cidr_table.specs.model.Loading.{IsListed, IsLastPlace}
 
 module _ {C V : Type 0} (bits : C → List Bool) (routes : List (C × V)) (asked : List Bool) where
   -- no key begins the asked bits

@@ -2,8 +2,8 @@
 ghost use Rattle.std.specs.Prelude.{◌≡◌, ◌↔◌, Bool, List, ℕ, IfOk, IsTrue, MatchOption, length, map};
 ghost use Rattle.std.specs.Bool.{Decides};
 ghost use Rattle.std.specs.List.{All, Any};
-ghost use Rattle.cidr_table.specs.Cover.{AreNetworks};
-ghost use Rattle.cidr_sets.specs.FirstRules.{IsPermitted, IsShadowed};
+ghost use Rattle.cidr_table.specs.model.Cover.{AreNetworks};
+ghost use Rattle.cidr_sets.specs.model.FirstRules.{IsPermitted, IsShadowed};
 ghost use Rattle.cidr_uses.specs.AccessList.{Matches, IsFirstMatch, AreDeciders};
 
 use cidr::{AnyIpCidr, IpAddr, Ipv4Addr, Ipv4Cidr, NetworkBits};

@@ -1,9 +1,9 @@
 //! An address plan: a site cut into networks of /64, each named in reverse DNS.
 ghost use Rattle.std.specs.Prelude.{◌≡◌, ◌<◌, ◌≤◌, length, map, IfOk, MatchOption};
 ghost use Rattle.cidr.specs.declared.family.Family.TheVariants.{Ipv6};
-ghost use Rattle.cidr_ext.specs.Reverse.{reverse_text};
-ghost use Rattle.cidr_ext.specs.Subnets.{subnets_of, IsSubnetAt, NoSubnetAt};
-ghost use Rattle.cidr_ext.specs.Zones.{names_of};
+ghost use Rattle.cidr_ext.specs.texts.Reverse.{reverse_text};
+ghost use Rattle.cidr_ext.specs.model.Subnets.{subnets_of, IsSubnetAt, NoSubnetAt};
+ghost use Rattle.cidr_ext.specs.texts.Zones.{names_of};
 
 use arrayvec::ArrayString;
 use cidr::Ipv6Cidr;

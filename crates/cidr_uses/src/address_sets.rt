@@ -2,7 +2,7 @@
 ghost use Rattle.std.specs.Prelude.{◌≡◌, ◌+◌, ◌≤◌, [], true, length, map, IfOk, IfSome};
 ghost use Rattle.std.specs.Bool.{Decides};
 ghost use Rattle.std.specs.Option.{option_map};
-ghost use Rattle.cidr_table.specs.Cover.{Covers, IsReduced};
+ghost use Rattle.cidr_table.specs.model.Cover.{Covers, IsReduced};
 ghost use Rattle.cidr_uses.specs.FreeNetworks.{IsFirstAvailable};
 
 use cidr::NetworkBits;

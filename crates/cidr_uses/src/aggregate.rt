@@ -3,7 +3,7 @@ ghost use Rattle.std.specs.Prelude.{◌↔◌, ◌≤◌, IsTrue, length, map};
 ghost use Rattle.std.specs.List.{Any};
 ghost use Rattle.std.specs.Map.{keys_of};
 ghost use Rattle.cidr.specs.model.Network.{BeginsWith};
-ghost use Rattle.cidr_table.specs.Cover.{IsFull};
+ghost use Rattle.cidr_table.specs.model.Cover.{IsFull};
 
 use crate::prefix_tree::holds;
 use cidr::NetworkBits;

@@ -1,7 +1,7 @@
 //! Look-ups in a table, whose contracts speak of rows, so that a caller needs no proof of its own.
 ghost use Rattle.std.specs.Prelude.{◌≡◌, List, Option, IfOk, unwrap_or};
-ghost use Rattle.cidr_table.specs.LastRows.{AreLastRows};
-ghost use Rattle.cidr_table.specs.Prefixes.{IsLookedUp, AreMatching, AreShortestFirst};
+ghost use Rattle.cidr_table.specs.model.LastRows.{AreLastRows};
+ghost use Rattle.cidr_table.specs.model.Prefixes.{IsLookedUp, AreMatching, AreShortestFirst};
 
 use cidr::NetworkBits;
 use cidr_table::LpmTable;

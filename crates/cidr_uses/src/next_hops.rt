@@ -2,8 +2,8 @@
 ghost use Rattle.std.specs.Prelude.{◌≡◌, ℕ, List, Option, IfErr, IfOk, slice_get};
 ghost use Rattle.std.specs.Option.{option_and_then};
 ghost use Rattle.cidr_fib.specs.Errors.{AreRowsRefused};
-ghost use Rattle.cidr_table.specs.LastRows.{AreLastRows};
-ghost use Rattle.cidr_table.specs.Prefixes.{IsValueLookedUp};
+ghost use Rattle.cidr_table.specs.model.LastRows.{AreLastRows};
+ghost use Rattle.cidr_table.specs.model.Prefixes.{IsValueLookedUp};
 
 use cidr::NetworkBits;
 use cidr_fib::{ForwardingError, ForwardingTable};

@@ -3,7 +3,7 @@ ghost use Rattle.std.specs.Prelude.{IfErr, IfOk, IsTrue, map};
 ghost use Rattle.std.specs.Bool.{Decides};
 ghost use Rattle.std.specs.List.{All};
 ghost use Rattle.cidr_fib.specs.Errors.{IsSetRefused};
-ghost use Rattle.cidr_table.specs.Cover.{Covers};
+ghost use Rattle.cidr_table.specs.model.Cover.{Covers};
 
 use cidr::NetworkBits;
 use cidr_fib::{ForwardingError, ReadySet};

@@ -1,7 +1,7 @@
 //! Hits counted in the routes of a table, written by its public calls only.
 ghost use Rattle.std.specs.Prelude.{◌≡◌, ◌↔◌, ℕ, Contains, IsTrue, MatchOption, EachIndex, slice_index, map, ◌/◌, sum};
 ghost use Rattle.std.specs.Map.{keys_of, values_of};
-ghost use Rattle.cidr_table.specs.FiniteMap.{IsInserted};
+ghost use Rattle.cidr_table.specs.model.FiniteMap.{IsInserted};
 ghost use Rattle.cidr_uses.specs.Routing.{HasNoRoute, IsHit};
 
 use cidr::NetworkBits;

@@ -5,8 +5,8 @@ ghost use Rattle.std.specs.Map.{keys_of};
 ghost use Rattle.cidr.specs.model.Network.{BeginsWith};
 ghost use Rattle.cidr.specs.either.IpAddress.{ip_address_bits};
 ghost use Rattle.cidr.specs.either.IpNetwork.{any_bits};
-ghost use Rattle.cidr_table.specs.FiniteMap.{IsInserted, IsRemoved};
-ghost use Rattle.cidr_table.specs.Loading.{IsLoadRefused};
+ghost use Rattle.cidr_table.specs.model.FiniteMap.{IsInserted, IsRemoved};
+ghost use Rattle.cidr_table.specs.model.Loading.{IsLoadRefused};
 ghost use Rattle.cidr_uses.specs.Routing.{IsRoute, HasNoRoute, IsLastListed};
 
 use cidr::{AnyIpCidr, IpAddr, NetworkBits, PrefixBytes};

@@ -3,7 +3,7 @@
 
 ghost use Rattle.std.specs.Prelude.{IfOk, IsOk};
 ghost use Rattle.cidr.specs.model.Bits.{bits};
-ghost use Rattle.cidr_table.specs.Prefixes.{IsLongestMatch};
+ghost use Rattle.cidr_table.specs.model.Prefixes.{IsLongestMatch};
 ghost use Rattle.cidr_arrays.specs.Arrays.{prefix_bits, key_networks};
 
 use cidr::Ipv4Addr;

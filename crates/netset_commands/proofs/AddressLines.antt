@@ -6,7 +6,7 @@ use Rattle.cidr.specs.either.IpAddress.{IsIpText}
 use Rattle.cidr.specs.laws.BitLaws.{bit_eq_Decides}
 use Rattle.cidr.specs.model.Network.{BeginsWith}
 use Rattle.cidr.specs.declared.addr.ip.IpAddr.{IpAddr}
-use Rattle.cidr_table.specs.Places.{begins_with}
+use Rattle.cidr_table.specs.internal.Places.{begins_with}
 use Rattle.cidr_io.specs.Collecting.{Collects}
 use Rattle.cidr_io.specs.Writing.{State, Answered}
 use Rattle.cidr_io.specs.declared.sink.OutputFailed.{OutputFailed}

@@ -11,7 +11,7 @@ use Rattle.cidr.specs.declared.family.Family.{Family}
 use Rattle.cidr.specs.declared.family.Family.TheVariants.{Ipv4, Ipv6}
 use Rattle.cidr_io.specs.Writing.{State, Answered}
 use Rattle.cidr_io.specs.declared.sink.OutputFailed.{OutputFailed}
-use Rattle.cidr_sets.specs.Sets.{IsDifference, IsSetOf}
+use Rattle.cidr_sets.specs.model.Sets.{IsDifference, IsSetOf}
 use Rattle.cidr_sets.proofs.Algebra.{some_address}
 use Rattle.cidr_table.proofs.Beginnings.{bits_exact}
 use Rattle.cidr_table.proofs.MapLaws.{contains_first, contains_later}

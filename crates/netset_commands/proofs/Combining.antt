@@ -4,8 +4,8 @@ use Rattle.std.specs.List.{AllZip}
 use Rattle.cidr.specs.declared.cidr.combined.IpCidr.{IpCidr}
 use Rattle.cidr.specs.either.IpText.{IsIpNetworkText}
 use Rattle.cidr.specs.declared.family.Family.{Family}
-use Rattle.cidr_table.specs.Cover.{Covers}
-use Rattle.cidr_sets.specs.Sets.{IsSetOf}
+use Rattle.cidr_table.specs.model.Cover.{Covers}
+use Rattle.cidr_sets.specs.model.Sets.{IsSetOf}
 use Rattle.cidr_io.specs.Writing.{State, Answered}
 use Rattle.cidr_io.specs.declared.sink.OutputFailed.{OutputFailed}
 use Rattle.netset_commands.specs.Answering.{AreRead, HasAddresses}

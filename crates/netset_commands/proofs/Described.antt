@@ -12,9 +12,9 @@ use Rattle.cidr.specs.declared.cidr.combined.IpCidr.{IpCidr}
 use Rattle.cidr.specs.declared.cidr.combined.IpCidr.TheVariants.{V4, V6}
 use Rattle.cidr.specs.declared.family.Family.{Family}
 use Rattle.cidr.specs.declared.family.Family.TheVariants.{Ipv4, Ipv6}
-use Rattle.cidr_ext.specs.Inside.{host_mask_of}
-use Rattle.cidr_ext.specs.Subnets.{NoSubnetAt}
-use Rattle.cidr_ext.specs.Zones.{IsZoneLength, zones_of}
+use Rattle.cidr_ext.specs.model.Inside.{host_mask_of}
+use Rattle.cidr_ext.specs.model.Subnets.{NoSubnetAt}
+use Rattle.cidr_ext.specs.texts.Zones.{IsZoneLength, zones_of}
 use Rattle.cidr_io.specs.Collecting.{Collects}
 use Rattle.cidr_io.specs.Writing.{State, Answered, Part}
 use Rattle.cidr_io.specs.declared.sink.OutputFailed.{OutputFailed}

@@ -6,8 +6,8 @@ use Rattle.std.proofs.lemmas.List.{take_more, take_all, take-append-drop, at_dro
 use Rattle.cidr.specs.declared.cidr.combined.IpCidr.{IpCidr}
 use Rattle.cidr.specs.declared.family.Family.{Family}
 use Rattle.cidr.specs.declared.family.Family.TheVariants.{Ipv4, Ipv6}
-use Rattle.cidr_table.specs.Cover.{Covers}
-use Rattle.cidr_sets.specs.Sets.{IsSetOf}
+use Rattle.cidr_table.specs.model.Cover.{Covers}
+use Rattle.cidr_sets.specs.model.Sets.{IsSetOf}
 use Rattle.netset_commands.specs.Keeping.{AllSaid}
 use Rattle.cidr_lists.specs.Lists.{Text, lines_of, text_by, ListSays, networks_in}
 use Rattle.cidr_lists.specs.Reading.{Grows, listed}

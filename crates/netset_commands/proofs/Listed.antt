@@ -17,8 +17,8 @@ use Rattle.cidr_lists.specs.Sets.{networks_of}
 use Rattle.cidr_lists.specs.declared.lines.HostBits.{HostBits}
 use Rattle.cidr_lists.specs.declared.lists.Lists.{Lists}
 use Rattle.cidr_lists.specs.declared.sets.Sets.{Sets}
-use Rattle.cidr_sets.specs.Sets.{IsSetOf}
-use Rattle.cidr_table.specs.Cover.{Covers}
+use Rattle.cidr_sets.specs.model.Sets.{IsSetOf}
+use Rattle.cidr_table.specs.model.Cover.{Covers}
 use Rattle.netset_commands.specs.Answering.{AreAddresses, IsFileError}
 use Rattle.netset_commands.specs.Commands.{HasRow}
 use Rattle.netset_commands.specs.Compiled.{HasTable, begins_file}

@@ -14,7 +14,7 @@ use borrow.Author.Tests.{eqb-true}
 use Rattle.cidr_io.specs.Writing.{State, Part, Writes, Answered}
 use Rattle.cidr_io.specs.declared.sink.OutputFailed.{OutputFailed}
 use Rattle.cidr_io.proofs.Chains.{part_none, answered, then_writes}
-use Rattle.cidr_table.specs.Prefixes.{IsLookedUp}
+use Rattle.cidr_table.specs.model.Prefixes.{IsLookedUp}
 use Rattle.cidr_io.specs.Collecting.{Collects}
 use Rattle.netset_commands.specs.Commands.{Look}
 use Rattle.cidr_lists.specs.Lists.{IsTooLong, Text, lines_of}

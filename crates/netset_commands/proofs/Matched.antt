@@ -26,7 +26,7 @@ use Rattle.cidr_lists.specs.Fields.{FieldSays}
 use Rattle.netset_commands.specs.Program.{AnswersRequest, by_output}
 use Rattle.netset_commands.specs.Reading.{IsNextLine}
 use Rattle.cidr_lists.specs.Sets.{IsInSets, networks_of}
-use Rattle.cidr_sets.specs.Sets.{IsSetOf}
+use Rattle.cidr_sets.specs.model.Sets.{IsSetOf}
 use Rattle.netset_commands.specs.Streaming.{IsOfFile, IsStop, IsWritten, ReadTo}
 use Rattle.netset_commands.specs.declared.output.answers.Verdict.{Verdict}
 use Rattle.netset_commands.specs.declared.output.answers.Verdict.TheVariants.{Yes, No}

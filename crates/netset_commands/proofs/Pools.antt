@@ -8,7 +8,7 @@ use Rattle.cidr_lists.specs.Lists.{Text}
 use Rattle.cidr_lists.specs.Sets.{IsInSets, networks_of}
 use Rattle.cidr_lists.specs.declared.sets.Sets.{Sets}
 use Rattle.cidr_lists.proofs.SetSteps.{set_same}
-use Rattle.cidr_sets.specs.Sets.{IsSetOf}
+use Rattle.cidr_sets.specs.model.Sets.{IsSetOf}
 use Rattle.netset_commands.specs.Answering.{AreRead, HasAddresses, ReadsListed, ReadsOperand, SplitsList, SplitsNetwork, TellsFree}
 use Rattle.netset_commands.specs.Combining.{IsMade}
 use Rattle.netset_commands.specs.Commands.{Free, IsFreeOfUsed, Says, Split}

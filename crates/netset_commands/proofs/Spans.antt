@@ -8,8 +8,8 @@ use Rattle.cidr.specs.texts.PrintedAddress.{address_text}
 use Rattle.cidr_io.specs.Writing.{State, Answered}
 use Rattle.cidr_io.specs.declared.sink.OutputFailed.{OutputFailed}
 use Rattle.cidr_io.proofs.Chains.{part_none}
-use Rattle.cidr_sets.specs.Ranges.{AreRanges}
-use Rattle.cidr_table.specs.Cover.{Covers}
+use Rattle.cidr_sets.specs.model.Ranges.{AreRanges}
+use Rattle.cidr_table.specs.model.Cover.{Covers}
 use Rattle.netset_commands.specs.Sets.{Prints}
 use Rattle.cidr_lists.specs.Sets.{networks_of, printed_ranges, range_line}
 use Rattle.cidr_lists.specs.declared.sets.Form.TheVariants.{Ranges}

@@ -6,7 +6,7 @@ use Rattle.cidr.specs.declared.cidr.combined.IpCidr.{IpCidr}
 use Rattle.cidr.specs.declared.cidr.combined.IpCidr.TheVariants.{V4, V6}
 use Rattle.cidr.specs.declared.family.Family.{Family}
 use Rattle.cidr.specs.declared.family.Family.TheVariants.{Ipv4, Ipv6}
-use Rattle.cidr_table.specs.LastRows.{AreLastRows}
+use Rattle.cidr_table.specs.model.LastRows.{AreLastRows}
 use Rattle.netset_commands.specs.Causes.{TextFails}
 use Rattle.cidr_lists.specs.Lists.{Text, lines_of, text_by}
 use Rattle.cidr_lists.specs.Fields.{IsBadRow}

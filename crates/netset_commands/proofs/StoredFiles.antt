@@ -12,7 +12,7 @@ use Rattle.cidr_files.specs.Layout.{wide_words, words}
 use Rattle.cidr_files.specs.Tables.{IsFile, IsStoredTable, IsTableCutFrom, part_at, parts_in, stored_networks, value_in}
 use Rattle.cidr_files.specs.declared.layout.Table.{Table}
 use Rattle.cidr_table.proofs.MapLaws.{contains_cases, contains_first, contains_later, contains_nothing}
-use Rattle.cidr_table.specs.Prefixes.{IsLongestAt, IsLongestMatch, IsLookedUp}
+use Rattle.cidr_table.specs.model.Prefixes.{IsLongestAt, IsLongestMatch, IsLookedUp}
 use Rattle.netset_commands.specs.Compiled.{HasTable, HasTheRows}
 use Rattle.netset_commands.specs.Stored.{AreTables, by_family, rows_from, rows_in, rows_of}
 

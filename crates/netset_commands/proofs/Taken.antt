@@ -13,7 +13,7 @@ use Rattle.cidr.specs.declared.cidr.combined.IpCidr.{IpCidr}
 use Rattle.cidr.specs.declared.cidr.combined.IpCidr.TheVariants.{V4, V6}
 use Rattle.cidr.specs.declared.family.Family.{Family}
 use Rattle.cidr.specs.declared.family.Family.TheVariants.{Ipv4, Ipv6}
-use Rattle.cidr_ext.specs.Subnets.{subnets_of}
+use Rattle.cidr_ext.specs.model.Subnets.{subnets_of}
 use Rattle.cidr_io.proofs.Chains.{part_more}
 use Rattle.cidr_io.proofs.Collected.{collected_more, none_collected}
 use Rattle.cidr_io.specs.Collecting.{Collects}

@@ -3,7 +3,7 @@ use Rattle.std.specs.Prelude.{◌≡◌, ◌⊎◌, ℕ, ◌≤◌, Bool, List, 
 use Rattle.std.specs.List.{AllZip}
 use Rattle.cidr.specs.declared.cidr.combined.IpCidr.{IpCidr}
 use Rattle.cidr.specs.declared.family.Family.{Family}
-use Rattle.cidr_sets.specs.Sets.{IsSetOf}
+use Rattle.cidr_sets.specs.model.Sets.{IsSetOf}
 use Rattle.cidr_lists.specs.Changes.{merged}
 use Rattle.cidr_lists.specs.Lists.{Text, ListSays, IsFirstError, networks_in}
 use Rattle.cidr_lists.specs.Reading.{Grows}

@@ -5,8 +5,8 @@ use Rattle.std.specs.Map.{keys_of}
 use Rattle.cidr.specs.either.IpText.{IsIpNetworkText}
 use Rattle.cidr.specs.declared.cidr.combined.IpCidr.{IpCidr}
 use Rattle.cidr.specs.declared.family.Family.{Family}
-use Rattle.cidr_table.specs.Cover.{Covers}
-use Rattle.cidr_sets.specs.Sets.{IsSetOf}
+use Rattle.cidr_table.specs.model.Cover.{Covers}
+use Rattle.cidr_sets.specs.model.Sets.{IsSetOf}
 use Rattle.netset_commands.specs.Compiled.{HasTable}
 use Rattle.netset_commands.specs.Describing.{IsNoLength, IsOfLength, all_told, told_of}
 use Rattle.netset_commands.specs.Findings.{IsCheck}

@@ -8,8 +8,8 @@ use Rattle.cidr.specs.declared.cidr.combined.IpCidr.{IpCidr}
 use Rattle.cidr.specs.declared.cidr.combined.IpCidr.TheVariants.{V4, V6}
 use Rattle.cidr.specs.declared.family.Family.{Family}
 use Rattle.cidr.specs.declared.family.Family.TheVariants.{Ipv4, Ipv6}
-use Rattle.cidr_ext.specs.Reverse.{label_width}
-use Rattle.cidr_ext.specs.Zones.{zones_of}
+use Rattle.cidr_ext.specs.texts.Reverse.{label_width}
+use Rattle.cidr_ext.specs.texts.Zones.{zones_of}
 use Rattle.cidr_lists.specs.Printing.{line}
 use Rattle.netset_commands.specs.Single.{IsNumber}
 use Rattle.netset_commands.specs.declared.commands.describe.Description.{Description}

@@ -15,10 +15,10 @@ use Rattle.cidr.specs.declared.cidr.combined.IpCidr.{IpCidr}
 use Rattle.cidr.specs.declared.family.Family.{Family}
 use Rattle.cidr.specs.declared.family.Family.TheVariants.{Ipv4, Ipv6}
 use Rattle.cidr.specs.declared.inet.combined.IpInet.{IpInet}
-use Rattle.cidr_ext.specs.Inside.{IsAddressAt, host_mask_of, usable_of}
-use Rattle.cidr_ext.specs.Reverse.{reverse_text}
-use Rattle.cidr_ext.specs.Subnets.{subnets_of}
-use Rattle.cidr_ext.specs.TextFaults.{IsFaultOf}
+use Rattle.cidr_ext.specs.model.Inside.{IsAddressAt, host_mask_of, usable_of}
+use Rattle.cidr_ext.specs.texts.Reverse.{reverse_text}
+use Rattle.cidr_ext.specs.model.Subnets.{subnets_of}
+use Rattle.cidr_ext.specs.texts.TextFaults.{IsFaultOf}
 use Rattle.cidr_lists.specs.Printing.{line}
 use Rattle.netset_commands.specs.declared.output.answers.Verdict.{Verdict}
 use Rattle.netset_commands.specs.declared.output.answers.Verdict.TheVariants.{Yes, No}

@@ -10,7 +10,7 @@ use Rattle.cidr.specs.texts.Printed.{plain_text}
 use Rattle.cidr.specs.declared.addr.ip.IpAddr.{IpAddr}
 use Rattle.cidr.specs.declared.cidr.combined.IpCidr.{IpCidr}
 use Rattle.cidr_io.specs.Shown.{shown}
-use Rattle.cidr_table.specs.Places.{begins_with}
+use Rattle.cidr_table.specs.internal.Places.{begins_with}
 use Rattle.cidr_lists.specs.Entries.{AreAllEntries}
 use Rattle.cidr_lists.specs.Lists.{Text}
 use Rattle.cidr_lists.specs.declared.entries.Entry.{Entry}

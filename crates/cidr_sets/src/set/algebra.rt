@@ -4,12 +4,12 @@ ghost use Rattle.std.specs.Bool.{Decides};
 ghost use Rattle.cidr.specs.model.Network.{BeginsWith};
 ghost use Rattle.std.specs.declared.cmp.Ordering.TheVariants.{Less};
 ghost use Rattle.cidr.specs.model.Bits.{bit_cmp};
-ghost use Rattle.cidr_table.specs.Cover.{AreNetworks, Covers, IsReduced};
-ghost use Rattle.cidr_sets.specs.Steps.{Ascend, IsDifferenceStep, IsSkipped};
-ghost use Rattle.cidr_sets.specs.Searches.{IsFirstInside};
+ghost use Rattle.cidr_table.specs.model.Cover.{AreNetworks, Covers, IsReduced};
+ghost use Rattle.cidr_sets.specs.internal.Steps.{Ascend, IsDifferenceStep, IsSkipped};
+ghost use Rattle.cidr_sets.specs.model.Searches.{IsFirstInside};
 ghost use Rattle.std.specs.Option.{option_map};
 ghost use Rattle.std.specs.Vec.{vec_capacity};
-ghost use Rattle.cidr_sets.specs.Sets.{IsUnion, IsIntersection, IsDifference, IsSymmetricDifference, IsComplement, Meets, IsSubset, AreDisjoint};
+ghost use Rattle.cidr_sets.specs.model.Sets.{IsUnion, IsIntersection, IsDifference, IsSymmetricDifference, IsComplement, Meets, IsSubset, AreDisjoint};
 
 use crate::rests::{half, skip};
 use crate::search::{covers, is_inside, known, upto};

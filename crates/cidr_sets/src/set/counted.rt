@@ -2,8 +2,8 @@
 ghost use Rattle.std.specs.Prelude.{◌≡◌, ◌^◌, Bool, List, map, MatchOption, Some};
 ghost use Rattle.std.specs.Option.{option_map};
 ghost use Rattle.cidr.specs.model.Network.{width_of};
-ghost use Rattle.cidr_table.specs.Cover.{Covers};
-ghost use Rattle.cidr_sets.specs.Counts.{AreAddresses, HaveCount, IsAtIndex};
+ghost use Rattle.cidr_table.specs.model.Cover.{Covers};
+ghost use Rattle.cidr_sets.specs.model.Counts.{AreAddresses, HaveCount, IsAtIndex};
 
 use crate::set::NetworkSet;
 use crate::walk::{AddressSpace, SetAddresses};

@@ -1,7 +1,7 @@
 //! Adding a network and taking one out, in the memory of the set.
 ghost use Rattle.std.specs.Prelude.{◌≡◌, ◌<◌, ◌∷◌, [], Bool, List, length, map, IsOk, OnOk, OnErr};
-ghost use Rattle.cidr_table.specs.Cover.{Covers, IsReduced};
-ghost use Rattle.cidr_sets.specs.Sets.{IsUnion, IsDifference};
+ghost use Rattle.cidr_table.specs.model.Cover.{Covers, IsReduced};
+ghost use Rattle.cidr_sets.specs.model.Sets.{IsUnion, IsDifference};
 
 use crate::neighbours::{inside_of, joined_with};
 use crate::replacing::{cut, put, replace};

@@ -6,8 +6,8 @@
 ghost use Rattle.std.specs.Prelude.{◌≡◌, ◌≤◌, ◌↔◌, ℕ, Bool, List, length};
 ghost use Rattle.std.specs.List.{Contains};
 ghost use Rattle.cidr.specs.model.Network.{BeginsWith};
-ghost use Rattle.cidr_table.specs.Cover.{IsLeastCover, CoverSame, AreNetworks, IsRefinement};
-ghost use Rattle.cidr_table.specs.CoverAddresses.{AreIpNetworks, HoldSameIp};
+ghost use Rattle.cidr_table.specs.model.Cover.{IsLeastCover, CoverSame, AreNetworks, IsRefinement};
+ghost use Rattle.cidr_table.specs.model.CoverAddresses.{AreIpNetworks, HoldSameIp};
 
 /// Every list of networks has a least cover.
 pub fn cover_exists()

@@ -2,7 +2,7 @@
 ghost use Rattle.std.specs.Prelude.{◌≡◌, Bool, List, Option};
 ghost use Rattle.std.specs.List.Sorted.{IsStrictlySortedBy};
 ghost use Rattle.std.specs.Map.{keys_of};
-ghost use Rattle.cidr_table.specs.Prefixes.{IsLookedUp};
+ghost use Rattle.cidr_table.specs.model.Prefixes.{IsLookedUp};
 
 use cidr::NetworkBits;
 

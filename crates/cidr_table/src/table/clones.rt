@@ -1,6 +1,6 @@
 //! Copies of a table.
 ghost use Rattle.std.specs.Prelude.{IfOk};
-ghost use Rattle.cidr_table.specs.FiniteMap.{AreCloned};
+ghost use Rattle.cidr_table.specs.model.FiniteMap.{AreCloned};
 
 use crate::table::LpmTable;
 use cidr::NetworkBits;

@@ -5,8 +5,8 @@ ghost use Rattle.std.specs.List.Sorted.{IsStrictlySortedBy};
 ghost use Rattle.std.specs.Map.{keys_of};
 ghost use Rattle.std.specs.declared.cmp.Ordering.TheVariants.{Less};
 ghost use Rattle.cidr.specs.model.Bits.{bit_cmp};
-ghost use Rattle.cidr_table.specs.Cover.{Covers, IsLeastCover};
-ghost use Rattle.cidr_table.specs.CoverStack.{AreHalvesInOrder, AreBefore, IsReduced, IsPushed};
+ghost use Rattle.cidr_table.specs.model.Cover.{Covers, IsLeastCover};
+ghost use Rattle.cidr_table.specs.internal.CoverStack.{AreHalvesInOrder, AreBefore, IsReduced, IsPushed};
 
 use crate::table::{LpmTable, is_inside};
 use cidr::{BitString, NetworkBits};

@@ -1,7 +1,7 @@
 //! How a table is printed.
 ghost use Rattle.std.specs.Prelude.{Some};
 ghost use Rattle.std.specs.Fmt.{DisplaysOnOk, ◌++?◌};
-ghost use Rattle.cidr_table.specs.Printing.{debug_map, debug_row};
+ghost use Rattle.cidr_table.specs.model.Printing.{debug_map, debug_row};
 
 use crate::table::LpmTable;
 use cidr::NetworkBits;

@@ -3,8 +3,8 @@ ghost use Rattle.std.specs.Prelude.{◌≡◌, cond};
 ghost use Rattle.std.specs.List.Sorted.{IsStrictlySortedBy};
 ghost use Rattle.std.specs.Map.{keys_of};
 ghost use Rattle.std.specs.Vec.{vec_capacity};
-ghost use Rattle.cidr_table.specs.LastRows.{AreLastRows};
-ghost use Rattle.cidr_table.specs.Sorting.{AreAscending};
+ghost use Rattle.cidr_table.specs.model.LastRows.{AreLastRows};
+ghost use Rattle.cidr_table.specs.internal.Sorting.{AreAscending};
 
 use crate::sorting::sort_rows;
 use crate::table::LpmTable;

@@ -4,16 +4,16 @@ ghost use Rattle.std.specs.Borrow.{sem};
 ghost use Rattle.std.specs.Option.{option_copied_mut};
 ghost use Rattle.std.specs.List.Sorted.{IsStrictlySortedBy};
 ghost use Rattle.std.specs.Map.{keys_of, values_of};
-ghost use Rattle.cidr_table.specs.FiniteMap.{IsUnder};
-ghost use Rattle.cidr_table.specs.Prefixes.{IsValueLookedUp};
-ghost use Rattle.cidr_table.specs.Writing.{CallLeaves, AreWrittenInTurn};
+ghost use Rattle.cidr_table.specs.model.FiniteMap.{IsUnder};
+ghost use Rattle.cidr_table.specs.model.Prefixes.{IsValueLookedUp};
+ghost use Rattle.cidr_table.specs.model.Writing.{CallLeaves, AreWrittenInTurn};
 
 use crate::table::LpmTable;
 use cidr::NetworkBits;
 
 impl<C: NetworkBits + Copy, V> LpmTable<C, V> {
-    ghost use Rattle.cidr_table.specs.Lends.{lends_get, lends_lookup, lends_row};
-    ghost use Rattle.cidr_table.specs.LentRows.{lends_at};
+    ghost use Rattle.cidr_table.specs.model.Lends.{lends_get, lends_lookup, lends_row};
+    ghost use Rattle.cidr_table.specs.internal.LentRows.{lends_at};
 
     /// The value under exactly this key, for writing, or `None`. Binary search: O(log n). It allocates nothing.
     ///

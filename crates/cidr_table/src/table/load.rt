@@ -2,7 +2,7 @@
 ghost use Rattle.std.specs.Prelude.{MatchResult, IfOk};
 ghost use Rattle.std.specs.List.Sorted.{IsStrictlySortedBy};
 ghost use Rattle.std.specs.Map.{keys_of};
-ghost use Rattle.cidr_table.specs.Loading.{IsLoaded, IsLoadRefused, ArePlacedPrefixes, AreLast};
+ghost use Rattle.cidr_table.specs.model.Loading.{IsLoaded, IsLoadRefused, ArePlacedPrefixes, AreLast};
 
 use crate::table::LpmTable;
 use cidr::errors::PrefixBytesError;

@@ -4,8 +4,8 @@ ghost use Rattle.std.specs.List.Sorted.{IsStrictlySortedBy};
 ghost use Rattle.std.specs.Map.{keys_of};
 ghost use Rattle.std.specs.declared.cmp.Ordering.TheVariants.{Less, Greater};
 ghost use Rattle.cidr.specs.model.Network.{BeginsWith};
-ghost use Rattle.cidr_table.specs.Above.{IsReached, AreLinks};
-ghost use Rattle.cidr_table.specs.Prefixes.{IsLookedUp};
+ghost use Rattle.cidr_table.specs.internal.Above.{IsReached, AreLinks};
+ghost use Rattle.cidr_table.specs.model.Prefixes.{IsLookedUp};
 
 use crate::rows::Rows;
 use crate::search::{clipped, search, search_back, search_between};
@@ -48,7 +48,7 @@ impl<'a, C: NetworkBits + Copy, V> Model for Lookups<'a, C, V> {
     ghost use Rattle.std.specs.Prelude.{◌≡◌, ◌≤◌, List, length};
     ghost use Rattle.std.specs.List.Sorted.{IsStrictlySortedBy};
     ghost use Rattle.std.specs.Map.{keys_of};
-    ghost use Rattle.cidr_table.specs.Above.{AreLinks};
+    ghost use Rattle.cidr_table.specs.internal.Above.{AreLinks};
 
     ghost Value = { List (C × V) };
 
@@ -62,8 +62,8 @@ impl<'a, C: NetworkBits + Copy, V> Model for Lookups<'a, C, V> {
 impl<C: NetworkBits + Copy, V> Model for ReadyTable<C, V> {
     ghost use Rattle.std.specs.Prelude.{◌≤◌, length};
     ghost use Rattle.std.specs.Map.{keys_of};
-    ghost use Rattle.cidr_table.specs.Above.{AreLinks};
-    ghost use Rattle.cidr_table.specs.FiniteMap.{StoredRows};
+    ghost use Rattle.cidr_table.specs.internal.Above.{AreLinks};
+    ghost use Rattle.cidr_table.specs.model.FiniteMap.{StoredRows};
 
     ghost Value = { StoredRows C V };
 

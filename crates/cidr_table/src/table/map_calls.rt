@@ -5,8 +5,8 @@ ghost use Rattle.std.specs.Fn.{CalledAt};
 ghost use Rattle.std.specs.List.Retain.{IsFiltered};
 ghost use Rattle.std.specs.List.Sorted.{IsStrictlySortedBy};
 ghost use Rattle.std.specs.Map.{keys_of};
-ghost use Rattle.cidr_table.specs.FiniteMap.{IsUnder, IsInserted};
-ghost use Rattle.cidr_table.specs.Prefixes.{AreOutside};
+ghost use Rattle.cidr_table.specs.model.FiniteMap.{IsUnder, IsInserted};
+ghost use Rattle.cidr_table.specs.model.Prefixes.{AreOutside};
 
 use crate::table::{LpmTable, is_inside};
 use cidr::NetworkBits;

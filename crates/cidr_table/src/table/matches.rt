@@ -3,8 +3,8 @@ ghost use Rattle.std.specs.Prelude.{◌≡◌, [], ◌∷◌, length, MatchOptio
 ghost use Rattle.std.specs.Iterator.{YieldsFirstBy, item_count};
 ghost use Rattle.std.specs.List.Sorted.{IsStrictlySortedBy};
 ghost use Rattle.std.specs.Map.{keys_of};
-ghost use Rattle.cidr_table.specs.Prefixes.{AreMatching, AreShortestFirst};
-ghost use Rattle.cidr_table.specs.Places.{matching};
+ghost use Rattle.cidr_table.specs.model.Prefixes.{AreMatching, AreShortestFirst};
+ghost use Rattle.cidr_table.specs.internal.Places.{matching};
 
 use crate::search::clipped;
 use crate::table::{LpmTable, is_inside, lower_bound};
@@ -24,7 +24,7 @@ impl<'a, C: NetworkBits + Copy, V> Model for Matches<'a, C, V> {
     ghost use Rattle.std.specs.Prelude.{List};
     ghost use Rattle.std.specs.List.Sorted.{IsStrictlySortedBy};
     ghost use Rattle.std.specs.Map.{keys_of};
-    ghost use Rattle.cidr_table.specs.Places.{matching};
+    ghost use Rattle.cidr_table.specs.internal.Places.{matching};
 
     ghost Value = { List (C × V) };
 

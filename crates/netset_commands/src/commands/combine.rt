@@ -1,7 +1,7 @@
 //! Sets put together.
 ghost use Rattle.std.specs.Prelude.{IfOk, ◌∷◌};
 ghost use Rattle.cidr.specs.declared.family.Family.{Family};
-ghost use Rattle.cidr_sets.specs.Sets.{IsSetOf};
+ghost use Rattle.cidr_sets.specs.model.Sets.{IsSetOf};
 ghost use Rattle.netset_commands.specs.Combining.{IsMade};
 ghost use Rattle.cidr_lists.specs.Sets.{IsInSets, networks_of};
 

@@ -3,7 +3,7 @@ ghost use Rattle.std.specs.Prelude.{◌≡◌, ◌≤◌, ◌^◌, ℕ, List, Op
 ghost use Rattle.cidr.specs.either.IpHost.{host_address, host_network};
 ghost use Rattle.cidr.specs.either.IpNetwork.{network_family, network_prefix};
 ghost use Rattle.cidr.specs.either.IpText.{IsIpNetworkText};
-ghost use Rattle.cidr_ext.specs.Inside.{usable_of};
+ghost use Rattle.cidr_ext.specs.model.Inside.{usable_of};
 ghost use Rattle.cidr_io.specs.Writing.{Answered};
 ghost use Rattle.netset_commands.specs.Command.{single_request};
 ghost use Rattle.netset_commands.specs.Commands.{Single as ASingle};

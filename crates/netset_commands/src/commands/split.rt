@@ -3,7 +3,7 @@ ghost use Rattle.std.specs.Prelude.{◌≡◌, ℕ, List, Option, IfErr, MatchOp
 ghost use Rattle.std.specs.Bool.{Decides};
 ghost use Rattle.std.specs.List.{flat_map};
 ghost use Rattle.cidr.specs.either.IpNetwork.{network_family, network_prefix};
-ghost use Rattle.cidr_ext.specs.Subnets.{subnets_of};
+ghost use Rattle.cidr_ext.specs.model.Subnets.{subnets_of};
 ghost use Rattle.cidr_io.specs.Writing.{Answered, Writes};
 ghost use Rattle.netset_commands.specs.Answering.{SplitsList, SplitsNetwork};
 ghost use Rattle.netset_commands.specs.Causes.{Cause, FileMayFail};

@@ -1,7 +1,7 @@
 use Rattle.std.proofs.Common.{◌≡◌, sym, ◌∙◌, ap, subst, arith, ◌<◌, ◌^◌, get_or, map}
 use Rattle.std.proofs.lemmas.List.{get_or-map}
 use Rattle.cidr.specs.model.Bits.{bits}
-use Rattle.cidr_table.specs.Prefixes.{IsLongestMatch}
+use Rattle.cidr_table.specs.model.Prefixes.{IsLongestMatch}
 use Rattle.cidr_arrays.specs.Arrays.{prefix_bits, row_of}
 use Rattle.cidr_arrays.proofs.Longest.{row_within}
 use Rattle.cidr_arrays.proofs.search.longest_match.Goals as goal

@@ -1,8 +1,8 @@
 use Rattle.std.proofs.Common.{subst, sym, ◌∙◌}
 use Rattle.cidr.specs.declared.addr.ip.IpAddr.{IpAddr}
 use Rattle.cidr.specs.either.IpNetwork.{network_family, network_prefix}
-use Rattle.cidr_ext.specs.Inside.{usable_of}
-use Rattle.cidr_c.specs.Networks.{IsLastHost}
+use Rattle.cidr_ext.specs.model.Inside.{usable_of}
+use Rattle.cidr_c.specs.model.Networks.{IsLastHost}
 use Rattle.cidr_c.proofs.Hosts.{last_host}
 use Rattle.cidr_c.proofs.around.last_usable.Goals as goal
 

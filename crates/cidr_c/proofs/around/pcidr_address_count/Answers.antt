@@ -2,10 +2,10 @@ use Rattle.std.proofs.Common.{◌≡◌, ◌-◌, ◌^◌, length, ℕ}
 use Rattle.cidr.specs.declared.cidr.combined.IpCidr.{IpCidr}
 use Rattle.cidr.specs.either.IpNetwork.{network_family, network_prefix}
 use Rattle.cidr.specs.model.Network.{width_of}
-use Rattle.cidr_c.specs.Calls.{IsAny}
+use Rattle.cidr_c.specs.calls.Calls.{IsAny}
 use Rattle.cidr_c.proofs.Sought.{sought}
-use Rattle.cidr_c.specs.Tables.{ipv6_number}
-use Rattle.cidr_c.specs.Values.{IsHostValue, ip_network_in}
+use Rattle.cidr_c.specs.model.Tables.{ipv6_number}
+use Rattle.cidr_c.specs.model.Values.{IsHostValue, ip_network_in}
 use Rattle.cidr_c.proofs.around.pcidr_address_count.Goals as goal
 
 pub returns-in-Some : goal.returns-in-Some

@@ -1,9 +1,9 @@
 use Rattle.std.proofs.Common.{◌≡◌, []}
 use Rattle.cidr.specs.declared.cidr.combined.IpCidr.{IpCidr}
 use Rattle.cidr.specs.either.IpNetwork.{network_family, network_prefix}
-use Rattle.cidr_ext.specs.Inside.{usable_of}
-use Rattle.cidr_c.specs.Networks.{IsFirstHost}
-use Rattle.cidr_c.specs.Values.{IsAddressValue, IsHostValue, address_in, ip_network_in}
+use Rattle.cidr_ext.specs.model.Inside.{usable_of}
+use Rattle.cidr_c.specs.model.Networks.{IsFirstHost}
+use Rattle.cidr_c.specs.model.Values.{IsAddressValue, IsHostValue, address_in, ip_network_in}
 use Rattle.cidr_c.proofs.Sought.{sought}
 use Rattle.cidr_c.proofs.around.pcidr_first_usable_by_value.Goals as goal
 

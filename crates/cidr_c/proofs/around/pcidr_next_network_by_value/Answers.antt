@@ -3,8 +3,8 @@ use Rattle.cidr.specs.declared.cidr.combined.IpCidr.{IpCidr}
 use Rattle.cidr.specs.either.IpNetwork.{network_family, network_prefix}
 use Rattle.cidr.specs.model.Network.{ones}
 use Rattle.cidr_c.proofs.Sought.{sought}
-use Rattle.cidr_c.specs.Values.{IsHostValue, IsIpNetworkValue, ip_network_in}
-use Rattle.cidr_ext.specs.Subnets.{IsNextNetwork}
+use Rattle.cidr_c.specs.model.Values.{IsHostValue, IsIpNetworkValue, ip_network_in}
+use Rattle.cidr_ext.specs.model.Subnets.{IsNextNetwork}
 use Rattle.cidr_c.proofs.around.pcidr_next_network_by_value.Goals as goal
 
 pub returns-in-Some : goal.returns-in-Some

@@ -5,9 +5,9 @@ use Rattle.cidr.specs.either.IpAddress.{address_family, plain_bits}
 use Rattle.cidr.specs.either.IpNetwork.{network_family, network_prefix}
 use Rattle.cidr.specs.model.Network.{width_of}
 use Rattle.cidr_c.proofs.Sought.{sought}
-use Rattle.cidr_c.specs.Networks.{IsAddressSought}
-use Rattle.cidr_c.specs.Values.{prefix_in, width_in, IsAddressValue, IsHostValue, address_in, ip_network_in}
-use Rattle.cidr_ext.specs.Inside.{IsAddressAt}
+use Rattle.cidr_c.specs.model.Networks.{IsAddressSought}
+use Rattle.cidr_c.specs.model.Values.{prefix_in, width_in, IsAddressValue, IsHostValue, address_in, ip_network_in}
+use Rattle.cidr_ext.specs.model.Inside.{IsAddressAt}
 use Rattle.cidr_c.proofs.around.pcidr_nth_by_value.Goals as goal
 
 pub returns-in-Some : goal.returns-in-Some

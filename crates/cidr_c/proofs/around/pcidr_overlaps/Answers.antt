@@ -2,7 +2,7 @@ use Rattle.std.proofs.Common.{◌⊎◌}
 use Rattle.cidr.specs.declared.cidr.any.AnyIpCidr.{AnyIpCidr}
 use Rattle.cidr.specs.either.IpNetwork.{any_bits}
 use Rattle.cidr.specs.model.Network.{BeginsWith}
-use Rattle.cidr_c.specs.Values.{IsNetworkValue, network_in}
+use Rattle.cidr_c.specs.model.Values.{IsNetworkValue, network_in}
 use Rattle.cidr_c.proofs.Sought.{both_answered}
 use Rattle.cidr_c.proofs.around.pcidr_overlaps.Goals as goal
 

@@ -4,10 +4,10 @@ use Rattle.cidr.specs.declared.cidr.combined.IpCidr.{IpCidr}
 use Rattle.cidr.specs.either.IpAddress.{address_family, plain_bits}
 use Rattle.cidr.specs.either.IpNetwork.{network_family, network_prefix}
 use Rattle.cidr.specs.model.Network.{BeginsWith, width_of}
-use Rattle.cidr_ext.specs.Inside.{IsAddressAt}
-use Rattle.cidr_c.specs.Calls.{IsAny}
-use Rattle.cidr_c.specs.Tables.{ipv6_number}
-use Rattle.cidr_c.specs.Values.{IsAddressValue, IsHostValue, address_in, ip_network_in}
+use Rattle.cidr_ext.specs.model.Inside.{IsAddressAt}
+use Rattle.cidr_c.specs.calls.Calls.{IsAny}
+use Rattle.cidr_c.specs.model.Tables.{ipv6_number}
+use Rattle.cidr_c.specs.model.Values.{IsAddressValue, IsHostValue, address_in, ip_network_in}
 use Rattle.cidr_c.proofs.Sought.{sought}
 use Rattle.cidr_c.proofs.around.pcidr_position.Goals as goal
 

@@ -2,8 +2,8 @@ use Rattle.std.proofs.Common.{◌≡◌, []}
 use Rattle.cidr.specs.declared.cidr.combined.IpCidr.{IpCidr}
 use Rattle.cidr.specs.either.IpNetwork.{network_family, network_prefix}
 use Rattle.cidr_c.proofs.Sought.{sought}
-use Rattle.cidr_c.specs.Values.{IsHostValue, IsIpNetworkValue, ip_network_in}
-use Rattle.cidr_ext.specs.Tree.{AreSiblings}
+use Rattle.cidr_c.specs.model.Values.{IsHostValue, IsIpNetworkValue, ip_network_in}
+use Rattle.cidr_ext.specs.model.Tree.{AreSiblings}
 use Rattle.cidr_c.proofs.around.pcidr_sibling_by_value.Goals as goal
 
 pub returns-in-Some : goal.returns-in-Some

@@ -1,8 +1,8 @@
 use Rattle.std.proofs.Common.{refl, Some}
 use Rattle.cidr.specs.declared.cidr.any.AnyIpCidr.{AnyIpCidr}
 use Rattle.cidr.specs.either.IpNetwork.{any_bits}
-use Rattle.cidr_ext.specs.Tree.{IsSpanning}
-use Rattle.cidr_c.specs.Values.{IsNetworkValue, network_in}
+use Rattle.cidr_ext.specs.model.Tree.{IsSpanning}
+use Rattle.cidr_c.specs.model.Values.{IsNetworkValue, network_in}
 use Rattle.cidr_c.proofs.Sought.{sought}
 use Rattle.cidr_c.proofs.around.pcidr_spanning.Goals as goal
 

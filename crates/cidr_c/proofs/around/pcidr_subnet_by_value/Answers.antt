@@ -3,9 +3,9 @@ use Rattle.cidr.specs.declared.cidr.combined.IpCidr.{IpCidr}
 use Rattle.cidr.specs.either.IpNetwork.{network_family, network_prefix}
 use Rattle.cidr.specs.model.Network.{width_of}
 use Rattle.cidr_c.proofs.Sought.{sought}
-use Rattle.cidr_c.specs.Networks.{IsNetworkSought}
-use Rattle.cidr_c.specs.Values.{prefix_in, width_in, IsHostValue, IsIpNetworkValue, ip_network_in}
-use Rattle.cidr_ext.specs.Subnets.{IsSubnetAt, NoSubnetAt}
+use Rattle.cidr_c.specs.model.Networks.{IsNetworkSought}
+use Rattle.cidr_c.specs.model.Values.{prefix_in, width_in, IsHostValue, IsIpNetworkValue, ip_network_in}
+use Rattle.cidr_ext.specs.model.Subnets.{IsSubnetAt, NoSubnetAt}
 use Rattle.cidr_c.proofs.around.pcidr_subnet_by_value.Goals as goal
 
 pub returns-in-Some : goal.returns-in-Some

@@ -1,9 +1,9 @@
 use Rattle.std.proofs.Common.{◌≡◌, ◌≤◌, ◌^◌, ℕ, length}
 use Rattle.cidr.specs.declared.cidr.combined.IpCidr.{IpCidr}
 use Rattle.cidr.specs.either.IpNetwork.{network_family, network_prefix}
-use Rattle.cidr_ext.specs.Inside.{usable_of}
-use Rattle.cidr_c.specs.Calls.{IsAny}
-use Rattle.cidr_c.specs.Values.{IsHostValue, ip_network_in}
+use Rattle.cidr_ext.specs.model.Inside.{usable_of}
+use Rattle.cidr_c.specs.calls.Calls.{IsAny}
+use Rattle.cidr_c.specs.model.Values.{IsHostValue, ip_network_in}
 use Rattle.cidr_c.proofs.Sought.{sought}
 use Rattle.cidr_c.proofs.around.pcidr_usable_count.Goals as goal
 

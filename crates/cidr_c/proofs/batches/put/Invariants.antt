@@ -1,6 +1,6 @@
 use Rattle.std.proofs.Common.{◌≡◌, drop, length, map, take}
-use Rattle.cidr_c.specs.Batches.{AreNetworkValues}
-use Rattle.cidr_c.specs.Values.{network_in}
+use Rattle.cidr_c.specs.calls.Batches.{AreNetworkValues}
+use Rattle.cidr_c.specs.model.Values.{network_in}
 use Rattle.cidr_c.proofs.batches.put.Given as goal
 
 abbrev pub invariant-loop-i : goal.invariant-loop-i

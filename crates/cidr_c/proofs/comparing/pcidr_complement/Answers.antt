@@ -1,9 +1,9 @@
 use Rattle.std.proofs.Common.{map, subst}
 use Rattle.cidr.specs.either.IpNetwork.{any_bits}
 use Rattle.cidr.specs.declared.cidr.any.AnyIpCidr.{AnyIpCidr}
-use Rattle.cidr_sets.specs.Sets.{IsComplement}
-use Rattle.cidr_c.specs.Batches.{AreNetworkValues, bits_in}
-use Rattle.cidr_c.specs.Values.{IsNetworkValue, network_in}
+use Rattle.cidr_sets.specs.model.Sets.{IsComplement}
+use Rattle.cidr_c.specs.calls.Batches.{AreNetworkValues, bits_in}
+use Rattle.cidr_c.specs.model.Values.{IsNetworkValue, network_in}
 use Rattle.cidr_c.proofs.Compared.{complement_of}
 use Rattle.cidr_c.proofs.NetworkLists.{delivered, if_ok}
 use Rattle.cidr_c.proofs.comparing.pcidr_complement.Goals as goal

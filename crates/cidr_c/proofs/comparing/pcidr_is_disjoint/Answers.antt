@@ -1,7 +1,7 @@
 use Rattle.std.proofs.Common.{map}
 use Rattle.cidr.specs.either.IpNetwork.{any_bits}
-use Rattle.cidr_sets.specs.Sets.{AreDisjoint}
-use Rattle.cidr_c.specs.Batches.{AreBothNetworks, bits_in}
+use Rattle.cidr_sets.specs.model.Sets.{AreDisjoint}
+use Rattle.cidr_c.specs.calls.Batches.{AreBothNetworks, bits_in}
 use Rattle.cidr_c.proofs.Compared.{set_answered, disjoint_of}
 use Rattle.cidr_c.proofs.comparing.pcidr_is_disjoint.Goals as goal
 

@@ -1,7 +1,7 @@
 use Rattle.std.proofs.Common.{map}
 use Rattle.cidr.specs.either.IpNetwork.{any_bits}
-use Rattle.cidr_sets.specs.Sets.{IsSubset}
-use Rattle.cidr_c.specs.Batches.{AreBothNetworks, bits_in}
+use Rattle.cidr_sets.specs.model.Sets.{IsSubset}
+use Rattle.cidr_c.specs.calls.Batches.{AreBothNetworks, bits_in}
 use Rattle.cidr_c.proofs.Compared.{set_answered, subset_of}
 use Rattle.cidr_c.proofs.comparing.pcidr_is_subset.Goals as goal
 

@@ -1,5 +1,5 @@
 use Rattle.std.proofs.Common.{◌≡◌, drop, length}
-use Rattle.cidr_c.specs.Files.{IsFound}
+use Rattle.cidr_c.specs.model.Files.{IsFound}
 use Rattle.cidr_c.proofs.Answering.{AreFirstAnswered}
 use Rattle.cidr_c.proofs.files.pcidr_file_lookup_each.Given as goal
 

@@ -1,6 +1,6 @@
 use Rattle.std.proofs.Common.{◌<◌, ◌∙◌, arith, length}
 use Rattle.std.proofs.lemmas.List.{drop-set-lt, length-set}
-use Rattle.cidr_c.specs.Files.{IsInSet}
+use Rattle.cidr_c.specs.model.Files.{IsInSet}
 use Rattle.cidr_c.proofs.Answering.{all_answered, one_answered}
 use Rattle.cidr_c.proofs.files.pcidr_set_has_each.Goals as goal
 

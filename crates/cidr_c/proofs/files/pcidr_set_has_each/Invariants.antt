@@ -1,5 +1,5 @@
 use Rattle.std.proofs.Common.{◌≡◌, drop, length}
-use Rattle.cidr_c.specs.Files.{IsInSet}
+use Rattle.cidr_c.specs.model.Files.{IsInSet}
 use Rattle.cidr_c.proofs.Answering.{AreFirstAnswered}
 use Rattle.cidr_c.proofs.files.pcidr_set_has_each.Given as goal
 

@@ -1,4 +1,4 @@
-use Rattle.cidr_c.specs.Tables.{ipv4_number, ipv6_number}
+use Rattle.cidr_c.specs.model.Tables.{ipv4_number, ipv6_number}
 use Rattle.cidr_c.proofs.Checks.{accepted}
 use Rattle.cidr_c.proofs.laws.built_tables_are_accepted.Goals as goal
 

@@ -1,6 +1,6 @@
 use Rattle.std.proofs.Common.{◌≡◌, ◌+◌, ◌-◌, List, ℕ, length, take, drop, length-drop, arith, subst, sym, true, [], eq-eqb, slice_index_or}
 use Rattle.std.proofs.lemmas.List.{take_all}
-use Rattle.cidr_c.specs.Lines.{IsFirstLine}
+use Rattle.cidr_c.specs.calls.Lines.{IsFirstLine}
 use Rattle.cidr_c.proofs.LineSteps.{cut, uncut}
 use Rattle.cidr_c.proofs.lines.first_line.Goals as goal
 

@@ -1,6 +1,6 @@
 use Rattle.std.proofs.Common.{◌≡◌, ◌*◌, ◌≤◌, drop, length, take}
-use Rattle.cidr_c.specs.Batches.{AreNetworkValues}
-use Rattle.cidr_c.specs.Lines.{printed_lines}
+use Rattle.cidr_c.specs.calls.Batches.{AreNetworkValues}
+use Rattle.cidr_c.specs.calls.Lines.{printed_lines}
 use Rattle.cidr_c.proofs.lines.pcidr_print_lines.Given as goal
 
 abbrev pub invariant-loop-value : goal.invariant-loop-value

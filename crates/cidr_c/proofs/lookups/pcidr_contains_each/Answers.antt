@@ -2,8 +2,8 @@ use Rattle.std.proofs.Common.{◌<◌, ◌∙◌, ℕ, length, map, arith, subst
 use Rattle.std.proofs.lemmas.List.{drop-set-lt, length-set}
 use Rattle.cidr.specs.either.IpNetwork.{any_bits}
 use Rattle.cidr.specs.declared.cidr.any.AnyIpCidr.{AnyIpCidr}
-use Rattle.cidr_table.specs.Cover.{IsFull}
-use Rattle.cidr_c.specs.Calls.{IsYesOrNo}
+use Rattle.cidr_table.specs.model.Cover.{IsFull}
+use Rattle.cidr_c.specs.calls.Calls.{IsYesOrNo}
 use Rattle.cidr_c.proofs.Answering.{one_more, contained}
 use Rattle.cidr_c.proofs.lookups.pcidr_contains_each.Goals as goal
 

@@ -1,7 +1,7 @@
 use Rattle.std.proofs.Common.{◌≡◌, drop, length, map}
 use Rattle.cidr.specs.either.IpNetwork.{any_bits}
-use Rattle.cidr_table.specs.Cover.{IsFull}
-use Rattle.cidr_c.specs.Calls.{IsYesOrNo}
+use Rattle.cidr_table.specs.model.Cover.{IsFull}
+use Rattle.cidr_c.specs.calls.Calls.{IsYesOrNo}
 use Rattle.cidr_c.proofs.Answering.{AreFirst}
 use Rattle.cidr_c.proofs.lookups.pcidr_contains_each.Given as goal
 

@@ -1,8 +1,8 @@
 use Rattle.std.proofs.Common.{◌<◌, ◌∙◌, ℕ, List, length, map, arith, subst, sym}
 use Rattle.std.proofs.lemmas.List.{drop-set-lt, length-set}
 use Rattle.cidr.specs.declared.cidr.any.AnyIpCidr.{AnyIpCidr}
-use Rattle.cidr_c.specs.Lookups.{AreIndexed, IsRowIndex}
-use Rattle.cidr_c.specs.Values.{network_in}
+use Rattle.cidr_c.specs.calls.Lookups.{AreIndexed, IsRowIndex}
+use Rattle.cidr_c.specs.model.Values.{network_in}
 use Rattle.cidr_c.proofs.Answering.{one_more}
 use Rattle.cidr_c.proofs.Indexes.{matched}
 use Rattle.cidr_c.proofs.lookups.pcidr_longest_match_each.Goals as goal

@@ -1,5 +1,5 @@
 use Rattle.std.proofs.Common.{◌≡◌, drop, length}
-use Rattle.cidr_c.specs.Lookups.{IsRowIndex}
+use Rattle.cidr_c.specs.calls.Lookups.{IsRowIndex}
 use Rattle.cidr_c.proofs.Answering.{AreFirst}
 use Rattle.cidr_c.proofs.lookups.pcidr_longest_match_each.Given as goal
 

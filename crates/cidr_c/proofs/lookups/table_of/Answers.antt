@@ -1,7 +1,7 @@
 use Rattle.std.proofs.Common.{ℕ, List, ap, ◌∙◌, subst}
 use Rattle.cidr.specs.declared.cidr.any.AnyIpCidr.{AnyIpCidr}
-use Rattle.cidr_table.specs.LastRows.{AreLastRows}
-use Rattle.cidr_table.specs.Loading.{placed}
+use Rattle.cidr_table.specs.model.LastRows.{AreLastRows}
+use Rattle.cidr_table.specs.model.Loading.{placed}
 use Rattle.cidr_c.proofs.lookups.table_of.Goals as goal
 
 pub returns-in-Ok : goal.returns-in-Ok

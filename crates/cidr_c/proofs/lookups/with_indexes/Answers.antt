@@ -1,6 +1,6 @@
 use Rattle.std.proofs.Common.{ℕ, List, [], ◌∷◌, ◌++◌, take, ap, ◌∙◌}
 use Rattle.cidr.specs.declared.cidr.any.AnyIpCidr.{AnyIpCidr}
-use Rattle.cidr_table.specs.Loading.{placed}
+use Rattle.cidr_table.specs.model.Loading.{placed}
 use Rattle.cidr_c.proofs.Indexes.{placed_more}
 use Rattle.cidr_c.proofs.lookups.with_indexes.Goals as goal
 

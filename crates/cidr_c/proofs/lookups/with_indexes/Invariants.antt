@@ -1,5 +1,5 @@
 use Rattle.std.proofs.Common.{◌≡◌, take}
-use Rattle.cidr_table.specs.Loading.{placed}
+use Rattle.cidr_table.specs.model.Loading.{placed}
 use Rattle.cidr_c.proofs.lookups.with_indexes.Given as goal
 
 abbrev pub invariant-loop-i : goal.invariant-loop-i

@@ -2,10 +2,10 @@ use Rattle.std.proofs.Common.{ℕ}
 use Rattle.cidr.specs.declared.addr.ip.IpAddr.{IpAddr}
 use Rattle.cidr.specs.either.IpAddress.{address_family, plain_bits}
 use Rattle.cidr.specs.model.Network.{width_of}
-use Rattle.cidr_c.specs.Calls.{IsAny}
+use Rattle.cidr_c.specs.calls.Calls.{IsAny}
 use Rattle.cidr_c.proofs.Sought.{sought}
-use Rattle.cidr_c.specs.Values.{IsAddressValue, address_in}
-use Rattle.cidr_ext.specs.Inside.{IsHostMaskOf}
+use Rattle.cidr_c.specs.model.Values.{IsAddressValue, address_in}
+use Rattle.cidr_ext.specs.model.Inside.{IsHostMaskOf}
 use Rattle.cidr_c.proofs.masks.pcidr_host_mask_length.Goals as goal
 
 pub returns-in-Some : goal.returns-in-Some

@@ -1,8 +1,8 @@
 use Rattle.std.proofs.Common.{◌+◌, ℕ, map, subst}
 use Rattle.std.specs.Option.{option_map}
 use Rattle.cidr.specs.either.IpNetwork.{any_bits}
-use Rattle.cidr_table.specs.CoverAddresses.{IsIpNetworkBits}
-use Rattle.cidr_sets.specs.Pools.{IsBestFree}
+use Rattle.cidr_table.specs.model.CoverAddresses.{IsIpNetworkBits}
+use Rattle.cidr_sets.specs.model.Pools.{IsBestFree}
 use Rattle.cidr_c.proofs.Free.{free_sought}
 use Rattle.cidr_c.proofs.pools.pcidr_best_free.Goals as goal
 

@@ -1,9 +1,9 @@
 use Rattle.std.proofs.Common.{Bool, List, subst}
 use Rattle.cidr.specs.either.IpAddress.{ip_address_bits}
 use Rattle.cidr.specs.declared.addr.ip.IpAddr.{IpAddr}
-use Rattle.cidr_sets.specs.Ranges.{IsBetween}
-use Rattle.cidr_sets.specs.Sets.{IsSetOf}
-use Rattle.cidr_c.specs.Values.{IsAddressValue, address_in}
+use Rattle.cidr_sets.specs.model.Ranges.{IsBetween}
+use Rattle.cidr_sets.specs.model.Sets.{IsSetOf}
+use Rattle.cidr_c.specs.model.Values.{IsAddressValue, address_in}
 use Rattle.cidr_c.proofs.NetworkLists.{delivered, if_ok}
 use Rattle.cidr_c.proofs.ranges.pcidr_summarize.Goals as goal
 

@@ -1,6 +1,6 @@
 use Rattle.cidr.specs.either.IpText.{ReadsIpHost}
-use Rattle.cidr_c.specs.Codes.{parse_code}
-use Rattle.cidr_c.specs.Values.{IsHostValue, host_in}
+use Rattle.cidr_c.specs.model.Codes.{parse_code}
+use Rattle.cidr_c.specs.model.Values.{IsHostValue, host_in}
 use Rattle.cidr_c.proofs.Readings.{read_error}
 use Rattle.cidr_c.proofs.reading.pcidr_read_host.Goals as goal
 

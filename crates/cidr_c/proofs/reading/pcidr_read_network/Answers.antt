@@ -1,6 +1,6 @@
 use Rattle.cidr.specs.either.IpText.{ReadsAnyNetwork}
-use Rattle.cidr_c.specs.Codes.{parse_code}
-use Rattle.cidr_c.specs.Values.{IsNetworkValue, network_in}
+use Rattle.cidr_c.specs.model.Codes.{parse_code}
+use Rattle.cidr_c.specs.model.Values.{IsNetworkValue, network_in}
 use Rattle.cidr_c.proofs.Readings.{read_error}
 use Rattle.cidr_c.proofs.reading.pcidr_read_network.Goals as goal
 

@@ -3,8 +3,8 @@ use Rattle.cidr.specs.texts.AddressText.{Reads}
 use Rattle.cidr.specs.texts.Messages.{ip_error}
 use Rattle.cidr.specs.texts.ShortText.{IsShortIpText, ReadsShort}
 use Rattle.cidr.specs.declared.errors.NetworkParseError.TheVariants as parse_error
-use Rattle.cidr_c.specs.Codes.{parse_code}
-use Rattle.cidr_c.specs.Values.{IsNetworkValue, network_in}
+use Rattle.cidr_c.specs.model.Codes.{parse_code}
+use Rattle.cidr_c.specs.model.Values.{IsNetworkValue, network_in}
 use Rattle.cidr_c.proofs.Readings.{read_error, read_value}
 use Rattle.cidr_c.proofs.reading.pcidr_read_short_network.Goals as goal
 

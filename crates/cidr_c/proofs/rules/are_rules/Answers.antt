@@ -1,5 +1,5 @@
 use Rattle.std.proofs.Common.{map, refl, take}
-use Rattle.cidr_c.specs.Values.{IsNetworkValue}
+use Rattle.cidr_c.specs.model.Values.{IsNetworkValue}
 use Rattle.cidr_c.specs.declared.rules.CRule.{CRule}
 use Rattle.cidr_c.proofs.NetworkLists.{item_more}
 use Rattle.cidr_c.proofs.rules.are_rules.Goals as goal

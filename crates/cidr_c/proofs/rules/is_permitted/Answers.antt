@@ -3,8 +3,8 @@ use Rattle.std.proofs.lemmas.Bool.{true≢false}
 use Rattle.std.proofs.lemmas.List.{get_or_default}
 use Rattle.cidr.specs.either.IpNetwork.{any_bits}
 use Rattle.cidr_sets.proofs.FirstRules.{one_decides, one_passes}
-use Rattle.cidr_c.specs.Rules.{action_in}
-use Rattle.cidr_c.specs.Values.{network_in}
+use Rattle.cidr_c.specs.model.Rules.{action_in}
+use Rattle.cidr_c.specs.model.Values.{network_in}
 use Rattle.cidr_c.specs.declared.rules.CRule.{CRule}
 use Rattle.cidr_c.proofs.rules.is_permitted.Goals as goal
 

@@ -1,7 +1,7 @@
 use Rattle.cidr.specs.either.IpNetwork.{any_bits}
 use Rattle.cidr_sets.proofs.FirstRules.{AreLeftToDecide}
-use Rattle.cidr_c.specs.Rules.{action_in}
-use Rattle.cidr_c.specs.Values.{network_in}
+use Rattle.cidr_c.specs.model.Rules.{action_in}
+use Rattle.cidr_c.specs.model.Values.{network_in}
 use Rattle.cidr_c.specs.declared.rules.CRule.{CRule}
 use Rattle.cidr_c.proofs.rules.is_permitted.Given as goal
 

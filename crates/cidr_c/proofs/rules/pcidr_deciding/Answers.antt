@@ -2,10 +2,10 @@ use Rattle.std.proofs.Common.{◌↔◌, ℕ, Bool, List, map, subst, ◌∙◌}
 use Rattle.std.specs.List.{Contains}
 use Rattle.cidr.specs.either.IpNetwork.{any_bits}
 use Rattle.cidr.specs.declared.cidr.any.AnyIpCidr.{AnyIpCidr}
-use Rattle.cidr_sets.specs.FirstRules.{IsDeciding}
+use Rattle.cidr_sets.specs.model.FirstRules.{IsDeciding}
 use Rattle.cidr_sets.specs.declared.access.Rule.{Rule}
-use Rattle.cidr_c.specs.Rules.{AreIndexesPut, AreRules, rule_bits}
-use Rattle.cidr_c.specs.Values.{IsNetworkValue, network_in}
+use Rattle.cidr_c.specs.model.Rules.{AreIndexesPut, AreRules, rule_bits}
+use Rattle.cidr_c.specs.model.Values.{IsNetworkValue, network_in}
 use Rattle.cidr_c.proofs.RuleLists.{bits_of_rules, indexes_sought}
 use Rattle.cidr_c.proofs.rules.pcidr_deciding.Goals as goal
 

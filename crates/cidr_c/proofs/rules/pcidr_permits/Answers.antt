@@ -1,9 +1,9 @@
 use Rattle.std.proofs.Common.{List, refl}
 use Rattle.cidr.specs.declared.cidr.any.AnyIpCidr.{AnyIpCidr}
 use Rattle.cidr.specs.either.IpNetwork.{any_bits}
-use Rattle.cidr_sets.specs.FirstRules.{IsPermitted}
-use Rattle.cidr_c.specs.Rules.{AreRules, rule_actions, rule_bits}
-use Rattle.cidr_c.specs.Values.{IsNetworkValue, network_in}
+use Rattle.cidr_sets.specs.model.FirstRules.{IsPermitted}
+use Rattle.cidr_c.specs.model.Rules.{AreRules, rule_actions, rule_bits}
+use Rattle.cidr_c.specs.model.Values.{IsNetworkValue, network_in}
 use Rattle.cidr_c.specs.declared.rules.CRule.{CRule}
 use Rattle.cidr_c.proofs.Sought.{both_answered}
 use Rattle.cidr_c.proofs.rules.pcidr_permits.Goals as goal

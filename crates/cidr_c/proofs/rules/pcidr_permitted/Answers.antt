@@ -1,11 +1,11 @@
 use Rattle.std.proofs.Common.{Bool, List, map, subst, ◌∙◌}
 use Rattle.cidr.specs.either.IpNetwork.{any_bits}
 use Rattle.cidr.specs.declared.cidr.any.AnyIpCidr.{AnyIpCidr}
-use Rattle.cidr_sets.specs.FirstRules.{IsPermitted}
-use Rattle.cidr_sets.specs.Sets.{IsSetOf}
+use Rattle.cidr_sets.specs.model.FirstRules.{IsPermitted}
+use Rattle.cidr_sets.specs.model.Sets.{IsSetOf}
 use Rattle.cidr_sets.specs.declared.access.Action.{Action}
 use Rattle.cidr_sets.specs.declared.access.Rule.{Rule}
-use Rattle.cidr_c.specs.Rules.{AreRules, rule_actions, rule_bits}
+use Rattle.cidr_c.specs.model.Rules.{AreRules, rule_actions, rule_bits}
 use Rattle.cidr_c.proofs.NetworkLists.{delivered, if_ok}
 use Rattle.cidr_c.proofs.RuleLists.{actions_of_rules, bits_of_rules}
 use Rattle.cidr_c.proofs.rules.pcidr_permitted.Goals as goal

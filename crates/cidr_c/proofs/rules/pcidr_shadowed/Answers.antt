@@ -1,7 +1,7 @@
 use Rattle.std.proofs.Common.{◌↔◌, ℕ, Bool, List, subst, ◌∙◌}
 use Rattle.std.specs.List.{Contains}
-use Rattle.cidr_sets.specs.FirstRules.{IsShadowed}
-use Rattle.cidr_c.specs.Rules.{AreIndexesPut, AreRules, rule_bits}
+use Rattle.cidr_sets.specs.model.FirstRules.{IsShadowed}
+use Rattle.cidr_c.specs.model.Rules.{AreIndexesPut, AreRules, rule_bits}
 use Rattle.cidr_c.proofs.RuleLists.{bits_of_rules, indexes_sought}
 use Rattle.cidr_c.proofs.rules.pcidr_shadowed.Goals as goal
 

@@ -1,8 +1,8 @@
 use Rattle.std.proofs.Common.{◌≡◌, [], ◌∷◌, ◌++◌, ap, ◌∙◌, get_or}
 use Rattle.cidr.specs.declared.cidr.any.AnyIpCidr.{AnyIpCidr}
 use Rattle.cidr_sets.specs.declared.access.Rule.{Rule}
-use Rattle.cidr_c.specs.Rules.{rule_in}
-use Rattle.cidr_c.specs.Values.{IsNetworkValue}
+use Rattle.cidr_c.specs.model.Rules.{rule_in}
+use Rattle.cidr_c.specs.model.Values.{IsNetworkValue}
 use Rattle.cidr_c.specs.declared.rules.CRule.{CRule}
 use Rattle.cidr_c.proofs.NetworkLists.{item_more}
 use Rattle.cidr_c.proofs.rules.rules_of.Goals as goal

@@ -1,5 +1,5 @@
 use Rattle.std.proofs.Common.{◌≡◌, map, take}
-use Rattle.cidr_c.specs.Rules.{AreRules, rule_in}
+use Rattle.cidr_c.specs.model.Rules.{AreRules, rule_in}
 use Rattle.cidr_c.proofs.rules.rules_of.Given as goal
 
 abbrev pub invariant-loop-rule : goal.invariant-loop-rule

@@ -1,6 +1,6 @@
 use Rattle.std.proofs.Common.{map, take}
 use Rattle.cidr.specs.either.IpNetwork.{any_bits}
-use Rattle.cidr_c.specs.Batches.{AreBothNetworks, bits_in}
+use Rattle.cidr_c.specs.calls.Batches.{AreBothNetworks, bits_in}
 use Rattle.cidr_c.proofs.NetworkLists.{delivered, if_ok}
 use Rattle.cidr_c.proofs.sets.combined_in_place.Goals as goal
 

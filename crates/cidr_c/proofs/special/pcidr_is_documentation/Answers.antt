@@ -1,8 +1,8 @@
 use Rattle.cidr.specs.declared.addr.ip.IpAddr.{IpAddr}
 use Rattle.cidr.specs.either.IpAddress.{address_family, plain_bits}
 use Rattle.cidr_c.proofs.Sought.{answered}
-use Rattle.cidr_c.specs.Values.{IsAddressValue, address_in}
-use Rattle.cidr_ext.specs.Special.{HasPurpose}
+use Rattle.cidr_c.specs.model.Values.{IsAddressValue, address_in}
+use Rattle.cidr_ext.specs.model.Special.{HasPurpose}
 use Rattle.cidr_ext.specs.declared.registry.Purpose.TheVariants as purpose
 use Rattle.cidr_c.proofs.special.pcidr_is_documentation.Goals as goal
 

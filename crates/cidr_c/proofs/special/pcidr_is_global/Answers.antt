@@ -1,8 +1,8 @@
 use Rattle.cidr.specs.declared.addr.ip.IpAddr.{IpAddr}
 use Rattle.cidr.specs.either.IpAddress.{address_family, plain_bits}
 use Rattle.cidr_c.proofs.Sought.{answered}
-use Rattle.cidr_c.specs.Values.{IsAddressValue, address_in}
-use Rattle.cidr_ext.specs.Special.{IsGlobal}
+use Rattle.cidr_c.specs.model.Values.{IsAddressValue, address_in}
+use Rattle.cidr_ext.specs.model.Special.{IsGlobal}
 use Rattle.cidr_c.proofs.special.pcidr_is_global.Goals as goal
 
 pub returns-in-Some : goal.returns-in-Some

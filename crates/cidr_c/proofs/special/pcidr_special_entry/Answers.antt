@@ -1,11 +1,11 @@
 use Rattle.std.proofs.Common.{◌≡◌, refl, Some}
 use Rattle.cidr.specs.declared.addr.ip.IpAddr.{IpAddr}
 use Rattle.cidr.specs.either.IpAddress.{address_family, plain_bits}
-use Rattle.cidr_ext.specs.Special.{HasNoEntry, IsEntryOf}
+use Rattle.cidr_ext.specs.model.Special.{HasNoEntry, IsEntryOf}
 use Rattle.cidr_ext.specs.declared.registry.SpecialEntry.{SpecialEntry}
-use Rattle.cidr_c.specs.Calls.{IsAny}
-use Rattle.cidr_c.specs.Special.{special_of}
-use Rattle.cidr_c.specs.Values.{IsAddressValue, address_in}
+use Rattle.cidr_c.specs.calls.Calls.{IsAny}
+use Rattle.cidr_c.specs.model.Special.{special_of}
+use Rattle.cidr_c.specs.model.Values.{IsAddressValue, address_in}
 use Rattle.cidr_c.specs.declared.special.CSpecial.{CSpecial}
 use Rattle.cidr_c.proofs.Sought.{sought}
 use Rattle.cidr_c.proofs.special.pcidr_special_entry.Goals as goal

@@ -1,5 +1,5 @@
 use Rattle.std.proofs.Common.{ℕ, subst}
-use Rattle.cidr_c.specs.Networks.{AreSubnetsPut}
+use Rattle.cidr_c.specs.model.Networks.{AreSubnetsPut}
 use Rattle.cidr_c.proofs.SubnetLists.{subnets_put}
 use Rattle.cidr_c.proofs.subnets.pcidr_subnets.Goals as goal
 

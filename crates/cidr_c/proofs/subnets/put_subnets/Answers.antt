@@ -2,8 +2,8 @@ use Rattle.std.proofs.Common.{◌≡◌, ◌+◌, ◌<◌, ℕ, ap, arith, drop,
 use Rattle.std.proofs.lemmas.List.{drop-drop, drop-set-lt, length-set}
 use Rattle.cidr.specs.declared.cidr.combined.IpCidr.{IpCidr}
 use Rattle.cidr.specs.either.IpNetwork.{network_family, network_prefix}
-use Rattle.cidr_ext.specs.Subnets.{IsSubnetAt}
-use Rattle.cidr_c.specs.Values.{IsIpNetworkValue, family_in, prefix_in}
+use Rattle.cidr_ext.specs.model.Subnets.{IsSubnetAt}
+use Rattle.cidr_c.specs.model.Values.{IsIpNetworkValue, family_in, prefix_in}
 use Rattle.cidr_c.specs.declared.values.CValue.{CValue}
 use Rattle.cidr_c.proofs.SubnetLists.{one_made}
 use Rattle.cidr_c.proofs.subnets.put_subnets.Goals as goal

@@ -1,7 +1,7 @@
 use Rattle.std.proofs.Common.{◌≡◌, ◌+◌, ℕ, drop, length}
 use Rattle.cidr.specs.either.IpNetwork.{network_family, network_prefix}
-use Rattle.cidr_ext.specs.Subnets.{IsSubnetAt}
-use Rattle.cidr_c.specs.Values.{IsIpNetworkValue, family_in, prefix_in}
+use Rattle.cidr_ext.specs.model.Subnets.{IsSubnetAt}
+use Rattle.cidr_c.specs.model.Values.{IsIpNetworkValue, family_in, prefix_in}
 use Rattle.cidr_c.specs.declared.values.CValue.{CValue}
 use Rattle.cidr_c.proofs.SubnetLists.{AreMade}
 use Rattle.cidr_c.proofs.subnets.put_subnets.Given as goal

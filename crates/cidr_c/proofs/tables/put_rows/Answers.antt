@@ -1,6 +1,6 @@
 use Rattle.std.proofs.Common.{◌∙◌, ◌<◌, length, map, refl, sym, subst, inl, arith, drop, ◌≡◌, ℕ}
 use Rattle.std.proofs.lemmas.List.{drop-set-lt, length-map, length-set}
-use Rattle.cidr_c.specs.Tables.{IsRowFound}
+use Rattle.cidr_c.specs.model.Tables.{IsRowFound}
 use Rattle.cidr_c.proofs.TableRows.{rows_more}
 use Rattle.cidr_c.proofs.tables.put_rows.Goals as goal
 

@@ -1,5 +1,5 @@
 use Rattle.std.proofs.Common.{◌≡◌, ℕ, ◌<◌, drop, get_or, length, map}
-use Rattle.cidr_c.specs.Tables.{IsRowFound}
+use Rattle.cidr_c.specs.model.Tables.{IsRowFound}
 use Rattle.cidr_c.proofs.tables.put_rows.Given as goal
 
 -- the first are answered, and what is behind them stays

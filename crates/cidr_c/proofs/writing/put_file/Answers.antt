@@ -3,8 +3,8 @@ use Rattle.std.proofs.lemmas.List.{take_rest}
 use Rattle.std.specs.Int.{from_le_bytes, w32}
 use Rattle.cidr_arrays.specs.Arrays.{IsFirstRefused, key_networks}
 use Rattle.cidr_files.specs.Layout.{wide_word}
-use Rattle.cidr_c.specs.Tables.{ipv4_pair, ipv6_pair}
-use Rattle.cidr_c.specs.Writing.{IsFileOf, IsFileWritten, ipv4_networks}
+use Rattle.cidr_c.specs.model.Tables.{ipv4_pair, ipv6_pair}
+use Rattle.cidr_c.specs.calls.Writing.{IsFileOf, IsFileWritten, ipv4_networks}
 use Rattle.cidr_c.proofs.Written.{bytes_put, file_of, network_refused}
 use Rattle.cidr_c.proofs.writing.put_file.Goals as goal
 

@@ -3,7 +3,7 @@ use borrow.Author.Tests.{tests}
 use Rattle.std.specs.List.{list_any, slice_split}
 use Rattle.std.proofs.lemmas.Iterator.Search.{any_from_yields_List}
 use Rattle.std.proofs.lemmas.Iterator.Splits.{YieldsList-from_str_split}
-use Rattle.cidr_ext.specs.TextFaults.{group_test, group_texts, is_byte}
+use Rattle.cidr_ext.specs.texts.TextFaults.{group_test, group_texts, is_byte}
 use Rattle.cidr_ext.proofs.group_faults.some_group_has.Goals as goal
 
 pub returns : goal.returns

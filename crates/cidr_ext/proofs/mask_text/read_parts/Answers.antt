@@ -1,7 +1,7 @@
 use Rattle.std.proofs.Common.{◌≡◌, ◌∙◌, ℕ, subst}
 use Rattle.cidr.specs.model.Network.{width_of}
 use Rattle.cidr.specs.texts.AddressText.{IsAddressText}
-use Rattle.cidr_ext.specs.MaskText.{IsLengthOfMask}
+use Rattle.cidr_ext.specs.texts.MaskText.{IsLengthOfMask}
 use Rattle.cidr_ext.proofs.MaskTexts.{no_address_only, no_mask_text_only, no_length, no_length_only, made}
 use Rattle.cidr_ext.proofs.mask_text.read_parts.Goals as goal
 

@@ -1,7 +1,7 @@
 -- The labels of a string are its first one and those of the rest.
 use Rattle.std.proofs.Common.{arith, rules, ◌≡◌, ◌≢◌, ◌*◌, length}
 use Rattle.std.proofs.lemmas.Nat.{pow_pos}
-use Rattle.cidr_ext.specs.Reverse.{label_width}
+use Rattle.cidr_ext.specs.texts.Reverse.{label_width}
 use Rattle.cidr_ext.proofs.LabelReading.{none_empty, empty_only, no_room, no_label, no_rest, only_one, found_one, sum_fits}
 use Rattle.cidr_ext.proofs.reverse_read.+read_labels.Goals as goal
 

@@ -1,6 +1,6 @@
 -- A name has the one domain or the other.
 use Rattle.std.proofs.Common.{rules}
-use Rattle.cidr_ext.specs.LabelReading.{IsWithoutDot}
+use Rattle.cidr_ext.specs.internal.LabelReading.{IsWithoutDot}
 use Rattle.cidr_ext.proofs.NameReading.{no_domain, name_found, ipv4_only, ipv6_only}
 use Rattle.cidr.specs.declared.family.Family.TheVariants.{Ipv4}
 use Rattle.cidr_ext.proofs.reverse_read.read_name.Goals as goal

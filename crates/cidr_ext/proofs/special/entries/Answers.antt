@@ -2,8 +2,8 @@ use Rattle.std.proofs.Common.{sym, ap, ◌∙◌}
 use Rattle.cidr.specs.model.Network.{width_of}
 use Rattle.cidr.specs.declared.family.Family.{Family}
 use Rattle.cidr_ext.specs.declared.registry.TheConstants.{IPV4_ENTRIES, IPV6_ENTRIES}
-use Rattle.cidr_ext.specs.Special.{entries_of}
-use Rattle.cidr_ext.specs.Entries.{are_entries}
+use Rattle.cidr_ext.specs.model.Special.{entries_of}
+use Rattle.cidr_ext.specs.internal.Entries.{are_entries}
 use Rattle.cidr_ext.proofs.Found.{ipv4_all, ipv4_entries, ipv6_all, ipv6_entries}
 use Rattle.cidr_ext.proofs.special.entries.Goals as goal
 

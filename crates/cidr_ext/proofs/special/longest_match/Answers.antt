@@ -1,5 +1,5 @@
 use Rattle.std.proofs.Common.{◌∙◌, sym, refl, inl, inr}
-use Rattle.cidr_ext.specs.Entries.{has_block}
+use Rattle.cidr_ext.specs.internal.Entries.{has_block}
 use Rattle.cidr_ext.proofs.Matches.{takes, keeps}
 use Rattle.cidr_ext.proofs.special.longest_match.Goals.{then-contains+then-is_longer, else-contains, else-contains-via-then-contains+else-is_longer, else-contains-via-else-contains}
 use Rattle.cidr_ext.proofs.special.longest_match.Goals as goal

@@ -1,6 +1,6 @@
 use Rattle.std.proofs.Common.{◌≡◌, ◌↔◌, ℕ, ◌≤◌, true}
 use Rattle.cidr.specs.model.Network.{HasWidth}
-use Rattle.cidr_table.specs.CoverAddresses.{IsIpAddressBits}
+use Rattle.cidr_table.specs.model.CoverAddresses.{IsIpAddressBits}
 use Rattle.cidr_forwarding.specs.Forwarding.{AreNetworksOf, AreIpRows, ForwardSame}
 use Rattle.cidr_forwarding.proofs.Agreement.{decided_width, decided_ip}
 use Rattle.cidr_forwarding.proofs.Calls.{of_same}

@@ -2,8 +2,8 @@ use Rattle.std.proofs.Common.{map, sym, ◌∙◌, arith}
 use Rattle.std.proofs.lemmas.Bool.{true≢false}
 use Rattle.std.proofs.lemmas.List.{length-map}
 use Rattle.cidr_table.proofs.MapLaws.{contains_nothing}
-use Rattle.cidr_sets.specs.Sets.{Meets}
-use Rattle.cidr_sets.specs.FirstRules.{IsDeciding}
+use Rattle.cidr_sets.specs.model.Sets.{Meets}
+use Rattle.cidr_sets.specs.model.FirstRules.{IsDeciding}
 use Rattle.cidr_sets.proofs.FirstRules.{deciding_within, decides_where_meets, index_ascending, index_pushed, index_skipped, left_all, left_less, left_same, network_there}
 use Rattle.cidr_sets.proofs.access.deciding.Goals as goal
 use Rattle.cidr_sets.proofs.access.deciding.Goals.{then-overlaps+in_ok-push+in_ok-remove, else-overlaps}

@@ -1,8 +1,8 @@
 use Rattle.std.proofs.Common.{◌↔◌, ◌<◌, ℕ, map}
 use Rattle.std.specs.List.{Contains}
 use Rattle.std.specs.List.Sorted.{IsStrictlyIncreasing}
-use Rattle.cidr_sets.specs.Sets.{IsSetOf}
-use Rattle.cidr_sets.specs.FirstRules.{IsDeciding}
+use Rattle.cidr_sets.specs.model.Sets.{IsSetOf}
+use Rattle.cidr_sets.specs.model.FirstRules.{IsDeciding}
 use Rattle.cidr_sets.proofs.FirstRules.{IsLeft}
 use Rattle.cidr_sets.proofs.access.deciding.Given as goal
 

@@ -1,6 +1,6 @@
 use Rattle.std.proofs.Common.{◌≡◌, map, drop, subst, arith}
-use Rattle.cidr_sets.specs.Sets.{IsSetOf}
-use Rattle.cidr_sets.specs.FirstRules.{IsPermitted}
+use Rattle.cidr_sets.specs.model.Sets.{IsSetOf}
+use Rattle.cidr_sets.specs.model.FirstRules.{IsPermitted}
 use Rattle.cidr_sets.proofs.FirstRules.{permitted_more, denied_more}
 use Rattle.cidr_sets.proofs.access.permitted.Goals as goal
 

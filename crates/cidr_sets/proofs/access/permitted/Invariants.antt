@@ -1,6 +1,6 @@
 use Rattle.std.proofs.Common.{map, drop}
-use Rattle.cidr_sets.specs.Sets.{IsSetOf}
-use Rattle.cidr_sets.specs.FirstRules.{IsPermitted}
+use Rattle.cidr_sets.specs.model.Sets.{IsSetOf}
+use Rattle.cidr_sets.specs.model.FirstRules.{IsPermitted}
 use Rattle.cidr_sets.proofs.access.permitted.Given as goal
 
 -- the set of what the rules from here on permit

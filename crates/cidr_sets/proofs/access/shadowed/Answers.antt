@@ -1,7 +1,7 @@
 use Rattle.std.proofs.Common.{map, sym, ◌∙◌, arith}
 use Rattle.std.proofs.lemmas.Bool.{true≢false}
 use Rattle.std.proofs.lemmas.List.{length-map}
-use Rattle.cidr_sets.specs.FirstRules.{IsShadowed}
+use Rattle.cidr_sets.specs.model.FirstRules.{IsShadowed}
 use Rattle.cidr_sets.proofs.FirstRules.{earlier_more, index_ascending, index_pushed, index_skipped, network_there, shadowed_where_full}
 use Rattle.cidr_sets.proofs.access.shadowed.Goals as goal
 use Rattle.cidr_sets.proofs.access.shadowed.Goals.{then-contains+in_ok-push, else-contains}

@@ -1,9 +1,9 @@
 use Rattle.std.proofs.Common.{◌↔◌, ◌<◌, ℕ, map, take}
 use Rattle.std.specs.List.{Contains}
 use Rattle.std.specs.List.Sorted.{IsStrictlyIncreasing}
-use Rattle.cidr_table.specs.Cover.{Covers}
-use Rattle.cidr_sets.specs.Sets.{IsSetOf}
-use Rattle.cidr_sets.specs.FirstRules.{IsShadowed}
+use Rattle.cidr_table.specs.model.Cover.{Covers}
+use Rattle.cidr_sets.specs.model.Sets.{IsSetOf}
+use Rattle.cidr_sets.specs.model.FirstRules.{IsShadowed}
 use Rattle.cidr_sets.proofs.access.shadowed.Given as goal
 
 -- the set of the earlier networks, and those of the earlier rules that no address reaches

@@ -2,7 +2,7 @@ use Rattle.std.proofs.Common.{◌≡◌, ◌↔◌, ◌<◌, ℕ, Bool, List, []
 use Rattle.std.proofs.lemmas.List.{length-map, map-append, take_all, take_more}
 use Rattle.std.proofs.lemmas.List.Elements.{All-push, Contains-get_or}
 use Rattle.std.specs.List.{Contains}
-use Rattle.cidr_sets.specs.FirstRules.{AreDecidingRules, IsShadowed}
+use Rattle.cidr_sets.specs.model.FirstRules.{AreDecidingRules, IsShadowed}
 use Rattle.cidr_sets.proofs.FirstRules.{deciding_rules, network_there}
 use Rattle.cidr_sets.proofs.access.shadowed_by.Goals as goal
 

@@ -1,6 +1,6 @@
 use Rattle.std.proofs.Common.{◌≡◌, map, take}
 use Rattle.std.specs.List.{All}
-use Rattle.cidr_sets.specs.FirstRules.{AreDecidingRules}
+use Rattle.cidr_sets.specs.model.FirstRules.{AreDecidingRules}
 use Rattle.cidr_sets.proofs.access.shadowed_by.Given as goal
 
 -- the rules so far, each with those that decide the addresses of its network

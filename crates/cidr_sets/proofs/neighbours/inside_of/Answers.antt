@@ -3,7 +3,7 @@ use Rattle.std.proofs.lemmas.Bool.{cases_lt}
 use Rattle.std.proofs.lemmas.Bool.Decides.{not_from_Decides}
 use Rattle.std.proofs.lemmas.List.{drop-map, get_or-map, length-map, take-map}
 use Rattle.cidr.specs.model.Network.{BeginsWith}
-use Rattle.cidr_sets.specs.Edits.{IsParted}
+use Rattle.cidr_sets.specs.internal.Edits.{IsParted}
 use Rattle.cidr_sets.proofs.Parts.{parted_inside}
 use Rattle.cidr_sets.proofs.neighbours.inside_of.Goals as goal
 

@@ -1,5 +1,5 @@
 use Rattle.std.proofs.Common.{◌-◌, arith, rules}
-use Rattle.cidr_sets.specs.Edits.{IsHalf}
+use Rattle.cidr_sets.specs.internal.Edits.{IsHalf}
 use Rattle.cidr_sets.proofs.Moves.{at_index}
 use Rattle.cidr_sets.proofs.neighbours.is_half_before.Goals as goal
 

@@ -1,6 +1,6 @@
 use Rattle.std.proofs.Common.{◌≡◌, ◌-◌, take, drop, map, sym, ap, ◌∙◌, subst}
-use Rattle.cidr_table.specs.Cover.{parent}
-use Rattle.cidr_sets.specs.Edits.{IsAlone}
+use Rattle.cidr_table.specs.model.Cover.{parent}
+use Rattle.cidr_sets.specs.internal.Edits.{IsAlone}
 use Rattle.cidr_sets.proofs.Edits.{IsJoined, joined_more, joined_none, joined_set}
 use Rattle.cidr_sets.proofs.Joining.{by_none}
 use Rattle.cidr_sets.proofs.neighbours.joined_with.Goals as goal

@@ -2,9 +2,9 @@ use Rattle.std.proofs.Common.{◌≡◌, ◌+◌, ◌-◌, ◌<◌, ◌≤◌, �
 use Rattle.std.proofs.lemmas.Bool.{cases_lt}
 use Rattle.std.proofs.lemmas.Bool.Decides.{not_from_Decides}
 use Rattle.std.proofs.lemmas.List.{drop_all, get_or_at, get_or_default}
-use Rattle.cidr_table.specs.Cover.{parent}
+use Rattle.cidr_table.specs.model.Cover.{parent}
 use Rattle.cidr_table.proofs.Passing.{top_split}
-use Rattle.cidr_sets.specs.Edits.{IsHalf}
+use Rattle.cidr_sets.specs.internal.Edits.{IsHalf}
 use Rattle.cidr_sets.proofs.Edits.{alone_beside, alone_whole}
 use Rattle.cidr_sets.proofs.Parts.{drop_first}
 use Rattle.cidr_sets.proofs.neighbours.other_half.Goals as goal

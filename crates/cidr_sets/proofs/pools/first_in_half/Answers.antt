@@ -1,5 +1,5 @@
 use Rattle.std.proofs.Common.{◌≡◌, Bool, List, [], ◌∷◌, ◌++◌, ap, ◌∙◌, subst, arith}
-use Rattle.cidr_sets.specs.Pools.{IsRoom}
+use Rattle.cidr_sets.specs.model.Pools.{IsRoom}
 use Rattle.cidr_sets.proofs.Free.{lowest_free, too_deep, too_long}
 use Rattle.cidr_sets.proofs.pools.first_in_half.Goals as goal
 use Rattle.cidr_sets.proofs.pools.first_in_half.Goals.{else-len-gt0-via-then-len-gt0+else-len-room, else-len-gt0-via-else-len-gt0}

@@ -1,7 +1,7 @@
 use Rattle.std.proofs.Common.{◌≡◌, [], ◌∷◌, sym, subst, arith}
 use Rattle.std.specs.Option.{option_map}
 use Rattle.cidr_table.proofs.Halves.{empty}
-use Rattle.cidr_sets.specs.Pools.{IsFirstFree}
+use Rattle.cidr_sets.specs.model.Pools.{IsFirstFree}
 use Rattle.cidr_sets.proofs.Free.{lowest_free, too_deep, in_upper}
 use Rattle.cidr_sets.proofs.pools.first_subnet.Goals as goal
 

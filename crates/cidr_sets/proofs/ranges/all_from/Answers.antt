@@ -1,6 +1,6 @@
 use Rattle.std.proofs.Common.{◌≡◌, [], drop, refl, sym, ap, ◌∙◌, arith}
 use Rattle.std.proofs.lemmas.List.{drop_all}
-use Rattle.cidr_sets.specs.Ranges.{all_bits}
+use Rattle.cidr_sets.specs.model.Ranges.{all_bits}
 use Rattle.cidr_sets.proofs.Runs.{bits_kept, bits_missed}
 use Rattle.cidr_sets.proofs.Sides.{other_bit, same_bit}
 use Rattle.cidr_sets.proofs.ranges.all_from.Goals as goal

@@ -1,5 +1,5 @@
 use Rattle.std.proofs.Common.{◌≡◌, drop}
-use Rattle.cidr_sets.specs.Ranges.{all_bits}
+use Rattle.cidr_sets.specs.model.Ranges.{all_bits}
 use Rattle.cidr_sets.proofs.ranges.all_from.Given as goal
 
 -- the bits so far are those that are looked for

@@ -1,6 +1,6 @@
 use Rattle.std.proofs.Common.{◌≡◌, ◌+◌, true, false, ◌&&◌, drop, sym, ap, ◌∙◌, arith, Some}
 use Rattle.std.specs.List.{slice_get}
-use Rattle.cidr_sets.specs.Ranges.{all_bits}
+use Rattle.cidr_sets.specs.model.Ranges.{all_bits}
 use Rattle.cidr_sets.proofs.Runs.{touches_none_first, touches_none_next, touches_shared}
 use Rattle.cidr_sets.proofs.ranges.touches.Goals as goal
 use Rattle.cidr_sets.proofs.ranges.touches.Goals.{then-shared-len-via-then-shared-len, then-shared-len-via-else-shared-len+then-shared-len-2}

@@ -1,6 +1,6 @@
 use Rattle.std.proofs.Common.{◌≡◌, length, map, sym, ap, subst}
 use Rattle.std.proofs.lemmas.Bool.Decides.{not_from_Decides}
-use Rattle.cidr_table.specs.Cover.{Covers}
+use Rattle.cidr_table.specs.model.Cover.{Covers}
 use Rattle.cidr_sets.proofs.Cuts.{IsSuffix, first_of_none, first_passed, skip_more, suffix_all, suffix_rest}
 use Rattle.cidr_sets.proofs.Joining.{by_none, nothing}
 use Rattle.cidr_sets.proofs.rests.skip.Goals as goal

@@ -1,7 +1,7 @@
 use Rattle.std.proofs.Common.{◌≤◌, length, take, drop, map, sym, ◌∙◌, subst, arith}
 use Rattle.std.specs.List.Sorted.{IsStrictlySortedBy}
-use Rattle.cidr_table.specs.Cover.{Covers, IsLeastCover}
-use Rattle.cidr_sets.specs.Sets.{IsSetOf}
+use Rattle.cidr_table.specs.model.Cover.{Covers, IsLeastCover}
+use Rattle.cidr_sets.specs.model.Sets.{IsSetOf}
 use Rattle.cidr_sets.proofs.Addresses.{set_from_cover}
 use Rattle.cidr_sets.proofs.Reducing.{front}
 use Rattle.cidr_sets.proofs.Steps.{sorted_by}

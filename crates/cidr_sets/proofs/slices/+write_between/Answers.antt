@@ -6,8 +6,8 @@ use Rattle.std.specs.List.{Contains}
 use Rattle.std.specs.declared.cmp.Ordering.TheVariants.{Less}
 use Rattle.cidr.specs.model.Bits.{bit_cmp}
 use Rattle.cidr_table.proofs.Halves.{half_begins, length_half}
-use Rattle.cidr_sets.specs.Ranges.{IsFilled, IsOverfull, IsBetweenEdges, most, side}
-use Rattle.cidr_sets.specs.Steps.{Ascend}
+use Rattle.cidr_sets.specs.model.Ranges.{IsFilled, IsOverfull, IsBetweenEdges, most, side}
+use Rattle.cidr_sets.specs.internal.Steps.{Ascend}
 use Rattle.cidr_sets.proofs.Between.{IsCutBy, all_within, one_most, cut_longer, filled_halves, filled_none, filled_whole, first_one, halves_most, last_one, none_within, not_all_within, overfull_lower, overfull_upper, overfull_whole, upper_after}
 use Rattle.cidr_sets.proofs.Joining.{if_none_then}
 use Rattle.cidr_sets.proofs.Steps.{less_longer, written_by, written_length}

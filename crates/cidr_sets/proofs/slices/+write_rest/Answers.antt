@@ -6,7 +6,7 @@ use Rattle.std.specs.declared.cmp.Ordering.TheVariants.{Less}
 use Rattle.cidr.specs.model.Bits.{bit_cmp}
 use Rattle.cidr_table.proofs.Halves.{begins_itself, half_begins, length_half}
 use Rattle.cidr_table.proofs.MapLaws.{contains_nothing}
-use Rattle.cidr_sets.specs.Steps.{Ascend, IsDifferenceStep, IsOver}
+use Rattle.cidr_sets.specs.internal.Steps.{Ascend, IsDifferenceStep, IsOver}
 use Rattle.cidr_sets.proofs.Cuts.{cut_covered, cut_halves, cut_same, cut_skipped, cut_whole, longer, over_lower, over_skipped, over_upper, over_whole, suffix_ascends, upper_behind}
 use Rattle.cidr_sets.proofs.Joining.{by_none, if_none_then, nothing}
 use Rattle.cidr_sets.proofs.Steps.{apart_from, less_longer, not_less, one_ascends, written_by, written_length}

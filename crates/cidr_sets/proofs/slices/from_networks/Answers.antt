@@ -1,7 +1,7 @@
 use Rattle.std.proofs.Common.{◌≤◌, length, map, take, drop, sym, subst, arith}
 use Rattle.std.proofs.lemmas.List.{take-append-le}
-use Rattle.cidr_table.specs.Cover.{Covers}
-use Rattle.cidr_sets.specs.Sets.{IsSetOf}
+use Rattle.cidr_table.specs.model.Cover.{Covers}
+use Rattle.cidr_sets.specs.model.Sets.{IsSetOf}
 use Rattle.cidr_sets.proofs.Addresses.{set_from_cover}
 use Rattle.cidr_sets.proofs.Reducing.{distinct, whole}
 use Rattle.cidr_sets.proofs.slices.from_networks.Goals as goal

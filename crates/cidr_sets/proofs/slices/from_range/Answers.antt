@@ -1,6 +1,6 @@
 use Rattle.std.proofs.Common.{◌+◌, ◌≤◌, true, false, [], length, map, take, ap, subst, arith}
 use Rattle.std.proofs.lemmas.Option.{IfSome_then}
-use Rattle.cidr_sets.specs.Ranges.{IsFilled, IsOverfull, IsBetweenEdges, most, side}
+use Rattle.cidr_sets.specs.model.Ranges.{IsFilled, IsOverfull, IsBetweenEdges, most, side}
 use Rattle.cidr_sets.proofs.Between.{range_filled, range_overfull, root_most}
 use Rattle.cidr_sets.proofs.Joining.{if_none_then}
 use Rattle.cidr_sets.proofs.Steps.{none_ascend}

@@ -1,7 +1,7 @@
 use Rattle.std.proofs.Common.{◌≡◌, ◌⊎◌, ◌+◌, ◌<◌, length, map, take, ap, refl, sym, inl, inr, ◌∙◌, subst, arith, Some, None}
 use Rattle.std.proofs.lemmas.List.{length-map, length-set}
 use Rattle.std.specs.Option.{option_map}
-use Rattle.cidr_sets.specs.Steps.{IsIntersectionStep}
+use Rattle.cidr_sets.specs.internal.Steps.{IsIntersectionStep}
 use Rattle.cidr_sets.proofs.Joining.{by_none}
 use Rattle.cidr_sets.proofs.Steps.{IsSharing, none_of, sharing_all, sharing_more, sharing_none, sharing_same, written}
 use Rattle.cidr_sets.proofs.slices.intersection.Goals as goal

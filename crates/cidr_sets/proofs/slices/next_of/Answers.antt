@@ -1,6 +1,6 @@
 use Rattle.std.proofs.Common.{◌∷◌, [], map, sym, ◌∙◌, subst}
 use Rattle.cidr_table.proofs.Beginnings.{bits_exact}
-use Rattle.cidr_sets.specs.Steps.{Ascend}
+use Rattle.cidr_sets.specs.internal.Steps.{Ascend}
 use Rattle.cidr_sets.proofs.Joining.{nothing}
 use Rattle.cidr_sets.proofs.Steps.{next_alone, next_both, next_first, next_swap, turned}
 use Rattle.cidr_sets.proofs.slices.next_of.Goals as goal

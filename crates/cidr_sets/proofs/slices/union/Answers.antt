@@ -1,7 +1,7 @@
 use Rattle.std.proofs.Common.{◌⊎◌, ◌≤◌, length, map, take, drop, sym, subst, arith}
 use Rattle.std.proofs.lemmas.List.{take-append-le}
-use Rattle.cidr_table.specs.Cover.{Covers}
-use Rattle.cidr_sets.specs.Sets.{IsUnion}
+use Rattle.cidr_table.specs.model.Cover.{Covers}
+use Rattle.cidr_sets.specs.model.Sets.{IsUnion}
 use Rattle.cidr_sets.proofs.Addresses.{set_alike, set_from_cover}
 use Rattle.cidr_sets.proofs.Steps.{sorted_by}
 use Rattle.cidr_sets.proofs.slices.union.Goals as goal

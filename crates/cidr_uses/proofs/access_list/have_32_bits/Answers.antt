@@ -1,6 +1,6 @@
 use Rattle.std.proofs.Common.{◌≤◌, length, map, take, subst, arith}
 use Rattle.std.proofs.lemmas.List.{take_all}
-use Rattle.cidr_table.specs.Cover.{AreNetworks}
+use Rattle.cidr_table.specs.model.Cover.{AreNetworks}
 use Rattle.cidr_uses.proofs.AccessLists.{one_more}
 use Rattle.cidr_uses.proofs.access_list.have_32_bits.Goals as goal
 

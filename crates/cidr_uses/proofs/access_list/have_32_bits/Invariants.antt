@@ -1,5 +1,5 @@
 use Rattle.std.proofs.Common.{map, take}
-use Rattle.cidr_table.specs.Cover.{AreNetworks}
+use Rattle.cidr_table.specs.model.Cover.{AreNetworks}
 use Rattle.cidr_uses.proofs.access_list.have_32_bits.Given as goal
 
 -- the networks so far

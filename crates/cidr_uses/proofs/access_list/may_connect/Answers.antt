@@ -1,5 +1,5 @@
 use Rattle.std.proofs.Common.{Bool, List, map, sym, subst, arith}
-use Rattle.cidr_sets.specs.FirstRules.{IsPermitted}
+use Rattle.cidr_sets.specs.model.FirstRules.{IsPermitted}
 use Rattle.cidr_uses.proofs.access_list.may_connect.Goals as goal
 
 pub returns : goal.returns

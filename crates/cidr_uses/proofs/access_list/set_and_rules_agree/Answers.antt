@@ -1,6 +1,6 @@
 use Rattle.std.proofs.Common.{map, subst}
 use Rattle.std.specs.Bool.{Decides}
-use Rattle.cidr_sets.specs.FirstRules.{IsPermitted}
+use Rattle.cidr_sets.specs.model.FirstRules.{IsPermitted}
 use Rattle.cidr_uses.proofs.AccessLists.{same_answer}
 use Rattle.cidr_uses.proofs.access_list.set_and_rules_agree.Goals as goal
 

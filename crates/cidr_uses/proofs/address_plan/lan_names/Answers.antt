@@ -1,9 +1,9 @@
 -- The name of the next network goes behind the names so far.
 use Rattle.cidr.specs.declared.family.Family.TheVariants.{Ipv6}
 use Rattle.arrayvec.specs.declared.array_string.ArrayString.{ArrayString}
-use Rattle.cidr_ext.specs.Reverse.{reverse_text, EndsAtLabel}
-use Rattle.cidr_ext.specs.Subnets.{subnets_of}
-use Rattle.cidr_ext.specs.Zones.{names_of}
+use Rattle.cidr_ext.specs.texts.Reverse.{reverse_text, EndsAtLabel}
+use Rattle.cidr_ext.specs.model.Subnets.{subnets_of}
+use Rattle.cidr_ext.specs.texts.Zones.{names_of}
 use Rattle.cidr_uses.proofs.LanNames.{rest_ends, one_named, name_is}
 use Rattle.cidr_uses.proofs.address_plan.lan_names.Goals as goal
 

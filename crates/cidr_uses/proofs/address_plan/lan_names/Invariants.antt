@@ -1,7 +1,7 @@
 use Rattle.std.proofs.Common.{◌≡◌, ◌++◌, map}
 use Rattle.cidr.specs.declared.family.Family.TheVariants.{Ipv6}
-use Rattle.cidr_ext.specs.Subnets.{subnets_of}
-use Rattle.cidr_ext.specs.Zones.{names_of, EndAtLabel}
+use Rattle.cidr_ext.specs.model.Subnets.{subnets_of}
+use Rattle.cidr_ext.specs.texts.Zones.{names_of, EndAtLabel}
 use Rattle.cidr_uses.proofs.address_plan.lan_names.Given as goal
 
 -- the names so far and those of the networks that are left are all names, and each of these networks has one

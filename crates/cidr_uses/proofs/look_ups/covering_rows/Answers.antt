@@ -1,5 +1,5 @@
 use Rattle.std.proofs.Common.{◌≡◌, List, [], ◌∷◌, ◌++◌, append_assoc, append-nil, sym, ap, ap₂, ◌∙◌, subst}
-use Rattle.cidr_table.specs.Prefixes.{AreMatching, AreShortestFirst}
+use Rattle.cidr_table.specs.model.Prefixes.{AreMatching, AreShortestFirst}
 use Rattle.cidr_uses.proofs.look_ups.covering_rows.Goals as goal
 
 pub loop-row-init : goal.loop-row-init

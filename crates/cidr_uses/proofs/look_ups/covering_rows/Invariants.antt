@@ -1,5 +1,5 @@
 use Rattle.std.proofs.Common.{◌++◌}
-use Rattle.cidr_table.specs.Prefixes.{AreMatching, AreShortestFirst}
+use Rattle.cidr_table.specs.model.Prefixes.{AreMatching, AreShortestFirst}
 use Rattle.cidr_uses.proofs.look_ups.covering_rows.Given as goal
 
 -- the rows so far and those that are left are all matches

@@ -1,6 +1,6 @@
 use Rattle.std.proofs.Common.{◌∙◌, sym, subst}
 use Rattle.std.specs.Option.{option_copied}
-use Rattle.cidr_table.specs.Prefixes.{IsLookedUp}
+use Rattle.cidr_table.specs.model.Prefixes.{IsLookedUp}
 use Rattle.cidr_uses.proofs.look_ups.rows_of_both_look_ups.Goals as goal
 
 pub returns : goal.returns

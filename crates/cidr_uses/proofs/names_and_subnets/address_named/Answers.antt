@@ -1,6 +1,6 @@
 use Rattle.std.proofs.Common.{subst, sym, ◌∙◌, refl, ◌≡◌, ◌≤◌, ◌%◌, arith}
 use Rattle.cidr.specs.declared.family.Family.TheVariants.{Ipv4}
-use Rattle.cidr_ext.specs.Reverse.{IsReverseAddressName}
+use Rattle.cidr_ext.specs.texts.Reverse.{IsReverseAddressName}
 use Rattle.cidr_uses.proofs.names_and_subnets.address_named.Goals as goal
 
 pub returns : goal.returns

@@ -1,6 +1,6 @@
 use Rattle.std.proofs.Common.{subst, sym, ◌∙◌, ◌≤◌}
 use Rattle.cidr.specs.declared.family.Family.TheVariants.{Ipv4}
-use Rattle.cidr_ext.specs.Reverse.{IsReverseName}
+use Rattle.cidr_ext.specs.texts.Reverse.{IsReverseName}
 use Rattle.cidr_uses.proofs.names_and_subnets.network_named.Goals as goal
 
 pub returns : goal.returns

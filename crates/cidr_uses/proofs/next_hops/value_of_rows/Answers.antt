@@ -1,7 +1,7 @@
 -- The table of the last rows, and what is found in it.
 use Rattle.std.proofs.Common.{ℕ, subst}
-use Rattle.cidr_table.specs.FiniteMap.{StoredRows}
-use Rattle.cidr_table.specs.Prefixes.{IsValueLookedUp}
+use Rattle.cidr_table.specs.model.FiniteMap.{StoredRows}
+use Rattle.cidr_table.specs.model.Prefixes.{IsValueLookedUp}
 use Rattle.cidr_uses.proofs.next_hops.value_of_rows.Goals as goal
 
 pub returns-clause-value : goal.returns-clause-value

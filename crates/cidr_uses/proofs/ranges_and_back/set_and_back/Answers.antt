@@ -1,7 +1,7 @@
 use Rattle.std.proofs.Common.{◌≡◌, Bool, List, map, ap, ◌∙◌, subst, refl, None}
 use Rattle.std.proofs.lemmas.Iterator.Consumers.{YieldsList-end, YieldsList-from_first}
-use Rattle.cidr_sets.specs.Ranges.{IsInSome}
-use Rattle.cidr_sets.specs.Sets.{IsSetOf}
+use Rattle.cidr_sets.specs.model.Ranges.{IsInSome}
+use Rattle.cidr_sets.specs.model.Sets.{IsSetOf}
 use Rattle.cidr_uses.proofs.RangeSets.{one_more}
 use Rattle.cidr_uses.proofs.ranges_and_back.set_and_back.Goals as goal
 

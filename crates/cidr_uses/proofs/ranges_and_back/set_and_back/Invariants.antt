@@ -1,6 +1,6 @@
 use Rattle.std.proofs.Common.{Bool, List, map}
-use Rattle.cidr_sets.specs.Ranges.{IsInSome}
-use Rattle.cidr_sets.specs.Sets.{IsSetOf}
+use Rattle.cidr_sets.specs.model.Ranges.{IsInSome}
+use Rattle.cidr_sets.specs.model.Sets.{IsSetOf}
 use Rattle.cidr_uses.proofs.ranges_and_back.set_and_back.Given as goal
 
 -- the set of the ranges so far

@@ -1,7 +1,7 @@
 -- Of the set made ready the networks are those of the set.
 use Rattle.std.proofs.Common.{map, subst}
 use Rattle.std.specs.Bool.{Decides}
-use Rattle.cidr_table.specs.Cover.{Covers}
+use Rattle.cidr_table.specs.model.Cover.{Covers}
 use Rattle.cidr_uses.proofs.AccessLists.{same_answer}
 use Rattle.cidr_uses.proofs.ready_sets.both_say_the_same.Goals as goal
 

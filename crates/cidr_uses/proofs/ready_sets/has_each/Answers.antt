@@ -2,7 +2,7 @@
 use Rattle.std.proofs.Common.{map, subst}
 use Rattle.std.specs.Bool.{Decides}
 use Rattle.std.specs.List.{All}
-use Rattle.cidr_table.specs.Cover.{Covers}
+use Rattle.cidr_table.specs.model.Cover.{Covers}
 use Rattle.cidr_uses.proofs.ready_sets.has_each.Goals as goal
 
 pub returns-clause-each : goal.returns-clause-each

@@ -1,6 +1,6 @@
 use Rattle.std.proofs.Common.{◌≢◌, List, Some, None, IfSome, Option}
 use Rattle.std.specs.Prelude.{MatchOption}
-use Rattle.cidr_table.specs.FiniteMap.{IsRemoved}
+use Rattle.cidr_table.specs.model.FiniteMap.{IsRemoved}
 use Rattle.cidr_uses.specs.Routing.{IsRoute, HasNoRoute}
 use Rattle.cidr_uses.proofs.routing_table.route_without.Goals as goal
 

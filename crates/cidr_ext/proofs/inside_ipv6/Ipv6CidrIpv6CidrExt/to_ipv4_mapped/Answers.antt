@@ -1,6 +1,6 @@
 use Rattle.std.proofs.Common.{arith, rules, ◌≡◌, ◌≤◌, length, take}
 use Rattle.cidr_ext.proofs.InsideIpv6.{mapped_out, not_mapped}
-use Rattle.cidr_ext.specs.InsideIpv6.{mapped_front}
+use Rattle.cidr_ext.specs.model.InsideIpv6.{mapped_front}
 use Rattle.cidr_ext.proofs.inside_ipv6.Ipv6CidrIpv6CidrExt.to_ipv4_mapped.Goals as goal
 
 pub returns-in_err-first : goal.returns-in_err-first

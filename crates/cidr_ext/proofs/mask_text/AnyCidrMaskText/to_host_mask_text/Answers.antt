@@ -1,7 +1,7 @@
 use Rattle.std.proofs.Common.{arith, sym, subst}
 use Rattle.cidr.specs.model.Network.{width_of, first_of}
-use Rattle.cidr_ext.specs.Inside.{host_mask_of}
-use Rattle.cidr_ext.specs.MaskText.{IsMaskText}
+use Rattle.cidr_ext.specs.model.Inside.{host_mask_of}
+use Rattle.cidr_ext.specs.texts.MaskText.{IsMaskText}
 use Rattle.cidr_ext.proofs.MaskTexts.{host_mask_printed, printed}
 use Rattle.cidr_ext.proofs.mask_text.AnyCidrMaskText.to_host_mask_text.Goals as goal
 

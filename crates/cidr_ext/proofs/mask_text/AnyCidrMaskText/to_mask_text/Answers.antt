@@ -1,6 +1,6 @@
 use Rattle.std.proofs.Common.{arith, sym, subst}
 use Rattle.cidr.specs.model.Network.{width_of, first_of, mask_of}
-use Rattle.cidr_ext.specs.MaskText.{IsMaskText}
+use Rattle.cidr_ext.specs.texts.MaskText.{IsMaskText}
 use Rattle.cidr_ext.proofs.MaskTexts.{mask_printed, printed}
 use Rattle.cidr_ext.proofs.mask_text.AnyCidrMaskText.to_mask_text.Goals as goal
 

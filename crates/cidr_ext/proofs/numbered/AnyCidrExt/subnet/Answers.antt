@@ -1,6 +1,6 @@
 use Rattle.std.proofs.Common.{arith, ◌≡◌, ◌-◌, ◌^◌, ◌<◌, length, subst, ap, ◌∙◌}
 use Rattle.cidr.specs.model.Network.{width_of}
-use Rattle.cidr_ext.specs.Subnets.{NoSubnetAt}
+use Rattle.cidr_ext.specs.model.Subnets.{NoSubnetAt}
 use Rattle.cidr_ext.proofs.Indexes.{is_there, step_below, subnet_made, where_some}
 use Rattle.cidr_ext.proofs.numbered.AnyCidrExt.subnet.Goals as goal
 

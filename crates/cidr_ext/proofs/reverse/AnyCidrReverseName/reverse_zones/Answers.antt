@@ -1,5 +1,5 @@
 use Rattle.std.proofs.Common.{ap, ◌∙◌}
-use Rattle.cidr_ext.specs.Zones.{names_of}
+use Rattle.cidr_ext.specs.texts.Zones.{names_of}
 use Rattle.cidr_ext.proofs.ZoneNames.{all_end, has_zones}
 use Rattle.cidr_ext.proofs.reverse.AnyCidrReverseName.reverse_zones.Goals as goal
 

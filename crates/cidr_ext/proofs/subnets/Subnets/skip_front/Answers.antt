@@ -1,5 +1,5 @@
 use Rattle.std.proofs.Common.{ap, ◌∙◌}
-use Rattle.cidr_ext.specs.Subnets.{subnets_left}
+use Rattle.cidr_ext.specs.model.Subnets.{subnets_left}
 use Rattle.cidr_ext.proofs.Ends.{skips_some, skips_all, count_some, count_none}
 use Rattle.cidr_ext.proofs.subnets.Subnets.skip_front.Goals as goal
 use Rattle.cidr_ext.proofs.subnets.Subnets.skip_front.Goals.{in-Some, in_default-2, in_default}

@@ -1,7 +1,7 @@
 use Rattle.std.proofs.Common.{inl, inr}
 use Rattle.cidr.specs.model.Network.{width_of}
 use Rattle.cidr.specs.model.Views.{in_family}
-use Rattle.cidr_ext.specs.Subnets.{subnets_left}
+use Rattle.cidr_ext.specs.model.Subnets.{subnets_left}
 use Rattle.cidr_ext.proofs.Ends.{yields_back, progress_back}
 use Rattle.cidr_ext.proofs.subnets.SubnetsDoubleEndedIterator.next_back.Goals as goal
 use Rattle.cidr_ext.proofs.subnets.SubnetsDoubleEndedIterator.next_back.Goals.{then-first-last, else-first-last}

@@ -1,6 +1,6 @@
 use Rattle.std.proofs.Common.{map, sym, subst}
 use Rattle.std.specs.Bool.{Decides}
-use Rattle.cidr_table.specs.Cover.{Covers, IsReduced}
+use Rattle.cidr_table.specs.model.Cover.{Covers, IsReduced}
 use Rattle.cidr_sets.proofs.Addresses.{covers_from_full, full_from_covers}
 use Rattle.cidr_fib.proofs.SetRows.{found_value}
 use Rattle.cidr_fib.proofs.sets.ReadySet.contains.Goals as goal

@@ -1,8 +1,8 @@
 use Rattle.std.proofs.Common.{◌≡◌, ◌≤◌, ◌-◌, ◌^◌, ℕ, length, map, sym, ap, ◌∙◌, subst, arith}
 use Rattle.std.proofs.lemmas.List.{length-map}
 use Rattle.std.specs.Map.{keys_of}
-use Rattle.cidr_table.specs.Cover.{IsReduced}
-use Rattle.cidr_table.specs.FiniteMap.{StoredRows}
+use Rattle.cidr_table.specs.model.Cover.{IsReduced}
+use Rattle.cidr_table.specs.model.FiniteMap.{StoredRows}
 use Rattle.cidr_fib.specs.Errors.{AreRowsRefused}
 use Rattle.cidr_fib.proofs.SetRows.{keys_of_set}
 use Rattle.cidr_fib.proofs.sets.ReadySet.new.Goals as goal

@@ -1,6 +1,6 @@
 use Rattle.std.proofs.Common.{ℕ, ◌≤◌, length}
 use Rattle.cidr.specs.model.Network.{HasWidth}
-use Rattle.cidr_table.specs.CoverAddresses.{IsIpAddressBits}
+use Rattle.cidr_table.specs.model.CoverAddresses.{IsIpAddressBits}
 use Rattle.cidr_forwarding.specs.Forwarding.{in_bits, AreNetworksOf, AreIpRows, ForwardSame, IsSmallest}
 use Rattle.cidr_forwarding.proofs.Calls.{carried, rows_same}
 use Rattle.cidr_forwarding.proofs.tables.LpmTableSmallestTable.smallest.Goals as goal

@@ -1,5 +1,5 @@
 use Rattle.std.proofs.Common.{◌≡◌, Bool, true, false, List, [], ◌∷◌, length, map, sym, ap, ◌∙◌}
-use Rattle.cidr_sets.specs.Ranges.{joined_ranges, touches}
+use Rattle.cidr_sets.specs.model.Ranges.{joined_ranges, touches}
 use Rattle.cidr_sets.proofs.Joining.{by_none, no_ranges, nothing, progress_front}
 use Rattle.cidr_sets.proofs.Runs.{begun, begun_end, begun_last, begun_more, begun_self}
 use Rattle.cidr_sets.proofs.ranges.RangesIterator.next.Goals as goal

@@ -1,5 +1,5 @@
 use Rattle.std.proofs.Common.{◌≡◌, ◌∷◌, length, map}
-use Rattle.cidr_sets.specs.Ranges.{joined_ranges}
+use Rattle.cidr_sets.specs.model.Ranges.{joined_ranges}
 use Rattle.cidr_sets.proofs.Runs.{begun}
 use Rattle.cidr_sets.proofs.ranges.RangesIterator.next.Given as goal
 

@@ -1,9 +1,9 @@
 use Rattle.std.proofs.Common.{◌^◌, ◌+◌, ◌-◌, List, length, map, refl, sym, subst, arith}
 use Rattle.std.proofs.lemmas.List.{length-map}
 use Rattle.cidr.specs.model.Network.{width_of}
-use Rattle.cidr_table.specs.Cover.{IsReduced}
-use Rattle.cidr_sets.specs.AddressLists.{addresses_in}
-use Rattle.cidr_sets.specs.Counts.{HaveCount}
+use Rattle.cidr_table.specs.model.Cover.{IsReduced}
+use Rattle.cidr_sets.specs.internal.AddressLists.{addresses_in}
+use Rattle.cidr_sets.specs.model.Counts.{HaveCount}
 use Rattle.cidr_sets.proofs.AddressIndexes.{in_order, index_fits, passed_more, passed_all, passed_few, all_of_them, not_below, are_all, width_fits}
 use Rattle.cidr_sets.proofs.set.NetworkSet.address_count.Goals as goal
 

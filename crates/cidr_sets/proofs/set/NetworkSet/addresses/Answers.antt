@@ -1,8 +1,8 @@
 use Rattle.std.proofs.Common.{map, ap, sym, ◌∙◌, subst}
 use Rattle.std.proofs.lemmas.List.{append-nil}
 use Rattle.cidr.specs.model.Network.{width_of}
-use Rattle.cidr_sets.specs.AddressLists.{addresses_in}
-use Rattle.cidr_sets.specs.Counts.{AreAddresses}
+use Rattle.cidr_sets.specs.internal.AddressLists.{addresses_in}
+use Rattle.cidr_sets.specs.model.Counts.{AreAddresses}
 use Rattle.cidr_sets.proofs.AddressIndexes.{are_all}
 use Rattle.cidr_sets.proofs.set.NetworkSet.addresses.Goals as goal
 

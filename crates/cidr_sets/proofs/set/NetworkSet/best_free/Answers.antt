@@ -1,7 +1,7 @@
 use Rattle.std.proofs.Common.{List, map, sym, subst, arith, None}
 use Rattle.std.proofs.lemmas.Bool.Decides.{not_from_Decides}
-use Rattle.cidr_table.specs.Cover.{IsReduced}
-use Rattle.cidr_sets.specs.Pools.{IsBestFree}
+use Rattle.cidr_table.specs.model.Cover.{IsReduced}
+use Rattle.cidr_sets.specs.model.Pools.{IsBestFree}
 use Rattle.cidr_sets.proofs.Free.{best_new, best_kept, best_stays, best_of_all, none_at_all}
 use Rattle.cidr_sets.proofs.set.NetworkSet.best_free.Goals as goal
 use Rattle.cidr_sets.proofs.set.NetworkSet.best_free.Goals.{then-is_smaller+in-Some, then-is_smaller+in_default, else-is_smaller}

@@ -1,7 +1,7 @@
 use Rattle.std.proofs.Common.{◌≡◌, ◌*◌, ◌∙◌, length, map, sym, ap, subst, arith}
 use Rattle.std.proofs.lemmas.List.{length-map}
-use Rattle.cidr_table.specs.Cover.{IsReduced}
-use Rattle.cidr_sets.specs.Steps.{Ascend}
+use Rattle.cidr_table.specs.model.Cover.{IsReduced}
+use Rattle.cidr_sets.specs.internal.Steps.{Ascend}
 use Rattle.cidr_sets.proofs.Cuts.{complement_set, cut_fits}
 use Rattle.cidr_sets.proofs.Steps.{none_ascend}
 use Rattle.cidr_sets.proofs.set.NetworkSet.complement_in.Goals as goal
@@ -26,7 +26,7 @@ returns-clause-fits g c w n =
     let p = f c.args.network.now in
     let those = map f c.as_slice.result.now in
     let cut = c.in_ok-push_rest.ensures in
-    let nets = subst (λ l. Rattle.cidr_table.specs.Cover.AreNetworks w (map f l)) (sym c.as_slice.ensures.networks) n in
+    let nets = subst (λ l. Rattle.cidr_table.specs.model.Cover.AreNetworks w (map f l)) (sym c.as_slice.ensures.networks) n in
     let most = cut_fits p (map f c.new-rest.result.items) (map f c.push_rest.new.out.items) those _ cut (ap (λ l. length (map f l)) c.new-rest.ensures.items) w nets in
     let all : w * length those ≡ w * length c.args.self.now = ap (λ k. w * k) (length-map c.as_slice.result.now f) ∙ ap (λ l. w * length l) c.as_slice.ensures.networks in
     omega (arith, most, all, length-map c.push_rest.new.out.items f)

@@ -1,6 +1,6 @@
 use Rattle.std.proofs.Common.{List, map, sym, subst, arith, Some, None}
-use Rattle.cidr_table.specs.Cover.{IsReduced}
-use Rattle.cidr_sets.specs.Pools.{IsFirstFree}
+use Rattle.cidr_table.specs.model.Cover.{IsReduced}
+use Rattle.cidr_sets.specs.model.Pools.{IsFirstFree}
 use Rattle.cidr_sets.proofs.Free.{first_of_all, none_at_all}
 use Rattle.cidr_sets.proofs.set.NetworkSet.first_free.Goals as goal
 

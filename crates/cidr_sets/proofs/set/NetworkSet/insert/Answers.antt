@@ -1,8 +1,8 @@
 use Rattle.std.proofs.Common.{◌<◌, ◌++◌, ◌∷◌, [], List, length, take, drop, map, sym, subst, arith}
 use Rattle.std.proofs.lemmas.Bool.Decides.{not_from_Decides}
 use Rattle.std.proofs.lemmas.Result.{on_err_weaker}
-use Rattle.cidr_table.specs.Cover.{Covers}
-use Rattle.cidr_sets.specs.Sets.{IsUnion}
+use Rattle.cidr_table.specs.model.Cover.{Covers}
+use Rattle.cidr_sets.specs.model.Sets.{IsUnion}
 use Rattle.cidr_sets.proofs.Edits.{one_more, union_held}
 use Rattle.cidr_sets.proofs.set.NetworkSet.insert.Goals as goal
 

@@ -2,9 +2,9 @@ use Rattle.std.proofs.Common.{◌≡◌, ◌+◌, ◌-◌, List, slice_get, map,
 use Rattle.std.proofs.lemmas.List.{length-map}
 use Rattle.std.proofs.lemmas.Option.{slice_get_past}
 use Rattle.cidr.specs.model.Network.{width_of}
-use Rattle.cidr_table.specs.Cover.{IsReduced}
-use Rattle.cidr_sets.specs.AddressLists.{addresses_in}
-use Rattle.cidr_sets.specs.Counts.{IsAtIndex}
+use Rattle.cidr_table.specs.model.Cover.{IsReduced}
+use Rattle.cidr_sets.specs.internal.AddressLists.{addresses_in}
+use Rattle.cidr_sets.specs.model.Counts.{IsAtIndex}
 use Rattle.cidr_sets.proofs.AddressIndexes.{in_order, at_index, passed_more, passed_all, are_all}
 use Rattle.cidr_sets.proofs.set.NetworkSet.nth.Goals as goal
 

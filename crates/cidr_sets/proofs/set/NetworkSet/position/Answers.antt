@@ -3,9 +3,9 @@ use Rattle.std.proofs.lemmas.List.{length-map}
 use Rattle.cidr.specs.model.Bits.{number}
 use Rattle.cidr.specs.model.Network.{width_of}
 use Rattle.cidr.specs.laws.BitLaws.{number-lt}
-use Rattle.cidr_table.specs.Cover.{Covers, IsReduced}
-use Rattle.cidr_sets.specs.AddressLists.{addresses_in}
-use Rattle.cidr_sets.specs.Counts.{IsAtIndex}
+use Rattle.cidr_table.specs.model.Cover.{Covers, IsReduced}
+use Rattle.cidr_sets.specs.internal.AddressLists.{addresses_in}
+use Rattle.cidr_sets.specs.model.Counts.{IsAtIndex}
 use Rattle.cidr_sets.proofs.AddressIndexes.{in_order, index_fits, found, not_there, passed_by, passed_by_none, in_none, are_all, width_fits}
 use Rattle.cidr_sets.proofs.set.NetworkSet.position.Goals as goal
 

@@ -1,5 +1,5 @@
 use Rattle.std.proofs.Common.{map}
-use Rattle.cidr_table.specs.Cover.{IsReduced}
+use Rattle.cidr_table.specs.model.Cover.{IsReduced}
 use Rattle.cidr_sets.proofs.Joining.{ranges_of_reduced}
 use Rattle.cidr_sets.proofs.OneRange.{range_alone}
 use Rattle.cidr_sets.proofs.set.NetworkSet.ranges.Goals as goal

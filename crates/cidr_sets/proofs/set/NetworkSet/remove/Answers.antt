@@ -1,8 +1,8 @@
 use Rattle.std.proofs.Common.{[], ◌∷◌, ◌++◌, map, take, drop, sym, ap, ◌∙◌, subst}
 use Rattle.std.proofs.lemmas.Bool.Decides.{not_from_Decides}
 use Rattle.std.proofs.lemmas.List.{map-append}
-use Rattle.cidr_table.specs.Cover.{Covers, IsReduced}
-use Rattle.cidr_sets.specs.Sets.{IsDifference}
+use Rattle.cidr_table.specs.model.Cover.{Covers, IsReduced}
+use Rattle.cidr_sets.specs.model.Sets.{IsDifference}
 use Rattle.cidr_sets.proofs.Edits.{without_inside}
 use Rattle.cidr_sets.proofs.set.NetworkSet.remove.Goals as goal
 

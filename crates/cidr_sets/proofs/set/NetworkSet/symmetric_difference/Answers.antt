@@ -1,6 +1,6 @@
 use Rattle.std.proofs.Common.{List, map}
 use Rattle.std.proofs.lemmas.Result.{IfOk-weaker}
-use Rattle.cidr_sets.specs.Sets.{IsUnion, IsSymmetricDifference}
+use Rattle.cidr_sets.specs.model.Sets.{IsUnion, IsSymmetricDifference}
 use Rattle.cidr_sets.proofs.Algebra.{symmetric_of}
 use Rattle.cidr_sets.proofs.set.NetworkSet.symmetric_difference.Goals as goal
 

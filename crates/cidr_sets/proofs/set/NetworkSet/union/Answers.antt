@@ -1,5 +1,5 @@
 use Rattle.std.proofs.Common.{◌⊎◌, map}
-use Rattle.cidr_table.specs.Cover.{Covers}
+use Rattle.cidr_table.specs.model.Cover.{Covers}
 use Rattle.cidr_sets.proofs.Addresses.{set_alike}
 use Rattle.cidr_sets.proofs.set.NetworkSet.union.Goals as goal
 

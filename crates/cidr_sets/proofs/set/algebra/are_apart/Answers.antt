@@ -3,7 +3,7 @@ use Rattle.std.proofs.lemmas.Bool.{false≢true}
 use Rattle.std.proofs.lemmas.Bool.Decides.{not_from_Decides}
 use Rattle.std.proofs.lemmas.List.{take_all}
 use Rattle.std.specs.List.{Contains}
-use Rattle.cidr_sets.specs.Sets.{Meets}
+use Rattle.cidr_sets.specs.model.Sets.{Meets}
 use Rattle.cidr_sets.proofs.Algebra.{each_more, disjoint_from_none, not_disjoint}
 use Rattle.cidr_sets.proofs.set.algebra.are_apart.Goals as goal
 

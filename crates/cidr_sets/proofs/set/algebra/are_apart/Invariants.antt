@@ -1,6 +1,6 @@
 use Rattle.std.proofs.Common.{take, map}
 use Rattle.std.specs.List.{Contains}
-use Rattle.cidr_sets.specs.Sets.{Meets}
+use Rattle.cidr_sets.specs.model.Sets.{Meets}
 use Rattle.cidr_sets.proofs.set.algebra.are_apart.Given as goal
 
 -- the networks so far meet none

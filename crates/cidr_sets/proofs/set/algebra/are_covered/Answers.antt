@@ -3,7 +3,7 @@ use Rattle.std.proofs.lemmas.Bool.{false≢true}
 use Rattle.std.proofs.lemmas.Bool.Decides.{not_from_Decides}
 use Rattle.std.proofs.lemmas.List.{take_all}
 use Rattle.std.specs.List.{Contains}
-use Rattle.cidr_table.specs.Cover.{Covers}
+use Rattle.cidr_table.specs.model.Cover.{Covers}
 use Rattle.cidr_sets.proofs.Addresses.{covers_by, covers_to, covers_from_full}
 use Rattle.cidr_sets.proofs.Algebra.{each_more, covers_within}
 use Rattle.cidr_sets.proofs.set.algebra.are_covered.Goals as goal

@@ -1,7 +1,7 @@
 use Rattle.std.proofs.Common.{◌≡◌, ◌⊎◌, [], ◌∷◌, ◌++◌, length, length-append, map, ap, sym, inl, inr, subst, arith, Some, None}
 use Rattle.std.proofs.lemmas.List.{length-map, map_push}
 use Rattle.std.specs.Option.{option_map}
-use Rattle.cidr_sets.specs.Steps.{IsIntersectionStep}
+use Rattle.cidr_sets.specs.internal.Steps.{IsIntersectionStep}
 use Rattle.cidr_sets.proofs.Joining.{by_none}
 use Rattle.cidr_sets.proofs.Steps.{IsSharing, none_of, sharing_all, sharing_more, sharing_none, sharing_same}
 use Rattle.cidr_sets.proofs.set.algebra.push_shared.Goals as goal

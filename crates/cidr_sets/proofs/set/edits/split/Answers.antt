@@ -2,9 +2,9 @@ use Rattle.std.proofs.Common.{◌≡◌, ◌-◌, ◌+◌, ◌<◌, [], ◌∷�
 use Rattle.std.proofs.lemmas.List.{drop-map, get_or-map, get_or_default, length-map, take-map}
 use Rattle.std.proofs.lemmas.Result.{on_ok_weaker}
 use Rattle.cidr.specs.model.Network.{BeginsWith}
-use Rattle.cidr_sets.specs.Edits.{IsParted}
-use Rattle.cidr_sets.specs.Sets.{IsDifference}
-use Rattle.cidr_sets.specs.Steps.{Ascend, IsDifferenceStep}
+use Rattle.cidr_sets.specs.internal.Edits.{IsParted}
+use Rattle.cidr_sets.specs.model.Sets.{IsDifference}
+use Rattle.cidr_sets.specs.internal.Steps.{Ascend, IsDifferenceStep}
 use Rattle.cidr_sets.proofs.Edits.{without_part}
 use Rattle.cidr_sets.proofs.Moves.{map_three}
 use Rattle.cidr_sets.proofs.Parts.{parted_at}

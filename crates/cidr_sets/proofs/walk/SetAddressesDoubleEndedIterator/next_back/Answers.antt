@@ -1,6 +1,6 @@
 use Rattle.std.proofs.Common.{◌≡◌, ◌⊎◌, ◌<◌, ◌≤◌, ◌-◌, map, Some, None, sym, ◌∙◌, inl, inr}
 use Rattle.cidr.specs.model.Network.{width_of}
-use Rattle.cidr_sets.specs.AddressLists.{left_of}
+use Rattle.cidr_sets.specs.internal.AddressLists.{left_of}
 use Rattle.cidr_sets.proofs.AddressWalks.{IsOpenedBack, stepped_back, ends_back, back_kept, back_opened, back_moved, progress_back}
 use Rattle.cidr_sets.proofs.walk.SetAddressesDoubleEndedIterator.next_back.Goals as goal
 use Rattle.cidr_sets.proofs.walk.SetAddressesDoubleEndedIterator.next_back.Given as given

@@ -1,6 +1,6 @@
 use Rattle.std.proofs.Common.{◌≡◌, ◌⊎◌, ◌<◌, ◌≤◌, ◌+◌, map, Some, None, sym, ◌∙◌, inl, inr, arith}
 use Rattle.cidr.specs.model.Network.{width_of}
-use Rattle.cidr_sets.specs.AddressLists.{left_of}
+use Rattle.cidr_sets.specs.internal.AddressLists.{left_of}
 use Rattle.cidr_sets.proofs.AddressWalks.{IsOpenedFront, stepped_front, ends_front, front_kept, front_opened, front_moved, progress_front}
 use Rattle.cidr_sets.proofs.walk.SetAddressesIterator.next.Goals as goal
 use Rattle.cidr_sets.proofs.walk.SetAddressesIterator.next.Given as given

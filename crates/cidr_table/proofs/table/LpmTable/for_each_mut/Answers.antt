@@ -1,6 +1,6 @@
 use Rattle.std.proofs.Common.{sym, ◌∙◌}
 use Rattle.std.proofs.lemmas.List.{with_items_is}
-use Rattle.cidr_table.specs.Writing.{CallLeaves}
+use Rattle.cidr_table.specs.model.Writing.{CallLeaves}
 use Rattle.cidr_table.proofs.InTurn.{keys_same, length_same}
 use Rattle.cidr_table.proofs.table.LpmTable.for_each_mut.Goals as goal
 

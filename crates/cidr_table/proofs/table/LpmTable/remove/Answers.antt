@@ -1,7 +1,7 @@
 use Rattle.std.proofs.Common.{sym, ◌∙◌, ap, subst, Some}
 use Rattle.cidr_table.proofs.RowPlaces.{lookup_at, remove_at, remove_gap, sorted_remove}
 use Rattle.cidr_table.proofs.MapLaws.{looked_up, removed}
-use Rattle.cidr_table.specs.FiniteMap.{IsRemoved}
+use Rattle.cidr_table.specs.model.FiniteMap.{IsRemoved}
 use Rattle.cidr_table.proofs.Beginnings.{cmp_exact}
 use Rattle.cidr_table.proofs.table.LpmTable.remove.Goals as goal
 

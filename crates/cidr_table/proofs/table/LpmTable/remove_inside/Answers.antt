@@ -1,6 +1,6 @@
 use Rattle.std.proofs.Common.{rules, of_calls, ap, not}
 use Rattle.std.proofs.lemmas.Fn.{filter_same}
-use Rattle.cidr_table.specs.Places.{begins_with}
+use Rattle.cidr_table.specs.internal.Places.{begins_with}
 use Rattle.cidr_table.proofs.Matching.{sorted_kept, are_outside}
 use Rattle.cidr_table.proofs.table.LpmTable.remove_inside.Goals as goal
 

@@ -1,7 +1,7 @@
 use Rattle.std.proofs.Common.{◌≡◌, refl, subst, arith, take}
 use Rattle.std.proofs.lemmas.List.{take_all}
 use Rattle.std.proofs.lemmas.List.Elements.{all_zip_more}
-use Rattle.cidr_table.specs.FiniteMap.{AreCloned}
+use Rattle.cidr_table.specs.model.FiniteMap.{AreCloned}
 use Rattle.cidr_table.proofs.table.clones.clone_rows.Goals as goal
 
 -- one row more

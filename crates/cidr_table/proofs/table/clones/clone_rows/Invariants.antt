@@ -1,6 +1,6 @@
 -- the rows so far are cloned
 use Rattle.std.proofs.Common.{take}
-use Rattle.cidr_table.specs.FiniteMap.{AreCloned}
+use Rattle.cidr_table.specs.model.FiniteMap.{AreCloned}
 use Rattle.cidr_table.proofs.table.clones.clone_rows.Given as goal
 
 abbrev pub invariant-loop-row : goal.invariant-loop-row

@@ -1,8 +1,8 @@
 use Rattle.std.proofs.Common.{◌∙◌, ◌-◌, take, map, sym, subst}
 use Rattle.std.proofs.lemmas.List.Elements.{Contains-push}
 use Rattle.std.specs.List.{Contains}
-use Rattle.cidr_table.specs.Cover.{Covers}
-use Rattle.cidr_table.specs.CoverStack.{IsReduced}
+use Rattle.cidr_table.specs.model.Cover.{Covers}
+use Rattle.cidr_table.specs.internal.CoverStack.{IsReduced}
 use Rattle.cidr_table.proofs.Beginnings.{begins_decides}
 use Rattle.cidr_table.proofs.Passing.{top_split}
 use Rattle.cidr_table.proofs.Stacks.{top_holds}

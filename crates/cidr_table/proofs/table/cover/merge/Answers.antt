@@ -1,7 +1,7 @@
 use Rattle.std.proofs.Common.{◌≤◌, ◌<◌, length, take, map, ◌-◌, ◌∙◌, refl, arith, length-take}
 use Rattle.std.proofs.lemmas.List.{length-set, length-map, drop-set-lt}
 use Rattle.std.proofs.lemmas.Bool.Decides.{not_from_Decides}
-use Rattle.cidr_table.specs.CoverStack.{AreHalvesInOrder}
+use Rattle.cidr_table.specs.internal.CoverStack.{AreHalvesInOrder}
 use Rattle.cidr_table.proofs.Passing.{merging_none, merging_done, two_read, clipped_is, still_merging}
 use Rattle.cidr_table.proofs.Stacks.{last_two, closed_alone, closed_apart}
 use Rattle.cidr_table.proofs.table.cover.merge.Goals as goal

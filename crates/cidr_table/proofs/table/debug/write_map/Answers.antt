@@ -1,7 +1,7 @@
 use Rattle.std.proofs.Common.{refl, [], ◌+◌, Some, codes, drop, arith}
 use Rattle.std.proofs.lemmas.List.{drop_all}
 use Rattle.std.specs.Fmt.{◌++?◌, debug_items}
-use Rattle.cidr_table.specs.Printing.{debug_map, debug_row}
+use Rattle.cidr_table.specs.model.Printing.{debug_map, debug_row}
 use Rattle.cidr_table.proofs.Printed.{begun, more, displayed, ended, next_item}
 use Rattle.cidr_table.proofs.table.debug.write_map.Goals as goal
 

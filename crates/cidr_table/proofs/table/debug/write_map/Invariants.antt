@@ -2,7 +2,7 @@ use Rattle.std.proofs.Common.{Some, drop, codes}
 use denote.Text.{Utf8}
 use denote.Shadow.{shadow}
 use Rattle.std.specs.Fmt.{◌++?◌, debug_items}
-use Rattle.cidr_table.specs.Printing.{debug_map, debug_row}
+use Rattle.cidr_table.specs.model.Printing.{debug_map, debug_row}
 use Rattle.cidr_table.proofs.Printed.{Writes}
 use Rattle.cidr_table.proofs.table.debug.write_map.Given as goal
 

@@ -1,5 +1,5 @@
 use Rattle.std.proofs.Common.{ap, arith, get_or, of_calls}
-use Rattle.cidr_table.specs.Writing.{CallLeaves}
+use Rattle.cidr_table.specs.model.Writing.{CallLeaves}
 use Rattle.cidr_table.proofs.InTurn.{call_leaves, one_more, ends}
 use Rattle.cidr_table.proofs.table.lends.write_each.Goals as goal
 

@@ -1,5 +1,5 @@
 use denote.Param.Always.{always_mut}
-use Rattle.cidr_table.specs.Writing.{CallLeaves}
+use Rattle.cidr_table.specs.model.Writing.{CallLeaves}
 use Rattle.cidr_table.proofs.InTurn.{IsAt}
 use Rattle.cidr_table.proofs.table.lends.write_each.Given as goal
 

@@ -1,7 +1,7 @@
 -- One prefix more in each round.
 use Rattle.std.proofs.Common.{◌≡◌, ◌+◌, ◌==◌, [], ◌∷◌, ◌++◌, length, sym, ap, ◌∙◌, arith, rules}
 use Rattle.std.proofs.lemmas.Bool.{false≢true}
-use Rattle.cidr_table.specs.Loading.{placed}
+use Rattle.cidr_table.specs.model.Loading.{placed}
 use Rattle.cidr_table.proofs.PrefixLists.{used_within, shorter, one_more, begun}
 use Rattle.cidr_table.proofs.LastPlaces.{placed_push, length-placed}
 use Rattle.cidr_table.proofs.table.load.read_rows.Goals as goal

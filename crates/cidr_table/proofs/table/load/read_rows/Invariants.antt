@@ -1,6 +1,6 @@
 -- The prefixes before the rest are read, each with its place.
 use Rattle.std.proofs.Common.{◌≡◌, List, length}
-use Rattle.cidr_table.specs.Loading.{IsListed, placed}
+use Rattle.cidr_table.specs.model.Loading.{IsListed, placed}
 use Rattle.cidr_table.proofs.table.load.read_rows.Given as goal
 
 abbrev pub invariant-loop-rest : goal.invariant-loop-rest

@@ -1,6 +1,6 @@
 use Rattle.std.proofs.Common.{◌≡◌, length}
 use Rattle.std.specs.Map.{keys_of}
-use Rattle.cidr_table.specs.Above.{AreLinks}
+use Rattle.cidr_table.specs.internal.Above.{AreLinks}
 use Rattle.cidr_table.proofs.table.lookups.links_of.Given as goal
 
 abbrev pub invariant-loop-place : goal.invariant-loop-place

@@ -1,6 +1,6 @@
 use Rattle.std.proofs.Common.{ℕ, ◌≤◌}
 use Rattle.std.specs.Map.{keys_of}
-use Rattle.cidr_table.specs.Above.{IsReached}
+use Rattle.cidr_table.specs.internal.Above.{IsReached}
 use Rattle.cidr_table.proofs.table.lookups.nearest.Given as goal
 
 abbrev pub invariant-loop-at : goal.invariant-loop-at

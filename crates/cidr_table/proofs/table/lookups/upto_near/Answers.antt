@@ -1,7 +1,7 @@
 use Rattle.std.proofs.Common.{◌≡◌, refl, arith, length, Ok, Err}
 use Rattle.std.proofs.lemmas.List.{length-map}
 use Rattle.std.specs.Map.{keys_of}
-use Rattle.cidr_table.specs.Places.{IsPlace}
+use Rattle.cidr_table.specs.internal.Places.{IsPlace}
 use Rattle.cidr_table.proofs.Halving.{place_before}
 use Rattle.cidr_table.proofs.Links.{reached_at, reached_gap}
 use Rattle.cidr_table.proofs.table.lookups.upto_near.Goals as goal

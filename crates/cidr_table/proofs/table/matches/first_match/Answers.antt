@@ -3,7 +3,7 @@ use Rattle.std.proofs.lemmas.Bool.{true≢false}
 use Rattle.std.proofs.lemmas.List.{take_all, length-drop}
 use Rattle.std.specs.List.Sorted.{IsStrictlySortedBy}
 use Rattle.std.specs.Map.{keys_of}
-use Rattle.cidr_table.specs.Places.{matching}
+use Rattle.cidr_table.specs.internal.Places.{matching}
 use Rattle.cidr_table.proofs.Beginnings.{begins_decides}
 use Rattle.cidr_table.proofs.Insides.{sorted_drop}
 use Rattle.cidr_table.proofs.Links.{is_above}

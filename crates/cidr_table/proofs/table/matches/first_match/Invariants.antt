@@ -2,7 +2,7 @@
 use Rattle.std.proofs.Common.{◌≡◌, length}
 use Rattle.std.specs.List.Sorted.{IsStrictlySortedBy}
 use Rattle.std.specs.Map.{keys_of}
-use Rattle.cidr_table.specs.Places.{matching}
+use Rattle.cidr_table.specs.internal.Places.{matching}
 use Rattle.cidr_table.proofs.table.matches.first_match.Given as goal
 
 abbrev pub invariant-loop-row : goal.invariant-loop-row

@@ -2,7 +2,7 @@ use Rattle.std.proofs.Common.{sym, ◌∙◌, append_assoc, codes}
 use Rattle.cidr.specs.either.IpHost.{host_address}
 use Rattle.cidr.specs.either.IpNetwork.{network_family, network_prefix}
 use Rattle.cidr.specs.texts.PrintedAddress.{ip_text}
-use Rattle.cidr_ext.specs.Inside.{usable_of}
+use Rattle.cidr_ext.specs.model.Inside.{usable_of}
 use Rattle.netset_commands.proofs.Hosts.{first_and_last}
 use Rattle.netset_commands.proofs.commands.single.usable_text.Goals as goal
 

@@ -5,7 +5,7 @@ use Rattle.std.specs.Map.{keys_of}
 use Rattle.cidr.specs.model.Bits.{bit_cmp}
 use Rattle.cidr_files.specs.Layout.{ipv4_parts, ipv6_parts, wide_word, wide_words, words}
 use Rattle.cidr_lists.specs.declared.rows.Span.{Span}
-use Rattle.cidr_table.specs.FiniteMap.{StoredRows}
+use Rattle.cidr_table.specs.model.FiniteMap.{StoredRows}
 use Rattle.netset_commands.specs.Columns.{AreColumns}
 use Rattle.netset_commands.proofs.Compiling.{has_the_rows}
 use Rattle.netset_commands.proofs.Large.{long_values, only_large}

@@ -1,0 +1,2 @@
+-- What a trait cites.
+pub mod Families

@@ -1,0 +1,4 @@
+-- What private functions promise each other.
+pub mod AddressLists
+pub mod Steps
+pub mod Edits

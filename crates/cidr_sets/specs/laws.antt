@@ -1,0 +1,3 @@
+-- What the orders and walks of the model cite.
+pub mod RangeLaws
+pub mod PoolLaws
