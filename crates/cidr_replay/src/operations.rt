@@ -18,7 +18,7 @@ use cidr::{
     Ipv6Addr, Ipv6Cidr, Ipv6Inet, PrefixBytes,
 };
 use cidr_ext::{AddressReverseName, CidrMaskText, CidrReverseName, SpecialAddress};
-use cidr_sets::{AddressSpace, Addressed, Subnets};
+use cidr_sets::{AddressSpace, Addressed, PoolNetwork};
 use std::alloc::{AllocError, Global};
 use std::fmt::Debug;
 use std::str;
@@ -148,7 +148,7 @@ where
 
 fn by_network<C>(section: &str, name: &str, tokens: &mut Tokens<'_>, answer: &mut Answer) -> Outcome
 where
-    C: Addressed + Bits + Debug + Key + Subnets,
+    C: Addressed + Bits + Debug + Key + PoolNetwork,
     C::Address: Debug + FromStr<Err = AddrParseError>,
 {
     match section {

@@ -6,7 +6,7 @@ use crate::tokens::Tokens;
 use cidr::AddrParseError;
 use cidr::errors::NetworkParseError;
 use cidr_sets::access::{Action, deciding, permitted, shadowed};
-use cidr_sets::{Addressed, NetworkSet, Subnets};
+use cidr_sets::{Addressed, NetworkSet, PoolNetwork};
 use std::fmt::Debug;
 use std::str::FromStr;
 
@@ -23,7 +23,7 @@ pub fn is_by_index(name: &str) -> bool {
 /// Answers the operation on sets that has this name and does not go by the index of addresses.
 pub fn answer<C>(name: &str, tokens: &mut Tokens<'_>, answer: &mut Answer) -> Outcome
 where
-    C: Addressed + Copy + Debug + FromStr<Err = NetworkParseError> + Subnets,
+    C: Addressed + Copy + Debug + FromStr<Err = NetworkParseError> + PoolNetwork,
     C::Address: Debug + FromStr<Err = AddrParseError>,
 {
     match name {
@@ -36,7 +36,7 @@ where
 /// The operations that begin with rules.
 fn by_rules<C>(name: &str, tokens: &mut Tokens<'_>, answer: &mut Answer) -> Outcome
 where
-    C: Subnets + Copy + Debug + FromStr<Err = NetworkParseError>,
+    C: PoolNetwork + Copy + Debug + FromStr<Err = NetworkParseError>,
 {
     let alloc = tokens.alloc();
     let rules = rules::<C>(tokens)?;
@@ -62,7 +62,7 @@ where
 /// The operations on one set.
 fn one_set<C>(name: &str, tokens: &mut Tokens<'_>, answer: &mut Answer) -> Outcome
 where
-    C: Subnets + Copy + Debug + FromStr<Err = NetworkParseError>,
+    C: PoolNetwork + Copy + Debug + FromStr<Err = NetworkParseError>,
 {
     let set = set::<C>(tokens)?;
     match name {
@@ -84,7 +84,7 @@ fn two_sets<C>(
     answer: &mut Answer,
 ) -> Outcome
 where
-    C: Subnets + Copy + Debug + FromStr<Err = NetworkParseError>,
+    C: PoolNetwork + Copy + Debug + FromStr<Err = NetworkParseError>,
 {
     let those = &lists::set::<C>(tokens)?;
     match name {

@@ -24,7 +24,7 @@ mod set;
 pub mod slices;
 mod walk;
 
-pub use pools::Subnets;
+pub use pools::PoolNetwork;
 pub use probe::{NetworkProbe, Networks, contains};
 pub use ranges::{AddressRange, Addressed, Ranges};
 pub use set::NetworkSet;

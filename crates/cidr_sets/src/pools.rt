@@ -13,7 +13,7 @@ use cidr::{AnyIpCidr, BitString, Ipv4Cidr, Ipv6Cidr, NetworkBits};
 
 /// Networks of which it is known how long those inside them can be, for the calls of a set that find free networks.
 /// `Ipv4Cidr`, `Ipv6Cidr` and `AnyIpCidr` implement it.
-pub trait Subnets: NetworkBits {
+pub trait PoolNetwork: NetworkBits {
     /// Whether a list of bits is that of a network.
     ghost IsNetwork: { List Bool → Type 0 };
 
@@ -21,25 +21,25 @@ pub trait Subnets: NetworkBits {
     ghost deepest: { (q : Self) → IsRoom IsNetwork (Self.bits q) (Self.room q) };
 }
 
-impl Subnets for Ipv4Cidr {
+impl PoolNetwork for Ipv4Cidr {
     ghost IsNetwork = { FitsWidth 32 };
 
     ghost deepest = { plain_room 32 };
 }
 
-impl Subnets for Ipv6Cidr {
+impl PoolNetwork for Ipv6Cidr {
     ghost IsNetwork = { FitsWidth 128 };
 
     ghost deepest = { plain_room 128 };
 }
 
-impl Subnets for AnyIpCidr {
+impl PoolNetwork for AnyIpCidr {
     ghost IsNetwork = { IsIpNetworkBits };
 
     ghost deepest = { any_room_exact };
 }
 
-impl<C: Subnets + Copy> NetworkSet<C> {
+impl<C: PoolNetwork + Copy> NetworkSet<C> {
     /// The first network of `len` bits all of whose addresses are in the set, or `None` where there is none.
     ///
     /// `len` is the prefix length, and for `AnyIpCidr` one more, as `BitString::len` counts; of one above the width
@@ -106,7 +106,7 @@ fn is_smaller<C: BitString>(network: &C, best: &Option<(C, C)>) -> bool
 /// The first network of `len` bits in a network, or `None` where there is none.
 ///
 /// `Any` has room only for what both families have room for, so that its two halves are asked.
-fn first_subnet<C: Subnets + Copy>(network: &C, len: usize) -> Option<C>
+fn first_subnet<C: PoolNetwork + Copy>(network: &C, len: usize) -> Option<C>
     ensures { IsFirstFree C.IsNetwork (C.bits network.now ∷ []) len (option_map C.bits result) }
 {
     if len < network.len() {
@@ -125,7 +125,7 @@ fn first_subnet<C: Subnets + Copy>(network: &C, len: usize) -> Option<C>
 }
 
 /// The first network of `len` bits in the lower or upper half of the network of no bits, or `None` where there is none.
-fn first_in_half<C: Subnets + Copy>(upper: bool, len: usize) -> Option<C>
+fn first_in_half<C: PoolNetwork + Copy>(upper: bool, len: usize) -> Option<C>
     ensures { IsFirstFree C.IsNetwork ((upper ∷ []) ∷ []) len (option_map C.bits result) }
 {
     let mut half = C::null();

@@ -10,12 +10,12 @@ use cidr_sets::laws::{
     equal_sets_are_equal_lists, equal_sets_are_the_same, full_networks_lie_in_one,
     sets_without_addresses_are_empty,
 };
-use cidr_sets::{NetworkProbe, NetworkSet, Subnets, contains};
+use cidr_sets::{NetworkProbe, NetworkSet, PoolNetwork, contains};
 use std::alloc::AllocError;
 
 /// The first network of `len` bits of which every address is in the pool and none is used, or `None` where there is
 /// none.
-pub fn first_available<C: Subnets + Copy>(
+pub fn first_available<C: PoolNetwork + Copy>(
     pool: &NetworkSet<C>,
     used: &NetworkSet<C>,
     len: usize,
@@ -80,7 +80,10 @@ pub fn union_minus_other_is_difference<C: NetworkBits + Copy>(
 }
 
 /// Whether the first network that a pool has free is in the pool, which it is.
-pub fn first_free_is_in_pool<C: Subnets + Copy>(pool: &NetworkSet<C>, len: usize) -> Option<bool>
+pub fn first_free_is_in_pool<C: PoolNetwork + Copy>(
+    pool: &NetworkSet<C>,
+    len: usize,
+) -> Option<bool>
     ensures { IfSome result (λ within. within ≡ true) }
 {
     let network = pool.first_free(len)?;
@@ -89,7 +92,7 @@ pub fn first_free_is_in_pool<C: Subnets + Copy>(pool: &NetworkSet<C>, len: usize
 
 /// Adds the first network that a pool has free to those in use; whether they have it then, which they do. `None` where
 /// nothing is free.
-pub fn used_has_first_free<C: Subnets + Copy>(
+pub fn used_has_first_free<C: PoolNetwork + Copy>(
     pool: &NetworkSet<C>,
     used: &mut NetworkSet<C>,
     len: usize,

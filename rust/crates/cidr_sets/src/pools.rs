@@ -5,15 +5,15 @@ use cidr::{AnyIpCidr, BitString, Ipv4Cidr, Ipv6Cidr, NetworkBits};
 
 /// Networks of which it is known how long those inside them can be, for the calls of a set that find free networks.
 /// `Ipv4Cidr`, `Ipv6Cidr` and `AnyIpCidr` implement it.
-pub trait Subnets: Sized + NetworkBits {}
+pub trait PoolNetwork: Sized + NetworkBits {}
 
-impl Subnets for Ipv4Cidr {}
+impl PoolNetwork for Ipv4Cidr {}
 
-impl Subnets for Ipv6Cidr {}
+impl PoolNetwork for Ipv6Cidr {}
 
-impl Subnets for AnyIpCidr {}
+impl PoolNetwork for AnyIpCidr {}
 
-impl<C: Subnets + Copy> NetworkSet<C> {
+impl<C: PoolNetwork + Copy> NetworkSet<C> {
     /// The first network of `len` bits all of whose addresses are in the set, or `None` where there is none.
     ///
     /// `len` is the prefix length, and for `AnyIpCidr` one more, as `BitString::len` counts; of one above the width
@@ -86,7 +86,7 @@ fn is_smaller<C: BitString>(network: &C, best: &Option<(C, C)>) -> bool {
 /// The first network of `len` bits in a network, or `None` where there is none.
 ///
 /// `Any` has room only for what both families have room for, so that its two halves are asked.
-fn first_subnet<C: Subnets + Copy>(network: &C, len: usize) -> Option<C> {
+fn first_subnet<C: PoolNetwork + Copy>(network: &C, len: usize) -> Option<C> {
     if len < network.len() {
         return None;
     }
@@ -104,7 +104,7 @@ fn first_subnet<C: Subnets + Copy>(network: &C, len: usize) -> Option<C> {
 
 /// The first network of `len` bits in the lower or upper half of the network of no bits, or `None` where there is none.
 #[inline]
-fn first_in_half<C: Subnets + Copy>(upper: bool, len: usize) -> Option<C> {
+fn first_in_half<C: PoolNetwork + Copy>(upper: bool, len: usize) -> Option<C> {
     let mut half = C::null();
     half.append(upper);
     if len > 0 && len <= 1 + half.room() {

@@ -9,7 +9,7 @@ use Rattle.cidr_sets.proofs.set.NetworkSet.best_free.Goals.{then-is_smaller+in-S
 pub loop-network-preserved : goal.loop-network-preserved
 loop-network-preserved g c =
     let f = g.C.BitString.bits in
-    let N = g.C.Subnets.IsNetwork in
+    let N = g.C.PoolNetwork.IsNetwork in
     let l = c.loop-network in
     let xs = c.as_slice-network-items.result.now in
     let x = c.network-item.result in
@@ -27,7 +27,7 @@ loop-network-preserved g c =
 pub returns-in-Some-best-clause-best : goal.returns-in-Some-best-clause-best
 returns-in-Some-best-clause-best g c =
     let f = g.C.BitString.bits in
-    let N = g.C.Subnets.IsNetwork in
+    let N = g.C.PoolNetwork.IsNetwork in
     let xs = c.as_slice-network-items.result.now in
     let best = best_of_all N c.args.len f xs c.loop-network.network-index c.in-Some-best.field-0-0 c.in-Some-best.first
     (omega (arith, c.loop-network-test.false)) (rw c.in-Some-best.is at c.loop-network.invariant) in
@@ -36,7 +36,7 @@ returns-in-Some-best-clause-best g c =
 pub returns-in-None-clause-best : goal.returns-in-None-clause-best
 returns-in-None-clause-best g c =
     let f = g.C.BitString.bits in
-    let N = g.C.Subnets.IsNetwork in
+    let N = g.C.PoolNetwork.IsNetwork in
     subst (λ (s : List g.row.C.Denot). IsBestFree N (map f s) c.args.len None) c.as_slice-network-items.ensures.networks
     (none_at_all N c.args.len f c.as_slice-network-items.result.now c.loop-network.network-index
     (omega (arith, c.loop-network-test.false)) (rw c.in-None.is at c.loop-network.invariant))

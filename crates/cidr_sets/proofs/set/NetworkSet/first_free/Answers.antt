@@ -7,7 +7,7 @@ use Rattle.cidr_sets.proofs.set.NetworkSet.first_free.Goals as goal
 pub returns-in-Some-clause-first : goal.returns-in-Some-clause-first
 returns-in-Some-clause-first g c =
     let f = g.C.BitString.bits in
-    let N = g.C.Subnets.IsNetwork in
+    let N = g.C.PoolNetwork.IsNetwork in
     let xs = c.as_slice-network-items.result.now in
     let same = c.as_slice-network-items.ensures.networks in
     let p = f c.in-Some.first in
@@ -19,7 +19,7 @@ returns-in-Some-clause-first g c =
 pub returns-clause-first : goal.returns-clause-first
 returns-clause-first g c =
     let f = g.C.BitString.bits in
-    let N = g.C.Subnets.IsNetwork in
+    let N = g.C.PoolNetwork.IsNetwork in
     subst (λ (s : List g.row.C.Denot). IsFirstFree N (map f s) c.args.len None) c.as_slice-network-items.ensures.networks
     (none_at_all N c.args.len f c.as_slice-network-items.result.now c.loop-network.network-index
     (omega (arith, c.loop-network-test.false)) c.loop-network.invariant)
