@@ -13,6 +13,8 @@
 pub mod access;
 mod count;
 pub mod laws;
+mod lookup;
+mod merging;
 mod neighbours;
 mod pools;
 mod probe;

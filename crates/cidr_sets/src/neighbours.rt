@@ -6,7 +6,8 @@ ghost use Rattle.cidr_table.specs.model.Cover.{Covers, IsReduced, parent};
 ghost use Rattle.cidr_sets.specs.internal.Edits.{IsAlone, IsBeside, IsHalf, IsParted};
 ghost use Rattle.cidr_sets.specs.model.Sets.{IsUnion};
 
-use crate::search::{is_inside, known, upto};
+use crate::lookup::upto;
+use crate::search::{is_inside, known};
 use cidr::{BitString, NetworkBits};
 
 /// Whether there is a network at an index, and it lies in another.

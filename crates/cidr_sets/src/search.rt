@@ -2,11 +2,9 @@
 ghost use Rattle.std.specs.Prelude.{◌≡◌, ℕ, ◌<◌, ◌≤◌, ◌+◌, ◌^◌, length, map};
 ghost use Rattle.std.specs.Bool.{Decides};
 ghost use Rattle.cidr.specs.model.Network.{BeginsWith};
-ghost use Rattle.cidr_table.specs.model.Cover.{Covers};
 ghost use Rattle.cidr_table.specs.model.Cover.{IsReduced};
 ghost use Rattle.cidr_sets.specs.model.Searches.{IsUpto};
 
-use crate::probe::{Networks, contains};
 use cidr::{BitString, NetworkBits};
 use cidr_table::Probe;
 
@@ -29,23 +27,6 @@ pub fn place<C: NetworkBits, P: Probe<C>>(networks: &mut P, network: &C) -> usiz
         left = half;
     }
     low
-}
-
-/// How many networks come before this one or are the same, by `place`.
-pub fn upto<C: NetworkBits>(networks: &[C], network: &C) -> usize
-    requires { IsReduced 129 (map C.bits networks.now) }
-    ensures place { IsUpto (map C.bits networks.now) (C.bits network.now) result }
-    ensures within { result ≤ length networks.now }
-{
-    place(&mut Networks::new(networks), network)
-}
-
-/// Whether one of the networks contains this one, by `contains`.
-pub fn covers<C: NetworkBits>(networks: &[C], network: &C) -> bool
-    requires { IsReduced 129 (map C.bits networks.now) }
-    ensures { Decides result (Covers (map C.bits networks.now) (C.bits network.now)) }
-{
-    contains(&mut Networks::new(networks), network)
 }
 
 /// Whether the bits of a network begin with those of the outer one.

@@ -2,9 +2,8 @@
 //!
 //! The caller has to prove that the networks of each set are in normal form, as `as_slice` of a set has them:
 //! ascending, none in another, and no two the halves of one. So are those that are written. `from_networks` takes any.
-ghost use Rattle.std.specs.Prelude.{◌≡◌, ◌+◌, ◌-◌, ◌*◌, ◌≤◌, ◌<◌, ◌⊎◌, ◌↔◌, ℕ, Bool, List, length, take, drop, false, true, map, set, Contains, IfSome, IfNone, MatchOption};
+ghost use Rattle.std.specs.Prelude.{◌≡◌, ◌+◌, ◌-◌, ◌*◌, ◌≤◌, ◌<◌, ◌⊎◌, ◌↔◌, ℕ, Bool, List, length, take, drop, false, true, map, set, Contains, IfSome, IfNone};
 ghost use Rattle.std.specs.List.{dedup};
-ghost use Rattle.std.specs.Option.{option_map};
 ghost use Rattle.std.specs.declared.cmp.Ordering.TheVariants.{Less};
 ghost use Rattle.std.specs.Bool.{Decides};
 ghost use Rattle.cidr.specs.model.Bits.{bit_cmp};
@@ -12,14 +11,14 @@ ghost use Rattle.cidr.specs.model.Network.{BeginsWith};
 ghost use Rattle.cidr_table.specs.model.Cover.{AreNetworks, Covers, IsReduced};
 ghost use Rattle.cidr_sets.specs.model.Sets.{IsSetOf, IsUnion, IsIntersection, IsDifference, IsComplement};
 ghost use Rattle.cidr_sets.specs.model.Ranges.{IsBetween, IsFilled, IsOverfull, IsBetweenEdges, all_bits, most, side};
-ghost use Rattle.cidr_sets.specs.internal.Steps.{Ascend, IsDifferenceStep, IsUnionStep, IsOver, IsIntersectionStep};
+ghost use Rattle.cidr_sets.specs.internal.Steps.{Ascend, IsDifferenceStep, IsOver};
 
+use crate::merging::{next_of, next_shared};
 use crate::ranges::{Addressed, all_from};
 use crate::rests::{half, is_passed, skip};
 use crate::search::{is_inside, known};
 use cidr::{BitString, NetworkBits};
 use cidr_table::least_cover_in_place;
-use std::cmp::Ordering;
 
 /// Writes the networks of the addresses that one of two sets has, or both, to the first elements of `out`, and returns
 /// how many they are.
@@ -342,56 +341,4 @@ fn merge<C: NetworkBits + Copy>(these: &[C], those: &[C], out: &mut [C]) -> usiz
         right = rest;
     }
     n
-}
-
-/// The first network of two lists, and what is left of them; `None` where both are empty.
-pub(crate) fn next_of<'a, C: NetworkBits + Copy>(
-    left: &'a [C],
-    right: &'a [C],
-) -> Option<(&'a C, &'a [C], &'a [C])>
-    requires left { Ascend (map C.bits left.now) }
-    requires right { Ascend (map C.bits right.now) }
-    ensures { MatchOption result (length left.now + length right.now ≡ 0) (λ r.
-        IsUnionStep (map C.bits left.now) (map C.bits right.now) (C.bits r.0.now) (map C.bits r.1.now) (map C.bits r.2.now)) }
-{
-    match left.split_first() {
-        Some((first, behind)) => match right.split_first() {
-            Some((second, rest)) => match first.cmp(second) {
-                Ordering::Less => Some((first, behind, right)),
-                Ordering::Equal => Some((first, behind, rest)),
-                Ordering::Greater => Some((second, left, rest)),
-            },
-            None => Some((first, behind, right)),
-        },
-        None => match right.split_first() {
-            Some((second, rest)) => Some((second, left, rest)),
-            None => None,
-        },
-    }
-}
-
-/// Of the first networks of two lists, the one that lies in the other, if one does, and what is left of the lists
-/// without it, or else without the first of both; `None` where one list is empty.
-pub(crate) fn next_shared<'a, C: NetworkBits + Copy>(
-    left: &'a [C],
-    right: &'a [C],
-) -> Option<(Option<C>, &'a [C], &'a [C])>
-    requires left { Ascend (map C.bits left.now) }
-    requires right { Ascend (map C.bits right.now) }
-    ensures { MatchOption result ((length left.now ≡ 0) ⊎ (length right.now ≡ 0)) (λ r.
-        IsIntersectionStep (map C.bits left.now) (map C.bits right.now) (option_map C.bits r.0) (map C.bits r.1.now)
-        (map C.bits r.2.now)) }
-{
-    let (first, behind) = left.split_first()?;
-    let (second, rest) = right.split_first()?;
-    if is_inside(first, second) {
-        return Some((Some(*first), behind, right));
-    }
-    if is_inside(second, first) {
-        return Some((Some(*second), left, rest));
-    }
-    match first.cmp(second) {
-        Ordering::Less => Some((None, behind, right)),
-        _ => Some((None, left, rest)),
-    }
 }

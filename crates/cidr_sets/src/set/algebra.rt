@@ -11,10 +11,11 @@ ghost use Rattle.std.specs.Option.{option_map};
 ghost use Rattle.std.specs.Vec.{vec_capacity};
 ghost use Rattle.cidr_sets.specs.model.Sets.{IsUnion, IsIntersection, IsDifference, IsSymmetricDifference, IsComplement, Meets, IsSubset, AreDisjoint};
 
+use crate::lookup::{covers, upto};
+use crate::merging::{next_of, next_shared};
 use crate::rests::{half, skip};
-use crate::search::{covers, is_inside, known, upto};
+use crate::search::{is_inside, known};
 use crate::set::{NetworkSet, joined};
-use crate::slices::{next_of, next_shared};
 use cidr::NetworkBits;
 use std::alloc::{AllocError, Global};
 

@@ -3,9 +3,10 @@ ghost use Rattle.std.specs.Prelude.{◌≡◌, ◌<◌, ◌∷◌, [], Bool, Lis
 ghost use Rattle.cidr_table.specs.model.Cover.{Covers, IsReduced};
 ghost use Rattle.cidr_sets.specs.model.Sets.{IsUnion, IsDifference};
 
+use crate::lookup::{covers, upto};
 use crate::neighbours::{inside_of, joined_with};
 use crate::replacing::{cut, put, replace};
-use crate::search::{covers, known, upto};
+use crate::search::known;
 use crate::set::NetworkSet;
 use crate::set::algebra::push_rest;
 use cidr::NetworkBits;

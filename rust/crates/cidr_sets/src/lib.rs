@@ -31,6 +31,8 @@ mod checks;
 
 pub mod access;
 mod count;
+mod lookup;
+mod merging;
 mod neighbours;
 mod pools;
 mod probe;

@@ -1,6 +1,7 @@
 //! The networks of a set that lie in one, and those beside it that make up a whole with it.
 
-use crate::search::{is_inside, known, upto};
+use crate::lookup::upto;
+use crate::search::{is_inside, known};
 use cidr::{BitString, NetworkBits};
 
 /// Whether there is a network at an index, and it lies in another.

@@ -1,6 +1,5 @@
 //! Searches in networks that ascend.
 
-use crate::probe::{Networks, contains};
 use cidr::{BitString, NetworkBits};
 use cidr_table::Probe;
 
@@ -18,18 +17,6 @@ pub fn place<C: NetworkBits, P: Probe<C>>(networks: &mut P, network: &C) -> usiz
         left = half;
     }
     low
-}
-
-/// How many networks come before this one or are the same, by `place`.
-#[inline]
-pub fn upto<C: NetworkBits>(networks: &[C], network: &C) -> usize {
-    place(&mut Networks::new(networks), network)
-}
-
-/// Whether one of the networks contains this one, by `contains`.
-#[inline]
-pub fn covers<C: NetworkBits>(networks: &[C], network: &C) -> bool {
-    contains(&mut Networks::new(networks), network)
 }
 
 /// Whether the bits of a network begin with those of the outer one.

@@ -3,12 +3,12 @@
 //! The caller has to ensure that the networks of each set are in normal form, as `as_slice` of a set has them:
 //! ascending, none in another, and no two the halves of one. So are those that are written. `from_networks` takes any.
 
+use crate::merging::{next_of, next_shared};
 use crate::ranges::{Addressed, all_from};
 use crate::rests::{half, is_passed, skip};
 use crate::search::{is_inside, known};
 use cidr::{BitString, NetworkBits};
 use cidr_table::least_cover_in_place;
-use core::cmp::Ordering;
 
 /// Writes the networks of the addresses that one of two sets has, or both, to the first elements of `out`, and returns
 /// how many they are.
@@ -282,45 +282,4 @@ fn merge<C: NetworkBits + Copy>(these: &[C], those: &[C], out: &mut [C]) -> usiz
         right = rest;
     }
     n
-}
-
-/// The first network of two lists, and what is left of them; `None` where both are empty.
-pub(crate) fn next_of<'a, C: NetworkBits + Copy>(
-    left: &'a [C],
-    right: &'a [C],
-) -> Option<(&'a C, &'a [C], &'a [C])> {
-    match left.split_first() {
-        Some((first, behind)) => match right.split_first() {
-            Some((second, rest)) => match first.cmp(second) {
-                Ordering::Less => Some((first, behind, right)),
-                Ordering::Equal => Some((first, behind, rest)),
-                Ordering::Greater => Some((second, left, rest)),
-            },
-            None => Some((first, behind, right)),
-        },
-        None => match right.split_first() {
-            Some((second, rest)) => Some((second, left, rest)),
-            None => None,
-        },
-    }
-}
-
-/// Of the first networks of two lists, the one that lies in the other, if one does, and what is left of the lists
-/// without it, or else without the first of both; `None` where one list is empty.
-pub(crate) fn next_shared<'a, C: NetworkBits + Copy>(
-    left: &'a [C],
-    right: &'a [C],
-) -> Option<(Option<C>, &'a [C], &'a [C])> {
-    let (first, behind) = left.split_first()?;
-    let (second, rest) = right.split_first()?;
-    if is_inside(first, second) {
-        return Some((Some(*first), behind, right));
-    }
-    if is_inside(second, first) {
-        return Some((Some(*second), left, rest));
-    }
-    match first.cmp(second) {
-        Ordering::Less => Some((None, behind, right)),
-        _ => Some((None, left, rest)),
-    }
 }

@@ -1,10 +1,11 @@
 //! Union, intersection and difference.
 
 use cidr_support::vec::Vec;
+use crate::lookup::{covers, upto};
+use crate::merging::{next_of, next_shared};
 use crate::rests::{half, skip};
-use crate::search::{covers, is_inside, known, upto};
+use crate::search::{is_inside, known};
 use crate::set::{NetworkSet, joined};
-use crate::slices::{next_of, next_shared};
 use cidr::NetworkBits;
 use cidr_support::alloc::{AllocError, Global};
 

@@ -1,9 +1,10 @@
 //! Adding a network and taking one out, in the memory of the set.
 
 use cidr_support::vec::Vec;
+use crate::lookup::{covers, upto};
 use crate::neighbours::{inside_of, joined_with};
 use crate::replacing::{cut, put, replace};
-use crate::search::{covers, known, upto};
+use crate::search::known;
 use crate::set::NetworkSet;
 use crate::set::algebra::push_rest;
 use cidr::NetworkBits;

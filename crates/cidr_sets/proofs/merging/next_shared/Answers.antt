@@ -2,7 +2,7 @@ use Rattle.std.proofs.Common.{◌∷◌, Some, None, map, sym, ◌∙◌, subst}
 use Rattle.std.proofs.lemmas.Bool.Decides.{not_from_Decides}
 use Rattle.cidr_sets.specs.internal.Steps.{Ascend}
 use Rattle.cidr_sets.proofs.Steps.{not_less, shared_first, shared_none, shared_swap}
-use Rattle.cidr_sets.proofs.slices.next_shared.Goals as goal
+use Rattle.cidr_sets.proofs.merging.next_shared.Goals as goal
 
 pub returns-then-is_inside : goal.returns-then-is_inside
 returns-then-is_inside g c =

@@ -3,7 +3,7 @@ use Rattle.cidr_table.proofs.Beginnings.{bits_exact}
 use Rattle.cidr_sets.specs.internal.Steps.{Ascend}
 use Rattle.cidr_sets.proofs.Joining.{nothing}
 use Rattle.cidr_sets.proofs.Steps.{next_alone, next_both, next_first, next_swap, turned}
-use Rattle.cidr_sets.proofs.slices.next_of.Goals as goal
+use Rattle.cidr_sets.proofs.merging.next_of.Goals as goal
 
 pub returns-in-Less : goal.returns-in-Less
 returns-in-Less g c =
