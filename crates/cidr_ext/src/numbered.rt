@@ -6,8 +6,8 @@ ghost use Rattle.cidr_ext.specs.model.Inside.{host_mask_of, IsAddressAt, usable_
 ghost use Rattle.cidr_ext.specs.model.Subnets.{HasExactlySubnets, IsNextNetwork, IsSubnetAt, NoSubnetAt, subnets_of};
 
 use crate::address::AddressExt;
-use crate::shifts::{fits, greatest, shifted};
-use crate::subnets::Subnets;
+use crate::shifts::greatest;
+use crate::subnets::{Subnets, subnet_at};
 use cidr::{Address, Cidr, Family, Inet, InetIterator, InetPair};
 
 /// Subnets, neighbours, masks and addresses of networks of the types `Ipv4Cidr`, `Ipv6Cidr` and `IpCidr`.
@@ -132,13 +132,7 @@ where
     <C::Address as Address>::InetPair: InetPair<Address = C::Address>,
 {
     fn subnet(&self, len: u8, index: u128) -> Option<C> {
-        let more = len.checked_sub(self.network_length())?;
-        let behind = self.family().len().checked_sub(len)?;
-        if !fits(index, more) {
-            return None;
-        }
-        let (host, _) = self.first().overflowing_add(shifted(index, behind));
-        C::new(host.address(), len).ok()
+        subnet_at(self, len, index)
     }
 
     fn subnets(&self, len: u8) -> Option<Subnets<C>> {

@@ -4,10 +4,10 @@ ghost use Rattle.std.specs.Iterator.{YieldsFirstBy, YieldsLastBy, item_count, Up
 ghost use Rattle.std.specs.Iterator.SizeHint.{IsExactHint, IsWithinCount};
 ghost use Rattle.cidr.specs.model.Network.{width_of};
 ghost use Rattle.cidr.specs.model.Views.{in_family};
-ghost use Rattle.cidr_ext.specs.model.Subnets.{index_count, subnets_of};
+ghost use Rattle.cidr_ext.specs.model.Subnets.{index_count, IsSubnetAt, NoSubnetAt, subnets_of};
 
 use crate::address::AddressExt;
-use crate::numbered::CidrExt;
+use crate::shifts::{fits, shifted};
 use cidr::{Address, Cidr, Inet, InetPair};
 use std::iter::FusedIterator;
 use std::marker::Model;
@@ -81,7 +81,7 @@ where
         } else {
             None
         };
-        self.network.subnet(self.len, first)
+        subnet_at(&self.network, self.len, first)
     }
 
     fn size_hint(&self) -> (usize, Option<usize>)
@@ -108,7 +108,7 @@ where
         } else {
             None
         };
-        self.network.subnet(self.len, last)
+        subnet_at(&self.network, self.len, last)
     }
 }
 
@@ -151,6 +151,28 @@ where
             _ => None,
         };
     }
+}
+
+/// Network `index` of prefix length `len` inside a network, counted from 0 in ascending order, or `None` where there is
+/// none.
+pub(crate) fn subnet_at<C: Cidr>(network: &C, len: u8, index: u128) -> Option<C>
+where
+    C::Address: Address<Cidr = C>,
+    <C::Address as Address>::Inet: Inet<Address = C::Address>,
+    ensures value { MatchOption result
+        (NoSubnetAt (width_of (C.family_of network.now)) (C.prefix network.now) len index)
+        (λ inner. (C.family_of inner ≡ C.family_of network.now) ×
+        IsSubnetAt (C.prefix network.now) len index (C.prefix inner)) }
+    ensures within { IfSome result
+        (λ _. ¬ (NoSubnetAt (width_of (C.family_of network.now)) (C.prefix network.now) len index)) }
+{
+    let more = len.checked_sub(network.network_length())?;
+    let behind = network.family().len().checked_sub(len)?;
+    if !fits(index, more) {
+        return None;
+    }
+    let (host, _) = network.first().overflowing_add(shifted(index, behind));
+    C::new(host.address(), len).ok()
 }
 
 /// Both bounds on how many indexes there are from the first to the last.

@@ -1,8 +1,8 @@
 //! Networks and addresses by their number inside a network.
 
 use crate::address::AddressExt;
-use crate::shifts::{fits, greatest, shifted};
-use crate::subnets::Subnets;
+use crate::shifts::greatest;
+use crate::subnets::{Subnets, subnet_at};
 use cidr::{Address, Cidr, Family, Inet, InetIterator, InetPair};
 
 /// Subnets, neighbours, masks and addresses of networks of the types `Ipv4Cidr`, `Ipv6Cidr` and `IpCidr`.
@@ -121,13 +121,7 @@ where
 {
     #[inline]
     fn subnet(&self, len: u8, index: u128) -> Option<C> {
-        let more = len.checked_sub(self.network_length())?;
-        let behind = self.family().len().checked_sub(len)?;
-        if !fits(index, more) {
-            return None;
-        }
-        let (host, _) = self.first().overflowing_add(shifted(index, behind));
-        C::new(host.address(), len).ok()
+        subnet_at(self, len, index)
     }
 
     #[inline]

@@ -3,10 +3,15 @@
 use crate::address::AddressExt;
 use crate::families::WholeFamily;
 use crate::numbered::CidrExt;
-use crate::reverse_read::read_name;
-use crate::reverse_zones::{ReverseZones, zone_length};
+use crate::reverse::name::name_of;
+use crate::reverse::reading::read_name;
+use crate::reverse::zones::{ReverseZones, zone_length};
 use cidr_support::arrayvec::ArrayString;
-use cidr::{Address, Cidr, Family};
+use cidr::{Address, Cidr};
+
+mod name;
+mod reading;
+pub mod zones;
 
 /// Names of networks in reverse DNS, for `Ipv4Cidr`, `Ipv6Cidr` and `IpCidr`.
 pub trait CidrReverseName: Sized + Cidr {
@@ -112,17 +117,9 @@ impl<C: WholeFamily + CidrExt> CidrReverseName for C
 where
     C::Address: AddressExt,
 {
+    #[inline]
     fn reverse_name(&self) -> Option<ArrayString<72>> {
-        let (family, len) = (self.family(), self.network_length());
-        let width = label_bits(family);
-        if len % width != 0 {
-            return None;
-        }
-        let value = shifted_out(self.first_address().to_number(), family.len() - len);
-        let mut name = ArrayString::new();
-        push_labels(&mut name, family, value, len / width);
-        push_domain(&mut name, family);
-        Some(name)
+        name_of(self)
     }
 
     #[inline]
@@ -135,88 +132,5 @@ where
     fn from_reverse_name(name: &str) -> Option<C> {
         let (family, number, len) = read_name(name)?;
         C::all_of(family)?.subnet(len, number)
-    }
-}
-
-/// The number of bits that a label stands for.
-#[inline]
-pub(crate) fn label_bits(family: Family) -> u8 {
-    match family {
-        Family::Ipv4 => 8,
-        Family::Ipv6 => 4,
-    }
-}
-
-/// The number without so many of its last bits.
-#[inline]
-fn shifted_out(value: u128, count: u8) -> u128 {
-    if count < 128 { value >> count } else { 0 }
-}
-
-/// The number without the bits of its last label, and that label.
-#[inline]
-fn split_label(family: Family, value: u128) -> (u128, u8) {
-    match family {
-        Family::Ipv4 => (value / 256, (value % 256) as u8),
-        Family::Ipv6 => (value / 16, (value % 16) as u8),
-    }
-}
-
-/// Appends the last `count` labels of the number, the last one first, with a dot behind each.
-#[inline]
-fn push_labels(name: &mut ArrayString<72>, family: Family, value: u128, count: u8) {
-    if count > 0 {
-        let (rest, label) = split_label(family, value);
-        push_label(name, family, label);
-        push_labels(name, family, rest, count - 1);
-    }
-}
-
-/// Appends the label and a dot.
-#[inline]
-fn push_label(name: &mut ArrayString<72>, family: Family, label: u8) {
-    match family {
-        Family::Ipv4 => push_decimal(name, label),
-        Family::Ipv6 => name.push(hex_digit(label)),
-    }
-    name.push('.');
-}
-
-/// Appends the number in decimal.
-fn push_decimal(text: &mut ArrayString<72>, n: u8) {
-    if n >= 100 {
-        text.push(char::from(b'0' + n / 100));
-        text.push(char::from(b'0' + n / 10 % 10));
-        text.push(char::from(b'0' + n % 10));
-    } else if n >= 10 {
-        text.push(char::from(b'0' + n / 10));
-        text.push(char::from(b'0' + n % 10));
-    } else {
-        text.push(char::from(b'0' + n));
-    }
-}
-
-/// The hexadecimal digit, in lower case.
-#[inline]
-fn hex_digit(digit: u8) -> char {
-    if digit < 10 {
-        char::from(b'0' + digit)
-    } else {
-        char::from(b'a' + (digit - 10))
-    }
-}
-
-/// Appends the domain of the names.
-#[inline]
-fn push_domain(name: &mut ArrayString<72>, family: Family) {
-    name.push_str(domain(family));
-}
-
-/// The domain of the names.
-#[inline]
-pub(crate) fn domain(family: Family) -> &'static str {
-    match family {
-        Family::Ipv4 => "in-addr.arpa",
-        Family::Ipv6 => "ip6.arpa",
     }
 }

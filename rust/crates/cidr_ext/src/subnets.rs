@@ -1,7 +1,7 @@
 //! The networks of one prefix length inside a network, one by one.
 
 use crate::address::AddressExt;
-use crate::numbered::CidrExt;
+use crate::shifts::{fits, shifted};
 use cidr::{Address, Cidr, Inet, InetPair};
 use core::iter::FusedIterator;
 
@@ -56,7 +56,7 @@ where
         } else {
             None
         };
-        self.network.subnet(self.len, first)
+        subnet_at(&self.network, self.len, first)
     }
 
     #[inline]
@@ -79,7 +79,7 @@ where
         } else {
             None
         };
-        self.network.subnet(self.len, last)
+        subnet_at(&self.network, self.len, last)
     }
 }
 
@@ -122,6 +122,23 @@ where
             _ => None,
         };
     }
+}
+
+/// Network `index` of prefix length `len` inside a network, counted from 0 in ascending order, or `None` where there is
+/// none.
+#[inline]
+pub(crate) fn subnet_at<C: Cidr>(network: &C, len: u8, index: u128) -> Option<C>
+where
+    C::Address: Address<Cidr = C>,
+    <C::Address as Address>::Inet: Inet<Address = C::Address>,
+{
+    let more = len.checked_sub(network.network_length())?;
+    let behind = network.family().len().checked_sub(len)?;
+    if !fits(index, more) {
+        return None;
+    }
+    let (host, _) = network.first().overflowing_add(shifted(index, behind));
+    C::new(host.address(), len).ok()
 }
 
 /// Both bounds on how many indexes there are from the first to the last.

@@ -1,4 +1,0 @@
-use Rattle.cidr_ext.proofs.reverse.+push_labels.Given as goal
-
-abbrev pub decreases-push_labels : goal.decreases-push_labels
-decreases-push_labels l = l.count
