@@ -9,7 +9,7 @@ use Rattle.cidr_arrays.specs.Arrays.{prefix_bits}
 use Rattle.cidr_files.specs.Layout.{ipv4_counts, ipv4_parts, ipv6_counts, ipv6_parts, wide_words, words}
 use Rattle.cidr_files.specs.Tables.{AreArrays, AreOffsets, offsets_in, part_at, stored_networks, value_in}
 use Rattle.cidr_c.specs.calls.Calls.{IsYesOrNo}
-use Rattle.cidr_c.specs.model.Files.{IsFound, IsFoundAt, IsInNetworks, IsInSet, IsInSetAt, IsMatched, bytes_at, parts_at}
+use Rattle.cidr_c.specs.model.Files.{IsFoundInFile, IsFoundInParts, IsInNetworks, IsInSet, IsInSetAt, IsMatched, bytes_at, parts_at}
 use Rattle.cidr_c.specs.model.Tables.{no_row}
 use Rattle.cidr_c.specs.model.Values.{IsLow, number_in}
 use Rattle.cidr_c.specs.declared.files.CFile.{CFile}
@@ -40,7 +40,7 @@ pub record IsRowAt (w : ℕ) (numbers : List ℕ → List ℕ) (address row from
 module _ (w : ℕ) (numbers : List ℕ → List ℕ) (size : ℕ) (table : CFileTable) (bytes : List ℕ) (address : ℕ) where
   pub row_there : (row from to place : ℕ) (parts : List (List ℕ)) (shift : ℕ) → parts ≡ parts_at size table bytes → shift ≡ table.shift
       → table.rows < 2 ^ 32 → from ≤ to → place ≡ min table.values (length bytes) → IsRowAt w numbers address row from to parts shift
-      → IsFoundAt w numbers (parts_at size table bytes) table bytes address (record { value = place + from; value_len = to - from; row = row })
+      → IsFoundInParts w numbers (parts_at size table bytes) table bytes address (record { value = place + from; value_len = to - from; row = row })
   row_there row from to place parts shift same shifts rows ordered place_is found =
       let h : IsRowAt w numbers address row from to (parts_at size table bytes) table.shift =
       subst (λ (s : ℕ). IsRowAt w numbers address row from to (parts_at size table bytes) s) shifts
@@ -63,12 +63,12 @@ module _ (w : ℕ) (numbers : List ℕ → List ℕ) (size : ℕ) (table : CFile
   pub nothing_there : (found : CFound) (parts : List (List ℕ)) (shift : ℕ) → found ≡ record { value = 0; value_len = 0; row = no_row }
       → parts ≡ parts_at size table bytes → shift ≡ table.shift
       → (AreArrays w numbers parts shift → IsLongestMatch (prefix_bits w) (bits w address) (stored_networks numbers parts) None)
-      → IsFoundAt w numbers (parts_at size table bytes) table bytes address found
+      → IsFoundInParts w numbers (parts_at size table bytes) table bytes address found
   nothing_there found parts shift is same shifts none =
       let Nothing : List (List ℕ) → ℕ → Type 0 =
       λ ps s. AreArrays w numbers ps s → IsLongestMatch (prefix_bits w) (bits w address) (stored_networks numbers ps) None in
       let h = subst (λ (s : ℕ). Nothing (parts_at size table bytes) s) shifts (subst (λ (ps : List (List ℕ)). Nothing ps shift) same none) in
-      subst (λ (f : CFound). IsFoundAt w numbers (parts_at size table bytes) table bytes address f) (sym is)
+      subst (λ (f : CFound). IsFoundInParts w numbers (parts_at size table bytes) table bytes address f) (sym is)
       (record {
         inside = omega arith;
         nothing = λ _. (refl, refl);
@@ -79,7 +79,7 @@ module _ (w : ℕ) (numbers : List ℕ → List ℕ) (size : ℕ) (table : CFile
 -- ---- in a file
 module _ (bytes : List ℕ) (file : CFile) (asked : CValue) (a : ℕ) where
   pub ipv4_found : (found : CFound) → asked.tag ≡ 32 → IsLow asked → a ≡ asked.low
-      → IsFoundAt 32 words (parts_at 4 file.ipv4 bytes) file.ipv4 bytes a found → IsFound bytes file asked found
+      → IsFoundInParts 32 words (parts_at 4 file.ipv4 bytes) file.ipv4 bytes a found → IsFoundInFile bytes file asked found
   ipv4_found found tag low is h = record {
     inside = h.inside;
     nothing = h.nothing;
@@ -92,7 +92,7 @@ module _ (bytes : List ℕ) (file : CFile) (asked : CValue) (a : ℕ) where
   }
 
   pub ipv6_found : (found : CFound) → asked.tag ≡ 192 → a ≡ number_in asked
-      → IsFoundAt 128 wide_words (parts_at 16 file.ipv6 bytes) file.ipv6 bytes a found → IsFound bytes file asked found
+      → IsFoundInParts 128 wide_words (parts_at 16 file.ipv6 bytes) file.ipv6 bytes a found → IsFoundInFile bytes file asked found
   ipv6_found found tag is h = record {
     inside = h.inside;
     nothing = h.nothing;

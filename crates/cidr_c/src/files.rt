@@ -4,7 +4,7 @@ ghost use Rattle.std.specs.Int.{from_le_bytes, w32};
 ghost use Rattle.cidr_files.specs.Layout.{padded, padded_room, sizes_of, wide_word};
 ghost use Rattle.cidr_files.specs.Tables.{parts_in};
 ghost use Rattle.cidr_c.specs.calls.Calls.{IsYesOrNo};
-ghost use Rattle.cidr_c.specs.model.Files.{AreAnsweredIn, IsFileChecked, IsFound, IsFoundAt, IsInSet, IsInSetAt, IsOpened, bytes_at, file_fault_code, file_in, parts_at, table_fault_code, table_from};
+ghost use Rattle.cidr_c.specs.model.Files.{AreAnsweredIn, IsFileChecked, IsFoundInFile, IsFoundInParts, IsInSet, IsInSetAt, IsOpened, bytes_at, file_fault_code, file_in, parts_at, table_fault_code, table_from};
 ghost use Rattle.cidr_c.specs.model.Tables.{no_row};
 ghost use Rattle.cidr_c.specs.model.Values.{IsLow, number_in};
 
@@ -107,7 +107,7 @@ pub extern "C" fn pcidr_file_lookup(
     address: &CValue,
     found: &mut CFound,
 ) -> u32
-    ensures found { IsFound bytes.now file.now address.now found.new }
+    ensures found { IsFoundInFile bytes.now file.now address.now found.new }
     ensures answer { IsYesOrNo result (found.new.row ≢ no_row) }
 {
     *found = found_in(bytes, file, address);
@@ -122,7 +122,7 @@ pub extern "C" fn pcidr_file_lookup_each(
     asked: &[CValue],
     out: &mut [CFound],
 ) -> u32
-    ensures { AreAnsweredIn (IsFound bytes.now file.now) asked.now out.old out.new result }
+    ensures { AreAnsweredIn (IsFoundInFile bytes.now file.now) asked.now out.old out.new result }
 {
     if out.len() < asked.len() {
         return NO_ROOM;
@@ -235,7 +235,7 @@ fn behind(place: usize, size: usize) -> usize
 /// What is found of a value.
 #[inline(always)]
 fn found_in(bytes: &[u8], file: &CFile, asked: &CValue) -> CFound
-    ensures { IsFound bytes.now file.now asked.now result }
+    ensures { IsFoundInFile bytes.now file.now asked.now result }
 {
     if let Some(address) = ipv4_address(asked) {
         return found_at(bytes, &file.ipv4, 4, address);
@@ -250,7 +250,7 @@ fn found_in(bytes: &[u8], file: &CFile, asked: &CValue) -> CFound
 #[inline(always)]
 fn found_at<W: Family>(bytes: &[u8], table: &CFileTable, size: usize, address: W) -> CFound
     requires { size ≤ 16 }
-    ensures { IsFoundAt W.width W.numbers (parts_at size table.now bytes.now) table.now bytes.now (W.value address) result }
+    ensures { IsFoundInParts W.width W.numbers (parts_at size table.now bytes.now) table.now bytes.now (W.value address) result }
 {
     match find(&part_in(bytes, table, size), address) {
         Some(found) => CFound {

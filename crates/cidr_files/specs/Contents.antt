@@ -56,19 +56,19 @@ pub record AreWritable {W : Type 0} (w : ℕ) (value : W → ℕ) (rows : Rows W
 
 -- why rows are not written: too many keys; or else the values don't lie so; or else a key is refused. Memory may be refused
 -- whatever they are
-abbrev pub AreRowsRefused : {W : Type 0} → ℕ → (W → ℕ) → Rows W → WriteError → Type 0
-AreRowsRefused w value rows (Keys TooMany) = 2 ^ 31 ≤ length rows.keys.now
-AreRowsRefused w value rows (Keys (Refused place)) =
+abbrev pub AreRowsUnwritten : {W : Type 0} → ℕ → (W → ℕ) → Rows W → WriteError → Type 0
+AreRowsUnwritten w value rows (Keys TooMany) = 2 ^ 31 ≤ length rows.keys.now
+AreRowsUnwritten w value rows (Keys (Refused place)) =
     (length rows.keys.now < 2 ^ 31) × AreValues rows × IsFirstRefused w (key_networks value rows.keys.now) (Some place)
-AreRowsRefused w value rows (Keys NoRoom) = ⊥
-AreRowsRefused w value rows Values = (length rows.keys.now < 2 ^ 31) × ¬ (AreValues rows)
-AreRowsRefused w value rows NoMemory = ⊤
+AreRowsUnwritten w value rows (Keys NoRoom) = ⊥
+AreRowsUnwritten w value rows Values = (length rows.keys.now < 2 ^ 31) × ¬ (AreValues rows)
+AreRowsUnwritten w value rows NoMemory = ⊤
 
 -- why no file is written: for the IPv4 rows, or else for the IPv6 rows
 abbrev pub IsWriteRefused : Rows (List ℕ) → Rows (List (List ℕ)) → WriteError → Type 0
 IsWriteRefused ipv4 ipv6 error =
-    AreRowsRefused 32 (from_le_bytes w32) ipv4 error
-    ⊎ (AreWritable 32 (from_le_bytes w32) ipv4 × AreRowsRefused 128 wide_word ipv6 error)
+    AreRowsUnwritten 32 (from_le_bytes w32) ipv4 error
+    ⊎ (AreWritable 32 (from_le_bytes w32) ipv4 × AreRowsUnwritten 128 wide_word ipv6 error)
 
 -- ---- what private functions promise each other
 abbrev pub counts_of : {W : Type 0} → Contents W → Counts

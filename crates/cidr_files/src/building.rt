@@ -2,7 +2,7 @@
 ghost use Rattle.std.specs.Prelude.{◌≡◌, ◌+◌, ◌^◌, ◌≤◌, IfErr, IfOk};
 ghost use Rattle.std.specs.Int.{from_le_bytes, w32};
 ghost use Rattle.cidr_files.specs.Built.{AreArraysOf};
-ghost use Rattle.cidr_files.specs.Contents.{AreContents, AreRowsRefused, HasRows, HasZerosBetween, IsWriteRefused};
+ghost use Rattle.cidr_files.specs.Contents.{AreContents, AreRowsUnwritten, HasRows, HasZerosBetween, IsWriteRefused};
 ghost use Rattle.cidr_files.specs.Layout.{ipv4_parts, ipv6_parts, wide_word, wide_words, words};
 ghost use Rattle.cidr_files.specs.Tables.{IsFile, IsSmall};
 
@@ -73,7 +73,7 @@ fn contents_of<'a, W: Family>(rows: &'a Rows<'a, W>, arrays: &'a Arrays<W>) -> C
 /// The arrays of rows.
 fn arrays_of<W: Family>(alloc: Global, rows: &Rows<'_, W>) -> Result<Arrays<W>, WriteError>
     ensures arrays { IfOk result (AreArraysOf W.width W.value rows.now) }
-    ensures refused { IfErr result (AreRowsRefused W.width W.value rows.now) }
+    ensures refused { IfErr result (AreRowsUnwritten W.width W.value rows.now) }
 {
     if rows.keys.len() >= 1 << 31 {
         return Err(WriteError::Keys(BuildError::TooMany));

@@ -21,7 +21,7 @@ use Rattle.cidr.specs.model.Network.{first_of, zeros}
 use Rattle.cidr_arrays.specs.Arrays.{AreAscendingNetworks, AreNetworksUpTo, IsNetwork, Precedes, key_networks}
 use Rattle.cidr_arrays.specs.declared.building.BuildError.TheVariants.{TooMany, Refused, NoRoom}
 use Rattle.cidr_arrays.specs.declared.key.Key.{Key}
-use Rattle.cidr_files.specs.Contents.{AreRowsRefused}
+use Rattle.cidr_files.specs.Contents.{AreRowsUnwritten}
 use Rattle.cidr_files.specs.Tables.{AreOffsets}
 use Rattle.cidr_files.specs.declared.contents.Rows.{Rows}
 use Rattle.cidr_files.specs.declared.faults.WriteError.{WriteError}
@@ -127,7 +127,7 @@ module _ {W : Type 0} (w : ℕ) (value : W → ℕ) (all : List ℕ) (rows : Lis
       (subst (λ (n : ℕ). AreOffsets columns.offsets.items n (length file.values.now)) (sym many_keys)
       (subst (λ (vs : List ℕ). AreOffsets columns.offsets.items (length rows) (length vs)) (sym values) are.offsets))
 
-  pub only_large : (e : WriteError) → e ≢ NoMemory → AreRowsRefused w value file e → AreTooLarge (map (resolved all) rows)
+  pub only_large : (e : WriteError) → e ≢ NoMemory → AreRowsUnwritten w value file e → AreTooLarge (map (resolved all) rows)
   only_large (Keys TooMany) other many = inl (omega (arith, many, many_keys, length-map rows (resolved all)))
   only_large (Keys (Refused place)) other (few, fine, (within, before, refused)) =
       absurd (refused (one_up w (key_networks value file.keys.now) place within are_ascending))

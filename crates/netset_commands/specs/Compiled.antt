@@ -22,7 +22,7 @@ pub record HasTable (table : Family → List (List Bool × List ℕ)) (bytes : L
   pub ipv6 : HasTheRows 128 wide_words (ipv6_parts bytes) (table Ipv6)
 
 -- the same, within the limits of a check
-pub record IsFileOf (table : Family → List (List Bool × List ℕ)) (bytes : List ℕ) : Type 0 where
+pub record IsTableFile (table : Family → List (List Bool × List ℕ)) (bytes : List ℕ) : Type 0 where
   pub has : HasTable table bytes
   pub small : IsSmall bytes
 

@@ -6,7 +6,7 @@ use Rattle.cidr_lists.specs.Lists.{Text}
 use Rattle.cidr_lists.specs.Tables.{IsTable}
 use Rattle.netset_commands.specs.Arguments.{line_request}
 use Rattle.netset_commands.specs.Commands.{Request, Compile}
-use Rattle.netset_commands.specs.Compiled.{IsFileOf}
+use Rattle.netset_commands.specs.Compiled.{IsTableFile}
 use Rattle.netset_commands.specs.Program.{contents_by}
 use Rattle.netset_commands.specs.Saving.{with_file}
 use Rattle.netset_commands.specs.declared.commands.Reading.{Reading}
@@ -17,7 +17,7 @@ use Rattle.netset_commands.specs.declared.output.answers.Verdict.TheVariants.{Ye
 -- a file of the rows of a table was written under this name, and no other
 abbrev pub IsSaved : Option Text → List ℕ → Option (List (List ℕ × List ℕ)) → Option (List (List ℕ × List ℕ)) → Type 0
 IsSaved contents name old new = (bytes : List ℕ) × (new ≡ with_file name bytes old)
-    × ((text : Text) → contents ≡ Some text → (table : Family → List (List Bool × List ℕ)) × IsTable text table × IsFileOf table bytes)
+    × ((text : Text) → contents ≡ Some text → (table : Family → List (List Bool × List ℕ)) × IsTable text table × IsTableFile table bytes)
 
 -- what a request leaves in the folder, by its answer: only `compile` writes a file, if it has an answer
 abbrev pub Leaves : (List ℕ → Option Text) → Request → Option (List (List ℕ × List ℕ)) → Option (List (List ℕ × List ℕ)) → Result Verdict CommandError → Type 0

@@ -103,7 +103,7 @@ IsMatched w networks value bytes address found =
     ⊎ ((found.row ≡ no_row) × IsLongestMatch (prefix_bits w) (bits w address) networks None)
 
 -- what is found in any bytes: a row and bytes of them, or nothing; and in those of a file the longest match of an address
-pub record IsFound (bytes : List ℕ) (file : CFile) (asked : CValue) (found : CFound) : Type 0 where
+pub record IsFoundInFile (bytes : List ℕ) (file : CFile) (asked : CValue) (found : CFound) : Type 0 where
   pub inside : found.value + found.value_len ≤ length bytes
   pub nothing : found.row ≡ no_row → (found.value ≡ 0) × (found.value_len ≡ 0)
   pub within : found.row ≢ no_row → found.row < rows_for file asked
@@ -147,7 +147,7 @@ parts_at size table bytes =
     ∷ bytes_at bytes table.values table.values_len ∷ []
 
 -- what is found in the parts of a table
-pub record IsFoundAt (w : ℕ) (numbers : List ℕ → List ℕ) (parts : List (List ℕ)) (table : CFileTable) (bytes : List ℕ) (address : ℕ) (found : CFound)
+pub record IsFoundInParts (w : ℕ) (numbers : List ℕ → List ℕ) (parts : List (List ℕ)) (table : CFileTable) (bytes : List ℕ) (address : ℕ) (found : CFound)
     : Type 0 where
   pub inside : found.value + found.value_len ≤ length bytes
   pub nothing : found.row ≡ no_row → (found.value ≡ 0) × (found.value_len ≡ 0)

@@ -4,7 +4,7 @@ ghost use Rattle.cidr.specs.model.Bits.{number};
 ghost use Rattle.cidr.specs.model.Network.{first_of};
 ghost use Rattle.cidr_lists.specs.Tables.{kept};
 ghost use Rattle.netset_commands.specs.Columns.{AreColumns, value_bytes};
-ghost use Rattle.netset_commands.specs.Compiled.{IsFileOf, IsTooLarge};
+ghost use Rattle.netset_commands.specs.Compiled.{IsTableFile, IsTooLarge};
 
 use cidr::{Ipv4Cidr, Ipv6Cidr, NetworkBits};
 use cidr_arrays::{Key, Word};
@@ -99,7 +99,7 @@ fn columns_of<W: Family, C: Keyed<W>>(
 /// The bytes of a file of look-ups that has the rows of a table; `None` where it is too large for one: where a family has
 /// 2^31 rows or more, or values of 2^32 bytes or more. The error is that there is no memory.
 pub fn compiled(alloc: Global, table: &Table) -> Result<Option<Vec<u8>>, AllocError>
-    ensures file { IfOk result (λ file. IfSome file (λ bytes. IsFileOf (kept table.now) bytes.items)) }
+    ensures file { IfOk result (λ file. IfSome file (λ bytes. IsTableFile (kept table.now) bytes.items)) }
     ensures large { IfOk result (λ file. IfNone file (IsTooLarge (kept table.now))) }
 {
     let all = table.values.as_slice();
