@@ -1,9 +1,9 @@
 -- What a list of networks says: a network, an address or a range of addresses a line, with white space
 -- around it, and a comment behind it from # or ; on. Line feeds separate lines, so that a last one makes an empty line,
 -- which says nothing. A line of more than 1 MiB is in error, whatever it says.
-use Rattle.std.specs.Prelude.{◌≡◌, ◌≢◌, ◌⊎◌, ℕ, ◌+◌, ◌<◌, ◌==◌, Bool, List, [], ◌∷◌, ◌++◌, length, map, take, IsUtf8, ◌||◌}
+use Rattle.std.specs.Prelude.{◌≡◌, ◌≢◌, ◌⊎◌, ℕ, ◌+◌, ◌==◌, Bool, List, [], ◌∷◌, ◌++◌, length, map, IsUtf8, ◌||◌}
 use Rattle.std.specs.Char.{is_ascii_whitespace}
-use Rattle.std.specs.List.{AllZip, before_first, flat_map, slice_split}
+use Rattle.std.specs.List.{AllZip, before_first, flat_map}
 use Rattle.std.specs.Str.{IsTrimAscii, IsTrimAsciiStart}
 use Rattle.std.specs.declared.cmp.Ordering.TheVariants.{Greater}
 use Rattle.cidr.specs.either.IpAddress.{IsIpText, address_family, ip_address_bits}
@@ -21,6 +21,8 @@ use Rattle.cidr.specs.declared.errors.NetworkParseError.{NetworkParseError}
 use Rattle.cidr.specs.declared.family.Family.{Family}
 use Rattle.cidr.specs.declared.family.Family.TheVariants.{Ipv4, Ipv6}
 use Rattle.cidr.specs.declared.inet.combined.IpInet.{IpInet}
+pub use Rattle.cidr_ext.specs.texts.TextFaults.{hyphen}
+pub use Rattle.cidr_io.specs.Lines.{IsTooLong, is_line_feed, kept_of, lines_of, most_bytes}
 use Rattle.cidr_io.specs.Shown.{byte_excerpt, excerpt}
 use Rattle.cidr_sets.specs.model.Ranges.{IsBetween}
 use Rattle.cidr_sets.specs.model.Sets.{IsSetOf}
@@ -36,30 +38,6 @@ use Rattle.cidr_lists.specs.declared.lines.Content.TheVariants.{Blank, Network, 
 -- # or ;
 abbrev pub is_comment_sign : ℕ → Bool
 is_comment_sign byte = (byte == 35) || (byte == 59)
-
--- `b'-'`
-abbrev pub hyphen : ℕ
-hyphen = 45
-
--- a line feed
-abbrev pub is_line_feed : ℕ → Bool
-is_line_feed byte = byte == 10
-
--- the most bytes of a line, without its line feed: 1 MiB
-abbrev pub most_bytes : ℕ
-most_bytes = 1048576
-
--- the line has more
-abbrev pub IsTooLong : List ℕ → Type 0
-IsTooLong line = most_bytes < length line
-
--- what is kept of a line: of one that is too long as many bytes as show it
-abbrev pub kept_of : List ℕ → List ℕ
-kept_of line = take (most_bytes + 1) line
-
--- the lines of a text: the bytes between line feeds, as far as they are kept
-abbrev pub lines_of : List ℕ → List (List ℕ)
-lines_of text = map kept_of (slice_split is_line_feed text)
 
 -- a list: its bytes, and what is done with a set bit after the prefix of a network
 pub record Text : Type 0 where
