@@ -112,11 +112,7 @@ fn hex_digit(digit: u8) -> char
     ensures value { result ≡ digit_char digit }
     ensures ascii { result < 128 }
 {
-    if digit < 10 {
-        char::from(b'0' + digit)
-    } else {
-        char::from(b'a' + (digit - 10))
-    }
+    char::from_digit(u32::from(digit), 16).unwrap()
 }
 
 /// Appends the domain of the names.

@@ -82,11 +82,7 @@ fn push_decimal(text: &mut ArrayString<72>, n: u8) {
 /// The hexadecimal digit, in lower case.
 #[inline]
 fn hex_digit(digit: u8) -> char {
-    if digit < 10 {
-        char::from(b'0' + digit)
-    } else {
-        char::from(b'a' + (digit - 10))
-    }
+    char::from_digit(u32::from(digit), 16).unwrap()
 }
 
 /// Appends the domain of the names.
