@@ -11,7 +11,6 @@
 #![tactic(auto)]
 
 pub mod access;
-mod count;
 pub mod laws;
 mod lookup;
 mod merging;

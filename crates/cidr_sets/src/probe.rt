@@ -4,10 +4,9 @@ ghost use Rattle.std.specs.Bool.{Decides};
 ghost use Rattle.cidr.specs.model.Network.{BeginsWith};
 ghost use Rattle.cidr_table.specs.model.Cover.{Covers, IsReduced};
 
-use crate::count::{Count, tick, zero_count};
 use crate::search::{is_inside, place};
 use cidr::{BitString, NetworkBits};
-use cidr_table::Probe;
+use cidr_table::{Count, Probe};
 use std::cmp::Ordering;
 use std::marker::Model;
 
@@ -54,7 +53,7 @@ impl<'a, C> Networks<'a, C> {
     {
         Networks {
             networks,
-            count: zero_count(),
+            count: Count::zero(),
         }
     }
 }
@@ -69,14 +68,14 @@ impl<'a, C: Ord> Probe<C> for Networks<'a, C> {
     }
 
     fn compare(&mut self, i: usize, key: &C) -> Ordering {
-        tick(&mut self.count);
+        self.count.tick();
         self.networks[i].cmp(key)
     }
 }
 
 impl<'a, C: NetworkBits> NetworkProbe<C> for Networks<'a, C> {
     fn contains_at(&mut self, i: usize, network: &C) -> bool {
-        tick(&mut self.count);
+        self.count.tick();
         is_inside(network, &self.networks[i])
     }
 }

@@ -2,7 +2,7 @@
 ghost use Rattle.std.specs.Prelude.{◌≡◌};
 ghost use Rattle.std.specs.Map.{keys_of};
 
-use crate::count::{Count, tick, zero_count};
+use crate::count::Count;
 use crate::probe::Probe;
 use std::cmp::Ordering;
 use std::marker::Model;
@@ -31,7 +31,7 @@ impl<'a, C, V> Rows<'a, C, V> {
     {
         Rows {
             rows,
-            count: zero_count(),
+            count: Count::zero(),
         }
     }
 }
@@ -46,7 +46,7 @@ impl<'a, C: Ord, V> Probe<C> for Rows<'a, C, V> {
     }
 
     fn compare(&mut self, i: usize, key: &C) -> Ordering {
-        tick(&mut self.count);
+        self.count.tick();
         let row = &self.rows[i];
         row.0.cmp(key)
     }

@@ -30,7 +30,6 @@ pub mod alloc;
 mod checks;
 
 pub mod access;
-mod count;
 mod lookup;
 mod merging;
 mod neighbours;

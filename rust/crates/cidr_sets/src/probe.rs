@@ -1,9 +1,8 @@
 //! The look-up in a set, whose comparisons are counted.
 
-use crate::count::{Count, tick, zero_count};
 use crate::search::{is_inside, place};
 use cidr::{BitString, NetworkBits};
-use cidr_table::Probe;
+use cidr_table::{Count, Probe};
 use core::cmp::Ordering;
 
 /// The one way to the networks of a set, for `contains`: the `Probe` of a table, which also tells whether a network
@@ -39,7 +38,7 @@ impl<'a, C> Networks<'a, C> {
     pub(crate) fn new(networks: &'a [C]) -> Self {
         Networks {
             networks,
-            count: zero_count(),
+            count: Count::zero(),
         }
     }
 }
@@ -52,7 +51,7 @@ impl<'a, C: Ord> Probe<C> for Networks<'a, C> {
 
     #[inline]
     fn compare(&mut self, i: usize, key: &C) -> Ordering {
-        tick(&mut self.count);
+        self.count.tick();
         self.networks[i].cmp(key)
     }
 }
@@ -60,7 +59,7 @@ impl<'a, C: Ord> Probe<C> for Networks<'a, C> {
 impl<'a, C: NetworkBits> NetworkProbe<C> for Networks<'a, C> {
     #[inline]
     fn contains_at(&mut self, i: usize, network: &C) -> bool {
-        tick(&mut self.count);
+        self.count.tick();
         is_inside(network, &self.networks[i])
     }
 }

@@ -103,9 +103,9 @@
 //! `get_mut`, `lookup_mut` and `value_mut` return a reference to a value, for writing in its row, and `for_each_mut`
 //! calls a closure with each: no key changes, and nothing is allocated.
 //!
-//! `longest_match` is a function over any `Probe`, which counts the comparisons with keys. With n the number of rows
-//! and d that of the binary digits of n, it makes at most `(len + 1) * d` of them, where `len` is the number of bits
-//! that are looked up.
+//! `longest_match` is a function over any `Probe`, which counts the comparisons with keys by a `Count`. With n the number
+//! of rows and d that of the binary digits of n, it makes at most `(len + 1) * d` of them, where `len` is the number of
+//! bits that are looked up.
 //!
 //! # What is proved
 //!
@@ -134,6 +134,7 @@ mod search;
 mod sorting;
 mod table;
 
+pub use count::Count;
 pub use lookup::longest_match;
 pub use probe::Probe;
 pub use rows::Rows;

@@ -1,6 +1,6 @@
 //! The rows of a table as a probe.
 
-use crate::count::{Count, tick, zero_count};
+use crate::count::Count;
 use crate::probe::Probe;
 use core::cmp::Ordering;
 
@@ -17,7 +17,7 @@ impl<'a, C, V> Rows<'a, C, V> {
     pub(crate) fn new(rows: &'a [(C, V)]) -> Self {
         Rows {
             rows,
-            count: zero_count(),
+            count: Count::zero(),
         }
     }
 }
@@ -30,7 +30,7 @@ impl<'a, C: Ord, V> Probe<C> for Rows<'a, C, V> {
 
     #[inline]
     fn compare(&mut self, i: usize, key: &C) -> Ordering {
-        tick(&mut self.count);
+        self.count.tick();
         let row = &self.rows[i];
         row.0.cmp(key)
     }

@@ -10,10 +10,10 @@ use denote.Ref.{MutRef, mut_vals, mut_Tells}
 use denote.Signature.{plain}
 use denote.Steps.{nothing, opens, closes}
 use denote.Triple.Walked.{Stays, walk_of, says, stay_ref, Goes-ref, ends_at}
-use Rattle.cidr_sets.specs.contracts.count.Count.{the_row as R}
-use Rattle.cidr_sets.specs.contracts.count.tick as f
-use Rattle.cidr_sets.proofs.count.tick.Statement.{statement}
-use Rattle.cidr_sets.proofs.count.tick.Code as code
+use Rattle.cidr_table.specs.contracts.count.Count.{the_row as R}
+use Rattle.cidr_table.specs.contracts.count.Count.tick as f
+use Rattle.cidr_table.proofs.count.Count.tick.Statement.{statement}
+use Rattle.cidr_table.proofs.count.Count.tick.Code as code
 
 abbrev stayed : Stays f.ended.signature.params f.ended.kept
 stayed = (stay_ref (0 ∷ []) tt (plain (λ _. R)), tt)

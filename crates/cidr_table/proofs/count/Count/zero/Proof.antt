@@ -11,15 +11,15 @@ use denote.Steps.{nothing}
 use denote.Triple.Entry.{on_entry}
 use denote.Triple.Walked.{Stays, walk_of, says, ends_at}
 use Rattle.cidr_table.specs.contracts.count.Count.{the_row as R}
-use Rattle.cidr_table.specs.contracts.count.zero_count as f
-use Rattle.cidr_table.proofs.count.zero_count.Statement.{statement}
-use Rattle.cidr_table.proofs.count.zero_count.Code as code
+use Rattle.cidr_table.specs.contracts.count.Count.zero as f
+use Rattle.cidr_table.proofs.count.Count.zero.Statement.{statement}
+use Rattle.cidr_table.proofs.count.Count.zero.Code as code
 
 abbrev stayed : Stays f.ended.signature.params f.ended.kept
 stayed = tt
 
-pub zero_count_spec : {M : Type 1} → statement M
-zero_count_spec 𝓤 𝓛 𝓜 𝓡 wired =
+pub zero_spec : {M : Type 1} → statement M
+zero_spec 𝓤 𝓛 𝓜 𝓡 wired =
     let c = f.clauses 𝓛 𝓜.mem 𝓡.returns in let W = walk_of 𝓛 f.ended stayed c in
     proved 𝓛 f.ended stayed c 𝓜 𝓡 tt
     f.Key.name code.function (code.unfolded 𝓤 𝓛.H 𝓜 𝓡 wired)
