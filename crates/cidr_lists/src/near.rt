@@ -9,13 +9,13 @@ ghost use Rattle.std.specs.Prelude.{◌≡◌, ◌+◌, ◌<◌, ◌↔◌, Cont
 ghost use Rattle.std.specs.Bool.{Decides};
 ghost use Rattle.std.specs.Option.{option_map};
 ghost use Rattle.cidr.specs.declared.cidr.combined.IpCidr.{IpCidr as Network};
-ghost use Rattle.cidr.specs.model.Network.{BeginsWith};
 ghost use Rattle.cidr_lists.specs.Findings.{entry_network};
 ghost use Rattle.cidr_lists.specs.Nearness.{AreRowsInOrder, AreNearKept, AreNear, AreNumbered, AreOthersSame, AreRows, ClosesAll, IsClosedHalf, IsLast, IsNear, IsPassed, IsSameRow, PutsFirst, PutsHalf};
 
 use crate::entries::{Entry, entry_at};
 use cidr::{IpCidr, Ipv4Cidr, Ipv6Cidr, NetworkBits};
 use cidr_ext::NetworkExt;
+use cidr_sets::is_inside;
 use std::alloc::{AllocError, Global};
 
 /// What stands near the network of a line. A line is told by its index, from 0 on, among those that have a network or a
@@ -75,13 +75,6 @@ fn nothing_near(alloc: Global, count: usize) -> Result<Vec<Near>, AllocError>
         })?;
     }
     Ok(near)
-}
-
-/// Whether a network is inside the outer one, or the same.
-fn is_inside<C: NetworkBits>(network: &C, outer: &C) -> bool
-    ensures { Decides result (BeginsWith (C.bits network.now) (C.bits outer.now)) }
-{
-    network.shared_prefix_len(outer) == outer.len()
 }
 
 /// Whether two networks are the same.

@@ -29,7 +29,12 @@ pub fn place<C: NetworkBits, P: Probe<C>>(networks: &mut P, network: &C) -> usiz
     low
 }
 
-/// Whether the bits of a network begin with those of the outer one.
+/// Whether a network is inside the outer one or the same: whether its bits begin with those of the outer one.
+///
+/// ```
+/// is_inside::<Ipv4Cidr>(&"10.1.0.0/16".parse()?, &"10.0.0.0/8".parse()?) // true
+/// is_inside::<Ipv4Cidr>(&"10.0.0.0/8".parse()?, &"10.1.0.0/16".parse()?) // false
+/// ```
 pub fn is_inside<C: BitString>(network: &C, outer: &C) -> bool
     ensures { Decides result (BeginsWith (C.bits network.now) (C.bits outer.now)) }
 {

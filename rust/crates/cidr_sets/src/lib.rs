@@ -46,5 +46,6 @@ mod walk;
 pub use pools::PoolNetwork;
 pub use probe::{NetworkProbe, Networks, contains};
 pub use ranges::{AddressRange, Addressed, Ranges};
+pub use search::is_inside;
 pub use set::NetworkSet;
 pub use walk::{AddressSpace, SetAddresses};
