@@ -48,6 +48,11 @@ step starts number at next half to result ascending near behind some le (inl e) 
 step starts number at next half to result ascending near behind some le (inr e) cases =
     nearer starts number at next (half + half) half to result ascending near behind le some (inr e) cases
 
+-- what a look leads to is no further than where it was made
+pub no_further : {A B : Type 0} (at next result : ℕ) → at ≤ next → ((result ≡ next) × A) ⊎ ((result ≡ at) × B) → result ≤ next
+no_further at next result le (inl found) = omega (arith, found.0)
+no_further at next result le (inr found) = omega (arith, found.0)
+
 -- among more
 pub wider : (starts : List ℕ) (number at reach reach' : ℕ) → IsNear starts number at reach → reach ≤ reach' → IsNear starts number at reach'
 wider starts number at reach reach' near le = record { upto = near.upto; behind = λ i l lt. near.behind i (omega arith) lt }

@@ -37,7 +37,7 @@ pub fn lookup<W: Word>(
 }
 
 /// What [`lookup`] returns, of arrays whose answers and entries are numbers of another type, such as the bytes that a
-/// file has.
+/// file has, and of `rows` keys or fewer.
 #[inline(always)]
 pub fn longest_match<W: Word, I: Index>(
     starts: &[W],
@@ -48,7 +48,7 @@ pub fn longest_match<W: Word, I: Index>(
     address: W,
 ) -> Option<usize>
     ensures within { IfSome result (λ row. row < rows) }
-    ensures longest { (networks : List (ℕ × ℕ)) → length networks ≡ rows
+    ensures longest { (networks : List (ℕ × ℕ)) → length networks ≤ rows
         → Represents W.width networks (map W.value starts.now) (map I.place answers.now) (map I.place level.now) shift
         → IsLongestMatch (prefix_bits W.width) (bits W.width (W.value address)) networks result }
 {
@@ -92,6 +92,11 @@ pub(crate) fn range_of<W: Word, I: Index>(starts: &[W], level: &[I], shift: u32,
         let half = left / 2;
         at = later(starts, at, at + half, number);
         left -= half;
+    }
+    if starts.len() - at >= 8 {
+        at = later(starts, at, at + 4, number);
+        at = later(starts, at, at + 2, number);
+        return later(starts, at, at + 1, number);
     }
     at = later(starts, at, ahead(at, to, 4), number);
     at = later(starts, at, ahead(at, to, 2), number);

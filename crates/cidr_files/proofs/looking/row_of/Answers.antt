@@ -37,7 +37,7 @@ returns-clause-longest g c = λ good.
       length-map c.addresses-addresses.result.now g.W.Word.value,
       c.min-rows.ensures,
     ) in
-    c.longest_match.ensures.longest networks rows
+    c.longest_match.ensures.longest networks (omega (arith, rows))
     (subst (λ (xs : List ℕ). Represents w networks xs (map (from_le_bytes w32) c.as_chunks.result.0.now) (map (from_le_bytes w32) c.as_chunks-2.result.0.now) p.shift) (sym starts.ensures)
     (subst (λ (xs : List ℕ). Represents w networks (g.W.Family.numbers p.starts.now) xs (map (from_le_bytes w32) c.as_chunks-2.result.0.now) p.shift) (sym answers)
     (subst (λ (xs : List ℕ). Represents w networks (g.W.Family.numbers p.starts.now) (words p.answers.now) xs p.shift) (sym level) good)))
