@@ -141,5 +141,11 @@ fi
 # ---- Python
 
 "$python/check.sh" "$lib/libpcidr.so" || status=1
+# A file that C wrote, by Python, and one that Python wrote, by C.
+export PCIDR_LIBRARY=$lib/libpcidr.so PYTHONPATH=$python
+python3 "$python/examples/stored.py" "$room/names" 10.1.2.3 2001:db8::1 |
+    cmp - <(printf '10.1.2.3 is in 10.1.0.0/16: inner\n2001:db8::1 is in 2001:db8::/32: documentation\n') || wrong "a file of C, from Python"
+python3 -c 'import sys; from pcidr import Table; Table({"10.0.0.0/8": "core", "10.1.0.0/16": "edge"}).save(sys.argv[1])' "$room/saved"
+"$room/file.checked" "$room/saved" 10.1.2.3 10.2.0.0 | cmp - <(printf '10.1.2.3: edge\n10.2.0.0: core\n') || wrong "a file of Python, from C"
 ((status == 0)) && echo "cidr_c: the library for C and Python runs as wanted"
 exit "$status"

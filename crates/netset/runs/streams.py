@@ -3,6 +3,7 @@
 that append to one file, answers before more is read, terminals, and a pipe that nobody reads. Prints nothing where all
 is as wanted, and else what differs, and ends with status 1."""
 import contextlib
+import glob
 import os
 import pty
 import re
@@ -211,6 +212,30 @@ def closed_pipes():
     wanted("split | head -1", (first.returncode, first.stdout, first.stderr) == (3, b"10.0.0.0\n", b""), first)
 
 
+def killed_while_it_compiles():
+    """A run of `compile` that is killed, at any time, leaves a whole file: the old one, or the new one."""
+    with open("rows", "wb") as it:
+        it.writelines(b"%d.%d.%d.0/24 %d\n" % (1 + number % 200, number >> 8 & 255, number & 255, number) for number in range(20_000))
+    wholes = []
+    began = time.monotonic()
+    for table in ("rows", "owners"):
+        subprocess.run([PROGRAM, "compile", table, "compiled"], check=False)
+        with open("compiled", "rb") as it:
+            wholes.append(it.read())
+    took = time.monotonic() - began
+    wanted("compile: two files", len(set(wholes)) == 2, [len(it) for it in wholes])
+    for turn in range(60):
+        process = start(["compile", "rows", "compiled"])
+        time.sleep(took * turn / 50)
+        process.kill()
+        process.wait()
+        with open("compiled", "rb") as it:
+            got = it.read()
+        wanted(f"compile, killed after {turn} of 50 parts of its time", got in wholes, len(got))
+        for name in glob.glob("compiled.new*"):
+            os.remove(name)
+
+
 def little_stack():
     """Each command with a stack of 192 KB."""
     def limit():
@@ -236,7 +261,7 @@ def main():
                            ("owners", b"10.0.0.0/8 ten\n")):
             with open(name, "wb") as it:
                 it.write(text)
-        for test in (one_call_a_line, two_runs_append, answers_before_more_is_read, terminals, closed_pipes, little_stack):
+        for test in (one_call_a_line, two_runs_append, answers_before_more_is_read, terminals, closed_pipes, killed_while_it_compiles, little_stack):
             test()
     for line in WRONG:
         print(f"{os.path.basename(PROGRAM)}: {line}", file=sys.stderr)
