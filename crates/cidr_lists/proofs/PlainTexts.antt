@@ -1,10 +1,11 @@
 -- The string of a network has no comment sign, no hyphen and no white space.
-use Rattle.std.proofs.Common.{◌≡◌, ◌≢◌, sym, ◌∙◌, ap, subst, arith, inl, inr, ◌⊎◌, ℕ, zero, suc, ◌-◌, ◌<◌, ◌≤◌, Bool, false, List, [], ◌∷◌, ◌++◌, drop, length, slice_index_or}
+use Rattle.std.proofs.Common.{◌≡◌, ◌≢◌, refl, sym, ◌∙◌, ap, subst, arith, inl, inr, ◌⊎◌, ℕ, zero, suc, ◌-◌, ◌<◌, ◌≤◌, Bool, false, List, [], ◌∷◌, ◌++◌, drop, length, slice_index_or}
 use Rattle.std.specs.Char.{digit_value, is_ascii_whitespace}
-use Rattle.std.specs.Str.{IsTrimAscii}
+use Rattle.std.specs.Str.{IsTrimAscii, IsTrimAsciiStart}
 use Rattle.std.proofs.lemmas.Grind.{common_steps}
 use Rattle.std.proofs.lemmas.Bool.{cases_lt, true≢false}
-use Rattle.std.proofs.lemmas.List.{length-drop, length-take, nil_from_length, take_all}
+use Rattle.std.proofs.lemmas.List.{drop_all, length-drop, length-take, nil_from_length, take_all}
+use Rattle.cidr.specs.either.IpAddress.{IsIpText}
 use Rattle.cidr.specs.either.IpText.{IsIpHostText}
 use Rattle.cidr.specs.texts.AddressText.{IsAddressText}
 use Rattle.cidr.specs.texts.HostText.{IsHostText}
@@ -13,6 +14,8 @@ use Rattle.cidr.specs.texts.Ipv6Text.{IsDottedPair, IsEightGroups, IsGroups, IsN
 use Rattle.cidr.specs.texts.NetworkText.{IsLengthText, IsNetworkText, plus, slash}
 use Rattle.cidr.specs.texts.Refusal.{Lacks}
 use Rattle.cidr.specs.model.Host.{Host}
+use Rattle.cidr.specs.declared.addr.ip.IpAddr.{IpAddr}
+use Rattle.cidr.specs.declared.addr.ip.IpAddr.TheVariants as address
 use Rattle.cidr.specs.declared.cidr.combined.IpCidr.{IpCidr}
 use Rattle.cidr.specs.declared.cidr.combined.IpCidr.TheVariants.{V4, V6}
 use Rattle.cidr.specs.declared.family.Family.{Family}
@@ -21,6 +24,7 @@ use Rattle.cidr.specs.declared.inet.combined.IpInet.{IpInet}
 use Rattle.cidr.specs.declared.inet.combined.IpInet.TheVariants as host
 use Rattle.cidr.proofs.Cuts.{Lacks-append, Lacks-cons, Lacks-digits, Lacks-length}
 use Rattle.cidr.proofs.Ipv4Grammar.{Lacks-joined, Lacks-octet}
+use Rattle.cidr_lists.specs.Fields.{IsSplit}
 use Rattle.cidr_lists.specs.Lists.{IsField, IsNetworkBy, hyphen, is_comment_sign}
 use Rattle.cidr_lists.specs.declared.lines.HostBits.{HostBits}
 use Rattle.cidr_lists.specs.declared.lines.HostBits.TheVariants.{Refused, Cleared}
@@ -114,6 +118,16 @@ one_trim bytes field plain (suc m, whole, below, here, from, last) = elim (cases
       nil_from_length field empty ∙ sym (nil_from_length bytes (omega (arith, none)))
 ]
 
+nothing_trimmed : IsTrimAscii [] []
+nothing_trimmed = (
+  0,
+  refl,
+  λ i below. absurd (omega (arith, below)),
+  λ some. absurd (omega (arith, some)),
+  λ i from within. absurd (omega (arith, from, within)),
+  λ some. absurd (omega (arith, some)),
+)
+
 -- a network is its line's field
 module _ (bits : HostBits) (line : List ℕ) (network : IpCidr) (is : IsNetworkBy bits line network) where
   lacks : (c : ℕ) → 16 ≤ digit_value c → dot ≢ c → colon ≢ c → slash ≢ c → plus ≢ c → Lacks c line
@@ -151,8 +165,28 @@ module _ (bits : HostBits) (line : List ℕ) (network : IpCidr) (is : IsNetworkB
   pub no_hyphen : Lacks hyphen line
   no_hyphen = lacks hyphen (omega arith) (omega arith) (omega arith) (omega arith) (omega arith)
 
+  starts : IsTrimAsciiStart line line
+  starts = (0, refl, omega arith, λ i below. absurd (omega (arith, below)), λ some. unspaced 0 some)
+
+  -- its first field, and nothing behind that
+  pub is_split : line ≢ [] → IsSplit line line []
+  is_split some = (
+    line,
+    is_field,
+    some,
+    (
+      (line, starts, uncut is_ascii_whitespace line (length line) unspaced (omega arith)),
+      subst (λ (k : List ℕ). IsTrimAscii k []) (sym (drop_all (length line) line (omega arith))) nothing_trimmed,
+    ),
+  )
+
   -- and has no other field
   pub one_field : (field : List ℕ) → IsField line field → field ≡ line
   one_field field h =
       one_trim line field unspaced
       (subst (λ (k : List ℕ). IsTrimAscii k field) (sym (uncut is_comment_sign line (length line) uncommented (omega arith))) h)
+
+-- and so is an address
+pub address_split : (line : List ℕ) (address : IpAddr) → line ≢ [] → IsIpText line address → IsSplit line line []
+address_split line (address.V4 a) some h = is_split Refused line (V4 a) (inl h) some
+address_split line (address.V6 a) some h = is_split Refused line (V6 a) (inl h) some

@@ -1,7 +1,9 @@
 -- The fields of a line: of a row of a table, of a line that is looked up, and of one that is picked.
 use Rattle.std.specs.Prelude.{ℕ, List, [], Option, Some, None, ◌≡◌, ◌≢◌, length, drop, IsUtf8, Result, Ok, Err}
 use Rattle.std.specs.Str.{IsTrimAscii}
+use Rattle.cidr.specs.either.IpAddress.{IsIpText}
 use Rattle.cidr.specs.either.IpText.{IsIpNetworkText}
+use Rattle.cidr.specs.declared.addr.ip.IpAddr.{IpAddr}
 use Rattle.cidr.specs.declared.cidr.combined.IpCidr.{IpCidr}
 use Rattle.cidr_io.specs.Shown.{byte_excerpt}
 use Rattle.cidr_lists.specs.Lists.{IsFirstField, SaysNothing, IsBadLineBy, IsField, IsNoAddressBy, IsNoNetworkBy}
@@ -62,6 +64,16 @@ HasBadAddress line e = (first : List ℕ) × (rest : List ℕ) × IsSplit line f
 
 abbrev pub IsBadLine : List ℕ → LineError → Type 0
 IsBadLine line e = IsBadLineBy HasBadAddress line e
+
+-- the line says nothing, or its first field is this address
+abbrev pub AddressSays : List ℕ → Option IpAddr → Type 0
+AddressSays line None = IsField line []
+AddressSays line (Some address) = (first : List ℕ) × (rest : List ℕ) × IsSplit line first rest × IsIpText first address
+
+-- the same, or its error
+abbrev pub ReadsAddress : List ℕ → Result (Option IpAddr) LineError → Type 0
+ReadsAddress line (Ok said) = AddressSays line said
+ReadsAddress line (Err e) = HasBadAddress line e
 
 -- what the first field of a line says, or its error
 abbrev pub ReadsFirstField : List ℕ → Result (Option IpCidr) LineError → Type 0

@@ -1,9 +1,9 @@
 //! The fields of a line.
-ghost use Rattle.std.specs.Prelude.{◌≤◌, [], length, MatchOption, MatchResult};
+ghost use Rattle.std.specs.Prelude.{◌≤◌, [], length, IfSome, MatchOption, MatchResult};
 ghost use Rattle.std.specs.Bool.{Decides};
 ghost use Rattle.cidr.specs.either.IpAddress.{IsIpText};
 ghost use Rattle.cidr_lists.specs.Lists.{IsField, IsFirstField, IsNetworkBy, SaysNothing};
-ghost use Rattle.cidr_lists.specs.Fields.{AreFirstAndRest, IsNoAddressField, IsNoNetworkField, IsNoRow, IsRowSplit, IsSplit};
+ghost use Rattle.cidr_lists.specs.Fields.{AreFirstAndRest, IsNoAddressField, IsNoNetworkField, IsNoRow, IsRowSplit, IsSplit, ReadsAddress};
 
 use crate::errors::{BadText, LineError};
 use crate::lines::{HostBits, is_comment_sign, network_of, without_comment};
@@ -95,5 +95,38 @@ pub fn address_in(field: &[u8]) -> Result<IpAddr, LineError>
     match text.parse::<IpAddr>() {
         Ok(address) => Ok(address),
         Err(e) => Err(LineError::NoAddress(BadText::new(text), e)),
+    }
+}
+
+/// The address that a whole line is, without white space and comments.
+fn whole_address(line: &[u8]) -> Option<IpAddr>
+    ensures { IfSome result (IsIpText line.now) }
+{
+    let Ok(text) = str::from_utf8(line) else {
+        return None;
+    };
+    match text.parse::<IpAddr>() {
+        Ok(address) => Some(address),
+        Err(_) => None,
+    }
+}
+
+/// The address that the first field of a line is; `None` for a line that is blank or a comment alone. The errors are
+/// `NotUtf8` of the field, and then `NoAddress`. A line of more than 1 MiB is for the caller to find.
+pub fn address_of(line: &[u8]) -> Result<Option<IpAddr>, LineError>
+    ensures { ReadsAddress line.now result }
+{
+    // most lines are an address and nothing else, and this is the shortest way to it
+    if !line.is_empty() {
+        if let Some(address) = whole_address(line) {
+            return Ok(Some(address));
+        }
+    }
+    let Some((first, _)) = split_line(line) else {
+        return Ok(None);
+    };
+    match address_in(first) {
+        Ok(address) => Ok(Some(address)),
+        Err(e) => Err(e),
     }
 }
