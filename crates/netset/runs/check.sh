@@ -331,6 +331,8 @@ rows_of_input_twice() {
     run 2 '' "$twice" '' check - -
     run 2 '' "$twice" '10.0.0.0/8' match - -
     run 2 '' "$twice" '10.0.0.0/8' match -
+    run 2 '' "$twice" '10.0.0.0/8' match ten - seen -
+    run 2 '' "$twice" '10.0.0.0/8' match - ten -
     run 2 '' "$twice" '10.0.0.0/8 x' look -
     run 2 '' $'-: one argument too many, see: netset help diff\n' '10.0.0.0/8' diff - - -
 }
@@ -453,8 +455,42 @@ rows_of_matches() {
     run 2 '' $'LIST is missing, see: netset help match\n' '' match -v
     run 2 '' $'-x: no such option, see: netset help match\n' '' match -x ten
     run 1 '' '' '' match ten -v
-    run 2 '' $'-: one argument too many, see: netset help match\n' '' match ten ten -
     run 1 '' '' '' match -- ten
+}
+
+# The lines of several files, each behind the name of its file. What `grep` writes of them is what is wanted.
+rows_of_several_files() {
+    local bad=$': x: couldn\'t parse address in network: invalid IP address syntax\n' wanted
+    wanted=$(cd "$room" && grep '^10\.' seen again)$'\n'
+    run 0 "$wanted" '' '' match ten seen again
+    wanted=$(cd "$room" && grep '10\.' seen again)$'\n'
+    run 0 "$wanted" '' '' match --any ten seen again
+    wanted=$(cd "$room" && grep '^10\.' again nothing seen address)$'\n'
+    run 0 "$wanted" '' '' match ten again nothing seen address
+    wanted=$(cd "$room" && grep -v '^10\.' seen again)$'\n'
+    run 0 "$wanted" '' '' match -v ten seen again
+    wanted=$(cd "$room" && grep -c '^10\.' seen nothing again)$'\n'
+    run 0 "$wanted" '' '' match -c ten seen nothing again
+    wanted=$(cd "$room" && grep -c '^12\.' seen nothing || true)$'\n'
+    run 1 "$wanted" '' '' match -c eight seen nothing
+    run 1 '' '' '' match eight seen again nothing
+    run 0 $'-:10.0.0.2\n./seen:10.0.0.1 a\n./seen:10.2.0.0/16 c\n' '' '10.0.0.2\n11.0.0.1' match ten - ./seen
+    run 0 $'ten:10.0.0.0/8\nten:10.0.0.0/8\n' '' '' match ten ten ten
+    run 0 $'two\nlines:10.0.0.1/8\nten:10.0.0.0/8\n' '' '' match --any ten $'two\nlines' ten
+    run 0 '' '' '' match -q ten seen missing
+    run 0 '' '' '' match -q ten nothing seen missing
+    run 1 '' '' '' match -q eight seen again nothing
+    # the first file in error is the last one
+    run 2 $'seen:10.0.0.1 a\nseen:10.2.0.0/16 c\n' $'missing: no such file\n' '' match ten seen missing again
+    run 2 '' $'missing: no such file\n' '' match ten missing seen
+    run 2 $'seen:10.0.0.1 a\nseen:10.2.0.0/16 c\n-:10.0.0.2\n' "-:2$bad" '10.0.0.2\nx\n10.0.0.3' match ten seen - again
+    run 2 $'seen:2\n' "-:2$bad" '10.0.0.2\nx\n10.0.0.3' match -c ten seen -
+    run 2 '' "-:1$bad" 'x' match -q eight seen - missing
+    run 2 '' "-:1$bad" 'x' match -v ten - seen
+    run 2 $'seen:10.0.0.1 a\nseen:10.2.0.0/16 c\n' $'.: is a directory\n' '' match ten seen .
+    run 2 '' $'bad:1: 10.0.0.0/x: couldn\'t parse length in network: invalid length text\n' '' match bad missing seen
+    run 2 '' $'bad:1: 10.0.0.0/x: couldn\'t parse length in network: invalid length text\n' '' match -k bad missing seen
+    run 0 $'seen:10.0.0.1 a\nseen:10.2.0.0/16 c\nten:10.0.0.0/8\n' '' '' match -k ten seen ten
 }
 
 # The longest networks of addresses.
@@ -700,6 +736,9 @@ rows_where_a_stream_fails() {
     run 3 '' $'output failed\n' '10.0.0.1' match -c ten
     run 3 '' $'output failed\n' '(10.0.0.1)' match --any ten
     run 0 '' '' '10.0.0.1' match -q ten
+    run 3 '' $'output failed\n' '' match ten seen missing
+    run 3 '' $'output failed\n' '' match -c ten nothing missing
+    run 2 '' $'missing: no such file\n' '' match ten nothing missing
     run 3 '' $'output failed\n' '' show ::1
     run 3 '' $'output failed\n' '' split ::/0 128
     run 3 '' $'output failed\n' '' nth ::/0 1
@@ -920,6 +959,7 @@ rows_without_memory() {
     refuse '10.0.0.0/9\n' which 10.0.0.1 -
     refuse '10.0.0.1\n::1 x\n11.0.0.1' match ten_and_eight
     refuse '10.0.0.1\n11.0.0.1' match -c -v both
+    refuse '10.0.0.1\n11.0.0.1' match ten_and_eight seen - again
     refuse '10.0.0.1\n11.0.0.1\n2001:db8::1' look owners
     refuse '10.0.0.0/8 x\n10.0.0.0/7\n2001:db8::/32 y' compile - compiled
     refuse '10.0.0.1\n11.0.0.1\n2001:db8::1' look one
@@ -941,6 +981,8 @@ printf '10.0.0.0/8 ten\n10.1.0.0/16\tfirst\r\n\n# 10.2.0.0/16 x\n10.1.0.0/16  x 
 printf '10.0.0.7/8\n' >"$room/hosts"
 printf '11.0.0.0/8\n' >"$room/-list"
 printf '10.0.0.1\n' >"$room/address"
+printf '10.0.0.1 a\n11.0.0.1 b\n10.2.0.0/16 c\n' >"$room/seen"
+printf '12.0.0.0/8\n\n10.0.0.9\n# 10.0.0.1\n10.0.0.8' >"$room/again"
 printf '10.0.0.1/8\n' >"$room/"$'two\nlines'
 seq 0 255 | awk '{ print "10.1." $1 ".0/24 " $1 }' >"$room/parts"
 output_file=$room/output
@@ -961,6 +1003,7 @@ for build in netset netset.by-rattle; do
     rows_of_pools
     rows_of_findings
     rows_of_matches
+    rows_of_several_files
     rows_of_look_ups
     rows_of_compiled_tables
     rows_of_stored_tables

@@ -5,7 +5,7 @@ use Rattle.cidr_io.specs.Writing.{State, Whole, Answered, Tells}
 use Rattle.cidr_io.specs.declared.sink.OutputFailed.{OutputFailed}
 use Rattle.cidr_lists.specs.Lists.{Text}
 use Rattle.netset_commands.specs.Arguments.{line_request}
-use Rattle.netset_commands.specs.Commands.{Request, Lists, Styled, NotIn, Diff, Free, Split, Check, Which, Match, Look, Compile, Describe, Single, Help, Version, IsAnswer, reading_of}
+use Rattle.netset_commands.specs.Commands.{Request, Lists, Styled, NotIn, Diff, Free, Split, Check, Which, Match, MatchEach, Look, Compile, Describe, Single, Help, Version, IsAnswer, reading_of}
 use Rattle.netset_commands.specs.Program.{AnswersRequest, AnswersWhole, IsRequestRefused, KeepsGoing, Reports, Runs, RunsLine, RunsRequest, answer_status, by_output, status_of, contents_by}
 use Rattle.netset_commands.specs.Typed.{HasAnswered, AnswersTyped}
 use Rattle.netset_commands.specs.declared.output.answers.Verdict.{Verdict}
@@ -54,7 +54,7 @@ answer_of verdict (Err e) ends = absurd (never_error verdict e ends)
 never_refused : (contents : List ℕ → Option Text) (request : Request) (verdict : Verdict) → ¬ (IsRequestRefused contents request (Ok verdict))
 never_refused contents request verdict h = h
 
-written_whole : (out new : State) (answer : List ℕ) (was verdict : Verdict) (w : Result (Unit {0}) OutputFailed) → Ok verdict ≡ by_output was w
+pub written_whole : (out new : State) (answer : List ℕ) (was verdict : Verdict) (w : Result (Unit {0}) OutputFailed) → Ok verdict ≡ by_output was w
     → Answered out new answer w → (was ≡ verdict) × Whole out new answer
 written_whole out new answer was verdict (Ok a) by h =
     let same : was ≡ verdict = cc in
@@ -88,6 +88,8 @@ answer_done contents (Check files) verdict out new h = whole_done contents (Chec
 answer_done contents (Which address files) verdict out new h = whole_done contents (Which address files) verdict out new h
 answer_done contents (Match options list file) verdict out new (inl h) = whole_done contents (Match options list file) verdict out new h
 answer_done contents (Match options list file) verdict out new (inr (e, is, of, answer, written, belongs)) = cc
+answer_done contents (MatchEach options list files) verdict out new (inl h) = whole_done contents (MatchEach options list files) verdict out new h
+answer_done contents (MatchEach options list files) verdict out new (inr (before, after, file, split, (e, is, of, answer, written, belongs))) = cc
 answer_done contents (Look table file) verdict out new (inl h) = whole_done contents (Look table file) verdict out new h
 answer_done contents (Look table file) verdict out new (inr (e, is, of, answer, written, belongs)) = cc
 answer_done contents (Compile table name) verdict out new (same, (differ, done)) = ([], (refl, done), same_whole out new same)

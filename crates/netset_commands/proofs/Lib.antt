@@ -13,6 +13,7 @@ pub mod Pools
 pub mod Described
 pub mod Hosts
 pub mod Matched
+pub mod MatchedFiles
 pub mod Arguments
 pub mod Parts
 pub mod Values

@@ -17,7 +17,7 @@ use Rattle.cidr_io.specs.Collecting.{Collects, Holds}
 use Rattle.netset_commands.specs.Causes.{TextFails}
 use Rattle.netset_commands.specs.Combining.{Turned}
 use Rattle.netset_commands.specs.Commands.{HasRow, HoldsOf, Match, Says}
-use Rattle.netset_commands.specs.Gathering.{Finishes, IsCounted, IsDone, IsLost, IsNotReadFurther, NotesLong, Stops, Streams, GathersPart, ended_by, lines_of_part, rest_written, told_behind}
+use Rattle.netset_commands.specs.Gathering.{Finishes, IsCounted, IsDone, IsLost, IsNotReadFurther, NotesLong, Stops, Streams, StreamsFile, GathersPart, ended_by, lines_of_part, rest_written, told_behind}
 use Rattle.cidr_lists.specs.Lists.{IsTooLong, Text, is_line_feed, kept_of, lines_of}
 use Rattle.cidr_lists.specs.Within.{AreWithin, HasOneIn, LiesIn}
 use Rattle.netset_commands.specs.Matching.{ArePicked, ArePickedBy, IsEndedBy, IsEnough, IsErrorBy, IsFirstLong, IsLongOrLost, IsMatch, Picks, PicksAnywhere, PicksBy, PicksByField, all_written, has, line_written, written_of}
@@ -212,7 +212,7 @@ module _ (IsIn : Family → List Bool → Type 0) (sets : Sets) (h : (family : F
   )
   picks_by_same false inverted line (Err e) bad = bad
 
-  picks_same : (anywhere inverted : Bool) (line : List ℕ) (r : Result Bool LineError) → Picks anywhere (IsInSets sets) inverted line r
+  pub picks_same : (anywhere inverted : Bool) (line : List ℕ) (r : Result Bool LineError) → Picks anywhere (IsInSets sets) inverted line r
       → Picks anywhere IsIn inverted line r
   picks_same anywhere inverted line r (inl long) = inl long
   picks_same anywhere inverted line r (inr (short, picks)) = inr (short, picks_by_same anywhere inverted line r picks)
@@ -222,11 +222,11 @@ flat_none : (f : List ℕ → List ℕ) → ((l : List ℕ) → f l ≡ []) → 
 flat_none f none [] = refl
 flat_none f none (l ∷ ls) = ap (λ (k : List ℕ). k ++ flat_map f ls) (none l) ∙ flat_none f none ls
 
-all_split : (what : Written) (picked : List (List ℕ)) → all_written what picked ≡ flat_map (line_written what) picked ++ rest_written what (length picked)
-all_split written.Lines picked = sym (append-nil (flat_map (line_written written.Lines) picked))
-all_split written.Count picked =
-    sym (ap (λ (k : List ℕ). k ++ rest_written written.Count (length picked)) (flat_none (line_written written.Count) (λ l. refl) picked))
-all_split written.Nothing picked = sym (ap (λ (k : List ℕ). k ++ []) (flat_none (line_written written.Nothing) (λ l. refl) picked))
+all_split : (label : List ℕ) (what : Written) (picked : List (List ℕ)) → all_written label what picked ≡ flat_map (line_written label what) picked ++ rest_written label what (length picked)
+all_split label written.Lines picked = sym (append-nil (flat_map (line_written label written.Lines) picked))
+all_split label written.Count picked =
+    sym (ap (λ (k : List ℕ). k ++ rest_written label written.Count (length picked)) (flat_none (line_written label written.Count) (λ l. refl) picked))
+all_split label written.Nothing picked = sym (ap (λ (k : List ℕ). k ++ []) (flat_none (line_written label written.Nothing) (λ l. refl) picked))
 
 -- a block with more behind it is written
 pub rest_gone : (s t u : State) (block next more : List ℕ) (r : Result (Unit {0}) OutputFailed) → Collects s t block next more (Ok tt) → Writes t u next r
@@ -245,31 +245,31 @@ stops_by error.Output s t block w other wrote = absurd (other refl)
 stops_by (error.File name why) s t block w other wrote = (w, wrote, refl)
 
 -- ---- one part
-module _ (P : List ℕ → Result Bool LineError → Type 0) (what : Written) (file : List ℕ) (number : ℕ) where
-  pub takes_none : (part : List ℕ) (more : Bool) (s : State) (g : Gathered) → ArePicked P (lines_of_part part more) [] → GathersPart P what file number part more s s g g (Ok tt)
+module _ (P : List ℕ → Result Bool LineError → Type 0) (label : List ℕ) (what : Written) (file : List ℕ) (number : ℕ) where
+  pub takes_none : (part : List ℕ) (more : Bool) (s : State) (g : Gathered) → ArePicked P (lines_of_part part more) [] → GathersPart P label what file number part more s s g g (Ok tt)
   takes_none part more s g are = ([], are, omega arith, omega arith, none_collected s g.block)
 
-  pub takes_empty : (part : List ℕ) (more : Bool) (s : State) (g : Gathered) → lines_of_part part more ≡ [] → GathersPart P what file number part more s s g g (Ok tt)
+  pub takes_empty : (part : List ℕ) (more : Bool) (s : State) (g : Gathered) → lines_of_part part more ≡ [] → GathersPart P label what file number part more s s g g (Ok tt)
   takes_empty part more s g none =
       takes_none part more s g (subst (λ (k : List (List ℕ)). ArePicked P k []) (sym none) (none_picked P))
 
   pub takes_passed : (part : List ℕ) (more : Bool) (s : State) (g : Gathered) → lines_of_part part more ≡ part ∷ [] → P part (Ok false)
-      → GathersPart P what file number part more s s g g (Ok tt)
+      → GathersPart P label what file number part more s s g g (Ok tt)
   takes_passed part more s g one passed =
       takes_none part more s g (subst (λ (k : List (List ℕ)). ArePicked P k []) (sym one) (one_passed P part passed))
 
   pub takes_picked : (part : List ℕ) (more : Bool) (s t : State) (before after : Gathered) → lines_of_part part more ≡ part ∷ [] → P part (Ok true)
-      → after.count ≡ before.count + 1 → Collects s t before.block after.block (line_written what part) (Ok tt)
-      → GathersPart P what file number part more s t before after (Ok tt)
+      → after.count ≡ before.count + 1 → Collects s t before.block after.block (line_written label what part) (Ok tt)
+      → GathersPart P label what file number part more s t before after (Ok tt)
   takes_picked part more s t before after one picks count collects = (
     part ∷ [],
     subst (λ (k : List (List ℕ)). ArePicked P k (part ∷ [])) (sym one) (one_picked P part picks),
     count,
     omega arith,
-    subst (λ (k : List ℕ). Collects s t before.block after.block k (Ok tt)) (sym (append-nil (line_written what part))) collects,
+    subst (λ (k : List ℕ). Collects s t before.block after.block k (Ok tt)) (sym (append-nil (line_written label what part))) collects,
   )
 
-module _ (P : List ℕ → Result Bool LineError → Type 0) (what : Written) where
+module _ (P : List ℕ → Result Bool LineError → Type 0) (label : List ℕ) (what : Written) where
   -- the lines before this number were read
   pub record Passed (text : List ℕ) (left : Option (List ℕ)) (number : ℕ) (picked : List (List ℕ)) (long : Option ℕ) : Type 0 where
     pub rest : List ℕ
@@ -283,7 +283,7 @@ module _ (P : List ℕ → Result Bool LineError → Type 0) (what : Written) wh
 
   pub record Streamed (known left : Option (List ℕ)) (s t : State) (number count : ℕ) (block : List ℕ) (long : Option ℕ) : Type 0 where
     pub picked : List (List ℕ)
-    pub collected : Holds s t block (flat_map (line_written what) picked)
+    pub collected : Holds s t block (flat_map (line_written label what) picked)
     pub counted : count ≡ length picked
     pub few : count < number
     pub passed : IfSome known (λ text. Passed text left number picked long)
@@ -299,12 +299,12 @@ module _ (P : List ℕ → Result Bool LineError → Type 0) (what : Written) wh
 
   pub record Taken (known next : Option (List ℕ)) (s t : State) (number count : ℕ) (block : List ℕ) (more : Bool) (long : Option ℕ) : Type 0 where
     pub picked : List (List ℕ)
-    pub collected : Holds s t block (flat_map (line_written what) picked)
+    pub collected : Holds s t block (flat_map (line_written label what) picked)
     pub counted : count ≡ length picked
     pub few : count < number + 1
     pub reached : IfSome known (λ text. Reached text next number more picked long)
 
-  nothing_passed : (known : Option (List ℕ)) → IfSome known (λ text. Passed text known 1 [] None)
+  pub nothing_passed : (known : Option (List ℕ)) → IfSome known (λ text. Passed text known 1 [] None)
   nothing_passed None = tt
   nothing_passed (Some text) = record { rest = text; known = refl; read = []; lines = refl; size = omega arith; place = refl; are = none_picked P; first = tt }
 
@@ -349,11 +349,11 @@ module _ (P : List ℕ → Result Bool LineError → Type 0) (what : Written) wh
 
   pub take_on : (file : List ℕ) (known left next : Option (List ℕ)) (s t u : State) (number : ℕ) (part : List ℕ) (more : Bool) (before after : Gathered) (long now : Option ℕ)
       → Streamed known left s t number before.count before.block long → IfSome left (λ text. IsNextLine text part more next) → NotesLong number part long now
-      → GathersPart P what file number part more t u before after (Ok tt) → Taken known next s u number after.count after.block more now
+      → GathersPart P label what file number part more t u before after (Ok tt) → Taken known next s u number after.count after.block more now
   take_on file known left next s t u number part more before after long now st n notes (one, are, count, few, collects) = record {
     picked = st.picked ++ one;
-    collected = subst (Holds s u after.block) (sym (flat_map-append (line_written what) st.picked one))
-        (held_then s t u before.block after.block (flat_map (line_written what) st.picked) (flat_map (line_written what) one) st.collected collects);
+    collected = subst (Holds s u after.block) (sym (flat_map-append (line_written label what) st.picked one))
+        (held_then s t u before.block after.block (flat_map (line_written label what) st.picked) (flat_map (line_written label what) one) st.collected collects);
     counted = omega (arith, count, st.counted, length-append st.picked one);
     few = omega (arith, count, few, st.few);
     reached = reached_by known left next number part more st.picked one long now st.passed n are notes;
@@ -389,7 +389,7 @@ module _ (P : List ℕ → Result Bool LineError → Type 0) (what : Written) wh
 
   matched_whole : (known next : Option (List ℕ)) (number count : ℕ) (more : Bool) (picked : List (List ℕ)) (long : Option ℕ) (verdict : Verdict) → IsDone what more count
       → count ≡ length picked → IsCounted count verdict → IfSome known (λ text. Reached text next number more picked long)
-      → IfSome known (λ text. IsMatch P what text long (all_written what picked) verdict)
+      → IfSome known (λ text. IsMatch P label what text long (all_written label what picked) verdict)
   matched_whole None next number count more picked long verdict done is h r = tt
   matched_whole (Some text) next number count more picked long verdict done is h r =
       let enough : IsEnough what r.after picked = elim done [
@@ -398,14 +398,14 @@ module _ (P : List ℕ → Result Bool LineError → Type 0) (what : Written) wh
       ] in
       (r.read, r.after, picked, r.to, r.first, enough, refl, by_count picked count verdict is h)
 
-  match_but : (known : Option (List ℕ)) (answer : List ℕ) (n : ℕ) (verdict : Verdict) (e : CommandError) → IfSome known (λ text. IsMatch P what text (Some n) answer verdict)
-      → IsLongOrLost n e → IfSome known (λ text. IsEndedBy P what text answer e)
+  match_but : (known : Option (List ℕ)) (answer : List ℕ) (n : ℕ) (verdict : Verdict) (e : CommandError) → IfSome known (λ text. IsMatch P label what text (Some n) answer verdict)
+      → IsLongOrLost n e → IfSome known (λ text. IsEndedBy P label what text answer e)
   match_but None answer n verdict e match of = tt
   match_but (Some text) answer n verdict e match of = inr (n, verdict, match, of)
 
   -- the first line that is too long is told behind the answer
   told_too : (file : Bor (List ℕ)) (known : Option (List ℕ)) (s u : State) (answer : List ℕ) (long : Option ℕ) (verdict : Verdict) (w : Result (Unit {0}) OutputFailed)
-      → IfSome known (λ text. IsMatch P what text long answer verdict) → Answered s u answer w → Streams P what file.now known s u (told_behind file long (by_output verdict w))
+      → IfSome known (λ text. IsMatch P label what text long answer verdict) → Answered s u answer w → Streams P label what file.now known s u (told_behind file long (by_output verdict w))
   told_too file known s u answer None verdict w match wrote = inl (answer, verdict, w, match, wrote, refl)
   told_too file known s u answer (Some n) verdict (Ok a) match wrote =
       inr (error.Line file n TooLong, refl, refl, answer, wrote, match_but known answer n verdict (error.Line file n TooLong) match (refl, refl))
@@ -414,23 +414,23 @@ module _ (P : List ℕ → Result Bool LineError → Type 0) (what : Written) wh
 
   pub ended : (file : Bor (List ℕ)) (known next : Option (List ℕ)) (s t u : State) (number : ℕ) (gathered : Gathered) (more done : Bool) (long : Option ℕ) (r : Result Verdict CommandError)
       → Decides done (IsDone what more gathered.count) → done ≡ true → s.failed ≡ false
-      → Taken known next s t number gathered.count gathered.block more long → Finishes what t u gathered r → Streams P what file.now known s u (told_behind file long r)
+      → Taken known next s t number gathered.count gathered.block more long → Finishes label what t u gathered r → Streams P label what file.now known s u (told_behind file long r)
   ended file known next s t u number gathered more done long r d e fine k (verdict, w, counted, writes, is) =
       let (before, whole, split) = k.collected in
-      let rest : List ℕ = rest_written what gathered.count in
-      let all : before ++ (gathered.block ++ rest) ≡ all_written what k.picked =
+      let rest : List ℕ = rest_written label what gathered.count in
+      let all : before ++ (gathered.block ++ rest) ≡ all_written label what k.picked =
       sym (append_assoc before gathered.block rest) ∙ (ap (λ (z : List ℕ). z ++ rest) (sym split)
-      ∙ (ap (λ (n : ℕ). flat_map (line_written what) k.picked ++ rest_written what n) k.counted ∙ sym (all_split what k.picked))) in
-      let wrote : Writes s u (all_written what k.picked) w =
+      ∙ (ap (λ (n : ℕ). flat_map (line_written label what) k.picked ++ rest_written label what n) k.counted ∙ sym (all_split label what k.picked))) in
+      let wrote : Writes s u (all_written label what k.picked) w =
       subst (λ (z : List ℕ). Writes s u z w) all (then_writes s t u before (gathered.block ++ rest) w whole writes) in
-      rw is (told_too file known s u (all_written what k.picked) long verdict w
+      rw is (told_too file known s u (all_written label what k.picked) long verdict w
       (matched_whole known next number gathered.count more k.picked long verdict (d.0 e) k.counted counted k.reached)
-      (answered s u (all_written what k.picked) w fine wrote))
+      (answered s u (all_written label what k.picked) w fine wrote))
 
   -- ---- a file that is not read to its end
-  cut_here : (known left : Option (List ℕ)) (number : ℕ) (picked : List (List ℕ)) (long : Option ℕ) (e : CommandError)
+  pub cut_here : (known left : Option (List ℕ)) (number : ℕ) (picked : List (List ℕ)) (long : Option ℕ) (e : CommandError)
       → ((read after : List (List ℕ)) → IsStop (IsErrorBy P) read after e) → IfSome known (λ text. Passed text left number picked long)
-      → IfSome known (λ text. IsEndedBy P what text (flat_map (line_written what) picked) e)
+      → IfSome known (λ text. IsEndedBy P label what text (flat_map (line_written label what) picked) e)
   cut_here None left number picked long e stops p = tt
   cut_here (Some text) left number picked long e stops p =
       inl (picked, (p.read, lines_in p.rest, record { lines = p.lines; are = p.are }, stops p.read (lines_in p.rest)), refl)
@@ -438,30 +438,30 @@ module _ (P : List ℕ → Result Bool LineError → Type 0) (what : Written) wh
   -- what is not yet written is written
   stopped : (file : List ℕ) (known : Option (List ℕ)) (s t u : State) (block : List ℕ) (picked : List (List ℕ)) (e : CommandError)
       (w : Result (Unit {0}) OutputFailed) (r : Result Verdict CommandError) → s.failed ≡ false → IsOfFile file e
-      → ((text : List ℕ) → Whole s u text × (u.failed ≡ false) → IsWritten s u text e) → Holds s t block (flat_map (line_written what) picked) → Writes t u block w
-      → r ≡ Err (ended_by e w) → IfSome known (λ text. IsEndedBy P what text (flat_map (line_written what) picked) e)
-      → IfSome known (λ text. IsEndedBy P what text (flat_map (line_written what) picked) error.Output) → Streams P what file known s u r
+      → ((text : List ℕ) → Whole s u text × (u.failed ≡ false) → IsWritten s u text e) → Holds s t block (flat_map (line_written label what) picked) → Writes t u block w
+      → r ≡ Err (ended_by e w) → IfSome known (λ text. IsEndedBy P label what text (flat_map (line_written label what) picked) e)
+      → IfSome known (λ text. IsEndedBy P label what text (flat_map (line_written label what) picked) error.Output) → Streams P label what file known s u r
   stopped file known s t u block picked e (Ok a) r fine of goes collected wrote is cut lost = inr (
     e,
     is,
     of,
-    flat_map (line_written what) picked,
-    goes (flat_map (line_written what) picked) (answered s u (flat_map (line_written what) picked) (Ok a) fine
-        (last_block s t u block (flat_map (line_written what) picked) (Ok a) collected wrote)),
+    flat_map (line_written label what) picked,
+    goes (flat_map (line_written label what) picked) (answered s u (flat_map (line_written label what) picked) (Ok a) fine
+        (last_block s t u block (flat_map (line_written label what) picked) (Ok a) collected wrote)),
     cut,
   )
   stopped file known s t u block picked e (Err f) r fine of goes collected wrote is cut lost = inr (
     error.Output,
     is,
     tt,
-    flat_map (line_written what) picked,
-    answered s u (flat_map (line_written what) picked) (Err f) fine
-        (last_block s t u block (flat_map (line_written what) picked) (Err f) collected wrote),
+    flat_map (line_written label what) picked,
+    answered s u (flat_map (line_written label what) picked) (Err f) fine
+        (last_block s t u block (flat_map (line_written label what) picked) (Err f) collected wrote),
     lost,
   )
 
   pub unread : (file : List ℕ) (known left : Option (List ℕ)) (s t u : State) (number count : ℕ) (block : List ℕ) (long : Option ℕ) (e : CommandError) (r : Result Verdict CommandError)
-      → s.failed ≡ false → IsNotReadFurther file e → Streamed known left s t number count block long → Stops e t u block r → Streams P what file known s u r
+      → s.failed ≡ false → IsNotReadFurther file e → Streamed known left s t number count block long → Stops e t u block r → Streams P label what file known s u r
   unread file known left s t u number count block long (error.Argument text e) r fine h st stops = absurd h
   unread file known left s t u number count block long (error.Line name n e) r fine h st stops = absurd h
   unread file known left s t u number count block long (error.Input name why) r fine h st (w, wrote, is) =
@@ -493,35 +493,35 @@ module _ (P : List ℕ → Result Bool LineError → Type 0) (what : Written) wh
       → Streamed known left s t number count block long → Streamed known left s u number after next long
   caught_up known left s t u number count after block next long same more st = record {
     picked = st.picked;
-    collected = subst (Holds s u next) (append-nil (flat_map (line_written what) st.picked))
-        (held_then s t u block next (flat_map (line_written what) st.picked) [] st.collected more);
+    collected = subst (Holds s u next) (append-nil (flat_map (line_written label what) st.picked))
+        (held_then s t u block next (flat_map (line_written label what) st.picked) [] st.collected more);
     counted = same ∙ st.counted;
     few = omega (arith, same, st.few);
     passed = st.passed;
   }
 
   pub unwritten : (file : List ℕ) (known left : Option (List ℕ)) (s t u : State) (number count : ℕ) (block : List ℕ) (long : Option ℕ) → s.failed ≡ false → Part t u (block ++ [])
-      → Streamed known left s t number count block long → Streams P what file known s u (Err error.Output)
+      → Streamed known left s t number count block long → Streams P label what file known s u (Err error.Output)
   unwritten file known left s t u number count block long fine part st = inr (
     error.Output,
     refl,
     tt,
-    flat_map (line_written what) st.picked,
+    flat_map (line_written label what) st.picked,
     (
-      subst (Part s u) (append-nil (flat_map (line_written what) st.picked)) (held_lost s t u block (flat_map (line_written what) st.picked) [] st.collected part),
+      subst (Part s u) (append-nil (flat_map (line_written label what) st.picked)) (held_lost s t u block (flat_map (line_written label what) st.picked) [] st.collected part),
       λ before. absurd (true≢false (sym before ∙ fine)),
     ),
     cut_here known left number st.picked long error.Output (λ _ _. tt) st.passed,
   )
 
-  pub failed_before : (file : List ℕ) (known : Option (List ℕ)) (s : State) → s.failed ≡ true → Streams P what file known s s (Err error.Output)
+  pub failed_before : (file : List ℕ) (known : Option (List ℕ)) (s : State) → s.failed ≡ true → Streams P label what file known s s (Err error.Output)
   failed_before file known s failed =
       inr (error.Output, refl, tt, [], (part_none s [] failed, λ _. refl), cut_here known known 1 [] None error.Output (λ _ _. tt) (nothing_passed known))
 
   cut_at_line : (known left next : Option (List ℕ)) (number : ℕ) (part : List ℕ) (more : Bool) (picked : List (List ℕ)) (long : Option ℕ) (e : CommandError)
       → lines_of_part part more ≡ part ∷ [] → IfSome left (λ text. IsNextLine text part more next) → IfSome known (λ text. Passed text left number picked long)
       → ((read after : List (List ℕ)) → number ≡ length read + 1 → IsStop (IsErrorBy P) read (part ∷ after) e)
-      → IfSome known (λ text. IsEndedBy P what text (flat_map (line_written what) picked) e)
+      → IfSome known (λ text. IsEndedBy P label what text (flat_map (line_written label what) picked) e)
   cut_at_line None left next number part more picked long e one n p stops = tt
   cut_at_line (Some text) left next number part more picked long e one n p stops =
       let (after, lines, over, on) = part_read p.rest part more next (rw p.known at n) in
@@ -540,7 +540,7 @@ module _ (P : List ℕ → Result Bool LineError → Type 0) (what : Written) wh
   cut_behind : (known left next : Option (List ℕ)) (number : ℕ) (part : List ℕ) (more : Bool) (picked : List (List ℕ)) (long : Option ℕ) (e : CommandError)
       → lines_of_part part more ≡ part ∷ [] → P part (Ok true) → ((read after : List (List ℕ)) → IsStop (IsErrorBy P) read after e)
       → IfSome left (λ text. IsNextLine text part more next) → IfSome known (λ text. Passed text left number picked long)
-      → IfSome known (λ text. IsEndedBy P what text (flat_map (line_written what) (picked ++ part ∷ [])) e)
+      → IfSome known (λ text. IsEndedBy P label what text (flat_map (line_written label what) (picked ++ part ∷ [])) e)
   cut_behind None left next number part more picked long e one h stops n p = tt
   cut_behind (Some text) left next number part more picked long e one h stops n p =
       let (after, lines, over, on) = part_read p.rest part more next (rw p.known at n) in
@@ -561,42 +561,42 @@ module _ (P : List ℕ → Result Bool LineError → Type 0) (what : Written) wh
 
   pub lost : (file : List ℕ) (known left next : Option (List ℕ)) (s t u v : State) (number count : ℕ) (block rest part : List ℕ) (more : Bool) (long : Option ℕ) (e : CommandError)
       (r : Result Verdict CommandError) → s.failed ≡ false → Streamed known left s t number count block long → IfSome left (λ text. IsNextLine text part more next)
-      → (lines_of_part part more ≡ part ∷ []) × IsLost P what file number part t u block rest e → Stops e u v rest r → Streams P what file known s v r
+      → (lines_of_part part more ≡ part ∷ []) × IsLost P label what file number part t u block rest e → Stops e u v rest r → Streams P label what file known s v r
   lost file known left next s t u v number count block rest part more long (error.Argument text e) r fine st n h stops = absurd h.1
   lost file known left next s t u v number count block rest part more long (error.Input name why) r fine st n h stops = absurd h.1
   lost file known left next s t u v number count block rest part more long error.NoMemory r fine st n h stops = absurd h.1
   lost file known left next s t u v number count block rest part more long (error.File name why) r fine st n h stops = absurd h.1
   lost file known left next s t u v number count block rest part more long (error.Line name m e) r fine st n (one, (same, place, bad, still, kept)) (w, wrote, is) =
-      let collected : Holds s u rest (flat_map (line_written what) st.picked) =
-      subst (λ (z : State). Holds s z rest (flat_map (line_written what) st.picked)) (sym still)
-      (subst (λ (k : List ℕ). Holds s t k (flat_map (line_written what) st.picked)) (sym kept) st.collected) in
+      let collected : Holds s u rest (flat_map (line_written label what) st.picked) =
+      subst (λ (z : State). Holds s z rest (flat_map (line_written label what) st.picked)) (sym still)
+      (subst (λ (k : List ℕ). Holds s t k (flat_map (line_written label what) st.picked)) (sym kept) st.collected) in
       stopped file known s u v rest st.picked (error.Line name m e) w r fine same (λ text all. all) collected wrote is
       (cut_at_line known left next number part more st.picked long (error.Line name m e) one n st.passed (λ read after at. (place ∙ at, part, after, refl, bad)))
       (cut_at_line known left next number part more st.picked long error.Output one n st.passed (λ _ _ _. tt))
   lost file known left next s t u v number count block rest part more long error.Output r fine st n (one, (picks, failed)) (still, is) =
-      let text : List ℕ = flat_map (line_written what) st.picked in
+      let text : List ℕ = flat_map (line_written label what) st.picked in
       inr (
         error.Output,
         is,
         tt,
-        flat_map (line_written what) (st.picked ++ part ∷ []),
+        flat_map (line_written label what) (st.picked ++ part ∷ []),
         (
-          subst (λ (z : State). Part s z (flat_map (line_written what) (st.picked ++ part ∷ []))) (sym still)
-              (subst (Part s u) (flat_map_more (line_written what) [] st.picked part) (held_lost s t u block text (line_written what part) st.collected failed)),
+          subst (λ (z : State). Part s z (flat_map (line_written label what) (st.picked ++ part ∷ []))) (sym still)
+              (subst (Part s u) (flat_map_more (line_written label what) [] st.picked part) (held_lost s t u block text (line_written label what part) st.collected failed)),
           λ before. absurd (true≢false (sym before ∙ fine)),
         ),
         cut_behind known left next number part more st.picked long error.Output one picks (λ _ _. tt) n st.passed,
       )
 
 -- ---- by the bytes of the files
-match_same : (P Q : List ℕ → Result Bool LineError → Type 0) → ((line : List ℕ) (r : Result Bool LineError) → P line r → Q line r) → (what : Written) (text answer : List ℕ) (long : Option ℕ)
-    (verdict : Verdict) → IsMatch P what text long answer verdict → IsMatch Q what text long answer verdict
-match_same P Q f what text answer long verdict (read, left, picked, to, first, enough, written, by) =
+pub match_same : (P Q : List ℕ → Result Bool LineError → Type 0) → ((line : List ℕ) (r : Result Bool LineError) → P line r → Q line r) → (label : List ℕ) (what : Written) (text answer : List ℕ) (long : Option ℕ)
+    (verdict : Verdict) → IsMatch P label what text long answer verdict → IsMatch Q label what text long answer verdict
+match_same P Q f label what text answer long verdict (read, left, picked, to, first, enough, written, by) =
     (read, left, picked, record { lines = to.lines; are = picked_same P Q f read picked to.are }, first, enough, written, by)
 
-known_match : (P Q : List ℕ → Result Bool LineError → Type 0) → ((line : List ℕ) (r : Result Bool LineError) → P line r → Q line r) → (what : Written) (known : Option (List ℕ)) (text answer : List ℕ) (verdict : Verdict)
-    → known ≡ Some text → IfSome known (λ k. IsMatch P what k None answer verdict) → IsMatch Q what text None answer verdict
-known_match P Q f what known text answer verdict is h = match_same P Q f what text answer None verdict (rw is at h)
+known_match : (P Q : List ℕ → Result Bool LineError → Type 0) → ((line : List ℕ) (r : Result Bool LineError) → P line r → Q line r) → (label : List ℕ) (what : Written) (known : Option (List ℕ)) (text answer : List ℕ) (verdict : Verdict)
+    → known ≡ Some text → IfSome known (λ k. IsMatch P label what k None answer verdict) → IsMatch Q label what text None answer verdict
+known_match P Q f label what known text answer verdict is h = match_same P Q f label what text answer None verdict (rw is at h)
 
 stop_same : (P Q : List ℕ → Result Bool LineError → Type 0) → ((line : List ℕ) (r : Result Bool LineError) → P line r → Q line r) → (read left : List (List ℕ)) (e : CommandError)
     → IsStop (IsErrorBy P) read left e → IsStop (IsErrorBy Q) read left e
@@ -607,31 +607,31 @@ stop_same P Q f read left error.NoMemory h = tt
 stop_same P Q f read left error.Output h = tt
 stop_same P Q f read left (error.File name why) h = tt
 
-cut_same : (P Q : List ℕ → Result Bool LineError → Type 0) → ((line : List ℕ) (r : Result Bool LineError) → P line r → Q line r) → (what : Written) (text answer : List ℕ) (e : CommandError)
-    → IsEndedBy P what text answer e → IsEndedBy Q what text answer e
-cut_same P Q f what text answer e (inl (picked, (read, left, to, stops), written)) =
+pub cut_same : (P Q : List ℕ → Result Bool LineError → Type 0) → ((line : List ℕ) (r : Result Bool LineError) → P line r → Q line r) → (label : List ℕ) (what : Written) (text answer : List ℕ) (e : CommandError)
+    → IsEndedBy P label what text answer e → IsEndedBy Q label what text answer e
+cut_same P Q f label what text answer e (inl (picked, (read, left, to, stops), written)) =
     inl (picked, (read, left, record { lines = to.lines; are = picked_same P Q f read picked to.are }, stop_same P Q f read left e stops), written)
-cut_same P Q f what text answer e (inr (n, verdict, match, of)) = inr (n, verdict, match_same P Q f what text answer (Some n) verdict match, of)
+cut_same P Q f label what text answer e (inr (n, verdict, match, of)) = inr (n, verdict, match_same P Q f label what text answer (Some n) verdict match, of)
 
-known_cut : (P Q : List ℕ → Result Bool LineError → Type 0) → ((line : List ℕ) (r : Result Bool LineError) → P line r → Q line r) → (what : Written) (known : Option (List ℕ)) (text answer : List ℕ) (e : CommandError)
-    → known ≡ Some text → IfSome known (λ k. IsEndedBy P what k answer e) → IsEndedBy Q what text answer e
-known_cut P Q f what known text answer e is h = cut_same P Q f what text answer e (rw is at h)
+known_cut : (P Q : List ℕ → Result Bool LineError → Type 0) → ((line : List ℕ) (r : Result Bool LineError) → P line r → Q line r) → (label : List ℕ) (what : Written) (known : Option (List ℕ)) (text answer : List ℕ) (e : CommandError)
+    → known ≡ Some text → IfSome known (λ k. IsEndedBy P label what k answer e) → IsEndedBy Q label what text answer e
+known_cut P Q f label what known text answer e is h = cut_same P Q f label what text answer e (rw is at h)
 
 -- what follows of the addresses of a list
-of_list : (text : Text) (P Q : (Family → List Bool → Type 0) → Type 0) → ((IsIn : Family → List Bool → Type 0) → P IsIn → Q IsIn) → HoldsOf text P → HoldsOf text Q
+pub of_list : (text : Text) (P Q : (Family → List Bool → Type 0) → Type 0) → ((IsIn : Family → List Bool → Type 0) → P IsIn → Q IsIn) → HoldsOf text P → HoldsOf text Q
 of_list text P Q f (inl (said, says, h)) = inl (said, says, f (Says said) h)
 of_list text P Q f (inr (table, has, h)) = inr (table, has, f (HasRow table) h)
 
-pub matched : (contents : List ℕ → Option Text) (options : List (List ℕ)) (list file : List ℕ) (sets : Sets) (known : Option (List ℕ)) (s t : State) (r : Result Verdict CommandError)
+matched : (contents : List ℕ → Option Text) (options : List (List ℕ)) (list file : List ℕ) (sets : Sets) (known : Option (List ℕ)) (s t : State) (r : Result Verdict CommandError)
     → ((text : Text) → contents list ≡ Some text → AreAddresses text sets) → ((text : Text) → contents file ≡ Some text → known ≡ Some text.bytes)
-    → Streams (Picks (has (codes "--any") options) (IsInSets sets) (has (codes "-v") options)) (written_of options) file known s t r → AnswersRequest contents (Match options list file) s t r
+    → Streams (Picks (has (codes "--any") options) (IsInSets sets) (has (codes "-v") options)) [] (written_of options) file known s t r → AnswersRequest contents (Match options list file) s t r
 matched contents options list file sets known s t r reads tells (inl (answer, verdict, w, match, written, is)) =
     inl (inr (
       answer,
       verdict,
       w,
       λ networks text p q.
-          of_list networks _ _ (λ IsIn same. known_match _ _ (picks_same IsIn sets same (has (codes "--any") options) (has (codes "-v") options)) (written_of options) known text.bytes answer verdict (tells text q) match)
+          of_list networks _ _ (λ IsIn same. known_match _ _ (picks_same IsIn sets same (has (codes "--any") options) (has (codes "-v") options)) [] (written_of options) known text.bytes answer verdict (tells text q) match)
           (reads networks p),
       written,
       is,
@@ -644,6 +644,24 @@ matched contents options list file sets known s t r reads tells (inr (e, is, of_
       answer,
       begun,
       λ networks text p q.
-          of_list networks _ _ (λ IsIn same. known_cut _ _ (picks_same IsIn sets same (has (codes "--any") options) (has (codes "-v") options)) (written_of options) known text.bytes answer e (tells text q) cut)
+          of_list networks _ _ (λ IsIn same. known_cut _ _ (picks_same IsIn sets same (has (codes "--any") options) (has (codes "-v") options)) [] (written_of options) known text.bytes answer e (tells text q) cut)
           (reads networks p),
     )
+
+-- a file that can't be opened
+unopened : (contents : List ℕ → Option Text) (options : List (List ℕ)) (list file : List ℕ) (s : State) (e : CommandError) → IsNotReadFurther file e
+    → AnswersRequest contents (Match options list file) s s (Err e)
+unopened contents options list file s (error.Argument text e) h = absurd h
+unopened contents options list file s (error.Line name number e) h = absurd h
+unopened contents options list file s (error.Input name why) h = inl (inl (refl, inr h))
+unopened contents options list file s error.NoMemory h = inl (inl (refl, inl tt))
+unopened contents options list file s error.Output h = absurd h
+unopened contents options list file s (error.File name why) h = absurd h
+
+pub matched_file : (contents : List ℕ → Option Text) (options : List (List ℕ)) (list file : List ℕ) (sets : Sets) (s t : State) (r : Result Verdict CommandError)
+    → ((text : Text) → contents list ≡ Some text → AreAddresses text sets)
+    → StreamsFile (Picks (has (codes "--any") options) (IsInSets sets) (has (codes "-v") options)) [] (written_of options) file (contents file) s t r
+    → AnswersRequest contents (Match options list file) s t r
+matched_file contents options list file sets s t r reads (inl (same, e, is, of)) = rw (same, is) (unopened contents options list file s e of)
+matched_file contents options list file sets s t r reads (inr (known, opens, streams)) =
+    matched contents options list file sets known s t r reads opens streams

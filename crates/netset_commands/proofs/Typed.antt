@@ -4,7 +4,7 @@ use Rattle.std.specs.List.{list_all, list_any}
 use Rattle.std.proofs.lemmas.Bool.{true≢false}
 use Rattle.cidr_lists.specs.Formats.{format_name}
 use Rattle.netset_commands.specs.Arguments.{Parts, and_then, asks_help, counted_request, extent_by, extra_operand, is_option, joined_arguments, line_request, lists_request, named_verb, only_operand, only_options, only_value, part_request, parts_from, read_request, takes, value_of, verb_request, word_parts}
-use Rattle.netset_commands.specs.Commands.{Request, Lists, Styled, NotIn, Diff, Free, Split, Check, Which, Match, Look, Compile, Describe, Single, Help, Version, input_name, reading_of}
+use Rattle.netset_commands.specs.Commands.{Request, Lists, Styled, NotIn, Diff, Free, Split, Check, Which, Match, MatchEach, Look, Compile, Describe, Single, Help, Version, input_name, reading_of}
 use Rattle.netset_commands.specs.Free.{Extent, First, Count, All}
 use Rattle.netset_commands.specs.Matching.{has, is_word}
 use Rattle.netset_commands.specs.Single.{Show, Nth}
@@ -211,6 +211,11 @@ module _ (words options : List (List ℕ)) where
       plain_asks verb.Match (list ∷ []) (Match options list input_name) typed refl refl
       ∙ (ap (λ (k : List (List ℕ)). Ok (reading_of options, Match k list input_name)) (sym same)
       ∙ ap (λ (k : List ℕ). Ok (reading_of options, Match given list k)) (sym input))
+  typed_asks (MatchEach given list []) typed = absurd typed
+  typed_asks (MatchEach given list (first ∷ [])) typed = absurd typed
+  typed_asks (MatchEach given list (first ∷ second ∷ files)) (same, typed) =
+      plain_asks verb.Match (list ∷ first ∷ second ∷ files) (MatchEach options list (first ∷ second ∷ files)) typed refl refl
+      ∙ ap (λ (k : List (List ℕ)). Ok (reading_of options, MatchEach k list (first ∷ second ∷ files))) (sym same)
   typed_asks (Look table file) (inl typed) = plain_asks verb.Look (table ∷ file ∷ []) (Look table file) typed refl refl
   typed_asks (Look table file) (inr (input, typed)) =
       plain_asks verb.Look (table ∷ []) (Look table input_name) typed refl refl ∙ ap (λ (k : List ℕ). Ok (reading_of options, Look table k)) (sym input)

@@ -6,7 +6,7 @@ use Rattle.cidr_io.specs.Shown.{excerpt}
 use Rattle.cidr_lists.specs.Formats.{Style, bare, format_of}
 use Rattle.cidr_lists.specs.declared.formats.Format.{Format}
 use Rattle.cidr_lists.specs.declared.formats.Format.TheVariants as format
-use Rattle.netset_commands.specs.Commands.{Request, Lists, Styled, NotIn, Diff, Free, Split, Check, Which, Match, Look, Compile, Describe, Single, Help, Version, input_name, reading_of}
+use Rattle.netset_commands.specs.Commands.{Request, Lists, Styled, NotIn, Diff, Free, Split, Check, Which, Match, MatchEach, Look, Compile, Describe, Single, Help, Version, input_name, reading_of}
 use Rattle.netset_commands.specs.Free.{Extent, First, Count, All}
 use Rattle.netset_commands.specs.Matching.{has, is_word}
 use Rattle.netset_commands.specs.Single.{Show, Nth}
@@ -228,6 +228,14 @@ abbrev pub help_request : List (List ℕ) → Result Request (List ℕ)
 help_request [] = Ok (Help None)
 help_request (word ∷ words) = and_then (named_verb word) (λ command. Ok (Help (Some command)))
 
+-- the command match, of several files where there is a third operand, and else of one or of the standard input
+abbrev pub match_by : Parts → Option (List ℕ) → Request
+match_by parts None = Match parts.options (operand_or parts.operands 0 []) (operand_or parts.operands 1 input_name)
+match_by parts (Some third) = MatchEach parts.options (operand_or parts.operands 0 []) (drop 1 parts.operands)
+
+abbrev pub match_request : Parts → Request
+match_request parts = match_by parts (slice_get parts.operands 2)
+
 -- a command with as many operands as it takes
 abbrev pub verb_request : Verb → Parts → Result Request (List ℕ)
 verb_request (verb.Lists operation) parts = lists_request operation parts.values parts.operands
@@ -235,7 +243,7 @@ verb_request verb.Diff parts = Ok (Diff (operand_or parts.operands 0 []) (operan
 verb_request verb.Free parts = and_then (extent_in parts) (λ extent. Ok (Free extent (operand_or parts.operands 0 []) (operand_or parts.operands 1 []) (drop 2 parts.operands)))
 verb_request verb.Check parts = Ok (Check parts.operands)
 verb_request verb.Which parts = Ok (Which (operand_or parts.operands 0 []) (drop 1 parts.operands))
-verb_request verb.Match parts = Ok (Match parts.options (operand_or parts.operands 0 []) (operand_or parts.operands 1 input_name))
+verb_request verb.Match parts = Ok (match_request parts)
 verb_request verb.Look parts = Ok (Look (operand_or parts.operands 0 []) (operand_or parts.operands 1 input_name))
 verb_request verb.Compile parts = Ok (Compile (operand_or parts.operands 0 []) (operand_or parts.operands 1 []))
 verb_request (verb.Describe what) parts = Ok (Describe what (operand_or parts.operands 0 []))

@@ -18,7 +18,7 @@ use Rattle.cidr_lists.specs.Changes.{AreChanges, printed_changes}
 use Rattle.netset_commands.specs.Changes.{AreSame}
 use Rattle.netset_commands.specs.Combining.{form_of, IsMade}
 use Rattle.netset_commands.specs.Operands.{IsNoNetworkText, OfList, OfOperand, ReadsAsNetwork}
-use Rattle.netset_commands.specs.Matching.{has, is_word, written_of, IsMatch, Picks}
+use Rattle.netset_commands.specs.Matching.{has, is_word, written_of, IsMatch, IsMatchOfEach, Picks}
 use Rattle.netset_commands.specs.Table.{help_text}
 use Rattle.netset_commands.specs.Which.{IsWhich}
 use Rattle.cidr.specs.either.IpAddress.{IsIpText}
@@ -49,6 +49,7 @@ pub data Request : Type 0 where
   Check : List (List ℕ) → Request
   Which : List ℕ → List (List ℕ) → Request
   Match : List (List ℕ) → List ℕ → List ℕ → Request
+  MatchEach : List (List ℕ) → List ℕ → List (List ℕ) → Request
   Look : List ℕ → List ℕ → Request
   Compile : List ℕ → List ℕ → Request
   Describe : Description → List ℕ → Request
@@ -77,6 +78,7 @@ lists_of (Split operand len) = operand ∷ []
 lists_of (Check files) = read_files files
 lists_of (Which address files) = read_files files
 lists_of (Match options list file) = list ∷ []
+lists_of (MatchEach options list files) = list ∷ []
 lists_of (Look table file) = table ∷ []
 lists_of (Compile table name) = table ∷ []
 lists_of (Describe what operand) = operand ∷ []
@@ -85,6 +87,7 @@ lists_of request = []
 -- what it reads beside them
 abbrev pub others_of : Request → List (List ℕ)
 others_of (Match options list file) = file ∷ []
+others_of (MatchEach options list files) = files
 others_of (Look table file) = file ∷ []
 others_of request = []
 
@@ -192,7 +195,7 @@ HoldsOf text P = ((said : List (List IpCidr)) × ListSays text said × P (Says s
 -- the lines of a file that a list picks, where no line that was read is too long
 abbrev pub IsMatchOf : List (List ℕ) → Text → List ℕ → List ℕ → Verdict → Type 0
 IsMatchOf options networks text answer verdict = HoldsOf networks
-    (λ IsIn. IsMatch (Picks (has (codes "--any") options) IsIn (has (codes "-v") options)) (written_of options) text None answer verdict)
+    (λ IsIn. IsMatch (Picks (has (codes "--any") options) IsIn (has (codes "-v") options)) [] (written_of options) text None answer verdict)
 
 -- what `--version` writes
 abbrev pub version_text : List ℕ
@@ -217,6 +220,8 @@ IsAnswer contents (Which text files) answer verdict = (address : IpAddr) × IsIp
     × ((texts : List Text) → AreTold contents (read_files files) texts → IsWhich address (read_files files) texts answer verdict)
 IsAnswer contents (Match options list file) answer verdict =
     (networks text : Text) → contents list ≡ Some networks → contents file ≡ Some text → IsMatchOf options networks text.bytes answer verdict
+IsAnswer contents (MatchEach options list files) answer verdict = (networks : Text) → contents list ≡ Some networks → HoldsOf networks
+    (λ IsIn. IsMatchOfEach contents (Picks (has (codes "--any") options) IsIn (has (codes "-v") options)) (written_of options) files answer verdict)
 IsAnswer contents (Look table file) answer verdict =
     (rows text : Text) → contents table ≡ Some rows → contents file ≡ Some text → IsLook rows text.bytes answer verdict
 IsAnswer contents (Compile table name) answer verdict = (answer ≡ []) × (verdict ≡ Yes)

@@ -2,12 +2,12 @@
 use Rattle.std.specs.Prelude.{◌≡◌, ◌⊎◌, ℕ, ◌+◌, ◌<◌, ◌≤◌, Bool, true, false, List, [], ◌∷◌, ◌++◌, length, decimal, Option, Some, None, IfSome, Result, Ok, Err}
 use Rattle.std.specs.Borrow.{Bor}
 use Rattle.std.specs.List.{flat_map}
-use Rattle.cidr_io.specs.Writing.{State, Part, Writes, Answered}
+use Rattle.cidr_io.specs.Writing.{State, Part, Whole, Writes, Answered}
 use Rattle.cidr_io.specs.declared.sink.OutputFailed.{OutputFailed}
 use Rattle.cidr_io.specs.Collecting.{Collects}
-use Rattle.netset_commands.specs.Matching.{ArePicked, IsEndedBy, IsMatch, line_written}
+use Rattle.netset_commands.specs.Matching.{ArePicked, AreMatched, IsEndedBy, IsEndedIn, IsMatch, IsMatchOfEach, file_label, line_written}
 use Rattle.cidr_lists.specs.Lines.{last_line}
-use Rattle.cidr_lists.specs.Lists.{IsTooLong}
+use Rattle.cidr_lists.specs.Lists.{IsTooLong, Text}
 use Rattle.cidr_lists.specs.Printing.{line}
 use Rattle.netset_commands.specs.Program.{by_output}
 use Rattle.netset_commands.specs.Streaming.{IsCutShort}
@@ -35,31 +35,36 @@ IsNotReadFurther file error.NoMemory = Unit {0}
 IsNotReadFurther file error.Output = ⊥
 IsNotReadFurther file (error.File name e) = ⊥
 
+-- what stands in front of what is written of a file, if a name does
+abbrev pub label_of : Option (Bor (List ℕ)) → List ℕ
+label_of None = []
+label_of (Some name) = file_label name.now
+
 -- a line is in error, and nothing is written; or the output failed at a line that is picked
-abbrev pub IsLost : (List ℕ → Result Bool LineError → Type 0) → Written → List ℕ → ℕ → List ℕ → State → State → List ℕ → List ℕ → CommandError → Type 0
-IsLost PicksLine what file number part old new block rest (error.Argument text e) = ⊥
-IsLost PicksLine what file number part old new block rest (error.Line name n e) =
+abbrev pub IsLost : (List ℕ → Result Bool LineError → Type 0) → List ℕ → Written → List ℕ → ℕ → List ℕ → State → State → List ℕ → List ℕ → CommandError → Type 0
+IsLost PicksLine label what file number part old new block rest (error.Argument text e) = ⊥
+IsLost PicksLine label what file number part old new block rest (error.Line name n e) =
     (name.now ≡ file) × (n ≡ number) × PicksLine part (Err e) × (new ≡ old) × (rest ≡ block)
-IsLost PicksLine what file number part old new block rest (error.Input name why) = ⊥
-IsLost PicksLine what file number part old new block rest error.NoMemory = ⊥
-IsLost PicksLine what file number part old new block rest (error.File name e) = ⊥
-IsLost PicksLine what file number part old new block rest error.Output =
-    PicksLine part (Ok true) × Part old new (block ++ line_written what part)
+IsLost PicksLine label what file number part old new block rest (error.Input name why) = ⊥
+IsLost PicksLine label what file number part old new block rest error.NoMemory = ⊥
+IsLost PicksLine label what file number part old new block rest (error.File name e) = ⊥
+IsLost PicksLine label what file number part old new block rest error.Output =
+    PicksLine part (Ok true) × Part old new (block ++ line_written label what part)
 
 -- the line of a part is gathered, if it is one and is picked
-abbrev pub GathersPart : (List ℕ → Result Bool LineError → Type 0) → Written → List ℕ → ℕ → List ℕ → Bool → State → State → Gathered → Gathered
+abbrev pub GathersPart : (List ℕ → Result Bool LineError → Type 0) → List ℕ → Written → List ℕ → ℕ → List ℕ → Bool → State → State → Gathered → Gathered
     → Result (Unit {0}) CommandError → Type 0
-GathersPart PicksLine what file number part more old new before after (Ok _) = (picked : List (List ℕ))
+GathersPart PicksLine label what file number part more old new before after (Ok _) = (picked : List (List ℕ))
     × ArePicked PicksLine (lines_of_part part more) picked × (after.count ≡ before.count + length picked) × (length picked ≤ 1)
-    × Collects old new before.block after.block (flat_map (line_written what) picked) (Ok tt)
-GathersPart PicksLine what file number part more old new before after (Err e) =
-    (lines_of_part part more ≡ part ∷ []) × IsLost PicksLine what file number part old new before.block after.block e
+    × Collects old new before.block after.block (flat_map (line_written label what) picked) (Ok tt)
+GathersPart PicksLine label what file number part more old new before after (Err e) =
+    (lines_of_part part more ≡ part ∷ []) × IsLost PicksLine label what file number part old new before.block after.block e
 
 -- what is written behind the lines
-abbrev pub rest_written : Written → ℕ → List ℕ
-rest_written written.Lines count = []
-rest_written written.Count count = line (decimal count)
-rest_written written.Nothing count = []
+abbrev pub rest_written : List ℕ → Written → ℕ → List ℕ
+rest_written label written.Lines count = []
+rest_written label written.Count count = label ++ line (decimal count)
+rest_written label written.Nothing count = []
 
 -- yes if a line was counted
 abbrev pub IsCounted : ℕ → Verdict → Type 0
@@ -67,9 +72,9 @@ IsCounted count Yes = 0 < count
 IsCounted count No = count ≡ 0
 
 -- all that was gathered is written
-abbrev pub Finishes : Written → State → State → Gathered → Result Verdict CommandError → Type 0
-Finishes what old new gathered r = (verdict : Verdict) × (w : Result (Unit {0}) OutputFailed) × IsCounted gathered.count verdict
-    × Writes old new (gathered.block ++ rest_written what gathered.count) w × (r ≡ by_output verdict w)
+abbrev pub Finishes : List ℕ → Written → State → State → Gathered → Result Verdict CommandError → Type 0
+Finishes label what old new gathered r = (verdict : Verdict) × (w : Result (Unit {0}) OutputFailed) × IsCounted gathered.count verdict
+    × Writes old new (gathered.block ++ rest_written label what gathered.count) w × (r ≡ by_output verdict w)
 
 -- the error for which no more lines are read, or that the output has failed at what is not yet written
 abbrev pub ended_by : CommandError → Result (Unit {0}) OutputFailed → CommandError
@@ -97,8 +102,27 @@ told_behind file (Some n) (Ok verdict) = Err (error.Line file n TooLong)
 told_behind file (Some n) (Err e) = Err e
 
 -- what becomes of a file that is read line by line, of which these bytes are known
-abbrev pub Streams : (List ℕ → Result Bool LineError → Type 0) → Written → List ℕ → Option (List ℕ) → State → State → Result Verdict CommandError → Type 0
-Streams PicksLine what file known old new r =
+abbrev pub Streams : (List ℕ → Result Bool LineError → Type 0) → List ℕ → Written → List ℕ → Option (List ℕ) → State → State → Result Verdict CommandError → Type 0
+Streams PicksLine label what file known old new r =
     ((answer : List ℕ) × (verdict : Verdict) × (w : Result (Unit {0}) OutputFailed)
-    × IfSome known (λ text. IsMatch PicksLine what text None answer verdict) × Answered old new answer w × (r ≡ by_output verdict w))
-    ⊎ IsCutShort (λ answer e. IfSome known (λ text. IsEndedBy PicksLine what text answer e)) file old new r
+    × IfSome known (λ text. IsMatch PicksLine label what text None answer verdict) × Answered old new answer w × (r ≡ by_output verdict w))
+    ⊎ IsCutShort (λ answer e. IfSome known (λ text. IsEndedBy PicksLine label what text answer e)) file old new r
+
+-- the same of a file that is opened first: nothing is written of one that can't be opened
+abbrev pub StreamsFile : (List ℕ → Result Bool LineError → Type 0) → List ℕ → Written → List ℕ → Option Text → State → State → Result Verdict CommandError → Type 0
+StreamsFile PicksLine label what file contents old new r =
+    ((new ≡ old) × (e : CommandError) × (r ≡ Err e) × IsNotReadFurther file e)
+    ⊎ ((known : Option (List ℕ)) × ((text : Text) → contents ≡ Some text → known ≡ Some text.bytes) × Streams PicksLine label what file known old new r)
+
+-- some files were read to their ends, and all of this was written
+abbrev pub AreStreamed : (List ℕ → Option Text) → (List ℕ → Result Bool LineError → Type 0) → Written → List (List ℕ) → State → State → Verdict → Type 0
+AreStreamed contents PicksLine what files old new verdict =
+    (answer : List ℕ) × AreMatched contents PicksLine what files answer verdict × Whole old new answer
+
+-- what becomes of files that are read one after another
+abbrev pub StreamsEach : (List ℕ → Option Text) → (List ℕ → Result Bool LineError → Type 0) → Written → List (List ℕ) → State → State → Result Verdict CommandError → Type 0
+StreamsEach contents PicksLine what files old new r =
+    ((answer : List ℕ) × (verdict : Verdict) × (w : Result (Unit {0}) OutputFailed)
+    × IsMatchOfEach contents PicksLine what files answer verdict × Answered old new answer w × (r ≡ by_output verdict w))
+    ⊎ ((before after : List (List ℕ)) × (file : List ℕ) × (files ≡ before ++ file ∷ after)
+    × IsCutShort (IsEndedIn contents PicksLine what before file) file old new r)

@@ -19,7 +19,7 @@ use Rattle.netset_commands.specs.declared.commands.matching.Written.TheVariants 
 use Rattle.cidr_lists.specs.Fields.{FieldSays, IsBadField}
 use Rattle.cidr_lists.specs.Within.{LiesIn, HasOneIn}
 use Rattle.cidr_lists.specs.Lines.{lines_in}
-use Rattle.cidr_lists.specs.Lists.{IsTooLong}
+use Rattle.cidr_lists.specs.Lists.{IsTooLong, Text}
 
 -- ---- options
 -- the word is this one
@@ -71,16 +71,20 @@ ArePicked PicksLine lines picked =
     (marks : List Bool) × AllZip (λ line mark. PicksLine line (Ok mark)) lines marks × (picked ≡ items_where_true marks lines)
 
 -- ---- what is written
--- of a picked line, while lines are read
-abbrev pub line_written : Written → List ℕ → List ℕ
-line_written written.Lines l = line l
-line_written what l = []
+-- what stands in front of a line of a file that is not the only one: its name and a colon
+abbrev pub file_label : List ℕ → List ℕ
+file_label name = name ++ codes ":"
+
+-- of a picked line, while lines are read; the label stands in front
+abbrev pub line_written : List ℕ → Written → List ℕ → List ℕ
+line_written label written.Lines l = label ++ line l
+line_written label what l = []
 
 -- of all lines that were picked
-abbrev pub all_written : Written → List (List ℕ) → List ℕ
-all_written written.Lines picked = flat_map line picked
-all_written written.Count picked = line (decimal (length picked))
-all_written written.Nothing picked = []
+abbrev pub all_written : List ℕ → Written → List (List ℕ) → List ℕ
+all_written label written.Lines picked = flat_map (line_written label written.Lines) picked
+all_written label written.Count picked = label ++ line (decimal (length picked))
+all_written label written.Nothing picked = []
 
 -- no line is left, or -q needs no more
 abbrev pub IsEnough : Written → List (List ℕ) → List (List ℕ) → Type 0
@@ -98,15 +102,15 @@ IsFirstLong lines (Some n) = (before : List (List ℕ)) × (line : List ℕ) × 
     × (n ≡ length before + 1) × IsTooLong line × AllByRecursion (λ line. ¬ (IsTooLong line)) before
 
 -- what is written of a text, the first of the lines that were read that is too long, if one is, and whether a line was picked
-abbrev pub IsMatch : (List ℕ → Result Bool LineError → Type 0) → Written → List ℕ → Option ℕ → List ℕ → Verdict → Type 0
-IsMatch PicksLine what text long answer verdict = (read left picked : List (List ℕ))
+abbrev pub IsMatch : (List ℕ → Result Bool LineError → Type 0) → List ℕ → Written → List ℕ → Option ℕ → List ℕ → Verdict → Type 0
+IsMatch PicksLine label what text long answer verdict = (read left picked : List (List ℕ))
     × ReadTo (ArePicked PicksLine) (lines_in text) read left picked × IsFirstLong read long
-    × IsEnough what left picked × (answer ≡ all_written what picked) × ArePickedBy picked verdict
+    × IsEnough what left picked × (answer ≡ all_written label what picked) × ArePickedBy picked verdict
 
 -- the text was not read to its end, for this reason, and this belongs to the lines that were picked
-abbrev pub IsCutAt : (List ℕ → Result Bool LineError → Type 0) → Written → List ℕ → List ℕ → CommandError → Type 0
-IsCutAt PicksLine what text answer e = (picked : List (List ℕ))
-    × IsCut (ArePicked PicksLine) (IsErrorBy PicksLine) (lines_in text) picked e × (answer ≡ flat_map (line_written what) picked)
+abbrev pub IsCutAt : (List ℕ → Result Bool LineError → Type 0) → List ℕ → Written → List ℕ → List ℕ → CommandError → Type 0
+IsCutAt PicksLine label what text answer e = (picked : List (List ℕ))
+    × IsCut (ArePicked PicksLine) (IsErrorBy PicksLine) (lines_in text) picked e × (answer ≡ flat_map (line_written label what) picked)
 
 -- the error is that this line is too long, or that the output has failed
 abbrev pub IsLongOrLost : ℕ → CommandError → Type 0
@@ -115,10 +119,41 @@ IsLongOrLost n error.Output = Unit {0}
 IsLongOrLost n e = ⊥
 
 -- the text was answered, but for lines that are too long, and the first of these is the error
-abbrev pub IsMatchBut : (List ℕ → Result Bool LineError → Type 0) → Written → List ℕ → List ℕ → CommandError → Type 0
-IsMatchBut PicksLine what text answer e =
-    (n : ℕ) × (verdict : Verdict) × IsMatch PicksLine what text (Some n) answer verdict × IsLongOrLost n e
+abbrev pub IsMatchBut : (List ℕ → Result Bool LineError → Type 0) → List ℕ → Written → List ℕ → List ℕ → CommandError → Type 0
+IsMatchBut PicksLine label what text answer e =
+    (n : ℕ) × (verdict : Verdict) × IsMatch PicksLine label what text (Some n) answer verdict × IsLongOrLost n e
 
 -- either
-abbrev pub IsEndedBy : (List ℕ → Result Bool LineError → Type 0) → Written → List ℕ → List ℕ → CommandError → Type 0
-IsEndedBy PicksLine what text answer e = IsCutAt PicksLine what text answer e ⊎ IsMatchBut PicksLine what text answer e
+abbrev pub IsEndedBy : (List ℕ → Result Bool LineError → Type 0) → List ℕ → Written → List ℕ → List ℕ → CommandError → Type 0
+IsEndedBy PicksLine label what text answer e = IsCutAt PicksLine label what text answer e ⊎ IsMatchBut PicksLine label what text answer e
+
+-- ---- several files
+-- yes if one of the two is
+abbrev pub either : Verdict → Verdict → Verdict
+either Yes other = Yes
+either No other = other
+
+-- what is written of some files, one after another, each with its name in front, and whether a line of one was picked; no
+-- line that was read is too long
+abbrev pub AreMatched : (List ℕ → Option Text) → (List ℕ → Result Bool LineError → Type 0) → Written → List (List ℕ) → List ℕ → Verdict → Type 0
+AreMatched contents PicksLine what [] answer verdict = (answer ≡ []) × (verdict ≡ No)
+AreMatched contents PicksLine what (file ∷ files) answer verdict = (first rest : List ℕ) × (one other : Verdict)
+    × ((text : Text) → contents file ≡ Some text → IsMatch PicksLine (file_label file) what text.bytes None first one)
+    × AreMatched contents PicksLine what files rest other × (answer ≡ first ++ rest) × (verdict ≡ either one other)
+
+-- no file is left, or -q needs no more
+abbrev pub AreEnough : Written → List (List ℕ) → Verdict → Type 0
+AreEnough what left verdict = (left ≡ []) ⊎ ((what ≡ written.Nothing) × (verdict ≡ Yes))
+
+-- the same of as many of the files as are needed
+abbrev pub IsMatchOfEach : (List ℕ → Option Text) → (List ℕ → Result Bool LineError → Type 0) → Written → List (List ℕ) → List ℕ → Verdict → Type 0
+IsMatchOfEach contents PicksLine what files answer verdict = (read left : List (List ℕ))
+    × (files ≡ read ++ left) × AreMatched contents PicksLine what read answer verdict × AreEnough what left verdict
+
+-- behind these files one was not read to its end, for this reason, or has lines that are too long, or the output failed at
+-- what is written of it; and this belongs to all of them
+abbrev pub IsEndedIn : (List ℕ → Option Text) → (List ℕ → Result Bool LineError → Type 0) → Written → List (List ℕ) → List ℕ → List ℕ → CommandError → Type 0
+IsEndedIn contents PicksLine what before file answer e = (first rest : List ℕ) × (verdict : Verdict)
+    × AreMatched contents PicksLine what before first verdict × (answer ≡ first ++ rest)
+    × ((text : Text) → contents file ≡ Some text → IsEndedBy PicksLine (file_label file) what text.bytes rest e
+    ⊎ ((one : Verdict) × IsMatch PicksLine (file_label file) what text.bytes None rest one × (e ≡ error.Output)))

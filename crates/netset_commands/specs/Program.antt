@@ -11,7 +11,7 @@ use Rattle.cidr_io.specs.Writing.{State, Answered, Tells}
 use Rattle.cidr_io.specs.declared.sink.OutputFailed.{OutputFailed}
 use Rattle.cidr_lists.specs.Lists.{Text, text_by, ListSays, IsFirstError}
 use Rattle.netset_commands.specs.Arguments.{line_request}
-use Rattle.netset_commands.specs.Commands.{Request, Lists, Styled, NotIn, Diff, Free, Split, Check, Which, Match, Look, Compile, Describe, Single, ReadsInputTwice, input_name, read_files, AreLists, AreTold, HoldsOf, IsAnswer}
+use Rattle.netset_commands.specs.Commands.{Request, Lists, Styled, NotIn, Diff, Free, Split, Check, Which, Match, MatchEach, Look, Compile, Describe, Single, ReadsInputTwice, input_name, read_files, AreLists, AreTold, HoldsOf, IsAnswer}
 use Rattle.netset_commands.specs.Causes.{Cause, FileMayFail}
 use Rattle.netset_commands.specs.Compiled.{IsTooLarge}
 use Rattle.netset_commands.specs.Describing.{IsNoLength}
@@ -23,7 +23,7 @@ use Rattle.cidr_lists.specs.Messages.{fault_line, fault_words}
 use Rattle.cidr_lists.specs.Tables.{IsTable}
 use Rattle.netset_commands.specs.Look.{IsLookCut, IsUnreadTable}
 use Rattle.netset_commands.specs.Stored.{IsNoTable, IsNotGiven}
-use Rattle.netset_commands.specs.Matching.{has, written_of, IsEndedBy, Picks}
+use Rattle.netset_commands.specs.Matching.{has, written_of, IsEndedBy, IsEndedIn, Picks}
 use Rattle.netset_commands.specs.Streaming.{IsCutShort}
 use Rattle.netset_commands.specs.Single.{HasNone, IsBadSingle, IsNoNetwork, IsNumber}
 use Rattle.netset_commands.specs.Unchecked.{IsUnchecked}
@@ -104,6 +104,7 @@ IsRequestRefused contents (Check files) (Err e) = IsUnchecked contents (read_fil
 IsRequestRefused contents (Which text files) (Err e) = IsBadArgument (IsNoAddressArgument text) e
     ⊎ ((address : IpAddr) × IsIpText text address × IsUnchecked contents (read_files files) e)
 IsRequestRefused contents (Match options list file) (Err e) = IsNotGiven (IsUnread contents (list ∷ [])) (contents list) list e ⊎ IsInputError file e
+IsRequestRefused contents (MatchEach options list files) (Err e) = IsNotGiven (IsUnread contents (list ∷ [])) (contents list) list e
 IsRequestRefused contents (Look table file) (Err e) = IsNoTable (contents table) table e ⊎ IsInputError file e
 IsRequestRefused contents (Describe what operand) (Err e) = IsNoLength what operand × IsUnreadOperand contents operand e
 IsRequestRefused contents (Single request) (Err e) = IsBadArgument (IsBadSingle request) e
@@ -125,7 +126,12 @@ AnswersWhole contents request old new r =
 -- what belongs to the lines that `match` has read of its file, if it was not read to its end, or has lines that are too long
 abbrev pub IsMatchUntil : (List ℕ → Option Text) → List (List ℕ) → List ℕ → List ℕ → List ℕ → CommandError → Type 0
 IsMatchUntil contents options list file answer e = (networks text : Text) → contents list ≡ Some networks → contents file ≡ Some text
-    → HoldsOf networks (λ IsIn. IsEndedBy (Picks (has (codes "--any") options) IsIn (has (codes "-v") options)) (written_of options) text.bytes answer e)
+    → HoldsOf networks (λ IsIn. IsEndedBy (Picks (has (codes "--any") options) IsIn (has (codes "-v") options)) [] (written_of options) text.bytes answer e)
+
+-- the same of several files, of which those before this one were read to their ends
+abbrev pub IsMatchEachUntil : (List ℕ → Option Text) → List (List ℕ) → List ℕ → List (List ℕ) → List ℕ → List ℕ → CommandError → Type 0
+IsMatchEachUntil contents options list before file answer e = (networks : Text) → contents list ≡ Some networks → HoldsOf networks
+    (λ IsIn. IsEndedIn contents (Picks (has (codes "--any") options) IsIn (has (codes "-v") options)) (written_of options) before file answer e)
 
 -- the same of `look`
 abbrev pub IsLookUntil : (List ℕ → Option Text) → List ℕ → List ℕ → List ℕ → CommandError → Type 0
@@ -149,6 +155,9 @@ IsCompiled contents table name (Err e) =
 abbrev pub AnswersRequest : (List ℕ → Option Text) → Request → State → State → Result Verdict CommandError → Type 0
 AnswersRequest contents (Match options list file) old new r =
     AnswersWhole contents (Match options list file) old new r ⊎ IsCutShort (IsMatchUntil contents options list file) file old new r
+AnswersRequest contents (MatchEach options list files) old new r = AnswersWhole contents (MatchEach options list files) old new r
+    ⊎ ((before after : List (List ℕ)) × (file : List ℕ) × (files ≡ before ++ file ∷ after)
+    × IsCutShort (IsMatchEachUntil contents options list before file) file old new r)
 AnswersRequest contents (Look table file) old new r =
     AnswersWhole contents (Look table file) old new r ⊎ IsCutShort (IsLookUntil contents table file) file old new r
 AnswersRequest contents (Compile table name) old new r = (new ≡ old) × IsCompiled contents table name r

@@ -88,6 +88,7 @@ most_of (Lists operation) = None
 most_of Free = None
 most_of Check = None
 most_of Which = None
+most_of Match = None
 most_of (Describe what) = Some 1
 most_of Show = Some 1
 most_of Help = Some 1

@@ -6,7 +6,7 @@ use Rattle.cidr_io.specs.Writing.{State, Whole, Tells}
 use Rattle.cidr_lists.specs.Lists.{Text}
 use Rattle.cidr_lists.specs.Formats.{bare, format_name}
 use Rattle.netset_commands.specs.Arguments.{asks_help, is_option, missing_operand, takes}
-use Rattle.netset_commands.specs.Commands.{Request, Lists, Styled, NotIn, Diff, Free, Split, Check, Which, Match, Look, Compile, Describe, Single, Help, Version, IsAnswer, input_name, reading_of}
+use Rattle.netset_commands.specs.Commands.{Request, Lists, Styled, NotIn, Diff, Free, Split, Check, Which, Match, MatchEach, Look, Compile, Describe, Single, Help, Version, IsAnswer, input_name, reading_of}
 use Rattle.netset_commands.specs.Free.{First, Count, All}
 use Rattle.netset_commands.specs.Matching.{has}
 use Rattle.netset_commands.specs.Program.{answer_status, contents_by}
@@ -45,6 +45,9 @@ IsTyped words options (Split operand len) = AreTyped verb.Split options [] (oper
 IsTyped words options (Check files) = AreTyped verb.Check options [] files words
 IsTyped words options (Which address files) = AreTyped verb.Which options [] (address ∷ files) words
 IsTyped words options (Match given list file) = (given ≡ options) × AreTypedFor verb.Match options list file words
+IsTyped words options (MatchEach given list (first ∷ second ∷ files)) =
+    (given ≡ options) × AreTyped verb.Match options [] (list ∷ first ∷ second ∷ files) words
+IsTyped words options (MatchEach given list files) = ⊥
 IsTyped words options (Look table file) = AreTypedFor verb.Look options table file words
 IsTyped words options (Compile table name) = AreTyped verb.Compile options [] (table ∷ name ∷ []) words
 IsTyped words options (Describe what operand) = AreTyped (verb.Describe what) options [] (operand ∷ []) words

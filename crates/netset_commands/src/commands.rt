@@ -59,6 +59,8 @@ pub enum Command<'a> {
     Which(&'a str, &'a [&'a str]),
     /// The options, the list, and the file of which lines are picked.
     Match(&'a [&'a str], &'a str, &'a str),
+    /// The options, the list, and the files of which lines are picked.
+    MatchEach(&'a [&'a str], &'a str, &'a [&'a str]),
     /// The longest networks of the first file that have the addresses of the second one.
     Look(&'a str, &'a str),
     /// The table that is compiled, and the file that is written.
@@ -156,6 +158,7 @@ impl<'a> Command<'a> {
                 names.extend_from_slice(used)?;
             }
             Command::Match(_, list, _)
+            | Command::MatchEach(_, list, _)
             | Command::Look(list, _)
             | Command::Compile(list, _)
             | Command::Split(list, _)
@@ -180,6 +183,7 @@ impl<'a> Command<'a> {
             | Command::Check(_)
             | Command::Which(_, _)
             | Command::Match(_, _, _)
+            | Command::MatchEach(_, _, _)
             | Command::Look(_, _)
             | Command::Compile(_, _)
             | Command::Single(_)
@@ -199,7 +203,7 @@ impl<'a> Command<'a> {
         }
     }
 
-    /// The files that are read: the lists, and another one behind them.
+    /// The files that are read: the lists, and others behind them.
     pub fn files<M: Memory>(&self, memory: &mut M) -> Result<Vec<&'a str>, AllocError>
         ensures names { IfOk result (λ names. texts names.items
             ≡ lists_of (request_of self.now) ++ others_of (request_of self.now)) }
@@ -208,6 +212,10 @@ impl<'a> Command<'a> {
         let mut names = self.lists(memory)?;
         match self {
             Command::Match(_, _, file) | Command::Look(_, file) => memory.push(&mut names, *file)?,
+            Command::MatchEach(_, _, files) => {
+                let added = names.extend_from_slice(files);
+                memory.watch(added)?;
+            }
             _ => {}
         }
         Ok(names)

@@ -25,7 +25,7 @@ use crate::commands::free::{free, length_of, most_of};
 use crate::commands::help::write_help;
 use crate::commands::inside::not_in;
 use crate::commands::look::look;
-use crate::commands::matching::matching;
+use crate::commands::matching::{match_each, matching};
 use crate::commands::operations::{Operation, form_of};
 use crate::commands::single::{answer_single, network_of};
 use crate::commands::split::split;
@@ -124,6 +124,9 @@ fn answer<'a, M: Memory, F: Sources, D: Folder, O: Sink>(
         Command::Check(files) => check(memory, sources, files, out),
         Command::Which(address, files) => which(memory, sources, address, files, out),
         Command::Match(options, list, file) => matching(memory, sources, options, list, file, out),
+        Command::MatchEach(options, list, files) => {
+            match_each(memory, sources, options, list, files, out)
+        }
         Command::Look(table, file) => look(memory, sources, table, file, out),
         Command::Compile(table, name) => compile(memory, sources, table, name, folder),
         Command::Describe(what, operand) => describe(memory, sources, what, operand, out),
@@ -160,6 +163,7 @@ fn wrong_argument<'a>(command: Command<'a>) -> Option<CommandError<'a>>
         | Command::Diff(_, _)
         | Command::Check(_)
         | Command::Match(_, _, _)
+        | Command::MatchEach(_, _, _)
         | Command::Look(_, _)
         | Command::Split(_, _)
         | Command::Describe(_, _)

@@ -1,7 +1,7 @@
 //! The words of a command line as options and operands, and the command that they are.
 ghost use Rattle.std.specs.Prelude.{◌≡◌, ◌<◌, [], Ok, Err, Bool, true, false, length, drop, MatchOption, MatchResult, option_map, unwrap_or};
 ghost use Rattle.std.specs.List.{after_first, before_first};
-ghost use Rattle.netset_commands.specs.Arguments.{asks_help, chosen_style, extent_by, extra_operand, fresh, full_name, help_request, is_equals, is_plain, is_option, is_topic, letter_parts, line_parts, lists_request, long_parts, made_request, misuse_text, missing_operand, named_format, named_verb, no_option, no_parts, operand_or, part_request, parts_from, short_option, some_style, style_in_values, style_of, taken_value, takes, topic_parts, value_of, verb_of, verb_request, word_parts};
+ghost use Rattle.netset_commands.specs.Arguments.{asks_help, chosen_style, extent_by, extra_operand, fresh, full_name, help_request, is_equals, is_plain, is_option, is_topic, letter_parts, line_parts, lists_request, long_parts, made_request, match_request, misuse_text, missing_operand, named_format, named_verb, no_option, no_parts, operand_or, part_request, parts_from, short_option, some_style, style_in_values, style_of, taken_value, takes, topic_parts, value_of, verb_of, verb_request, word_parts};
 ghost use Rattle.netset_commands.specs.Command.{AddsParts, IsUsageError, given, extent_of, misuse_line, parts_in, request_of};
 ghost use Rattle.netset_commands.specs.Matching.{is_word};
 ghost use Rattle.netset_commands.specs.Table.{name_of, takes_value, texts};
@@ -602,6 +602,26 @@ fn help_command<'a>(operands: &[&'a str]) -> Result<Command<'a>, Misuse<'a>>
     }
 }
 
+/// The command `match`, of several files where there is a third operand, and else of one or of the standard input.
+fn match_command<'a>(parts: &'a Parts<'a>) -> Command<'a>
+    ensures { request_of result ≡ match_request (parts_in parts.now) }
+{
+    let options = parts.options.as_slice();
+    let operands = parts.operands.as_slice();
+    match operands.get(2) {
+        None => Command::Match(
+            options,
+            operand_or(operands, 0, ""),
+            operand_or(operands, 1, "-"),
+        ),
+        Some(_) => Command::MatchEach(
+            options,
+            operand_or(operands, 0, ""),
+            operands_from(operands, 1),
+        ),
+    }
+}
+
 /// The command with as many operands as it takes.
 fn verb_command<'a>(verb: Verb, parts: &'a Parts<'a>) -> Result<Command<'a>, Misuse<'a>>
     ensures { MatchResult result (λ command. verb_request verb (parts_in parts.now) ≡ Ok (request_of command))
@@ -616,11 +636,7 @@ fn verb_command<'a>(verb: Verb, parts: &'a Parts<'a>) -> Result<Command<'a>, Mis
         Verb::Which => {
             Ok(Command::Which(operand_or(operands, 0, ""), operands_from(operands, 1)))
         }
-        Verb::Match => Ok(Command::Match(
-            parts.options.as_slice(),
-            operand_or(operands, 0, ""),
-            operand_or(operands, 1, "-"),
-        )),
+        Verb::Match => Ok(match_command(parts)),
         Verb::Look => Ok(Command::Look(operand_or(operands, 0, ""), operand_or(operands, 1, "-"))),
         Verb::Compile => Ok(Command::Compile(
             operand_or(operands, 0, ""),

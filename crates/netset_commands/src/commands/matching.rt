@@ -1,15 +1,18 @@
-//! The command `match`: the lines of a file whose first field lies in a list, or that have an address of it.
-ghost use Rattle.std.specs.Prelude.{◌≡◌, ◌<◌, ◌++◌, [], ◌∷◌, true, false, not, if◌then◌else◌, map, IfOk, IfErr, IfSome, None};
+//! The command `match`: the lines of files whose first field lies in a list, or that have an address of it.
+ghost use Rattle.std.specs.Prelude.{◌≡◌, ◌<◌, ◌++◌, [], ◌∷◌, codes, true, false, not, if◌then◌else◌, map, IfOk, IfErr, IfSome, None};
 ghost use Rattle.std.specs.Bool.{Decides};
 ghost use Rattle.cidr_io.specs.Lines.{MayFail as NoLineFails};
 ghost use Rattle.cidr_io.specs.Writing.{Writes};
 ghost use Rattle.cidr_io.specs.Collecting.{Collects};
 ghost use Rattle.netset_commands.specs.Causes.{Cause, FileMayFail, TextFails};
-ghost use Rattle.netset_commands.specs.Commands.{Match};
-ghost use Rattle.netset_commands.specs.Gathering.{Finishes, IsCounted, IsDone, IsNotReadFurther, NotesLong, Stops, Streams, GathersPart, lines_of_part, rest_written, told_behind};
-ghost use Rattle.netset_commands.specs.Matching.{Picks, PicksByField, has, line_written, passed_over, written_of};
+ghost use Rattle.netset_commands.specs.Commands.{Match, MatchEach};
+ghost use Rattle.netset_commands.specs.Gathering.{Finishes, IsCounted, IsDone, IsNotReadFurther, NotesLong, Stops, Streams, StreamsEach, StreamsFile, GathersPart, label_of, lines_of_part, rest_written, told_behind};
+ghost use Rattle.netset_commands.specs.Matching.{Picks, PicksByField, either, has, line_written, passed_over, written_of};
 ghost use Rattle.netset_commands.specs.Program.{AnswersRequest};
 ghost use Rattle.netset_commands.specs.Reading.{IsNextLine};
+ghost use Rattle.netset_commands.specs.declared.commands.matching.Written.TheVariants.{Nothing};
+ghost use Rattle.netset_commands.specs.declared.output.answers.Verdict.TheVariants.{Yes};
+ghost use Rattle.cidr_lists.specs.Printing.{line as line_of};
 ghost use Rattle.cidr_lists.specs.Sets.{IsInSets};
 
 use crate::errors::{CommandError, Reason};
@@ -65,6 +68,25 @@ struct Matcher<'a> {
     anywhere: bool,
     inverted: bool,
     written: Written,
+    /// The name in front of what is written of a file that is not the only one.
+    name: Option<&'a str>,
+}
+
+/// The matcher of these options.
+fn matcher_of<'a>(sets: &'a Sets, options: &[&str]) -> Matcher<'a>
+    ensures sets { result.sets.now ≡ sets.now }
+    ensures anywhere { result.anywhere ≡ has (codes "--any") (map (λ w. w.now) options.now) }
+    ensures inverted { result.inverted ≡ has (codes "-v") (map (λ w. w.now) options.now) }
+    ensures written { result.written ≡ written_of (map (λ w. w.now) options.now) }
+    ensures name { result.name ≡ None }
+{
+    Matcher {
+        sets,
+        anywhere: has(options, "--any"),
+        inverted: has(options, "-v"),
+        written: written_of(options),
+        name: None,
+    }
 }
 
 impl Matcher<'_> {
@@ -173,19 +195,38 @@ impl Gathered {
         }
     }
 
-    /// Adds what is written of a line.
-    fn push<S: Sink>(
+    /// Adds a line, with a name in front if there is one.
+    fn push_named<S: Sink>(
         &mut self,
-        written: Written,
+        name: Option<&str>,
         out: &mut S,
         line: &[u8],
     ) -> Result<(), OutputFailed>
         ensures count { self.new.count ≡ self.old.count }
         ensures collects { Collects (S.state out.old) (S.state out.new) self.old.block self.new.block
-            (line_written written line.now) result }
+            (label_of name.entry ++ line_of line.now) result }
     {
-        match written {
-            Written::Lines => self.block.push_line(out, &[line, b"\n"]),
+        match name {
+            None => self.block.push_line(out, &[line, b"\n"]),
+            Some(name) => self
+                .block
+                .push_line(out, &[name.as_bytes(), b":", line, b"\n"]),
+        }
+    }
+
+    /// Adds what is written of a line.
+    fn push<S: Sink>(
+        &mut self,
+        matcher: &Matcher<'_>,
+        out: &mut S,
+        line: &[u8],
+    ) -> Result<(), OutputFailed>
+        ensures count { self.new.count ≡ self.old.count }
+        ensures collects { Collects (S.state out.old) (S.state out.new) self.old.block self.new.block
+            (line_written (label_of matcher.now.name) matcher.now.written line.now) result }
+    {
+        match matcher.written {
+            Written::Lines => self.push_named(matcher.name, out, line),
             Written::Count | Written::Nothing => Ok(()),
         }
     }
@@ -202,7 +243,7 @@ impl Gathered {
     ) -> Result<(), CommandError<'a>>
         requires { self.old.count < number }
         ensures { GathersPart (Picks matcher.now.anywhere (IsInSets matcher.now.sets.now) matcher.now.inverted)
-            matcher.now.written file.now number part.now has_more (S.state out.old) (S.state out.new)
+            (label_of matcher.now.name) matcher.now.written file.now number part.now has_more (S.state out.old) (S.state out.new)
             self.old self.new result }
     {
         if !is_line(part, has_more) {
@@ -211,7 +252,7 @@ impl Gathered {
         match matcher.picks(part) {
             Ok(true) => {
                 self.count += 1;
-                match self.push(matcher.written, out, part) {
+                match self.push(matcher, out, part) {
                     Ok(()) => Ok(()),
                     Err(_) => Err(CommandError::Output),
                 }
@@ -259,38 +300,47 @@ impl Gathered {
     }
 
     /// Adds what is written behind the lines.
-    fn push_count<S: Sink>(&mut self, written: Written, out: &mut S) -> Result<(), OutputFailed>
+    fn push_count<S: Sink>(
+        &mut self,
+        matcher: &Matcher<'_>,
+        out: &mut S,
+    ) -> Result<(), OutputFailed>
         ensures { Collects (S.state out.old) (S.state out.new) self.old.block self.new.block
-            (rest_written written self.old.count) result }
+            (rest_written (label_of matcher.now.name) matcher.now.written self.old.count) result }
     {
-        match written {
+        match matcher.written {
             Written::Count => {
                 let mut digits = Buffer::new();
                 let count = digits.format(self.count);
-                self.block.push_line(out, &[count.as_bytes(), b"\n"])
+                self.push_named(matcher.name, out, count.as_bytes())
             }
             Written::Lines | Written::Nothing => Ok(()),
         }
     }
 
     /// Writes what is not yet written.
-    fn write_rest<S: Sink>(&mut self, written: Written, out: &mut S) -> Result<(), OutputFailed>
-        ensures { Writes (S.state out.old) (S.state out.new) (self.old.block ++ rest_written written self.old.count) result }
+    fn write_rest<S: Sink>(
+        &mut self,
+        matcher: &Matcher<'_>,
+        out: &mut S,
+    ) -> Result<(), OutputFailed>
+        ensures { Writes (S.state out.old) (S.state out.new)
+            (self.old.block ++ rest_written (label_of matcher.now.name) matcher.now.written self.old.count) result }
     {
-        self.push_count(written, out)?;
+        self.push_count(matcher, out)?;
         self.block.flush(out)
     }
 
     /// Writes what is not yet written, and tells whether there was a line.
     fn finish<'a, S: Sink>(
         &mut self,
-        written: Written,
+        matcher: &Matcher<'_>,
         out: &mut S,
     ) -> Result<Verdict, CommandError<'a>>
-        ensures { Finishes written (S.state out.old) (S.state out.new) self.old result }
+        ensures { Finishes (label_of matcher.now.name) matcher.now.written (S.state out.old) (S.state out.new) self.old result }
     {
         let verdict = verdict_of(self.count);
-        by_output(verdict, self.write_rest(written, out))
+        by_output(verdict, self.write_rest(matcher, out))
     }
 }
 
@@ -323,7 +373,7 @@ fn stream<'a, M: Memory, R: Source + Drop, S: Sink>(
     out: &mut S,
 ) -> Result<Verdict, CommandError<'a>>
     ensures streams { Streams (Picks matcher.now.anywhere (IsInSets matcher.now.sets.now) matcher.now.inverted)
-        matcher.now.written file.now reader.old.left (S.state out.old) (S.state out.new) result }
+        (label_of matcher.now.name) matcher.now.written file.now reader.old.left (S.state out.old) (S.state out.new) result }
     ensures cause { IfErr result (Cause (λ name. (name ≡ file.now) × TextFails reader.old.left) (M.refused memory.new)) }
 {
     if out.failed() {
@@ -345,13 +395,35 @@ fn stream<'a, M: Memory, R: Source + Drop, S: Sink>(
             Err(e) => return gathered.stop(e, out),
         }
         if gathered.is_done(matcher.written, has_more) {
-            return told_behind(file, long, gathered.finish(matcher.written, out));
+            return told_behind(file, long, gathered.finish(matcher, out));
         }
     }
     gathered.stop(CommandError::Input(file, Reason::Unknown), out)
 }
 
-/// The command `match`.
+/// Opens a file, and writes what is written of its lines that are picked.
+fn match_file<'a, M: Memory, F: Sources, O: Sink>(
+    memory: &mut M,
+    sources: &F,
+    matcher: &Matcher<'_>,
+    file: &'a str,
+    out: &mut O,
+) -> Result<Verdict, CommandError<'a>>
+    ensures streams { StreamsFile (Picks matcher.now.anywhere (IsInSets matcher.now.sets.now) matcher.now.inverted)
+        (label_of matcher.now.name) matcher.now.written file.now (F.contents sources.now file.now) (O.state out.old) (O.state out.new) result }
+    ensures cause { IfErr result (Cause (FileMayFail (F.contents sources.now)) (M.refused memory.new)) }
+{
+    let reader = match sources.open(file) {
+        Ok(reader) => reader,
+        Err(why) => return Err(CommandError::Input(file, why)),
+    };
+    let Ok(mut reader) = LineReader::new(memory, reader) else {
+        return Err(CommandError::NoMemory);
+    };
+    stream(memory, matcher, file, &mut reader, out)
+}
+
+/// The command `match` on one file.
 pub fn matching<'a, M: Memory, F: Sources, O: Sink>(
     memory: &mut M,
     sources: &F,
@@ -365,21 +437,76 @@ pub fn matching<'a, M: Memory, F: Sources, O: Sink>(
     ensures cause { IfErr result (Cause (FileMayFail (F.contents sources.now)) (M.refused memory.new)) }
 {
     let sets = read_addresses(memory, sources, list)?;
-    let anywhere = has(options, "--any");
-    let inverted = has(options, "-v");
-    let written = written_of(options);
-    let matcher = Matcher {
-        sets: &sets,
-        anywhere,
-        inverted,
-        written,
-    };
-    let reader = match sources.open(file) {
-        Ok(reader) => reader,
-        Err(why) => return Err(CommandError::Input(file, why)),
-    };
-    let Ok(mut reader) = LineReader::new(memory, reader) else {
-        return Err(CommandError::NoMemory);
-    };
-    stream(memory, &matcher, file, &mut reader, out)
+    let matcher = matcher_of(&sets, options);
+    match_file(memory, sources, &matcher, file, out)
+}
+
+/// Yes if one of the two is.
+fn either(one: Verdict, other: Verdict) -> Verdict
+    ensures { result ≡ either one other }
+{
+    match one {
+        Verdict::Yes => Verdict::Yes,
+        Verdict::No => other,
+    }
+}
+
+/// Whether no more files are needed.
+fn needs_no_more(written: Written, verdict: Verdict) -> bool
+    ensures { Decides result ((written ≡ Nothing) × (verdict ≡ Yes)) }
+{
+    written == Written::Nothing && verdict == Verdict::Yes
+}
+
+/// Writes what is written of the lines that are picked of some files, one file after another, the name of its file in
+/// front of each line. The first file that has an error is the last one. An output that has failed before gets nothing.
+fn match_files<'a, M: Memory, F: Sources, O: Sink>(
+    memory: &mut M,
+    sources: &F,
+    matcher: &Matcher<'_>,
+    files: &[&'a str],
+    out: &mut O,
+) -> Result<Verdict, CommandError<'a>>
+    ensures streams { StreamsEach (F.contents sources.now) (Picks matcher.now.anywhere (IsInSets matcher.now.sets.now) matcher.now.inverted)
+        matcher.now.written (map (λ file. file.now) files.now) (O.state out.old) (O.state out.new) result }
+    ensures cause { IfErr result (Cause (FileMayFail (F.contents sources.now)) (M.refused memory.new)) }
+{
+    if out.failed() {
+        return Err(CommandError::Output);
+    }
+    let mut verdict = Verdict::No;
+    for file in files {
+        let named = Matcher {
+            sets: matcher.sets,
+            anywhere: matcher.anywhere,
+            inverted: matcher.inverted,
+            written: matcher.written,
+            name: Some(*file),
+        };
+        let one = match_file(memory, sources, &named, file, out)?;
+        verdict = either(verdict, one);
+        if needs_no_more(matcher.written, verdict) {
+            return Ok(verdict);
+        }
+    }
+    Ok(verdict)
+}
+
+/// The command `match` on several files.
+pub fn match_each<'a, M: Memory, F: Sources, O: Sink>(
+    memory: &mut M,
+    sources: &F,
+    options: &[&str],
+    list: &'a str,
+    files: &[&'a str],
+    out: &mut O,
+) -> Result<Verdict, CommandError<'a>>
+    ensures answers { AnswersRequest (F.contents sources.now)
+        (MatchEach (map (λ w. w.now) options.now) list.now (map (λ file. file.now) files.now))
+        (O.state out.old) (O.state out.new) result }
+    ensures cause { IfErr result (Cause (FileMayFail (F.contents sources.now)) (M.refused memory.new)) }
+{
+    let sets = read_addresses(memory, sources, list)?;
+    let matcher = matcher_of(&sets, options);
+    match_files(memory, sources, &matcher, files, out)
 }

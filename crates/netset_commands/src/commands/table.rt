@@ -80,7 +80,7 @@ const WHICH: &str =
     "netset which ADDR [FILE..]\n                        the lines of the lists that have an address, which may be hosts too,\n                        and their networks\n";
 
 const MATCH: &str =
-    "netset match [--any] [-v] [-c] [-q] LIST [FILE]\n                        the lines of FILE whose first field lies in LIST, or with --any those\n                        that have an address of LIST anywhere; -v all the other lines,\n                        -c only their number, -q only the status\n";
+    "netset match [--any] [-v] [-c] [-q] LIST [FILE..]\n                        the lines of FILE whose first field lies in LIST, or with --any those\n                        that have an address of LIST anywhere; -v all the other lines,\n                        -c only their number, -q only the status; of more than one file each\n                        line behind its name and a colon\n";
 
 const LOOK: &str =
     "netset look TABLE [FILE]\n                        the longest network of each address of FILE in the lines\n                        NET VALUE of TABLE, and its value\n";
@@ -226,8 +226,8 @@ pub fn most_of(command: Verb) -> Option<usize>
     ensures { result ≡ most_of command }
 {
     match command {
-        Verb::Lists(_) | Verb::Free | Verb::Check | Verb::Which => None,
-        Verb::Diff | Verb::Match | Verb::Look | Verb::Compile | Verb::Split | Verb::Nth => Some(2),
+        Verb::Lists(_) | Verb::Free | Verb::Check | Verb::Which | Verb::Match => None,
+        Verb::Diff | Verb::Look | Verb::Compile | Verb::Split | Verb::Nth => Some(2),
         Verb::Describe(_) | Verb::Show | Verb::Help => Some(1),
         Verb::Version => Some(0),
     }

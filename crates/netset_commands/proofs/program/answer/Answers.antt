@@ -34,6 +34,9 @@ returns-in-Which-clause-answers g c = rw c.in-Which.is c.which.ensures.answers
 pub returns-in-Match-clause-answers : goal.returns-in-Match-clause-answers
 returns-in-Match-clause-answers g c = rw c.in-Match.is c.matching.ensures.answers
 
+pub returns-in-MatchEach-clause-answers : goal.returns-in-MatchEach-clause-answers
+returns-in-MatchEach-clause-answers g c = rw c.in-MatchEach.is c.match_each.ensures.answers
+
 pub returns-in-Look-clause-answers : goal.returns-in-Look-clause-answers
 returns-in-Look-clause-answers g c = rw c.in-Look.is c.look.ensures.answers
 
@@ -77,6 +80,9 @@ returns-in-Which-clause-cause g c = c.which.ensures.cause
 
 pub returns-in-Match-clause-cause : goal.returns-in-Match-clause-cause
 returns-in-Match-clause-cause g c = c.matching.ensures.cause
+
+pub returns-in-MatchEach-clause-cause : goal.returns-in-MatchEach-clause-cause
+returns-in-MatchEach-clause-cause g c = c.match_each.ensures.cause
 
 pub returns-in-Look-clause-cause : goal.returns-in-Look-clause-cause
 returns-in-Look-clause-cause g c = c.look.ensures.cause
@@ -127,6 +133,9 @@ returns-in-Which-clause-leaves g c = rw c.in-Which.is refl
 
 pub returns-in-Match-clause-leaves : goal.returns-in-Match-clause-leaves
 returns-in-Match-clause-leaves g c = rw c.in-Match.is refl
+
+pub returns-in-MatchEach-clause-leaves : goal.returns-in-MatchEach-clause-leaves
+returns-in-MatchEach-clause-leaves g c = rw c.in-MatchEach.is refl
 
 pub returns-in-Look-clause-leaves : goal.returns-in-Look-clause-leaves
 returns-in-Look-clause-leaves g c = rw c.in-Look.is refl

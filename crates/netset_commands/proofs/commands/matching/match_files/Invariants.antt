@@ -1,0 +1,10 @@
+use Rattle.std.proofs.Common.{map, take}
+use Rattle.cidr_lists.specs.Sets.{IsInSets}
+use Rattle.netset_commands.specs.Gathering.{AreStreamed}
+use Rattle.netset_commands.specs.Matching.{Picks}
+use Rattle.netset_commands.proofs.commands.matching.match_files.Given as goal
+
+abbrev pub invariant-loop-file : goal.invariant-loop-file
+invariant-loop-file g l =
+    AreStreamed (g.F.Sources.contents l.sources) (Picks l.matcher.anywhere (IsInSets l.matcher.sets.now) l.matcher.inverted) l.matcher.written
+    (take l.file-index (map (λ file. file.now) l.files)) (g.O.Sink.state l.fn.out) (g.O.Sink.state l.out) l.verdict
