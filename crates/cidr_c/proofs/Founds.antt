@@ -1,22 +1,23 @@
 -- What is found in the parts of a table, is found in a file.
-use Rattle.std.proofs.Common.{◌≡◌, refl, sym, ap, subst, arith, inl, inr, ℕ, ◌+◌, ◌-◌, ◌^◌, ◌<◌, ◌≤◌, nat_lt, if◌then◌else◌, List, length, drop, min, Some, None}
-use Rattle.std.proofs.lemmas.List.{length-drop, length-take}
+use Rattle.std.proofs.Common.{◌≡◌, refl, sym, ap, subst, arith, inl, inr, ℕ, ◌+◌, ◌*◌, ◌^◌, ◌<◌, ◌≤◌, nat_lt, if◌then◌else◌, List, length, drop, Option, Some, None}
+use Rattle.std.proofs.lemmas.List.{length-take}
+use Rattle.std.proofs.lemmas.Option.{get_or_from_slice_get, slice_get_within}
 use Rattle.std.proofs.lemmas.Slice.Zip.{length-zip}
-use Rattle.std.specs.List.{slice_range}
 use Rattle.cidr.specs.model.Bits.{bits}
 use Rattle.cidr_table.specs.model.Prefixes.{IsLongestMatch}
-use Rattle.cidr_arrays.specs.Arrays.{prefix_bits}
+use Rattle.cidr_arrays.specs.Arrays.{Represents, prefix_bits}
 use Rattle.cidr_files.specs.Layout.{ipv4_counts, ipv4_parts, ipv6_counts, ipv6_parts, wide_words, words}
 use Rattle.cidr_files.specs.Tables.{AreArrays, AreOffsets, offsets_in, part_at, stored_networks, value_in}
+use Rattle.cidr_files.proofs.KeyRows.{same_arrays}
 use Rattle.cidr_c.specs.calls.Calls.{IsYesOrNo}
-use Rattle.cidr_c.specs.model.Files.{IsFoundInFile, IsFoundInParts, IsInNetworks, IsInSet, IsInSetAt, IsMatched, bytes_at, parts_at}
+use Rattle.cidr_c.specs.model.Files.{AreInside, IsFoundInFile, IsFoundInParts, IsInNetworks, IsInSet, IsInSetAt, IsMatched, bytes_at, parts_at}
 use Rattle.cidr_c.specs.model.Tables.{no_row}
 use Rattle.cidr_c.specs.model.Values.{IsLow, number_in}
 use Rattle.cidr_c.specs.declared.files.CFile.{CFile}
 use Rattle.cidr_c.specs.declared.files.CFileTable.{CFileTable}
 use Rattle.cidr_c.specs.declared.files.CFound.{CFound}
 use Rattle.cidr_c.specs.declared.values.CValue.{CValue}
-use Rattle.cidr_c.proofs.Places.{ipv4_at, ipv6_at, moved, value_at}
+use Rattle.cidr_c.proofs.Places.{ipv4_at, ipv4_inside, ipv6_at, ipv6_inside, moved}
 
 -- ---- in a table
 -- a table has at most as many rows as it says
@@ -29,57 +30,76 @@ few_rows numbers size table bytes =
       length-take table.rows (drop table.lengths bytes),
     )
 
--- what a look-up in parts says where it finds a row
-pub record IsRowAt (w : ℕ) (numbers : List ℕ → List ℕ) (address row from to : ℕ) (parts : List (List ℕ)) (shift : ℕ) : Type 0 where
-  pub within : row < length (stored_networks numbers parts)
-  pub inside : to ≤ length (part_at parts 6)
-  pub longest : AreArrays w numbers parts shift → IsLongestMatch (prefix_bits w) (bits w address) (stored_networks numbers parts) (Some row)
-  pub value : AreOffsets (offsets_in parts) (length (stored_networks numbers parts)) (length (part_at parts 6))
-      → slice_range (part_at parts 6) from to ≡ value_in parts row
-
 module _ (w : ℕ) (numbers : List ℕ → List ℕ) (size : ℕ) (table : CFileTable) (bytes : List ℕ) (address : ℕ) where
-  pub row_there : (row from to place : ℕ) (parts : List (List ℕ)) (shift : ℕ) → parts ≡ parts_at size table bytes → shift ≡ table.shift
-      → table.rows < 2 ^ 32 → from ≤ to → place ≡ min table.values (length bytes) → IsRowAt w numbers address row from to parts shift
-      → IsFoundInParts w numbers (parts_at size table bytes) table bytes address (record { value = place + from; value_len = to - from; row = row })
-  row_there row from to place parts shift same shifts rows ordered place_is found =
-      let h : IsRowAt w numbers address row from to (parts_at size table bytes) table.shift =
-      subst (λ (s : ℕ). IsRowAt w numbers address row from to (parts_at size table bytes) s) shifts
-      (subst (λ (ps : List (List ℕ)). IsRowAt w numbers address row from to ps shift) same found) in
-      let few = few_rows numbers size table bytes in
-      let long : length (bytes_at bytes table.values table.values_len) ≡ min table.values_len (length bytes - table.values) =
-      omega (arith, length-take table.values_len (drop table.values bytes), length-drop table.values bytes) in
-      record {
-        inside = omega (arith, h.inside, long, place_is, ordered);
-        nothing = λ none. absurd (omega (arith, none, h.within, few, rows));
-        within = λ _. omega (arith, h.within, few);
-        matched = λ good. inl (
-          h.longest good.arrays,
-          subst (λ (k : ℕ). bytes_at bytes (k + from) (to - from) ≡ value_in (parts_at size table bytes) row) (sym place_is)
-              (subst (λ (v : List ℕ). bytes_at bytes (min table.values (length bytes) + from) (to - from) ≡ v) (h.value good.offsets)
-              (value_at bytes table.values table.values_len from to ordered h.inside)),
-        );
-      }
+  -- what is longest among the networks that arrays represent, is so among those of the parts
+  pub longest_there : (result : Option ℕ) (starts answers level : List ℕ)
+      → ((networks : List (ℕ × ℕ)) → length networks ≤ table.rows → Represents w networks starts answers level table.shift
+      → IsLongestMatch (prefix_bits w) (bits w address) networks result)
+      → starts ≡ numbers (bytes_at bytes table.starts (size * table.ranges)) → answers ≡ words (bytes_at bytes table.answers (4 * table.ranges))
+      → level ≡ words (bytes_at bytes table.level (4 * table.entries)) → AreArrays w numbers (parts_at size table bytes) table.shift
+      → IsLongestMatch (prefix_bits w) (bits w address) (stored_networks numbers (parts_at size table bytes)) result
+  longest_there result starts answers level finds s a l good =
+      let networks = stored_networks numbers (parts_at size table bytes) in
+      finds networks (few_rows numbers size table bytes)
+      (same_arrays (λ ks ss ns ls. Represents w ks ss ns ls table.shift) networks networks (numbers (bytes_at bytes table.starts (size * table.ranges))) starts
+      (words (bytes_at bytes table.answers (4 * table.ranges))) answers (words (bytes_at bytes table.level (4 * table.entries))) level
+      refl (sym s) (sym a) (sym l) good)
 
-  pub nothing_there : (found : CFound) (parts : List (List ℕ)) (shift : ℕ) → found ≡ record { value = 0; value_len = 0; row = no_row }
-      → parts ≡ parts_at size table bytes → shift ≡ table.shift
-      → (AreArrays w numbers parts shift → IsLongestMatch (prefix_bits w) (bits w address) (stored_networks numbers parts) None)
-      → IsFoundInParts w numbers (parts_at size table bytes) table bytes address found
-  nothing_there found parts shift is same shifts none =
-      let Nothing : List (List ℕ) → ℕ → Type 0 =
-      λ ps s. AreArrays w numbers ps s → IsLongestMatch (prefix_bits w) (bits w address) (stored_networks numbers ps) None in
-      let h = subst (λ (s : ℕ). Nothing (parts_at size table bytes) s) shifts (subst (λ (ps : List (List ℕ)). Nothing ps shift) same none) in
-      subst (λ (f : CFound). IsFoundInParts w numbers (parts_at size table bytes) table bytes address f) (sym is)
+  pub row_there : (row value value_len : ℕ) → row < table.rows → row + 1 < 2 ^ 32 → value + value_len ≤ length bytes
+      → (AreInside size table bytes → AreArrays w numbers (parts_at size table bytes) table.shift
+      → IsLongestMatch (prefix_bits w) (bits w address) (stored_networks numbers (parts_at size table bytes)) (Some row))
+      → (AreInside size table bytes → AreOffsets (offsets_in (parts_at size table bytes)) (length (stored_networks numbers (parts_at size table bytes)))
+      (length (bytes_at bytes table.values table.values_len)) → row < length (stored_networks numbers (parts_at size table bytes))
+      → bytes_at bytes value value_len ≡ value_in (parts_at size table bytes) row)
+      → IsFoundInParts w numbers size table bytes address (record { value = value; value_len = value_len; row = row })
+  row_there row value value_len within fits inside longest is = record {
+    inside = inside;
+    nothing = λ none. absurd (omega (arith, none, fits));
+    within = λ _. within;
+    matched = λ places good.
+        let m = longest places good.arrays in
+        inl (m, is places good.offsets (slice_get_within (stored_networks numbers (parts_at size table bytes)) row m.key m.here));
+  }
+
+  pub nothing_there : (found : CFound) → found ≡ record { value = 0; value_len = 0; row = no_row }
+      → (AreInside size table bytes → AreArrays w numbers (parts_at size table bytes) table.shift
+      → IsLongestMatch (prefix_bits w) (bits w address) (stored_networks numbers (parts_at size table bytes)) None)
+      → IsFoundInParts w numbers size table bytes address found
+  nothing_there found is none =
+      subst (λ (f : CFound). IsFoundInParts w numbers size table bytes address f) (sym is)
       (record {
         inside = omega arith;
         nothing = λ _. (refl, refl);
         within = λ some. absurd (some refl);
-        matched = λ good. inr (refl, h good.arrays);
+        matched = λ places good. inr (refl, none places good.arrays);
       })
+
+  -- whether there is one
+  pub has_one : (row : ℕ) → (AreInside size table bytes → AreArrays w numbers (parts_at size table bytes) table.shift
+      → IsLongestMatch (prefix_bits w) (bits w address) (stored_networks numbers (parts_at size table bytes)) (Some row))
+      → IsInSetAt w numbers size table bytes address 1
+  has_one row longest = record {
+    codes = omega arith;
+    answer = λ places good.
+        let networks = stored_networks numbers (parts_at size table bytes) in
+        let m = longest places good.arrays in (
+          omega arith,
+          (λ _. (m.key, (row, slice_get_within networks row m.key m.here, get_or_from_slice_get networks row m.key m.key m.here), m.begins), λ _. refl),
+        );
+  }
+
+  pub has_none : (AreInside size table bytes → AreArrays w numbers (parts_at size table bytes) table.shift
+      → IsLongestMatch (prefix_bits w) (bits w address) (stored_networks numbers (parts_at size table bytes)) None)
+      → IsInSetAt w numbers size table bytes address 0
+  has_none none = record {
+    codes = omega arith;
+    answer = λ places good. (omega arith, (λ one. absurd (omega (arith, one)), λ found. absurd (none places good.arrays found.0 found.1 found.2)));
+  }
 
 -- ---- in a file
 module _ (bytes : List ℕ) (file : CFile) (asked : CValue) (a : ℕ) where
   pub ipv4_found : (found : CFound) → asked.tag ≡ 32 → IsLow asked → a ≡ asked.low
-      → IsFoundInParts 32 words (parts_at 4 file.ipv4 bytes) file.ipv4 bytes a found → IsFoundInFile bytes file asked found
+      → IsFoundInParts 32 words 4 file.ipv4 bytes a found → IsFoundInFile bytes file asked found
   ipv4_found found tag low is h = record {
     inside = h.inside;
     nothing = h.nothing;
@@ -87,12 +107,13 @@ module _ (bytes : List ℕ) (file : CFile) (asked : CValue) (a : ℕ) where
     address = λ _. inl (tag, low);
     ipv4 = λ good same _ _.
         moved 32 words (λ ps n. IsMatched 32 (stored_networks words ps) (value_in ps) bytes n found) (parts_at 4 file.ipv4 bytes) (ipv4_parts bytes)
-        file.ipv4.shift (ipv4_counts bytes).shift a asked.low (ipv4_at bytes file same) (ap (λ (f : CFile). f.ipv4.shift) same) is h.matched good.ipv4;
+        file.ipv4.shift (ipv4_counts bytes).shift a asked.low (ipv4_at bytes file same) (ap (λ (f : CFile). f.ipv4.shift) same) is
+        (h.matched (ipv4_inside bytes file same good.laid_out)) good.ipv4;
     ipv6 = λ _ _ other. absurd (omega (arith, tag, other));
   }
 
   pub ipv6_found : (found : CFound) → asked.tag ≡ 192 → a ≡ number_in asked
-      → IsFoundInParts 128 wide_words (parts_at 16 file.ipv6 bytes) file.ipv6 bytes a found → IsFoundInFile bytes file asked found
+      → IsFoundInParts 128 wide_words 16 file.ipv6 bytes a found → IsFoundInFile bytes file asked found
   ipv6_found found tag is h = record {
     inside = h.inside;
     nothing = h.nothing;
@@ -102,22 +123,24 @@ module _ (bytes : List ℕ) (file : CFile) (asked : CValue) (a : ℕ) where
     ipv6 = λ good same _.
         moved 128 wide_words (λ ps n. IsMatched 128 (stored_networks wide_words ps) (value_in ps) bytes n found) (parts_at 16 file.ipv6 bytes)
         (ipv6_parts bytes) file.ipv6.shift (ipv6_counts bytes).shift a (number_in asked) (ipv6_at bytes file same)
-        (ap (λ (f : CFile). f.ipv6.shift) same) is h.matched good.ipv6;
+        (ap (λ (f : CFile). f.ipv6.shift) same) is
+        (h.matched (ipv6_inside bytes file same good.laid_out)) good.ipv6;
   }
 
   pub ipv4_has : (code : ℕ) → asked.tag ≡ 32 → IsLow asked → a ≡ asked.low
-      → IsInSetAt 32 words (parts_at 4 file.ipv4 bytes) file.ipv4.shift a code → IsInSet bytes file asked code
+      → IsInSetAt 32 words 4 file.ipv4 bytes a code → IsInSet bytes file asked code
   ipv4_has code tag low is h = record {
     codes = h.codes;
     address = λ _. inl (tag, low);
     ipv4 = λ good same _ _.
         moved 32 words (λ ps n. IsYesOrNo code (IsInNetworks 32 (stored_networks words ps) n)) (parts_at 4 file.ipv4 bytes) (ipv4_parts bytes)
-        file.ipv4.shift (ipv4_counts bytes).shift a asked.low (ipv4_at bytes file same) (ap (λ (f : CFile). f.ipv4.shift) same) is h.answer good.ipv4;
+        file.ipv4.shift (ipv4_counts bytes).shift a asked.low (ipv4_at bytes file same) (ap (λ (f : CFile). f.ipv4.shift) same) is
+        (h.answer (ipv4_inside bytes file same good.laid_out)) good.ipv4;
     ipv6 = λ _ _ other. absurd (omega (arith, tag, other));
   }
 
   pub ipv6_has : (code : ℕ) → asked.tag ≡ 192 → a ≡ number_in asked
-      → IsInSetAt 128 wide_words (parts_at 16 file.ipv6 bytes) file.ipv6.shift a code → IsInSet bytes file asked code
+      → IsInSetAt 128 wide_words 16 file.ipv6 bytes a code → IsInSet bytes file asked code
   ipv6_has code tag is h = record {
     codes = h.codes;
     address = λ _. inr tag;
@@ -125,5 +148,6 @@ module _ (bytes : List ℕ) (file : CFile) (asked : CValue) (a : ℕ) where
     ipv6 = λ good same _.
         moved 128 wide_words (λ ps n. IsYesOrNo code (IsInNetworks 128 (stored_networks wide_words ps) n)) (parts_at 16 file.ipv6 bytes)
         (ipv6_parts bytes) file.ipv6.shift (ipv6_counts bytes).shift a (number_in asked) (ipv6_at bytes file same)
-        (ap (λ (f : CFile). f.ipv6.shift) same) is h.answer good.ipv6;
+        (ap (λ (f : CFile). f.ipv6.shift) same) is
+        (h.answer (ipv6_inside bytes file same good.laid_out)) good.ipv6;
   }

@@ -1,11 +1,11 @@
 -- The parts of a file lie at their places.
-use Rattle.std.proofs.Common.{◌≡◌, refl, sym, ◌∙◌, ap, subst, arith, ℕ, ◌+◌, ◌-◌, ◌≤◌, List, [], ◌∷◌, add-zero, drop, length, min, take}
-use Rattle.std.proofs.lemmas.List.{drop-drop, drop-take, drop_min, length-take, take-take}
+use Rattle.std.proofs.Common.{◌≡◌, refl, sym, ◌∙◌, ap, subst, arith, inl, inr, ℕ, ◌+◌, ◌-◌, ◌*◌, ◌<◌, ◌≤◌, ◌⊎◌, List, [], ◌∷◌, add-zero, drop, get_or, length, take}
+use Rattle.std.proofs.lemmas.List.{drop-drop, drop-take, length-take, take-take}
 use Rattle.std.specs.List.{slice_range}
-use Rattle.cidr_files.specs.Layout.{bytes_behind, header, ipv4_counts, ipv4_parts, ipv4_sizes, ipv6_counts, ipv6_parts, ipv6_sizes, padded, padded_room, parts_by_size, sizes_of}
-use Rattle.cidr_files.specs.Tables.{IsStoredTable}
+use Rattle.cidr_files.specs.Layout.{IsLaidOut, bytes_behind, header, ipv4_counts, ipv4_parts, ipv4_sizes, ipv6_counts, ipv6_parts, ipv6_sizes, padded, padded_room, parts_by_size, sizes_of}
+use Rattle.cidr_files.specs.Tables.{AreOffsets, IsStoredTable}
 use Rattle.cidr_files.specs.declared.layout.Counts.{Counts}
-use Rattle.cidr_c.specs.model.Files.{bytes_at, file_in, parts_at, table_from}
+use Rattle.cidr_c.specs.model.Files.{AreInside, bytes_at, file_in, parts_at, table_from}
 use Rattle.cidr_c.specs.declared.files.CFile.{CFile}
 
 -- parts of these sizes, the first at a place and each behind the one before
@@ -48,16 +48,46 @@ moved w numbers Holds here parts s shift a address same shifts addresses holds g
     subst (λ (ps : List (List ℕ)). Holds ps address) same (subst (λ (k : ℕ). Holds here k) addresses (holds stored))
 
 -- the bytes of a value, among those of the file and among those of the part of the values
-pub value_at : (bytes : List ℕ) (place size from to : ℕ) → from ≤ to → to ≤ length (bytes_at bytes place size)
-    → bytes_at bytes (min place (length bytes) + from) (to - from) ≡ slice_range (bytes_at bytes place size) from to
-value_at bytes place size from to ordered inside =
+pub value_there : (bytes : List ℕ) (place size from to : ℕ) → from ≤ to → to ≤ length (bytes_at bytes place size)
+    → bytes_at bytes (place + from) (to - from) ≡ slice_range (bytes_at bytes place size) from to
+value_there bytes place size from to ordered inside =
     let part = drop place bytes in
     let within : to ≤ size = omega (arith, length-take size part) in
     let whole : from + (size - from) ≡ size = omega arith in
     let rest : drop from (take size part) ≡ take (size - from) (drop from part) =
     ap (λ k. drop from (take k part)) (sym whole) ∙ drop-take from (size - from) part in
-    let place_is : drop (min place (length bytes) + from) bytes ≡ drop from part =
-    sym (drop-drop from (min place (length bytes)) bytes) ∙ ap (drop from) (drop_min place bytes) in
     let less : to - from ≤ size - from = omega arith in
-    ap (take (to - from)) place_is
+    ap (take (to - from)) (sym (drop-drop from place bytes))
     ∙ (sym (take-take (to - from) (size - from) (drop from part) less) ∙ ap (take (to - from)) (sym rest))
+
+-- what offsets say of a row that there is
+pub no_ends : (offsets : List ℕ) (rows size row : ℕ) → AreOffsets offsets rows size → row < rows
+    → ¬ ((get_or offsets (row + 1) 0 < get_or offsets row 0) ⊎ (size < get_or offsets (row + 1) 0))
+no_ends offsets rows size row good l (inl lt) = absurd (omega (arith, lt, good.ascending row (row + 1) (omega arith) (omega arith)))
+no_ends offsets rows size row good l (inr lt) = absurd (omega (arith, lt, good.ascending (row + 1) rows (omega arith) (omega arith), good.last))
+
+-- ---- inside of the bytes
+-- parts of these sizes, one behind the other, of which the fourth and the fifth are not looked at
+all_inside : (p a b c d e f g n : ℕ)
+    → p + (padded a + (padded b + (padded c + (padded d + (padded e + (padded f + (padded g + 0))))))) ≤ n
+    → (p + a ≤ n) × (p + padded a + b ≤ n) × (p + padded a + padded b + c ≤ n) × (p + padded a + padded b + padded c + padded d + padded e + f ≤ n)
+    × (p + padded a + padded b + padded c + padded d + padded e + padded f + g ≤ n)
+all_inside p a b c d e f g n h = (omega (arith, h), omega (arith, h), omega (arith, h), omega (arith, h), omega (arith, h))
+
+inside_from : (size place : ℕ) (counts : Counts) (bytes : List ℕ) → place + padded_room (sizes_of size counts) ≤ length bytes
+    → AreInside size (table_from place size counts) bytes
+inside_from size place counts bytes fits =
+    let all =
+    all_inside place (size * counts.ranges) (4 * counts.ranges) (4 * counts.entries) (size * counts.rows) counts.rows (4 * (counts.rows + 1)) counts.values (length bytes)
+    fits in
+    record { starts = all.0; answers = all.1; level = all.2; offsets = all.3; values = all.4 }
+
+-- the parts of the two tables of a file are
+pub ipv4_inside : (bytes : List ℕ) (file : CFile) → file ≡ file_in bytes → IsLaidOut bytes → AreInside 4 file.ipv4 bytes
+ipv4_inside bytes file same laid_out =
+    subst (λ (f : CFile). AreInside 4 f.ipv4 bytes) (sym same) (inside_from 4 header (ipv4_counts bytes) bytes (omega (arith, laid_out.long)))
+
+pub ipv6_inside : (bytes : List ℕ) (file : CFile) → file ≡ file_in bytes → IsLaidOut bytes → AreInside 16 file.ipv6 bytes
+ipv6_inside bytes file same laid_out =
+    subst (λ (f : CFile). AreInside 16 f.ipv6 bytes) (sym same)
+    (inside_from 16 (header + padded_room (ipv4_sizes bytes)) (ipv6_counts bytes) bytes (omega (arith, laid_out.long)))

@@ -1,19 +1,21 @@
 //! Look-up tables in files.
-ghost use Rattle.std.specs.Prelude.{◌≡◌, ◌≢◌, ◌+◌, ◌^◌, ◌<◌, ◌≤◌, MatchOption};
+ghost use Rattle.std.specs.Prelude.{◌≡◌, ◌≢◌, ◌⊎◌, ℕ, ◌+◌, ◌*◌, ◌^◌, ◌<◌, ◌≤◌, None, length, slice_index_or, IfSome, MatchOption};
 ghost use Rattle.std.specs.Int.{from_le_bytes, w32};
-ghost use Rattle.cidr_files.specs.Layout.{padded, padded_room, sizes_of, wide_word};
-ghost use Rattle.cidr_files.specs.Tables.{parts_in};
+ghost use Rattle.cidr.specs.model.Bits.{bits};
+ghost use Rattle.cidr_table.specs.model.Prefixes.{IsLongestMatch};
+ghost use Rattle.cidr_arrays.specs.Arrays.{prefix_bits};
+ghost use Rattle.cidr_files.specs.Layout.{padded, padded_room, sizes_of, wide_word, words};
+ghost use Rattle.cidr_files.specs.Tables.{AreArrays, AreOffsets, offsets_in, stored_networks, value_in};
 ghost use Rattle.cidr_c.specs.calls.Calls.{IsYesOrNo};
-ghost use Rattle.cidr_c.specs.model.Files.{AreAnsweredIn, IsFileChecked, IsFoundInFile, IsFoundInParts, IsInSet, IsInSetAt, IsOpened, bytes_at, file_fault_code, file_in, parts_at, table_fault_code, table_from};
+ghost use Rattle.cidr_c.specs.model.Files.{AreAnsweredIn, AreInside, IsFileChecked, IsFoundInFile, IsFoundInParts, IsInSet, IsInSetAt, IsOpened, bytes_at, file_fault_code, file_in, parts_at, table_fault_code, table_from};
 ghost use Rattle.cidr_c.specs.model.Tables.{no_row};
 ghost use Rattle.cidr_c.specs.model.Values.{IsLow, number_in};
 
 use crate::codes::{LONG, NO_FILE, NO_MEMORY, NO_ROOM, OK, OTHER_VERSION, SHORT, VALUES};
 use crate::tables::{NO_ROW, fault_code};
 use crate::values::CValue;
-use cidr_files::{
-    Counts, Family, Fault, Ipv4Bytes, Ipv6Bytes, Part, TableFault, checked, counts, find, has, open,
-};
+use cidr_arrays::longest_match;
+use cidr_files::{Counts, Family, Fault, Ipv4Bytes, Ipv6Bytes, TableFault, checked, counts, open};
 use std::alloc::Global;
 
 /// The size of the header of a file.
@@ -250,16 +252,84 @@ fn found_in(bytes: &[u8], file: &CFile, asked: &CValue) -> CFound
 #[inline(always)]
 fn found_at<W: Family>(bytes: &[u8], table: &CFileTable, size: usize, address: W) -> CFound
     requires { size ≤ 16 }
-    ensures { IsFoundInParts W.width W.numbers (parts_at size table.now bytes.now) table.now bytes.now (W.value address) result }
+    ensures { IsFoundInParts W.width W.numbers size table.now bytes.now (W.value address) result }
 {
-    match find(&part_in(bytes, table, size), address) {
-        Some(found) => CFound {
-            value: table.values.min(bytes.len()) + found.from as usize,
-            value_len: found.to - found.from,
-            row: found.row as u32,
+    let Some(row) = row_at(bytes, table, size, address) else {
+        return nothing();
+    };
+    match value_at(bytes, table, row) {
+        Some((value, value_len)) => CFound {
+            value,
+            value_len,
+            row: row as u32,
         },
-        None => nothing(),
+        None => CFound {
+            value: 0,
+            value_len: 0,
+            row: row as u32,
+        },
     }
+}
+
+/// The row of the longest match of an address in a table, if what tells it lies inside of the bytes.
+#[inline(always)]
+fn row_at<W: Family>(bytes: &[u8], table: &CFileTable, size: usize, address: W) -> Option<usize>
+    requires { size ≤ 16 }
+    ensures within { IfSome result (λ row. row < table.now.rows) }
+    ensures fits { IfSome result (λ row. row + 1 < 2 ^ 32) }
+    ensures longest { AreInside size table.now bytes.now → AreArrays W.width W.numbers (parts_at size table.now bytes.now) table.now.shift
+        → IsLongestMatch (prefix_bits W.width) (bits W.width (W.value address))
+        (stored_networks W.numbers (parts_at size table.now bytes.now)) result }
+{
+    let ranges = table.ranges as usize;
+    let starts = part_at(bytes, table.starts, size * ranges)?;
+    let answers = part_at(bytes, table.answers, 4 * ranges)?;
+    let level = part_at(bytes, table.level, 4 * table.entries as usize)?;
+    let (answers, _) = answers.as_chunks::<4>();
+    let (level, _) = level.as_chunks::<4>();
+    longest_match(
+        W::addresses(starts),
+        answers,
+        level,
+        table.shift,
+        table.rows as usize,
+        address,
+    )
+}
+
+/// Where the value of a row begins and how many bytes it has, if what tells it and the values lie inside of the bytes.
+#[inline(always)]
+fn value_at(bytes: &[u8], table: &CFileTable, row: usize) -> Option<(usize, u32)>
+    requires { row < table.now.rows }
+    ensures inside { IfSome result (λ value. value.0 + value.1 ≤ length bytes.now) }
+    ensures value { IfSome result (λ value. (size : ℕ) → bytes_at bytes.now value.0 value.1 ≡ value_in (parts_at size table.now bytes.now) row) }
+    ensures none { result ≡ None → (size : ℕ) → AreInside size table.now bytes.now → (rows : ℕ) → row < rows
+        → ¬ (AreOffsets (offsets_in (parts_at size table.now bytes.now)) rows (length (bytes_at bytes.now table.now.values table.now.values_len))) }
+{
+    let offsets = part_at(bytes, table.offsets, 4 * (table.rows as usize + 1))?;
+    let values = part_at(bytes, table.values, table.values_len)?;
+    let (from, to) = ends_of(offsets, values.len(), row)?;
+    Some((table.values + from as usize, to - from))
+}
+
+/// Where the value of a row begins and ends among so many bytes of values, if it lies among them.
+#[inline(always)]
+fn ends_of(offsets: &[u8], values: usize, row: usize) -> Option<(u32, u32)>
+    requires { 4 * row + 8 ≤ length offsets.now }
+    ensures from { IfSome result (λ ends. ends.0 ≡ slice_index_or (words offsets.now) row 0) }
+    ensures to { IfSome result (λ ends. ends.1 ≡ slice_index_or (words offsets.now) (row + 1) 0) }
+    ensures ordered { IfSome result (λ ends. ends.0 ≤ ends.1) }
+    ensures inside { IfSome result (λ ends. ends.1 ≤ values) }
+    ensures none { result ≡ None → (slice_index_or (words offsets.now) (row + 1) 0 < slice_index_or (words offsets.now) row 0)
+        ⊎ (values < slice_index_or (words offsets.now) (row + 1) 0) }
+{
+    let (offsets, _) = offsets.as_chunks::<4>();
+    let from = u32::from_le_bytes(offsets[row]);
+    let to = u32::from_le_bytes(offsets[row + 1]);
+    if from > to || to as usize > values {
+        return None;
+    }
+    Some((from, to))
 }
 
 /// What says that nothing is found.
@@ -292,45 +362,29 @@ fn has_in(bytes: &[u8], file: &CFile, asked: &CValue) -> u8
 #[inline(always)]
 fn has_at<W: Family>(bytes: &[u8], table: &CFileTable, size: usize, address: W) -> u8
     requires { size ≤ 16 }
-    ensures { IsInSetAt W.width W.numbers (parts_at size table.now bytes.now) table.now.shift (W.value address) result }
+    ensures { IsInSetAt W.width W.numbers size table.now bytes.now (W.value address) result }
 {
-    if has(&part_in(bytes, table, size), address) {
-        1
-    } else {
-        0
+    match row_at(bytes, table, size, address) {
+        Some(_) => 1,
+        None => 0,
     }
 }
 
-/// The parts that lie where a table says, as far as there are bytes.
+/// So many bytes from a place on, if they lie inside of the bytes.
 #[inline(always)]
-fn part_in<'a>(bytes: &'a [u8], table: &CFileTable, size: usize) -> Part<'a>
-    requires { size ≤ 16 }
-    ensures parts { parts_in result ≡ parts_at size table.now bytes.now }
-    ensures shift { result.shift ≡ table.now.shift }
-    ensures rows { table.now.rows < 2 ^ 32 }
+fn part_at(bytes: &[u8], place: usize, size: usize) -> Option<&[u8]>
+    ensures part { IfSome result (λ part. part.now ≡ bytes_at bytes.now place size) }
+    ensures inside { IfSome result (λ _. place + size ≤ length bytes.now) }
+    ensures none { result ≡ None → length bytes.now < place + size }
 {
-    let rows = table.rows as usize;
-    let ranges = table.ranges as usize;
-    Part {
-        starts: bytes_at(bytes, table.starts, size * ranges),
-        answers: bytes_at(bytes, table.answers, 4 * ranges),
-        level: bytes_at(bytes, table.level, 4 * table.entries as usize),
-        addresses: bytes_at(bytes, table.addresses, size * rows),
-        lengths: bytes_at(bytes, table.lengths, rows),
-        offsets: bytes_at(bytes, table.offsets, 4 * (rows + 1)),
-        values: bytes_at(bytes, table.values, table.values_len),
-        shift: table.shift,
+    if place > bytes.len() {
+        return None;
     }
-}
-
-/// So many bytes from a place on, or as many as there are.
-#[inline(always)]
-fn bytes_at(bytes: &[u8], place: usize, size: usize) -> &[u8]
-    ensures { result.now ≡ bytes_at bytes.now place size }
-{
-    let from = place.min(bytes.len());
-    let rest = &bytes[from..];
-    &rest[..size.min(rest.len())]
+    let rest = &bytes[place..];
+    if size > rest.len() {
+        return None;
+    }
+    Some(&rest[..size])
 }
 
 /// The IPv4 address that a value is, if it is one.

@@ -1,0 +1,10 @@
+use Rattle.cidr_c.proofs.Founds.{has_none, has_one}
+use Rattle.cidr_c.proofs.files.has_at.Goals as goal
+
+pub returns-in-Some : goal.returns-in-Some
+returns-in-Some g c =
+    has_one g.W.Word.width g.W.Family.numbers c.args.size c.args.table.now c.args.bytes.now (g.W.Word.value c.args.address) c.in-Some.field-0 c.in-Some.ensures.longest
+
+pub returns-in-None : goal.returns-in-None
+returns-in-None g c =
+    has_none g.W.Word.width g.W.Family.numbers c.args.size c.args.table.now c.args.bytes.now (g.W.Word.value c.args.address) c.in-None.ensures.longest
