@@ -50,7 +50,8 @@ def public_names(name: str) -> set[str] | None:
         return None
     if name == "ipaddress":
         return of_ipaddress(module)
-    return {each for each in dir(getattr(module, name.split(".")[1])) if not each.startswith("_")}
+    made = getattr(module, name.split(".")[1])()  # of another class, in `radix`
+    return {each for each in dir(made) if not each.startswith("_")}
 
 
 def is_here(name: str) -> bool:

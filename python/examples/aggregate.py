@@ -4,8 +4,8 @@ import sys
 from pcidr import merge
 
 
-def main():
-    networks = []
+def main() -> None:
+    networks: list[str] = []
     for path in sys.argv[1:]:
         with open(path, encoding="utf-8") as file:
             networks += (line for line in file.read().splitlines() if line)

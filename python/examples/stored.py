@@ -5,7 +5,7 @@ import sys
 from pcidr import Table
 
 
-def main():
+def main() -> None:
     try:
         table = Table.open(sys.argv[1])
         for address in sys.argv[2:]:

@@ -10,6 +10,7 @@ What the library is given and returns is proved to be right; that this module pa
 """
 from __future__ import annotations
 
+from pcidr._calls import Purpose
 from pcidr._sets import (
     MutableNetworkSet,
     NetworkSet,
@@ -24,7 +25,7 @@ from pcidr._sets import (
     summarize_address_range,
 )
 from pcidr._tables import Matches, StoredTable, Table
-from pcidr._values import Address, Host, Network, Purpose, SpecialEntry
+from pcidr._values import Address, Host, Network, SpecialEntry
 
 __version__ = "0.3.0"
 

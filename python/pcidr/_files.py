@@ -113,7 +113,7 @@ class Stored:
         self.content, self._file = content, File()
         begin, size = _begin_of(content), len(content)
         check(calls.file_open(begin, size, byref(self._file)))
-        self._opened: list[Any] = [begin, size, self._file]
+        self._opened: tuple[Any, int, Any] = (begin, size, self._file)
         self._lookup = calls.quick("file_lookup", self._opened)
         self._has = calls.quick("set_has", self._opened)
         self.find = self.finder((), ())
@@ -203,7 +203,7 @@ def opened(path: Path, is_checked: bool) -> Stored:
     """The tables of a file, which is mapped."""
     with open(path, "rb") as file:
         is_empty = os.fstat(file.fileno()).st_size == 0  # of which there is no map
-        content = b"" if is_empty else mmap.mmap(file.fileno(), 0, access=mmap.ACCESS_READ)
+        content: bytes | mmap.mmap = b"" if is_empty else mmap.mmap(file.fileno(), 0, access=mmap.ACCESS_READ)
     try:
         stored = Stored(content)
         if is_checked:

@@ -20,7 +20,7 @@ __all__ = [
 
 # The extension is for Python 3.11 and later, and for one interpreter of a process. PCIDR_CTYPES leaves it aside.
 IS_FAST = sys.version_info >= (3, 11) and not os.environ.get("PCIDR_CTYPES")
-if IS_FAST and not TYPE_CHECKING:
+if not TYPE_CHECKING and IS_FAST:
     try:
         from pcidr import _fast
         from pcidr._library import PATH

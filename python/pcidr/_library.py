@@ -75,14 +75,15 @@ class _Loaded(Calls):
         for name in ("read_address", "read_host", "read_network", "read_reverse_name"):
             setattr(self, name, self.quick(name))
 
-    def quick(self, name: str, arguments: Sequence[int] = ()) -> Call:
+    def quick(self, name: str, arguments: Sequence[Any] = ()) -> Call:
         """A call that ends so soon that Python's lock is kept, and whose first arguments are given once and for all: to give
         the lock away, or to turn an argument into C's, takes longer. The other arguments have to be C's already."""
         result, parameters = CALLS[name]
-        call = self._locked[f"pcidr_{name}"]  # another object at each time
+        call: Any = self._locked[f"pcidr_{name}"]  # another object at each time
         call.restype = result
         given = [kind.from_param(argument) for kind, argument in zip(parameters, arguments)]
-        return partial(call, *given) if given else call
+        made: Call = partial(call, *given) if given else call
+        return made
 
 
 calls = _Loaded()
@@ -158,7 +159,8 @@ class Arrays:
 
     def __init__(self, family: int, networks: Values, first: int, count: int) -> None:
         """The table of those from `first` on, so many, which ascend."""
-        width, number = (32, ctypes.c_uint32) if family == 4 else (128, Halves)
+        width = 32 if family == 4 else 128
+        number: Any = ctypes.c_uint32 if family == 4 else Halves
         bits, room = max(1, min(count.bit_length(), LEVEL_BITS)), calls.table_room(count)
         starts, found = (number * room)(), (ctypes.c_uint32 * room)()
         level, ranges = (ctypes.c_uint32 * (2**bits + 1))(), ctypes.c_size_t()
@@ -239,7 +241,8 @@ class Unpacked:
 
 def tags_of(values: Values) -> bytes:
     """The tags of values."""
-    return bytes(values)[Value.tag.offset :: ctypes.sizeof(Value)]
+    field: Any = Value.tag
+    return bytes(values)[field.offset :: ctypes.sizeof(Value)]
 
 
 def read_all(texts: Sequence[str]) -> Values:

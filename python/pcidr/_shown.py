@@ -218,5 +218,4 @@ def values_of(shown: Sequence[Shown]) -> Values:
 
 def each_of(kind: type[S], values: Values, count: int | None = None) -> list[S]:
     """Many of a kind, by their values in an array, or by the first ones of it."""
-    given = values if count is None else values[:count]
-    return [kind._of(Value(value.high, value.low, value.tag)) for value in given]
+    return [kind._of(Value(value.high, value.low, value.tag)) for value in values[:count]]

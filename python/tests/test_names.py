@@ -530,7 +530,8 @@ class Others(unittest.TestCase):
             ours, theirs = [NetworkSet(each) for each in texts], [netaddr.IPSet(each) for each in texts]
             for name in calls:
                 made = getattr(ours[0], name)(ours[1]), getattr(theirs[0], name)(theirs[1])
-                self.assertEqual([network.with_prefixlen for network in made[0]], list(map(str, made[1].iter_cidrs())))
+                networks = map(Network, made[0].to_strings())  # without `any`
+                self.assertEqual([network.with_prefixlen for network in networks], list(map(str, made[1].iter_cidrs())))
                 self.assertEqual(made[0].size, made[1].size)
             for name in ("isdisjoint", "issubset", "issuperset"):
                 self.assertEqual(getattr(ours[0], name)(ours[1]), getattr(theirs[0], name)(theirs[1]))
@@ -548,6 +549,10 @@ class Others(unittest.TestCase):
             for asked in [near_text() for _ in range(6)] + names:
                 best, found = (theirs.search_best(asked), ours.lookup(asked)) if asked != "any" else (None, None)
                 self.assertEqual(found and found[0].with_prefixlen, best and best.prefix)
+                if asked != "any":
+                    for name, rows in (("search_covering", ours.covering(asked)), ("search_covered", ours.covered(asked))):
+                        found = sorted(network.with_prefixlen for network, _ in rows)
+                        self.assertEqual(found, sorted(node.prefix for node in getattr(theirs, name)(asked)))
 
 
 class Packed(unittest.TestCase):
