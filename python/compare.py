@@ -42,21 +42,24 @@ def of_ipaddress(module: Any) -> set[str]:
     return found
 
 
-def public_names(name: str) -> set[str] | None:
-    """What a module or a class has, or None where it isn't there."""
+def public_names(name: str, listed: list[str]) -> set[str] | None:
+    """What a module or a class has, of a whole module of many kinds of things only what is listed, or None where it isn't
+    there."""
     try:
         module = importlib.import_module(name.split(".")[0])
     except ImportError:
         return None
     if name == "ipaddress":
         return of_ipaddress(module)
+    if "." not in name:
+        return {each for each in listed if has(module, each)}
     made = getattr(module, name.split(".")[1])()  # of another class, in `radix`
     return {each for each in dir(made) if not each.startswith("_")}
 
 
-def is_here(name: str) -> bool:
-    """Whether this module has a name, as `merge` or `Table.lookup`."""
-    value: Any = pcidr
+def has(module: Any, name: str) -> bool:
+    """Whether a module has a name, as `merge` or `Table.lookup`."""
+    value = module
     for part in name.split("."):
         value = getattr(value, part, None)
     return value is not None
@@ -68,10 +71,10 @@ def differences(name: str, rows: list[Row]) -> Iterator[str]:
     for each in sorted(each for each in set(listed) if listed.count(each) > 1):
         yield f"{each} stands there twice"
     for row in rows:
-        yield from (f"pcidr has no {each}" for each in row.here if not is_here(each))
+        yield from (f"pcidr has no {each}" for each in row.here if not has(pcidr, each))
         if not row.here and not row.why:
             yield f"{', '.join(row.there)}: there is no reason"
-    names = public_names(name)
+    names = public_names(name, listed)
     if names is None:
         print(f"compare.py: there is no {name}: its table was not compared with it")
     else:

@@ -22,10 +22,11 @@ from pcidr._sets import (
     permitted,
     print_networks,
     shadowed,
+    spanning_cidr,
     summarize_address_range,
 )
 from pcidr._tables import Matches, StoredTable, Table
-from pcidr._values import Address, Host, Network, SpecialEntry
+from pcidr._values import Address, Host, Network, SpecialEntry, text_fault
 
 __version__ = "0.3.0"
 
@@ -48,5 +49,7 @@ __all__ = [
     "permitted",
     "print_networks",
     "shadowed",
+    "spanning_cidr",
     "summarize_address_range",
+    "text_fault",
 ]

@@ -11,6 +11,7 @@ TEXT_ROOM = 44
 MESSAGE_ROOM = 100
 MASK_ROOM = 80
 NAME_ROOM = 73
+FAULT_ROOM = 74
 BYTES_ROOM = 17
 NO_INDEX = 0xFFFFFFFFFFFFFFFF
 NO_ROW = 0xFFFFFFFF
@@ -129,6 +130,14 @@ class Special(Structure):
     ]
 
 
+class Range(Structure):
+    """`pcidr_range`."""
+
+    first: Value
+    last: Value
+    _fields_ = [("first", Value), ("last", Value)]
+
+
 class Rule(Structure):
     """`pcidr_rule`."""
 
@@ -204,8 +213,10 @@ CALLS: dict[str, tuple[Any, list[Any]]] = {
     "print_with_mask": (c_size_t, [POINTER(Value), c_char_p, c_size_t]),
     "print_with_host_mask": (c_size_t, [POINTER(Value), c_char_p, c_size_t]),
     "print_reverse_name": (c_size_t, [POINTER(Value), c_char_p, c_size_t]),
+    "print_reverse_zone": (c_size_t, [POINTER(Value), c_size_t, c_char_p, c_size_t]),
     "print_lines": (c_uint32, [c_void_p, c_size_t, c_char_p, c_size_t, POINTER(c_size_t)]),
     "message": (c_size_t, [c_uint32, c_char_p, c_size_t]),
+    "text_fault": (c_size_t, [c_char_p, c_size_t, c_char_p, c_size_t]),
     "network_to_bytes": (c_size_t, [POINTER(Value), c_void_p, c_size_t]),
     "host_to_bytes": (c_size_t, [POINTER(Value), c_void_p, c_size_t]),
     "network_from_bytes": (c_uint32, [c_void_p, c_size_t, POINTER(Value), POINTER(c_size_t)]),
@@ -227,6 +238,10 @@ CALLS: dict[str, tuple[Any, list[Any]]] = {
     "sibling_by_value": (c_uint32, [Value, POINTER(Value)]),
     "next_network_by_value": (c_uint32, [Value, POINTER(Value)]),
     "previous_network_by_value": (c_uint32, [Value, POINTER(Value)]),
+    "ipv6_mapped_by_value": (c_uint32, [Value, POINTER(Value)]),
+    "ipv4_mapped_by_value": (c_uint32, [Value, POINTER(Value)]),
+    "ipv4_6to4_by_value": (c_uint32, [Value, POINTER(Value)]),
+    "ipv4_nat64_by_value": (c_uint32, [Value, POINTER(Value)]),
     "usable_count": (c_uint32, [POINTER(Value), POINTER(c_size_t)]),
     "address_count": (c_uint32, [POINTER(Value), POINTER(Halves)]),
     "position": (c_uint32, [POINTER(Value), POINTER(Value), POINTER(Halves)]),
@@ -259,13 +274,21 @@ CALLS: dict[str, tuple[Any, list[Any]]] = {
     "is_subset": (c_uint32, [c_void_p, c_size_t, c_void_p, c_size_t, POINTER(c_uint32)]),
     "is_disjoint": (c_uint32, [c_void_p, c_size_t, c_void_p, c_size_t, POINTER(c_uint32)]),
     "summarize": (c_uint32, [POINTER(Value), POINTER(Value), c_void_p, c_size_t, POINTER(c_size_t)]),
+    "ranges": (c_uint32, [c_void_p, c_size_t, c_void_p, c_size_t, POINTER(c_size_t)]),
+    "count_ipv4": (c_uint32, [c_void_p, c_size_t, POINTER(Halves)]),
+    "count_ipv6": (c_uint32, [c_void_p, c_size_t, POINTER(Halves)]),
+    "nth_ipv4": (c_uint32, [c_void_p, c_size_t, c_uint64, c_uint64, POINTER(Value)]),
+    "nth_ipv6": (c_uint32, [c_void_p, c_size_t, c_uint64, c_uint64, POINTER(Value)]),
     "first_free": (c_uint32, [c_void_p, c_size_t, c_uint8, POINTER(Value)]),
     "best_free": (c_uint32, [c_void_p, c_size_t, c_uint8, POINTER(Value)]),
     "contains_each": (c_uint32, [c_void_p, c_size_t, c_void_p, c_size_t, c_void_p, c_size_t]),
     "longest_match_each": (c_uint32, [c_void_p, c_size_t, c_void_p, c_size_t, c_void_p, c_size_t]),
+    "covering": (c_uint32, [c_void_p, c_size_t, POINTER(Value), c_void_p, c_size_t, POINTER(c_size_t)]),
+    "covered": (c_uint32, [c_void_p, c_size_t, POINTER(Value), c_void_p, c_size_t, POINTER(c_size_t)]),
     "permits": (c_uint32, [c_void_p, c_size_t, POINTER(Value)]),
     "permitted": (c_uint32, [c_void_p, c_size_t, c_void_p, c_size_t, POINTER(c_size_t)]),
     "shadowed": (c_uint32, [c_void_p, c_size_t, c_void_p, c_size_t, POINTER(c_size_t)]),
+    "deciding": (c_uint32, [c_void_p, c_size_t, POINTER(Value), c_void_p, c_size_t, POINTER(c_size_t)]),
     "table_room": (c_size_t, [c_uint32]),
     "ipv4_table_build": (c_uint32, [
         c_void_p,
@@ -404,8 +427,10 @@ class Calls:
     print_with_mask: Callable[[Any, Any, int], int]
     print_with_host_mask: Callable[[Any, Any, int], int]
     print_reverse_name: Callable[[Any, Any, int], int]
+    print_reverse_zone: Callable[[Any, int, Any, int], int]
     print_lines: Callable[[Any, int, Any, int, Any], int]
     message: Callable[[int, Any, int], int]
+    text_fault: Callable[[Any, int, Any, int], int]
     network_to_bytes: Callable[[Any, Any, int], int]
     host_to_bytes: Callable[[Any, Any, int], int]
     network_from_bytes: Callable[[Any, int, Any, Any], int]
@@ -427,6 +452,10 @@ class Calls:
     sibling: Callable[[Any, Any], int]
     next_network: Callable[[Any, Any], int]
     previous_network: Callable[[Any, Any], int]
+    ipv6_mapped: Callable[[Any, Any], int]
+    ipv4_mapped: Callable[[Any, Any], int]
+    ipv4_6to4: Callable[[Any, Any], int]
+    ipv4_nat64: Callable[[Any, Any], int]
     usable_count: Callable[[Any, Any], int]
     address_count: Callable[[Any, Any], int]
     position: Callable[[Any, Any, Any], int]
@@ -459,13 +488,21 @@ class Calls:
     is_subset: Callable[[Any, int, Any, int, Any], int]
     is_disjoint: Callable[[Any, int, Any, int, Any], int]
     summarize: Callable[[Any, Any, Any, int, Any], int]
+    ranges: Callable[[Any, int, Any, int, Any], int]
+    count_ipv4: Callable[[Any, int, Any], int]
+    count_ipv6: Callable[[Any, int, Any], int]
+    nth_ipv4: Callable[[Any, int, int, int, Any], int]
+    nth_ipv6: Callable[[Any, int, int, int, Any], int]
     first_free: Callable[[Any, int, int, Any], int]
     best_free: Callable[[Any, int, int, Any], int]
     contains_each: Callable[[Any, int, Any, int, Any, int], int]
     longest_match_each: Callable[[Any, int, Any, int, Any, int], int]
+    covering: Callable[[Any, int, Any, Any, int, Any], int]
+    covered: Callable[[Any, int, Any, Any, int, Any], int]
     permits: Callable[[Any, int, Any], int]
     permitted: Callable[[Any, int, Any, int, Any], int]
     shadowed: Callable[[Any, int, Any, int, Any], int]
+    deciding: Callable[[Any, int, Any, Any, int, Any], int]
     table_room: Callable[[int], int]
     ipv4_table_build: Callable[[Any, int, Any, int, Any, int, Any, int, int, Any], int]
     ipv6_table_build: Callable[[Any, int, Any, int, Any, int, Any, int, int, Any], int]

@@ -5,10 +5,10 @@ import ctypes
 from bisect import bisect_right
 from collections.abc import Callable, Iterable, Iterator
 from itertools import chain
-from operator import index
+from operator import index as integer
 from typing import TypeVar, Union
 
-from pcidr._calls import Code, Rule, Value
+from pcidr._calls import Code, Halves, Range, Rule, Value
 from pcidr._files import Path, Stored, opened, set_of, write
 from pcidr._kinds import each_of, values_of
 from pcidr._library import (
@@ -28,7 +28,17 @@ from pcidr._library import (
     read_all,
     tags_of,
 )
-from pcidr._values import ADDRESSES_AND_NETWORKS, Address, AnyAddress, AnyNetwork, Network, network_value, renamed
+from pcidr._values import (
+    ADDRESSES_AND_NETWORKS,
+    LOW,
+    Address,
+    AnyAddress,
+    AnyNetwork,
+    Network,
+    network_value,
+    renamed,
+    sought,
+)
 
 V = TypeVar("V")
 S = TypeVar("S", bound="NetworkSet")
@@ -82,6 +92,20 @@ def summarize_address_range(first: AnyAddress, last: AnyAddress) -> list[Network
     return each_of(Network, filled(Value, 128, calls.summarize, begin._value, end._value))
 
 
+def spanning_cidr(networks: Iterable[AnyNetwork]) -> Network:
+    """The longest network that has all of some networks; where they are of both families it is `any`. None at all raise
+    `ValueError`."""
+    values = values_in(networks)
+    if not len(values):
+        raise ValueError("there are no networks to span")
+    span = values[0]
+    for value in values:
+        out = Value()
+        check(calls.spanning(span, value, out))
+        span = out
+    return Network._of(span)
+
+
 def permitted(rules: Iterable[tuple[AnyNetwork, bool]]) -> NetworkSet:
     """The set of the addresses that an access list permits: pairs of a network and whether it is permitted. For an
     address the first rule counts whose network it is in; one that is in none is denied. What is neither a `bool` nor an
@@ -105,7 +129,7 @@ def shadowed(rules: Iterable[tuple[AnyNetwork, bool]]) -> list[int]:
 def _rules(rules: Iterable[tuple[AnyNetwork, bool]]) -> ctypes.Array[Rule]:
     pairs = listed(rules)
     networks = values_in([network for network, _ in pairs])
-    actions = (1 if index(is_permitted) else 0 for _, is_permitted in pairs)  # "deny" is not true
+    actions = (1 if integer(is_permitted) else 0 for _, is_permitted in pairs)  # "deny" is not true
     return (Rule * len(pairs))(*map(Rule, networks, actions))
 
 
@@ -283,14 +307,33 @@ class NetworkSet:
     def ranges(self) -> list[tuple[Address, Address]]:
         """The addresses as ranges, each from its first to its last one, ascending, with an address between two of them.
         A range is of one family."""
-        found: list[tuple[Address, Address]] = []
-        for network in parse_networks(self.to_strings()):  # without `any`, which has addresses of two families
-            first, last = network.first, network.last
-            if found and found[-1][1].version == first.version and found[-1][1] + 1 == first:
-                found[-1] = found[-1][0], last
-            else:
-                found.append((first, last))
-        return found
+        values = self._values
+        made = filled(Range, 2 * len(values), calls.ranges, values, len(values))
+        ends = each_of(Address, (Value * (2 * len(made))).from_buffer(made)) if len(made) else []
+        return list(chain.from_iterable(map(_of_one_family, ends[0::2], ends[1::2])))
+
+    def nth(self, index: int, version: int = 4) -> Address:
+        """The address at an index of those of a family, counted from 0, ascending; from the last one on for an index below
+        0. One that isn't there raises `IndexError`."""
+        place = integer(index)
+        if place < 0:
+            place += self._size_of(version)
+        values, call = self._values, {4: calls.nth_ipv4, 6: calls.nth_ipv6}.get(version)
+        if call is None:
+            raise ValueError(f"no family of addresses: {version}")
+        made = sought(Address, call, values, len(values), place >> 64, place & LOW) if 0 <= place < 1 << 128 else None
+        if made is None:
+            raise IndexError(f"the set has no IPv{version} address {index}")
+        return made
+
+    def _size_of(self, version: int) -> int:
+        """The number of addresses of a family."""
+        values, number = self._values, Halves()
+        code = (calls.count_ipv4 if version == 4 else calls.count_ipv6)(values, len(values), number)
+        if code == Code.NONE:
+            return 1 << 128
+        check(code)
+        return number.high << 64 | number.low
 
     def first_free(self, prefixlen: int) -> Network | None:
         """The first network of a prefix length that the set has, as a pool of free addresses; IPv4 comes before IPv6."""
@@ -301,7 +344,7 @@ class NetworkSet:
         return self._free(calls.best_free, prefixlen)
 
     def _free(self, call: Call, prefixlen: int) -> Network | None:
-        length = index(prefixlen)
+        length = integer(prefixlen)
         if not 0 <= length <= 128:
             raise ValueError(f"no prefix length: {prefixlen}")
         values, out = self._values, Value()
@@ -357,8 +400,9 @@ class NetworkSet:
 
     @property
     def size(self) -> int:
-        """The number of addresses."""
-        return sum(network.num_addresses for network in self)
+        """The number of addresses, of both families."""
+        still = self._still
+        return still._size_of(4) + still._size_of(6)
 
     count = renamed("count", "size")
 
@@ -369,6 +413,13 @@ class NetworkSet:
 
     def __repr__(self) -> str:
         return f"{type(self).__name__}({self.to_strings()!r})"
+
+
+def _of_one_family(first: Address, last: Address) -> list[tuple[Address, Address]]:
+    """A range, or its two parts where it goes from the last address of IPv4 on to the first of IPv6."""
+    if first.version == last.version:
+        return [(first, last)]
+    return [(first, Address("255.255.255.255")), (Address("::"), last)]
 
 
 AnySet = Union[NetworkSet, Iterable[AnyNetwork]]

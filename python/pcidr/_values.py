@@ -6,10 +6,12 @@ import ipaddress
 import re
 import warnings
 from collections.abc import Iterator
+from functools import partial
+from itertools import count, takewhile
 from operator import index as integer
-from typing import TYPE_CHECKING, Any, NamedTuple, Union
+from typing import TYPE_CHECKING, Any, NamedTuple, TypeVar, Union
 
-from pcidr._calls import MASK_ROOM, NAME_ROOM, Code, Purpose, Special, Value
+from pcidr._calls import FAULT_ROOM, MASK_ROOM, NAME_ROOM, Code, Purpose, Special, Value
 from pcidr._kinds import OfAddress, OfHost, OfNetwork, Shown, each_of, register
 from pcidr._library import Call, array, calls, check, combined, printed, read, tried
 
@@ -20,17 +22,37 @@ AnyNetwork = Union["Address", "Network", str, OfIpaddress]
 WithLength = tuple[AnyAddress, Union[int, str]]
 AnyHost = Union["Address", "Host", "Network", str, Packed, OfIpaddress, WithLength]
 
+K = TypeVar("K", bound=Shown)
+
 ADDRESSES_AND_NETWORKS = (ipaddress.IPv4Address, ipaddress.IPv6Address, ipaddress.IPv4Network, ipaddress.IPv6Network)
 _INTERFACES = (ipaddress.IPv4Interface, ipaddress.IPv6Interface)  # which are addresses of that module, too
 _OF_NUMBERS = re.compile("#?_?[bnxX]").fullmatch
 _WIDTHS = {4: 32, 6: 128}
 _ADDRESS_TAGS = {4: 32, 6: 192}
-_LOW = 2**64 - 1
+LOW = 2**64 - 1
 _SUBNETS = 256  # so many at a time
 
 
+def sought(kind: type[K], call: Call, *given: object) -> K | None:
+    """What a call makes of values, or None where it says that there is none."""
+    out = Value()
+    code = call(*given, out)
+    if code == Code.NONE:
+        return None
+    check(code)
+    return kind._of(out)
+
+
+def text_fault(text: str) -> str | None:
+    """What is wrong with a string that is no network, address or range, as ``a leading zero in an octet``: the first of
+    some faults that are looked for, or None."""
+    given, room = text.encode("utf-8", "surrogatepass"), ctypes.create_string_buffer(FAULT_ROOM)
+    count = calls.text_fault(given, len(given), room, FAULT_ROOM)
+    return room.raw[:count].decode() or None
+
+
 def _numbered(number: int, tag: int) -> Value:
-    return Value(number >> 64, number & _LOW, tag)
+    return Value(number >> 64, number & LOW, tag)
 
 
 def _read_packed(given: Packed) -> Value:
@@ -200,6 +222,22 @@ class _Common(Shown):
     mask = renamed("mask", "netmask")
 
 
+class _Mapped(_Common):
+    """What addresses and networks have alike."""
+
+    __slots__ = ()
+
+    @property
+    def ipv6_mapped(self: K) -> K | None:
+        """That of the IPv4-mapped addresses, as ``::ffff:192.0.2.1`` of ``192.0.2.1``; None of one of IPv6."""
+        return sought(type(self), calls.ipv6_mapped, self._value)
+
+    @property
+    def ipv4_mapped(self: K) -> K | None:
+        """The inverse of `ipv6_mapped`; None of one that isn't in ::ffff:0:0/96."""
+        return sought(type(self), calls.ipv4_mapped, self._value)
+
+
 class SpecialEntry(NamedTuple):
     """An entry of the IANA registries of addresses for special purposes, as of May 2025: its block, what that is for,
     the number of the RFC, and the columns, of which None stands for "N/A"."""
@@ -214,7 +252,7 @@ class SpecialEntry(NamedTuple):
     reserved_by_protocol: bool | None
 
 
-class Address(_Common, OfAddress):
+class Address(_Mapped, OfAddress):
     """An IPv4 or IPv6 address, as ``Address("10.0.0.1")``. IPv4 addresses come before IPv6 addresses. A string that is
     none raises `ValueError`; a prefix length is not taken. `bytes` are a packed address, 4 or 16 of them.
 
@@ -260,6 +298,16 @@ class Address(_Common, OfAddress):
         block = Network._of(Value(out.high, out.low, (0 if self.version == 4 else 64) + out.len))
         columns = out.source, out.destination, out.forwardable, out.globally_reachable, out.reserved_by_protocol
         return SpecialEntry(block, Purpose(out.purpose), out.rfc, *((False, True, None)[column] for column in columns))
+
+    @property
+    def sixtofour(self) -> Address | None:
+        """The IPv4 address of the site of a 6to4 address, of 2002::/16, or None."""
+        return sought(Address, calls.ipv4_6to4, self._value)
+
+    @property
+    def nat64(self) -> Address | None:
+        """The IPv4 address in an address of translation (NAT64), of 64:ff9b::/96, or None."""
+        return sought(Address, calls.ipv4_nat64, self._value)
 
     def __bytes__(self) -> bytes:
         return self.packed
@@ -357,7 +405,7 @@ class Host(_WithPrefix, OfHost):
     address = renamed("address", "ip")
 
 
-class Network(_WithPrefix, OfNetwork):
+class Network(_WithPrefix, _Mapped, OfNetwork):
     """An IPv4 or IPv6 network, as ``Network("10.0.0.0/8")``, or ``Network("any")``, which has all addresses.
 
     A string that is none raises `ValueError`, also where a bit after the prefix is set; with ``strict=False`` such bits
@@ -467,9 +515,28 @@ class Network(_WithPrefix, OfNetwork):
         """The networks in it of a prefix length, some at a time."""
         room, count, place = (Value * _SUBNETS)(), ctypes.c_size_t(_SUBNETS), 0
         while count.value == _SUBNETS:
-            check(calls.subnets(self._value, length, place >> 64, place & _LOW, room, _SUBNETS, count))
+            check(calls.subnets(self._value, length, place >> 64, place & LOW, room, _SUBNETS, count))
             yield from each_of(Network, room, count.value)
             place += _SUBNETS
+
+    def _beside(self, call: Call) -> Network:
+        self._own_length()
+        made = sought(Network, call, self._value)
+        if made is None:
+            raise ValueError(f"there is no such network beside {self}")
+        return made
+
+    def next(self) -> Network:
+        """The network of the same length behind it; the last one raises `ValueError`."""
+        return self._beside(calls.next_network)
+
+    def previous(self) -> Network:
+        """The network of the same length before it; the first one raises `ValueError`."""
+        return self._beside(calls.previous_network)
+
+    def sibling(self) -> Network:
+        """The other half of the network that is twice as large; 0.0.0.0/0 and ::/0 raise `ValueError`."""
+        return self._beside(calls.sibling)
 
     def hosts(self) -> Iterator[Address]:
         """The addresses that hosts may have: in IPv4 all but the first and the last one, and of a network of one or two
@@ -482,6 +549,13 @@ class Network(_WithPrefix, OfNetwork):
     def from_reverse_pointer(cls, name: str) -> Network:
         """The network, or the address as a network, with this name in reverse DNS; another name raises `ValueError`."""
         return cls._of(read(calls.read_reverse_name, name))
+
+    def reverse_zones(self) -> Iterator[str]:
+        """The names in reverse DNS of the zones that it is delegated in, ascending: of the networks in it of the next prefix
+        length that ends at a label, so that one with a `reverse_pointer` has that alone."""
+        self._own_length()
+        names = (printed(partial(calls.print_reverse_zone, self._value), place, NAME_ROOM) for place in count())
+        return takewhile(bool, names)
 
     def address_exclude(self, other: AnyNetwork) -> Iterator[Network]:
         """The networks of its addresses that are not in the other one, ascending. One that isn't in it raises
@@ -508,7 +582,7 @@ class Network(_WithPrefix, OfNetwork):
         if self.prefixlen is None or not 0 <= place < self.num_addresses:
             raise IndexError(f"{self} has no address {index}")
         out = Value()
-        check(calls.nth(self._value, place >> 64, place & _LOW, out))
+        check(calls.nth(self._value, place >> 64, place & LOW, out))
         return Address._of(out)
 
     def __iter__(self) -> Iterator[Address]:

@@ -259,6 +259,85 @@ class OfIpaddress(unittest.TestCase):
             with self.assertRaises(ValueError):
                 getattr(Network("any"), name)()
 
+    def test_networks_beside(self):
+        for _ in range(1000):
+            theirs = any_network()
+            ours, width, length = Network(theirs), theirs.max_prefixlen, theirs.prefixlen
+            number, size = int(theirs[0]), theirs.num_addresses
+            for call, begin in ((ours.next, number + size), (ours.previous, number - size), (ours.sibling, number ^ size)):
+                if 0 <= begin < 1 << width and (length or call != ours.sibling):
+                    self.assertEqual(call().to_ipaddress(), type(theirs)((begin, length)))
+                else:
+                    with self.assertRaises(ValueError):
+                        call()
+        for name in ("next", "previous", "sibling"):
+            with self.assertRaises(ValueError):
+                getattr(Network("any"), name)()
+
+    def test_spans(self):
+        for _ in range(500):
+            texts = [near_text() for _ in range(RANDOM.randrange(1, 5))]
+            networks = [Network(text) for text in texts]
+            span = pcidr.spanning_cidr(RANDOM.choice((texts, networks)))
+            self.assertTrue(all(network in span for network in networks), (texts, span))
+            if span.prefixlen is not None and span.prefixlen < span.max_prefixlen:
+                for half in span.subnets():
+                    self.assertFalse(all(network in half for network in networks), (texts, span))
+            else:
+                versions = {network.version for network in networks}
+                self.assertTrue(len(versions) > 1 or None in versions or span in networks)
+        with self.assertRaises(ValueError):
+            pcidr.spanning_cidr([])
+
+    def test_ipv4_inside_ipv6(self):
+        for _ in range(1000):
+            front = RANDOM.choice((0xFFFF << 32, 0x2002 << 112, 0x64FF9B << 96, 0, 0xFFFE << 32, 0x2001 << 112))
+            theirs = ipaddress.IPv6Address(front | RANDOM.getrandbits(RANDOM.choice((32, 33, 96))))
+            ours = Address(theirs)
+            self.assertEqual(theirs_of(ours.ipv4_mapped), theirs.ipv4_mapped)
+            self.assertEqual(theirs_of(ours.sixtofour), theirs.sixtofour)
+            translated = ipaddress.IPv4Address(int(theirs) & 2**32 - 1) if int(theirs) >> 32 == 0x64FF9B << 64 else None
+            self.assertEqual((theirs_of(ours.nat64), ours.ipv6_mapped), (translated, None))
+            network = any_network()
+            mapped = Network(network).ipv6_mapped
+            if network.version == 6:
+                self.assertIsNone(mapped)
+            else:
+                wanted = ipaddress.IPv6Network((0xFFFF << 32 | int(network[0]), network.prefixlen + 96))
+                self.assertEqual((theirs_of(mapped), theirs_of(mapped.ipv4_mapped)), (wanted, network))
+                address = Address(network[-1])
+                self.assertEqual(address.ipv6_mapped.ipv4_mapped, address)
+                self.assertEqual((address.ipv4_mapped, address.sixtofour, address.nat64), (None, None, None))
+        for text in ("::fffe:0:0/95", "::/0", "::ffff:0:0:0/96"):
+            self.assertIsNone(Network(text).ipv4_mapped)
+        with self.assertRaises(ValueError):
+            Network("any").ipv6_mapped
+
+    def test_zones(self):
+        for _ in range(500):
+            theirs = any_network()
+            label = 8 if theirs.version == 4 else 4
+            length = -(-theirs.prefixlen // label) * label
+            labels = (theirs.max_prefixlen - length) // label
+            wanted = [".".join(zone[0].reverse_pointer.split(".")[labels:]) for zone in theirs.subnets(new_prefix=length)]
+            self.assertEqual(list(Network(theirs).reverse_zones()), wanted)
+        with self.assertRaises(ValueError):
+            Network("any").reverse_zones()
+
+    def test_what_is_wrong_with_a_string(self):
+        faults = {
+            "192.0.02.1": "a leading zero in an octet",
+            "::ffff:192.0.2.256": "a number above 255",
+            "10/8": "not four octets",
+            "2001:db8::12345": "a group of more than four digits",
+            "192.0.2.0/255.255.255.0": "a mask in place of a length",
+            "192.0.2.7/24": "host bits set; the network is 192.0.2.0/24",
+        }
+        for text, wanted in faults.items():
+            self.assertEqual(pcidr.text_fault(text), wanted)
+        for text in ("", "192.0.2.0/24", "::", "x", "\ud800", "10.0.0.0-10.0.0.255", "\0"):
+            self.assertIsNone(pcidr.text_fault(text))
+
     def test_exclusion(self):
         for _ in range(1000):
             outer = any_network(20)
@@ -350,6 +429,14 @@ class OfIPSet(unittest.TestCase):
                     for each in (ours, lists):
                         self.assertEqual(getattr(kind(lists[0]), name)(each[1]), wanted)
                 self.assertEqual(kind(lists[0]).size, len(theirs[0]))
+                held = kind(lists[0])
+                for version in (4, 6):
+                    family = sorted(Address(name) for name in theirs[0] if Address(name).version == version)
+                    self.assertEqual([held.nth(place, version) for place in range(len(family))], family)
+                    self.assertEqual([held.nth(place - len(family), version) for place in range(len(family))], family)
+                    for place in (len(family), -1 - len(family), 2**64, 2**128, -(2**200)):
+                        with self.assertRaises(IndexError):
+                            held.nth(place, version)
                 self.assertEqual(kind(lists[0]).complement(), ~ours[0])
                 self.assertEqual(kind(lists[0]).copy(), ours[0])
 
@@ -424,6 +511,10 @@ class OfIPSet(unittest.TestCase):
                         self.assertEqual(found is None, not fitting)
                         if found:
                             self.assertTrue(found in held and found.prefixlen == prefixlen)
+        self.assertEqual((NetworkSet(["any"]).size, NetworkSet(["::/0"]).size), (2**32 + 2**128, 2**128))
+        self.assertEqual(NetworkSet(["any"]).nth(-1, 6), Address("ffff:ffff:ffff:ffff:ffff:ffff:ffff:ffff"))
+        with self.assertRaises(ValueError):
+            NetworkSet().nth(0, 5)
         whole = [(Address("0.0.0.0"), Address("255.255.255.255")), (Address("::"), Address("::") + (2**128 - 1))]
         self.assertEqual((NetworkSet().ranges(), NetworkSet(["any"]).ranges()), ([], whole))
         with self.assertRaises(ValueError):
@@ -497,6 +588,19 @@ class OfIPSet(unittest.TestCase):
 class OfTries(unittest.TestCase):
     """Rows around a network, beside a look at each row."""
 
+    def test_indexes_of_a_list(self):
+        """The calls of C on a list, which a table has no use for."""
+        calls, room, count = pcidr._library.calls, (ctypes.c_size_t * 20)(), ctypes.c_size_t()
+        for _ in range(400):
+            networks = list(map(Network, sorted({near_text() for _ in range(RANDOM.randrange(14))})))
+            if RANDOM.random() < 0.5:
+                networks.sort()
+            values, asked = pcidr._library.array(network._value for network in networks), Network(near_text())
+            for call, holds in ((calls.covering, lambda one: asked in one), (calls.covered, lambda one: one in asked)):
+                self.assertEqual(call(values, len(values), asked._value, room, 20, count), 0)
+                wanted = [place for place, network in enumerate(networks) if holds(network)]
+                self.assertEqual(room[: count.value], wanted)
+
     def test_covering_and_covered(self):
         for _ in range(400):
             table = Table((near_text(), place) for place in range(RANDOM.randrange(14)))
@@ -535,6 +639,36 @@ class Others(unittest.TestCase):
                 self.assertEqual(made[0].size, made[1].size)
             for name in ("isdisjoint", "issubset", "issuperset"):
                 self.assertEqual(getattr(ours[0], name)(ours[1]), getattr(theirs[0], name)(theirs[1]))
+
+    @unittest.skipUnless(find_spec("netaddr"), "there is no netaddr")
+    def test_networks_of_netaddr(self):
+        import netaddr
+
+        for _ in range(300):
+            networks = [any_network(RANDOM.choice((9, 128))) for _ in range(4)]
+            one = networks[0]
+            ours, theirs = Network(one), netaddr.IPNetwork(str(one))
+            for name in ("next", "previous"):
+                try:
+                    wanted = str(getattr(theirs, name)())
+                except (IndexError, ValueError, netaddr.AddrFormatError):
+                    wanted = None
+                try:
+                    found = getattr(ours, name)().with_prefixlen
+                except ValueError:
+                    found = None
+                self.assertEqual(found, wanted, (one, name))
+            # of networks in one another that of netaddr can be too small, and of one address it is none
+            ends = [str(end) for network in networks if network.version == one.version for end in (network[0], network[-1])]
+            if len(set(ends)) > 1:
+                self.assertEqual(pcidr.spanning_cidr(ends).with_prefixlen, str(netaddr.spanning_cidr(ends)))
+            self.assertEqual([each.with_prefixlen for each in pcidr.collapse_addresses(networks)],
+                             [str(each) for each in sorted(netaddr.cidr_merge([str(each) for each in networks]))])
+            held = netaddr.IPSet(map(str, networks))
+            ranges = [(str(netaddr.IPAddress(each.first, each.version)), str(netaddr.IPAddress(each.last, each.version)))
+                      for each in held.iter_ipranges()]
+            self.assertEqual([(str(first), str(last)) for first, last in NetworkSet(networks).ranges()],
+                             [(str(Address(first)), str(Address(last))) for first, last in ranges])
 
     @unittest.skipUnless(find_spec("radix"), "there is no radix")
     def test_radix(self):

@@ -110,6 +110,8 @@ enum {
 /* Room for a network with its mask, and for a name in reverse DNS, with the 0 behind it. */
 #define PCIDR_MASK_ROOM 80
 #define PCIDR_NAME_ROOM 73
+/* Room for what is wrong with a string, with the 0 behind it. */
+#define PCIDR_FAULT_ROOM 74
 /* Room for the compact bytes of any value. */
 #define PCIDR_BYTES_ROOM 17
 
@@ -176,6 +178,11 @@ size_t pcidr_print_with_host_mask(const pcidr_value *host, char *out, size_t out
  * 0 also where the prefix length doesn't end at a label, as it does at a multiple of 8 in IPv4 and of 4 in IPv6. */
 size_t pcidr_print_reverse_name(const pcidr_value *host, char *out, size_t out_len);
 
+/* The same of a zone that the network of a host is delegated in: that at an index, counted from 0, of the networks inside it
+ * of the next prefix length that ends at a label, ascending; of a network that has a name itself only this one. 0 where
+ * there are no more than that: at most 128 in IPv4, and 8 in IPv6. */
+size_t pcidr_print_reverse_zone(const pcidr_value *host, size_t index, char *out, size_t out_len);
+
 /* Prints networks, each with a line feed behind it and without a full prefix length. PCIDR_OK and `count` bytes in `out`,
  * and what `out` has behind them stays; or the error of the first value that has one: PCIDR_NO_VALUE where it is no
  * network, PCIDR_NO_ROOM where the lines up to it have more bytes than `out`. Then what `out` has is not specified and
@@ -184,6 +191,11 @@ uint32_t pcidr_print_lines(const pcidr_value *networks, size_t networks_len, cha
 
 /* The message of an error, or 0 for a number that is none. */
 size_t pcidr_message(uint32_t code, char *out, size_t out_len);
+
+/* What is wrong with a string that is no network, no address and no range of addresses, as `a leading zero in an octet`,
+ * `a number above 255` or `host bits set; the network is 192.0.2.0/24`: the first of some faults that are looked for. 0 where
+ * it has none of these, or is not UTF-8. */
+size_t pcidr_text_fault(const char *text, size_t text_len, char *out, size_t out_len);
 
 /* ---- compact bytes: the tag, and the address in network byte order; 1, 5 or 17 bytes */
 
@@ -219,6 +231,10 @@ uint32_t pcidr_subnet_by_value(pcidr_value host, uint8_t len, uint64_t high, uin
 uint32_t pcidr_sibling_by_value(pcidr_value host, pcidr_value *out);
 uint32_t pcidr_next_network_by_value(pcidr_value host, pcidr_value *out);
 uint32_t pcidr_previous_network_by_value(pcidr_value host, pcidr_value *out);
+uint32_t pcidr_ipv6_mapped_by_value(pcidr_value host, pcidr_value *out);
+uint32_t pcidr_ipv4_mapped_by_value(pcidr_value host, pcidr_value *out);
+uint32_t pcidr_ipv4_6to4_by_value(pcidr_value address, pcidr_value *out);
+uint32_t pcidr_ipv4_nat64_by_value(pcidr_value address, pcidr_value *out);
 
 /* The first and the last address of its network, and the mask as an address. */
 static inline uint32_t pcidr_first(const pcidr_value *host, pcidr_value *out) {
@@ -315,6 +331,28 @@ static inline uint32_t pcidr_next_network(const pcidr_value *host, pcidr_value *
 }
 static inline uint32_t pcidr_previous_network(const pcidr_value *host, pcidr_value *out) {
     return pcidr_previous_network_by_value(*host, out);
+}
+
+/* ---- IPv4 inside IPv6: errors as above */
+
+/* The network of the IPv4-mapped addresses of an IPv4 network, ::ffff:192.0.2.0/120 of 192.0.2.0/24, and of an address the
+ * address. PCIDR_NONE for one of IPv6. */
+static inline uint32_t pcidr_ipv6_mapped(const pcidr_value *host, pcidr_value *out) {
+    return pcidr_ipv6_mapped_by_value(*host, out);
+}
+
+/* The inverse: 192.0.2.1 of ::ffff:192.0.2.1. PCIDR_NONE for a network that isn't inside ::ffff:0:0/96. */
+static inline uint32_t pcidr_ipv4_mapped(const pcidr_value *host, pcidr_value *out) {
+    return pcidr_ipv4_mapped_by_value(*host, out);
+}
+
+/* The IPv4 address of the site of a 6to4 address, the 32 bits behind 2002::/16, or that in an address of translation (NAT64),
+ * behind 64:ff9b::/96. PCIDR_NO_VALUE for what is no address, and PCIDR_NONE for one outside of these. */
+static inline uint32_t pcidr_ipv4_6to4(const pcidr_value *address, pcidr_value *out) {
+    return pcidr_ipv4_6to4_by_value(*address, out);
+}
+static inline uint32_t pcidr_ipv4_nat64(const pcidr_value *address, pcidr_value *out) {
+    return pcidr_ipv4_nat64_by_value(*address, out);
 }
 
 /* ---- masks and special purposes of addresses */
@@ -493,6 +531,31 @@ uint32_t pcidr_is_disjoint(const pcidr_value *these, size_t these_len, const pci
 uint32_t pcidr_summarize(const pcidr_value *first, const pcidr_value *last, pcidr_value *out, size_t out_len,
                          size_t *count);
 
+/* Addresses from a first to a last one, both included. */
+typedef struct pcidr_range {
+    pcidr_value first;
+    pcidr_value last;
+} pcidr_range;
+
+PCIDR_ASSERT(sizeof(pcidr_range) == 48);
+PCIDR_ASSERT(offsetof(pcidr_range, first) == 0);
+PCIDR_ASSERT(offsetof(pcidr_range, last) == 24);
+
+/* The longest ranges of the addresses of a list, ascending, in `out`, as of a union: between one and the next is an address
+ * that is in no network of the list. They are at most as many as its networks. A range can go from 255.255.255.255 on to ::,
+ * which comes next. Errors: NO_MEMORY, NO_VALUE, NO_ROOM. Allocates, and sorts the list. */
+uint32_t pcidr_ranges(const pcidr_value *networks, size_t networks_len, pcidr_range *out, size_t out_len, size_t *count);
+
+/* How many addresses of a family a list has; `any` has those of both. Errors: NO_MEMORY, NO_VALUE; NONE where it has all of
+ * IPv6, whose 2^128 the two halves have no room for. Then `count` is as it was. Allocates, and sorts the networks. */
+uint32_t pcidr_count_ipv4(const pcidr_value *networks, size_t networks_len, pcidr_halves *count);
+uint32_t pcidr_count_ipv6(const pcidr_value *networks, size_t networks_len, pcidr_halves *count);
+
+/* Address 2^64 * high + low of those of a family, counted from 0, ascending. Errors as above; NONE where there are no more
+ * than that. */
+uint32_t pcidr_nth_ipv4(const pcidr_value *networks, size_t networks_len, uint64_t high, uint64_t low, pcidr_value *out);
+uint32_t pcidr_nth_ipv6(const pcidr_value *networks, size_t networks_len, uint64_t high, uint64_t low, pcidr_value *out);
+
 /* The first network of prefix length `len` all of whose addresses are in a list of networks, or the first one in the
  * smallest network of its set that has one, so that what is large stays whole. Of two families IPv4 comes first: pass
  * networks of one for that one. `pcidr_difference_in_place` takes it out. Errors: NO_MEMORY, NO_VALUE; NONE where none
@@ -516,6 +579,16 @@ uint32_t pcidr_contains_each(const pcidr_value *networks, size_t networks_len, c
  * table at each call: pass many at once. */
 uint32_t pcidr_longest_match_each(const pcidr_value *networks, size_t networks_len, const pcidr_value *asked,
                                   size_t asked_len, size_t *out, size_t out_len);
+
+/* The indexes of the networks of a list that contain a network or an address, or of those that lie in a network: the first
+ * `count` of `out`, ascending. In a list that ascends as `pcidr_order` sorts it the networks that contain it come with the
+ * shortest first, and those that lie in it are one behind the other. What is behind them in `out` stays. Errors: NO_MEMORY,
+ * NO_VALUE, NO_ROOM, and with that `count` is how many they are; then `out` is as it was. Goes once through the list, in
+ * any order. Allocates: 8 bytes for each that is found. */
+uint32_t pcidr_covering(const pcidr_value *networks, size_t networks_len, const pcidr_value *asked, size_t *out,
+                        size_t out_len, size_t *count);
+uint32_t pcidr_covered(const pcidr_value *networks, size_t networks_len, const pcidr_value *asked, size_t *out,
+                       size_t out_len, size_t *count);
 
 /* ---- access lists: rules in order, of which the first whose network contains an address decides; an address in none
  * of them is denied */

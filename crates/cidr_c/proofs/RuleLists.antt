@@ -6,7 +6,8 @@ use Rattle.std.specs.List.Sorted.{IsStrictlyIncreasing}
 use Rattle.cidr.specs.either.IpNetwork.{any_bits}
 use Rattle.cidr.specs.declared.cidr.any.AnyIpCidr.{AnyIpCidr}
 use Rattle.cidr_sets.specs.declared.access.Rule.{Rule}
-use Rattle.cidr_c.specs.model.Rules.{AreIndexesPut, AreIndexesSought, rule_actions, rule_bits, rule_in}
+use Rattle.cidr_c.specs.calls.Batches.{AreIndexesSought, IsListPut}
+use Rattle.cidr_c.specs.model.Rules.{rule_actions, rule_bits, rule_in}
 use Rattle.cidr_c.specs.declared.rules.CRule.{CRule}
 
 pub bits_of_rules : (rules : List CRule) (xs : List (Rule AnyIpCidr)) → xs ≡ map rule_in rules
@@ -21,7 +22,7 @@ actions_of_rules rules xs e =
 
 -- indexes of the library
 pub indexes_sought : (IsTaken : Type 0) (Holds : ℕ → Type 0) (indexes old new : List ℕ) (count made code : ℕ) → IsTaken
-    → ((i : ℕ) → Contains indexes i ↔ Holds i) → IsStrictlyIncreasing indexes → AreIndexesPut indexes old new made code
+    → ((i : ℕ) → Contains indexes i ↔ Holds i) → IsStrictlyIncreasing indexes → IsListPut indexes old new made code
     → AreIndexesSought IsTaken Holds old new count made code
 indexes_sought IsTaken Holds indexes old new count made code fine exact ascending (is, inl done) =
     let there : take made new ≡ indexes = ap (λ (k : ℕ). take k new) is ∙ done.2 in

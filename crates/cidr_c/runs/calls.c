@@ -1,4 +1,4 @@
-/* Calls around networks, of names, masks, special purposes, ranges, pools and access lists, on values whose answers stand
+/* Calls around networks, of names, faults, masks, IPv4 inside IPv6, special purposes, ranges, sets, pools and access lists, on values whose answers stand
  * in RFCs or are counted by hand, and with arguments that are none. */
 #include <pcidr.h>
 #include <stdio.h>
@@ -145,6 +145,64 @@ static void masks_and_names(void) {
     WANT(named("") == PCIDR_NONE && named("\xff") == PCIDR_NOT_UTF8 && is_left());
 }
 
+/* The names of RFC 1035, 3.5, and RFC 3596, 2.5. */
+static void zones(void) {
+    char name[PCIDR_NAME_ROOM];
+    pcidr_value pair = value("192.0.2.0/23"), six = value("2001:db8::/30"), whole = value("10.0.0.0/8"), any = value("any");
+    WANT(pcidr_print_reverse_zone(&pair, 0, name, sizeof name) == 20 && strcmp(name, "2.0.192.in-addr.arpa") == 0);
+    WANT(pcidr_print_reverse_zone(&pair, 1, name, sizeof name) == 20 && strcmp(name, "3.0.192.in-addr.arpa") == 0);
+    WANT(pcidr_print_reverse_zone(&pair, 2, name, sizeof name) == 0 && strcmp(name, "3.0.192.in-addr.arpa") == 0);
+    WANT(pcidr_print_reverse_zone(&pair, SIZE_MAX, name, sizeof name) == 0 && pcidr_print_reverse_zone(&any, 0, name, sizeof name) == 0);
+    WANT(pcidr_print_reverse_zone(&six, 3, name, sizeof name) == 24 && strcmp(name, "b.b.d.0.1.0.0.2.ip6.arpa") == 0);
+    WANT(pcidr_print_reverse_zone(&six, 4, name, sizeof name) == 0 && pcidr_print_reverse_zone(&pair, 0, NULL, 0) == 20);
+    WANT(pcidr_print_reverse_zone(&whole, 0, name, sizeof name) == 15 && strcmp(name, "10.in-addr.arpa") == 0);
+    WANT(pcidr_print_reverse_zone(&whole, 1, name, sizeof name) == 0);
+    pcidr_value wide = value("0.0.0.0/1");
+    WANT(pcidr_print_reverse_zone(&wide, 127, name, sizeof name) == 16 && strcmp(name, "127.in-addr.arpa") == 0);
+    WANT(pcidr_print_reverse_zone(&wide, 128, name, sizeof name) == 0);
+}
+
+/* Whether this is what is wrong with a string. */
+static int is_fault(const char *text, const char *wanted) {
+    char fault[PCIDR_FAULT_ROOM] = "as it was";
+    size_t len = pcidr_text_fault(text, strlen(text), fault, sizeof fault);
+    return len == strlen(wanted) && strcmp(fault, len ? wanted : "as it was") == 0;
+}
+
+static void faults(void) {
+    WANT(is_fault("192.0.02.1", "a leading zero in an octet") && is_fault("192.0.2.256", "a number above 255"));
+    WANT(is_fault("10/8", "not four octets") && is_fault("2001:db8::12345", "a group of more than four digits"));
+    WANT(is_fault("192.0.2.0/255.255.255.0", "a mask in place of a length"));
+    WANT(is_fault("192.0.2.7/24", "host bits set; the network is 192.0.2.0/24"));
+    WANT(is_fault("192.0.2.0/24", "") && is_fault("192.0.2.x", "") && is_fault("", "") && is_fault("\xff", ""));
+    WANT(is_fault("1234:5678:9abc:def0:1234:5678:9abc:def1/127",
+                  "host bits set; the network is 1234:5678:9abc:def0:1234:5678:9abc:def0/127"));
+    WANT(pcidr_text_fault("10/8", 4, NULL, 0) == 15);
+}
+
+/* The addresses of RFC 4291, 2.5.5.2, RFC 3056, 2, and RFC 6052, 2.4. */
+static void inside_ipv6(void) {
+    pcidr_value four = value("192.0.2.1"), net = value("192.0.2.0/24"), host = value("192.0.2.1/24"), any = value("any");
+    pcidr_value mapped = value("::ffff:192.0.2.1"), wide = value("::ffff:0:0/95"), block = value("::ffff:0:0/96");
+    pcidr_value site = value("2002:c000:201::1"), translated = value("64:ff9b::192.0.2.33"), other = value("::192.0.2.1");
+    out = mark;
+    WANT(pcidr_ipv6_mapped(&four, &out) == PCIDR_OK && is("::ffff:192.0.2.1"));
+    WANT(pcidr_ipv6_mapped(&net, &out) == PCIDR_OK && is("::ffff:192.0.2.0/120"));
+    WANT(pcidr_ipv6_mapped(&host, &out) == PCIDR_OK && is("::ffff:192.0.2.0/120"));
+    WANT(pcidr_ipv6_mapped(&mapped, &out) == PCIDR_NONE && pcidr_ipv6_mapped(&any, &out) == PCIDR_NO_VALUE && is_left());
+    WANT(pcidr_ipv4_mapped(&mapped, &out) == PCIDR_OK && is("192.0.2.1"));
+    WANT(pcidr_ipv4_mapped(&block, &out) == PCIDR_OK && is("0.0.0.0/0"));
+    WANT(pcidr_ipv4_mapped(&wide, &out) == PCIDR_NONE && pcidr_ipv4_mapped(&other, &out) == PCIDR_NONE && is_left());
+    WANT(pcidr_ipv4_mapped(&four, &out) == PCIDR_NONE && pcidr_ipv4_mapped(&none, &out) == PCIDR_NO_VALUE && is_left());
+    WANT(pcidr_ipv4_6to4(&site, &out) == PCIDR_OK && is("192.0.2.1"));
+    WANT(pcidr_ipv4_6to4(&mapped, &out) == PCIDR_NONE && pcidr_ipv4_6to4(&four, &out) == PCIDR_NONE && is_left());
+    WANT(pcidr_ipv4_6to4(&block, &out) == PCIDR_NO_VALUE && is_left());
+    WANT(pcidr_ipv4_nat64(&translated, &out) == PCIDR_OK && is("192.0.2.33"));
+    WANT(pcidr_ipv4_nat64(&site, &out) == PCIDR_NONE && pcidr_ipv4_nat64(&net, &out) == PCIDR_NO_VALUE && is_left());
+    /* the result may take the place of the address */
+    WANT(pcidr_ipv4_mapped(&mapped, &mapped) == PCIDR_OK && is_same(mapped, four));
+}
+
 static void purposes(void) {
     pcidr_special entry;
     pcidr_value anycast = value("192.0.0.9"), free_one = value("8.8.8.8"), local = value("fe80::1"), shared = value("100.64.0.1");
@@ -205,6 +263,61 @@ static void sets(void) {
     WANT(pcidr_is_disjoint(&half, 1, &wide, 1, &answer) == PCIDR_OK && answer == 0);
 }
 
+static int is_range(pcidr_range range, const char *first, const char *last) {
+    return is_same(range.first, value(first)) && is_same(range.last, value(last));
+}
+
+static void addresses_of_sets(void) {
+    pcidr_value all = value("any"), six = value("::/0"), networks[4];
+    pcidr_range room[3] = {{mark, mark}, {mark, mark}, {mark, mark}};
+    pcidr_halves number = {7, 8};
+    size_t count = 77;
+    networks[0] = value("10.0.0.16/28"), networks[1] = value("10.0.0.0/28"), networks[2] = value("10.0.1.0/31");
+    networks[3] = value("2001:db8::/63");
+    WANT(pcidr_ranges(networks, 4, room, 2, &count) == PCIDR_NO_ROOM && count == 3 && is_same(room[0].first, mark));
+    WANT(pcidr_ranges(networks, 2, room, 3, &count) == PCIDR_OK && count == 1 && is_range(room[0], "10.0.0.0", "10.0.0.31"));
+    WANT(is_same(room[1].first, mark) && is_same(room[2].last, mark));
+    WANT(pcidr_ranges(networks, 4, room, 3, &count) == PCIDR_OK && count == 3 && is_range(room[1], "10.0.1.0", "10.0.1.1"));
+    WANT(is_range(room[2], "2001:db8::", "2001:db8:0:1:ffff:ffff:ffff:ffff"));
+    WANT(pcidr_ranges(&all, 1, room, 1, &count) == PCIDR_OK && count == 1);
+    WANT(is_range(room[0], "0.0.0.0", "ffff:ffff:ffff:ffff:ffff:ffff:ffff:ffff"));
+    WANT(pcidr_ranges(NULL, 0, NULL, 0, &count) == PCIDR_OK && count == 0);
+    WANT(pcidr_ranges(&none, 1, room, 3, &count) == PCIDR_NO_VALUE && count == 0);
+    WANT(pcidr_count_ipv4(networks, 4, &number) == PCIDR_OK && number.high == 0 && number.low == 34);
+    WANT(pcidr_count_ipv6(networks, 4, &number) == PCIDR_OK && number.high == 2 && number.low == 0);
+    WANT(pcidr_count_ipv4(&all, 1, &number) == PCIDR_OK && number.high == 0 && number.low == (uint64_t)1 << 32);
+    WANT(pcidr_count_ipv4(&six, 1, &number) == PCIDR_OK && number.low == 0);
+    number.high = 7;
+    WANT(pcidr_count_ipv6(&all, 1, &number) == PCIDR_NONE && pcidr_count_ipv6(&six, 1, &number) == PCIDR_NONE);
+    WANT(pcidr_count_ipv6(&none, 1, &number) == PCIDR_NO_VALUE && number.high == 7 && number.low == 0);
+    WANT(pcidr_count_ipv6(NULL, 0, &number) == PCIDR_OK && number.high == 0 && number.low == 0);
+    out = mark;
+    WANT(pcidr_nth_ipv4(networks, 4, 0, 31, &out) == PCIDR_OK && is("10.0.0.31"));
+    WANT(pcidr_nth_ipv4(networks, 4, 0, 32, &out) == PCIDR_OK && is("10.0.1.0"));
+    WANT(pcidr_nth_ipv4(networks, 4, 0, 34, &out) == PCIDR_NONE && pcidr_nth_ipv4(networks, 4, 1, 0, &out) == PCIDR_NONE && is_left());
+    WANT(pcidr_nth_ipv6(networks, 4, 1, 5, &out) == PCIDR_OK && is("2001:db8:0:1::5"));
+    WANT(pcidr_nth_ipv6(networks, 4, 2, 0, &out) == PCIDR_NONE && pcidr_nth_ipv6(&none, 1, 0, 0, &out) == PCIDR_NO_VALUE && is_left());
+    WANT(pcidr_nth_ipv6(&all, 1, UINT64_MAX, UINT64_MAX, &out) == PCIDR_OK && is("ffff:ffff:ffff:ffff:ffff:ffff:ffff:ffff"));
+}
+
+static void covering(void) {
+    pcidr_value networks[5], address = value("10.1.2.3"), inner = value("10.1.0.0/17"), other = value("11.0.0.1");
+    size_t count = 77, indexes[4] = {9, 9, 9, 9};
+    networks[0] = value("10.0.0.0/8"), networks[1] = value("10.0.0.0/9"), networks[2] = value("10.1.0.0/16");
+    networks[3] = value("10.1.2.0/24"), networks[4] = value("2001:db8::/32");
+    WANT(pcidr_covering(networks, 5, &address, indexes, 3, &count) == PCIDR_NO_ROOM && count == 4 && indexes[0] == 9);
+    WANT(pcidr_covering(networks, 5, &address, indexes, 4, &count) == PCIDR_OK && count == 4);
+    WANT(indexes[0] == 0 && indexes[1] == 1 && indexes[2] == 2 && indexes[3] == 3);
+    WANT(pcidr_covering(networks, 5, &inner, indexes, 4, &count) == PCIDR_OK && count == 3 && indexes[2] == 2);
+    WANT(pcidr_covering(networks, 5, &other, NULL, 0, &count) == PCIDR_OK && count == 0);
+    WANT(pcidr_covered(networks, 5, &networks[1], indexes, 4, &count) == PCIDR_OK && count == 3 && indexes[0] == 1);
+    WANT(indexes[2] == 3 && pcidr_covered(networks, 5, &inner, indexes, 4, &count) == PCIDR_OK && count == 1 && indexes[0] == 3);
+    WANT(pcidr_covered(networks, 5, &networks[4], indexes, 4, &count) == PCIDR_OK && count == 1 && indexes[0] == 4);
+    WANT(pcidr_covering(networks, 5, &none, indexes, 4, &count) == PCIDR_NO_VALUE && count == 1);
+    networks[0] = none;
+    WANT(pcidr_covered(networks, 5, &address, indexes, 4, &count) == PCIDR_NO_VALUE && count == 1 && indexes[0] == 4);
+}
+
 static void access_lists(void) {
     pcidr_rule rules[3] = {{{0, 0, 0}, 0}, {{0, 0, 0}, 1}, {{0, 0, 0}, 7}};
     pcidr_value room[3];
@@ -234,9 +347,14 @@ int main(void) {
     subnets();
     beside();
     masks_and_names();
+    zones();
+    faults();
+    inside_ipv6();
     purposes();
     ranges_and_pools();
     sets();
+    addresses_of_sets();
+    covering();
     access_lists();
     return failures != 0;
 }

@@ -58,6 +58,14 @@ static uint32_t complement(void) { return pcidr_complement(networks, COUNT / 2, 
 static uint32_t is_subset(void) { return pcidr_is_subset(networks, COUNT, others, COUNT, &answer); }
 static uint32_t is_disjoint(void) { return pcidr_is_disjoint(networks, COUNT, others, COUNT, &answer); }
 
+static pcidr_range ranges[COUNT];
+static pcidr_halves number;
+static uint32_t make_ranges(void) { return pcidr_ranges(networks, COUNT, ranges, COUNT, &count); }
+static uint32_t count_ipv4(void) { return pcidr_count_ipv4(networks, COUNT, &number); }
+static uint32_t nth_ipv4(void) { return pcidr_nth_ipv4(networks, COUNT, 0, 3, out); }
+static uint32_t covering(void) { return pcidr_covering(networks, COUNT, &networks[0], matches, COUNT, &count); }
+static uint32_t covered(void) { return pcidr_covered(networks, COUNT, &networks[0], matches, COUNT, &count); }
+
 static uint32_t build_table(void) { return pcidr_table_build(&table, ascending, COUNT, &count); }
 static uint32_t check_table(void) { return pcidr_table_check(&built, ascending, COUNT); }
 
@@ -83,7 +91,7 @@ static void set_values(void) {
     if (build_table() != PCIDR_OK) failures++;
     built = table, table.ranges = 2 * COUNT + 1;
     if (pcidr_set_write(ascending, COUNT, file, sizeof file, &file_len) != PCIDR_OK) failures++;
-    memset(written, 0, sizeof written);
+    memset(written, 0, sizeof written), memset(ranges, 0, sizeof ranges), number.high = 0, number.low = 9;
     memcpy(kept, networks, sizeof kept);
     count = COUNT;
 }
@@ -91,6 +99,8 @@ static void set_values(void) {
 /* Whether all is as `set_values` leaves it. */
 static int is_left(void) {
     static const pcidr_value no_values[ROOM];
+    static const pcidr_range no_ranges[COUNT];
+    if (number.high != 0 || number.low != 9 || memcmp(ranges, no_ranges, sizeof ranges) != 0) return 0;
     for (size_t i = 0; i < sizeof written; i++)
         if (written[i] != 0) return 0;
     for (size_t i = 0; i < COUNT; i++)
@@ -102,7 +112,7 @@ int main(void) {
     static uint32_t (*const calls[])(void) = {
         cover, make_union, intersection, difference, symmetric_difference, union_in_place, intersection_in_place,
         difference_in_place, contains_each, longest_match_each, summarize, first_free, best_free, permitted, shadowed, deciding, complement, is_subset,
-        is_disjoint, build_table, check_table, write_file, write_set, check_file};
+        is_disjoint, make_ranges, count_ipv4, nth_ipv4, covering, covered, build_table, check_table, write_file, write_set, check_file};
     for (size_t i = 0; i < sizeof calls / sizeof *calls; i++) {
         uint32_t code = PCIDR_NO_MEMORY;
         size_t refused = 0;

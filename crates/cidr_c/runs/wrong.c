@@ -75,6 +75,10 @@ static void null_arguments(void) {
         WANT(sets_in_place[i](NULL, 0, &count, NULL, 0) == PCIDR_OK && count == 0);
     }
     WANT(pcidr_union_in_place(NULL, 0, &count, &wide, 1) == PCIDR_NO_ROOM && count == 1);
+    WANT(pcidr_ranges(&wide, 1, NULL, 0, &count) == PCIDR_NO_ROOM && count == 1);
+    WANT(pcidr_covering(NULL, 0, &wide, NULL, 0, &count) == PCIDR_OK && count == 0);
+    WANT(pcidr_covered(&wide, 1, &any, NULL, 0, &count) == PCIDR_NO_ROOM && count == 1);
+    WANT(pcidr_text_fault(NULL, 0, NULL, 0) == 0 && pcidr_print_reverse_zone(&wide, 0, NULL, 0) == 15);
     WANT(pcidr_read_lines(NULL, 0, NULL, 0, &count) == PCIDR_NO_ROOM && count == 0);
     WANT(pcidr_read_lines(NULL, 0, &out, 1, &count) == PCIDR_ADDRESS && count == 0 && is_same(out, mark));
     WANT(pcidr_read_lines("::", 2, NULL, 0, &count) == PCIDR_NO_ROOM && count == 0);
@@ -122,6 +126,13 @@ static void strings(void) {
         WANT(read_copy(readers[i], "10.0.0.1/8", 10) == (i == 2 ? PCIDR_OK : PCIDR_HOST_PART));
         out = mark;
     }
+    const char *const faulty[] = {"192.0.02.", "1::12345", "10.0.0.5/8", "\xff/", "10.0.0.0/255.", "", "/", "-", "1.2.3.4.5"};
+    for (size_t i = 0; i < LENGTH(faulty); i++) {
+        size_t size = strlen(faulty[i]);
+        char *copy = copy_of(faulty[i], size);
+        WANT(pcidr_text_fault(copy, size, text, sizeof text) <= sizeof text);
+        free(copy);
+    }
     const uint8_t wide_bytes[] = {8, 10, 0, 0, 0}, odd_bytes[] = {8, 10, 0, 0, 1};
     for (size_t i = 0; i < LENGTH(byte_readers); i++)
         for (size_t size = 0; size <= 5; size++) {
@@ -161,7 +172,17 @@ static void no_value(pcidr_value bad) {
     WANT(pcidr_compare_hosts(&bad, &host) == 2 && pcidr_compare_hosts(&host, &bad) == 0);
     WANT(pcidr_print_lines(&bad, 1, text, sizeof text, &count) == PCIDR_NO_VALUE && is_left());
 
+    WANT(pcidr_ipv6_mapped(&bad, &out) == PCIDR_NO_VALUE && pcidr_ipv4_mapped(&bad, &out) == PCIDR_NO_VALUE && is_left());
+    WANT(pcidr_ipv4_6to4(&bad, &out) == PCIDR_NO_VALUE && pcidr_ipv4_nat64(&bad, &out) == PCIDR_NO_VALUE && is_left());
+    memset(text, 'x', sizeof text);
+    WANT(pcidr_print_reverse_zone(&bad, 0, text, sizeof text) == 0 && text[0] == 'x');
+
     const pcidr_value both[] = {wide, bad};
+    pcidr_range ranges[2];
+    pcidr_halves number;
+    WANT(pcidr_ranges(both, 2, ranges, 2, &count) == PCIDR_NO_VALUE && is_left());
+    WANT(pcidr_count_ipv4(both, 2, &number) == PCIDR_NO_VALUE && pcidr_count_ipv6(both, 2, &number) == PCIDR_NO_VALUE);
+    WANT(pcidr_nth_ipv4(both, 2, 0, 0, &out) == PCIDR_NO_VALUE && pcidr_nth_ipv6(both, 2, 0, 0, &out) == PCIDR_NO_VALUE && is_left());
     pcidr_value room[] = {wide, bad};
     WANT(pcidr_cover(room, 2, &count) == PCIDR_NO_VALUE && is_same(room[0], wide) && is_same(room[1], bad) && is_left());
     for (size_t i = 0; i < LENGTH(sets); i++) {
@@ -180,6 +201,8 @@ static void no_value(pcidr_value bad) {
     size_t indexes[2];
     WANT(pcidr_longest_match_each(both, 2, &address, 1, indexes, 1) == PCIDR_NO_VALUE);
     WANT(pcidr_longest_match_each(&wide, 1, both, 2, indexes, 2) == PCIDR_NO_VALUE);
+    WANT(pcidr_covering(both, 2, &address, indexes, 2, &count) == PCIDR_NO_VALUE && is_left());
+    WANT(pcidr_covered(&wide, 1, &bad, indexes, 2, &count) == PCIDR_NO_VALUE && is_left());
 }
 
 /* Values of another kind than the call takes. */
@@ -250,6 +273,15 @@ static void small_rooms(void) {
     WANT(pcidr_contains_each(&wide, 1, two, 2, bytes, 1) == PCIDR_NO_ROOM && bytes[0] == 9);
     count = 77;
     WANT(pcidr_longest_match_each(&wide, 1, two, 2, &count, 1) == PCIDR_NO_ROOM && count == 77);
+    pcidr_range *range = malloc(sizeof *range);
+    size_t *index = malloc(sizeof *index);
+    two[1] = apart, *index = 9;
+    WANT(pcidr_ranges(two, 2, range, 1, &count) == PCIDR_NO_ROOM && count == 2);
+    WANT(pcidr_ranges(two, 1, range, 1, &count) == PCIDR_OK && count == 1 && is_same(range->last, address));
+    WANT(pcidr_covered(two, 2, &any, index, 1, &count) == PCIDR_NO_ROOM && count == 2 && *index == 9);
+    WANT(pcidr_covering(two, 2, &apart, index, 1, &count) == PCIDR_OK && count == 1 && *index == 1);
+    free(range), free(index);
+    count = 77;
     free(two);
 }
 

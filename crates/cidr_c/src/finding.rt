@@ -1,10 +1,11 @@
 //! What the calls of the libraries find, where C has room for it.
 ghost use Rattle.std.specs.Prelude.{◌≡◌, ◌*◌, ◌+◌, ◌^◌, IsTrue};
+ghost use Rattle.cidr_c.specs.calls.Batches.{IsListPut};
 ghost use Rattle.cidr_c.specs.calls.Calls.{IsAny, IsPut, IsYesOrNo};
 ghost use Rattle.cidr_c.specs.model.Tables.{ipv6_number};
 ghost use Rattle.cidr_c.specs.model.Values.{IsAddressValue, IsIpNetworkValue, IsNetworkValue, address_in, ip_network_in, network_in};
 
-use crate::codes::{NONE, OK};
+use crate::codes::{NO_ROOM, NONE, OK};
 use crate::values::{CValue, put_address, put_ip_network, put_network};
 use cidr::{AnyIpCidr, IpAddr, IpCidr};
 use cidr_arrays::Halves;
@@ -67,6 +68,18 @@ pub fn put_plain<T: Copy>(found: Option<T>, out: &mut T) -> u32
         return NONE;
     };
     *out = number;
+    OK
+}
+
+/// Puts a list to the front of a room, or says how long it is.
+pub fn put_list<T: Copy>(list: &[T], out: &mut [T], count: &mut usize) -> u32
+    ensures { IsListPut list.now out.old out.new count.new result }
+{
+    *count = list.len();
+    if out.len() < list.len() {
+        return NO_ROOM;
+    }
+    out[..list.len()].copy_from_slice(list);
     OK
 }
 

@@ -1,13 +1,17 @@
 //! Names in reverse DNS.
+ghost use Rattle.std.specs.Option.{option_map};
+ghost use Rattle.cidr.specs.either.IpNetwork.{network_family, network_prefix};
 ghost use Rattle.cidr_ext.specs.texts.Reverse.{EndsAtLabel, reverse_text};
 ghost use Rattle.cidr_c.specs.calls.Calls.{IsPrintedInto, IsUnprinted};
 ghost use Rattle.cidr_c.specs.model.Networks.{IsNameRead};
+ghost use Rattle.cidr_c.specs.model.Texts.{IsZoneAt, IsZonePrinted};
 ghost use Rattle.cidr_c.specs.model.Values.{IsHostValue, family_in, prefix_in};
 
 use crate::codes::NOT_UTF8;
 use crate::finding::put_found_network;
 use crate::printing::print;
 use crate::values::{CValue, ip_network_of};
+use arrayvec::ArrayString;
 use cidr::IpCidr;
 use cidr_ext::CidrReverseName;
 
@@ -27,6 +31,30 @@ pub extern "C" fn pcidr_print_reverse_name(host: &CValue, out: &mut [u8]) -> usi
         Some(name) => print(name.as_str(), out),
         None => 0,
     }
+}
+
+/// Writes the name in reverse DNS of the zone at an index, counted from 0, of those that the network of a host is delegated
+/// in: the networks inside it of the next prefix length that ends at a label, ascending. Returns its length, at most 72; 0
+/// where there are no more zones than that, or the value is no host.
+#[unsafe(no_mangle)]
+pub extern "C" fn pcidr_print_reverse_zone(host: &CValue, index: usize, out: &mut [u8]) -> usize
+    ensures zone { IsHostValue host.now → IsZonePrinted (family_in host.now) (prefix_in host.now) index out.old out.new result }
+    ensures other { ¬ (IsHostValue host.now) → IsUnprinted out.old out.new result }
+{
+    let Some(network) = ip_network_of(host) else {
+        return 0;
+    };
+    match zone_at(&network, index) {
+        Some(name) => print(name.as_str(), out),
+        None => 0,
+    }
+}
+
+/// The name of the zone of a network at an index.
+fn zone_at(network: &IpCidr, index: usize) -> Option<ArrayString<72>>
+    ensures { IsZoneAt (network_family network.now) (network_prefix network.now) index (option_map (λ name. name.bytes) result) }
+{
+    network.reverse_zones().nth(index)
 }
 
 /// Reads a name in reverse DNS: 0 and the network that has it in `out`, or the number of the error.

@@ -9,11 +9,11 @@ ghost use Rattle.cidr_sets.specs.declared.access.Action.TheVariants.{Permit};
 ghost use Rattle.cidr_c.specs.calls.Batches.{IsPutInRoom};
 ghost use Rattle.cidr_c.specs.calls.Calls.{IsYesOrNo};
 ghost use Rattle.cidr_c.specs.model.Codes.{no_memory, no_value};
-ghost use Rattle.cidr_c.specs.model.Rules.{AreDecidingPut, AreIndexesPut, AreRules, AreShadowedPut, action_in, rule_actions, rule_bits, rule_in};
+ghost use Rattle.cidr_c.specs.model.Rules.{AreDecidingPut, AreRules, AreShadowedPut, action_in, rule_actions, rule_bits, rule_in};
 ghost use Rattle.cidr_c.specs.model.Values.{IsNetworkValue, network_in};
 
-use crate::codes::{NO_MEMORY, NO_ROOM, NO_VALUE, OK};
-use crate::finding::yes_or_no;
+use crate::codes::{NO_MEMORY, NO_VALUE};
+use crate::finding::{put_list, yes_or_no};
 use crate::sets::deliver;
 use crate::values::{CValue, network_of};
 use cidr::AnyIpCidr;
@@ -160,7 +160,7 @@ pub extern "C" fn pcidr_shadowed(
         Err(code) => return code,
     };
     match shadowed(alloc, rules.as_slice()) {
-        Ok(indexes) => put_indexes(indexes.as_slice(), out, count),
+        Ok(indexes) => put_list(indexes.as_slice(), out, count),
         Err(_) => NO_MEMORY,
     }
 }
@@ -185,19 +185,7 @@ pub extern "C" fn pcidr_deciding(
         return NO_VALUE;
     };
     match deciding(alloc, rules.as_slice(), &network) {
-        Ok(indexes) => put_indexes(indexes.as_slice(), out, count),
+        Ok(indexes) => put_list(indexes.as_slice(), out, count),
         Err(_) => NO_MEMORY,
     }
-}
-
-/// Puts indexes to the front of a room, or says how many they are.
-fn put_indexes(indexes: &[usize], out: &mut [usize], count: &mut usize) -> u32
-    ensures { AreIndexesPut indexes.now out.old out.new count.new result }
-{
-    *count = indexes.len();
-    if out.len() < indexes.len() {
-        return NO_ROOM;
-    }
-    out[..indexes.len()].copy_from_slice(indexes);
-    OK
 }

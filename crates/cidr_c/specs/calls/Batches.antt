@@ -1,5 +1,6 @@
 -- What calls on many values return and leave.
-use Rattle.std.specs.Prelude.{◌≡◌, ◌≢◌, ◌⊎◌, ℕ, ◌<◌, ◌≤◌, Bool, List, All, drop, map, length, take, Result, Ok, Err}
+use Rattle.std.specs.Prelude.{◌≡◌, ◌≢◌, ◌⊎◌, ◌↔◌, ℕ, ◌<◌, ◌≤◌, Bool, List, All, Contains, drop, map, length, take, Result, Ok, Err}
+use Rattle.std.specs.List.Sorted.{IsStrictlyIncreasing}
 use Rattle.cidr.specs.either.IpNetwork.{any_bits}
 use Rattle.cidr.specs.declared.cidr.any.AnyIpCidr.{AnyIpCidr}
 use Rattle.cidr_table.specs.model.Cover.{Covers}
@@ -29,19 +30,38 @@ pub record IsLeft (Holds : List (List Bool) → Type 0) (old new : List CValue) 
   pub codes : (code ≡ 0) ⊎ ((code ≡ no_value) ⊎ (code ≡ no_memory))
   pub stays : code ≢ 0 → (new ≡ old) × (count_new ≡ count)
 
--- a set in the caller's room, of which the first `count` are networks for which Holds is true; and what is behind them
--- stays; or there is an error, as for values that the call does not take, and the room is as it was. Where there is too
--- little of it, the count tells how many networks the set has
-pub record IsPutInRoom (IsTaken : Type 0) (Holds : List (List Bool) → Type 0) (old new : List CValue) (count count_new : ℕ)
-    (code : ℕ) : Type 0 where
+-- a list in the caller's room: the first `count` of it are values, of which Holds is true; and what is behind them stays; or
+-- there is an error, as for values that the call does not take, and the room is as it was. Where there is too little of it,
+-- the count tells how long the list is
+pub record IsListInRoom {P A : Type 0} (IsTaken : Type 0) (IsValue : P → Type 0) (value_in : P → A) (Holds : List A → Type 0)
+    (old new : List P) (count count_new code : ℕ) : Type 0 where
   pub taken : code ≡ 0 → IsTaken
   pub fits : code ≡ 0 → count_new ≤ length old
-  pub left : code ≡ 0 → AreNetworkValues (take count_new new)
-  pub holds : code ≡ 0 → Holds (bits_in (take count_new new))
+  pub left : code ≡ 0 → All IsValue (take count_new new)
+  pub holds : code ≡ 0 → Holds (map value_in (take count_new new))
   pub value : code ≡ no_value → ¬ IsTaken
   pub behind : code ≡ 0 → drop count_new new ≡ drop count_new old
-  pub room : code ≡ no_room → (length old < count_new) × (set : List (List Bool)) × Holds set × (count_new ≡ length set)
+  pub room : code ≡ no_room → (length old < count_new) × (list : List A) × Holds list × (count_new ≡ length list)
   pub asked : code ≡ no_room → IsTaken
+  pub codes : (code ≡ 0) ⊎ ((code ≡ no_value) ⊎ ((code ≡ no_room) ⊎ (code ≡ no_memory)))
+  pub stays : code ≢ 0 → new ≡ old
+  pub count_stays : code ≢ 0 → code ≢ no_room → count_new ≡ count
+
+-- the same of a set, as a list of networks
+abbrev pub IsPutInRoom : Type 0 → (List (List Bool) → Type 0) → List CValue → List CValue → ℕ → ℕ → ℕ → Type 0
+IsPutInRoom IsTaken Holds = IsListInRoom IsTaken IsNetworkValue (λ v. any_bits (network_in v)) Holds
+
+-- the indexes of which Holds is true, ascending, in the caller's room, and what is behind them stays; or there is an error, as for values
+-- that the call does not take, and the room is as it was. Where there is too little of it, the count tells how many they are
+pub record AreIndexesSought (IsTaken : Type 0) (Holds : ℕ → Type 0) (old new : List ℕ) (count count_new code : ℕ) : Type 0 where
+  pub taken : code ≡ 0 → IsTaken
+  pub fits : code ≡ 0 → count_new ≤ length old
+  pub exact : code ≡ 0 → (i : ℕ) → Contains (take count_new new) i ↔ Holds i
+  pub ascending : code ≡ 0 → IsStrictlyIncreasing (take count_new new)
+  pub behind : code ≡ 0 → drop count_new new ≡ drop count_new old
+  pub value : code ≡ no_value → ¬ IsTaken
+  pub room : code ≡ no_room → IsTaken × (length old < count_new) × (indexes : List ℕ) × (count_new ≡ length indexes)
+      × ((i : ℕ) → Contains indexes i ↔ Holds i) × IsStrictlyIncreasing indexes
   pub codes : (code ≡ 0) ⊎ ((code ≡ no_value) ⊎ ((code ≡ no_room) ⊎ (code ≡ no_memory)))
   pub stays : code ≢ 0 → new ≡ old
   pub count_stays : code ≢ 0 → code ≢ no_room → count_new ≡ count
@@ -76,3 +96,11 @@ pub record IsAnswered (IsTaken Holds : Type 0) (old new code : ℕ) : Type 0 whe
   pub value : code ≡ no_value → ¬ IsTaken
   pub codes : (code ≡ 0) ⊎ ((code ≡ no_value) ⊎ (code ≡ no_memory))
   pub stays : code ≢ 0 → new ≡ old
+
+-- ---- what private functions promise each other
+-- a list in the caller's room, or how long it is
+abbrev pub IsListPut : {P : Type 0} → List P → List P → List P → ℕ → ℕ → Type 0
+IsListPut list old new count_new code =
+    (count_new ≡ length list)
+    × (((code ≡ 0) × (length list ≤ length old) × (take (length list) new ≡ list) × (drop (length list) new ≡ drop (length list) old))
+    ⊎ ((code ≡ no_room) × (length old < length list) × (new ≡ old)))

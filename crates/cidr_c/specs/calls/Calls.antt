@@ -1,6 +1,6 @@
 -- What calls return and leave where C has room for it.
 use Rattle.std.specs.Prelude.{◌≡◌, ◌≢◌, ◌⊎◌, ◌↔◌, ℕ, ◌<◌, ◌≤◌, List, ◌∷◌, ◌++◌, length, drop, suc, Option, Some, None, Result, Ok, Err, IsUtf8}
-use Rattle.cidr_c.specs.model.Codes.{not_utf8, no_such, no_value, wrapped, compact_code}
+use Rattle.cidr_c.specs.model.Codes.{not_utf8, no_memory, no_such, no_value, wrapped, compact_code}
 use Rattle.cidr.specs.declared.errors.CompactError.{CompactError}
 use Rattle.cidr_c.specs.declared.values.CValue.{CValue}
 
@@ -68,6 +68,11 @@ pub record IsSought {P A : Type 0} (IsTaken IsNone : Type 0) (IsValue : P → Ty
   pub refused : code ≡ no_value → ¬ IsTaken
   pub codes : (code ≡ 0) ⊎ ((code ≡ no_such) ⊎ (code ≡ no_value))
   pub stays : code ≢ 0 → new ≡ old
+
+-- the same of a call that allocates: where there is no memory, all is as it was
+abbrev pub IsSoughtInMemory : {P A : Type 0} → Type 0 → Type 0 → (P → Type 0) → (P → A) → (A → Type 0) → P → P → ℕ → Type 0
+IsSoughtInMemory IsTaken IsNone IsValue value_in Holds old new code =
+    ((code ≡ no_memory) × (new ≡ old)) ⊎ IsSought IsTaken IsNone IsValue value_in Holds old new code
 
 -- ---- what private functions promise each other
 -- what a library's call found, where C has room for it

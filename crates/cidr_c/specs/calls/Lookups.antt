@@ -1,12 +1,13 @@
 -- Look-ups of many networks.
-use Rattle.std.specs.Prelude.{◌≡◌, ◌≢◌, ◌<◌, ◌≤◌, ◌⊎◌, ℕ, ◌-◌, ◌^◌, List, drop, length, map, slice_get, Some, None}
+use Rattle.std.specs.Prelude.{◌≡◌, ◌≢◌, ◌<◌, ◌≤◌, ◌⊎◌, ℕ, ◌-◌, ◌^◌, Bool, List, drop, length, map, slice_get, Some, None}
 use Rattle.cidr.specs.either.IpNetwork.{any_bits}
+use Rattle.cidr.specs.model.Network.{BeginsWith}
 use Rattle.cidr.specs.declared.cidr.any.AnyIpCidr.{AnyIpCidr}
 use Rattle.cidr_table.specs.model.Cover.{IsFull}
 use Rattle.cidr_table.specs.model.LastRows.{AreLastRows}
 use Rattle.cidr_table.specs.model.Loading.{placed}
 use Rattle.cidr_table.specs.model.Prefixes.{IsLongestAt, IsLongestMatch, IsLookedUp}
-use Rattle.cidr_c.specs.calls.Batches.{AreNetworkValues, bits_in}
+use Rattle.cidr_c.specs.calls.Batches.{AreIndexesSought, AreNetworkValues, bits_in}
 use Rattle.cidr_c.specs.calls.Calls.{IsYesOrNo}
 use Rattle.cidr_c.specs.model.Codes.{no_memory, no_room, no_value}
 use Rattle.cidr_c.specs.model.Values.{IsNetworkValue, network_in}
@@ -50,6 +51,22 @@ IsLongestIndex networks asked index =
 -- each answer is the index of the longest match
 abbrev pub AreMatched : List CValue → List CValue → List ℕ → List ℕ → ℕ → Type 0
 AreMatched values = AreAllAnswered (IsLongestIndex (map network_in values)) values
+
+-- the network at this index is one of which this holds beside the asked one
+abbrev pub IsRelatedAt : (List Bool → List Bool → Type 0) → List CValue → List Bool → ℕ → Type 0
+IsRelatedAt Holds networks asked index = (v : CValue) × (slice_get networks index ≡ Some v) × Holds (any_bits (network_in v)) asked
+
+-- a network contains the asked one, or lies in it
+abbrev pub ContainsAsked : List Bool → List Bool → Type 0
+ContainsAsked network asked = BeginsWith asked network
+
+abbrev pub LiesInAsked : List Bool → List Bool → Type 0
+LiesInAsked network asked = BeginsWith network asked
+
+-- the indexes of all such networks, ascending
+abbrev pub AreRelatedPut : (List Bool → List Bool → Type 0) → List CValue → CValue → List ℕ → List ℕ → ℕ → ℕ → ℕ → Type 0
+AreRelatedPut Holds networks asked =
+    AreIndexesSought (AreNetworkValues networks × IsNetworkValue asked) (IsRelatedAt Holds networks (any_bits (network_in asked)))
 
 -- ---- what private functions promise each other
 -- of the networks with their indexes the last of each

@@ -1,0 +1,192 @@
+//! The addresses of a list of networks, those of one family: how many they are, and which has which index. The first error
+//! is a value that is no network; no memory may come before it.
+ghost use Rattle.std.specs.Prelude.{◌≡◌, ◌⊎◌, ◌+◌, ◌*◌, ◌^◌, map, IfSome, MatchOption, MatchResult, None, Some};
+ghost use Rattle.std.specs.Option.{option_map};
+ghost use Rattle.cidr.specs.either.IpAddress.{address_family, plain_bits};
+ghost use Rattle.cidr.specs.either.IpNetwork.{any_bits};
+ghost use Rattle.cidr.specs.model.Network.{width_of};
+ghost use Rattle.cidr.specs.declared.family.Family.TheVariants.{Ipv4, Ipv6};
+ghost use Rattle.cidr_sets.specs.model.Counts.{IsAtIndex};
+ghost use Rattle.cidr_table.specs.model.Cover.{IsReduced};
+ghost use Rattle.cidr_c.specs.calls.Batches.{AreNetworkValues, bits_in};
+ghost use Rattle.cidr_c.specs.calls.Calls.{IsAny, IsSoughtInMemory};
+ghost use Rattle.cidr_c.specs.model.Addresses.{AreFamilyPart, HaveCountIn, IsApartFrom, IsAtIndexIn, IsFamilyPart};
+ghost use Rattle.cidr_c.specs.model.Codes.{no_memory, no_value};
+ghost use Rattle.cidr_c.specs.model.Tables.{ipv6_number};
+ghost use Rattle.cidr_c.specs.model.Values.{IsAddressValue, address_in};
+
+use crate::codes::{NO_MEMORY, NO_VALUE};
+use crate::finding::{joined, put_found_address, put_number};
+use crate::values::{CValue, network_of};
+use cidr::{AnyIpCidr, BitString, IpAddr, Ipv4Addr, Ipv4Cidr, Ipv6Addr, Ipv6Cidr};
+use cidr_arrays::Halves;
+use cidr_sets::{AddressSpace, NetworkSet};
+use std::alloc::Global;
+
+/// The networks of one family, as parts of any networks.
+trait OneFamily: AddressSpace {
+    /// The part of a network whose addresses are of the family, if there is one: of `Any` all of them.
+    fn part(network: &AnyIpCidr) -> Option<Self>
+        ensures { MatchOption result (IsApartFrom Self.family (any_bits network.now))
+            (λ own. IsFamilyPart Self.family (any_bits network.now) (Self.bits own)) };
+
+    /// An address.
+    fn to_ip(address: Self::Address) -> IpAddr
+        ensures bits { plain_bits result ≡ Self.address_bits address }
+        ensures family { address_family result ≡ Self.family };
+}
+
+impl OneFamily for Ipv4Cidr {
+    fn part(network: &AnyIpCidr) -> Option<Ipv4Cidr> {
+        match network {
+            AnyIpCidr::Any => Some(Ipv4Cidr::null()),
+            AnyIpCidr::V4(network) => {
+                // the call tells the proof that the prefix length fits
+                network.network_length();
+                Some(*network)
+            }
+            AnyIpCidr::V6(_) => None,
+        }
+    }
+
+    fn to_ip(address: Ipv4Addr) -> IpAddr {
+        IpAddr::V4(address)
+    }
+}
+
+impl OneFamily for Ipv6Cidr {
+    fn part(network: &AnyIpCidr) -> Option<Ipv6Cidr> {
+        match network {
+            AnyIpCidr::Any => Some(Ipv6Cidr::null()),
+            AnyIpCidr::V4(_) => None,
+            AnyIpCidr::V6(network) => {
+                // the call tells the proof that the prefix length fits
+                network.network_length();
+                Some(*network)
+            }
+        }
+    }
+
+    fn to_ip(address: Ipv6Addr) -> IpAddr {
+        IpAddr::V6(address)
+    }
+}
+
+/// The set of the addresses of a family that some networks have, or the number of the error.
+fn family_set<C: OneFamily + Copy>(alloc: Global, values: &[CValue]) -> Result<NetworkSet<C>, u32>
+    ensures { MatchResult result
+        (λ set. AreNetworkValues values.now × AreFamilyPart C.family (bits_in values.now) (map C.bits set))
+        (λ code. ((code ≡ no_value) × ¬ (AreNetworkValues values.now)) ⊎ (code ≡ no_memory)) }
+{
+    let Ok(mut networks) = Vec::with_capacity(alloc, values.len()) else {
+        return Err(NO_MEMORY);
+    };
+    for value in values {
+        let Some(network) = network_of(value) else {
+            return Err(NO_VALUE);
+        };
+        if let Some(part) = C::part(&network) {
+            let Ok(()) = networks.push(part) else {
+                return Err(NO_MEMORY);
+            };
+        }
+    }
+    Ok(NetworkSet::from_vec(networks))
+}
+
+/// How many addresses of a family some networks have.
+fn counted<C: OneFamily + Copy>(alloc: Global, networks: &[CValue], count: &mut Halves) -> u32
+    ensures { IsSoughtInMemory (AreNetworkValues networks.now) (HaveCountIn C.family (bits_in networks.now) (2 ^ 128))
+        IsAny ipv6_number (HaveCountIn C.family (bits_in networks.now)) count.old count.new result }
+{
+    match family_set::<C>(alloc, networks) {
+        Ok(set) => put_number(set.address_count(), count),
+        Err(code) => code,
+    }
+}
+
+/// The address at an index among those of a family that some networks have.
+fn address_at<C: OneFamily + Copy>(
+    alloc: Global,
+    networks: &[CValue],
+    high: u64,
+    low: u64,
+    out: &mut CValue,
+) -> u32
+    ensures { IsSoughtInMemory (AreNetworkValues networks.now)
+        (IsAtIndexIn C.family (bits_in networks.now) (high * 2 ^ 64 + low) None) IsAddressValue address_in
+        (λ a. (address_family a ≡ C.family)
+        × IsAtIndexIn C.family (bits_in networks.now) (high * 2 ^ 64 + low) (Some (plain_bits a)))
+        out.old out.new result }
+{
+    match family_set::<C>(alloc, networks) {
+        Ok(set) => put_found_address(nth_of(&set, joined(high, low)), out),
+        Err(code) => code,
+    }
+}
+
+/// The address of a set at an index.
+fn nth_of<C: OneFamily + Copy>(set: &NetworkSet<C>, index: u128) -> Option<IpAddr>
+    ensures at { IsAtIndex (width_of C.family) (map C.bits set.now) index (option_map plain_bits result) }
+    ensures family { IfSome result (λ a. address_family a ≡ C.family) }
+{
+    match set.nth(index) {
+        Some(address) => Some(C::to_ip(address)),
+        None => None,
+    }
+}
+
+/// How many IPv4 addresses a list of networks has.
+#[unsafe(no_mangle)]
+pub extern "C" fn pcidr_count_ipv4(alloc: Global, networks: &[CValue], count: &mut Halves) -> u32
+    ensures { IsSoughtInMemory (AreNetworkValues networks.now) (HaveCountIn Ipv4 (bits_in networks.now) (2 ^ 128))
+        IsAny ipv6_number (HaveCountIn Ipv4 (bits_in networks.now)) count.old count.new result }
+{
+    counted::<Ipv4Cidr>(alloc, networks, count)
+}
+
+/// How many IPv6 addresses a list of networks has, or none where it has all, whose 2^128 two halves have no room for.
+#[unsafe(no_mangle)]
+pub extern "C" fn pcidr_count_ipv6(alloc: Global, networks: &[CValue], count: &mut Halves) -> u32
+    ensures { IsSoughtInMemory (AreNetworkValues networks.now) (HaveCountIn Ipv6 (bits_in networks.now) (2 ^ 128))
+        IsAny ipv6_number (HaveCountIn Ipv6 (bits_in networks.now)) count.old count.new result }
+{
+    counted::<Ipv6Cidr>(alloc, networks, count)
+}
+
+/// The IPv4 address at index high * 2^64 + low of those of a list of networks, counted from 0, ascending, or none where there
+/// are no more than that.
+#[unsafe(no_mangle)]
+pub extern "C" fn pcidr_nth_ipv4(
+    alloc: Global,
+    networks: &[CValue],
+    high: u64,
+    low: u64,
+    out: &mut CValue,
+) -> u32
+    ensures { IsSoughtInMemory (AreNetworkValues networks.now)
+        (IsAtIndexIn Ipv4 (bits_in networks.now) (high * 2 ^ 64 + low) None) IsAddressValue address_in
+        (λ a. (address_family a ≡ Ipv4)
+        × IsAtIndexIn Ipv4 (bits_in networks.now) (high * 2 ^ 64 + low) (Some (plain_bits a)))
+        out.old out.new result }
+{
+    address_at::<Ipv4Cidr>(alloc, networks, high, low, out)
+}
+
+/// The IPv6 address at index high * 2^64 + low of those of a list of networks, as `pcidr_nth_ipv4` has those of IPv4.
+#[unsafe(no_mangle)]
+pub extern "C" fn pcidr_nth_ipv6(
+    alloc: Global,
+    networks: &[CValue],
+    high: u64,
+    low: u64,
+    out: &mut CValue,
+) -> u32
+    ensures { IsSoughtInMemory (AreNetworkValues networks.now)
+        (IsAtIndexIn Ipv6 (bits_in networks.now) (high * 2 ^ 64 + low) None) IsAddressValue address_in
+        (λ a. (address_family a ≡ Ipv6)
+        × IsAtIndexIn Ipv6 (bits_in networks.now) (high * 2 ^ 64 + low) (Some (plain_bits a)))
+        out.old out.new result }
+{
+    address_at::<Ipv6Cidr>(alloc, networks, high, low, out)
+}
