@@ -146,6 +146,14 @@ class Rule(Structure):
     _fields_ = [("network", Value), ("action", c_uint32)]
 
 
+class Row(Structure):
+    """`pcidr_row`."""
+
+    network: Value
+    value: int
+    _fields_ = [("network", Value), ("value", c_uint64)]
+
+
 class FileTable(Structure):
     """`pcidr_file_table`."""
 
@@ -289,6 +297,8 @@ CALLS: dict[str, tuple[Any, list[Any]]] = {
     "permitted": (c_uint32, [c_void_p, c_size_t, c_void_p, c_size_t, POINTER(c_size_t)]),
     "shadowed": (c_uint32, [c_void_p, c_size_t, c_void_p, c_size_t, POINTER(c_size_t)]),
     "deciding": (c_uint32, [c_void_p, c_size_t, POINTER(Value), c_void_p, c_size_t, POINTER(c_size_t)]),
+    "smallest": (c_uint32, [c_void_p, c_size_t, c_void_p, c_size_t, POINTER(c_size_t)]),
+    "forwards_same": (c_uint32, [c_void_p, c_size_t, c_void_p, c_size_t, POINTER(c_uint32)]),
     "table_room": (c_size_t, [c_uint32]),
     "ipv4_table_build": (c_uint32, [
         c_void_p,
@@ -503,6 +513,8 @@ class Calls:
     permitted: Callable[[Any, int, Any, int, Any], int]
     shadowed: Callable[[Any, int, Any, int, Any], int]
     deciding: Callable[[Any, int, Any, Any, int, Any], int]
+    smallest: Callable[[Any, int, Any, int, Any], int]
+    forwards_same: Callable[[Any, int, Any, int, Any], int]
     table_room: Callable[[int], int]
     ipv4_table_build: Callable[[Any, int, Any, int, Any, int, Any, int, int, Any], int]
     ipv6_table_build: Callable[[Any, int, Any, int, Any, int, Any, int, int, Any], int]

@@ -11,7 +11,7 @@ from ctypes import byref
 from functools import partial
 from typing import TYPE_CHECKING, Any, TypeVar
 
-from pcidr._calls import CALLS, MESSAGE_ROOM, TEXT_ROOM, Calls, Code, Halves, Range, Value
+from pcidr._calls import CALLS, MESSAGE_ROOM, TEXT_ROOM, Calls, Code, Halves, Range, Row, Value
 
 # The version of the library that the module wants.
 VERSION = (0, 3)
@@ -22,7 +22,7 @@ LEVEL_BITS = 18
 # So many packed addresses are looked up at a time, whose values stay in the nearer caches.
 PACKED = 1 << 13
 
-T = TypeVar("T", ctypes.c_size_t, Range, Value)
+T = TypeVar("T", ctypes.c_size_t, Range, Row, Value)
 Call = Callable[..., int]
 # What has packed addresses: whatever `memoryview` takes.
 Buffer = Any

@@ -1,6 +1,7 @@
 """Tables of networks with a value each."""
 from __future__ import annotations
 
+import ctypes
 import os
 import threading
 import warnings
@@ -9,7 +10,7 @@ from collections.abc import Callable, ItemsView, Iterable, Iterator, Mapping, Mu
 from itertools import chain, islice
 from typing import Any, NamedTuple, Optional, TypeVar, Union, overload
 
-from pcidr._calls import NO_ROW, Value
+from pcidr._calls import NO_ROW, Row, Value
 from pcidr._files import Part, Path, Stored, file_of, opened, write
 from pcidr._kinds import each_of, table_finder
 from pcidr._library import (
@@ -20,6 +21,7 @@ from pcidr._library import (
     answers,
     calls,
     check,
+    filled,
     tags_of,
     values_at,
 )
@@ -50,6 +52,11 @@ class _Snapshot(NamedTuple):
     parts: Mapping[int, _Part] = {}
     # what looks up one address in C, where there is the extension
     find: Any = None
+
+    def numbered(self, numbers: dict[Any, int]) -> ctypes.Array[Row]:
+        """The rows with a number for each value, which those have that are not yet among the numbers, too."""
+        found = (numbers.setdefault(value, len(numbers)) for _, value in self.rows)
+        return (Row * len(self.rows))(*map(Row, self.networks, found))
 
     def lookup_each(self, asked: Values) -> list[tuple[Network, Any] | None]:
         """The longest matches of many."""
@@ -432,6 +439,22 @@ class Table(_Rows[V], MutableMapping[Network, V]):
         """The same as `lookup` for each of many, by one call of the library for each family."""
         values = values_in(asked)
         return self._now().lookup_each(values)
+
+    def smallest(self) -> Table[V]:
+        """A table of the fewest rows that forwards the same: each address has the same value in both, or none. Values that
+        are equal are the same; one that can't be a key of a `dict` raises `TypeError`."""
+        made, numbers = self._now(), dict[V, int]()
+        rows = made.numbered(numbers)
+        found, values = filled(Row, len(rows), calls.smallest, rows, len(rows)), list(numbers)
+        networks = each_of(Network, values_at([_row_key(row.network) for row in found]))
+        return Table(zip(networks, (values[row.value] for row in found)))
+
+    def forwards_same(self, other: Table[V]) -> bool:
+        """Whether each address has the same value in both, or none in both."""
+        numbers, answer = dict[V, int](), ctypes.c_uint32()
+        these, those = self._now().numbered(numbers), other._now().numbered(numbers)
+        check(calls.forwards_same(these, len(these), those, len(those), answer))
+        return answer.value == 1
 
     def lookup_packed(self, addresses: Buffer, version: int = 4) -> Matches[V]:
         """The same of packed addresses of a family, 4 or 6, which are not copied: `bytes`, or a `bytearray`,

@@ -588,6 +588,25 @@ class OfIPSet(unittest.TestCase):
 class OfTries(unittest.TestCase):
     """Rows around a network, beside a look at each row."""
 
+    def test_smallest_tables(self):
+        for _ in range(200):
+            table = Table((near_text(), RANDOM.choice("abc")) for _ in range(RANDOM.randrange(14)))
+            smallest, other = table.smallest(), Table({**table, near_text(): "d"})
+            self.assertLessEqual(len(smallest), len(table))
+            self.assertEqual((smallest.smallest(), table.forwards_same(smallest)), (smallest, True))
+            asked = [Network(text).first for text in ("0.0.0.0/0", "::/0")]
+            for network in (*table, *other, *smallest):
+                asked += [network.first, network.last] if network.version else []
+            asked += [address + 1 for address in asked if 0 < ~int(address) & (2**address.max_prefixlen - 1)]
+            same = [found and found[1] for found in table.lookup_each(asked)]
+            self.assertEqual([found and found[1] for found in smallest.lookup_each(asked)], same)
+            others = [found and found[1] for found in other.lookup_each(asked)]
+            self.assertEqual(table.forwards_same(other), others == same)
+        self.assertEqual(Table({"10.0.0.0/9": 1, "10.128.0.0/9": 1}).smallest(), Table({"10.0.0.0/8": 1}))
+        self.assertEqual((Table().smallest(), Table().forwards_same(Table())), (Table(), True))
+        with self.assertRaises(TypeError):
+            Table({"10.0.0.0/8": []}).smallest()
+
     def test_indexes_of_a_list(self):
         """The calls of C on a list, which a table has no use for."""
         calls, room, count = pcidr._library.calls, (ctypes.c_size_t * 20)(), ctypes.c_size_t()

@@ -622,6 +622,28 @@ uint32_t pcidr_shadowed(const pcidr_rule *rules, size_t rules_len, size_t *out, 
 uint32_t pcidr_deciding(const pcidr_rule *rules, size_t rules_len, const pcidr_value *network, size_t *out,
                         size_t out_len, size_t *count);
 
+/* ---- forwarding: rows of networks with a number each; an address is forwarded to the number of the longest network that it
+ * is in. Rows may be in any order; of a network that repeats the last row counts */
+
+typedef struct pcidr_row {
+    pcidr_value network;
+    uint64_t value; /* any number, such as that of a next hop */
+} pcidr_row;
+
+PCIDR_ASSERT(sizeof(pcidr_row) == 32);
+PCIDR_ASSERT(offsetof(pcidr_row, network) == 0);
+PCIDR_ASSERT(offsetof(pcidr_row, value) == 24);
+
+/* The smallest table with the same forwarding (FIB compression), in `out`, as of a union: each address has the same value in
+ * both, or in neither one, and no table of fewer rows has that. Its rows ascend, and are at most as many. Errors: NO_MEMORY;
+ * NO_VALUE for a row whose value is no network; NO_ROOM. Allocates; sorts the rows, and goes twice through them. */
+uint32_t pcidr_smallest(const pcidr_row *rows, size_t rows_len, pcidr_row *out, size_t out_len, size_t *count);
+
+/* Whether two tables forward the same: 1 or 0 in `answer`. Errors: NO_MEMORY, NO_VALUE; then `answer` is as it was.
+ * Allocates, and sorts both. */
+uint32_t pcidr_forwards_same(const pcidr_row *these, size_t these_len, const pcidr_row *those, size_t those_len,
+                             uint32_t *answer);
+
 /* ---- look-up tables: the longest match, with nothing built at the call
  *
  * A table is made once, of networks of one family, without `any`, that ascend as `pcidr_order` sorts them; none repeats.

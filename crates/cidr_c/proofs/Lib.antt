@@ -3,6 +3,7 @@ pub mod Bits
 pub mod Checks
 pub mod Compared
 pub mod Counted
+pub mod Forwarded
 pub mod Founds
 pub mod Free
 pub mod Hosts

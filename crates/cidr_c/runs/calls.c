@@ -318,6 +318,37 @@ static void covering(void) {
     WANT(pcidr_covered(networks, 5, &address, indexes, 4, &count) == PCIDR_NO_VALUE && count == 1 && indexes[0] == 4);
 }
 
+/* The smallest table was made by hand. */
+static void forwarding(void) {
+    pcidr_row rows[5], other[5], room[5];
+    pcidr_value bad = none;
+    size_t count = 77;
+    uint32_t answer = 9;
+    rows[0].network = value("10.0.0.0/9"), rows[0].value = 3;
+    rows[1].network = value("10.128.0.0/9"), rows[1].value = 3;
+    rows[2].network = value("10.1.0.0/16"), rows[2].value = 3;
+    rows[3].network = value("10.2.0.0/16"), rows[3].value = 4;
+    rows[4].network = value("2001:db8::/32"), rows[4].value = UINT64_MAX;
+    memset(room, 0, sizeof room);
+    WANT(pcidr_smallest(rows, 5, room, 2, &count) == PCIDR_NO_ROOM && count == 3 && room[0].value == 0);
+    WANT(pcidr_smallest(rows, 5, room, 5, &count) == PCIDR_OK && count == 3);
+    WANT(is_same(room[0].network, value("10.0.0.0/8")) && room[0].value == 3);
+    WANT(is_same(room[1].network, value("10.2.0.0/16")) && room[1].value == 4);
+    WANT(is_same(room[2].network, value("2001:db8::/32")) && room[2].value == UINT64_MAX && room[3].value == 0);
+    WANT(pcidr_forwards_same(rows, 5, room, 3, &answer) == PCIDR_OK && answer == 1);
+    WANT(pcidr_forwards_same(rows, 5, room, 2, &answer) == PCIDR_OK && answer == 0);
+    memcpy(other, rows, sizeof rows);
+    other[2].value = 5;
+    WANT(pcidr_forwards_same(rows, 5, other, 5, &answer) == PCIDR_OK && answer == 0);
+    other[4] = other[2], other[4].value = 3; /* of a network that repeats the last row counts */
+    WANT(pcidr_forwards_same(rows, 4, other, 5, &answer) == PCIDR_OK && answer == 1);
+    WANT(pcidr_smallest(NULL, 0, NULL, 0, &count) == PCIDR_OK && count == 0);
+    WANT(pcidr_forwards_same(NULL, 0, NULL, 0, &answer) == PCIDR_OK && answer == 1);
+    other[1].network = bad, answer = 9;
+    WANT(pcidr_forwards_same(rows, 5, other, 5, &answer) == PCIDR_NO_VALUE && answer == 9);
+    WANT(pcidr_smallest(other, 5, room, 5, &count) == PCIDR_NO_VALUE && count == 0);
+}
+
 static void access_lists(void) {
     pcidr_rule rules[3] = {{{0, 0, 0}, 0}, {{0, 0, 0}, 1}, {{0, 0, 0}, 7}};
     pcidr_value room[3];
@@ -355,6 +386,7 @@ int main(void) {
     sets();
     addresses_of_sets();
     covering();
+    forwarding();
     access_lists();
     return failures != 0;
 }

@@ -66,6 +66,10 @@ static uint32_t nth_ipv4(void) { return pcidr_nth_ipv4(networks, COUNT, 0, 3, ou
 static uint32_t covering(void) { return pcidr_covering(networks, COUNT, &networks[0], matches, COUNT, &count); }
 static uint32_t covered(void) { return pcidr_covered(networks, COUNT, &networks[0], matches, COUNT, &count); }
 
+static pcidr_row rows[COUNT], fewer[COUNT];
+static uint32_t smallest(void) { return pcidr_smallest(rows, COUNT, fewer, COUNT, &count); }
+static uint32_t forwards_same(void) { return pcidr_forwards_same(rows, COUNT, rows, COUNT / 2, &answer); }
+
 static uint32_t build_table(void) { return pcidr_table_build(&table, ascending, COUNT, &count); }
 static uint32_t check_table(void) { return pcidr_table_check(&built, ascending, COUNT); }
 
@@ -84,6 +88,7 @@ static void set_values(void) {
         others[i].low = i * 23 % COUNT << 27 & 0xffffffff, others[i].tag = 9;
         ascending[i].low = i << 26, ascending[i].tag = 6;
         rules[i].network = networks[i], rules[i].action = i % 2;
+        rows[i].network = networks[i], rows[i].value = i % 3;
         if (i == COUNT - 1) rules[i].network = networks[0];
     }
     table.ipv4_starts = starts, table.answers = found, table.ranges = 2 * COUNT + 1;
@@ -112,7 +117,7 @@ int main(void) {
     static uint32_t (*const calls[])(void) = {
         cover, make_union, intersection, difference, symmetric_difference, union_in_place, intersection_in_place,
         difference_in_place, contains_each, longest_match_each, summarize, first_free, best_free, permitted, shadowed, deciding, complement, is_subset,
-        is_disjoint, make_ranges, count_ipv4, nth_ipv4, covering, covered, build_table, check_table, write_file, write_set, check_file};
+        is_disjoint, make_ranges, count_ipv4, nth_ipv4, covering, covered, smallest, forwards_same, build_table, check_table, write_file, write_set, check_file};
     for (size_t i = 0; i < sizeof calls / sizeof *calls; i++) {
         uint32_t code = PCIDR_NO_MEMORY;
         size_t refused = 0;

@@ -11,6 +11,7 @@ mod covering;
 mod faults;
 mod files;
 mod finding;
+mod forwarding;
 mod inside_ipv6;
 mod laws;
 mod lines;
