@@ -721,6 +721,10 @@ rows_where_a_stream_fails() {
     run 3 '' $'output failed\n' '' split ten 9
     run 3 '' $'output failed\n' '' reverse ten
     run 3 '' $'output failed\n' '' mask 24
+    run 3 '' $'output failed\n' '' class 10.0.0.1
+    run 3 '' $'output failed\n' '' class 8.8.8.8
+    run 3 '' $'output failed\n' '10.0.0.1' class -
+    run 3 '' $'output failed\n' '10.0.0.1\nx' class -
     run 3 '' $'output failed\n' '' which 10.0.0.1 ten
     run 1 '' '' '' free ten 7 eight
     run 3 '' $'output failed\n' '' check ten ten
@@ -751,8 +755,8 @@ rows_where_a_stream_fails() {
 }
 
 # refuse INPUT ARGUMENT..: runs the program with its first allocation refused, with its second one, and so on until there
-# is none to refuse. It is to end with status 3 and `no memory`, and to write nothing; `match` and `look` may have written
-# a beginning of their answer.
+# is none to refuse. It is to end with status 3 and `no memory`, and to write nothing; `match`, `look` and `class` may have
+# written a beginning of their answer.
 refuse() {
     local input=$1 end=0 status n begun
     shift
@@ -763,7 +767,7 @@ refuse() {
             status=$?
         ((n == 1 || status != end)) || return 0
         begun=0
-        [[ $1 != match && $1 != look ]] || begun=$(wc -c <"$room/output")
+        [[ $1 != match && $1 != look && $1 != class ]] || begun=$(wc -c <"$room/output")
         if ((status != 3)) || ! has "$room/error" $'no memory\n' || ! head -c "$begun" "$room/whole" | cmp -s - "$room/output"; then
             break
         fi
@@ -919,6 +923,44 @@ rows_of_descriptions() {
     run 2 '' "129$neither"$'\n' '' mask 129
 }
 
+# What addresses are for. The entries are those of the registries of IANA, by hand.
+rows_of_classes() {
+    local neither=': no address, and no file that can be read'
+    run 0 $'10.1.2.3 10.0.0.0/8 Private-Use RFC1918 not-global 2025-05\n' '' '' class 10.1.2.3
+    run 1 $'8.8.8.8 -\n' '' '' class 8.8.8.8
+    run 1 $'2606:4700::1 -\n' '' '' class 2606:4700::1
+    # the longest block counts
+    run 0 $'192.0.0.9 192.0.0.9 PCP-Anycast RFC7723 global 2025-05\n' '' '' class 192.0.0.9
+    run 0 $'192.0.0.7 192.0.0.0/29 IPv4-Service-Continuity RFC7335 not-global 2025-05\n' '' '' class 192.0.0.7
+    run 0 $'192.0.0.11 192.0.0.0/24 IETF-Protocol-Assignments RFC6890 not-global 2025-05\n' '' '' class 192.0.0.11
+    run 0 $'192.0.0.170 192.0.0.170 NAT64/DNS64-Discovery RFC7050 not-global 2025-05\n' '' '' class 192.0.0.170
+    run 0 $'192.88.99.2 192.88.99.2 6a44-Relay-Anycast RFC6751 not-global 2025-05\n' '' '' class 192.88.99.2
+    run 0 $'192.88.99.1 192.88.99.0/24 Deprecated-6to4-Relay-Anycast RFC7526 n/a 2025-05\n' '' '' class 192.88.99.1
+    run 0 $'255.255.255.255 255.255.255.255 Limited-Broadcast RFC919 not-global 2025-05\n' '' '' class 255.255.255.255
+    run 0 $'255.255.255.254 240.0.0.0/4 Reserved RFC1112 not-global 2025-05\n' '' '' class 255.255.255.254
+    run 0 $'0.0.0.0 0.0.0.0 Unspecified RFC1122 not-global 2025-05\n' '' '' class 0.0.0.0
+    run 0 $'2001:db8::1 2001:db8::/32 Documentation RFC3849 not-global 2025-05\n' '' '' class 2001:DB8:0::1
+    run 0 $'64:ff9b::808:808 64:ff9b::/96 IPv4-IPv6-Translation RFC6052 global 2025-05\n' '' '' class 64:ff9b::8.8.8.8
+    run 0 $'2002:: 2002::/16 6to4 RFC3056 n/a 2025-05\n' '' '' class 2002::
+    run 0 $'2001:1::3 2001:1::3 DNS-SD-SRP-Anycast RFC9665 global 2025-05\n' '' '' class 2001:1::3
+    run 0 $'febf:ffff::1 fe80::/10 Link-Local RFC4291 not-global 2025-05\n' '' '' class febf:ffff::1
+    # each address of a file, in its order
+    run 0 $'198.19.255.255 198.18.0.0/15 Benchmarking RFC2544 not-global 2025-05\n198.20.0.0 -\nfd00::1 fc00::/7 Unique-Local RFC4193 not-global 2025-05\n' '' \
+        '# seen\n198.19.255.255 GET /\r\n\n 198.20.0.0;x\n\tfd00::1#' class -
+    run 1 $'198.20.0.0 -\n' '' '198.20.0.0' class -
+    run 1 '' '' '' class nothing
+    run 0 $'10.0.0.1 10.0.0.0/8 Private-Use RFC1918 not-global 2025-05\n' '' '' class ./address
+    run 2 $'10.0.0.1 10.0.0.0/8 Private-Use RFC1918 not-global 2025-05\n' $'-:2: x: invalid IP address syntax\n' '10.0.0.1\nx\n10.0.0.2' class -
+    run 2 '' $'./10.1.2.3:1: 10.0.0.0/8: invalid IP address syntax\n' '' class ./10.1.2.3
+    run 2 '' "10.0.0.0/8$neither"$'\n' '' class 10.0.0.0/8
+    run 2 '' "10.0.0.256$neither"$'\n' '' class 10.0.0.256
+    run 2 '' "missing$neither"$'\n' '' class missing
+    run 2 '' ".$neither"$'\n' '' class .
+    run 2 '' $'ADDR|FILE is missing, see: netset help class\n' '' class
+    run 2 '' $'10.0.0.1: one argument too many, see: netset help class\n' '' class 10.0.0.1 10.0.0.1
+    run 2 '' $'-k: no such option, see: netset help class\n' '' class -k 10.0.0.1
+}
+
 # The lines that have an address.
 rows_of_lines() {
     run 0 $'ten:1: 10.0.0.0/8\n-:3: 10.1.2.3\n' '' '10.2.0.0/16\n\n10.1.2.3 # x\n' which 10.1.2.3 ten eight -
@@ -956,6 +998,8 @@ rows_without_memory() {
     refuse '10.0.0.0/9\n' split - 10
     refuse '10.0.0.0/9\n' reverse -
     refuse '' mask 10.0.0.0/8
+    refuse '10.0.0.1\n8.8.8.8\n::1' class -
+    refuse '' class 10.0.0.1
     refuse '10.0.0.0/9\n' which 10.0.0.1 -
     refuse '10.0.0.1\n::1 x\n11.0.0.1' match ten_and_eight
     refuse '10.0.0.1\n11.0.0.1' match -c -v both
@@ -1011,6 +1055,7 @@ for build in netset netset.by-rattle; do
     rows_of_one_network
     rows_of_lines
     rows_of_descriptions
+    rows_of_classes
     rows_of_host_bits
     rows_of_all_errors
     rows_of_long_lines

@@ -72,7 +72,7 @@ def one_call_a_line():
         (["merge"], b"10.0.0.0/9\n10.128.0.0/9\n192.0.2.1\n"), (["count"], b"10.0.0.0/8\n::1\n"), (["ranges"], b"::1-::7\n"),
         (["free", "ten", "9", "-"], b"10.0.0.0/9\n"), (["diff", "ten", "-"], b"10.0.0.0/9\n"), (["check"], b"10.0.0.1/8\n"),
         (["match", "ten"], b"10.0.0.1 a\n"), (["match", "-c", "ten"], b"10.0.0.1 a\n"), (["look", "owners"], b"10.0.0.1\n"),
-        (["split", "192.0.2.0/24", "26"], b""),
+        (["split", "192.0.2.0/24", "26"], b""), (["class", "10.0.0.1"], b""), (["class", "-"], b"10.0.0.1\n"),
     ):
         found, _ = packets(words, "stdout", given)
         wanted(f"{words}: calls of `write`", len(found) == 1 and found[0].endswith(b"\n"), found)
@@ -86,13 +86,13 @@ def one_call_a_line():
     for words, given, stream in (
         (["merge"], addresses, "stdout"), (["check"], addresses + addresses, "stdout"), (["ranges"], addresses, "stdout"),
         (["diff", "nothing", "-"], addresses, "stdout"), (["match", "ten"], addresses, "stdout"),
-        (["look", "owners"], addresses, "stdout"), (["split", "10.0.0.0/16", "32"], b"", "stdout"),
+        (["look", "owners"], addresses, "stdout"), (["class", "-"], addresses, "stdout"), (["split", "10.0.0.0/16", "32"], b"", "stdout"),
         (["merge", "-k"], b"x\n" * 5000, "stderr"), (["match", "ten"], b"10.0.0.1\n" + most + b"10.0.0.2\n", "stdout"),
     ):
         found, _ = packets(words, stream, given)
         whole = all(it.endswith(b"\n") and len(it) <= BLOCK for it in found)
         # (what is answered is written before more is read too)
-        few = len(found) <= sum(map(len, found)) / (BLOCK - 200) + 2 or words[0] in ("match", "look")
+        few = len(found) <= sum(map(len, found)) / (BLOCK - 200) + 2 or words[0] in ("match", "look", "class")
         wanted(f"{words}: blocks of whole lines", found and whole and few, [(len(it), it[-40:]) for it in found])
     found, _ = packets(["match", "ten"], "stdout", b"10.0.0.1\n" + long_line + b"10.0.0.2\n")
     wanted("a line longer than a block", b"".join(found) == b"10.0.0.1\n" + long_line + b"10.0.0.2\n", found)
@@ -137,7 +137,8 @@ def next_bytes(output, count):
 def answers_before_more_is_read():
     """What is answered is written before more is read, also where the next line has begun."""
     for words, answer in ((["match", "ten"], b"10.0.0.%d x\n"), (["match", "--any", "ten", "-"], b"10.0.0.%d x\n"),
-                          (["match", "-v", "eight"], b"10.0.0.%d x\n"), (["look", "owners"], b"10.0.0.%d 10.0.0.0/8 ten\n")):
+                          (["match", "-v", "eight"], b"10.0.0.%d x\n"), (["look", "owners"], b"10.0.0.%d 10.0.0.0/8 ten\n"),
+                          (["class", "-"], b"10.0.0.%d 10.0.0.0/8 Private-Use RFC1918 not-global 2025-05\n")):
         process = start(words, stdin=subprocess.PIPE, stdout=subprocess.PIPE, stderr=subprocess.DEVNULL, bufsize=0)
         begun = b""
         for turn in range(1, 4):
@@ -247,6 +248,7 @@ def little_stack():
         (["free", "both", "64", "-"], b"::1\n"), (["check", "-", "both"], b"10.0.0.1/8\n::1\n"), (["match", "--any", "both"], b"(10.0.0.1)\n"),
         (["match", "-v", "both"], b"10.0.0.1\n"), (["look", "owners"], b"10.0.0.1\n::1\n"), (["merge", "-k"], b"x\n"),
         (["show", "::1"], b""), (["split", "::/120", "128"], b""), (["nth", "::/0", "1"], b""), (["--help"], b""), (["merged"], b""),
+        (["class", "-"], b"10.0.0.1\n::1\n"),
     ):
         run = subprocess.run([PROGRAM, *words], input=given, capture_output=True, check=False)
         small = subprocess.run([PROGRAM, *words], input=given, capture_output=True, check=False, preexec_fn=limit)

@@ -5,7 +5,7 @@ use Rattle.cidr_io.specs.Writing.{State, Whole, Answered, Tells}
 use Rattle.cidr_io.specs.declared.sink.OutputFailed.{OutputFailed}
 use Rattle.cidr_lists.specs.Lists.{Text}
 use Rattle.netset_commands.specs.Arguments.{line_request}
-use Rattle.netset_commands.specs.Commands.{Request, Lists, Styled, NotIn, Diff, Free, Split, Check, Which, Match, MatchEach, Look, Compile, Describe, Single, Help, Version, IsAnswer, reading_of}
+use Rattle.netset_commands.specs.Commands.{Request, Lists, Styled, NotIn, Diff, Free, Split, Check, Which, Match, MatchEach, Look, Compile, Describe, Class, Single, Help, Version, IsAnswer, reading_of}
 use Rattle.netset_commands.specs.Program.{AnswersRequest, AnswersWhole, IsRequestRefused, KeepsGoing, Reports, Runs, RunsLine, RunsRequest, answer_status, by_output, status_of, contents_by}
 use Rattle.netset_commands.specs.Typed.{HasAnswered, AnswersTyped}
 use Rattle.netset_commands.specs.declared.output.answers.Verdict.{Verdict}
@@ -94,6 +94,8 @@ answer_done contents (Look table file) verdict out new (inl h) = whole_done cont
 answer_done contents (Look table file) verdict out new (inr (e, is, of, answer, written, belongs)) = cc
 answer_done contents (Compile table name) verdict out new (same, (differ, done)) = ([], (refl, done), same_whole out new same)
 answer_done contents (Describe what operand) verdict out new h = whole_done contents (Describe what operand) verdict out new h
+answer_done contents (Class operand) verdict out new (inl h) = whole_done contents (Class operand) verdict out new h
+answer_done contents (Class operand) verdict out new (inr (e, is, of, answer, written, belongs)) = cc
 answer_done contents (Single request) verdict out new h = whole_done contents (Single request) verdict out new h
 answer_done contents (Help topic) verdict out new h = whole_done contents (Help topic) verdict out new h
 answer_done contents Version verdict out new h = whole_done contents Version verdict out new h

@@ -32,6 +32,8 @@ pub mod StoredFiles
 pub mod Given
 pub mod Listed
 pub mod Looked
+pub mod Registered
+pub mod Classed
 pub mod Telling
 pub mod Loading
 pub mod Running

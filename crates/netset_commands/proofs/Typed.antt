@@ -4,7 +4,7 @@ use Rattle.std.specs.List.{list_all, list_any}
 use Rattle.std.proofs.lemmas.Bool.{true≢false}
 use Rattle.cidr_lists.specs.Formats.{format_name}
 use Rattle.netset_commands.specs.Arguments.{Parts, and_then, asks_help, counted_request, extent_by, extra_operand, is_option, joined_arguments, line_request, lists_request, named_verb, only_operand, only_options, only_value, part_request, parts_from, read_request, takes, value_of, verb_request, word_parts}
-use Rattle.netset_commands.specs.Commands.{Request, Lists, Styled, NotIn, Diff, Free, Split, Check, Which, Match, MatchEach, Look, Compile, Describe, Single, Help, Version, input_name, reading_of}
+use Rattle.netset_commands.specs.Commands.{Request, Lists, Styled, NotIn, Diff, Free, Split, Check, Which, Match, MatchEach, Look, Compile, Describe, Class, Single, Help, Version, input_name, reading_of}
 use Rattle.netset_commands.specs.Free.{Extent, First, Count, All}
 use Rattle.netset_commands.specs.Matching.{has, is_word}
 use Rattle.netset_commands.specs.Single.{Show, Nth}
@@ -95,6 +95,7 @@ its_options verb.Match = (refl, (refl, (refl, (refl, (refl, (refl, (refl, (refl,
 its_options verb.Look = (refl, (refl, (refl, (refl, tt))))
 its_options verb.Compile = (refl, (refl, (refl, (refl, tt))))
 its_options (verb.Describe what) = (refl, (refl, (refl, (refl, tt))))
+its_options verb.Class = (refl, (refl, tt))
 its_options verb.Show = (refl, (refl, tt))
 its_options verb.Split = (refl, (refl, (refl, (refl, tt))))
 its_options verb.Nth = (refl, (refl, tt))
@@ -128,6 +129,7 @@ named verb.Look = refl
 named verb.Compile = refl
 named (verb.Describe Zones) = refl
 named (verb.Describe Masks) = refl
+named verb.Class = refl
 named verb.Show = refl
 named verb.Split = refl
 named verb.Nth = refl
@@ -221,6 +223,7 @@ module _ (words options : List (List ℕ)) where
       plain_asks verb.Look (table ∷ []) (Look table input_name) typed refl refl ∙ ap (λ (k : List ℕ). Ok (reading_of options, Look table k)) (sym input)
   typed_asks (Compile table name) typed = plain_asks verb.Compile (table ∷ name ∷ []) (Compile table name) typed refl refl
   typed_asks (Describe what operand) typed = plain_asks (verb.Describe what) (operand ∷ []) (Describe what operand) typed refl refl
+  typed_asks (Class operand) typed = plain_asks verb.Class (operand ∷ []) (Class operand) typed refl refl
   typed_asks (Single (Show host)) typed = plain_asks verb.Show (host ∷ []) (Single (Show host)) typed refl refl
   typed_asks (Single (Nth net place)) typed = plain_asks verb.Nth (net ∷ place ∷ []) (Single (Nth net place)) typed refl refl
   typed_asks (Help None) typed = plain_asks verb.Help [] (Help None) typed refl refl

@@ -6,7 +6,7 @@ use Rattle.cidr_io.specs.Shown.{excerpt}
 use Rattle.cidr_lists.specs.Formats.{Style, bare, format_of}
 use Rattle.cidr_lists.specs.declared.formats.Format.{Format}
 use Rattle.cidr_lists.specs.declared.formats.Format.TheVariants as format
-use Rattle.netset_commands.specs.Commands.{Request, Lists, Styled, NotIn, Diff, Free, Split, Check, Which, Match, MatchEach, Look, Compile, Describe, Single, Help, Version, input_name, reading_of}
+use Rattle.netset_commands.specs.Commands.{Request, Lists, Styled, NotIn, Diff, Free, Split, Check, Which, Match, MatchEach, Look, Compile, Describe, Class, Single, Help, Version, input_name, reading_of}
 use Rattle.netset_commands.specs.Free.{Extent, First, Count, All}
 use Rattle.netset_commands.specs.Matching.{has, is_word}
 use Rattle.netset_commands.specs.Single.{Show, Nth}
@@ -247,6 +247,7 @@ verb_request verb.Match parts = Ok (match_request parts)
 verb_request verb.Look parts = Ok (Look (operand_or parts.operands 0 []) (operand_or parts.operands 1 input_name))
 verb_request verb.Compile parts = Ok (Compile (operand_or parts.operands 0 []) (operand_or parts.operands 1 []))
 verb_request (verb.Describe what) parts = Ok (Describe what (operand_or parts.operands 0 []))
+verb_request verb.Class parts = Ok (Class (operand_or parts.operands 0 []))
 verb_request verb.Show parts = Ok (Single (Show (operand_or parts.operands 0 [])))
 verb_request verb.Split parts = Ok (Split (operand_or parts.operands 0 []) (operand_or parts.operands 1 []))
 verb_request verb.Nth parts = Ok (Single (Nth (operand_or parts.operands 0 []) (operand_or parts.operands 1 [])))

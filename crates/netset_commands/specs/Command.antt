@@ -2,7 +2,7 @@
 use Rattle.std.specs.Prelude.{◌≡◌, ℕ, Bool, true, List, map, Option, option_map, Result, Ok, Err}
 use Rattle.cidr_lists.specs.Formats.{style_in}
 use Rattle.netset_commands.specs.Arguments.{Parts, joined_arguments, misuse_text}
-use Rattle.netset_commands.specs.Commands.{Request, Lists, Styled, NotIn, Diff, Free, Split, Check, Which, Match, MatchEach, Look, Compile, Describe, Single as ASingle, Help, Version}
+use Rattle.netset_commands.specs.Commands.{Request, Lists, Styled, NotIn, Diff, Free, Split, Check, Which, Match, MatchEach, Look, Compile, Describe, Class, Single as ASingle, Help, Version}
 use Rattle.netset_commands.specs.Free.{Extent, First, Count, All}
 use Rattle.netset_commands.specs.Table.{texts}
 use Rattle.netset_commands.specs.declared.commands.free.Extent.{Extent as GivenExtent}
@@ -45,6 +45,7 @@ request_of (command.MatchEach options list files) = MatchEach (map (λ w. w.now)
 request_of (command.Look table file) = Look table.now file.now
 request_of (command.Compile table name) = Compile table.now name.now
 request_of (command.Describe what operand) = Describe what operand.now
+request_of (command.Class operand) = Class operand.now
 request_of (command.Single single) = ASingle (single_request single)
 request_of (command.Help topic) = Help topic
 request_of command.Version = Version

@@ -7,6 +7,7 @@ use Rattle.cidr.specs.declared.cidr.combined.IpCidr.{IpCidr}
 use Rattle.cidr.specs.declared.family.Family.{Family}
 use Rattle.cidr_table.specs.model.Cover.{Covers}
 use Rattle.cidr_sets.specs.model.Sets.{IsSetOf}
+use Rattle.netset_commands.specs.Class.{IsClassOf}
 use Rattle.netset_commands.specs.Compiled.{HasTable}
 use Rattle.netset_commands.specs.Describing.{IsNoLength, IsOfLength, all_told, told_of}
 use Rattle.netset_commands.specs.Findings.{IsCheck}
@@ -53,6 +54,7 @@ pub data Request : Type 0 where
   Look : List ℕ → List ℕ → Request
   Compile : List ℕ → List ℕ → Request
   Describe : Description → List ℕ → Request
+  Class : List ℕ → Request
   Single : SingleRequest → Request
   Help : Option Verb → Request
   Version : Request
@@ -89,6 +91,7 @@ abbrev pub others_of : Request → List (List ℕ)
 others_of (Match options list file) = file ∷ []
 others_of (MatchEach options list files) = files
 others_of (Look table file) = file ∷ []
+others_of (Class operand) = operand ∷ []
 others_of request = []
 
 -- the operand is no list where this is told of it: a network, an address or, of masks, a prefix length
@@ -226,6 +229,7 @@ IsAnswer contents (Look table file) answer verdict =
     (rows text : Text) → contents table ≡ Some rows → contents file ≡ Some text → IsLook rows text.bytes answer verdict
 IsAnswer contents (Compile table name) answer verdict = (answer ≡ []) × (verdict ≡ Yes)
 IsAnswer contents (Describe what operand) answer verdict = IsDescription contents what operand answer × (verdict ≡ Yes)
+IsAnswer contents (Class operand) answer verdict = IsClassOf contents operand answer verdict
 IsAnswer contents (Single request) answer verdict = IsSingleAnswer request answer verdict
 IsAnswer contents (Help topic) answer verdict = (answer ≡ help_text topic) × (verdict ≡ Yes)
 IsAnswer contents Version answer verdict = (answer ≡ version_text) × (verdict ≡ Yes)

@@ -14,6 +14,7 @@ pub mod Matching
 pub mod Which
 pub mod Compiled
 pub mod Look
+pub mod Class
 pub mod Stored
 pub mod Begun
 pub mod Saving

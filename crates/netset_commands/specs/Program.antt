@@ -11,8 +11,9 @@ use Rattle.cidr_io.specs.Writing.{State, Answered, Tells}
 use Rattle.cidr_io.specs.declared.sink.OutputFailed.{OutputFailed}
 use Rattle.cidr_lists.specs.Lists.{Text, text_by, ListSays, IsFirstError}
 use Rattle.netset_commands.specs.Arguments.{line_request}
-use Rattle.netset_commands.specs.Commands.{Request, Lists, Styled, NotIn, Diff, Free, Split, Check, Which, Match, MatchEach, Look, Compile, Describe, Single, ReadsInputTwice, input_name, read_files, AreLists, AreTold, HoldsOf, IsAnswer}
+use Rattle.netset_commands.specs.Commands.{Request, Lists, Styled, NotIn, Diff, Free, Split, Check, Which, Match, MatchEach, Look, Compile, Describe, Class, Single, ReadsInputTwice, input_name, read_files, AreLists, AreTold, HoldsOf, IsAnswer}
 use Rattle.netset_commands.specs.Causes.{Cause, FileMayFail}
+use Rattle.netset_commands.specs.Class.{IsClassUntil, IsUnclassed}
 use Rattle.netset_commands.specs.Compiled.{IsTooLarge}
 use Rattle.netset_commands.specs.Describing.{IsNoLength}
 use Rattle.netset_commands.specs.Free.{IsBadFree, IsBadLength, IsMost}
@@ -107,6 +108,7 @@ IsRequestRefused contents (Match options list file) (Err e) = IsNotGiven (IsUnre
 IsRequestRefused contents (MatchEach options list files) (Err e) = IsNotGiven (IsUnread contents (list ∷ [])) (contents list) list e
 IsRequestRefused contents (Look table file) (Err e) = IsNoTable (contents table) table e ⊎ IsInputError file e
 IsRequestRefused contents (Describe what operand) (Err e) = IsNoLength what operand × IsUnreadOperand contents operand e
+IsRequestRefused contents (Class operand) (Err e) = IsUnclassed contents operand e
 IsRequestRefused contents (Single request) (Err e) = IsBadArgument (IsBadSingle request) e
 IsRequestRefused contents request (Err e) = ⊥
 
@@ -161,6 +163,8 @@ AnswersRequest contents (MatchEach options list files) old new r = AnswersWhole 
 AnswersRequest contents (Look table file) old new r =
     AnswersWhole contents (Look table file) old new r ⊎ IsCutShort (IsLookUntil contents table file) file old new r
 AnswersRequest contents (Compile table name) old new r = (new ≡ old) × IsCompiled contents table name r
+AnswersRequest contents (Class operand) old new r =
+    AnswersWhole contents (Class operand) old new r ⊎ IsCutShort (IsClassUntil contents operand) operand old new r
 AnswersRequest contents request old new r = AnswersWhole contents request old new r
 
 -- a request is given up only for its cause
@@ -178,6 +182,7 @@ argument_message bad.Length = codes "no prefix length inside the network"
 argument_message bad.Index = codes "no index below 2^128"
 argument_message bad.Count = codes "no count below 2^64"
 argument_message bad.NoAddress = codes "no address"
+argument_message bad.AddressOrFile = codes "no address, and no file that can be read"
 argument_message bad.Operand = codes "no network and no address, and no file that can be read"
 argument_message bad.ReadTwice = codes "standard input can be read only once"
 argument_message bad.Same = codes "the same file as TABLE"

@@ -4,9 +4,9 @@ use Rattle.std.specs.List.{concat, flat_map}
 use Rattle.netset_commands.specs.Matching.{has, is_word}
 use Rattle.netset_commands.specs.declared.commands.describe.Description.TheVariants.{Zones, Masks}
 use Rattle.netset_commands.specs.declared.commands.operations.Operation.TheVariants.{Merge, Nets, Minus, And, Not, Ranges, Count}
-use Rattle.netset_commands.specs.declared.commands.table.TheConstants.{COMMANDS, MERGE, NETS, MINUS, AND, NOT, RANGES, COUNT, DIFF, FREE, CHECK, WHICH, MATCH, LOOK, COMPILE, REVERSE, MASK, SHOW, SPLIT, NTH, HELP, VERSION, OPTIONS, HOST_BITS, KEEP_GOING, FORMAT, LISTS}
+use Rattle.netset_commands.specs.declared.commands.table.TheConstants.{COMMANDS, MERGE, NETS, MINUS, AND, NOT, RANGES, COUNT, DIFF, FREE, CHECK, WHICH, MATCH, LOOK, COMPILE, REVERSE, MASK, CLASS, SHOW, SPLIT, NTH, HELP, VERSION, OPTIONS, HOST_BITS, KEEP_GOING, FORMAT, LISTS}
 use Rattle.netset_commands.specs.declared.commands.table.Verb.{Verb}
-use Rattle.netset_commands.specs.declared.commands.table.Verb.TheVariants.{Lists, Diff, Free, Check, Which, Match, Look, Compile, Describe, Show, Split, Nth, Help, Version}
+use Rattle.netset_commands.specs.declared.commands.table.Verb.TheVariants.{Lists, Diff, Free, Check, Which, Match, Look, Compile, Describe, Class, Show, Split, Nth, Help, Version}
 use denote.Ref.{Bor}
 
 -- the bytes of some words
@@ -34,6 +34,7 @@ name_of Look = codes "look"
 name_of Compile = codes "compile"
 name_of (Describe Zones) = codes "reverse"
 name_of (Describe Masks) = codes "mask"
+name_of Class = codes "class"
 name_of Show = codes "show"
 name_of Split = codes "split"
 name_of Nth = codes "nth"
@@ -46,6 +47,7 @@ options_of Check = codes "-k" ∷ codes "-h" ∷ codes "--help" ∷ []
 options_of Which = codes "-k" ∷ codes "-h" ∷ codes "--help" ∷ []
 options_of Match = codes "--any" ∷ codes "-v" ∷ codes "-c" ∷ codes "-q" ∷ codes "--host-bits" ∷ codes "-k" ∷ codes "-h" ∷ codes "--help" ∷ []
 options_of Free = codes "--all" ∷ codes "--host-bits" ∷ codes "-k" ∷ codes "-h" ∷ codes "--help" ∷ []
+options_of Class = codes "-h" ∷ codes "--help" ∷ []
 options_of Show = codes "-h" ∷ codes "--help" ∷ []
 options_of Nth = codes "-h" ∷ codes "--help" ∷ []
 options_of Help = codes "-h" ∷ codes "--help" ∷ []
@@ -77,6 +79,7 @@ needed_of Look = codes "TABLE" ∷ []
 needed_of Compile = codes "TABLE" ∷ codes "OUT" ∷ []
 needed_of (Describe Zones) = codes "NET|FILE" ∷ []
 needed_of (Describe Masks) = codes "NET|LEN|FILE" ∷ []
+needed_of Class = codes "ADDR|FILE" ∷ []
 needed_of Show = codes "HOST" ∷ []
 needed_of Split = codes "NET|FILE" ∷ codes "LEN" ∷ []
 needed_of Nth = codes "NET" ∷ codes "INDEX" ∷ []
@@ -90,6 +93,7 @@ most_of Check = None
 most_of Which = None
 most_of Match = None
 most_of (Describe what) = Some 1
+most_of Class = Some 1
 most_of Show = Some 1
 most_of Help = Some 1
 most_of Version = Some 0
@@ -113,6 +117,7 @@ about_of Look = LOOK.now
 about_of Compile = COMPILE.now
 about_of (Describe Zones) = REVERSE.now
 about_of (Describe Masks) = MASK.now
+about_of Class = CLASS.now
 about_of Show = SHOW.now
 about_of Split = SPLIT.now
 about_of Nth = NTH.now

@@ -6,7 +6,7 @@ use Rattle.cidr_io.specs.Writing.{State, Whole, Tells}
 use Rattle.cidr_lists.specs.Lists.{Text}
 use Rattle.cidr_lists.specs.Formats.{bare, format_name}
 use Rattle.netset_commands.specs.Arguments.{asks_help, is_option, missing_operand, takes}
-use Rattle.netset_commands.specs.Commands.{Request, Lists, Styled, NotIn, Diff, Free, Split, Check, Which, Match, MatchEach, Look, Compile, Describe, Single, Help, Version, IsAnswer, input_name, reading_of}
+use Rattle.netset_commands.specs.Commands.{Request, Lists, Styled, NotIn, Diff, Free, Split, Check, Which, Match, MatchEach, Look, Compile, Describe, Class, Single, Help, Version, IsAnswer, input_name, reading_of}
 use Rattle.netset_commands.specs.Free.{First, Count, All}
 use Rattle.netset_commands.specs.Matching.{has}
 use Rattle.netset_commands.specs.Program.{answer_status, contents_by}
@@ -51,6 +51,7 @@ IsTyped words options (MatchEach given list files) = ⊥
 IsTyped words options (Look table file) = AreTypedFor verb.Look options table file words
 IsTyped words options (Compile table name) = AreTyped verb.Compile options [] (table ∷ name ∷ []) words
 IsTyped words options (Describe what operand) = AreTyped (verb.Describe what) options [] (operand ∷ []) words
+IsTyped words options (Class operand) = AreTyped verb.Class options [] (operand ∷ []) words
 IsTyped words options (Single (Show host)) = AreTyped verb.Show options [] (host ∷ []) words
 IsTyped words options (Single (Nth net place)) = AreTyped verb.Nth options [] (net ∷ place ∷ []) words
 IsTyped words options (Help None) = AreTyped verb.Help options [] [] words

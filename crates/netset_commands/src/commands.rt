@@ -11,6 +11,7 @@ ghost use Rattle.netset_commands.specs.Table.{texts};
 pub mod arguments;
 pub mod changes;
 pub mod check;
+pub mod class;
 pub mod combine;
 pub mod compile;
 pub mod describe;
@@ -67,6 +68,8 @@ pub enum Command<'a> {
     Compile(&'a str, &'a str),
     /// What is told of a network, an address or the networks of a list.
     Describe(Description, &'a str),
+    /// What an address, or the addresses of a file, are for.
+    Class(&'a str),
     /// A command on one host or network.
     Single(Single<'a>),
     /// The page of a command, or of all.
@@ -163,7 +166,7 @@ impl<'a> Command<'a> {
             | Command::Compile(list, _)
             | Command::Split(list, _)
             | Command::Describe(_, list) => names.push(*list)?,
-            Command::Single(_) | Command::Help(_) | Command::Version => {}
+            Command::Class(_) | Command::Single(_) | Command::Help(_) | Command::Version => {}
         }
         Ok(names)
     }
@@ -186,6 +189,7 @@ impl<'a> Command<'a> {
             | Command::MatchEach(_, _, _)
             | Command::Look(_, _)
             | Command::Compile(_, _)
+            | Command::Class(_)
             | Command::Single(_)
             | Command::Help(_)
             | Command::Version => false,
@@ -211,7 +215,9 @@ impl<'a> Command<'a> {
     {
         let mut names = self.lists(memory)?;
         match self {
-            Command::Match(_, _, file) | Command::Look(_, file) => memory.push(&mut names, *file)?,
+            Command::Match(_, _, file) | Command::Look(_, file) | Command::Class(file) => {
+                memory.push(&mut names, *file)?;
+            }
             Command::MatchEach(_, _, files) => {
                 let added = names.extend_from_slice(files);
                 memory.watch(added)?;

@@ -92,6 +92,8 @@ pub enum ArgumentError {
     Operand,
     /// It is no address.
     NoAddress,
+    /// It is no address, and no file of this name can be read.
+    AddressOrFile,
     /// It is no number below 2^64.
     Count,
     /// It is no index below 2^128.

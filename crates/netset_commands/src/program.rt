@@ -18,6 +18,7 @@ ghost use Rattle.netset_commands.specs.Typed.{AnswersTyped};
 use crate::commands::arguments::{Parts, command_of, line_parts};
 use crate::commands::changes::diff;
 use crate::commands::check::check;
+use crate::commands::class::class;
 use crate::commands::combine::combination;
 use crate::commands::compile::{compile, same_file};
 use crate::commands::describe::describe;
@@ -130,6 +131,7 @@ fn answer<'a, M: Memory, F: Sources, D: Folder, O: Sink>(
         Command::Look(table, file) => look(memory, sources, table, file, out),
         Command::Compile(table, name) => compile(memory, sources, table, name, folder),
         Command::Describe(what, operand) => describe(memory, sources, what, operand, out),
+        Command::Class(operand) => class(memory, sources, operand, out),
         Command::Single(single) => answer_single(single, out),
         Command::Help(topic) => by_output(Verdict::Yes, write_help(topic, out)),
         Command::Version => by_output(Verdict::Yes, write_text(out, VERSION)),
@@ -167,6 +169,7 @@ fn wrong_argument<'a>(command: Command<'a>) -> Option<CommandError<'a>>
         | Command::Look(_, _)
         | Command::Split(_, _)
         | Command::Describe(_, _)
+        | Command::Class(_)
         | Command::Single(_)
         | Command::Help(_)
         | Command::Version => None,

@@ -643,6 +643,7 @@ fn verb_command<'a>(verb: Verb, parts: &'a Parts<'a>) -> Result<Command<'a>, Mis
             operand_or(operands, 1, ""),
         )),
         Verb::Describe(what) => Ok(Command::Describe(what, operand_or(operands, 0, ""))),
+        Verb::Class => Ok(Command::Class(operand_or(operands, 0, ""))),
         Verb::Show => Ok(Command::Single(Single::Show(operand_or(operands, 0, "")))),
         Verb::Split => {
             Ok(Command::Split(operand_or(operands, 0, ""), operand_or(operands, 1, "")))

@@ -111,7 +111,7 @@ fn look_lines<T: LookUps, M: Memory, R: Source + Drop, S: Sink>(
 
 /// Looks up the address of each line and writes their lines in blocks, also those before a line in error; tells whether
 /// a network has one of them. An output that has failed before gets nothing.
-fn look_all<T: LookUps, M: Memory, R: Source + Drop, S: Sink>(
+pub fn look_all<T: LookUps, M: Memory, R: Source + Drop, S: Sink>(
     memory: &mut M,
     table: &T,
     reader: &mut LineReader<R>,

@@ -17,6 +17,7 @@ pub enum Verb {
     Look,
     Compile,
     Describe(Description),
+    Class,
     Show,
     Split,
     Nth,
@@ -25,7 +26,7 @@ pub enum Verb {
 }
 
 /// The commands, in their order on the page.
-pub static COMMANDS: [Verb; 21] = [
+pub static COMMANDS: [Verb; 22] = [
     Verb::Lists(Operation::Merge),
     Verb::Lists(Operation::Nets),
     Verb::Lists(Operation::Minus),
@@ -42,6 +43,7 @@ pub static COMMANDS: [Verb; 21] = [
     Verb::Compile,
     Verb::Describe(Description::Zones),
     Verb::Describe(Description::Masks),
+    Verb::Class,
     Verb::Show,
     Verb::Split,
     Verb::Nth,
@@ -93,6 +95,9 @@ const REVERSE: &str =
 
 const MASK: &str =
     "netset mask NET|LEN|FILE\n                        the first address, the mask and the host mask of networks, or\n                        the masks of a prefix length\n";
+
+const CLASS: &str =
+    "netset class ADDR|FILE  what an address, or each address of a file, is for by the registries of\n                        IANA: the block that has it, its name and RFC, whether it is globally\n                        reachable, and the date of the registries\n";
 
 const SHOW: &str =
     "netset show HOST        the network of a host: its ends, masks, length, family and usable\n                        addresses, and the name of the host in reverse DNS\n";
@@ -150,6 +155,7 @@ pub fn name_of(command: Verb) -> &'static str
         Verb::Compile => "compile",
         Verb::Describe(Description::Zones) => "reverse",
         Verb::Describe(Description::Masks) => "mask",
+        Verb::Class => "class",
         Verb::Show => "show",
         Verb::Split => "split",
         Verb::Nth => "nth",
@@ -181,7 +187,7 @@ pub fn options_of(command: Verb) -> &'static [&'static str]
             "-h",
             "--help",
         ],
-        Verb::Show | Verb::Nth | Verb::Help | Verb::Version => &["-h", "--help"],
+        Verb::Class | Verb::Show | Verb::Nth | Verb::Help | Verb::Version => &["-h", "--help"],
     }
 }
 
@@ -214,6 +220,7 @@ pub fn needed_of(command: Verb) -> &'static [&'static str]
         Verb::Compile => &["TABLE", "OUT"],
         Verb::Describe(Description::Zones) => &["NET|FILE"],
         Verb::Describe(Description::Masks) => &["NET|LEN|FILE"],
+        Verb::Class => &["ADDR|FILE"],
         Verb::Show => &["HOST"],
         Verb::Split => &["NET|FILE", "LEN"],
         Verb::Nth => &["NET", "INDEX"],
@@ -228,7 +235,7 @@ pub fn most_of(command: Verb) -> Option<usize>
     match command {
         Verb::Lists(_) | Verb::Free | Verb::Check | Verb::Which | Verb::Match => None,
         Verb::Diff | Verb::Look | Verb::Compile | Verb::Split | Verb::Nth => Some(2),
-        Verb::Describe(_) | Verb::Show | Verb::Help => Some(1),
+        Verb::Describe(_) | Verb::Class | Verb::Show | Verb::Help => Some(1),
         Verb::Version => Some(0),
     }
 }
@@ -254,6 +261,7 @@ pub fn about_of(command: Verb) -> &'static str
         Verb::Compile => COMPILE,
         Verb::Describe(Description::Zones) => REVERSE,
         Verb::Describe(Description::Masks) => MASK,
+        Verb::Class => CLASS,
         Verb::Show => SHOW,
         Verb::Split => SPLIT,
         Verb::Nth => NTH,

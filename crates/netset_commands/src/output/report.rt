@@ -29,6 +29,7 @@ fn argument_message(error: &ArgumentError) -> ArrayString<99>
         ArgumentError::Index => text.push_str("no index below 2^128"),
         ArgumentError::Count => text.push_str("no count below 2^64"),
         ArgumentError::NoAddress => text.push_str("no address"),
+        ArgumentError::AddressOrFile => text.push_str("no address, and no file that can be read"),
         ArgumentError::Operand => {
             text.push_str("no network and no address, and no file that can be read");
         }

@@ -46,6 +46,9 @@ returns-in-Compile-clause-answers g c = rw c.in-Compile.is (refl, c.compile.ensu
 pub returns-in-Describe-clause-answers : goal.returns-in-Describe-clause-answers
 returns-in-Describe-clause-answers g c = rw c.in-Describe.is c.describe.ensures.answers
 
+pub returns-in-Class-clause-answers : goal.returns-in-Class-clause-answers
+returns-in-Class-clause-answers g c = rw c.in-Class.is c.class.ensures.answers
+
 pub returns-in-Single-clause-answers : goal.returns-in-Single-clause-answers
 returns-in-Single-clause-answers g c = rw c.in-Single.is (c.answer_single.ensures (g.F.Sources.contents c.args.sources.now))
 
@@ -96,6 +99,9 @@ returns-in-Check-clause-cause g c = c.check.ensures.cause
 pub returns-in-Describe-clause-cause : goal.returns-in-Describe-clause-cause
 returns-in-Describe-clause-cause g c = c.describe.ensures.cause
 
+pub returns-in-Class-clause-cause : goal.returns-in-Class-clause-cause
+returns-in-Class-clause-cause g c = c.class.ensures.cause
+
 pub returns-in-Single-clause-cause : goal.returns-in-Single-clause-cause
 returns-in-Single-clause-cause g c =
     single_cause (FileMayFail (g.F.Sources.contents c.args.sources.now)) (g.M.Memory.refused c.args.memory.now) (g.F.Sources.contents c.args.sources.now)
@@ -142,6 +148,9 @@ returns-in-Look-clause-leaves g c = rw c.in-Look.is refl
 
 pub returns-in-Describe-clause-leaves : goal.returns-in-Describe-clause-leaves
 returns-in-Describe-clause-leaves g c = rw c.in-Describe.is refl
+
+pub returns-in-Class-clause-leaves : goal.returns-in-Class-clause-leaves
+returns-in-Class-clause-leaves g c = rw c.in-Class.is refl
 
 pub returns-in-Single-clause-leaves : goal.returns-in-Single-clause-leaves
 returns-in-Single-clause-leaves g c = rw c.in-Single.is refl
