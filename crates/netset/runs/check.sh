@@ -94,7 +94,7 @@ rows() {
     run 2 '' $'\\xff: not UTF-8\n' '' merge $'\xff'
     run 2 '' $'a\\x1b\\xff: not UTF-8\n' '' merge bad $'a\e\xff' $'\xfe'
     run 2 '' $'aaaaaaaaaaaaaaaaaaaaaaaaaaaaaaaaaaaaa..: not UTF-8\n' '' merge $'aaaaaaaaaaaaaaaaaaaaaaaaaaaaaaaaaaaaa\xff'
-    run 0 $'netset 0.1.0\n' '' '' --version
+    run 0 $'netset 0.1.0\n'"$(rt version)"$'\n' '' '' --version
 }
 
 # Options before, behind and between operands, joined, with their values and ended, and the pages of help.
@@ -144,7 +144,7 @@ rows_of_arguments() {
     run 0 "$page" '' '' merge --help
     run 0 "$page" '' '' merge -h ten
     run 0 "$page" '' '' merge -kh ten
-    page=$'netset --version        the version\n'
+    page=$'netset --version        the version, and the line of the kit that proves the program\n'
     run 0 "$page" '' '' help --version
     run 0 "$page" '' '' --help --version
     run 0 "$page" '' '' help -- --version

@@ -200,9 +200,9 @@ abbrev pub IsMatchOf : List (List ℕ) → Text → List ℕ → List ℕ → Ve
 IsMatchOf options networks text answer verdict = HoldsOf networks
     (λ IsIn. IsMatch (Picks (has (codes "--any") options) IsIn (has (codes "-v") options)) [] (written_of options) text None answer verdict)
 
--- what `--version` writes
+-- what `--version` writes: the version, and the line that `rt version` prints of the kit that proves it
 abbrev pub version_text : List ℕ
-version_text = codes "netset 0.1.0\n"
+version_text = codes "netset 0.1.0\nrattle-kit-13f logic dac8208d650f15bf\n"
 
 -- what a request is answered with, and whether the answer is none or no, from what is told of the files
 abbrev pub IsAnswer : (List ℕ → Option Text) → Request → List ℕ → Verdict → Type 0

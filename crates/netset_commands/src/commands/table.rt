@@ -109,7 +109,8 @@ const NTH: &str = "netset nth NET INDEX    the address of a network at an index,
 
 const HELP: &str = "netset help [COMMAND]   this page, or what it says of a command\n";
 
-const VERSION: &str = "netset --version        the version\n";
+const VERSION: &str =
+    "netset --version        the version, and the line of the kit that proves the program\n";
 
 pub const HOST_BITS: &str =
     "--host-bits             a bit set behind the prefix of a network in a list is taken as unset,\n                        and is no error\n";
