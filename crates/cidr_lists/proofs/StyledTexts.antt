@@ -11,7 +11,7 @@ use Rattle.std.proofs.lemmas.List.Splits.{slice_split_at}
 use Rattle.cidr.specs.model.Network.{width_of, first_of, last_of, ones}
 use Rattle.cidr.specs.texts.Ipv4Text.{dot}
 use Rattle.cidr.specs.texts.Ipv6Text.{colon}
-use Rattle.cidr.specs.texts.NetworkText.{IsNetworkText, plus, slash}
+use Rattle.cidr.specs.texts.NetworkText.{plus, slash}
 use Rattle.cidr.specs.texts.Printed.{plain_text}
 use Rattle.cidr.specs.texts.PrintedAddress.{address_text}
 use Rattle.cidr.specs.texts.Refusal.{Lacks}
@@ -28,7 +28,6 @@ use Rattle.cidr_lists.specs.Printing.{line}
 use Rattle.cidr_lists.specs.ReadBack.{AreOfFamilies, SaysJust, TellsJust, TellsNetwork, quote}
 use Rattle.cidr_lists.specs.Sets.{printed_networks, printed_sets}
 use Rattle.cidr_lists.specs.declared.formats.Format.TheVariants as format
-use Rattle.cidr_lists.specs.declared.formats.Notation.{Notation}
 use Rattle.cidr_lists.specs.declared.lines.HostBits.{HostBits}
 use Rattle.cidr_lists.proofs.PlainTexts.{lacks_address, lacks_by_family}
 use Rattle.cidr_lists.proofs.PrintedLines.{printed_read}

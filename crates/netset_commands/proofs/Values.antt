@@ -4,8 +4,8 @@ use Rattle.std.proofs.lemmas.List.{drop_more, length-drop}
 use Rattle.cidr_lists.specs.Formats.{Style, bare, format_name, format_of, formats}
 use Rattle.cidr_lists.specs.declared.formats.Format.{Format}
 use Rattle.cidr_lists.specs.declared.formats.Format.TheVariants as format
-use Rattle.netset_commands.specs.Arguments.{and_then, fresh, lists_request, made_request, misuse_text, style_of, taken_value, value_behind, value_of}
-use Rattle.netset_commands.specs.Commands.{Request, Styled}
+use Rattle.netset_commands.specs.Arguments.{and_then, lists_request, made_request, misuse_text, style_of, taken_value, value_behind, value_of}
+use Rattle.netset_commands.specs.Commands.{Styled}
 use Rattle.netset_commands.specs.Table.{name_of, texts}
 use Rattle.netset_commands.specs.declared.commands.operations.Operation.{Operation}
 use Rattle.netset_commands.specs.declared.commands.table.Verb.{Verb}

@@ -1,5 +1,5 @@
-use Rattle.std.proofs.Common.{◌∙◌, inl, refl}
-use Rattle.netset_commands.proofs.Causes.{file_cause, not_opened}
+use Rattle.std.proofs.Common.{◌∙◌}
+use Rattle.netset_commands.proofs.Causes.{file_cause}
 use Rattle.netset_commands.proofs.Classed.{classes_cut, classes_lost, classes_told}
 use Rattle.netset_commands.proofs.commands.class.tell_classes.Goals as goal
 
