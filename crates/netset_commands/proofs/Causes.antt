@@ -54,6 +54,12 @@ pub no_line_cause : (contents left : Option (List ℕ)) (refused : Bool) (e : No
 no_line_cause contents left refused Failed known fails none = told_fails contents left known (fails refl)
 no_line_cause contents left refused no_line.NoMemory known fails none = none refl
 
+pub lines_cause : (contents left : Option (List ℕ)) (refused : Bool) (e : ReadError) → KnownOf contents left → ReadCause (NoLineFails left) refused e
+    → ReadCause (TextFails contents) refused e
+lines_cause contents left refused (Line number e) known h = tt
+lines_cause contents left refused Input known h = told_fails contents left known h
+lines_cause contents left refused NoMemory known h = h
+
 -- a line alone never says that a file can't be read
 pub line_cause : (Fails : Type 0) (refused : Bool) (e : ReadError) → ReadCause ⊥ refused e → ReadCause Fails refused e
 line_cause Fails refused (Line number e) h = tt

@@ -31,6 +31,7 @@ pub mod Stored
 pub mod StoredFiles
 pub mod Given
 pub mod Listed
+pub mod Asked
 pub mod Looked
 pub mod Registered
 pub mod Classed

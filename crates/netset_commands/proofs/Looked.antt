@@ -1,9 +1,11 @@
 -- Addresses that are looked up, one line after the other.
-use Rattle.std.proofs.Common.{◌≡◌, ◌⊎◌, refl, sym, ◌∙◌, ap, subst, inl, inr, ℕ, ◌+◌, Bool, true, false, List, [], ◌∷◌, ◌++◌, ◌==◌, length, arith, codes, map, is_some, option_map, option_copied, Bor, Option, Some, None, Result, Ok, Err, ◌||◌}
+use Rattle.std.proofs.Common.{◌≡◌, ◌⊎◌, refl, sym, ◌∙◌, ap, subst, inl, inr, ℕ, ◌+◌, Bool, true, false, List, [], ◌∷◌, ◌++◌, ◌==◌, ◌<◌, ◌≤◌, length, take, drop, get_or, arith, codes, map, is_some, option_map, option_copied, Bor, Option, Some, None, Result, Ok, Err, ◌||◌}
 use Rattle.std.specs.Option.{IfSome}
 use Rattle.std.specs.List.{AllZip, flat_map, list_any}
 use Rattle.std.proofs.lemmas.Bool.{true≢false}
-use Rattle.std.proofs.lemmas.List.{append-nil, flat_map_more}
+use Rattle.std.proofs.lemmas.Grind.{flat_map-append}
+use Rattle.std.proofs.lemmas.List.Elements.{All-cons, All-nil}
+use Rattle.std.proofs.lemmas.List.{append-nil, flat_map_more, length-take, map-append, take-append-drop, take_more}
 use Rattle.std.proofs.lemmas.List.Folds.{list_any-append}
 use Rattle.cidr.specs.either.IpAddress.{IsIpText, address_family, plain_bits}
 use Rattle.cidr.specs.texts.Printed.{plain_text}
@@ -21,7 +23,7 @@ use Rattle.cidr_lists.specs.Lists.{IsTooLong, Text, lines_of}
 use Rattle.cidr_lists.specs.Fields.{IsBadLine, IsSplit}
 use Rattle.cidr_lists.specs.LookUps.{LineLooks, LookUp, found_line, is_found, look_line, printed_row}
 use Rattle.netset_commands.specs.Look.{TellsFound}
-use Rattle.netset_commands.specs.LookUps.{AreFirstSaid, EndsReading, IsErrorAt, LooksAll, LooksLine, LooksLines, LooksUp, PushesFound, unread, verdict_of}
+use Rattle.netset_commands.specs.LookUps.{AreFirstSaid, AreFound, AskLooks, AsksLines, EndsReading, IsFoundOf, LooksAll, LooksEach, LooksLines, LooksOne, LooksUp, PushesFound, answer_of, answer_row, unread, verdict_of}
 use Rattle.cidr_lists.specs.Tables.{resolved, value_at}
 use Rattle.netset_commands.specs.Compiled.{SaysTable}
 use Rattle.netset_commands.specs.Program.{AnswersRequest}
@@ -30,6 +32,7 @@ use Rattle.netset_commands.specs.Streaming.{IsCut, IsOfFile, IsWritten}
 use Rattle.netset_commands.specs.declared.errors.CommandError.TheVariants as error
 use Rattle.netset_commands.specs.declared.errors.Reason.TheVariants.{Unknown}
 use Rattle.netset_commands.specs.declared.errors.ReadError.{ReadError}
+use Rattle.netset_commands.specs.declared.input.table.Answer.{Answer}
 use Rattle.netset_commands.specs.declared.errors.ReadError.TheVariants.{Line, Input, NoMemory}
 use Rattle.netset_commands.specs.declared.commands.look.LookError.{LookError}
 use Rattle.netset_commands.specs.declared.commands.look.LookError.TheVariants.{Reading, Output}
@@ -37,10 +40,15 @@ use Rattle.cidr_lists.specs.declared.rows.Span.{Span}
 use Rattle.cidr_io.proofs.Collected.{collected_more, none_collected}
 use Rattle.netset_commands.proofs.ReadBy.{bytes_read}
 use Rattle.cidr_lists.proofs.Resolved.{looked_up_mapped}
-use Rattle.netset_commands.proofs.Passed.{Passed, none_passed, one_passed, all_passed, error_passed, first_passed, one_more_passed, all_first, cut_before, cut_behind}
+use Rattle.netset_commands.proofs.Asked.{first_asked, group_all, group_ended, group_first, group_passed}
+use Rattle.netset_commands.proofs.Zips.{zip_behind, zip_length}
+use Rattle.netset_commands.proofs.Passed.{Passed, none_passed, first_passed, all_first, cut_before, cut_behind}
 
 abbrev pub failing : LookError → Result Bool LookError
 failing e = Err e
+
+abbrev unwritten : OutputFailed → Result Bool OutputFailed
+unwritten e = Err e
 
 -- ---- one address
 same_some : {X Y : Type 0} (f : X → Y) (o : Option X) → is_some (option_map f o) ≡ is_some o
@@ -64,27 +72,21 @@ looks_up table address row printed s t block rest (Err e) looked is pushed = (
   subst (λ (k : Option (List ℕ × List ℕ)). Part s t (block ++ found_line (ip_text address) k)) is pushed,
 )
 
--- what is printed of a row, by the row and by its value
-printed_value : (family : Family) (values : List ℕ) (found : Option (List Bool × Span))
-    → option_map (λ (row : List Bool × Span). (plain_text family row.0, value_at values row.1)) found ≡ option_map (printed_row family) (option_map (resolved values) found)
-printed_value family values None = refl
-printed_value family values (Some row) = refl
+-- a row is its answer
+same_row : (values : List ℕ) (address : IpAddr) (rows : List (List Bool × Span)) (found : Option (List Bool × Span))
+    → IsLookedUp (λ (p : List Bool). p) (plain_bits address) rows found
+    → option_map (resolved values) found ≡ option_map (answer_row values address) (option_map (λ (row : List Bool × Span). answer_of (length row.0) row.1) found)
+same_row values address rows None h = refl
+same_row values address rows (Some (p, span)) h = ap (λ (k : List Bool). Some (k, value_at values span)) (sym h.begins)
 
-pub looks_up_in : (table : Family → List (List Bool × List ℕ)) (values : List ℕ) (rows : List (List Bool × Span)) (address : IpAddr) (family : Family) (asked : List Bool)
-    (found : Option (List Bool × Span)) (text : List ℕ) (s t : State) (block rest : List ℕ) (r : Result Bool OutputFailed) → address_family address ≡ family
-    → asked ≡ plain_bits address → table family ≡ map (resolved values) rows → IsLookedUp (λ (p : List Bool). p) asked rows found → text ≡ ip_text address
-    → PushesFound text (option_map (λ (row : List Bool × Span). (plain_text family row.0, value_at values row.1)) found) s t block rest r
-    → LooksUp table address s t block rest r
-looks_up_in table values rows address family asked found text s t block rest r of bits collected looked shows pushed =
-    let row : Option (List Bool × List ℕ) = option_map (resolved values) found in
-    let here : IsLookedUp (λ (p : List Bool). p) (plain_bits address) (map (resolved values) rows) row =
-    subst (λ (k : List Bool). IsLookedUp (λ (p : List Bool). p) k (map (resolved values) rows) row) bits
-    (looked_up_mapped (value_at values) (λ (p : List Bool). p) asked rows found looked) in
-    looks_up table address row (option_map (λ (row : List Bool × Span). (plain_text family row.0, value_at values row.1)) found) s t block rest r
-    (subst (λ (k : List (List Bool × List ℕ)). IsLookedUp (λ (p : List Bool). p) (plain_bits address) k row) (sym collected ∙ ap table (sym of)) here)
-    (ap (λ (k : Family). option_map (λ (row : List Bool × Span). (plain_text k row.0, value_at values row.1)) found) (sym of)
-    ∙ printed_value (address_family address) values found)
-    (subst (λ (k : List ℕ). PushesFound k (option_map (λ (row : List Bool × Span). (plain_text family row.0, value_at values row.1)) found) s t block rest r) shows pushed)
+pub answer_found : (values : List ℕ) (all : List (List Bool × List ℕ)) (rows : List (List Bool × Span)) (address : IpAddr) (asked : List Bool) (found : Option (List Bool × Span))
+    (answer : Option Answer) → asked ≡ plain_bits address → all ≡ map (resolved values) rows → IsLookedUp (λ (p : List Bool). p) asked rows found
+    → answer ≡ option_map (λ (row : List Bool × Span). answer_of (length row.0) row.1) found
+    → IsLookedUp (λ (p : List Bool). p) (plain_bits address) all (option_map (answer_row values address) answer)
+answer_found values all rows address asked found answer bits are looked is =
+    let here : IsLookedUp (λ (p : List Bool). p) (plain_bits address) rows found = subst (λ (k : List Bool). IsLookedUp (λ (p : List Bool). p) k rows found) bits looked in
+    rw (are, is) (subst (IsLookedUp (λ (p : List Bool). p) (plain_bits address) (map (resolved values) rows)) (same_row values address rows found here)
+    (looked_up_mapped (value_at values) (λ (p : List Bool). p) (plain_bits address) rows found here))
 
 -- a row that was found, with its value
 abbrev pub found_row : List Bool × Bor (List ℕ) → List Bool × List ℕ
@@ -119,22 +121,6 @@ pub row_long : (a n v : List ℕ) (test : Bool) → test ≡ (length v == 0) →
 row_long a n [] test is fails = absurd (true≢false (sym is ∙ fails))
 row_long a n (b ∷ v) test is fails = refl
 
--- the row by the reference to it
-pub row_pushed : {C : Type 0} (text_of : C → List ℕ) (values : List ℕ) (found : Option (Bor (C × Span))) (row : Bor (C × Span)) (a : List ℕ) (s t : State)
-    (block rest : List ℕ) (r : Result Bool OutputFailed) → found ≡ Some row → PushesFound a (Some (text_of row.now.0, value_at values row.now.1)) s t block rest r
-    → PushesFound a (option_map (λ (k : C × Span). (text_of k.0, value_at values k.1)) (option_copied found)) s t block rest r
-row_pushed {C} text_of values found row a s t block rest r is h =
-    subst (λ (k : Option (Bor (C × Span))). PushesFound a (option_map (λ (k : C × Span). (text_of k.0, value_at values k.1)) (option_copied k)) s t block rest r)
-    (sym is) h
-
--- the line of an address was lost
-pub line_lost : (table : Family → List (List Bool × List ℕ)) (line : List ℕ) (number : ℕ) (s t : State) (block rest first second : List ℕ) (address : IpAddr) (r : Result Bool LookError)
-    (y : LookError) (f : OutputFailed) → r ≡ Err y → y ≡ Output → ¬ (IsTooLong line) → IsSplit line first second → IsIpText first address → LooksUp table address s t block rest (Err f)
-    → LooksLine table line number s t block rest r
-line_lost table line number s t block rest first second address r y f is same short split spells (row, looked, part) =
-    subst (LooksLine table line number s t block rest) (sym (is ∙ ap failing same))
-    (Some (record { address = address; found = row }), (short, (first, second, split, spells, looked)), part)
-
 -- ---- one line after the other
 -- so far
 pub record Looking (table : Family → List (List Bool × List ℕ)) (contents left : Option (List ℕ)) (s t : State) (block rest : List ℕ) (found : Bool) (number : ℕ) : Type 0 where
@@ -161,60 +147,157 @@ caught_up table contents left s t u b c d found number l more = record {
   passed = l.passed;
 }
 
--- whether one was found, behind a line
-abbrev pub IsEither : Bool → Bool → Bool → Type 0
-IsEither hit found after = ((hit ≡ true) × (after ≡ true)) ⊎ ((hit ≡ false) × (after ≡ found))
+hits_more : (looks others : List (Option LookUp)) (hit found after : Bool) → found ≡ list_any is_found looks → hit ≡ list_any is_found others
+    → after ≡ (found || hit) → after ≡ list_any is_found (looks ++ others)
+hits_more looks others hit found after f h is = is ∙ (rw (f, h) (sym (list_any-append is_found looks others)))
 
-either_or : (before one : Bool) (hit found after : Bool) → found ≡ before → hit ≡ one → IsEither hit found after → after ≡ (before || (one || false))
-either_or true one hit found after f h (inl e) = e.1
-either_or true one hit found after f h (inr e) = e.1 ∙ f
-either_or false true hit found after f h (inl e) = e.1
-either_or false true hit found after f h (inr e) = let no : true ≡ false = sym h ∙ e.0 in cc
-either_or false false hit found after f h (inl e) = let no : false ≡ true = sym h ∙ e.0 in cc
-either_or false false hit found after f h (inr e) = e.1 ∙ f
+group_collected : (s t u : State) (b c d : List ℕ) (looks others : List (Option LookUp)) (r : Result (Unit {0}) OutputFailed) → Collects s t b c (flat_map look_line looks) (Ok tt)
+    → Collects t u c d (flat_map look_line others) r → Collects s u b d (flat_map look_line (looks ++ others)) r
+group_collected s t u b c d looks others r first more =
+    subst (λ (k : List ℕ). Collects s u b d k r) (sym (flat_map-append look_line looks others))
+    (collected_more s t u b c d (flat_map look_line looks) (flat_map look_line others) r first more)
 
-hit_more : (looks : List (Option LookUp)) (look : Option LookUp) (hit found after : Bool) → found ≡ list_any is_found looks → hit ≡ is_found look
-    → IsEither hit found after → after ≡ list_any is_found (looks ++ look ∷ [])
-hit_more looks look hit found after f h either =
-    either_or (list_any is_found looks) (is_found look) hit found after f h either ∙ sym (list_any-append is_found looks (look ∷ []))
+-- one or the other, as the code has it
+pub either_of : (any hit after : Bool) → ((any ≡ true) × (after ≡ true)) ⊎ ((any ≡ false) × (after ≡ hit)) → after ≡ (any || hit)
+either_of true hit after (inl e) = e.1
+either_of true hit after (inr e) = absurd (true≢false e.0)
+either_of false hit after (inl e) = absurd (true≢false (sym e.0))
+either_of false hit after (inr e) = e.1
 
-one_collected : (s t u : State) (b c d : List ℕ) (looks : List (Option LookUp)) (look : Option LookUp) → Collects s t b c (flat_map look_line looks) (Ok tt)
-    → Collects t u c d (look_line look) (Ok tt) → Collects s u b d (flat_map look_line (looks ++ look ∷ [])) (Ok tt)
-one_collected s t u b c d looks look first more =
-    subst (λ (k : List ℕ). Collects s u b d k (Ok tt)) (flat_map_more look_line [] looks look)
-    (collected_more s t u b c d (flat_map look_line looks) (look_line look) (Ok tt) first more)
+-- ---- addresses that were found, one after the other
+or_none : (b : Bool) → b ≡ (b || false)
+or_none true = refl
+or_none false = refl
 
-one_read : (table : Family → List (List Bool × List ℕ)) (contents left next : Option (List ℕ)) (looks : List (Option LookUp)) (number : ℕ) (line : List ℕ) (more : Bool) (look : Option LookUp)
-    → more ≡ true → IfSome contents (λ text. Passed (LineLooks table) text left looks number) → IfSome left (λ text. IsNextLine text line more next) → LineLooks table line look
-    → IfSome contents (λ text. Passed (LineLooks table) text next (looks ++ look ∷ []) (number + 1))
-one_read table None left next looks number line more look is p n says = tt
-one_read table (Some text) left next looks number line more look is p n says = one_passed (LineLooks table) text left next looks number line more look is p n says
+taken : {X : Type 0} (xs : List X) (i : ℕ) (x : X) → i < length xs → x ≡ get_or xs i x → take (i + 1) xs ≡ take i xs ++ x ∷ []
+taken xs i x within is = take_more xs i x within ∙ ap (λ k. take i xs ++ k ∷ []) (sym is)
 
-pub looked_on : (table : Family → List (List Bool × List ℕ)) (contents left next : Option (List ℕ)) (s t u : State) (b c d : List ℕ) (found hit after : Bool) (number : ℕ)
-    (line : List ℕ) (more : Bool) → more ≡ true → Looking table contents left s t b c found number → IfSome left (λ text. IsNextLine text line more next)
-    → LooksLine table line number t u c d (Ok hit) → IsEither hit found after → Looking table contents next s u b d after (number + 1)
-looked_on table contents left next s t u b c d found hit after number line more is l n (look, says, collects, tells) either = record {
-  looks = l.looks ++ look ∷ [];
-  collected = one_collected s t u b c d l.looks look l.collected collects;
-  hit = hit_more l.looks look hit found after l.hit tells either;
-  passed = one_read table contents left next l.looks number line more look is l.passed n says;
+pub found_on : (IsFound : IpAddr → Option Answer → Type 0) (asked : List (Option IpAddr)) (i : ℕ) (ask : Option IpAddr) (found after : List (Option (IpAddr × Option Answer)))
+    (one : Option (IpAddr × Option Answer)) → i < length asked → ask ≡ get_or asked i ask → AllZip (IsFoundOf IsFound) (take i asked) found → IsFoundOf IsFound ask one
+    → after ≡ found ++ one ∷ [] → AllZip (IsFoundOf IsFound) (take (i + 1) asked) after
+found_on IsFound asked i ask found after one within is before h new =
+    rw new (subst (λ (k : List (Option IpAddr)). AllZip (IsFoundOf IsFound) k (found ++ one ∷ [])) (sym (taken asked i ask within is))
+    (zip_behind (IsFoundOf IsFound) (take i asked) found ask one before h))
+
+pub found_room : (IsFound : IpAddr → Option Answer → Type 0) (asked : List (Option IpAddr)) (i : ℕ) (found : List (Option (IpAddr × Option Answer))) → i < length asked
+    → length asked ≤ 64 → AllZip (IsFoundOf IsFound) (take i asked) found → length found < 64
+found_room IsFound asked i found within room before =
+    omega (arith, within, room, length-take i asked, zip_length (IsFoundOf IsFound) (take i asked) found before)
+
+found_at : (IsFound : IpAddr → Option Answer → Type 0) (ask : Option IpAddr) (one : Option (IpAddr × Option Answer)) → IsFoundOf IsFound ask one
+    → IfSome one (λ (pair : IpAddr × Option Answer). IsFound pair.0 pair.1)
+found_at IsFound (Some address) (Some (other, one)) h = subst (λ (k : IpAddr). IsFound k one) (sym h.0) h.1
+found_at IsFound None None h = tt
+found_at IsFound (Some address) None h = absurd h
+found_at IsFound None (Some one) h = absurd h
+
+pub all_found : (IsFound : IpAddr → Option Answer → Type 0) (asked : List (Option IpAddr)) (found : List (Option (IpAddr × Option Answer)))
+    → AllZip (IsFoundOf IsFound) asked found → AreFound IsFound found
+all_found IsFound [] [] h = All-nil (λ one. IfSome one (λ (pair : IpAddr × Option Answer). IsFound pair.0 pair.1))
+all_found IsFound [] (one ∷ found) h = absurd h
+all_found IsFound (ask ∷ asked) [] h = absurd h
+all_found IsFound (ask ∷ asked) (one ∷ found) h =
+    All-cons (λ one. IfSome one (λ (pair : IpAddr × Option Answer). IsFound pair.0 pair.1)) one found (found_at IsFound ask one h.0) (all_found IsFound asked found h.1)
+
+-- the addresses that were asked
+abbrev pub asked_in : List (Option (IpAddr × Option Answer)) → List (Option IpAddr)
+asked_in = map (option_map (λ one. one.0))
+
+pub same_asked : (IsFound : IpAddr → Option Answer → Type 0) (asked : List (Option IpAddr)) (found : List (Option (IpAddr × Option Answer)))
+    → AllZip (IsFoundOf IsFound) asked found → map (option_map (λ (one : IpAddr × Option Answer). one.0)) found ≡ asked
+same_asked IsFound [] [] h = refl
+same_asked IsFound [] (one ∷ found) h = absurd h
+same_asked IsFound (ask ∷ asked) [] h = absurd h
+same_asked IsFound (Some address ∷ asked) (Some (other, one) ∷ found) h =
+    ap (λ (k : IpAddr). Some k ∷ map (option_map (λ (one : IpAddr × Option Answer). one.0)) found) h.0.0
+    ∙ ap (λ (k : List (Option IpAddr)). Some address ∷ k) (same_asked IsFound asked found h.1)
+same_asked IsFound (None ∷ asked) (None ∷ found) h = ap (λ (k : List (Option IpAddr)). None ∷ k) (same_asked IsFound asked found h.1)
+same_asked IsFound (Some address ∷ asked) (None ∷ found) h = absurd h.0
+same_asked IsFound (None ∷ asked) (Some one ∷ found) h = absurd h.0
+
+-- ---- their lines
+pub one_pushed : (table : Family → List (List Bool × List ℕ)) (address : IpAddr) (s t : State) (b c : List ℕ) (r : Result Bool OutputFailed) → LooksUp table address s t b c r
+    → LooksOne table (Some address) s t b c r
+one_pushed table address s t b c (Ok hit) (row, looked, collects, tells) = (Some (record { address = address; found = row }), (refl, looked), collects, tells)
+one_pushed table address s t b c (Err e) (row, looked, part) = (Some (record { address = address; found = row }), (refl, looked), part)
+
+one_collected : (s t u : State) (b c d : List ℕ) (looks : List (Option LookUp)) (look : Option LookUp) (r : Result (Unit {0}) OutputFailed) → Collects s t b c (flat_map look_line looks) (Ok tt)
+    → Collects t u c d (look_line look) r → Collects s u b d (flat_map look_line (looks ++ look ∷ [])) r
+one_collected s t u b c d looks look r first more =
+    subst (λ (k : List ℕ). Collects s u b d k r) (flat_map_more look_line [] looks look)
+    (collected_more s t u b c d (flat_map look_line looks) (look_line look) r first more)
+
+module _ (table : Family → List (List Bool × List ℕ)) (found : List (Option (IpAddr × Option Answer))) (i : ℕ) (one : Option (IpAddr × Option Answer)) (s t u : State) (b c d : List ℕ)
+    (any : Bool) (within : i < length found) (is : one ≡ get_or found i one) (before : LooksEach table (asked_in (take i found)) s t b c (Ok any)) where
+  asked_more : asked_in (take (i + 1) found) ≡ asked_in (take i found) ++ option_map (λ (k : IpAddr × Option Answer). k.0) one ∷ []
+  asked_more = ap asked_in (taken found i one within is) ∙ map-append (option_map (λ (k : IpAddr × Option Answer). k.0)) (take i found) (one ∷ [])
+
+  looked_more : (look : Option LookUp) → AskLooks table (option_map (λ (k : IpAddr × Option Answer). k.0) one) look
+      → AllZip (AskLooks table) (asked_in (take (i + 1) found)) (before.0 ++ look ∷ [])
+  looked_more look h =
+      subst (λ (k : List (Option IpAddr)). AllZip (AskLooks table) k (before.0 ++ look ∷ [])) (sym asked_more)
+      (zip_behind (AskLooks table) (asked_in (take i found)) before.0 (option_map (λ (k : IpAddr × Option Answer). k.0) one) look before.1 h)
+
+  pub each_on : (hit after : Bool) → LooksOne table (option_map (λ (k : IpAddr × Option Answer). k.0) one) t u c d (Ok hit) → after ≡ (any || hit)
+      → LooksEach table (asked_in (take (i + 1) found)) s u b d (Ok after)
+  each_on hit after (look, looked, collects, tells) or = (
+    before.0 ++ look ∷ [],
+    looked_more look looked,
+    one_collected s t u b c d before.0 look (Ok tt) before.2 collects,
+    hits_more before.0 (look ∷ []) hit any after before.3 (tells ∙ or_none (is_found look)) or,
+  )
+
+  pub each_failed : (y e : OutputFailed) (r : Result Bool OutputFailed) → r ≡ Err y → y ≡ e → LooksOne table (option_map (λ (k : IpAddr × Option Answer). k.0) one) t u c d (Err e)
+      → LooksEach table (asked_in found) s u b d r
+  each_failed y e r is same (look, looked, part) = subst (LooksEach table (asked_in found) s u b d) (sym (is ∙ ap unwritten same)) (
+    asked_in (take (i + 1) found),
+    asked_in (drop (i + 1) found),
+    ap asked_in (sym (take-append-drop (i + 1) found)) ∙ map-append (option_map (λ (k : IpAddr × Option Answer). k.0)) (take (i + 1) found) (drop (i + 1) found),
+    before.0 ++ look ∷ [],
+    looked_more look looked,
+    one_collected s t u b c d before.0 look (Err e) before.2 part,
+  )
+
+-- ---- lines
+pub looked_on : (table : Family → List (List Bool × List ℕ)) (contents left next : Option (List ℕ)) (s t u : State) (b c d : List ℕ) (found hit any : Bool) (number after : ℕ)
+    (asked : List (Option IpAddr)) → Looking table contents left s t b c found number → AsksLines number left next asked (Ok (Some after))
+    → LooksEach table asked t u c d (Ok hit) → any ≡ (found || hit) → Looking table contents next s u b d any after
+looked_on table contents left next s t u b c d found hit any number after asked l asks (looks, looked, collects, tells) is = record {
+  looks = l.looks ++ looks;
+  collected = group_collected s t u b c d l.looks looks (Ok tt) l.collected collects;
+  hit = hits_more l.looks looks hit found any l.hit tells is;
+  passed = group_passed table contents left next l.looks looks asked number after asks.0 l.passed asks.1 looked;
 }
 
-all_read : (table : Family → List (List Bool × List ℕ)) (contents left next : Option (List ℕ)) (looks : List (Option LookUp)) (number : ℕ) (line : List ℕ) (more : Bool) (look : Option LookUp)
-    → more ≡ false → IfSome contents (λ text. Passed (LineLooks table) text left looks number) → IfSome left (λ text. IsNextLine text line more next) → LineLooks table line look
-    → IfSome contents (λ text. AllZip (LineLooks table) (lines_of text) (looks ++ look ∷ []))
-all_read table None left next looks number line more look is p n says = tt
-all_read table (Some text) left next looks number line more look is p n says = all_passed (LineLooks table) text left next looks number line more look is p n says
-
-pub looked_at_all : (table : Family → List (List Bool × List ℕ)) (contents left next : Option (List ℕ)) (s t u : State) (b c d : List ℕ) (found hit after : Bool) (number : ℕ)
-    (line : List ℕ) (more : Bool) → more ≡ false → Looking table contents left s t b c found number → IfSome left (λ text. IsNextLine text line more next)
-    → LooksLine table line number t u c d (Ok hit) → IsEither hit found after → LooksLines table contents s u b d (Ok after)
-looked_at_all table contents left next s t u b c d found hit after number line more is l n (look, says, collects, tells) either = (
-  l.looks ++ look ∷ [],
-  one_collected s t u b c d l.looks look l.collected collects,
-  hit_more l.looks look hit found after l.hit tells either,
-  all_read table contents left next l.looks number line more look is l.passed n says,
+pub looked_at_all : (table : Family → List (List Bool × List ℕ)) (contents left next : Option (List ℕ)) (s t u : State) (b c d : List ℕ) (found hit any : Bool) (number : ℕ)
+    (asked : List (Option IpAddr)) → Looking table contents left s t b c found number → AsksLines number left next asked (Ok None)
+    → LooksEach table asked t u c d (Ok hit) → any ≡ (found || hit) → LooksLines table contents s u b d (Ok any)
+looked_at_all table contents left next s t u b c d found hit any number asked l asks (looks, looked, collects, tells) is = (
+  l.looks ++ looks,
+  group_collected s t u b c d l.looks looks (Ok tt) l.collected collects,
+  hits_more l.looks looks hit found any l.hit tells is,
+  group_all table contents left l.looks looks asked number l.passed asks looked,
 )
+
+pub looking_ended : (table : Family → List (List Bool × List ℕ)) (contents left next : Option (List ℕ)) (s t u : State) (b c d : List ℕ) (found hit : Bool) (number : ℕ)
+    (asked : List (Option IpAddr)) (e : ReadError) → Looking table contents left s t b c found number → AsksLines number left next asked (Err e)
+    → LooksEach table asked t u c d (Ok hit) → LooksLines table contents s u b d (Err (Reading e))
+looking_ended table contents left next s t u b c d found hit number asked e l asks (looks, looked, collects, tells) = (
+  l.looks ++ looks,
+  group_collected s t u b c d l.looks looks (Ok tt) l.collected collects,
+  group_ended table contents left l.looks looks asked number e l.passed asks.0 asks.1 looked,
+)
+
+-- a line of a group was lost
+pub looking_lost : (table : Family → List (List Bool × List ℕ)) (contents left next : Option (List ℕ)) (s t u : State) (b c d : List ℕ) (found : Bool) (number : ℕ)
+    (asked : List (Option IpAddr)) (read : Result (Option ℕ) ReadError) (f : OutputFailed) (r : Result Bool LookError) → r ≡ Err Output
+    → Looking table contents left s t b c found number → AsksLines number left next asked read → LooksEach table asked t u c d (Err f) → LooksLines table contents s u b d r
+looking_lost table contents left next s t u b c d found number asked read f r is l asks (first, behind, cut, looks, looked, part) =
+    subst (LooksLines table contents s u b d) (sym is) (
+      l.looks ++ looks,
+      group_collected s t u b c d l.looks looks (Err f) l.collected part,
+      group_first table contents left l.looks looks asked first behind number l.passed (first_asked number left next asked read asks) cut looked,
+    )
 
 -- ---- where the lines end early
 first_read : (table : Family → List (List Bool × List ℕ)) (contents left : Option (List ℕ)) (looks : List (Option LookUp)) (number : ℕ)
@@ -245,43 +328,6 @@ pub looking_stopped : (table : Family → List (List Bool × List ℕ)) (content
 looking_stopped table contents left s t b c found number r e is stopped l =
     subst (LooksLines table contents s t b c) (sym is)
     (l.looks, l.collected, stopped_read table contents l.looks e stopped (first_read table contents left l.looks number l.passed))
-
-error_read : (table : Family → List (List Bool × List ℕ)) (contents left next : Option (List ℕ)) (looks : List (Option LookUp)) (number : ℕ) (line : List ℕ) (more : Bool) (e : ReadError)
-    → IfSome contents (λ text. Passed (LineLooks table) text left looks number) → IfSome left (λ text. IsNextLine text line more next)
-    → IsErrorAt IsBadLine line number e → IfSome contents (λ text. EndsReading table text looks e)
-error_read table None left next looks number line more e p n bad = tt
-error_read table (Some text) left next looks number line more (Line m e) p n bad =
-    error_passed (LineLooks table) IsBadLine text left next looks number line more m e p n bad.0 bad.1
-error_read table (Some text) left next looks number line more Input p n bad = first_passed (LineLooks table) text left looks number p
-error_read table (Some text) left next looks number line more NoMemory p n bad = first_passed (LineLooks table) text left looks number p
-
-front_read : (table : Family → List (List Bool × List ℕ)) (contents left next : Option (List ℕ)) (looks : List (Option LookUp)) (number : ℕ) (line : List ℕ) (more : Bool) (look : Option LookUp)
-    → IfSome contents (λ text. Passed (LineLooks table) text left looks number) → IfSome left (λ text. IsNextLine text line more next) → LineLooks table line look
-    → IfSome contents (λ text. AreFirstSaid (LineLooks table) text (looks ++ look ∷ []))
-front_read table None left next looks number line more look p n says = tt
-front_read table (Some text) left next looks number line more look p n says = one_more_passed (LineLooks table) text left next looks number line more look p n says
-
-looking_error : (table : Family → List (List Bool × List ℕ)) (contents left next : Option (List ℕ)) (s t u : State) (b c d : List ℕ) (found : Bool) (number : ℕ) (line : List ℕ) (more : Bool)
-    (e : LookError) → Looking table contents left s t b c found number → IfSome left (λ text. IsNextLine text line more next)
-    → LooksLine table line number t u c d (Err e) → LooksLines table contents s u b d (Err e)
-looking_error table contents left next s t u b c d found number line more (Reading e) l n (bad, collects) = (
-  l.looks,
-  subst (λ (k : List ℕ). Collects s u b d k (Ok tt)) (append-nil (flat_map look_line l.looks))
-      (collected_more s t u b c d (flat_map look_line l.looks) [] (Ok tt) l.collected collects),
-  error_read table contents left next l.looks number line more e l.passed n bad,
-)
-looking_error table contents left next s t u b c d found number line more Output l n (look, says, part) = (
-  l.looks ++ look ∷ [],
-  subst (λ (k : List ℕ). Part s u (b ++ k)) (flat_map_more look_line [] l.looks look)
-      (collected_more s t u b c d (flat_map look_line l.looks) (look_line look) (Err (record {})) l.collected part),
-  front_read table contents left next l.looks number line more look l.passed n says,
-)
-
-pub looking_failed : (table : Family → List (List Bool × List ℕ)) (contents left next : Option (List ℕ)) (s t u : State) (b c d : List ℕ) (found : Bool) (number : ℕ) (line : List ℕ)
-    (more : Bool) (r : Result Bool LookError) (y e : LookError) → r ≡ Err y → y ≡ e → Looking table contents left s t b c found number
-    → IfSome left (λ text. IsNextLine text line more next) → LooksLine table line number t u c d (Err e) → LooksLines table contents s u b d r
-looking_failed table contents left next s t u b c d found number line more r y e is same l n h =
-    subst (LooksLines table contents s u b d) (sym (is ∙ ap failing same)) (looking_error table contents left next s t u b c d found number line more e l n h)
 
 -- ---- all lines written
 -- what was collected behind nothing, and then written

@@ -1,7 +1,7 @@
 -- What functions that read a table and look addresses up promise.
-use Rattle.std.specs.Prelude.{◌≡◌, ℕ, ◌+◌, Bool, true, false, List, [], ◌∷◌, ◌++◌, length, is_some, Option, Some, None, IfSome, Result, Ok, Err}
+use Rattle.std.specs.Prelude.{◌≡◌, ℕ, ◌+◌, ◌≤◌, Bool, true, false, List, [], ◌∷◌, ◌++◌, length, take, is_some, Option, Some, None, option_map, IfSome, Result, Ok, Err}
 use Rattle.std.specs.Borrow.{Bor}
-use Rattle.std.specs.List.{AllZip, flat_map, list_any}
+use Rattle.std.specs.List.{All, AllZip, flat_map, list_any}
 use Rattle.cidr.specs.either.IpAddress.{address_family, plain_bits}
 use Rattle.cidr.specs.declared.addr.ip.IpAddr.{IpAddr}
 use Rattle.cidr.specs.declared.cidr.combined.IpCidr.{IpCidr}
@@ -10,9 +10,9 @@ use Rattle.cidr_io.specs.Writing.{State, Part, Answered}
 use Rattle.cidr_io.specs.declared.sink.OutputFailed.{OutputFailed}
 use Rattle.cidr_table.specs.model.Prefixes.{IsLookedUp}
 use Rattle.cidr_io.specs.Collecting.{Collects}
-use Rattle.cidr_lists.specs.Lists.{Text, lines_of}
-use Rattle.cidr_lists.specs.Fields.{IsBadLine, IsBadRow}
-use Rattle.cidr_lists.specs.Tables.{IsTable, RowSays, Stores, Pushes, kept}
+use Rattle.cidr_lists.specs.Lists.{IsTooLong, Text, lines_of}
+use Rattle.cidr_lists.specs.Fields.{AddressSays, IsBadLine, IsBadRow}
+use Rattle.cidr_lists.specs.Tables.{IsTable, RowSays, Stores, Pushes, kept, value_at}
 use Rattle.netset_commands.specs.Look.{IsUnreadTable}
 use Rattle.netset_commands.specs.Stored.{AreFileBytes, IsNoTable}
 use Rattle.cidr_lists.specs.LookUps.{LineLooks, LookUp, found_line, is_found, look_line}
@@ -26,10 +26,12 @@ use Rattle.netset_commands.specs.declared.errors.ReadError.{ReadError}
 use Rattle.netset_commands.specs.declared.errors.Reason.TheVariants.{Unknown}
 use Rattle.netset_commands.specs.declared.errors.ReadError.TheVariants.{Line, Input, NoMemory}
 use Rattle.netset_commands.specs.declared.input.begun.Given.{Given}
+use Rattle.netset_commands.specs.declared.input.table.Answer.{Answer}
 use Rattle.netset_commands.specs.declared.input.begun.Given.TheVariants.{Lines, Stored}
 use Rattle.netset_commands.specs.declared.commands.look.LookError.{LookError}
 use Rattle.netset_commands.specs.declared.commands.look.LookError.TheVariants.{Reading, Output}
 use Rattle.cidr_lists.specs.declared.rows.Rows.{Rows}
+use Rattle.cidr_lists.specs.declared.rows.Span.{Span}
 use Rattle.cidr_lists.specs.declared.table.Table.{Table}
 
 -- the row of a line, if it says one
@@ -123,14 +125,90 @@ abbrev pub PushesFound : List ℕ → Option (List ℕ × List ℕ) → State �
 PushesFound address row old new block rest (Ok found) = Collects old new block rest (found_line address row) (Ok tt) × (found ≡ is_some row)
 PushesFound address row old new block rest (Err e) = Part old new (block ++ found_line address row)
 
--- the address of a line was looked up, the same way; or the line is in error
-abbrev pub LooksLine : (Family → List (List Bool × List ℕ)) → List ℕ → ℕ → State → State → List ℕ → List ℕ → Result Bool LookError → Type 0
-LooksLine table line number old new block rest (Ok found) = (look : Option LookUp) × LineLooks table line look
+-- what stands for a row: the first bits of the address, and the bytes of the value
+abbrev pub answer_of : ℕ → Span → Answer
+answer_of len value = record { len = len; value = value }
+
+abbrev pub answer_row : List ℕ → IpAddr → Answer → List Bool × List ℕ
+answer_row values address answer = (take answer.len (plain_bits address), value_at values answer.value)
+
+-- this is what a table has of an address
+abbrev pub IsAnswer : Table → IpAddr → Option Answer → Type 0
+IsAnswer table address found = IsLookedUp (λ (p : List Bool). p) (plain_bits address) (kept table (address_family address))
+    (option_map (answer_row table.values.items address) found)
+
+-- a line that is not too long has this address, or says nothing
+abbrev pub LineAsks : List ℕ → Option IpAddr → Type 0
+LineAsks line asked = ¬ (IsTooLong line) × AddressSays line asked
+
+-- the same, or its error
+abbrev pub AsksAddress : List ℕ → Result (Option IpAddr) LineError → Type 0
+AsksAddress line (Ok asked) = LineAsks line asked
+AsksAddress line (Err e) = IsBadLine line e
+
+-- it comes behind those of other lines; or the line is in error
+abbrev pub AsksLine : List ℕ → List (Option IpAddr) → List (Option IpAddr) → Result (Unit {0}) LineError → Type 0
+AsksLine line old new (Ok _) = (asked : Option IpAddr) × LineAsks line asked × (new ≡ old ++ asked ∷ [])
+AsksLine line old new (Err e) = IsBadLine line e × (new ≡ old)
+
+-- the first lines of a text say this, and this is left of it
+pub record AreReadBefore {S : Type 0} (Says : List ℕ → S → Type 0) (text : List ℕ) (left : Option (List ℕ)) (said : List S) : Type 0 where
+  pub rest : List ℕ
+  pub known : left ≡ Some rest
+  pub before : List (List ℕ)
+  pub lines : lines_of text ≡ before ++ lines_of rest
+  pub size : length rest ≤ length text
+  pub fine : AllZip Says before said
+
+-- why a text is not read further behind the lines that have these
+abbrev pub EndsAsking : List ℕ → List (Option IpAddr) → ReadError → Type 0
+EndsAsking text asked (Line number e) = AreBeforeError LineAsks IsBadLine text asked (length asked + 1) e
+EndsAsking text asked Input = AreFirstSaid LineAsks text asked
+EndsAsking text asked NoMemory = AreFirstSaid LineAsks text asked
+
+-- the line in error is the one behind these, the first of which has this number
+abbrev pub IsErrorBehind : ℕ → List (Option IpAddr) → ReadError → Type 0
+IsErrorBehind first asked (Line number e) = number ≡ first + length asked
+IsErrorBehind first asked Input = Unit {0}
+IsErrorBehind first asked NoMemory = Unit {0}
+
+-- lines from the one of a number on have these addresses, up to the line of another number, to the end, or to an error
+abbrev pub AsksLines : ℕ → Option (List ℕ) → Option (List ℕ) → List (Option IpAddr) → Result (Option ℕ) ReadError → Type 0
+AsksLines first old new asked (Ok (Some number)) = (number ≡ first + length asked) × IfSome old (λ text. AreReadBefore LineAsks text new asked)
+AsksLines first old new asked (Ok None) = IfSome old (λ text. AllZip LineAsks (lines_of text) asked)
+AsksLines first old new asked (Err e) = IsErrorBehind first asked e × IfSome old (λ text. EndsAsking text asked e)
+
+-- what was found of the address that a line has
+abbrev pub IsFoundOf : (IpAddr → Option Answer → Type 0) → Option IpAddr → Option (IpAddr × Option Answer) → Type 0
+IsFoundOf IsFound (Some address) (Some (other, found)) = (other ≡ address) × IsFound address found
+IsFoundOf IsFound None None = Unit {0}
+IsFoundOf IsFound (Some address) None = ⊥
+IsFoundOf IsFound None (Some found) = ⊥
+
+-- all of it was found
+abbrev pub AreFound : (IpAddr → Option Answer → Type 0) → List (Option (IpAddr × Option Answer)) → Type 0
+AreFound IsFound found = All (λ one. IfSome one (λ (pair : IpAddr × Option Answer). IsFound pair.0 pair.1)) found
+
+-- the address that a line has was looked up
+abbrev pub AskLooks : (Family → List (List Bool × List ℕ)) → Option IpAddr → Option LookUp → Type 0
+AskLooks table (Some address) (Some look) = (look.address ≡ address)
+    × IsLookedUp (λ (p : List Bool). p) (plain_bits address) (table (address_family address)) look.found
+AskLooks table None None = Unit {0}
+AskLooks table (Some address) None = ⊥
+AskLooks table None (Some look) = ⊥
+
+-- it was looked up, and its line was collected, or a beginning of what is collected was written
+abbrev pub LooksOne : (Family → List (List Bool × List ℕ)) → Option IpAddr → State → State → List ℕ → List ℕ → Result Bool OutputFailed → Type 0
+LooksOne table asked old new block rest (Ok found) = (look : Option LookUp) × AskLooks table asked look
     × Collects old new block rest (look_line look) (Ok tt) × (found ≡ is_found look)
-LooksLine table line number old new block rest (Err (Reading e)) =
-    IsErrorAt IsBadLine line number e × Collects old new block rest [] (Ok tt)
-LooksLine table line number old new block rest (Err Output) =
-    (look : Option LookUp) × LineLooks table line look × Part old new (block ++ look_line look)
+LooksOne table asked old new block rest (Err e) = (look : Option LookUp) × AskLooks table asked look × Part old new (block ++ look_line look)
+
+-- the addresses of lines were looked up one after the other, the same way
+abbrev pub LooksEach : (Family → List (List Bool × List ℕ)) → List (Option IpAddr) → State → State → List ℕ → List ℕ → Result Bool OutputFailed → Type 0
+LooksEach table asked old new block rest (Ok found) = (looks : List (Option LookUp)) × AllZip (AskLooks table) asked looks
+    × Collects old new block rest (flat_map look_line looks) (Ok tt) × (found ≡ list_any is_found looks)
+LooksEach table asked old new block rest (Err e) = (first : List (Option IpAddr)) × (behind : List (Option IpAddr)) × (asked ≡ first ++ behind)
+    × (looks : List (Option LookUp)) × AllZip (AskLooks table) first looks × Part old new (block ++ flat_map look_line looks)
 
 -- why no more lines are read
 abbrev pub EndsReading : (Family → List (List Bool × List ℕ)) → List ℕ → List (Option LookUp) → ReadError → Type 0

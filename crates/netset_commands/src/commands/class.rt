@@ -1,8 +1,5 @@
 //! What addresses are for, by the registries of IANA.
-ghost use Rattle.std.specs.Prelude.{◌≡◌, ◌≤◌, length, take, IfErr};
-ghost use Rattle.cidr.specs.either.IpAddress.{address_family, plain_bits};
-ghost use Rattle.cidr.specs.model.Network.{width_of};
-ghost use Rattle.cidr.specs.texts.Printed.{plain_text};
+ghost use Rattle.std.specs.Prelude.{◌≡◌, ◌≤◌, length, IfErr};
 ghost use Rattle.netset_commands.specs.Causes.{Cause, FileMayFail};
 ghost use Rattle.netset_commands.specs.Class.{HasClass, IsClassLine, IsNoAddressText, entry_text, purpose_name, reach_name};
 ghost use Rattle.netset_commands.specs.Commands.{Class};
@@ -11,10 +8,10 @@ ghost use Rattle.netset_commands.specs.Program.{AnswersRequest};
 use crate::commands::look::{LookError, look_all, verdict_of};
 use crate::errors::{ArgumentError, CommandError};
 use crate::input::files::Sources;
-use crate::input::table::{LookUps, unread};
+use crate::input::table::{Answer, LookUps, block_text, unread};
 use crate::output::answers::{Verdict, by_output};
 use arrayvec::ArrayString;
-use cidr::{BitString, IpAddr, Ipv4Cidr, Ipv6Cidr};
+use cidr::IpAddr;
 use cidr_ext::{Purpose, SpecialAddress, SpecialEntry};
 use cidr_io::block::Block;
 use cidr_io::lines::LineReader;
@@ -95,26 +92,6 @@ fn entry_text(entry: &SpecialEntry) -> ArrayString<64>
     text
 }
 
-/// The network of the first bits of an address, as it is printed.
-fn block_text(address: &IpAddr, len: u8) -> ArrayString<43>
-    ensures bytes { result.bytes ≡ plain_text (address_family address.now) (take len (plain_bits address.now)) }
-    ensures len { length result.bytes ≤ 43 }
-    ensures wide { length (plain_bits address.now) ≡ width_of (address_family address.now) }
-{
-    match address {
-        IpAddr::V4(address) => {
-            let mut network = Ipv4Cidr::new_host(*address);
-            network.clip(usize::from(len));
-            network.to_text()
-        }
-        IpAddr::V6(address) => {
-            let mut network = Ipv6Cidr::new_host(*address);
-            network.clip(usize::from(len));
-            network.to_text()
-        }
-    }
-}
-
 /// The block of an address and what is told of its entry, or a hyphen, and whether it has one.
 fn class_text(address: &IpAddr) -> (ArrayString<108>, bool)
     ensures class { HasClass address.now result.0.bytes result.1 }
@@ -156,10 +133,16 @@ impl LookUps for Registries {
     ghost use Rattle.netset_commands.specs.Class.{registry};
 
     ghost rows = { λ _. registry };
+    ghost is_found = { λ _ _ _. Unit {0} };
 
-    fn look_up<S: Sink>(
+    fn find(&self, _address: &IpAddr) -> Option<Answer> {
+        None
+    }
+
+    fn push<S: Sink>(
         &self,
         address: &IpAddr,
+        _found: Option<Answer>,
         block: &mut Block,
         out: &mut S,
     ) -> Result<bool, OutputFailed> {

@@ -1,8 +1,10 @@
 //! The longest networks of addresses.
-ghost use Rattle.std.specs.Prelude.{◌≡◌, List, ℕ, IfErr, Some, false};
-ghost use Rattle.netset_commands.specs.Causes.{Cause, LookCause, FileMayFail, TextFails};
+ghost use Rattle.std.specs.Prelude.{◌≡◌, ◌<◌, ◌≤◌, ◌⊎◌, List, [], ℕ, length, map, IfErr, IfOk, IfSome, Some, false, option_map};
+ghost use Rattle.std.specs.List.{AllZip};
+ghost use Rattle.cidr_io.specs.Lines.{MayFail as NoLineFails};
+ghost use Rattle.netset_commands.specs.Causes.{Cause, LookCause, FileMayFail, ReadCause, TextFails};
 ghost use Rattle.netset_commands.specs.Commands.{Look};
-ghost use Rattle.netset_commands.specs.LookUps.{LooksAll, LooksLine, LooksLines, verdict_of};
+ghost use Rattle.netset_commands.specs.LookUps.{AreFound, AsksAddress, AsksLine, AsksLines, IsFoundOf, LooksAll, LooksEach, LooksLines, LooksOne, verdict_of};
 ghost use Rattle.cidr_lists.specs.Lists.{Text};
 ghost use Rattle.netset_commands.specs.Compiled.{SaysTable};
 ghost use Rattle.netset_commands.specs.Program.{AnswersRequest};
@@ -11,15 +13,17 @@ use crate::errors::{CommandError, ReadError};
 use crate::input::begun::Given;
 use crate::input::files::Sources;
 use crate::input::stored::Stored;
-use crate::input::table::{LookUps, give_table, unread};
+use crate::input::table::{Answer, LookUps, give_table, unread};
 use crate::output::answers::Verdict;
 use crate::output::printing::catch_up;
+use arrayvec::ArrayVec;
+use cidr::IpAddr;
 use cidr_io::block::Block;
-use cidr_io::lines::{LineReader, ReadError as NoLine, is_too_long};
+use cidr_io::lines::{LineReader, is_too_long};
 use cidr_io::memory::Memory;
 use cidr_io::sink::{OutputFailed, Sink};
 use cidr_io::source::Source;
-use cidr_lists::columns::{address_in, split_line};
+use cidr_lists::columns::address_of;
 use cidr_lists::errors::LineError;
 
 /// Why look-ups end early.
@@ -29,18 +33,6 @@ pub enum LookError {
     Reading(ReadError),
     /// The output has failed.
     Output,
-}
-
-impl From<NoLine> for LookError {
-    ghost use Rattle.std.specs.Prelude.{◌≡◌};
-    ghost use Rattle.netset_commands.specs.Reading.{read_error};
-    ghost use Rattle.netset_commands.specs.declared.commands.look.LookError.TheVariants.{Reading};
-
-    ghost from_gives = { λ e look. look ≡ Reading (read_error e) };
-
-    fn from(error: NoLine) -> LookError {
-        LookError::Reading(ReadError::from(error))
-    }
 }
 
 impl From<OutputFailed> for LookError {
@@ -54,31 +46,134 @@ impl From<OutputFailed> for LookError {
     }
 }
 
-/// Looks up the address of a line, if it has one, and appends its line to a block; tells whether a network has it.
-fn look_line<T: LookUps, S: Sink>(
-    table: &T,
-    number: u64,
-    line: &[u8],
-    block: &mut Block,
-    out: &mut S,
-) -> Result<bool, LookError>
-    ensures looks { LooksLine (T.rows table.now) line.now number (S.state out.old) (S.state out.new)
-        block.old block.new result }
-    ensures cause { IfErr result (LookCause ⊥ false) }
+/// How many addresses are looked up before their lines are printed.
+const GROUP: usize = 64;
+
+/// The address of a line; a line that is too long is in error.
+fn address_asked(line: &[u8]) -> Result<Option<IpAddr>, LineError>
+    ensures { AsksAddress line.now result }
 {
     if is_too_long(line) {
-        return Err(LookError::Reading(ReadError::Line(number, LineError::TooLong)));
+        return Err(LineError::TooLong);
     }
-    let Some((first, _)) = split_line(line) else {
-        return Ok(false);
-    };
-    match address_in(first) {
+    address_of(line)
+}
+
+/// Adds the address of a line to those of others, or that it has none.
+fn ask_line(line: &[u8], asked: &mut ArrayVec<Option<IpAddr>, GROUP>) -> Result<(), LineError>
+    requires { length asked.old.items < 64 }
+    ensures { AsksLine line.now asked.old.items asked.new.items result }
+{
+    match address_asked(line) {
         Ok(address) => {
-            let found = table.look_up(&address, block, out)?;
-            Ok(found)
+            asked.push(address);
+            Ok(())
         }
-        Err(e) => Err(LookError::Reading(ReadError::Line(number, e))),
+        Err(e) => Err(e),
     }
+}
+
+/// Reads lines from the one of a number on, and adds the address of each: of as many lines as there is room for, and only
+/// of lines that are read already behind the first. Returns the number of the next line, if there is one.
+fn read_group<M: Memory, R: Source + Drop>(
+    memory: &mut M,
+    first: u64,
+    reader: &mut LineReader<R>,
+    asked: &mut ArrayVec<Option<IpAddr>, GROUP>,
+) -> Result<Option<u64>, ReadError>
+    requires { asked.old.items ≡ [] }
+    ensures asks { AsksLines first reader.old.left reader.new.left asked.new.items result }
+    ensures onward { IfOk result (λ next. IfSome next (λ number. (number ≡ 18446744073709551615) ⊎ (first < number))) }
+    ensures cause { IfErr result (ReadCause (NoLineFails reader.old.left) (M.refused memory.new)) }
+{
+    for number in first..u64::MAX {
+        if asked.is_full() || (number > first && !reader.has_line()) {
+            return Ok(Some(number));
+        }
+        let has_more = reader.read_line(memory)?;
+        if let Err(e) = ask_line(reader.line(), asked) {
+            return Err(ReadError::Line(number, e));
+        }
+        if !has_more {
+            return Ok(None);
+        }
+    }
+    Ok(Some(u64::MAX))
+}
+
+/// The address that a line asks, if there is one, with what is found of it.
+fn found_of<T: LookUps>(table: &T, ask: &Option<IpAddr>) -> Option<(IpAddr, Option<Answer>)>
+    ensures { IsFoundOf (T.is_found table.now) ask.now result }
+{
+    match ask {
+        Some(address) => Some((*address, table.find(address))),
+        None => None,
+    }
+}
+
+/// The same of many lines.
+fn find_each<T: LookUps>(
+    table: &T,
+    asked: &[Option<IpAddr>],
+) -> ArrayVec<Option<(IpAddr, Option<Answer>)>, GROUP>
+    requires { length asked.now ≤ 64 }
+    ensures { AllZip (IsFoundOf (T.is_found table.now)) asked.now result.items }
+{
+    let mut found = ArrayVec::new();
+    for ask in asked {
+        found.push(found_of(table, ask));
+    }
+    found
+}
+
+/// Appends the line of an address, if there is one, to a block, by what was found of it; tells whether a network has it.
+fn push_one<T: LookUps, S: Sink>(
+    table: &T,
+    found: &Option<(IpAddr, Option<Answer>)>,
+    block: &mut Block,
+    out: &mut S,
+) -> Result<bool, OutputFailed>
+    requires { IfSome found.now (λ one. T.is_found table.now one.0 one.1) }
+    ensures { LooksOne (T.rows table.now) (option_map (λ one. one.0) found.now) (S.state out.old) (S.state out.new)
+        block.old block.new result }
+{
+    match found {
+        Some((address, found)) => table.push(address, *found, block, out),
+        None => Ok(false),
+    }
+}
+
+/// Appends the lines of addresses to a block, by what was found of them; tells whether a network has one of them.
+fn push_each<T: LookUps, S: Sink>(
+    table: &T,
+    found: &[Option<(IpAddr, Option<Answer>)>],
+    block: &mut Block,
+    out: &mut S,
+) -> Result<bool, OutputFailed>
+    requires { AreFound (T.is_found table.now) found.now }
+    ensures { LooksEach (T.rows table.now) (map (option_map (λ one. one.0)) found.now) (S.state out.old) (S.state out.new)
+        block.old block.new result }
+{
+    let mut any = false;
+    for one in found {
+        let hit = push_one(table, one, block, out)?;
+        any = any || hit;
+    }
+    Ok(any)
+}
+
+/// Looks addresses up, and appends their lines to a block; tells whether a network has one of them.
+fn look_each<T: LookUps, S: Sink>(
+    table: &T,
+    asked: &[Option<IpAddr>],
+    block: &mut Block,
+    out: &mut S,
+) -> Result<bool, OutputFailed>
+    requires { length asked.now ≤ 64 }
+    ensures { LooksEach (T.rows table.now) asked.now (S.state out.old) (S.state out.new) block.old block.new result }
+{
+    let found = find_each(table, asked);
+    push_each(table, found.as_slice(), block, out)
 }
 
 /// Looks up the address of each line, to the end or to the first line in error, and appends their lines to a block, which
@@ -95,15 +190,19 @@ fn look_lines<T: LookUps, M: Memory, R: Source + Drop, S: Sink>(
     ensures cause { IfErr result (LookCause (TextFails reader.old.left) (M.refused memory.new)) }
 {
     let mut found = false;
-    for number in 1..u64::MAX {
+    let mut number = 1;
+    while number < u64::MAX {
         catch_up(reader, block, out)?;
-        let has_more = reader.read_line(memory)?;
-        let hit = look_line(table, number, reader.line(), block, out)?;
-        if hit {
-            found = true;
-        }
-        if !has_more {
-            return Ok(found);
+        let mut asked = ArrayVec::new();
+        let read = read_group(memory, number, reader, &mut asked);
+        let hit = look_each(table, asked.as_slice(), block, out)?;
+        found = found || hit;
+        match read {
+            Ok(next) => match next {
+                Some(next) => number = next,
+                None => return Ok(found),
+            },
+            Err(e) => return Err(LookError::Reading(e)),
         }
     }
     Err(LookError::Reading(ReadError::Input))

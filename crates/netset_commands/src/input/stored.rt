@@ -15,7 +15,7 @@ ghost use Rattle.netset_commands.specs.LookUps.{LooksUp};
 ghost use Rattle.netset_commands.specs.Stored.{ChecksFile, IsFaultTold, by_family, rows_in, told_in, told_of};
 
 use crate::errors::{CommandError, FileError};
-use crate::input::table::{LookUps, push_match, push_none};
+use crate::input::table::{Answer, LookUps, push_match, push_none};
 use cidr::{BitString, IpAddr, Ipv4Addr, Ipv4Cidr, Ipv6Addr, Ipv6Cidr};
 use cidr_arrays::Word;
 use cidr_files::{Family, Fault, Ipv4Bytes, Ipv6Bytes, Part, Table, TableFault, checked, lookup};
@@ -161,10 +161,16 @@ fn found_in<'a, W: Family, C: OfFile<W>>(part: &Part<'a>, address: W) -> Option<
 
 impl LookUps for Stored<'_> {
     ghost rows = { by_family };
+    ghost is_found = { λ _ _ _. Unit {0} };
 
-    fn look_up<S: Sink>(
+    fn find(&self, _address: &IpAddr) -> Option<Answer> {
+        None
+    }
+
+    fn push<S: Sink>(
         &self,
         address: &IpAddr,
+        _found: Option<Answer>,
         block: &mut Block,
         out: &mut S,
     ) -> Result<bool, OutputFailed> {
@@ -173,14 +179,14 @@ impl LookUps for Stored<'_> {
             IpAddr::V4(address) => {
                 let bytes = Ipv4Bytes::of(u128::from(address.to_bits()));
                 match found_in::<Ipv4Bytes, Ipv4Cidr>(&self.tables.ipv4, bytes) {
-                    Some(found) => push_match(block, out, text, &found.0, found.1),
+                    Some(found) => push_match(block, out, text, found.0.to_text(), found.1),
                     None => push_none(block, out, text),
                 }
             }
             IpAddr::V6(address) => {
                 let bytes = Ipv6Bytes::of(address.to_bits());
                 match found_in::<Ipv6Bytes, Ipv6Cidr>(&self.tables.ipv6, bytes) {
-                    Some(found) => push_match(block, out, text, &found.0, found.1),
+                    Some(found) => push_match(block, out, text, found.0.to_text(), found.1),
                     None => push_none(block, out, text),
                 }
             }

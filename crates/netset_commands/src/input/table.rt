@@ -1,11 +1,16 @@
 //! Reading tables, and the longest network of a table that an address is in.
-ghost use Rattle.std.specs.Prelude.{◌≡◌, Bool, List, ℕ, None, Some, option_copied, option_map, IfErr};
+ghost use Rattle.std.specs.Prelude.{◌≡◌, ◌≤◌, Bool, List, ℕ, Option, None, Some, length, take, option_copied, option_map, IfErr};
+ghost use Rattle.cidr.specs.declared.addr.ip.IpAddr.{IpAddr as Address};
 ghost use Rattle.cidr.specs.declared.family.Family.{Family};
+ghost use Rattle.cidr.specs.either.IpAddress.{address_family, plain_bits};
+ghost use Rattle.cidr.specs.model.Network.{width_of};
+ghost use Rattle.cidr.specs.texts.Printed.{plain_text};
 ghost use Rattle.cidr_io.specs.Collecting.{Collects};
 ghost use Rattle.netset_commands.specs.Causes.{Cause, FileMayFail};
 ghost use Rattle.cidr_lists.specs.LookUps.{found_line};
-ghost use Rattle.netset_commands.specs.LookUps.{GivesRows, GivesTable, LooksUp, PushesFound, ReadsFileRows, ReadsTable, unread};
-ghost use Rattle.cidr_lists.specs.Tables.{kept, value_at};
+ghost use Rattle.netset_commands.specs.LookUps.{GivesRows, GivesTable, IsAnswer, LooksUp, PushesFound, ReadsFileRows, answer_of, ReadsTable, unread};
+ghost use Rattle.cidr_lists.specs.Tables.{kept};
+ghost use Rattle.netset_commands.specs.declared.input.table.Answer.{Answer};
 
 use crate::errors::{CommandError, ReadError, Reason};
 use crate::input::begun::{Given, begin_file, read_whole};
@@ -13,48 +18,100 @@ use crate::input::files::Sources;
 use crate::input::keeping::Said;
 use crate::input::rows::read_rows;
 use arrayvec::ArrayString;
-use cidr::{IpAddr, Ipv4Cidr, Ipv6Cidr};
+use cidr::{BitString, IpAddr, Ipv4Cidr, Ipv6Cidr};
 use cidr_io::block::Block;
 use cidr_io::memory::Memory;
 use cidr_io::sink::{OutputFailed, Sink};
-use cidr_lists::printing::Printed;
 use cidr_lists::rows::{Rows, Span, value_of};
 use cidr_lists::table::Table;
+
+/// The longest network of a table that an address is in, by its length, and where its value stands.
+#[derive(Clone, Copy, Debug, Drop)]
+pub struct Answer {
+    len: u8,
+    value: Span,
+}
 
 /// A table in which addresses are looked up.
 pub trait LookUps {
     /// Its rows of each family.
     ghost rows: { Self → Family → List (List Bool × List ℕ) };
+    /// This was found of an address.
+    ghost is_found: { Self → Address → Option Answer → Type 0 };
 
-    /// Looks an address up and appends its line to a block; tells whether a network has it.
-    fn look_up<S: Sink>(
+    /// Finds what the line of an address takes of the table. For many addresses this is done one after the other, before
+    /// their lines are printed, so that their reads of memory don't wait for one another; a table for which that saves
+    /// nothing finds nothing here.
+    fn find(&self, address: &IpAddr) -> Option<Answer>
+        ensures { is_found self.now address.now result };
+
+    /// Appends the line of an address to a block, by what was found of it; tells whether a network has it.
+    fn push<S: Sink>(
         &self,
         address: &IpAddr,
+        found: Option<Answer>,
         block: &mut Block,
         out: &mut S,
     ) -> Result<bool, OutputFailed>
+        requires { is_found self.now address.now found }
         ensures { LooksUp (rows self.now) address.now (S.state out.old) (S.state out.new) block.old block.new result };
+}
+
+/// The answer that is a row.
+fn answer_of<C: BitString>(found: Option<&(C, Span)>) -> Option<Answer>
+    ensures { result ≡ option_map (λ row. answer_of (length (C.bits row.0)) row.1) (option_copied found.entry) }
+{
+    let (network, value) = found?;
+    Some(Answer {
+        len: network.len() as u8,
+        value: *value,
+    })
 }
 
 impl LookUps for Table {
     ghost rows = { kept };
+    ghost is_found = { IsAnswer };
 
-    fn look_up<S: Sink>(
+    fn find(&self, address: &IpAddr) -> Option<Answer> {
+        match address {
+            IpAddr::V4(address) => answer_of(self.v4.lookup(&Ipv4Cidr::new_host(*address))),
+            IpAddr::V6(address) => answer_of(self.v6.lookup(&Ipv6Cidr::new_host(*address))),
+        }
+    }
+
+    fn push<S: Sink>(
         &self,
         address: &IpAddr,
+        found: Option<Answer>,
         block: &mut Block,
         out: &mut S,
     ) -> Result<bool, OutputFailed> {
-        let text = address.to_text();
-        match address {
-            IpAddr::V4(address) => {
-                let found = self.v4.lookup(&Ipv4Cidr::new_host(*address));
-                push_found(block, out, text, self.values.as_slice(), found)
+        match found {
+            Some(answer) => {
+                let value = value_of(self.values.as_slice(), answer.value);
+                push_match(block, out, address.to_text(), block_text(address, answer.len), value)
             }
-            IpAddr::V6(address) => {
-                let found = self.v6.lookup(&Ipv6Cidr::new_host(*address));
-                push_found(block, out, text, self.values.as_slice(), found)
-            }
+            None => push_none(block, out, address.to_text()),
+        }
+    }
+}
+
+/// The network of the first bits of an address, as it is printed.
+pub fn block_text(address: &IpAddr, len: u8) -> ArrayString<43>
+    ensures bytes { result.bytes ≡ plain_text (address_family address.now) (take len (plain_bits address.now)) }
+    ensures len { length result.bytes ≤ 43 }
+    ensures wide { length (plain_bits address.now) ≡ width_of (address_family address.now) }
+{
+    match address {
+        IpAddr::V4(address) => {
+            let mut network = Ipv4Cidr::new_host(*address);
+            network.clip(usize::from(len));
+            network.to_text()
+        }
+        IpAddr::V6(address) => {
+            let mut network = Ipv6Cidr::new_host(*address);
+            network.clip(usize::from(len));
+            network.to_text()
         }
     }
 }
@@ -80,17 +137,17 @@ fn push_row<S: Sink>(
 }
 
 /// Appends the line of an address with its network and the value of that to a block.
-pub fn push_match<C: Printed, S: Sink>(
+pub fn push_match<S: Sink>(
     block: &mut Block,
     out: &mut S,
     address: ArrayString<39>,
-    network: &C,
+    network: ArrayString<43>,
     value: &[u8],
 ) -> Result<bool, OutputFailed>
-    ensures { PushesFound address.bytes (Some (C.text network.now, value.now))
+    ensures { PushesFound address.bytes (Some (network.bytes, value.now))
         (S.state out.old) (S.state out.new) block.old block.new result }
 {
-    push_row(block, out, address, network.printed(), value)?;
+    push_row(block, out, address, network, value)?;
     Ok(true)
 }
 
@@ -104,24 +161,6 @@ pub fn push_none<S: Sink>(
 {
     block.push_line(out, &[address.as_str().as_bytes(), b" -\n"])?;
     Ok(false)
-}
-
-/// Appends the line of an address to a block, with its network and the value of that; tells whether it has one.
-fn push_found<C: Printed, S: Sink>(
-    block: &mut Block,
-    out: &mut S,
-    address: ArrayString<39>,
-    values: &[u8],
-    found: Option<&(C, Span)>,
-) -> Result<bool, OutputFailed>
-    ensures { PushesFound address.bytes
-        (option_map (λ row. (C.text row.0, value_at values.now row.1)) (option_copied found.entry))
-        (S.state out.old) (S.state out.new) block.old block.new result }
-{
-    match found {
-        Some(row) => push_match(block, out, address, &row.0, value_of(values, row.1)),
-        None => push_none(block, out, address),
-    }
 }
 
 /// The error of reading a file.

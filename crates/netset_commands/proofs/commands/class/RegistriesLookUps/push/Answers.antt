@@ -1,6 +1,6 @@
 use Rattle.std.proofs.lemmas.Result.{err_from_is_err_and}
 use Rattle.netset_commands.proofs.Classed.{class_lost, class_pushed}
-use Rattle.netset_commands.proofs.commands.class.RegistriesLookUps.look_up.Goals as goal
+use Rattle.netset_commands.proofs.commands.class.RegistriesLookUps.push.Goals as goal
 
 pub returns : goal.returns
 returns g c =

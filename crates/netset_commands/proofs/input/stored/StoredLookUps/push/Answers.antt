@@ -7,7 +7,7 @@ use Rattle.cidr.specs.declared.family.Family.TheVariants.{Ipv4, Ipv6}
 use Rattle.cidr_files.specs.Layout.{wide_word}
 use Rattle.netset_commands.specs.Stored.{by_family, rows_of}
 use Rattle.netset_commands.proofs.Looked.{looks_up_row}
-use Rattle.netset_commands.proofs.input.stored.StoredLookUps.look_up.Goals as goal
+use Rattle.netset_commands.proofs.input.stored.StoredLookUps.push.Goals as goal
 
 pub returns-in-Some : goal.returns-in-Some
 returns-in-Some g c =
@@ -16,7 +16,7 @@ returns-in-Some g c =
     c.to_text-text.result.bytes (g.S.Sink.state c.args.out.now) (g.S.Sink.state c.push_match.new.out) c.args.block.now c.push_match.new.block c.push_match.result
     (ap address_family c.in-V4.is)
     (same_from_number 32 n c.in-V4.address c.to_bits.ensures.width (c.of-bytes.ensures ∙ (c.from.ensures ∙ c.to_bits.ensures.value)) ∙ sym (ap plain_bits c.in-V4.is))
-    c.in-Some.ensures c.to_text-text.ensures.text c.push_match.ensures)
+    c.in-Some.ensures c.to_text-text.ensures.text (rw c.to_text.ensures.text at c.push_match.ensures))
 
 pub returns-in-None : goal.returns-in-None
 returns-in-None g c =
@@ -35,7 +35,7 @@ returns-in-Some-found_in g c =
     (g.S.Sink.state c.push_match-in-Some-found_in.new.out) c.args.block.now c.push_match-in-Some-found_in.new.block c.push_match-in-Some-found_in.result
     (ap address_family c.in-V6.is)
     (same_from_number 128 n c.in-V6.address c.to_bits-in-V6.ensures.width (c.of-bytes-in-V6.ensures ∙ c.to_bits-in-V6.ensures.value) ∙ sym (ap plain_bits c.in-V6.is))
-    c.in-Some-found_in.ensures c.to_text-text.ensures.text c.push_match-in-Some-found_in.ensures)
+    c.in-Some-found_in.ensures c.to_text-text.ensures.text (rw c.to_text-in-Some-found_in.ensures.text at c.push_match-in-Some-found_in.ensures))
 
 pub returns-in-None-found_in : goal.returns-in-None-found_in
 returns-in-None-found_in g c =
