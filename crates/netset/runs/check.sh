@@ -792,6 +792,14 @@ saved() {
     fi
 }
 
+# kept NAME MODE LINK: whether a file has these permissions, and the link is still one.
+kept() {
+    if [[ $(stat -c %a "$room/$1") != "$2" || ! -L $room/$3 ]]; then
+        differs=1
+        echo "$build: the file $1 or the link $3 is not as wanted" >&2
+    fi
+}
+
 # Tables as files of look-ups. Their bytes are put together by hand, from the page of the crate cidr_files.
 rows_of_compiled_tables() {
     local none row same=$': the same file as TABLE\n'
@@ -818,7 +826,10 @@ rows_of_compiled_tables() {
     run 3 '' $'.: cannot be written\n' '' compile owners .
     run 3 '' $'nowhere/compiled: cannot be written\n' '' compile owners nowhere/compiled
     run 3 '' $': cannot be written\n' '' compile owners ''
-    ln -sf compiled "$room/link"
+    run 3 '' $'-: cannot be written\n' '' compile owners -
+    ln -sfn nowhere "$room/link"
+    run 3 '' $'link: cannot be written\n' '' compile owners link
+    ln -sfn . "$room/link"
     run 3 '' $'link: cannot be written\n' '' compile owners link
     run 2 '' $'TABLE is missing, see: netset help compile\n' '' compile
     run 2 '' $'OUT is missing, see: netset help compile\n' '' compile owners
@@ -833,6 +844,11 @@ rows_of_compiled_tables() {
     run 0 '' '' '' compile nothing compiled
     rm "$room/compiled.new0"
     saved compiled "$none"
+    chmod 604 "$room/compiled"
+    ln -sfn compiled "$room/link"
+    run 0 '' '' '10.0.0.0/8 x' compile - link
+    saved compiled "$row"
+    kept compiled 604 link
 }
 
 # Files of look-ups in the place of TABLE and of LIST: the answers are those of the table that they were made of.

@@ -4,7 +4,8 @@ ghost use Rattle.netset_commands.specs.Saving.{Saves};
 
 use arrayvec::ArrayString;
 use itoa::Buffer;
-use std::fs::{OpenFile, OpenOptions};
+use std::alloc::Alloc;
+use std::fs::{OpenFile, OpenOptions, Permissions};
 use std::io::Write;
 use std::{fs, io, rt};
 
@@ -29,37 +30,52 @@ const NAMES: u32 = 100;
 const LONGEST: usize = 4096;
 
 /// The files of the system, which nothing is told of. A file is written under another name beside that of the file that
-/// it replaces, and renamed. What has the name has to be a file: no folder, no device, and no link.
+/// it replaces, with the permissions of that one, and renamed. Where the name is a link, what it leads to is replaced. That has
+/// to be a file: no folder and no device. Of the name `-`, which is that of the standard input elsewhere, no file is written.
 #[derive(Drop)]
 pub struct Beside<'a, R: rt::Files> {
     pub runtime: &'a R,
 }
 
-impl<R: rt::Files> Folder for Beside<'_, R> {
+impl<R: rt::Files + Alloc> Folder for Beside<'_, R> {
     ghost saved = { λ _. None };
 
     fn replace(&mut self, name: &str, bytes: &[u8]) -> Result<(), NotSaved> {
-        if !is_replaceable(self.runtime, name) {
+        if name == "-" {
             return Err(NotSaved);
         }
-        let Some((beside, file)) = create_beside(self.runtime, name) else {
-            return Err(NotSaved);
-        };
-        let beside = beside.as_str();
-        if fill(file, bytes).is_err() || fs::rename(self.runtime, beside, name).is_err() {
-            let _ = fs::remove_file(self.runtime, beside);
-            return Err(NotSaved);
+        match fs::symlink_metadata(self.runtime, name) {
+            Ok(there) if there.is_symlink() => {
+                let Ok(path) = fs::canonicalize(self.runtime, name) else {
+                    return Err(NotSaved);
+                };
+                replace_file(self.runtime, path.as_path().as_str(), bytes)
+            }
+            _ => replace_file(self.runtime, name, bytes),
         }
-        Ok(())
     }
 }
 
-/// Whether a file may be written in place of what has a name.
-fn is_replaceable<R: rt::Files>(files: &R, name: &str) -> bool {
-    match fs::symlink_metadata(files, name) {
-        Ok(there) => there.is_file(),
-        Err(_) => true,
+/// Writes a file of this name, which is no link, in place of the one that has it.
+fn replace_file<R: rt::Files>(files: &R, name: &str, bytes: &[u8]) -> Result<(), NotSaved> {
+    let permissions = match fs::symlink_metadata(files, name) {
+        Ok(there) => {
+            if !there.is_file() {
+                return Err(NotSaved);
+            }
+            Some(there.permissions())
+        }
+        Err(_) => None,
+    };
+    let Some((beside, file)) = create_beside(files, name) else {
+        return Err(NotSaved);
+    };
+    let beside = beside.as_str();
+    if fill(file, permissions, bytes).is_err() || fs::rename(files, beside, name).is_err() {
+        let _ = fs::remove_file(files, beside);
+        return Err(NotSaved);
     }
+    Ok(())
 }
 
 /// A name beside that of a file, if it is not too long.
@@ -89,8 +105,15 @@ fn create_beside<R: rt::Files>(files: &R, name: &str) -> Option<(ArrayString<LON
     None
 }
 
-/// Writes all bytes of a file, and waits until they are stored.
-fn fill<F: Write + OpenFile + Drop>(mut file: F, bytes: &[u8]) -> io::Result<()> {
+/// Gives a file its permissions, if some are wanted, writes all its bytes, and waits until they are stored.
+fn fill<F: Write + OpenFile + Drop>(
+    mut file: F,
+    permissions: Option<Permissions>,
+    bytes: &[u8],
+) -> io::Result<()> {
+    if let Some(permissions) = permissions {
+        file.set_permissions(permissions)?;
+    }
     file.write_all(bytes)?;
     file.sync_all()
 }
