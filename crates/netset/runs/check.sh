@@ -137,7 +137,9 @@ rows_of_arguments() {
 --format NAME           how the networks are written: plain, json, nft, ipset, iptables,
                         cisco, juniper or bird
 --prefix TEXT, --suffix TEXT
-                        with the format plain, what stands in front of a network and behind\n'
+                        with the format plain, what stands in front of a network and behind
+-o FILE                 the answer is written to FILE, whole or not at all, and nothing to
+                        standard output; FILE may be among the lists\n'
     run 0 "$page" '' '' help merge
     run 0 "$page" '' '' --help merge
     run 0 "$page" '' '' -h merge
@@ -755,20 +757,21 @@ rows_where_a_stream_fails() {
 }
 
 # refuse INPUT ARGUMENT..: runs the program with its first allocation refused, with its second one, and so on until there
-# is none to refuse. It is to end with status 3 and `no memory`, and to write nothing; `match`, `look` and `class` may have
-# written a beginning of their answer.
+# is none to refuse. It is to end with status 3 and `no memory`, and to write nothing, nor the file `made`; `match`, `look` and
+# `class` may have written a beginning of their answer.
 refuse() {
     local input=$1 end=0 status n begun
     shift
     printf '%b' "$input" | (cd "$room" && "$program" "$@") >"$room/whole" || end=$?
     for ((n = 1; n <= 99; n++)); do
         status=0
+        printf 'old' >"$room/made"
         printf '%b' "$input" | (cd "$room" && REFUSE=$n LD_PRELOAD=$room/refuse.so "$program" "$@") >"$room/output" 2>"$room/error" ||
             status=$?
         ((n == 1 || status != end)) || return 0
         begun=0
         [[ $1 != match && $1 != look && $1 != class ]] || begun=$(wc -c <"$room/output")
-        if ((status != 3)) || ! has "$room/error" $'no memory\n' || ! head -c "$begun" "$room/whole" | cmp -s - "$room/output"; then
+        if ((status != 3)) || ! has "$room/error" $'no memory\n' || ! has "$room/made" old || ! head -c "$begun" "$room/whole" | cmp -s - "$room/output"; then
             break
         fi
     done
@@ -849,6 +852,107 @@ rows_of_compiled_tables() {
     run 0 '' '' '10.0.0.0/8 x' compile - link
     saved compiled "$row"
     kept compiled 604 link
+}
+
+# Answers that are written to files.
+rows_of_outputs() {
+    local old
+    run 0 '' '' '10.128.0.0/9\n10.0.0.0/9\n' merge -o made
+    saved made '10.0.0.0/8\n'
+    run 0 '' '' '11.0.0.0/8' merge - made -o made
+    saved made '10.0.0.0/7\n'
+    run 0 '' '' '10.0.0.0/8' minus made -o made -
+    saved made '11.0.0.0/8\n'
+    run 0 '' '' '' and -k made ten_and_eight -o made --format json
+    saved made ''
+    run 0 '' '' '' not -o made seven --prefix=x
+    saved made 'x0.0.0.0/0\nx8000::/1\n'
+    run 0 '' '' '' not --in 10.0.0.0/7 -o made ten
+    saved made '11.0.0.0/8\n'
+    run 0 '' '' '' ranges ten -o made
+    saved made '10.0.0.0-10.255.255.255\n'
+    run 0 '' '' '' count ten -o made
+    saved made 'IPv4 16777216\nIPv6 0\n'
+    run 1 '' '' '' diff ten both -o made
+    saved made '+::/0\n'
+    run 0 '' '' '' free ten 9 -o made
+    saved made '10.0.0.0/9\n'
+    run 1 '' '' '' free ten 7 -o made
+    saved made ''
+    run 0 '' '' '' split -o made ten 9
+    saved made '10.0.0.0/9\n10.128.0.0/9\n'
+    run 0 '' '' '' reverse ten -o made
+    saved made '10.in-addr.arpa\n'
+    run 0 '' '' '' mask ten -o made
+    saved made '10.0.0.0 255.0.0.0 0.255.255.255\n'
+    old='10.0.0.0 255.0.0.0 0.255.255.255\n'
+    # it is as it was where there is no answer
+    run 2 '' $'bad:1: 10.0.0.0/x: couldn\'t parse length in network: invalid length text\n' '' merge ten bad -o made
+    run 2 '' $'bad:1: 10.0.0.0/x: couldn\'t parse length in network: invalid length text\n' '' merge -k ten bad -o made
+    run 2 '' $'-: standard input can be read only once\n' '' merge - - -o made
+    run 2 '' $'missing: no such file\n' '' merge missing -o made
+    run 2 '' $'x: one argument too many, see: netset help merge\n' '' merge -o made -o x
+    run 2 '' $'VALUE is missing, see: netset help merge\n' '' merge ten -o
+    run 2 '' $'-o=made: no such option, see: netset help merge\n' '' merge ten -o=made
+    run 2 '' $'-ko: no such option, see: netset help merge\n' '' merge ten -ko made
+    run 2 '' $'-o: no such option, see: netset help look\n' '' look owners -o made
+    run 2 '' $'-o: no such option, see: netset help compile\n' '' compile owners -o made
+    run 0 "$("$program" help merge)"$'\n' '' '' merge -h -o made
+    saved made "$old"
+    run 2 '' $'-o: no such file\n' '' merge ten -- -o
+    run 3 '' $'.: cannot be written\n' '' merge ten -o .
+    run 3 '' $'/dev/null: cannot be written\n' '' merge ten -o /dev/null
+    run 3 '' $'-: cannot be written\n' '' merge ten -o -
+    run 3 '' $'nowhere/made: cannot be written\n' '' diff ten both -o nowhere/made
+    run 3 '' $': cannot be written\n' '' merge ten -o ''
+    saved made "$old"
+    # what a link leads to is replaced, also by way of another one, and has the permissions that it had
+    mkdir -p "$room/folder"
+    printf '11.0.0.0/8\n' >"$room/folder/led"
+    chmod 640 "$room/folder/led"
+    ln -sfn led "$room/folder/other"
+    ln -sfn folder/other "$room/link"
+    run 0 '' '' '' merge ten link -o link
+    saved folder/led '10.0.0.0/7\n'
+    kept folder/led 640 link
+    kept folder/led 640 folder/other
+    ln -sfn nowhere "$room/link"
+    run 3 '' $'link: cannot be written\n' '' merge ten -o link
+    chmod 400 "$room/made"
+    run 0 '' '' '' merge ten -o made
+    saved made '10.0.0.0/8\n'
+    kept made 400 link
+    rm -r "$room/made" "$room/folder" "$room/link"
+    # a run that is killed while it writes leaves the old file, and the next one takes another name
+    printf 'old' >"$room/made"
+    { (cd "$room" && ulimit -f 1 && "$program" split 10.0.0.0/8 20 -o made) || true; } >/dev/null 2>&1
+    rm "$room/made.new0"
+    saved made old
+    printf 'x' >"$room/made.new0"
+    run 0 '' '' '' merge ten -o made
+    rm "$room/made.new0"
+    saved made '10.0.0.0/8\n'
+}
+
+# Answers that are written to a disk that is full: the old file stays. It takes a root that may mount one of its own.
+rows_of_a_full_disk() {
+    local status=0
+    mkdir -p "$room/full"
+    # shellcheck disable=SC2016
+    unshare -m bash -c 'mount -t tmpfs -o size=64k none "$1/full" || exit 9
+        cd "$1" && printf old >full/made
+        "$2" split 10.0.0.0/8 24 -o full/made 2>full.said >full.out; echo "$?" >full.status
+        cp full/made full.made
+        (cd full && ls) >full.left' - "$room" "$program" 2>/dev/null || status=$?
+    if ((status)); then
+        echo "netset: no disk can be mounted: a full one was not tried" >&2
+        return
+    fi
+    if ! { has "$room/full.status" $'3\n' && has "$room/full.made" old && has "$room/full.said" $'full/made: cannot be written\n' &&
+        has "$room/full.out" '' && has "$room/full.left" $'made\n'; }; then
+        differs=1
+        echo "$build: a full disk" >&2
+    fi
 }
 
 # Files of look-ups in the place of TABLE and of LIST: the answers are those of the table that they were made of.
@@ -1009,6 +1113,9 @@ rows_without_memory() {
     refuse '10.0.0.0/9\n' not --in ::/0 -
     refuse '10.0.0.0/9\n' merge --host-bits -
     refuse '10.0.0.0/9\n' merge -k both -
+    refuse '10.0.0.0/9\n' merge both - -o made
+    refuse '10.0.0.0/9\n' diff both - -o made
+    refuse '' split -o made 10.0.0.0/8 20
     refuse '10.0.0.0/9\n' free both 9 -
     refuse '10.0.0.0/9\n' free --all 10.0.0.0/8 9 -
     refuse '10.0.0.0/9\n' split - 10
@@ -1066,6 +1173,8 @@ for build in netset netset.by-rattle; do
     rows_of_several_files
     rows_of_look_ups
     rows_of_compiled_tables
+    rows_of_outputs
+    rows_of_a_full_disk
     rows_of_stored_tables
     rows_of_logs
     rows_of_one_network

@@ -213,28 +213,31 @@ def closed_pipes():
     wanted("split | head -1", (first.returncode, first.stdout, first.stderr) == (3, b"10.0.0.0\n", b""), first)
 
 
-def killed_while_it_compiles():
-    """A run of `compile` that is killed, at any time, leaves a whole file: the old one, or the new one."""
-    with open("rows", "wb") as it:
-        it.writelines(b"%d.%d.%d.0/24 %d\n" % (1 + number % 200, number >> 8 & 255, number & 255, number) for number in range(20_000))
-    wholes = []
-    began = time.monotonic()
-    for table in ("rows", "owners"):
-        subprocess.run([PROGRAM, "compile", table, "compiled"], check=False)
-        with open("compiled", "rb") as it:
-            wholes.append(it.read())
-    took = time.monotonic() - began
-    wanted("compile: two files", len(set(wholes)) == 2, [len(it) for it in wholes])
-    for turn in range(60):
-        process = start(["compile", "rows", "compiled"])
-        time.sleep(took * turn / 50)
-        process.kill()
-        process.wait()
-        with open("compiled", "rb") as it:
-            got = it.read()
-        wanted(f"compile, killed after {turn} of 50 parts of its time", got in wholes, len(got))
-        for name in glob.glob("compiled.new*"):
-            os.remove(name)
+def killed_while_it_writes():
+    """A run that is killed while it writes a file, at any time, leaves a whole file: the old one, or the new one."""
+    nets = [b"%d.%d.%d.0/24" % (1 + number % 200, number >> 8 & 255, number & 255) for number in range(20_000)]
+    for name, lines in ("rows", [b"%s %d\n" % it for it in zip(nets, range(20_000))]), ("nets", [b"%s\n" % it for it in nets]):
+        with open(name, "wb") as it:
+            it.writelines(lines)
+    for new, old in ((["compile", "rows", "written"], ["compile", "owners", "written"]), (["merge", "-o", "written", "nets"], ["merge", "-o", "written", "ten"])):
+        wholes = []
+        began = time.monotonic()
+        for words in (new, old):
+            subprocess.run([PROGRAM, *words], check=False)
+            with open("written", "rb") as it:
+                wholes.append(it.read())
+        took = time.monotonic() - began
+        wanted(f"{new[0]}: two files", len(set(wholes)) == 2, [len(it) for it in wholes])
+        for turn in range(60):
+            process = start(new)
+            time.sleep(took * turn / 50)
+            process.kill()
+            process.wait()
+            with open("written", "rb") as it:
+                got = it.read()
+            wanted(f"{new[0]}, killed after {turn} of 50 parts of its time", got in wholes, len(got))
+            for name in glob.glob("written.new*"):
+                os.remove(name)
 
 
 def little_stack():
@@ -242,13 +245,14 @@ def little_stack():
     def limit():
         resource.setrlimit(resource.RLIMIT_STACK, (192 << 10, 192 << 10))
 
+    os.symlink("written", "link")
     for words, given in (
         (["merge", "-", "both"], b"10.0.0.0/9\n::1-::8\n"), (["minus", "both", "-"], b"10.0.0.0/9\n"), (["and", "both", "-"], b"10.0.0.0/9\n"),
         (["not", "--in", "::/0", "-"], b"::1\n"), (["ranges"], b"::1-::9\n"), (["count"], b"::/0\n"), (["diff", "ten", "-"], b"::1\n"),
         (["free", "both", "64", "-"], b"::1\n"), (["check", "-", "both"], b"10.0.0.1/8\n::1\n"), (["match", "--any", "both"], b"(10.0.0.1)\n"),
         (["match", "-v", "both"], b"10.0.0.1\n"), (["look", "owners"], b"10.0.0.1\n::1\n"), (["merge", "-k"], b"x\n"),
         (["show", "::1"], b""), (["split", "::/120", "128"], b""), (["nth", "::/0", "1"], b""), (["--help"], b""), (["merged"], b""),
-        (["class", "-"], b"10.0.0.1\n::1\n"),
+        (["class", "-"], b"10.0.0.1\n::1\n"), (["merge", "-o", "link", "-"], b"10.0.0.0/9\n"), (["compile", "owners", "link"], b""),
     ):
         run = subprocess.run([PROGRAM, *words], input=given, capture_output=True, check=False)
         small = subprocess.run([PROGRAM, *words], input=given, capture_output=True, check=False, preexec_fn=limit)
@@ -263,7 +267,7 @@ def main():
                            ("owners", b"10.0.0.0/8 ten\n")):
             with open(name, "wb") as it:
                 it.write(text)
-        for test in (one_call_a_line, two_runs_append, answers_before_more_is_read, terminals, closed_pipes, killed_while_it_compiles, little_stack):
+        for test in (one_call_a_line, two_runs_append, answers_before_more_is_read, terminals, closed_pipes, killed_while_it_writes, little_stack):
             test()
     for line in WRONG:
         print(f"{os.path.basename(PROGRAM)}: {line}", file=sys.stderr)

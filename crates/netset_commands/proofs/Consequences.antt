@@ -1,12 +1,12 @@
 -- What follows from the contract of a run for a run that ends with the status of an answer, 0 or 1.
-use Rattle.std.proofs.Common.{◌≡◌, refl, sym, ◌∙◌, ap, subst, arith, inl, inr, ℕ, ◌≤◌, Bool, List, [], Option, Some, Result, Ok, Err}
+use Rattle.std.proofs.Common.{◌≡◌, refl, sym, ◌∙◌, ap, subst, arith, inl, inr, ℕ, zero, suc, ◌≤◌, Bool, List, [], Option, Some, None, Result, Ok, Err}
 use Rattle.std.specs.Result.{result_unwrap_or}
 use Rattle.cidr_io.specs.Writing.{State, Whole, Answered, Tells}
 use Rattle.cidr_io.specs.declared.sink.OutputFailed.{OutputFailed}
 use Rattle.cidr_lists.specs.Lists.{Text}
-use Rattle.netset_commands.specs.Arguments.{line_request}
+use Rattle.netset_commands.specs.Arguments.{Line, line_request}
 use Rattle.netset_commands.specs.Commands.{Request, Lists, Styled, NotIn, Diff, Free, Split, Check, Which, Match, MatchEach, Look, Compile, Describe, Class, Single, Help, Version, IsAnswer, reading_of}
-use Rattle.netset_commands.specs.Program.{AnswersRequest, AnswersWhole, IsRequestRefused, KeepsGoing, Reports, Runs, RunsLine, RunsRequest, answer_status, by_output, status_of, contents_by}
+use Rattle.netset_commands.specs.Program.{AnswersRequest, AnswersWhole, IsRequestRefused, KeepsGoing, Reports, Runs, RunsFound, RunsLine, RunsOnce, RunsRequest, answer_status, by_output, status_of, contents_by}
 use Rattle.netset_commands.specs.Typed.{HasAnswered, AnswersTyped}
 use Rattle.netset_commands.specs.declared.output.answers.Verdict.{Verdict}
 use Rattle.netset_commands.specs.declared.output.answers.Verdict.TheVariants.{Yes, No}
@@ -19,7 +19,7 @@ use Rattle.netset_commands.proofs.Telling.{tells_nothing}
 use Rattle.netset_commands.proofs.Typed.{typed_asks}
 
 -- ---- the status
-at_most_one : (verdict : Verdict) → answer_status verdict ≤ 1
+pub at_most_one : (verdict : Verdict) → answer_status verdict ≤ 1
 at_most_one Yes = omega arith
 at_most_one No = omega arith
 
@@ -36,6 +36,11 @@ above_one (error.File name Long) = omega arith
 above_one (error.File name Changed) = omega arith
 above_one error.NoMemory = omega arith
 above_one error.Output = omega arith
+
+pub verdict_by : (status : ℕ) → status ≤ 1 → (verdict : Verdict) × (status ≡ answer_status verdict)
+verdict_by zero few = (Yes, refl)
+verdict_by (suc zero) few = (No, refl)
+verdict_by (suc (suc n)) few = absurd (omega (arith, few))
 
 never_two : (verdict : Verdict) → answer_status verdict ≡ 2 → ⊥
 never_two verdict two = omega (arith, at_most_one verdict, two)
@@ -102,10 +107,10 @@ answer_done contents Version verdict out new h = whole_done contents Version ver
 
 -- ---- a run
 module _ (verdict : Verdict) (refused closed : Bool) (out new err new_err : State) where
-  -- the arguments were read as a request, and that was answered
-  abbrev Found : (List ℕ → Option (List ℕ)) → Result (Reading × Request) (List ℕ) → Type 0
-  Found contents found = (reading : Reading) × (request : Request) × (found ≡ Ok (reading, request))
-      × HasAnswered (contents_by reading.host_bits contents) request verdict out new err new_err
+  -- the arguments were read as a request, and that was answered, perhaps to a file
+  abbrev Found : (List ℕ → Option (List ℕ)) → Result Line (List ℕ) → Type 0
+  Found contents found = (reading : Reading) × (target : Option (List ℕ)) × (request : Request) × (found ≡ Ok (reading, (target, request)))
+      × (target ≡ None → HasAnswered (contents_by reading.host_bits contents) request verdict out new err new_err)
 
   module _ (contents : List ℕ → Option Text) (request : Request) where
     request_done : (mid : State) (r : Result Verdict CommandError) → answer_status verdict ≡ status_of r → AnswersRequest contents request out new r
@@ -131,11 +136,21 @@ module _ (verdict : Verdict) (refused closed : Bool) (out new err new_err : Stat
     run_done reading (inl (keeps, goes)) = keeps_done goes
     run_done reading (inr (plain, (r, answers, caused, says, ends))) = request_done err r ends answers says (tells_nothing err)
 
-  line_done : (found : Result (Reading × Request) (List ℕ)) (contents : List ℕ → Option (List ℕ))
+  once_done : (reading : Reading) (request : Request) (contents : List ℕ → Option (List ℕ))
+      → RunsOnce reading contents refused request closed out new err new_err (answer_status verdict) → HasAnswered (contents_by reading.host_bits contents) request verdict out new err new_err
+  once_done reading request contents (inl (twice, e, why, (same, says, ends))) = absurd (never_error verdict e ends)
+  once_done reading request contents (inr (once, h)) = run_done (contents_by reading.host_bits contents) request reading h
+
+  pub found_answered : (reading : Reading) (request : Request) (contents : List ℕ → Option (List ℕ))
+      → RunsFound (Ok (reading, (None, request))) contents refused closed out new err new_err (answer_status verdict)
+      → HasAnswered (contents_by reading.host_bits contents) request verdict out new err new_err
+  found_answered reading request contents (inl once) = once_done reading request contents once
+  found_answered reading request contents (inr (left, (same, says, ends))) = absurd (never_error verdict error.NoMemory ends)
+
+  line_done : (found : Result Line (List ℕ)) (contents : List ℕ → Option (List ℕ))
       → RunsLine found contents refused closed out new err new_err (answer_status verdict) → Found contents found
-  line_done (Ok (reading, request)) contents (inl (twice, e, why, (same, says, ends))) = absurd (never_error verdict e ends)
-  line_done (Ok (reading, request)) contents (inr (once, h)) =
-      (reading, request, refl, run_done (contents_by reading.host_bits contents) request reading h)
+  line_done (Ok (reading, (None, request))) contents once = (reading, None, request, refl, λ none. once_done reading request contents once)
+  line_done (Ok (reading, (Some name, request))) contents h = (reading, Some name, request, refl, λ none. cc)
   line_done (Err line) contents (same, says, two) = absurd (never_two verdict two)
 
   run_answered : (words : List (List ℕ)) (contents : List ℕ → Option (List ℕ))
@@ -156,6 +171,8 @@ pub answers_typed : (words : Option (List (List ℕ))) (contents : List ℕ → 
 answers_typed words contents refused closed out new err new_err status runs given options request verdict is typed ends =
     let told = subst (λ (k : Option (List (List ℕ))). Runs k contents refused closed out new err new_err status) is runs in
     let done = subst (λ (k : ℕ). Runs (Some given) contents refused closed out new err new_err k) ends told in
-    let (reading, other, found, answered) = run_answered verdict refused closed out new err new_err given contents done in
-    subst (λ (k : Reading × Request). HasAnswered (contents_by (k.0).host_bits contents) k.1 verdict out new err new_err)
-    (one_request (reading, other) (reading_of options, request) (line_request given) found (typed_asks given options request typed)) answered
+    let (reading, target, other, found, answered) = run_answered verdict refused closed out new err new_err given contents done in
+    let same : (reading, (target, other)) ≡ (reading_of options, (None, request)) =
+    one_request (reading, (target, other)) (reading_of options, (None, request)) (line_request given) found (typed_asks given options request typed) in
+    subst (λ (k : Line). HasAnswered (contents_by (k.0).host_bits contents) (k.1).1 verdict out new err new_err) same
+    (answered (ap (λ (k : Line). (k.1).0) same))

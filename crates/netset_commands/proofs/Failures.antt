@@ -1,14 +1,14 @@
 -- What follows from the contract of a run that ends with status 2, of an operation on lists without -k.
-use Rattle.std.proofs.Common.{◌≡◌, sym, ◌∙◌, ap, subst, inl, inr, ℕ, Bool, false, List, ◌∷◌, Contains, IsUtf8, Option, Some, Result, Ok, Err}
+use Rattle.std.proofs.Common.{◌≡◌, sym, ◌∙◌, ap, subst, inl, inr, ℕ, Bool, false, List, ◌∷◌, Contains, IsUtf8, Option, Some, None, Result, Ok, Err}
 use Rattle.std.proofs.lemmas.Bool.{true≢false}
 use Rattle.std.proofs.lemmas.List.Elements.{Contains-append_right}
 use Rattle.cidr_table.proofs.MapLaws.{contains_first}
 use Rattle.cidr_io.specs.Writing.{State, Tells}
 use Rattle.cidr_io.specs.declared.sink.OutputFailed.{OutputFailed}
 use Rattle.cidr_lists.specs.Lists.{Text}
-use Rattle.netset_commands.specs.Arguments.{line_request}
+use Rattle.netset_commands.specs.Arguments.{Line, line_request}
 use Rattle.netset_commands.specs.Causes.{Cause, FileMayFail}
-use Rattle.netset_commands.specs.Commands.{Request, Lists, ReadsInputTwice, read_files}
+use Rattle.netset_commands.specs.Commands.{Lists, ReadsInputTwice, read_files}
 use Rattle.netset_commands.specs.Program.{AnswersRequest, IsCaused, IsUnread, Reports, Runs, RunsLine, RunsOnce, by_output, contents_by, error_line, status_of}
 use Rattle.netset_commands.specs.declared.commands.Reading.{Reading}
 use Rattle.netset_commands.specs.declared.commands.operations.Operation.{Operation}
@@ -50,7 +50,7 @@ answer_failed contents op files refused closed out new err new_err (Err e) two (
 
 -- ---- a run of arguments that are an operation on lists, without -k
 module _ (words : List (List ℕ)) (contents : List ℕ → Option (List ℕ)) (refused closed : Bool) (out new err new_err : State) (reading : Reading)
-    (op : Operation) (files : List (List ℕ)) (asks : line_request words ≡ Ok (reading, Lists op files)) (once : ¬ (ReadsInputTwice (Lists op files)))
+    (op : Operation) (files : List (List ℕ)) (asks : line_request words ≡ Ok (reading, (None, Lists op files))) (once : ¬ (ReadsInputTwice (Lists op files)))
     (first : reading.keeps_going ≡ false) (text : (word : List ℕ) → Contains words word → IsUtf8 word) where
   abbrev HasFailed : Type 0
   HasFailed = Failed (contents_by reading.host_bits contents) refused (read_files files) out new err new_err
@@ -63,7 +63,7 @@ module _ (words : List (List ℕ)) (contents : List ℕ → Option (List ℕ)) (
 
   pub lists_fail : Runs (Some words) contents refused closed out new err new_err 2 → HasFailed
   lists_fail (inl (given, are, runs)) =
-      once_failed (subst (λ (k : Result (Reading × Request) (List ℕ)). RunsLine k contents refused closed out new err new_err 2) (ap line_request are ∙ asks) runs)
+      once_failed (subst (λ (k : Result Line (List ℕ)). RunsLine k contents refused closed out new err new_err 2) (ap line_request are ∙ asks) runs)
   lists_fail (inr (inl (shown, (before, after, word, are, texts, bad, is), ends))) =
       absurd (bad (text word (subst (λ (k : List (List ℕ)). Contains k word) (sym are)
       (Contains-append_right before (word ∷ after) word (contains_first word after)))))

@@ -5,7 +5,7 @@ use Rattle.std.specs.Option.{option_or}
 use Rattle.std.proofs.lemmas.Bool.{true≢false}
 use Rattle.std.proofs.lemmas.List.{append-nil, append_assoc, drop_all, drop_more, get_or-map, length-map, map-append, take_all, take_more, take-append-drop}
 use Rattle.std.proofs.lemmas.List.Folds.{find-append, list_all_at}
-use Rattle.netset_commands.specs.Arguments.{Parts, and_then, is_equals, is_option, is_topic, joined_arguments, letter_options, letter_parts, long_parts, misuse_text, named_value, no_option, no_parts, only_operand, only_options, only_value, parts_from, short_option, takes, topic_parts, word_parts}
+use Rattle.netset_commands.specs.Arguments.{Parts, and_then, is_equals, is_option, is_topic, joined_arguments, letter_options, letter_parts, long_parts, misuse_text, named_value, no_option, no_parts, only_operand, only_options, only_value, parts_from, short_option, short_parts, takes, topic_parts, word_parts}
 use Rattle.netset_commands.specs.Command.{AddsParts, IsUsageError}
 use Rattle.netset_commands.specs.Matching.{is_word}
 use Rattle.netset_commands.specs.Table.{name_of, takes_value, texts}
@@ -89,10 +89,16 @@ module _ (verb : Verb) (word : List ℕ) where
   long_word is some long =
       if_false (is_word (codes "--") word) _ _ is ∙ (if_true (is_option word) _ _ some ∙ if_true (starts_with nat_eq word (codes "--")) _ _ long)
 
-  pub letter_word : is_word (codes "--") word ≡ false → is_option word ≡ true → starts_with nat_eq word (codes "--") ≡ false
-      → word_parts verb Any word ≡ letter_parts verb word
-  letter_word is some long =
+  pub short_word : is_word (codes "--") word ≡ false → is_option word ≡ true → starts_with nat_eq word (codes "--") ≡ false
+      → word_parts verb Any word ≡ short_parts verb word
+  short_word is some long =
       if_false (is_word (codes "--") word) _ _ is ∙ (if_true (is_option word) _ _ some ∙ if_false (starts_with nat_eq word (codes "--")) _ _ long)
+
+  pub short_value : takes_value verb word ≡ true → short_parts verb word ≡ Ok (only_value word, Value)
+  short_value is = if_true (takes_value verb word) _ _ is
+
+  pub letter_word : takes_value verb word ≡ false → short_parts verb word ≡ letter_parts verb word
+  letter_word none = if_false (takes_value verb word) _ _ none
 
   pub long_option : takes verb word ≡ true → long_parts verb word ≡ Ok (only_options (word ∷ []), Any)
   long_option is = if_true (takes verb word) _ _ is

@@ -1,18 +1,18 @@
 -- Runs with options of reading.
-use Rattle.std.proofs.Common.{◌≡◌, refl, sym, ◌∙◌, ap, subst, inl, inr, ℕ, ◌<◌, ◌++◌, Bool, true, false, List, Option, Result, Ok, Err}
+use Rattle.std.proofs.Common.{◌≡◌, refl, sym, ◌∙◌, ap, subst, arith, inl, inr, ℕ, ◌<◌, ◌≤◌, ◌++◌, codes, Bool, true, false, List, Option, Some, None, Result, Ok, Err}
 use Rattle.std.proofs.lemmas.Bool.{true≢false}
 use Rattle.std.specs.Bool.{Decides}
 use Rattle.std.specs.List.{count_by}
 use Rattle.cidr_io.specs.Arguments.{AreArguments}
 use Rattle.cidr_io.specs.Writing.{State, Tells}
 use Rattle.netset_commands.specs.Causes.{Cause, FileMayFail}
-use Rattle.netset_commands.specs.Arguments.{Parts, and_then, line_parts, line_request, part_request, read_request}
+use Rattle.netset_commands.specs.Arguments.{Line, Parts, and_then, line_parts, line_request, part_request, read_request, target_in}
 use Rattle.netset_commands.specs.Commands.{AreLists, Request, input_name, lists_of, others_of, reading_of}
 use Rattle.netset_commands.specs.Keeping.{kind_of}
 use Rattle.cidr_lists.specs.Lists.{Text}
 use Rattle.netset_commands.specs.Matching.{is_word}
 use Rattle.netset_commands.specs.Loading.{AreListsLoaded, IsUnloaded}
-use Rattle.netset_commands.specs.Program.{AnswersRequest, IsCaused, IsReadTwice, IsWrong, KeepsGoing, Reports, Runs, RunsFound, RunsOnce, RunsRequest, TellsFaults, status_of, contents_by}
+use Rattle.netset_commands.specs.Program.{AnswersRequest, IntoFound, IsCaused, IsNotSaved, IsReadTwice, IsWrong, KeepsGoing, Reports, Runs, RunsFound, RunsOnce, RunsRequest, TellsFaults, empty, status_of, contents_by}
 use Rattle.netset_commands.specs.declared.output.answers.Verdict.{Verdict}
 use Rattle.netset_commands.specs.declared.commands.Reading.{Reading}
 use Rattle.netset_commands.specs.declared.commands.table.Verb.{Verb}
@@ -62,19 +62,26 @@ pub found_none : (words : List (List ℕ)) (line : List ℕ) → line_parts word
 found_none words line is = ap (λ (r : Result (Verb × Parts) (List ℕ)). and_then r (λ found. read_request found.0 found.1)) is
 
 pub read_none : (verb : Verb) (parts : Parts) (line : List ℕ) → part_request verb parts ≡ Err line → read_request verb parts ≡ Err line
-read_none verb parts line is = ap (λ (r : Result Request (List ℕ)). and_then r (λ request. Ok (reading_of parts.options, request))) is
+read_none verb parts line is =
+    ap (λ (r : Result Request (List ℕ)). and_then r (λ request. and_then (target_in verb parts) (λ target. Ok (reading_of parts.options, (target, request))))) is
 
-pub read_one : (verb : Verb) (parts : Parts) (reading : Reading) (request : Request) → part_request verb parts ≡ Ok request → reading ≡ reading_of parts.options
-    → read_request verb parts ≡ Ok (reading, request)
-read_one verb parts reading request is read =
-    ap (λ (r : Result Request (List ℕ)). and_then r (λ request. Ok (reading_of parts.options, request))) is ∙ ap (λ (k : Reading). Ok (k, request)) (sym read)
+pub read_target : (verb : Verb) (parts : Parts) (request : Request) (found : Result (Option (List ℕ)) (List ℕ)) → part_request verb parts ≡ Ok request → target_in verb parts ≡ found
+    → read_request verb parts ≡ and_then found (λ target. Ok (reading_of parts.options, (target, request)))
+read_target verb parts request found is to =
+    ap (λ (r : Result Request (List ℕ)). and_then r (λ request. and_then (target_in verb parts) (λ target. Ok (reading_of parts.options, (target, request))))) is
+    ∙ ap (λ (r : Result (Option (List ℕ)) (List ℕ)). and_then r (λ target. Ok (reading_of parts.options, (target, request)))) to
 
-pub run_found : (found other : Result (Reading × Request) (List ℕ)) (contents : List ℕ → Option (List ℕ)) (refused closed : Bool) (out new s t : State) (status : ℕ)
+pub read_one : (verb : Verb) (parts : Parts) (reading : Reading) (target : Option (List ℕ)) (request : Request) → part_request verb parts ≡ Ok request
+    → target_in verb parts ≡ Ok target → reading ≡ reading_of parts.options → read_request verb parts ≡ Ok (reading, (target, request))
+read_one verb parts reading target request is to read =
+    read_target verb parts request (Ok target) is to ∙ ap (λ (k : Reading). Ok (k, (target, request))) (sym read)
+
+pub run_found : (found other : Result Line (List ℕ)) (contents : List ℕ → Option (List ℕ)) (refused closed : Bool) (out new s t : State) (status : ℕ)
     → found ≡ other → RunsFound other contents refused closed out new s t status → RunsFound found contents refused closed out new s t status
 run_found found other contents refused closed out new s t status is h =
-    subst (λ (k : Result (Reading × Request) (List ℕ)). RunsFound k contents refused closed out new s t status) (sym is) h
+    subst (λ (k : Result Line (List ℕ)). RunsFound k contents refused closed out new s t status) (sym is) h
 
-pub run_misused : (found : Result (Reading × Request) (List ℕ)) (line : List ℕ) (contents : List ℕ → Option (List ℕ)) (refused closed : Bool) (out s t : State) (status : ℕ)
+pub run_misused : (found : Result Line (List ℕ)) (line : List ℕ) (contents : List ℕ → Option (List ℕ)) (refused closed : Bool) (out s t : State) (status : ℕ)
     → found ≡ Err line → Tells s t line → status ≡ 2 → RunsFound found contents refused closed out out s t status
 run_misused found line contents refused closed out s t status is says ends =
     run_found found (Err line) contents refused closed out out s t status is (inl (refl, says, ends))
@@ -107,3 +114,46 @@ pub run_arguments : (words : Option (List (List ℕ))) (given : List (List ℕ))
     → AreArguments words given → RunsFound (line_request given) contents refused closed out new s t status → Runs words contents refused closed out new s t status
 run_arguments words given contents refused closed out new s t status are (inl runs) = inl (given, are, runs)
 run_arguments words given contents refused closed out new s t status are (inr none) = inr (inr none)
+
+-- ---- an answer that goes to a file
+module _ (name : List ℕ) (reading : Reading) (contents : List ℕ → Option (List ℕ)) (before refused : Bool) (request : Request) (start : State) (held : List ℕ × Bool) (s t : State)
+    (answered : ℕ) (none : start ≡ empty) where
+  -- the text in memory
+  abbrev text : State
+  text = record { taken = Some held.0; failed = held.1 }
+
+  -- the run that writes it
+  abbrev RunsBefore : State → Type 0
+  RunsBefore k = RunsFound (Ok (reading, (None, request))) contents before held.1 k text s t answered
+
+  abbrev Into : State → ℕ → Type 0
+  Into u status = IntoFound name reading contents refused request s u status
+
+  module _ (bytes : List ℕ) (whole : held ≡ (bytes, false)) (kept : refused ≡ before) where
+    abbrev fine : held.1 ≡ false
+    fine = ap (λ (k : List ℕ × Bool). k.1) whole
+
+    told_by : RunsBefore empty → Into t answered
+    told_by (inl once) now out = inl (refl, (before, text, t, answered, once, inl (fine, sym kept, refl, refl)))
+    told_by (inr (left, (same, says, ends))) now out = inr (kept ∙ left, (refl, says, ends))
+
+    pub into_told : RunsBefore start → Into t answered
+    into_told runs = told_by (subst RunsBefore none runs)
+
+    module _ (u : State) (e : CommandError) (status : ℕ) (few : answered ≤ 1) (is : IsNotSaved name e) (says : Reports false (Err e) t u) (ends : status ≡ status_of (Err e)) where
+      unsaved_by : RunsBefore empty → Into u status
+      unsaved_by (inl once) now out = inl (refl, (before, text, t, answered, once, inr (inl (fine, few, e, is, says, ends))))
+      unsaved_by (inr (left, (same, told, three))) now out =
+          let is_three : answered ≡ 3 = three in
+          absurd (omega (arith, few, is_three))
+
+      pub into_unsaved : RunsBefore start → Into u status
+      into_unsaved runs = unsaved_by (subst RunsBefore none runs)
+
+  module _ (lost : held.1 ≡ true) (refusal : refused ≡ true) (u : State) (status : ℕ) (says : Tells t u (codes "no memory\n")) (ends : status ≡ 3) where
+    lost_by : RunsBefore empty → Into u status
+    lost_by (inl once) now out = inl (refl, (before, text, t, answered, once, inr (inr (lost, refusal, says, ends))))
+    lost_by (inr (left, (same, told, three))) now out = absurd (true≢false (sym lost ∙ ap (λ (k : State). k.failed) same))
+
+    pub into_lost : RunsBefore start → Into u status
+    into_lost runs = lost_by (subst RunsBefore none runs)

@@ -86,7 +86,13 @@ among command (name ∷ names) word (first, each) is =
     here_or_later command name word (is_word word name) (has word names) refl first (λ later. among command names word each later) is
 
 its_options : (command : Verb) → HasEach command (options_of command)
-its_options (verb.Lists operation) = (refl, (refl, (refl, (refl, tt))))
+its_options (verb.Lists Merge) = (refl, (refl, (refl, (refl, tt))))
+its_options (verb.Lists Nets) = (refl, (refl, (refl, (refl, tt))))
+its_options (verb.Lists Minus) = (refl, (refl, (refl, (refl, tt))))
+its_options (verb.Lists And) = (refl, (refl, (refl, (refl, tt))))
+its_options (verb.Lists Not) = (refl, (refl, (refl, (refl, tt))))
+its_options (verb.Lists Ranges) = (refl, (refl, (refl, (refl, tt))))
+its_options (verb.Lists of_lists.Count) = (refl, (refl, (refl, (refl, tt))))
 its_options verb.Diff = (refl, (refl, (refl, (refl, tt))))
 its_options verb.Free = (refl, (refl, (refl, (refl, (refl, tt)))))
 its_options verb.Check = (refl, (refl, (refl, tt)))
@@ -160,10 +166,11 @@ with_parts command found = and_then found (λ parts. Ok (command, parts))
 
 module _ (words options : List (List ℕ)) where
   abbrev Asks : Request → Type 0
-  Asks request = line_request words ≡ Ok (reading_of options, request)
+  Asks request = line_request words ≡ Ok (reading_of options, (None, request))
 
   module _ (command : Verb) (valued values operands : List (List ℕ)) (typed : AreTyped command options valued operands words)
-      (parts : parts_from command (valued ++ operands) Any ≡ Ok (parts_with [] values operands)) (fits : extra_operand command operands ≡ None) where
+      (parts : parts_from command (valued ++ operands) Any ≡ Ok (parts_with [] values operands)) (fits : extra_operand command operands ≡ None)
+      (no_file : value_of command (codes "-o") values ≡ Ok None) where
     abbrev all_parts : Parts
     all_parts = parts_with options values operands
 
@@ -178,29 +185,29 @@ module _ (words options : List (List ℕ)) where
         ∙ (ap (λ (r : Result Verb (List ℕ)). and_then (and_then r (λ one. with_parts one (parts_from one (options ++ (valued ++ operands)) Any))) (λ line. read_request line.0 line.1)) (named command)
         ∙ (ap (λ (r : Result Parts (List ℕ)). and_then (with_parts command r) (λ line. read_request line.0 line.1))
         (options_first command options (valued ++ operands) values operands all parts)
-        ∙ read_one command all_parts (reading_of options) request asked refl))
+        ∙ read_one command all_parts (reading_of options) None request asked (if_false (asks_help options) _ _ no_page ∙ no_file) refl))
 
   plain_asks : (command : Verb) (operands : List (List ℕ)) (request : Request) → AreTyped command options [] operands words → extra_operand command operands ≡ None
       → verb_request command (parts_with options [] operands) ≡ Ok request → Asks request
   plain_asks command operands request (is, all, no_page, none, enough) fits made =
-      line_asks command [] [] operands (is, all, no_page, none, enough) (operands_alone command operands none) fits request made
+      line_asks command [] [] operands (is, all, no_page, none, enough) (operands_alone command operands none) fits refl request made
 
   pub typed_asks : (request : Request) → IsTyped words options request → Asks request
   typed_asks (Lists operation files) typed = plain_asks (verb.Lists operation) files (Lists operation files) typed refl (without_value operation files)
   typed_asks (Styled style operation files) (plain, takes, (is, all, no_page, none, enough)) =
       let values = codes "--format" ∷ format_name style.format ∷ [] in
       line_asks (verb.Lists operation) values values files (is, all, no_page, none, enough)
-      (behind_value (verb.Lists operation) (codes "--format") (format_name style.format) files (has_format operation takes) none) refl
+      (behind_value (verb.Lists operation) (codes "--format") (format_name style.format) files (has_format operation takes) none) refl refl
       (Styled style operation files) (styled_request operation style files plain)
   typed_asks (NotIn net files) (is, all, no_page, none, enough) =
       line_asks (verb.Lists Not) (codes "--in" ∷ net ∷ []) (codes "--in" ∷ net ∷ []) files (is, all, no_page, none, enough)
-      (behind_value (verb.Lists Not) (codes "--in") net files refl none) refl (NotIn net files) refl
+      (behind_value (verb.Lists Not) (codes "--in") net files refl none) refl refl (NotIn net files) refl
   typed_asks (Diff old new) typed = plain_asks verb.Diff (old ∷ new ∷ []) (Diff old new) typed refl refl
   typed_asks (Free First pool len used) (one, typed) =
       plain_asks verb.Free (pool ∷ len ∷ used) (Free First pool len used) typed refl (extent_asks false [] None First options pool len used one refl refl)
   typed_asks (Free (Count count) pool len used) (one, (is, all, no_page, none, enough)) =
       line_asks verb.Free (codes "--count" ∷ count ∷ []) (codes "--count" ∷ count ∷ []) (pool ∷ len ∷ used) (is, all, no_page, none, enough)
-      (behind_count count (pool ∷ len ∷ used) none) refl (Free (Count count) pool len used)
+      (behind_count count (pool ∷ len ∷ used) none) refl refl (Free (Count count) pool len used)
       (extent_asks false (codes "--count" ∷ count ∷ []) (Some count) (Count count) options pool len used one refl refl)
   typed_asks (Free All pool len used) (every, typed) =
       plain_asks verb.Free (pool ∷ len ∷ used) (Free All pool len used) typed refl (extent_asks true [] None All options pool len used every refl refl)
@@ -208,19 +215,19 @@ module _ (words options : List (List ℕ)) where
   typed_asks (Check files) typed = plain_asks verb.Check files (Check files) typed refl refl
   typed_asks (Which address files) typed = plain_asks verb.Which (address ∷ files) (Which address files) typed refl refl
   typed_asks (Match given list file) (same, inl typed) =
-      plain_asks verb.Match (list ∷ file ∷ []) (Match options list file) typed refl refl ∙ ap (λ (k : List (List ℕ)). Ok (reading_of options, Match k list file)) (sym same)
+      plain_asks verb.Match (list ∷ file ∷ []) (Match options list file) typed refl refl ∙ ap (λ (k : List (List ℕ)). Ok (reading_of options, (None, Match k list file))) (sym same)
   typed_asks (Match given list file) (same, inr (input, typed)) =
       plain_asks verb.Match (list ∷ []) (Match options list input_name) typed refl refl
-      ∙ (ap (λ (k : List (List ℕ)). Ok (reading_of options, Match k list input_name)) (sym same)
-      ∙ ap (λ (k : List ℕ). Ok (reading_of options, Match given list k)) (sym input))
+      ∙ (ap (λ (k : List (List ℕ)). Ok (reading_of options, (None, Match k list input_name))) (sym same)
+      ∙ ap (λ (k : List ℕ). Ok (reading_of options, (None, Match given list k))) (sym input))
   typed_asks (MatchEach given list []) typed = absurd typed
   typed_asks (MatchEach given list (first ∷ [])) typed = absurd typed
   typed_asks (MatchEach given list (first ∷ second ∷ files)) (same, typed) =
       plain_asks verb.Match (list ∷ first ∷ second ∷ files) (MatchEach options list (first ∷ second ∷ files)) typed refl refl
-      ∙ ap (λ (k : List (List ℕ)). Ok (reading_of options, MatchEach k list (first ∷ second ∷ files))) (sym same)
+      ∙ ap (λ (k : List (List ℕ)). Ok (reading_of options, (None, MatchEach k list (first ∷ second ∷ files)))) (sym same)
   typed_asks (Look table file) (inl typed) = plain_asks verb.Look (table ∷ file ∷ []) (Look table file) typed refl refl
   typed_asks (Look table file) (inr (input, typed)) =
-      plain_asks verb.Look (table ∷ []) (Look table input_name) typed refl refl ∙ ap (λ (k : List ℕ). Ok (reading_of options, Look table k)) (sym input)
+      plain_asks verb.Look (table ∷ []) (Look table input_name) typed refl refl ∙ ap (λ (k : List ℕ). Ok (reading_of options, (None, Look table k))) (sym input)
   typed_asks (Compile table name) typed = plain_asks verb.Compile (table ∷ name ∷ []) (Compile table name) typed refl refl
   typed_asks (Describe what operand) typed = plain_asks (verb.Describe what) (operand ∷ []) (Describe what operand) typed refl refl
   typed_asks (Class operand) typed = plain_asks verb.Class (operand ∷ []) (Class operand) typed refl refl

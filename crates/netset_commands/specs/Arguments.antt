@@ -112,13 +112,17 @@ long_parts command word =
     else if takes_value command (before_first is_equals word) then Ok (named_value (before_first is_equals word) (after_first is_equals word), Any)
     else topic_parts command word
 
+-- what a word adds that begins with one -: -o before its value, or letters
+abbrev pub short_parts : Verb → List ℕ → Result (Parts × Next) (List ℕ)
+short_parts command word = if takes_value command word then Ok (only_value word, Value) else letter_parts command word
+
 -- what a word adds, and what the next one is: an option or an operand, the value of this option, or behind -- an operand
 abbrev pub word_parts : Verb → Next → List ℕ → Result (Parts × Next) (List ℕ)
 word_parts command Operand word = Ok (only_operand word, Operand)
 word_parts command Value word = Ok (only_value word, Any)
 word_parts command Any word =
     if is_word (codes "--") word then Ok (no_parts, Operand)
-    else if is_option word then (if starts_with nat_eq word (codes "--") then long_parts command word else letter_parts command word)
+    else if is_option word then (if starts_with nat_eq word (codes "--") then long_parts command word else short_parts command word)
     else Ok (only_operand word, Any)
 
 -- the parts of words
@@ -276,10 +280,19 @@ abbrev pub part_request : Verb → Parts → Result Request (List ℕ)
 part_request command parts = if asks_help parts.options then Ok (Help (Some command))
     else counted_request command parts (missing_operand command parts.operands) (extra_operand command parts.operands)
 
--- how lists are read, and the request, of a command and its parts
-abbrev pub read_request : Verb → Parts → Result (Reading × Request) (List ℕ)
-read_request command parts = and_then (part_request command parts) (λ request. Ok (reading_of parts.options, request))
+-- the file that the answer is written to, if one is named; a page is written to standard output
+abbrev pub target_in : Verb → Parts → Result (Option (List ℕ)) (List ℕ)
+target_in command parts = if asks_help parts.options then Ok None else value_of command (codes "-o") parts.values
+
+-- how lists are read, the file that the answer is written to, if one is named, and the request
+abbrev pub Line : Type 0
+Line = Reading × (Option (List ℕ) × Request)
+
+-- these of a command and its parts
+abbrev pub read_request : Verb → Parts → Result Line (List ℕ)
+read_request command parts = and_then (part_request command parts)
+    (λ request. and_then (target_in command parts) (λ target. Ok (reading_of parts.options, (target, request))))
 
 -- the same of a command line, or the line that says what is wrong with it
-abbrev pub line_request : List (List ℕ) → Result (Reading × Request) (List ℕ)
+abbrev pub line_request : List (List ℕ) → Result Line (List ℕ)
 line_request words = and_then (line_parts words) (λ line. read_request line.0 line.1)

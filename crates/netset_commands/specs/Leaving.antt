@@ -1,15 +1,14 @@
--- What a run leaves in the folder: the file that `compile` writes.
-use Rattle.std.specs.Prelude.{◌≡◌, ◌≢◌, ◌⊎◌, ℕ, Bool, List, Option, Some, Result, Ok, Err}
+-- What a run leaves in the folder: the file that `compile` writes, or that of `-o`.
+use Rattle.std.specs.Prelude.{◌≡◌, ◌≢◌, ◌⊎◌, ℕ, ◌≤◌, Bool, List, Option, Some, None, Result, Ok, Err}
 use Rattle.cidr.specs.declared.family.Family.{Family}
 use Rattle.cidr_io.specs.Arguments.{AreArguments}
 use Rattle.cidr_lists.specs.Lists.{Text}
 use Rattle.cidr_lists.specs.Tables.{IsTable}
-use Rattle.netset_commands.specs.Arguments.{line_request}
-use Rattle.netset_commands.specs.Commands.{Request, Compile}
+use Rattle.netset_commands.specs.Arguments.{Line, line_request}
+use Rattle.netset_commands.specs.Commands.{Request, Compile, IsAnswer}
 use Rattle.netset_commands.specs.Compiled.{IsTableFile}
-use Rattle.netset_commands.specs.Program.{contents_by}
+use Rattle.netset_commands.specs.Program.{answer_status, contents_by}
 use Rattle.netset_commands.specs.Saving.{with_file}
-use Rattle.netset_commands.specs.declared.commands.Reading.{Reading}
 use Rattle.netset_commands.specs.declared.errors.CommandError.{CommandError}
 use Rattle.netset_commands.specs.declared.output.answers.Verdict.{Verdict}
 use Rattle.netset_commands.specs.declared.output.answers.Verdict.TheVariants.{Yes, No}
@@ -31,14 +30,22 @@ LeavesBy contents (Compile table name) old new status =
     ((status ≡ 0) × IsSaved (contents table) name old new) ⊎ ((status ≢ 0) × (new ≡ old))
 LeavesBy contents request old new status = new ≡ old
 
--- the same of a request and how its lists are read, or of words that are none
-abbrev pub LeavesFound : Result (Reading × Request) (List ℕ) → (List ℕ → Option (List ℕ)) → Option (List (List ℕ × List ℕ)) → Option (List (List ℕ × List ℕ)) → ℕ → Type 0
-LeavesFound (Ok (reading, request)) contents old new status = LeavesBy (contents_by reading.host_bits contents) request old new status
+-- the same where the answer goes to the file of a name: it is written there where the status is that of an answer, and else
+-- nothing is
+abbrev pub LeavesTo : Option (List ℕ) → (List ℕ → Option Text) → Request → Option (List (List ℕ × List ℕ)) → Option (List (List ℕ × List ℕ)) → ℕ → Type 0
+LeavesTo None contents request old new status = LeavesBy contents request old new status
+LeavesTo (Some name) contents request old new status =
+    ((answer : List ℕ) × (verdict : Verdict) × IsAnswer contents request answer verdict × (status ≡ answer_status verdict) × (new ≡ with_file name answer old))
+    ⊎ ((2 ≤ status) × (new ≡ old))
+
+-- the same of a line of arguments, or of words that are none
+abbrev pub LeavesFound : Result Line (List ℕ) → (List ℕ → Option (List ℕ)) → Option (List (List ℕ × List ℕ)) → Option (List (List ℕ × List ℕ)) → ℕ → Type 0
+LeavesFound (Ok (reading, (target, request))) contents old new status = LeavesTo target (contents_by reading.host_bits contents) request old new status
 LeavesFound (Err line) contents old new status = new ≡ old
 
--- What a run leaves in the folder, from its arguments, the files that it reads and its exit status. A run with another
--- status than 0 leaves it as it was.
+-- What a run leaves in the folder, from its arguments, the files that it reads and its exit status. A run whose status is
+-- that of no answer leaves it as it was.
 abbrev pub RunLeaves : Option (List (List ℕ)) → (List ℕ → Option (List ℕ)) → Option (List (List ℕ × List ℕ)) → Option (List (List ℕ × List ℕ)) → ℕ → Type 0
 RunLeaves words contents old new status =
     ((given : List (List ℕ)) × AreArguments words given × LeavesFound (line_request given) contents old new status)
-    ⊎ ((status ≢ 0) × (new ≡ old))
+    ⊎ ((2 ≤ status) × (new ≡ old))

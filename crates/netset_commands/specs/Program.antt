@@ -1,5 +1,5 @@
 -- What a run of the program does with its arguments, the files, standard output and standard error.
-use Rattle.std.specs.Prelude.{◌≡◌, ◌≢◌, ℕ, ◌≤◌, Bool, true, false, List, [], ◌∷◌, ◌++◌, ◌⊎◌, codes, Option, Some, option_map, Result, Ok, Err, IfErr}
+use Rattle.std.specs.Prelude.{◌≡◌, ◌≢◌, ℕ, ◌≤◌, Bool, true, false, List, [], ◌∷◌, ◌++◌, ◌⊎◌, codes, Option, Some, None, option_map, Result, Ok, Err, IfErr}
 use Rattle.std.specs.List.{AllZip}
 use Rattle.cidr.specs.texts.Messages.{parse_message}
 use Rattle.cidr.specs.either.IpText.{IsIpNetworkText}
@@ -10,7 +10,7 @@ use Rattle.cidr_io.specs.Shown.{excerpt, shown}
 use Rattle.cidr_io.specs.Writing.{State, Answered, Tells}
 use Rattle.cidr_io.specs.declared.sink.OutputFailed.{OutputFailed}
 use Rattle.cidr_lists.specs.Lists.{Text, text_by, ListSays, IsFirstError}
-use Rattle.netset_commands.specs.Arguments.{line_request}
+use Rattle.netset_commands.specs.Arguments.{Line, line_request}
 use Rattle.netset_commands.specs.Commands.{Request, Lists, Styled, NotIn, Diff, Free, Split, Check, Which, Match, MatchEach, Look, Compile, Describe, Class, Single, ReadsInputTwice, input_name, read_files, AreLists, AreTold, HoldsOf, IsAnswer}
 use Rattle.netset_commands.specs.Causes.{Cause, FileMayFail}
 use Rattle.netset_commands.specs.Class.{IsClassUntil, IsUnclassed}
@@ -285,14 +285,41 @@ RunsOnce reading contents refused request closed out new_out err new_err status 
     (ReadsInputTwice request × (e : CommandError) × IsReadTwice e × EndsWith e closed out new_out err new_err status)
     ⊎ (¬ (ReadsInputTwice request) × RunsRequest reading (contents_by reading.host_bits contents) refused request closed out new_out err new_err status)
 
+-- an output that nothing was written to yet
+abbrev pub empty : State
+empty = record { taken = Some []; failed = false }
+
+-- the error is that this file can't be written
+abbrev pub IsNotSaved : List ℕ → CommandError → Type 0
+IsNotSaved name (error.File file NotSaved) = file.now ≡ name
+IsNotSaved name e = ⊥
+
+-- what becomes of a request whose answer goes to the file of this name: nothing is written to standard output, and a text in
+-- memory takes the answer. Where there is memory for it, the run ends as the request does, or the file can't be written; else
+-- that there is none is the error, and not that the output failed. What the file is then is said in `Leaving`. `before` tells
+-- whether an allocation was refused before that of the text.
+abbrev pub RunsInto : List ℕ → Reading → (List ℕ → Option (List ℕ)) → Bool → Request → State → State → State → State → ℕ → Type 0
+RunsInto name reading contents refused request out new_out err new_err status = (new_out ≡ out)
+    × ((before : Bool) × (text mid : State) × (answered : ℕ) × RunsOnce reading contents before request text.failed empty text err mid answered
+    × (((text.failed ≡ false) × (before ≡ refused) × (new_err ≡ mid) × (status ≡ answered))
+    ⊎ (((text.failed ≡ false) × (answered ≤ 1) × (e : CommandError) × IsNotSaved name e × Reports false (Err e) mid new_err × (status ≡ status_of (Err e)))
+    ⊎ ((text.failed ≡ true) × (refused ≡ true) × Tells mid new_err (codes "no memory\n") × (status ≡ 3)))))
+
+-- the same where a file is named, or none
+abbrev pub RunsTo : Option (List ℕ) → Reading → (List ℕ → Option (List ℕ)) → Bool → Request → Bool → State → State → State → State → ℕ → Type 0
+RunsTo None reading contents refused request closed out new_out err new_err status =
+    RunsOnce reading contents refused request closed out new_out err new_err status
+RunsTo (Some name) reading contents refused request closed out new_out err new_err status =
+    RunsInto name reading contents refused request out new_out err new_err status
+
 -- the words are no request: this line says why, and nothing else is written
 abbrev pub IsMisused : List ℕ → State → State → State → State → ℕ → Type 0
 IsMisused line out new_out err new_err status = (new_out ≡ out) × Tells err new_err line × (status ≡ 2)
 
--- what becomes of a request and how its lists are read, or of words that are none
-abbrev pub RunsLine : Result (Reading × Request) (List ℕ) → (List ℕ → Option (List ℕ)) → Bool → Bool → State → State → State → State → ℕ → Type 0
-RunsLine (Ok (reading, request)) contents refused closed out new_out err new_err status =
-    RunsOnce reading contents refused request closed out new_out err new_err status
+-- what becomes of a line of arguments, or of words that are none
+abbrev pub RunsLine : Result Line (List ℕ) → (List ℕ → Option (List ℕ)) → Bool → Bool → State → State → State → State → ℕ → Type 0
+RunsLine (Ok (reading, (target, request))) contents refused closed out new_out err new_err status =
+    RunsTo target reading contents refused request closed out new_out err new_err status
 RunsLine (Err line) contents refused closed out new_out err new_err status = IsMisused line out new_out err new_err status
 
 -- the line of an argument that is not UTF-8, by its beginning as it is shown
@@ -309,7 +336,12 @@ Runs words contents refused closed out new_out err new_err status =
 
 -- ---- what private functions promise
 -- what becomes of words, or there was no memory for them
-abbrev pub RunsFound : Result (Reading × Request) (List ℕ) → (List ℕ → Option (List ℕ)) → Bool → Bool → State → State → State → State → ℕ → Type 0
+abbrev pub RunsFound : Result Line (List ℕ) → (List ℕ → Option (List ℕ)) → Bool → Bool → State → State → State → State → ℕ → Type 0
 RunsFound found contents refused closed out new_out err new_err status =
     RunsLine found contents refused closed out new_out err new_err status
     ⊎ ((refused ≡ true) × EndsWith error.NoMemory closed out new_out err new_err status)
+
+-- what becomes of a request whose answer goes to a file, or there was no memory for it, whatever the standard output is
+abbrev pub IntoFound : List ℕ → Reading → (List ℕ → Option (List ℕ)) → Bool → Request → State → State → ℕ → Type 0
+IntoFound name reading contents refused request err new_err status = (closed : Bool) (out : State)
+    → RunsFound (Ok (reading, (Some name, request))) contents refused closed out out err new_err status

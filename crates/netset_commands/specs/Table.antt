@@ -4,7 +4,7 @@ use Rattle.std.specs.List.{concat, flat_map}
 use Rattle.netset_commands.specs.Matching.{has, is_word}
 use Rattle.netset_commands.specs.declared.commands.describe.Description.TheVariants.{Zones, Masks}
 use Rattle.netset_commands.specs.declared.commands.operations.Operation.TheVariants.{Merge, Nets, Minus, And, Not, Ranges, Count}
-use Rattle.netset_commands.specs.declared.commands.table.TheConstants.{COMMANDS, MERGE, NETS, MINUS, AND, NOT, RANGES, COUNT, DIFF, FREE, CHECK, WHICH, MATCH, LOOK, COMPILE, REVERSE, MASK, CLASS, SHOW, SPLIT, NTH, HELP, VERSION, OPTIONS, HOST_BITS, KEEP_GOING, FORMAT, LISTS}
+use Rattle.netset_commands.specs.declared.commands.table.TheConstants.{COMMANDS, MERGE, NETS, MINUS, AND, NOT, RANGES, COUNT, DIFF, FREE, CHECK, WHICH, MATCH, LOOK, COMPILE, REVERSE, MASK, CLASS, SHOW, SPLIT, NTH, HELP, VERSION, OPTIONS, HOST_BITS, KEEP_GOING, FORMAT, OUTPUT, LISTS}
 use Rattle.netset_commands.specs.declared.commands.table.Verb.{Verb}
 use Rattle.netset_commands.specs.declared.commands.table.Verb.TheVariants.{Lists, Diff, Free, Check, Which, Match, Look, Compile, Describe, Class, Show, Split, Nth, Help, Version}
 use denote.Ref.{Bor}
@@ -58,13 +58,21 @@ options_of command = codes "--host-bits" ∷ codes "-k" ∷ codes "-h" ∷ codes
 abbrev pub is_of_style : List ℕ → Bool
 is_of_style option = is_word (codes "--format") option || (is_word (codes "--prefix") option || is_word (codes "--suffix") option)
 
--- the options with a value: the network of `not --in`, how networks are written, and how many `free --count` tells
+-- the option whose value is the file that the answer is written to
+abbrev pub is_of_output : List ℕ → Bool
+is_of_output option = is_word (codes "-o") option
+
+-- the options with a value: the network of `not --in`, how networks are written, how many `free --count` tells, and where the
+-- answer is written
 abbrev pub takes_value : Verb → List ℕ → Bool
-takes_value (Lists Not) option = is_word (codes "--in") option || is_of_style option
-takes_value (Lists Ranges) option = false
-takes_value (Lists Count) option = false
-takes_value (Lists operation) option = is_of_style option
-takes_value Free option = is_word (codes "--count") option
+takes_value (Lists Not) option = is_word (codes "--in") option || (is_of_style option || is_of_output option)
+takes_value (Lists Ranges) option = is_of_output option
+takes_value (Lists Count) option = is_of_output option
+takes_value (Lists operation) option = is_of_style option || is_of_output option
+takes_value Diff option = is_of_output option
+takes_value Free option = is_word (codes "--count") option || is_of_output option
+takes_value Split option = is_of_output option
+takes_value (Describe what) option = is_of_output option
 takes_value command option = false
 
 -- the operands that it needs, by their names on the page
@@ -132,8 +140,12 @@ note_of command option note = if has option (options_of command) then note else 
 abbrev pub format_note : Verb → List ℕ
 format_note command = if takes_value command (codes "--format") then FORMAT.now else []
 
+-- a note on the file that the answer is written to, if the command has one
+abbrev pub output_note : Verb → List ℕ
+output_note command = if takes_value command (codes "-o") then OUTPUT.now else []
+
 -- the page of a command, or of all
 abbrev pub help_text : Option Verb → List ℕ
 help_text (Some command) =
-    concat (about_of command ∷ note_of command (codes "--host-bits") HOST_BITS.now ∷ note_of command (codes "-k") KEEP_GOING.now ∷ format_note command ∷ [])
-help_text None = flat_map about_of commands ++ concat (OPTIONS.now ∷ HOST_BITS.now ∷ KEEP_GOING.now ∷ FORMAT.now ∷ LISTS.now ∷ [])
+    concat (about_of command ∷ note_of command (codes "--host-bits") HOST_BITS.now ∷ note_of command (codes "-k") KEEP_GOING.now ∷ format_note command ∷ output_note command ∷ [])
+help_text None = flat_map about_of commands ++ concat (OPTIONS.now ∷ HOST_BITS.now ∷ KEEP_GOING.now ∷ FORMAT.now ∷ OUTPUT.now ∷ LISTS.now ∷ [])

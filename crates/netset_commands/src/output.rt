@@ -4,6 +4,7 @@ pub mod answers;
 pub mod compiled;
 pub mod families;
 pub mod folder;
+pub mod held;
 pub mod printing;
 pub mod ranges;
 pub mod report;

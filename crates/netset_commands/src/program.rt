@@ -1,21 +1,21 @@
 //! A run of the program, from its arguments to its exit status.
-ghost use Rattle.std.specs.Prelude.{◌≡◌, ℕ, Bool, true, List, Option, map, IfErr, MatchOption, Ok};
+ghost use Rattle.std.specs.Prelude.{◌≡◌, ℕ, Bool, true, List, Option, None, Some, map, IfErr, MatchOption, Ok};
 ghost use Rattle.cidr_io.specs.Arguments.{AreUnread, IsNotText};
 ghost use Rattle.std.specs.String.{string_bytes};
 ghost use Rattle.netset_commands.specs.Causes.{Cause, FileMayFail};
 ghost use Rattle.netset_commands.specs.Combining.{form_of};
 ghost use Rattle.netset_commands.specs.Arguments.{line_request, read_request};
-ghost use Rattle.netset_commands.specs.Command.{parts_in, request_of};
-ghost use Rattle.netset_commands.specs.Leaving.{Leaves, LeavesBy, LeavesFound, RunLeaves};
+ghost use Rattle.netset_commands.specs.Command.{given, parts_in, request_of};
+ghost use Rattle.netset_commands.specs.Leaving.{Leaves, LeavesBy, LeavesFound, LeavesTo, RunLeaves};
 ghost use Rattle.netset_commands.specs.Commands.{Lists, Styled};
 ghost use Rattle.cidr_lists.specs.Formats.{style_in};
 ghost use Rattle.netset_commands.specs.Sets.{Prints};
 ghost use Rattle.cidr_lists.specs.Sets.{networks_of};
 ghost use Rattle.netset_commands.specs.declared.errors.CommandError.{CommandError};
-ghost use Rattle.netset_commands.specs.Program.{AnswersRequest, IsCaused, IsReadTwice, IsWrong, KeepsGoing, Runs, RunsFound};
+ghost use Rattle.netset_commands.specs.Program.{AnswersRequest, IntoFound, IsCaused, IsNotSaved, IsReadTwice, IsWrong, KeepsGoing, Runs, RunsFound, contents_by};
 ghost use Rattle.netset_commands.specs.Typed.{AnswersTyped};
 
-use crate::commands::arguments::{Parts, command_of, line_parts};
+use crate::commands::arguments::{Parts, command_of, line_parts, target_of};
 use crate::commands::changes::diff;
 use crate::commands::check::check;
 use crate::commands::class::class;
@@ -33,12 +33,13 @@ use crate::commands::split::split;
 use crate::commands::table::Verb;
 use crate::commands::which::{address_of, which};
 use crate::commands::{Command, Reading, name_input_twice, reading_of};
-use crate::errors::{ArgumentError, CommandError, UsageError};
+use crate::errors::{ArgumentError, CommandError, FileError, UsageError};
 use crate::input::files::{Files, ReadBy, Sources};
 use crate::input::keeping::{Loaded, load};
 use crate::input::several::read_several;
 use crate::output::answers::{Verdict, by_output};
-use crate::output::folder::Folder;
+use crate::output::folder::{Folder, Sealed};
+use crate::output::held::Held;
 use crate::output::ranges::write_ranges;
 use crate::output::report::{report, report_misuse, report_not_text};
 use crate::output::sets::{write_bytes, write_counts, write_sets};
@@ -226,9 +227,9 @@ fn answer_once<'a, M: Memory, F: Files, D: Folder, O: Output, E: Sink>(
     out: &mut O,
     err: &mut E,
 ) -> u8
-    ensures runs { RunsFound (Ok (reading, request_of command.entry)) (F.contents files.now) (M.refused memory.new) (O.closed out.new) (O.Sink.state out.old) (O.Sink.state out.new)
+    ensures runs { RunsFound (Ok (reading, (None, request_of command.entry))) (F.contents files.now) (M.refused memory.new) (O.closed out.new) (O.Sink.state out.old) (O.Sink.state out.new)
         (E.state err.old) (E.state err.new) result }
-    ensures leaves { LeavesFound (Ok (reading, request_of command.entry)) (F.contents files.now) (D.saved folder.old) (D.saved folder.new) result }
+    ensures leaves { LeavesFound (Ok (reading, (None, request_of command.entry))) (F.contents files.now) (D.saved folder.old) (D.saved folder.new) result }
 {
     let Ok(names) = command.files(memory) else {
         return report(&Err(CommandError::NoMemory), false, err);
@@ -247,6 +248,64 @@ fn answer_once<'a, M: Memory, F: Files, D: Folder, O: Output, E: Sink>(
     report(&answered, out.is_closed(), err)
 }
 
+/// The error of a file that can't be written.
+fn unsaved<'a>(name: &'a str) -> CommandError<'a>
+    ensures { IsNotSaved name.now result }
+{
+    CommandError::File(name, FileError::NotSaved)
+}
+
+/// Answers a command whose lists are read this way into memory, writes the answer, if there is one, to the file of a name,
+/// reports and returns the exit status.
+fn answer_into<'a, M: Memory, F: Files, D: Folder, E: Sink>(
+    memory: &mut M,
+    files: &F,
+    folder: &mut D,
+    reading: Reading,
+    name: &'a str,
+    command: Command<'a>,
+    err: &mut E,
+) -> u8
+    ensures runs { IntoFound name.now reading (F.contents files.now) (M.refused memory.new) (request_of command.entry) (E.state err.old) (E.state err.new) result }
+    ensures leaves { LeavesTo (Some name.now) (contents_by reading.host_bits (F.contents files.now)) (request_of command.entry)
+        (D.saved folder.old) (D.saved folder.new) result }
+{
+    let mut held = Held::new(memory.alloc());
+    let status = answer_once(memory, files, &mut Sealed, reading, command, &mut held, err);
+    let Ok(text) = memory.watch(held.finish()) else {
+        return report(&Err(CommandError::NoMemory), false, err);
+    };
+    if status > 1 {
+        return status;
+    }
+    match folder.replace(name, text.as_slice()) {
+        Ok(()) => status,
+        Err(_) => report(&Err(unsaved(name)), false, err),
+    }
+}
+
+/// Answers a command whose lists are read this way, to the file of a name where one is given, reports and returns the exit
+/// status.
+fn answer_to<'a, M: Memory, F: Files, D: Folder, O: Output, E: Sink>(
+    memory: &mut M,
+    files: &F,
+    folder: &mut D,
+    reading: Reading,
+    target: Option<&'a str>,
+    command: Command<'a>,
+    out: &mut O,
+    err: &mut E,
+) -> u8
+    ensures runs { RunsFound (Ok (reading, (given target.entry, request_of command.entry))) (F.contents files.now) (M.refused memory.new) (O.closed out.new) (O.Sink.state out.old) (O.Sink.state out.new)
+        (E.state err.old) (E.state err.new) result }
+    ensures leaves { LeavesFound (Ok (reading, (given target.entry, request_of command.entry))) (F.contents files.now) (D.saved folder.old) (D.saved folder.new) result }
+{
+    match target {
+        None => answer_once(memory, files, folder, reading, command, out, err),
+        Some(name) => answer_into(memory, files, folder, reading, name, command, err),
+    }
+}
+
 /// Answers a command and the parts of the words behind it, reports and returns the exit status.
 fn answer_parts<M: Memory, F: Files, D: Folder, O: Output, E: Sink>(
     memory: &mut M,
@@ -262,10 +321,13 @@ fn answer_parts<M: Memory, F: Files, D: Folder, O: Output, E: Sink>(
     ensures leaves { LeavesFound (read_request verb (parts_in parts.now)) (F.contents files.now) (D.saved folder.old) (D.saved folder.new) result }
 {
     match command_of(verb, parts) {
-        Ok(command) => {
-            let reading = reading_of(parts.options.as_slice());
-            answer_once(memory, files, folder, reading, command, out, err)
-        }
+        Ok(command) => match target_of(verb, parts) {
+            Ok(target) => {
+                let reading = reading_of(parts.options.as_slice());
+                answer_to(memory, files, folder, reading, target, command, out, err)
+            }
+            Err(misuse) => report_misuse(&misuse, err),
+        },
         Err(misuse) => report_misuse(&misuse, err),
     }
 }
@@ -329,7 +391,7 @@ fn answer_arguments<M: Memory, A: Arguments, F: Files, D: Folder, O: Output, E: 
 /// Answers the arguments on `out`, writes the line that belongs to the answer, if there is one, to `err`, and returns
 /// the exit status: 0 for an answer, 1 for none, no or findings, 2 for usage, a file that can't be read and a line in error, 3 where the output
 /// failed or there is no memory. Where nobody reads the output any more, there is no such line. The file of `compile` is
-/// written to `folder`, and nothing else.
+/// written to `folder`, and with `-o` an answer in place of `out`, and nothing else.
 ///
 /// The contract says twice what is written: in short where the status is 0 or 1 (`answers`), and with all errors (`runs`).
 pub fn program<M: Memory, A: Arguments, F: Files, D: Folder, O: Output, E: Sink>(

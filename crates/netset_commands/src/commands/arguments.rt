@@ -1,7 +1,7 @@
 //! The words of a command line as options and operands, and the command that they are.
 ghost use Rattle.std.specs.Prelude.{◌≡◌, ◌<◌, [], Ok, Err, Bool, true, false, length, drop, MatchOption, MatchResult, option_map, unwrap_or};
 ghost use Rattle.std.specs.List.{after_first, before_first};
-ghost use Rattle.netset_commands.specs.Arguments.{asks_help, chosen_style, extent_by, extra_operand, fresh, full_name, help_request, is_equals, is_plain, is_option, is_topic, letter_parts, line_parts, lists_request, long_parts, made_request, match_request, misuse_text, missing_operand, named_format, named_verb, no_option, no_parts, operand_or, part_request, parts_from, short_option, some_style, style_in_values, style_of, taken_value, takes, topic_parts, value_of, verb_of, verb_request, word_parts};
+ghost use Rattle.netset_commands.specs.Arguments.{asks_help, chosen_style, extent_by, extra_operand, fresh, full_name, help_request, is_equals, is_plain, is_option, is_topic, letter_parts, line_parts, lists_request, long_parts, made_request, match_request, misuse_text, missing_operand, named_format, named_verb, no_option, no_parts, operand_or, part_request, parts_from, short_option, short_parts, some_style, style_in_values, style_of, taken_value, takes, target_in, topic_parts, value_of, verb_of, verb_request, word_parts};
 ghost use Rattle.netset_commands.specs.Command.{AddsParts, IsUsageError, given, extent_of, misuse_line, parts_in, request_of};
 ghost use Rattle.netset_commands.specs.Matching.{is_word};
 ghost use Rattle.netset_commands.specs.Table.{name_of, takes_value, texts};
@@ -185,6 +185,24 @@ impl<'a> Parts<'a> {
         }
     }
 
+    /// Adds a word that begins with one `-`: an option before its value, or options of letters.
+    fn add_short<M: Memory>(
+        &mut self,
+        memory: &mut M,
+        command: Verb,
+        word: &'a str,
+    ) -> Result<Next, UsageError<'a>>
+        requires { 0 < length word.now }
+        ensures { MatchResult result (AddsParts (parts_in self.old) (parts_in self.new) (short_parts command word.now))
+            (IsUsageError (short_parts command word.now) (M.refused memory.new)) }
+    {
+        if takes_value(command, word) {
+            memory.push(&mut self.values, word)?;
+            return Ok(Next::Value);
+        }
+        self.add_letters(memory, command, word)
+    }
+
     /// Adds an option or an operand, and tells what the next word is.
     fn add_any<M: Memory>(
         &mut self,
@@ -205,7 +223,7 @@ impl<'a> Parts<'a> {
         if word.as_bytes().starts_with(b"--") {
             return self.add_long(memory, command, word);
         }
-        self.add_letters(memory, command, word)
+        self.add_short(memory, command, word)
     }
 
     /// Adds a word, and tells what the next one is.
@@ -703,4 +721,15 @@ pub fn command_of<'a>(command: Verb, parts: &'a Parts<'a>) -> Result<Command<'a>
         });
     }
     verb_command(command, parts)
+}
+
+/// The file that the answer is written to, if one is named. The page of a command is written to the standard output.
+pub fn target_of<'a>(command: Verb, parts: &Parts<'a>) -> Result<Option<&'a str>, Misuse<'a>>
+    ensures { MatchResult result (λ target. target_in command (parts_in parts.now) ≡ Ok (given target))
+        (λ misuse. target_in command (parts_in parts.now) ≡ Err (misuse_line misuse)) }
+{
+    if asks_help(parts.options.as_slice()) {
+        return Ok(None);
+    }
+    value_of(command, "-o", parts.values.as_slice())
 }

@@ -3,11 +3,11 @@ ghost use Rattle.std.specs.Prelude.{◌≡◌, ◌++◌, ◌∷◌, [], codes, L
 ghost use Rattle.std.specs.List.{concat, flat_map};
 ghost use Rattle.cidr_io.specs.Collecting.{Collects};
 ghost use Rattle.cidr_io.specs.Writing.{Answered};
-ghost use Rattle.netset_commands.specs.Table.{about_of, format_note, help_text, note_of};
+ghost use Rattle.netset_commands.specs.Table.{about_of, format_note, help_text, note_of, output_note};
 
 use crate::commands::matching::has;
 use crate::commands::table::{
-    FORMAT, HOST_BITS, KEEP_GOING, LISTS, OPTIONS, Verb, about_of, commands, options_of,
+    FORMAT, HOST_BITS, KEEP_GOING, LISTS, OPTIONS, OUTPUT, Verb, about_of, commands, options_of,
     takes_value,
 };
 use crate::output::report::{push_texts, write_line};
@@ -33,7 +33,11 @@ fn push_page<S: Sink>(block: &mut Block, out: &mut S) -> Result<(), OutputFailed
     ensures { Collects (S.state out.old) (S.state out.new) block.old block.new (help_text None) result }
 {
     push_abouts(block, out, commands())?;
-    push_texts(block, out, &[OPTIONS, HOST_BITS, KEEP_GOING, FORMAT, LISTS])
+    push_texts(
+        block,
+        out,
+        &[OPTIONS, HOST_BITS, KEEP_GOING, FORMAT, OUTPUT, LISTS],
+    )
 }
 
 /// Writes the page of all commands, and flushes.
@@ -70,6 +74,17 @@ fn format_note(command: Verb) -> &'static str
     }
 }
 
+/// A note on the file that the answer is written to, if the command has one.
+fn output_note(command: Verb) -> &'static str
+    ensures { result.now ≡ output_note command }
+{
+    if takes_value(command, "-o") {
+        OUTPUT
+    } else {
+        ""
+    }
+}
+
 /// Writes the page of a command, or of all, and flushes. Its block takes no room on the stack of other commands.
 #[inline(never)]
 pub fn write_help<S: Sink>(topic: Option<Verb>, out: &mut S) -> Result<(), OutputFailed>
@@ -83,6 +98,7 @@ pub fn write_help<S: Sink>(topic: Option<Verb>, out: &mut S) -> Result<(), Outpu
                 note_of(command, "--host-bits", HOST_BITS),
                 note_of(command, "-k", KEEP_GOING),
                 format_note(command),
+                output_note(command),
             ],
         ),
         None => write_page(out),

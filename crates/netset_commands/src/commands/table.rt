@@ -121,12 +121,15 @@ pub const KEEP_GOING: &str =
 pub const FORMAT: &str =
     "--format NAME           how the networks are written: plain, json, nft, ipset, iptables,\n                        cisco, juniper or bird\n--prefix TEXT, --suffix TEXT\n                        with the format plain, what stands in front of a network and behind\n";
 
+pub const OUTPUT: &str =
+    "-o FILE                 the answer is written to FILE, whole or not at all, and nothing to\n                        standard output; FILE may be among the lists\n";
+
 /// What the page says below the commands.
 pub const OPTIONS: &str =
     "\nOptions stand anywhere behind the command; those of one letter may be joined, as -vc:\n";
 
 pub const LISTS: &str =
-    "-h, --help              what this page says of the command\n--                      what is behind it are no options\n--host-bits is for commands that read lists, but check and which, -k for all that read lists, and\n--format, --prefix and --suffix are for merge, nets, minus, and and not.\n\nA line of a list is a network, an address or a range FIRST-LAST, and may end in a comment\nfrom # or ; on. The file - is the standard input, which is also read where no file is named.\nStatus: 0 done, 1 none, a difference or findings, 2 usage, a wrong argument, a file that\ncannot be read or a line in error, 3 output or memory.\n";
+    "-h, --help              what this page says of the command\n--                      what is behind it are no options\n--host-bits is for commands that read lists, but check and which, -k for all that read lists, and\n--format, --prefix and --suffix are for merge, nets, minus, and and not, and -o is for these,\nranges, count, diff, free, reverse, mask and split.\n\nA line of a list is a network, an address or a range FIRST-LAST, and may end in a comment\nfrom # or ; on. The file - is the standard input, which is also read where no file is named.\nStatus: 0 done, 1 none, a difference or findings, 2 usage, a wrong argument, a file that\ncannot be read or a line in error, 3 output or memory.\n";
 
 /// The commands, in their order on the page.
 pub fn commands() -> &'static [Verb]
@@ -192,18 +195,25 @@ pub fn options_of(command: Verb) -> &'static [&'static str]
     }
 }
 
-/// Whether a command has an option with a value: the network of `not --in`, how networks are written, or how many networks
-/// `free --count` tells.
+/// Whether a command has an option with a value: the network of `not --in`, how networks are written, how many networks
+/// `free --count` tells, or where the answer is written.
 pub fn takes_value(command: Verb, option: &str) -> bool
     ensures { result ≡ takes_value command option.now }
 {
     match command {
         Verb::Lists(Operation::Not) => {
-            option == "--in" || option == "--format" || option == "--prefix" || option == "--suffix"
+            option == "--in"
+                || option == "--format"
+                || option == "--prefix"
+                || option == "--suffix"
+                || option == "-o"
         }
-        Verb::Lists(Operation::Ranges) | Verb::Lists(Operation::Count) => false,
-        Verb::Lists(_) => option == "--format" || option == "--prefix" || option == "--suffix",
-        Verb::Free => option == "--count",
+        Verb::Lists(Operation::Ranges) | Verb::Lists(Operation::Count) => option == "-o",
+        Verb::Lists(_) => {
+            option == "--format" || option == "--prefix" || option == "--suffix" || option == "-o"
+        }
+        Verb::Free => option == "--count" || option == "-o",
+        Verb::Diff | Verb::Split | Verb::Describe(_) => option == "-o",
         _ => false,
     }
 }

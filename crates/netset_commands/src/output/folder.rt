@@ -1,5 +1,5 @@
 //! Where files are written.
-ghost use Rattle.std.specs.Prelude.{ℕ, List, Option, None};
+ghost use Rattle.std.specs.Prelude.{ℕ, List, [], Option, None, Some};
 ghost use Rattle.netset_commands.specs.Saving.{Saves};
 
 use arrayvec::ArrayString;
@@ -21,6 +21,18 @@ pub trait Folder {
     /// Writes a file of this name, in place of the one that has it.
     fn replace(&mut self, name: &str, bytes: &[u8]) -> Result<(), NotSaved>
         ensures { Saves (saved self.old) (saved self.new) name.now bytes.now result };
+}
+
+/// A folder in which nothing is written.
+#[derive(Drop)]
+pub struct Sealed;
+
+impl Folder for Sealed {
+    ghost saved = { λ _. Some [] };
+
+    fn replace(&mut self, _name: &str, _bytes: &[u8]) -> Result<(), NotSaved> {
+        Err(NotSaved)
+    }
 }
 
 /// How many names of new files are tried, of which each may be that of a file that an earlier run left.

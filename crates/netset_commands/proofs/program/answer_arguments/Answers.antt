@@ -1,6 +1,6 @@
 use Rattle.std.proofs.Common.{arith, inl, inr, refl}
 use Rattle.netset_commands.specs.declared.errors.CommandError.TheVariants as error
-use Rattle.netset_commands.proofs.Left.{not_zero}
+use Rattle.netset_commands.proofs.Left.{no_answer}
 use Rattle.netset_commands.proofs.Running.{run_arguments}
 use Rattle.netset_commands.proofs.program.answer_arguments.Goals as goal
 
@@ -23,7 +23,7 @@ returns-in-None-clause-runs g c =
     ))
 
 pub returns-in-Some-clause-leaves : goal.returns-in-Some-clause-leaves
-returns-in-Some-clause-leaves g c = inr (λ zero. omega (arith, zero, c.report_not_text.ensures.status), refl)
+returns-in-Some-clause-leaves g c = inr (omega (arith, c.report_not_text.ensures.status), refl)
 
 pub returns-in-None-clause-leaves : goal.returns-in-None-clause-leaves
-returns-in-None-clause-leaves g c = inr (not_zero error.NoMemory _ c.report.ensures.status, refl)
+returns-in-None-clause-leaves g c = inr (no_answer error.NoMemory _ c.report.ensures.status, refl)

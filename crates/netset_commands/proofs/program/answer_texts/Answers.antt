@@ -3,7 +3,7 @@ use Rattle.std.specs.String.{string_bytes}
 use Rattle.netset_commands.specs.Command.{misuse_line, parts_in}
 use Rattle.netset_commands.specs.declared.errors.CommandError.TheVariants as error
 use Rattle.netset_commands.proofs.Running.{found_none, found_parts, run_found, run_misused}
-use Rattle.netset_commands.proofs.Left.{left_found, none_left, not_zero}
+use Rattle.netset_commands.proofs.Left.{left_found, none_left, no_answer}
 use Rattle.netset_commands.proofs.program.answer_texts.Goals as goal
 
 pub returns-in-Ok-line_parts-clause-runs : goal.returns-in-Ok-line_parts-clause-runs
@@ -29,12 +29,12 @@ returns-in-Ok-line_parts-clause-leaves g c =
 pub returns-in-Err-Misuse-clause-leaves : goal.returns-in-Err-Misuse-clause-leaves
 returns-in-Err-Misuse-clause-leaves g c =
     none_left _ (g.F.Files.contents c.args.files.now) (g.D.Folder.saved c.args.folder.now) _
-    (λ zero. omega (arith, zero, c.report_misuse.ensures.status))
+    (omega (arith, c.report_misuse.ensures.status))
 
 pub returns-in_default-clause-leaves : goal.returns-in_default-clause-leaves
 returns-in_default-clause-leaves g c =
-    none_left _ (g.F.Files.contents c.args.files.now) (g.D.Folder.saved c.args.folder.now) _ (not_zero error.NoMemory _ c.report.ensures.status)
+    none_left _ (g.F.Files.contents c.args.files.now) (g.D.Folder.saved c.args.folder.now) _ (no_answer error.NoMemory _ c.report.ensures.status)
 
 pub returns-clause-leaves : goal.returns-clause-leaves
 returns-clause-leaves g c =
-    none_left _ (g.F.Files.contents c.args.files.now) (g.D.Folder.saved c.args.folder.now) _ (not_zero error.NoMemory _ c.report-in-Err-NoMemory.ensures.status)
+    none_left _ (g.F.Files.contents c.args.files.now) (g.D.Folder.saved c.args.folder.now) _ (no_answer error.NoMemory _ c.report-in-Err-NoMemory.ensures.status)

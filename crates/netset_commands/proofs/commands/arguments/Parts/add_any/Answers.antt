@@ -2,7 +2,7 @@ use Rattle.std.proofs.Common.{◌∙◌, sym}
 use Rattle.std.proofs.lemmas.Result.{err_from_is_err_and}
 use Rattle.netset_commands.specs.Arguments.{no_parts, only_operand}
 use Rattle.netset_commands.specs.Command.{parts_in}
-use Rattle.netset_commands.proofs.Parts.{added_as, end_word, letter_word, long_word, none_behind, operand_pushed, operand_word}
+use Rattle.netset_commands.proofs.Parts.{added_as, end_word, long_word, none_behind, operand_pushed, operand_word, short_word}
 use Rattle.netset_commands.proofs.commands.arguments.Parts.add_any.Goals as goal
 
 pub returns-then-eq : goal.returns-then-eq
@@ -33,7 +33,7 @@ returns-then-starts_with g c =
 
 pub returns : goal.returns
 returns g c =
-    added_as _ _ (parts_in c.args.self.now) (parts_in c.add_letters.new.self) (g.M.Memory.refused c.add_letters.new.memory) c.add_letters.result
-    (letter_word c.args.command c.args.word.now (sym c.if-eq.ensures) (sym c.is_option.ensures ∙ c.if-not-is_option.false)
+    added_as _ _ (parts_in c.args.self.now) (parts_in c.add_short.new.self) (g.M.Memory.refused c.add_short.new.memory) c.add_short.result
+    (short_word c.args.command c.args.word.now (sym c.if-eq.ensures) (sym c.is_option.ensures ∙ c.if-not-is_option.false)
     (sym (rw c.as_bytes.ensures.value at c.starts_with.ensures.value) ∙ c.if-starts_with.false))
-    c.add_letters.ensures
+    c.add_short.ensures
