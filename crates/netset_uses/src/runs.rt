@@ -9,10 +9,11 @@ ghost use Rattle.netset_commands.specs.declared.output.answers.Verdict.TheVarian
 ghost use Rattle.netset_uses.specs.Runs.{HasPrinted, HasRun, HasToldLine};
 ghost use Rattle.netset_uses.specs.Texts.{contents_of};
 
-use crate::texts::{NoFolder, TextFile, TextFiles, Words};
+use crate::texts::{TextFile, TextFiles, Words};
 use cidr_io::memory::Heap;
 use cidr_io::sink::{Sink, Tracked};
 use cidr_lists::laws::merging_again_changes_nothing;
+use netset_commands::output::folder::Sealed;
 use netset_commands::program::program;
 use std::alloc::Global;
 
@@ -38,7 +39,7 @@ pub fn run(alloc: Global, words: &[&str], files: &[TextFile<'_>]) -> Option<Fini
         &mut memory,
         &Words { words },
         &TextFiles { files },
-        &mut NoFolder,
+        &mut Sealed,
         &mut out,
         &mut err,
     );

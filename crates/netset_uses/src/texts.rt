@@ -1,12 +1,11 @@
 //! Arguments and files in memory, which tell their bytes.
-ghost use Rattle.std.specs.Prelude.{◌≡◌, [], Some, map};
+ghost use Rattle.std.specs.Prelude.{◌≡◌, Some, map};
 ghost use Rattle.std.specs.Str.{bytes_eq};
 ghost use Rattle.netset_uses.specs.Texts.{contents_of};
 
 use cidr_io::arguments::Arguments;
 use netset_commands::errors::Reason;
 use netset_commands::input::files::Files;
-use netset_commands::output::folder::{Folder, NotSaved};
 use std::env::FillError;
 
 /// Words as the arguments of a run.
@@ -66,17 +65,5 @@ impl<'a> Files for TextFiles<'a> {
             }
         }
         Err(Reason::NotFound)
-    }
-}
-
-/// A folder in which no file is written.
-#[derive(Drop)]
-pub struct NoFolder;
-
-impl Folder for NoFolder {
-    ghost saved = { λ _. Some [] };
-
-    fn replace(&mut self, _name: &str, _bytes: &[u8]) -> Result<(), NotSaved> {
-        Err(NotSaved)
     }
 }
