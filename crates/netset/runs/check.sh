@@ -996,10 +996,19 @@ rows_of_stored_tables() {
     run 0 $'11.0.0.1\n10.0.0.0/7\n' '' '10.0.0.1 a\n11.0.0.1\n10.0.0.0/9\n10.0.0.0/7\n192.0.2.7\n::1\n' match -v compiled -
     run 0 $'1\n' '' 'at 10.0.0.1:80\nat 11.0.0.1' match --any -c one
     run 1 '' '' '10.0.0.1' match none
-    # with -k, and in other commands, it is read as lines
+    # with -k too
+    run 0 "$found" '' "$addresses" look -k compiled
+    run 2 $'10.2.0.1 10.0.0.0/8 ten\n' $'-:2: \\xff: not UTF-8\n' '10.2.0.1\n\xff 10.0.0.1' look -k compiled
+    run 0 $'10.0.0.1 a\n::1\n' '' '10.0.0.1 a\n11.0.0.1\n::1\n' match -k compiled
+    run 0 $'address:10.0.0.1\n' '' '' match -k compiled address nothing
+    run 2 '' $'part: a file of look-ups that was changed\n' '' look -k part
+    run 2 '' $'part: a file of look-ups that was changed\n' '' match -k part
+    run 2 '' $'missing: no such file\n' '' look -k missing
+    # in other commands it is read as lines
     printf '\x89\n' >"$room/part"
+    run 2 '' "part$other" '' look -k part
     run 2 '' $'part:1: \\x89: not UTF-8\n' '' compile part two
-    run 2 '' $'part:1: \\x89: not UTF-8\n' '' look -k part
+    run 2 '' $'part:1: \\x89: not UTF-8\n' '' merge -k part
 }
 
 # with_byte PLACE BYTE: part is compiled with this byte at this place.

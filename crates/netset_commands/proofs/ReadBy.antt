@@ -11,7 +11,7 @@ text_same bits text is = ap (λ (k : HostBits). text_by k text.bytes) (sym is)
 pub bytes_read : (P : List ℕ → Type 0) (left : Option (List ℕ)) (bytes : List ℕ) → left ≡ Some bytes → IfSome left P → P bytes
 bytes_read P left bytes is h = subst (λ (k : Option (List ℕ)). IfSome k P) is h
 
-some_same : {X : Type 0} (x y : X) → Some x ≡ Some y → x ≡ y
+pub some_same : {X : Type 0} (x y : X) → Some x ≡ Some y → x ≡ y
 some_same x y is = cc
 
 -- a list that is told, and its bytes

@@ -8,7 +8,7 @@ use Rattle.cidr_io.specs.Writing.{State, Tells}
 use Rattle.netset_commands.specs.Causes.{Cause, FileMayFail}
 use Rattle.netset_commands.specs.Arguments.{Line, Parts, and_then, line_parts, line_request, part_request, read_request, target_in}
 use Rattle.netset_commands.specs.Commands.{AreLists, Request, input_name, lists_of, others_of, reading_of}
-use Rattle.netset_commands.specs.Keeping.{kind_of}
+use Rattle.netset_commands.specs.Keeping.{kind_of, lined, takes_file}
 use Rattle.cidr_lists.specs.Lists.{Text}
 use Rattle.netset_commands.specs.Matching.{is_word}
 use Rattle.netset_commands.specs.Loading.{AreListsLoaded, IsUnloaded}
@@ -22,26 +22,32 @@ use Rattle.netset_commands.specs.declared.input.keeping.Kept.{Kept}
 use Rattle.cidr_lists.specs.declared.lines.Kind.{Kind}
 
 -- ---- with lists whose lines in error are told
-module _ (contents : List ℕ → Option Text) (request : Request) (kind : Kind) (names : List (List ℕ)) (refused closed : Bool) (out s t : State) (is_kind : kind ≡ kind_of request)
-    (are : AreLists request names) where
-  loaded_of : (lists : List Kept) (found : Bool) → AreListsLoaded contents kind names s t lists found → AreListsLoaded contents (kind_of request) names s t lists found
-  loaded_of lists found h = subst (λ (k : Kind). AreListsLoaded contents k names s t lists found) is_kind h
+module _ (contents : List ℕ → Option Text) (request : Request) (kind : Kind) (takes : Bool) (names : List (List ℕ)) (refused closed : Bool) (out s t : State)
+    (is_kind : kind ≡ kind_of request) (is_taken : takes ≡ takes_file request) (are : AreLists request names) where
+  loaded_of : (lists : List Kept) (found : Bool) → AreListsLoaded takes contents kind names s t lists found
+      → AreListsLoaded (takes_file request) contents (kind_of request) names s t lists found
+  loaded_of lists found h =
+      subst (λ (k : Kind). AreListsLoaded (takes_file request) contents k names s t lists found) is_kind
+      (subst (λ (k : Bool). AreListsLoaded k contents kind names s t lists found) is_taken h)
 
-  unloaded_of : (e : CommandError) → IsUnloaded contents kind names s t e → IsUnloaded contents (kind_of request) names s t e
-  unloaded_of e h = subst (λ (k : Kind). IsUnloaded contents k names s t e) is_kind h
+  unloaded_of : (e : CommandError) → IsUnloaded (lined takes contents) kind names s t e
+      → IsUnloaded (lined (takes_file request) contents) (kind_of request) names s t e
+  unloaded_of e h =
+      subst (λ (k : Kind). IsUnloaded (lined (takes_file request) contents) k names s t e) is_kind
+      (subst (λ (k : Bool). IsUnloaded (lined k contents) kind names s t e) is_taken h)
 
-  pub lines_in_error : (lists : List Kept) → AreListsLoaded contents kind names s t lists true → TellsFaults contents refused request closed out out s t 2
+  pub lines_in_error : (lists : List Kept) → AreListsLoaded takes contents kind names s t lists true → TellsFaults contents refused request closed out out s t 2
   lines_in_error lists h =
       let (lines, (tells, fine), any, kept) = loaded_of lists true h in
       (names, are, lines, t, tells, inl (fine, inl (any, refl, refl, refl)))
 
-  pub no_line_in_error : (lists : List Kept) (new u : State) (r : Result Verdict CommandError) (status : ℕ) → AreListsLoaded contents kind names s t lists false
+  pub no_line_in_error : (lists : List Kept) (new u : State) (r : Result Verdict CommandError) (status : ℕ) → AreListsLoaded takes contents kind names s t lists false
       → AnswersRequest contents request out new r → IsCaused contents refused r → Reports closed r t u → status ≡ status_of r → TellsFaults contents refused request closed out new s u status
   no_line_in_error lists new u r status h answers caused says is =
       let (lines, (tells, fine), any, kept) = loaded_of lists false h in
       (names, are, lines, t, tells, inl (fine, inr (any, (r, answers, caused, says, is))))
 
-  pub not_loaded : (u : State) (e : CommandError) (status : ℕ) → IsUnloaded contents kind names s t e → Cause (FileMayFail contents) refused e → Reports closed (Err e) t u → status ≡ status_of (Err e)
+  pub not_loaded : (u : State) (e : CommandError) (status : ℕ) → IsUnloaded (lined takes contents) kind names s t e → Cause (FileMayFail contents) refused e → Reports closed (Err e) t u → status ≡ status_of (Err e)
       → TellsFaults contents refused request closed out out s u status
   not_loaded u e status h cause says is =
       let (before, after, split, why, front, rest, tells, fine, begun) = unloaded_of e h in

@@ -1,6 +1,8 @@
 -- The rows of a table as they are read.
 use Rattle.std.proofs.Common.{◌≡◌, refl, sym, ◌∙◌, ap, ap₂, subst, ℕ, ◌+◌, ◌≤◌, Bool, true, false, List, [], ◌∷◌, ◌++◌, length, take, drop, map, arith, Bor, Option, Some, None, Result, Ok, Err, append-nil, length-append, length-drop, le_refl}
 use Rattle.std.specs.Option.{IfSome}
+use Rattle.std.specs.List.{AllZip, each_same}
+use Rattle.netset_commands.specs.Stored.{AreFileBytes}
 use Rattle.std.proofs.lemmas.List.{drop-append-le, take-append-le, drop_at, take_all, map-append, flat_map_more}
 use Rattle.cidr.specs.declared.cidr.combined.IpCidr.{IpCidr}
 use Rattle.cidr.specs.declared.cidr.combined.IpCidr.TheVariants.{V4, V6}
@@ -201,6 +203,11 @@ pub rows_copied : (contents : Option Text) (name : List ℕ) (kept rows : Rows)
 rows_copied contents name kept rows is same text at =
     let (said, says, stores) = is text at in
     (said, says, stored_same kept rows said same stores)
+
+pub bytes_copied : (contents : Option Text) (kept bytes : List ℕ) → AreFileBytes contents kept → AllZip (λ x y. y ≡ x) kept bytes → AreFileBytes contents bytes
+bytes_copied contents kept bytes are copies = λ text is.
+    let (begins, same) = are text is in
+    (begins, each_same kept bytes copies ∙ same)
 
 pub table_read : (contents : Option Text) (name : List ℕ) (rows : Rows) (table : Table) → ReadsFileRows contents name (Ok rows)
     → ((family : Family) → AreLastRows (map (resolved rows.values.items) (stored rows family)) (kept table family)) → ReadsTable contents name (Ok table)

@@ -1,7 +1,8 @@
 -- Lines in error that are told, one after another.
-use Rattle.std.proofs.Common.{◌≡◌, ◌≢◌, refl, sym, ◌∙◌, ap, subst, arith, inl, inr, ℕ, ◌+◌, Bor, Bool, true, false, List, [], ◌∷◌, ◌++◌, length, Option, Some, None, Result, Ok, Err, append_assoc, ◌||◌}
+use Rattle.std.proofs.Common.{◌≡◌, ◌≢◌, refl, sym, ◌∙◌, ap, subst, arith, inl, inr, ℕ, ◌+◌, Bor, Bool, true, false, if◌then◌else◌, List, [], ◌∷◌, ◌++◌, length, Option, Some, None, Result, Ok, Err, append_assoc, ◌||◌, Vec, Global}
 use Rattle.std.specs.Option.{IfSome}
 use Rattle.std.specs.List.{flat_map}
+use Rattle.std.specs.Str.{IsTrimAscii}
 use Rattle.std.proofs.lemmas.Bool.{true≢false}
 use Rattle.std.proofs.lemmas.List.{append-nil, flat_map_more}
 use Rattle.cidr_io.specs.Collecting.{HasSaid}
@@ -10,23 +11,30 @@ use Rattle.cidr_io.specs.Writing.{State, Part, Tells}
 use Rattle.cidr_io.proofs.Collected.{nothing_said}
 use Rattle.cidr_io.proofs.Chains.{part_more, part_none, whole_none, whole_part, whole_whole}
 use Rattle.cidr_lists.specs.Entries.{AreEntries}
-use Rattle.netset_commands.specs.Keeping.{AddsBy, AllSaid, IsAny, IsKept, IsLoadError, IsNone, KeepsLine, KeepsListLines, KeepsList, SaysMore, kind_in}
+use Rattle.netset_commands.specs.Compiled.{begins_file}
+use Rattle.netset_commands.specs.Keeping.{AddsBy, AllSaid, IsAny, IsKept, IsTold, IsLoadError, IsNone, KeepsLine, KeepsListLines, KeepsList, SaysMore, kind_in, lined_in, only_lines}
 use Rattle.cidr_lists.specs.Faults.{AreErrors, AreTellings, IsFaulty, IsPartTold, IsSound}
 use Rattle.cidr_lists.specs.Messages.{fault_line}
-use Rattle.cidr_lists.specs.Lists.{LineSays, Text, lines_of, line_networks, text_by}
+use Rattle.cidr_lists.specs.Lists.{IsTooLong, LineSays, Text, lines_of, line_networks, text_by}
+use Rattle.cidr_lists.specs.declared.lines.Content.TheVariants.{Blank}
 use Rattle.cidr_lists.specs.Tables.{RowSays}
+use Rattle.netset_commands.specs.Gathering.{IsNotReadFurther}
 use Rattle.netset_commands.specs.LookUps.{unread}
 use Rattle.netset_commands.specs.Reading.{IsNextLine, IsStopped}
+use Rattle.netset_commands.specs.Stored.{AreFileBytes}
 use Rattle.netset_commands.proofs.EntriesRead.{line_behind}
 use Rattle.netset_commands.proofs.LinesRead.{LinesRead, last_read, line_read, none_read}
-use Rattle.netset_commands.proofs.ReadBy.{bytes_read, text_same}
+use Rattle.netset_commands.proofs.ReadBy.{bytes_read, some_same, text_same}
 use Rattle.netset_commands.proofs.Stored.{stored_more}
 use Rattle.netset_commands.proofs.Zips.{zip_behind}
 use Rattle.netset_commands.specs.declared.errors.CommandError.{CommandError}
+use Rattle.netset_commands.specs.declared.errors.CommandError.TheVariants as error
 use Rattle.cidr_lists.specs.declared.errors.LineError.{LineError}
 use Rattle.netset_commands.specs.declared.errors.ReadError.{ReadError}
 use Rattle.netset_commands.specs.declared.errors.ReadError.TheVariants.{Line, Input, NoMemory}
 use Rattle.cidr_lists.specs.declared.lines.Kind.{Kind}
+use Rattle.cidr_lists.specs.declared.lines.Kind.TheVariants as kinds
+use Rattle.netset_commands.specs.declared.input.begun.Given.TheVariants.{Lines, Stored}
 use Rattle.netset_commands.specs.declared.input.keeping.Said.{Said}
 use Rattle.netset_commands.specs.declared.input.keeping.Said.TheVariants.{Networks, Hosts, Rows}
 use Rattle.cidr_lists.specs.declared.lines.HostBits.{HostBits}
@@ -239,9 +247,18 @@ module _ (kind : Kind) (bits : HostBits) (file : List ℕ) (s : State) (b : List
       (lines, same_says s t u b block rest lines same kept says, stopped, part_told contents left lines found said number p)
 
 -- ---- the list of a file
-pub nothing_kept : (contents : Option Text) (kind : Kind) (file : List ℕ) (s : State) (e : CommandError) → IsLoadError (file ∷ []) e
-    → KeepsList contents kind file s s (Err e)
-nothing_kept contents kind file s e why = ([], tells_nothing s, why, λ text is. ([], lines_of text.bytes, refl, [], refl, refl))
+pub nothing_kept : (takes : Bool) (contents : Option Text) (kind : Kind) (file : List ℕ) (s : State) (e : CommandError) → IsLoadError (file ∷ []) e
+    → KeepsList takes contents kind file s s (Err e)
+nothing_kept takes contents kind file s e why = ([], tells_nothing s, why, λ text is. ([], lines_of text.bytes, refl, [], refl, refl))
+
+-- a file that is not read further is not read
+pub not_begun : (file : List ℕ) (e : CommandError) → IsNotReadFurther file e → IsLoadError (file ∷ []) e
+not_begun file (error.Argument text e) h = absurd h
+not_begun file (error.Line name number e) h = absurd h
+not_begun file (error.Input name why) h = ([], ap (λ (k : List ℕ). k ∷ []) (sym h))
+not_begun file error.NoMemory h = tt
+not_begun file error.Output h = absurd h
+not_begun file (error.File name e) h = absurd h
 
 abbrev pub EndsSaying : State → List ℕ → State → Type 0
 EndsSaying old block new = (start : State) (text : List ℕ) → HasSaid start old block text → Tells start new text
@@ -249,17 +266,34 @@ EndsSaying old block new = (start : State) (text : List ℕ) → HasSaid start o
 all_told : (s t u : State) (block rest lines : List ℕ) → block ≡ [] → SaysMore s block t rest lines → EndsSaying t rest u → Tells s u lines
 all_told s t u block rest lines none says ends = ends s lines (says s [] (nothing_said s block none))
 
-module _ (contents : Option Text) (left : Option (List ℕ)) (kind : Kind) (bits : HostBits) (s t u : State) (block rest : List ℕ)
+-- a text is a list by its lines
+lined_same : (takes : Bool) (contents : Option Text) → ((text : Text) → contents ≡ Some text → takes ≡ true → begins_file text.bytes ≡ false)
+    → (text : Text) → lined_in takes contents ≡ Some text → contents ≡ Some text
+lined_same false contents lines text is = is
+lined_same true None lines text is = cc
+lined_same true (Some known) lines text is =
+    sym (ap (λ (b : Bool). Some (if b then text_by known.host_bits [] else known)) (lines known refl refl)) ∙ is
+
+module _ (takes : Bool) (contents : Option Text) (left : Option (List ℕ)) (kind : Kind) (bits : HostBits) (s t u : State) (block rest : List ℕ)
+    (lines_are : (text : Text) → contents ≡ Some text → takes ≡ true → begins_file text.bytes ≡ false)
     (opens : (text : Text) → contents ≡ Some text → left ≡ Some text.bytes) (by : (text : Text) → contents ≡ Some text → text.host_bits ≡ bits)
     (none : block ≡ []) (ends : EndsSaying t rest u) where
-  pub list_kept : (file : List ℕ) (kept : Said × Bool) → KeepsListLines kind bits file left s block t rest (Ok kept) → KeepsList contents kind file s u (Ok kept)
-  list_kept file kept (lines, says, any, is) = (
+  kept_by : (file lines : List ℕ) (kept : Said × Bool) → IfSome left (λ bytes. IsKept kind bits file (lines_of bytes) (lines, kept.1, kept.0))
+      → (text : Text) → contents ≡ Some text → IsKept kind text.host_bits file (lines_of text.bytes) (lines, kept.1, kept.0)
+  kept_by file lines kept is text at =
+      subst (λ (k : HostBits). IsKept kind k file (lines_of text.bytes) (lines, kept.1, kept.0)) (sym (by text at))
+      (bytes_read (λ bytes. IsKept kind bits file (lines_of bytes) (lines, kept.1, kept.0)) left text.bytes (opens text at) is)
+
+  pub list_kept : (file : List ℕ) (said : Said) (found : Bool) → KeepsListLines kind bits file left s block t rest (Ok (said, found))
+      → KeepsList takes contents kind file s u (Ok (Lines said, found))
+  list_kept file said found (lines, says, any, is) = (
     lines,
     all_told s t u block rest lines none says ends,
     any,
     λ text at.
-        subst (λ (k : HostBits). IsKept kind k file (lines_of text.bytes) (lines, kept.1, kept.0)) (sym (by text at))
-        (bytes_read (λ bytes. IsKept kind bits file (lines_of bytes) (lines, kept.1, kept.0)) left text.bytes (opens text at) is),
+        let (errors, are, same, fine) = kept_by file lines (said, found) is text (lined_same takes contents lines_are text at) in
+        (errors, are, same),
+    λ sound text at. (kept_by file lines (said, found) is text at).3 sound,
   )
 
   load_error : (file : Bor (List ℕ)) (e : ReadError) → IsStopped e → IsLoadError (file.now ∷ []) (unread file e)
@@ -268,15 +302,50 @@ module _ (contents : Option Text) (left : Option (List ℕ)) (kind : Kind) (bits
   load_error file NoMemory h = tt
 
   pub list_cut : (file : Bor (List ℕ)) (e : ReadError) → KeepsListLines kind bits file.now left s block t rest (Err e)
-      → KeepsList contents kind file.now s u (Err (unread file e))
+      → KeepsList takes contents kind file.now s u (Err (unread file e))
   list_cut file e (lines, says, stopped, is) = (
     lines,
     all_told s t u block rest lines none says ends,
     load_error file e stopped,
     λ text at.
-        subst (λ (k : Text). IsPartTold kind file.now k lines) (text_same bits text (by text at))
-        (bytes_read (λ bytes. IsPartTold kind file.now (text_by bits bytes) lines) left text.bytes (opens text at) is),
+        let here = lined_same takes contents lines_are text at in
+        subst (λ (k : Text). IsPartTold kind file.now k lines) (text_same bits text (by text here))
+        (bytes_read (λ bytes. IsPartTold kind file.now (text_by bits bytes) lines) left text.bytes (opens text here) is),
   )
+
+-- ---- the bytes of a file of look-ups, which has no lines
+blank_short : ¬ (IsTooLong [])
+blank_short long = absurd (omega (arith, long))
+
+blank_field : IsTrimAscii [] []
+blank_field = (0, refl, λ i l. absurd (omega (arith, l)), λ l. absurd (omega (arith, l)), λ i l m. absurd (omega (arith, l, m)), λ l. absurd (omega (arith, l)))
+
+blank_sound : (kind : Kind) (bits : HostBits) → IsSound kind bits []
+blank_sound kinds.Networks bits = (blank_short, [], Blank, blank_field, refl)
+blank_sound kinds.Hosts bits = ([], 1, None, (blank_short, blank_field))
+blank_sound kinds.Rows bits = (None, (blank_short, ([], blank_field, refl)))
+
+blank_told : (kind : Kind) (file : List ℕ) (bits : HostBits) → IsTold kind file (text_by bits []) []
+blank_told kind file bits = ([], inl (blank_sound kind bits, refl), refl)
+
+file_lined : (contents : Option Text) → ((text : Text) → contents ≡ Some text → begins_file text.bytes ≡ true)
+    → (text : Text) → lined_in true contents ≡ Some text → text_by text.host_bits [] ≡ text
+file_lined None is text at = cc
+file_lined (Some known) is text at =
+    let same : only_lines known ≡ text = some_same (only_lines known) text at in
+    let none : only_lines known ≡ text_by known.host_bits [] = ap (λ (b : Bool). if b then text_by known.host_bits [] else known) (is known refl) in
+    let bare : text_by known.host_bits [] ≡ text = sym none ∙ same in
+    ap (λ (b : HostBits). text_by b []) (sym (ap (λ (t : Text). t.host_bits) bare)) ∙ bare
+
+pub file_kept : (contents : Option Text) (kind : Kind) (file : List ℕ) (s : State) (bytes : Vec ℕ Global) → AreFileBytes contents bytes.items
+    → KeepsList true contents kind file s s (Ok (Stored bytes, false))
+file_kept contents kind file s bytes are = (
+  [],
+  tells_nothing s,
+  refl,
+  λ text at. subst (λ (k : Text). IsTold kind file k []) (file_lined contents (λ text is. (are text is).0) text at) (blank_told kind file text.host_bits),
+  λ _ text is. are text is,
+)
 
 -- ---- one list after another
 pub tellings_behind : (kind : Kind) (names : List (List ℕ)) (texts : List Text) (name : List ℕ) (text : Text) (lines : List ℕ) (errors : List (ℕ × LineError))

@@ -1,11 +1,12 @@
 -- Every line in error of the lists of a request, as `-k` tells them.
-use Rattle.std.specs.Prelude.{◌≡◌, ◌≢◌, ℕ, Bool, true, false, List, [], ◌∷◌, ◌++◌, Option, Some, IfSome, Result, Ok, Err}
+use Rattle.std.specs.Prelude.{◌≡◌, ◌≢◌, ℕ, Bool, true, false, if◌then◌else◌, List, [], ◌∷◌, ◌++◌, Option, Some, IfSome, option_map, Result, Ok, Err}
 use Rattle.std.specs.List.{AllZip, flat_map}
 use Rattle.cidr.specs.declared.cidr.combined.IpCidr.{IpCidr}
 use Rattle.cidr.specs.declared.family.Family.{Family}
 use Rattle.cidr_io.specs.Collecting.{HasSaid}
 use Rattle.cidr_io.specs.Writing.{State, Tells}
-use Rattle.netset_commands.specs.Commands.{Request, Check, Which, Look, Compile, AreTold}
+use Rattle.netset_commands.specs.Commands.{Request, Check, Which, Match, MatchEach, Look, Compile, AreTold}
+use Rattle.netset_commands.specs.Compiled.{begins_file}
 use Rattle.netset_commands.specs.Entries.{AddsEntry}
 use Rattle.cidr_lists.specs.Entries.{AreEntries}
 use Rattle.cidr_lists.specs.Lists.{Text, LineSays, lines_of, networks_in, text_by}
@@ -17,6 +18,8 @@ use Rattle.netset_commands.specs.declared.errors.CommandError.{CommandError}
 use Rattle.netset_commands.specs.declared.errors.CommandError.TheVariants as error
 use Rattle.cidr_lists.specs.declared.errors.LineError.{LineError}
 use Rattle.netset_commands.specs.declared.errors.ReadError.{ReadError}
+use Rattle.netset_commands.specs.declared.input.begun.Given.{Given}
+use Rattle.netset_commands.specs.declared.input.begun.Given.TheVariants.{Lines, Stored}
 use Rattle.netset_commands.specs.declared.input.keeping.Kept.{Kept}
 use Rattle.cidr_lists.specs.declared.lines.Kind.{Kind}
 use Rattle.cidr_lists.specs.declared.lines.Kind.TheVariants as kind
@@ -33,6 +36,25 @@ kind_of (Which address files) = kind.Hosts
 kind_of (Look table file) = kind.Rows
 kind_of (Compile table name) = kind.Rows
 kind_of request = kind.Networks
+
+-- whether its list may be a file of look-ups
+abbrev pub takes_file : Request → Bool
+takes_file (Match options list file) = true
+takes_file (MatchEach options list files) = true
+takes_file (Look table file) = true
+takes_file request = false
+
+-- a list by its lines: a file of look-ups has none
+abbrev pub only_lines : Text → Text
+only_lines text = if begins_file text.bytes then text_by text.host_bits [] else text
+
+-- the lists by their lines, where they may be files of look-ups, or not
+abbrev pub lined_in : Bool → Option Text → Option Text
+lined_in false contents = contents
+lined_in true contents = option_map only_lines contents
+
+abbrev pub lined : Bool → (List ℕ → Option Text) → List ℕ → Option Text
+lined takes contents name = lined_in takes (contents name)
 
 -- why no more lists are read: the first of these can't be read, or memory
 abbrev pub IsLoadError : List (List ℕ) → CommandError → Type 0
@@ -103,18 +125,29 @@ KeepsListLines kind bits file left old block new rest (Ok kept) = (lines : List 
 KeepsListLines kind bits file left old block new rest (Err e) = (lines : List ℕ) × SaysMore old block new rest lines × IsStopped e
     × IfSome left (λ text. IsPartTold kind file (text_by bits text) lines)
 
--- the same of the list of a file
-abbrev pub KeepsList : Option Text → Kind → List ℕ → State → State → Result (Said × Bool) CommandError → Type 0
-KeepsList contents kind file old new (Ok kept) = (lines : List ℕ) × Tells old new lines × IsAny kept.1 lines
-    × ((text : Text) → contents ≡ Some text → IsKept kind text.host_bits file (lines_of text.bytes) (lines, kept.1, kept.0))
-KeepsList contents kind file old new (Err e) = (lines : List ℕ) × Tells old new lines × IsLoadError (file ∷ []) e
-    × ((text : Text) → contents ≡ Some text → IsPartTold kind file text lines)
+-- this is kept of a list: what its lines say, or the bytes of a file of look-ups
+abbrev pub IsGivenBy : Text → Given Said → Type 0
+IsGivenBy text (Lines said) = AllSaid text.host_bits (lines_of text.bytes) said
+IsGivenBy text (Stored bytes) = (begins_file text.bytes ≡ true) × (bytes.items ≡ text.bytes)
+
+-- the lines in error are told of a list
+abbrev pub IsTold : Kind → List ℕ → Text → List ℕ → Type 0
+IsTold kind file text lines = (errors : List (ℕ × LineError)) × AreErrors kind text.host_bits 1 (lines_of text.bytes) errors
+    × (lines ≡ flat_map (fault_line file) errors)
+
+-- the same of the list of a file, which may be a file of look-ups, or not
+abbrev pub KeepsList : Bool → Option Text → Kind → List ℕ → State → State → Result (Given Said × Bool) CommandError → Type 0
+KeepsList takes contents kind file old new (Ok kept) = (lines : List ℕ) × Tells old new lines × IsAny kept.1 lines
+    × ((text : Text) → lined_in takes contents ≡ Some text → IsTold kind file text lines)
+    × (kept.1 ≡ false → (text : Text) → contents ≡ Some text → IsGivenBy text kept.0)
+KeepsList takes contents kind file old new (Err e) = (lines : List ℕ) × Tells old new lines × IsLoadError (file ∷ []) e
+    × ((text : Text) → lined_in takes contents ≡ Some text → IsPartTold kind file text lines)
 
 -- the lists say what is kept of them
 abbrev pub AreKept : (List ℕ → Option Text) → List Kept → Type 0
 AreKept contents [] = Unit {0}
 AreKept contents (list ∷ lists) =
-    ((text : Text) → contents list.name.now ≡ Some text → AllSaid text.host_bits (lines_of text.bytes) list.said) × AreKept contents lists
+    ((text : Text) → contents list.name.now ≡ Some text → IsGivenBy text list.given) × AreKept contents lists
 
 -- what was told of lists, if their bytes are told
 abbrev pub HasTold : (List ℕ → Option Text) → Kind → List (List ℕ) → State → State → List ℕ → Type 0

@@ -19,7 +19,7 @@ use Rattle.netset_commands.specs.Describing.{IsNoLength}
 use Rattle.netset_commands.specs.Free.{IsBadFree, IsBadLength, IsMost}
 use Rattle.netset_commands.specs.Operands.{IsNoNetworkText, IsUnlisted, IsUnreadOperand, OfOperand}
 use Rattle.cidr_lists.specs.Faults.{AreTellings}
-use Rattle.netset_commands.specs.Keeping.{IsBegun, IsLoadError, kind_of}
+use Rattle.netset_commands.specs.Keeping.{IsBegun, IsLoadError, kind_of, lined, takes_file}
 use Rattle.cidr_lists.specs.Messages.{fault_line, fault_words}
 use Rattle.cidr_lists.specs.Tables.{IsTable}
 use Rattle.netset_commands.specs.Look.{IsLookCut, IsUnreadTable}
@@ -254,12 +254,12 @@ RunsAnswer contents refused request closed out new_out err new_err status = (r :
 -- there is none, the request is answered
 abbrev pub TellsFaults : (List ℕ → Option Text) → Bool → Request → Bool → State → State → State → State → ℕ → Type 0
 TellsFaults contents refused request closed out new_out err new_err status = (names : List (List ℕ)) × AreLists request names × (lines : List ℕ) × (mid : State) × Tells err mid lines
-    × ((((texts : List Text) → AreTold contents names texts → AreTellings (kind_of request) names texts lines)
+    × ((((texts : List Text) → AreTold (lined (takes_file request) contents) names texts → AreTellings (kind_of request) names texts lines)
     × (((lines ≢ []) × (new_out ≡ out) × (new_err ≡ mid) × (status ≡ 2))
     ⊎ ((lines ≡ []) × RunsAnswer contents refused request closed out new_out mid new_err status)))
     ⊎ ((before after : List (List ℕ)) × (names ≡ before ++ after) × (front rest : List ℕ) × (lines ≡ front ++ rest)
-    × ((texts : List Text) → AreTold contents before texts → AreTellings (kind_of request) before texts front)
-    × IsBegun contents (kind_of request) after rest × (e : CommandError) × IsLoadError after e × Cause (FileMayFail contents) refused e
+    × ((texts : List Text) → AreTold (lined (takes_file request) contents) before texts → AreTellings (kind_of request) before texts front)
+    × IsBegun (lined (takes_file request) contents) (kind_of request) after rest × (e : CommandError) × IsLoadError after e × Cause (FileMayFail contents) refused e
     × EndsWith e closed out new_out mid new_err status))
 
 -- the same, where no argument is wrong, and there is memory for the names of the lists

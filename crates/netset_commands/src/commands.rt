@@ -3,7 +3,7 @@ ghost use Rattle.std.specs.Prelude.{◌≡◌, ◌<◌, ◌++◌, count_by, true
 ghost use Rattle.std.specs.Bool.{Decides};
 ghost use Rattle.netset_commands.specs.Command.{request_of};
 ghost use Rattle.netset_commands.specs.Commands.{AreLists, HasNoFirstList, IsNoList, input_name, lists_of, others_of, reading_of};
-ghost use Rattle.netset_commands.specs.Keeping.{kind_of};
+ghost use Rattle.netset_commands.specs.Keeping.{kind_of, takes_file};
 ghost use Rattle.netset_commands.specs.Matching.{is_word};
 ghost use Rattle.netset_commands.specs.Operands.{ReadsAsNetwork};
 ghost use Rattle.netset_commands.specs.Table.{texts};
@@ -225,6 +225,16 @@ impl<'a> Command<'a> {
             _ => {}
         }
         Ok(names)
+    }
+
+    /// Whether its list may be a file of look-ups.
+    pub fn takes_file(&self) -> bool
+        ensures { result ≡ takes_file (request_of self.now) }
+    {
+        matches!(
+            self,
+            Command::Match(..) | Command::MatchEach(..) | Command::Look(..)
+        )
     }
 
     /// What the lines of the lists are.

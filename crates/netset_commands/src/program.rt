@@ -199,7 +199,14 @@ fn keep_going<'a, M: Memory, F: Sources, D: Folder, O: Output, E: Sink>(
         return report(&Err(CommandError::NoMemory), false, err);
     };
     let names = command.read_lists(names.as_slice());
-    match load(memory, sources, command.kind(), names, err) {
+    match load(
+        memory,
+        sources,
+        command.kind(),
+        command.takes_file(),
+        names,
+        err,
+    ) {
         Ok((_, true)) => 2,
         Ok((lists, false)) => {
             let loaded = Loaded::new(sources, lists.as_slice());

@@ -133,6 +133,7 @@ impl LookUps for Registries {
     ghost use Rattle.netset_commands.specs.Class.{registry};
 
     ghost rows = { λ _. registry };
+
     ghost is_found = { λ _ _ _. Unit {0} };
 
     fn find(&self, _address: &IpAddr) -> Option<Answer> {

@@ -6,6 +6,7 @@ ghost use Rattle.netset_commands.specs.Entries.{AddsEntries, AddsEntry, CopiesEn
 ghost use Rattle.netset_commands.specs.Unchecked.{AddsFileEntries, AreToldEntries, IsUnchecked};
 
 use crate::errors::{CommandError, ReadError, Reason};
+use crate::input::begun::Given;
 use crate::input::files::Sources;
 use crate::input::keeping::Said;
 use cidr_io::lines::{LineReader, is_too_long};
@@ -134,7 +135,7 @@ fn add_file<'a, M: Memory, F: Sources>(
     ensures cause { IfErr result (Cause (FileMayFail (F.contents sources.now)) (M.refused memory.new)) }
 {
     match sources.kept(file) {
-        Some(Said::Hosts(kept)) => {
+        Some(Given::Lines(Said::Hosts(kept))) => {
             add_kept(memory, file, kept.as_slice(), entries)?;
             Ok(())
         }

@@ -1,10 +1,11 @@
 //! The files of a run and its standard input.
 ghost use Rattle.std.specs.Prelude.{◌≡◌, ℕ, List, Option, Some, None, IfErr, IfOk, IfSome};
-ghost use Rattle.netset_commands.specs.Keeping.{AllSaid};
-ghost use Rattle.cidr_lists.specs.Lists.{Text, lines_of};
+ghost use Rattle.netset_commands.specs.Keeping.{IsGivenBy};
+ghost use Rattle.cidr_lists.specs.Lists.{Text};
 ghost use Rattle.netset_commands.specs.Program.{contents_by};
 
 use crate::errors::Reason;
+use crate::input::begun::Given;
 use crate::input::keeping::Said;
 use crate::output::terminal::{Progress, Watched};
 use cidr_io::source::Source;
@@ -46,10 +47,10 @@ pub trait Sources {
     fn host_bits(&self) -> HostBits
         ensures { (name : List ℕ) (text : Text) → contents self.now name ≡ Some text → text.host_bits ≡ result };
 
-    /// What the lines of the file of this name say, if they are read already and none is in error.
-    fn kept(&self, name: &str) -> Option<&Said>
-        ensures { IfSome result (λ said. (text : Text) → contents self.now name.now ≡ Some text
-            → AllSaid text.host_bits (lines_of text.bytes) said.now) };
+    /// What the lines of the file of this name say, if they are read already and none is in error, or its bytes, if they are
+    /// and it begins as a file of look-ups.
+    fn kept(&self, name: &str) -> Option<&Given<Said>>
+        ensures { IfSome result (λ given. (text : Text) → contents self.now name.now ≡ Some text → IsGivenBy text given.now) };
 }
 
 /// The files of a run, and how their lists are read.
@@ -72,7 +73,7 @@ impl<F: Files> Sources for ReadBy<'_, F> {
         self.host_bits
     }
 
-    fn kept(&self, _name: &str) -> Option<&Said> {
+    fn kept(&self, _name: &str) -> Option<&Given<Said>> {
         None
     }
 }

@@ -1,11 +1,12 @@
 //! Telling every line in error of the lists of a command, in the pass that reads them.
 ghost use Rattle.std.specs.Prelude.{◌≡◌, ◌++◌, ℕ, List, Option, Some, map, MatchResult, IfErr, IfSome, true};
 ghost use Rattle.netset_commands.specs.Causes.{Cause, FileMayFail, ReadCause, TextFails};
-ghost use Rattle.netset_commands.specs.Keeping.{AddsBy, AllSaid, AreKept, IsNone, KeepsLine, KeepsListLines, KeepsList};
-ghost use Rattle.cidr_lists.specs.Lists.{Text, lines_of};
+ghost use Rattle.netset_commands.specs.Keeping.{AddsBy, AreKept, IsGivenBy, IsNone, KeepsLine, KeepsListLines, KeepsList, lined};
+ghost use Rattle.cidr_lists.specs.Lists.{Text};
 ghost use Rattle.netset_commands.specs.Loading.{AreListsLoaded, IsUnloaded};
 
 use crate::errors::{CommandError, ReadError, Reason};
+use crate::input::begun::{Given, begin_file, read_whole};
 use crate::input::files::Sources;
 use crate::input::table::unread;
 use crate::input::{entries, lists, rows};
@@ -125,22 +126,25 @@ fn keep_lines<M: Memory, S: Source + Drop, E: Sink>(
     Err(ReadError::Input)
 }
 
-/// Reads a list to its end, and tells its lines in error: what the others say, and whether one is in error.
+/// Reads a list to its end, and tells its lines in error: what the others say, and whether one is in error. Where it may be
+/// a file of look-ups and begins as one, these are its bytes, and no line is in error.
 fn keep_list<'a, M: Memory, F: Sources, E: Sink>(
     memory: &mut M,
     sources: &F,
     kind: Kind,
+    takes_file: bool,
     file: &'a str,
     err: &mut E,
-) -> Result<(Said, bool), CommandError<'a>>
-    ensures keeps { KeepsList (F.contents sources.now file.now) kind file.now (E.state err.old) (E.state err.new) result }
+) -> Result<(Given<Said>, bool), CommandError<'a>>
+    ensures keeps { KeepsList takes_file (F.contents sources.now file.now) kind file.now (E.state err.old) (E.state err.new) result }
     ensures cause { IfErr result (Cause (FileMayFail (F.contents sources.now)) (M.refused memory.new)) }
 {
-    let source = match sources.open(file) {
-        Ok(source) => source,
-        Err(why) => return Err(CommandError::Input(file, why)),
-    };
-    let Ok(mut reader) = LineReader::new(memory, source) else {
+    let begun = begin_file(sources, file)?;
+    if takes_file && begun.is_stored() {
+        let bytes = read_whole(memory, file, begun)?;
+        return Ok((Given::Stored(bytes), false));
+    }
+    let Ok(mut reader) = LineReader::new(memory, begun) else {
         return Err(CommandError::NoMemory);
     };
     let mut block = Block::new();
@@ -155,7 +159,7 @@ fn keep_list<'a, M: Memory, F: Sources, E: Sink>(
     );
     block.end(err);
     match kept {
-        Ok(kept) => Ok(kept),
+        Ok((said, found)) => Ok((Given::Lines(said), found)),
         Err(e) => Err(unread(file, e)),
     }
 }
@@ -164,17 +168,17 @@ fn keep_list<'a, M: Memory, F: Sources, E: Sink>(
 #[derive(Drop)]
 pub struct Kept<'a> {
     pub name: &'a str,
-    pub said: Said,
+    pub given: Given<Said>,
 }
 
-/// What the first list of this name says.
-fn said_of<'l>(lists: &'l [Kept<'_>], name: &str) -> Option<&'l Said>
-    ensures { IfSome result (λ said. (contents : List ℕ → Option Text) → AreKept contents lists.now → (text : Text)
-        → contents name.now ≡ Some text → AllSaid text.host_bits (lines_of text.bytes) said.now) }
+/// What is kept of the first list of this name.
+fn given_of<'l>(lists: &'l [Kept<'_>], name: &str) -> Option<&'l Given<Said>>
+    ensures { IfSome result (λ given. (contents : List ℕ → Option Text) → AreKept contents lists.now → (text : Text)
+        → contents name.now ≡ Some text → IsGivenBy text given.now) }
 {
     for list in lists {
         if list.name == name {
-            return Some(&list.said);
+            return Some(&list.given);
         }
     }
     None
@@ -220,32 +224,34 @@ impl<F: Sources> Sources for Loaded<'_, F> {
         self.sources.host_bits()
     }
 
-    fn kept(&self, name: &str) -> Option<&Said> {
+    fn kept(&self, name: &str) -> Option<&Given<Said>> {
         let lists = self.lists;
-        said_of(lists, name)
+        given_of(lists, name)
     }
 }
 
-/// Reads lists whole, and tells their lines in error, up to the first list that can't be read.
+/// Reads lists whole, which may be files of look-ups or not, and tells their lines in error, up to the first list that can't be
+/// read.
 pub fn load<'a, M: Memory, F: Sources, E: Sink>(
     memory: &mut M,
     sources: &F,
     kind: Kind,
+    takes_file: bool,
     names: &[&'a str],
     err: &mut E,
 ) -> Result<(Vec<Kept<'a>>, bool), CommandError<'a>>
     ensures loads { MatchResult result
-        (λ loaded. AreListsLoaded (F.contents sources.now) kind (map (λ name. name.now) names.now)
+        (λ loaded. AreListsLoaded takes_file (F.contents sources.now) kind (map (λ name. name.now) names.now)
         (E.state err.old) (E.state err.new) loaded.0.items loaded.1)
-        (IsUnloaded (F.contents sources.now) kind (map (λ name. name.now) names.now) (E.state err.old) (E.state err.new)) }
+        (IsUnloaded (lined takes_file (F.contents sources.now)) kind (map (λ name. name.now) names.now) (E.state err.old) (E.state err.new)) }
     ensures cause { IfErr result (Cause (FileMayFail (F.contents sources.now)) (M.refused memory.new)) }
 {
     let mut lists = Vec::new(memory.alloc());
     let mut found = false;
     for name in names {
-        let (said, has_fault) = keep_list(memory, sources, kind, name, err)?;
+        let (given, has_fault) = keep_list(memory, sources, kind, takes_file, name, err)?;
         found |= has_fault;
-        memory.push(&mut lists, Kept { name, said })?;
+        memory.push(&mut lists, Kept { name, given })?;
     }
     Ok((lists, found))
 }

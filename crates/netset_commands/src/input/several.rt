@@ -56,7 +56,7 @@ fn add_file<'a, M: Memory, F: Sources>(
     ensures cause { IfErr result (Cause (FileMayFail (F.contents sources.now)) (M.refused memory.new)) }
 {
     match sources.kept(file) {
-        Some(Said::Networks(kept)) => {
+        Some(Given::Lines(Said::Networks(kept))) => {
             let added = lists.extend(kept);
             memory.watch(added)?;
             Ok(())
@@ -79,8 +79,28 @@ pub fn read_file<'a, M: Memory, F: Sources>(
     Ok(Sets::of_lists(lists))
 }
 
-/// The bytes of a file of look-ups, or the addresses of the list of another file, which is read unless it is read
-/// already.
+/// Reads the bytes of a file of look-ups, or the addresses of the list of another file.
+fn read_given<'a, M: Memory, F: Sources>(
+    memory: &mut M,
+    sources: &F,
+    file: &'a str,
+) -> Result<Given<Sets>, CommandError<'a>>
+    ensures gives { GivesList (F.contents sources.now file.now) file.now result }
+    ensures cause { IfErr result (Cause (FileMayFail (F.contents sources.now)) (M.refused memory.new)) }
+{
+    let begun = begin_file(sources, file)?;
+    if begun.is_stored() {
+        let bytes = read_whole(memory, file, begun)?;
+        return Ok(Given::Stored(bytes));
+    }
+    let mut lists = Lists::new(memory.alloc());
+    match read_list(memory, sources.host_bits(), begun, &mut lists) {
+        Ok(()) => Ok(Given::Lines(Sets::of_lists(lists))),
+        Err(e) => Err(unread(file, e)),
+    }
+}
+
+/// The bytes of a file of look-ups, or the addresses of the list of another file, which is read unless it is read already.
 fn give_list<'a, M: Memory, F: Sources>(
     memory: &mut M,
     sources: &F,
@@ -89,20 +109,19 @@ fn give_list<'a, M: Memory, F: Sources>(
     ensures gives { GivesList (F.contents sources.now file.now) file.now result }
     ensures cause { IfErr result (Cause (FileMayFail (F.contents sources.now)) (M.refused memory.new)) }
 {
-    let mut lists = Lists::new(memory.alloc());
-    if let Some(Said::Networks(kept)) = sources.kept(file) {
-        let added = lists.extend(kept);
-        memory.watch(added)?;
-        return Ok(Given::Lines(Sets::of_lists(lists)));
-    }
-    let begun = begin_file(sources, file)?;
-    if begun.is_stored() {
-        let bytes = read_whole(memory, file, begun)?;
-        return Ok(Given::Stored(bytes));
-    }
-    match read_list(memory, sources.host_bits(), begun, &mut lists) {
-        Ok(()) => Ok(Given::Lines(Sets::of_lists(lists))),
-        Err(e) => Err(unread(file, e)),
+    match sources.kept(file) {
+        Some(Given::Lines(Said::Networks(kept))) => {
+            let mut lists = Lists::new(memory.alloc());
+            let added = lists.extend(kept);
+            memory.watch(added)?;
+            Ok(Given::Lines(Sets::of_lists(lists)))
+        }
+        Some(Given::Stored(kept)) => {
+            let bytes: Result<_, _> = kept.clone();
+            let bytes = memory.watch(bytes)?;
+            Ok(Given::Stored(bytes))
+        }
+        _ => read_given(memory, sources, file),
     }
 }
 

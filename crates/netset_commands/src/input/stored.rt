@@ -161,6 +161,7 @@ fn found_in<'a, W: Family, C: OfFile<W>>(part: &Part<'a>, address: W) -> Option<
 
 impl LookUps for Stored<'_> {
     ghost rows = { by_family };
+
     ghost is_found = { λ _ _ _. Unit {0} };
 
     fn find(&self, _address: &IpAddr) -> Option<Answer> {

@@ -70,6 +70,7 @@ fn answer_of<C: BitString>(found: Option<&(C, Span)>) -> Option<Answer>
 
 impl LookUps for Table {
     ghost rows = { kept };
+
     ghost is_found = { IsAnswer };
 
     fn find(&self, address: &IpAddr) -> Option<Answer> {
@@ -89,7 +90,13 @@ impl LookUps for Table {
         match found {
             Some(answer) => {
                 let value = value_of(self.values.as_slice(), answer.value);
-                push_match(block, out, address.to_text(), block_text(address, answer.len), value)
+                push_match(
+                    block,
+                    out,
+                    address.to_text(),
+                    block_text(address, answer.len),
+                    value,
+                )
             }
             None => push_none(block, out, address.to_text()),
         }
@@ -193,6 +200,26 @@ fn read_opened<'a, M: Memory, F: Sources>(
     }
 }
 
+/// Reads the bytes of a file of look-ups, or the rows of another file.
+fn read_given<'a, M: Memory, F: Sources>(
+    memory: &mut M,
+    sources: &F,
+    file: &'a str,
+) -> Result<Given<Rows>, CommandError<'a>>
+    ensures gives { GivesRows (F.contents sources.now file.now) file.now result }
+    ensures cause { IfErr result (Cause (FileMayFail (F.contents sources.now)) (M.refused memory.new)) }
+{
+    let begun = begin_file(sources, file)?;
+    if begun.is_stored() {
+        let bytes = read_whole(memory, file, begun)?;
+        return Ok(Given::Stored(bytes));
+    }
+    match read_rows(memory, sources.host_bits(), begun) {
+        Ok(rows) => Ok(Given::Lines(rows)),
+        Err(e) => Err(unread(file, e)),
+    }
+}
+
 /// The bytes of a file of look-ups, or the rows of another file, which is read unless it is read already.
 fn give_rows<'a, M: Memory, F: Sources>(
     memory: &mut M,
@@ -202,19 +229,18 @@ fn give_rows<'a, M: Memory, F: Sources>(
     ensures gives { GivesRows (F.contents sources.now file.now) file.now result }
     ensures cause { IfErr result (Cause (FileMayFail (F.contents sources.now)) (M.refused memory.new)) }
 {
-    if let Some(Said::Rows(kept)) = sources.kept(file) {
-        let rows = kept.copy(memory.alloc());
-        let rows = memory.watch(rows)?;
-        return Ok(Given::Lines(rows));
-    }
-    let begun = begin_file(sources, file)?;
-    if begun.is_stored() {
-        let bytes = read_whole(memory, file, begun)?;
-        return Ok(Given::Stored(bytes));
-    }
-    match read_rows(memory, sources.host_bits(), begun) {
-        Ok(rows) => Ok(Given::Lines(rows)),
-        Err(e) => Err(unread(file, e)),
+    match sources.kept(file) {
+        Some(Given::Lines(Said::Rows(kept))) => {
+            let rows = kept.copy(memory.alloc());
+            let rows = memory.watch(rows)?;
+            Ok(Given::Lines(rows))
+        }
+        Some(Given::Stored(kept)) => {
+            let bytes: Result<_, _> = kept.clone();
+            let bytes = memory.watch(bytes)?;
+            Ok(Given::Stored(bytes))
+        }
+        _ => read_given(memory, sources, file),
     }
 }
 
@@ -247,7 +273,7 @@ fn rows_of<'a, M: Memory, F: Sources>(
     ensures cause { IfErr result (Cause (FileMayFail (F.contents sources.now)) (M.refused memory.new)) }
 {
     match sources.kept(file) {
-        Some(Said::Rows(kept)) => {
+        Some(Given::Lines(Said::Rows(kept))) => {
             let rows = kept.copy(memory.alloc());
             let rows = memory.watch(rows)?;
             Ok(rows)

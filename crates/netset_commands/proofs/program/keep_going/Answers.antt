@@ -13,18 +13,18 @@ returns-in_default-lists-clause-goes g c =
 pub returns-in-Ok-default-true-clause-goes : goal.returns-in-Ok-default-true-clause-goes
 returns-in-Ok-default-true-clause-goes g c = inr (inl (
   c.in_default.ensures,
-  lines_in_error (g.F.Sources.contents c.args.sources.now) (request_of c.args.command) c.kind.result (bytes_of c.read_lists-names.result.now)
+  lines_in_error (g.F.Sources.contents c.args.sources.now) (request_of c.args.command) c.kind.result c.takes_file.result (bytes_of c.read_lists-names.result.now)
       (g.M.Memory.refused c.load.new.memory) (g.O.Output.closed c.args.out.now) (g.O.Sink.state c.args.out.now)
-      (g.E.Sink.state c.args.err.now) (g.E.Sink.state c.load.new.err) c.kind.ensures (c.read_lists-names.ensures (rw c.as_slice.ensures.value c.in-Ok.ensures.names)) c.in-Ok-default-true.field-0-0.items
+      (g.E.Sink.state c.args.err.now) (g.E.Sink.state c.load.new.err) c.kind.ensures c.takes_file.ensures (c.read_lists-names.ensures (rw c.as_slice.ensures.value c.in-Ok.ensures.names)) c.in-Ok-default-true.field-0-0.items
       (rw (c.in-Ok-default-true.field-0-1-test) at c.in-Ok-default-true.ensures.loads),
 ))
 
 pub returns-in-Ok-default-false-clause-goes : goal.returns-in-Ok-default-false-clause-goes
 returns-in-Ok-default-false-clause-goes g c = inr (inl (
   c.in_default.ensures,
-  no_line_in_error (g.F.Sources.contents c.args.sources.now) (request_of c.args.command) c.kind.result (bytes_of c.read_lists-names.result.now)
+  no_line_in_error (g.F.Sources.contents c.args.sources.now) (request_of c.args.command) c.kind.result c.takes_file.result (bytes_of c.read_lists-names.result.now)
       (g.M.Memory.refused c.answer-answered.new.memory) (g.O.Output.closed c.answer-answered.new.out) (g.O.Sink.state c.args.out.now)
-      (g.E.Sink.state c.args.err.now) (g.E.Sink.state c.load.new.err) c.kind.ensures (c.read_lists-names.ensures (rw c.as_slice.ensures.value c.in-Ok.ensures.names)) c.in-Ok-default-false.lists.items
+      (g.E.Sink.state c.args.err.now) (g.E.Sink.state c.load.new.err) c.kind.ensures c.takes_file.ensures (c.read_lists-names.ensures (rw c.as_slice.ensures.value c.in-Ok.ensures.names)) c.in-Ok-default-false.lists.items
       (g.O.Sink.state c.answer-answered.new.out) (g.E.Sink.state c.report-in-Ok-default-false.new.err) c.answer-answered.result c.report-in-Ok-default-false.result
       (rw (c.in-Ok-default-false.field-0-1-test) at c.in-Ok-default-false.ensures.loads)
       (rw c.new-loaded.ensures at c.answer-answered.ensures.answers)
@@ -34,9 +34,9 @@ returns-in-Ok-default-false-clause-goes g c = inr (inl (
 pub returns-clause-goes : goal.returns-clause-goes
 returns-clause-goes g c = inr (inl (
   c.in_default.ensures,
-  not_loaded (g.F.Sources.contents c.args.sources.now) (request_of c.args.command) c.kind.result (bytes_of c.read_lists-names.result.now)
+  not_loaded (g.F.Sources.contents c.args.sources.now) (request_of c.args.command) c.kind.result c.takes_file.result (bytes_of c.read_lists-names.result.now)
       (g.M.Memory.refused c.load.new.memory) (g.O.Output.closed c.args.out.now) (g.O.Sink.state c.args.out.now)
-      (g.E.Sink.state c.args.err.now) (g.E.Sink.state c.load.new.err) c.kind.ensures (c.read_lists-names.ensures (rw c.as_slice.ensures.value c.in-Ok.ensures.names)) (g.E.Sink.state c.report-in-Err.new.err) c.in-Err.e
+      (g.E.Sink.state c.args.err.now) (g.E.Sink.state c.load.new.err) c.kind.ensures c.takes_file.ensures (c.read_lists-names.ensures (rw c.as_slice.ensures.value c.in-Ok.ensures.names)) (g.E.Sink.state c.report-in-Err.new.err) c.in-Err.e
       c.report-in-Err.result c.in-Err.ensures.loads c.in-Err.ensures.cause (rw c.is_closed-in-Err.ensures at c.report-in-Err.ensures.says) c.report-in-Err.ensures.status,
 ))
 

@@ -3,12 +3,12 @@ use Rattle.std.proofs.lemmas.Result.{err_from_is_err_and}
 use Rattle.netset_commands.proofs.EachFile.{networks_copied}
 use Rattle.netset_commands.proofs.input.several.add_file.Goals as goal
 
-pub returns-in_ok-watch-in-Some-Networks-clause-adds : goal.returns-in_ok-watch-in-Some-Networks-clause-adds
-returns-in_ok-watch-in-Some-Networks-clause-adds g c =
-    networks_copied (g.F.Sources.contents c.args.sources.now c.args.file.now) c.args.file.now c.args.lists.now c.extend-added.new.self c.in-Some-Networks.kept
-    (rw c.in-Some-Networks.field-0-is at c.in-Some-Networks.ensures) (rw (sym c.in_ok-watch-in-Some-Networks.ensures.made) at c.extend-added.ensures)
+pub returns-in_ok-watch-in-Some-Lines-Networks-clause-adds : goal.returns-in_ok-watch-in-Some-Lines-Networks-clause-adds
+returns-in_ok-watch-in-Some-Lines-Networks-clause-adds g c =
+    networks_copied (g.F.Sources.contents c.args.sources.now c.args.file.now) c.args.file.now c.args.lists.now c.extend-added.new.self c.in-Some-Lines-Networks.kept
+    (rw (c.in-Some-Lines-Networks.field-0-is, c.in-Some-Lines-Networks.field-0-0-is) at c.in-Some-Lines-Networks.ensures) (rw (sym c.in_ok-watch-in-Some-Lines-Networks.ensures.made) at c.extend-added.ensures)
 
-pub returns-in_err-watch-in-Some-Networks-clause-cause : goal.returns-in_err-watch-in-Some-Networks-clause-cause
-returns-in_err-watch-in-Some-Networks-clause-cause g c =
+pub returns-in_err-watch-in-Some-Lines-Networks-clause-cause : goal.returns-in_err-watch-in-Some-Lines-Networks-clause-cause
+returns-in_err-watch-in-Some-Lines-Networks-clause-cause g c =
     let (y, is, same) = err_from_is_err_and c.from_residual.result c.from_residual.ensures.1 in
-    rw (is, same) c.in_err-watch-in-Some-Networks.ensures.refused
+    rw (is, same) c.in_err-watch-in-Some-Lines-Networks.ensures.refused

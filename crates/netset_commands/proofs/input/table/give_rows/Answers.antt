@@ -1,42 +1,24 @@
-use Rattle.std.proofs.Common.{sym, false}
+use Rattle.std.proofs.Common.{sym}
 use Rattle.std.proofs.lemmas.Result.{err_from_is_err_and}
-use Rattle.netset_commands.proofs.Causes.{file_cause}
-use Rattle.netset_commands.proofs.Given.{begins_as, file_bytes, no_lines, opens_begun, whole_cause}
-use Rattle.netset_commands.proofs.Stored.{rows_copied, rows_read, table_unread}
+use Rattle.netset_commands.proofs.Stored.{bytes_copied, rows_copied}
 use Rattle.netset_commands.proofs.input.table.give_rows.Goals as goal
 
-pub returns-in-Some-Rows-clause-gives : goal.returns-in-Some-Rows-clause-gives
-returns-in-Some-Rows-clause-gives g c =
-    rows_copied (g.F.Sources.contents c.args.sources.now c.args.file.now) c.args.file.now c.in-Some-Rows.kept c.in_ok-rows.rows
-    (rw c.in-Some-Rows.field-0-is at c.in-Some-Rows.ensures) (rw (sym c.in_ok-rows.ensures.made) at c.copy-rows.ensures)
+pub returns-in_ok-rows-in-Some-Lines-Rows-clause-gives : goal.returns-in_ok-rows-in-Some-Lines-Rows-clause-gives
+returns-in_ok-rows-in-Some-Lines-Rows-clause-gives g c =
+    rows_copied (g.F.Sources.contents c.args.sources.now c.args.file.now) c.args.file.now c.in-Some-Lines-Rows.kept c.in_ok-rows-in-Some-Lines-Rows.rows
+    (rw (c.in-Some-Lines-Rows.field-0-is, c.in-Some-Lines-Rows.field-0-0-is) at c.in-Some-Lines-Rows.ensures) (rw (sym c.in_ok-rows-in-Some-Lines-Rows.ensures.made) at c.copy-rows.ensures)
 
-pub returns-in_err-bytes-clause-cause : goal.returns-in_err-bytes-clause-cause
-returns-in_err-bytes-clause-cause g c =
-    let (y, is, same) = err_from_is_err_and c.from_residual-in_err-bytes.result c.from_residual-in_err-bytes.ensures.1 in
-    rw (is, same) (whole_cause (g.F.Sources.contents c.args.sources.now) c.args.file.now _ (g.M.Memory.refused c.read_whole.new.memory) c.in_err-bytes.field-0.0
-    (opens_begun _ (g.F.Sources.contents c.args.sources.now c.args.file.now) c.in_ok-begun.begun c.in_ok-begun.ensures.told) c.in_err-bytes.ensures.cause)
+pub returns-in_err-rows-in-Some-Lines-Rows-clause-cause : goal.returns-in_err-rows-in-Some-Lines-Rows-clause-cause
+returns-in_err-rows-in-Some-Lines-Rows-clause-cause g c =
+    let (y, is, same) = err_from_is_err_and c.from_residual.result c.from_residual.ensures.1 in
+    rw (is, same) c.in_err-rows-in-Some-Lines-Rows.ensures.refused
 
-pub returns-then-is_stored-clause-gives : goal.returns-then-is_stored-clause-gives
-returns-then-is_stored-clause-gives g c =
-    file_bytes _ (g.F.Sources.contents c.args.sources.now c.args.file.now) c.in_ok-begun.begun c.in_ok-begun.ensures.told c.is_stored.result c.in_ok-bytes.bytes.items
-    c.is_stored.ensures c.if-is_stored.true c.in_ok-bytes.ensures.bytes
+pub returns-in_ok-bytes-in-Some-Stored-clause-gives : goal.returns-in_ok-bytes-in-Some-Stored-clause-gives
+returns-in_ok-bytes-in-Some-Stored-clause-gives g c =
+    bytes_copied (g.F.Sources.contents c.args.sources.now c.args.file.now) c.in-Some-Stored.kept.items c.in_ok-bytes-in-Some-Stored.bytes.items
+    (rw c.in-Some-Stored.field-0-is at c.in-Some-Stored.ensures) (rw (sym c.in_ok-bytes-in-Some-Stored.ensures.made) at c.clone-bytes.ensures).cases.0
 
-pub returns-in-Ok-clause-gives : goal.returns-in-Ok-clause-gives
-returns-in-Ok-clause-gives g c =
-    rows_read (g.F.Sources.contents c.args.sources.now c.args.file.now) _ c.host_bits.result c.args.file.now c.in-Ok.rows
-    (opens_begun _ (g.F.Sources.contents c.args.sources.now c.args.file.now) c.in_ok-begun.begun c.in_ok-begun.ensures.told) (c.host_bits.ensures c.args.file.now)
-    c.in-Ok.ensures.reads
-
-pub returns-in-Err-clause-gives : goal.returns-in-Err-clause-gives
-returns-in-Err-clause-gives g c =
-    rw c.unread.ensures (no_lines (g.F.Sources.contents c.args.sources.now c.args.file.now) c.args.file c.in-Err.e
-    (begins_as _ (g.F.Sources.contents c.args.sources.now c.args.file.now) c.in_ok-begun.begun c.in_ok-begun.ensures.told c.is_stored.result c.is_stored.ensures false
-    c.if-is_stored.false)
-    (table_unread (g.F.Sources.contents c.args.sources.now c.args.file.now) _ c.host_bits.result c.args.file c.in-Err.e
-    (opens_begun _ (g.F.Sources.contents c.args.sources.now c.args.file.now) c.in_ok-begun.begun c.in_ok-begun.ensures.told) (c.host_bits.ensures c.args.file.now)
-    c.in-Err.ensures.reads))
-
-pub returns-in-Err-clause-cause : goal.returns-in-Err-clause-cause
-returns-in-Err-clause-cause g c =
-    rw c.unread.ensures (file_cause (g.F.Sources.contents c.args.sources.now) c.args.file _ (g.M.Memory.refused c.read_rows.new.memory) c.in-Err.e
-    (opens_begun _ (g.F.Sources.contents c.args.sources.now c.args.file.now) c.in_ok-begun.begun c.in_ok-begun.ensures.told) c.in-Err.ensures.cause)
+pub returns-in_err-bytes-in-Some-Stored-clause-cause : goal.returns-in_err-bytes-in-Some-Stored-clause-cause
+returns-in_err-bytes-in-Some-Stored-clause-cause g c =
+    let (y, is, same) = err_from_is_err_and c.from_residual-in_err-bytes-in-Some-Stored.result c.from_residual-in_err-bytes-in-Some-Stored.ensures.1 in
+    rw (is, same) c.in_err-bytes-in-Some-Stored.ensures.refused

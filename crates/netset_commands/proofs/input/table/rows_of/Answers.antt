@@ -3,12 +3,12 @@ use Rattle.std.proofs.lemmas.Result.{err_from_is_err_and}
 use Rattle.netset_commands.proofs.Stored.{rows_copied}
 use Rattle.netset_commands.proofs.input.table.rows_of.Goals as goal
 
-pub returns-in_ok-rows-in-Some-Rows-clause-reads : goal.returns-in_ok-rows-in-Some-Rows-clause-reads
-returns-in_ok-rows-in-Some-Rows-clause-reads g c =
-    rows_copied (g.F.Sources.contents c.args.sources.now c.args.file.now) c.args.file.now c.in-Some-Rows.kept c.in_ok-rows-in-Some-Rows.rows
-    (rw c.in-Some-Rows.field-0-is at c.in-Some-Rows.ensures) (rw (sym c.in_ok-rows-in-Some-Rows.ensures.made) at c.copy-rows.ensures)
+pub returns-in_ok-rows-in-Some-Lines-Rows-clause-reads : goal.returns-in_ok-rows-in-Some-Lines-Rows-clause-reads
+returns-in_ok-rows-in-Some-Lines-Rows-clause-reads g c =
+    rows_copied (g.F.Sources.contents c.args.sources.now c.args.file.now) c.args.file.now c.in-Some-Lines-Rows.kept c.in_ok-rows-in-Some-Lines-Rows.rows
+    (rw (c.in-Some-Lines-Rows.field-0-is, c.in-Some-Lines-Rows.field-0-0-is) at c.in-Some-Lines-Rows.ensures) (rw (sym c.in_ok-rows-in-Some-Lines-Rows.ensures.made) at c.copy-rows.ensures)
 
-pub returns-in_err-rows-in-Some-Rows-clause-cause : goal.returns-in_err-rows-in-Some-Rows-clause-cause
-returns-in_err-rows-in-Some-Rows-clause-cause g c =
+pub returns-in_err-rows-in-Some-Lines-Rows-clause-cause : goal.returns-in_err-rows-in-Some-Lines-Rows-clause-cause
+returns-in_err-rows-in-Some-Lines-Rows-clause-cause g c =
     let (y, is, same) = err_from_is_err_and c.from_residual.result c.from_residual.ensures.1 in
-    rw (is, same) c.in_err-rows-in-Some-Rows.ensures.refused
+    rw (is, same) c.in_err-rows-in-Some-Lines-Rows.ensures.refused

@@ -1,6 +1,6 @@
 use Rattle.netset_commands.proofs.Arguments.{same_text}
 use Rattle.netset_commands.proofs.Loading.{kept_item}
-use Rattle.netset_commands.proofs.input.keeping.said_of.Goals as goal
+use Rattle.netset_commands.proofs.input.keeping.given_of.Goals as goal
 
 pub returns-then-eq : goal.returns-then-eq
 returns-then-eq c = λ contents kept text is.
