@@ -1,5 +1,6 @@
 pub mod Anywhere
 pub mod Contents
+pub mod FieldsAt
 pub mod Found
 pub mod KeptNear
 pub mod LineFeeds

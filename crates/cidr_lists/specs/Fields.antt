@@ -1,32 +1,28 @@
 -- The fields of a line: of a row of a table, of a line that is looked up, and of one that is picked.
-use Rattle.std.specs.Prelude.{ℕ, List, [], Option, Some, None, ◌≡◌, ◌≢◌, length, drop, IsUtf8, Result, Ok, Err}
+use Rattle.std.specs.Prelude.{ℕ, zero, suc, Bool, not, ◌&&◌, ◌==◌, List, [], Option, Some, None, ◌≡◌, ◌≢◌, length, drop, IsUtf8, Result, Ok, Err}
+use Rattle.std.specs.Char.{is_ascii_whitespace}
+use Rattle.std.specs.List.{after_first, before_first, prefix_len}
 use Rattle.std.specs.Str.{IsTrimAscii}
 use Rattle.cidr.specs.either.IpAddress.{IsIpText}
 use Rattle.cidr.specs.either.IpText.{IsIpNetworkText}
 use Rattle.cidr.specs.declared.addr.ip.IpAddr.{IpAddr}
 use Rattle.cidr.specs.declared.cidr.combined.IpCidr.{IpCidr}
 use Rattle.cidr_io.specs.Shown.{byte_excerpt}
-use Rattle.cidr_lists.specs.Lists.{IsFirstField, SaysNothing, IsBadLineBy, IsField, IsNoAddressBy, IsNoNetworkBy}
+use Rattle.cidr_lists.specs.Lists.{IsFirstField, SaysNothing, IsBadLineBy, IsField, IsNoAddressBy, IsNoNetworkBy, is_comment_sign}
 use Rattle.cidr_lists.specs.Messages.{Shows}
 use Rattle.cidr_lists.specs.declared.errors.LineError.{LineError}
 use Rattle.cidr_lists.specs.declared.lines.HostBits.TheVariants.{Refused}
-use Rattle.cidr_lists.specs.declared.errors.LineError.TheVariants.{NotUtf8, NoNetwork, NoAddress}
+use Rattle.cidr_lists.specs.declared.errors.LineError.TheVariants.{NotUtf8, NoNetwork, NoAddress, NoField}
+use Rattle.cidr_lists.specs.declared.columns.Column.{Column}
+use Rattle.cidr_lists.specs.declared.columns.Separator.{Separator}
+use Rattle.cidr_lists.specs.declared.columns.Separator.TheVariants.{WhiteSpace, Byte}
 use Rattle.cidr_lists.specs.declared.lines.HostBits.{HostBits}
 
--- the first field says nothing, or this network
-abbrev pub FieldSays : List ℕ → Option IpCidr → Type 0
-FieldSays line None = (field : List ℕ) × IsFirstField line field × SaysNothing field
-FieldSays line (Some network) = (field : List ℕ) × IsFirstField line field × IsIpNetworkText field network
-
--- the first field is no network, and this is the error, with the field
+-- the field is no network, and this is the error, with the field
 abbrev pub IsNoNetworkField : HostBits → List ℕ → LineError → Type 0
-IsNoNetworkField bits first (NotUtf8 text) = ¬ (IsUtf8 first) × (text.bytes ≡ byte_excerpt first)
-IsNoNetworkField bits first (NoNetwork bad e) = IsNoNetworkBy bits first e × Shows first bad
-IsNoNetworkField bits first e = ⊥
-
--- the first field is in error: it says something, and no network
-abbrev pub IsBadField : List ℕ → LineError → Type 0
-IsBadField line e = (field : List ℕ) × IsFirstField line field × ¬ (SaysNothing field) × IsNoNetworkField Refused field e
+IsNoNetworkField bits field (NotUtf8 text) = ¬ (IsUtf8 field) × (text.bytes ≡ byte_excerpt field)
+IsNoNetworkField bits field (NoNetwork bad e) = IsNoNetworkBy bits field e × Shows field bad
+IsNoNetworkField bits field e = ⊥
 
 -- ---- lines
 -- the first field of a string, up to white space, and the rest without white space at both ends
@@ -75,7 +71,53 @@ abbrev pub ReadsAddress : List ℕ → Result (Option IpAddr) LineError → Type
 ReadsAddress line (Ok said) = AddressSays line said
 ReadsAddress line (Err e) = HasBadAddress line e
 
--- what the first field of a line says, or its error
-abbrev pub ReadsFirstField : List ℕ → Result (Option IpCidr) LineError → Type 0
-ReadsFirstField line (Ok said) = FieldSays line said
-ReadsFirstField line (Err e) = IsBadField line e
+-- ---- a field by its place
+-- the byte parts fields
+abbrev pub separates : Separator → ℕ → Bool
+separates WhiteSpace byte = is_ascii_whitespace byte
+separates (Byte separator) byte = byte == separator
+
+-- where the first field begins: behind white space at the front, where white space parts fields, and else at once
+abbrev pub begin_of : Separator → List ℕ → List ℕ
+begin_of WhiteSpace line = drop (prefix_len is_ascii_whitespace line) line
+begin_of (Byte separator) line = line
+
+-- what stands behind the first field and the byte that ends it
+abbrev pub behind_field : Separator → List ℕ → List ℕ
+behind_field separator line = after_first (separates separator) (begin_of separator line)
+
+-- the field at a place, from 0 on: what stands before the next byte that parts fields; empty in a line of fewer fields
+abbrev pub field_at : Separator → ℕ → List ℕ → List ℕ
+field_at separator zero line = before_first (separates separator) (begin_of separator line)
+field_at separator (suc place) line = field_at separator place (behind_field separator line)
+
+-- the field of a column, without white space at both ends
+abbrev pub IsFieldOf : Column → List ℕ → List ℕ → Type 0
+IsFieldOf column line field = IsTrimAscii (field_at column.separator column.place line) field
+
+-- the byte begins a comment: # or ;, unless it parts fields
+abbrev pub begins_comment : Separator → ℕ → Bool
+begins_comment separator byte = is_comment_sign byte && not (separates separator byte)
+
+-- the line is blank or a comment as a whole, and has no fields; or it has some
+abbrev pub HasNoFields : Separator → List ℕ → Type 0
+HasNoFields separator line = (text : List ℕ) × IsTrimAscii line text × (before_first (begins_comment separator) text ≡ [])
+
+abbrev pub HasFields : Separator → List ℕ → Type 0
+HasFields separator line = (text : List ℕ) × IsTrimAscii line text × (before_first (begins_comment separator) text ≢ [])
+
+-- the line has no fields, or the field of the column is this network
+abbrev pub FieldSays : Column → List ℕ → Option IpCidr → Type 0
+FieldSays column line None = HasNoFields column.separator line
+FieldSays column line (Some network) = HasFields column.separator line × (field : List ℕ) × IsFieldOf column line field × IsIpNetworkText field network
+
+-- the field of the column is missing or empty, or it is no network, and this is the error
+abbrev pub IsBadField : Column → List ℕ → LineError → Type 0
+IsBadField column line NoField = HasFields column.separator line × IsFieldOf column line []
+IsBadField column line e =
+    HasFields column.separator line × (field : List ℕ) × IsFieldOf column line field × (field ≢ []) × IsNoNetworkField Refused field e
+
+-- what the field of a column says, or its error
+abbrev pub ReadsField : Column → List ℕ → Result (Option IpCidr) LineError → Type 0
+ReadsField column line (Ok said) = FieldSays column line said
+ReadsField column line (Err e) = IsBadField column line e

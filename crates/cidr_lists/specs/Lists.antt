@@ -29,7 +29,7 @@ use Rattle.cidr_sets.specs.model.Sets.{IsSetOf}
 use Rattle.cidr_lists.specs.Messages.{Shows}
 use Rattle.cidr_lists.specs.declared.errors.BadText.{BadText}
 use Rattle.cidr_lists.specs.declared.errors.LineError.{LineError}
-use Rattle.cidr_lists.specs.declared.errors.LineError.TheVariants.{TooLong, NotUtf8, NoNetwork, NoAddress, TwoFamilies, Reversed}
+use Rattle.cidr_lists.specs.declared.errors.LineError.TheVariants.{TooLong, NotUtf8, NoNetwork, NoAddress, NoField, TwoFamilies, Reversed}
 use Rattle.cidr_lists.specs.declared.lines.HostBits.{HostBits}
 use Rattle.cidr_lists.specs.declared.lines.HostBits.TheVariants.{Refused, Cleared}
 use Rattle.cidr_lists.specs.declared.lines.Content.{Content}
@@ -55,8 +55,8 @@ IsField line field = IsTrimAscii (before_first is_comment_sign line) field
 abbrev pub SaysNothing : List ℕ → Type 0
 SaysNothing field = before_first is_comment_sign field ≡ []
 
--- what stands before the first ASCII white space, behind white space at the front: `match` takes it of a line as it
--- stands, and `look` of a row of a table, so that a comment sign may be in it, and `look` of an address without its comment
+-- what stands before the first ASCII white space, behind white space at the front: `look` takes it of a row of a table, so
+-- that a comment sign may be in it, and of an address without its comment
 abbrev pub IsFirstField : List ℕ → List ℕ → Type 0
 IsFirstField bytes field = (rest : List ℕ) × IsTrimAsciiStart bytes rest × (field ≡ before_first is_ascii_whitespace rest)
 
@@ -113,6 +113,7 @@ IsNoAddressBy text bad e = IsNoAddress text × (e ≡ ip_error) × Shows text ba
 -- else the two are of two families; else the first is above the last
 abbrev pub IsFieldError : HostBits → List ℕ → LineError → Type 0
 IsFieldError bits field TooLong = ⊥
+IsFieldError bits field NoField = ⊥
 IsFieldError bits field (NotUtf8 text) = ¬ (IsUtf8 field) × (text.bytes ≡ byte_excerpt field)
 IsFieldError bits field (NoNetwork bad e) = (field ≢ []) × Lacks hyphen field × IsNoNetworkBy bits field e × Shows field bad
 IsFieldError bits field (NoAddress bad e) = (front : List ℕ) × (back : List ℕ) × (field ≡ front ++ hyphen ∷ back) × Lacks hyphen front

@@ -7,7 +7,7 @@ use Rattle.cidr_ext.specs.declared.text_faults.TextFault.TheVariants.{MaskForLen
 use Rattle.cidr_io.specs.Shown.{excerpt, shown}
 use Rattle.cidr_lists.specs.declared.errors.BadText.{BadText}
 use Rattle.cidr_lists.specs.declared.errors.LineError.{LineError}
-use Rattle.cidr_lists.specs.declared.errors.LineError.TheVariants.{TooLong, NotUtf8, NoNetwork, NoAddress, TwoFamilies, Reversed}
+use Rattle.cidr_lists.specs.declared.errors.LineError.TheVariants.{TooLong, NotUtf8, NoNetwork, NoAddress, NoField, TwoFamilies, Reversed}
 
 -- the beginning of a string as it is shown, and its first fault, if it has one
 abbrev pub Shows : List ℕ → BadText → Type 0
@@ -32,6 +32,7 @@ address_words (Some fault) words = if is_of_length fault then words else fault_m
 -- the message of a line in error
 abbrev pub line_message : LineError → List ℕ
 line_message TooLong = codes "longer than 1 MiB"
+line_message NoField = codes "the field is missing or empty"
 line_message (NotUtf8 text) = text.bytes ++ codes ": " ++ codes "not UTF-8"
 line_message (NoNetwork bad e) = bad.text.bytes ++ codes ": " ++ fault_words bad.fault (parse_message e)
 line_message (NoAddress bad e) = bad.text.bytes ++ codes ": " ++ address_words bad.fault (address_message e)

@@ -1,9 +1,11 @@
 //! The fields of a line.
-ghost use Rattle.std.specs.Prelude.{◌≤◌, [], length, IfSome, MatchOption, MatchResult};
+ghost use Rattle.std.specs.Prelude.{◌≡◌, ◌≤◌, ◌==◌, [], length, IfSome, MatchOption, MatchResult};
 ghost use Rattle.std.specs.Bool.{Decides};
+ghost use Rattle.std.specs.Char.{is_ascii_whitespace};
+ghost use Rattle.std.specs.List.{position_or_len};
 ghost use Rattle.cidr.specs.either.IpAddress.{IsIpText};
 ghost use Rattle.cidr_lists.specs.Lists.{IsField, IsFirstField, IsNetworkBy, SaysNothing};
-ghost use Rattle.cidr_lists.specs.Fields.{AreFirstAndRest, IsNoAddressField, IsNoNetworkField, IsNoRow, IsRowSplit, IsSplit, ReadsAddress};
+ghost use Rattle.cidr_lists.specs.Fields.{AreFirstAndRest, IsFieldOf, IsNoAddressField, IsNoNetworkField, IsNoRow, IsRowSplit, IsSplit, ReadsAddress, begin_of, behind_field, field_at, separates};
 
 use crate::errors::{BadText, LineError};
 use crate::lines::{HostBits, is_comment_sign, network_of, without_comment};
@@ -23,6 +25,128 @@ pub fn first_field(bytes: &[u8]) -> &[u8]
         }
     }
     rest
+}
+
+/// What parts the fields of a line.
+#[derive(Clone, Copy, Debug, Drop, PartialEq)]
+pub enum Separator {
+    /// ASCII white space, however much stands between two fields. In front of the first field it parts nothing.
+    WhiteSpace,
+    /// This byte, so that two of them have an empty field between them.
+    Byte(u8),
+}
+
+/// Which field of each line is read.
+#[derive(Clone, Copy, Debug, Drop, PartialEq)]
+pub struct Column {
+    /// Its place, from 0 on.
+    pub place: u64,
+    /// What parts it from others.
+    pub separator: Separator,
+}
+
+/// Whether a byte parts fields.
+pub(crate) fn separates(separator: Separator, byte: u8) -> bool
+    ensures { result ≡ separates separator byte }
+{
+    match separator {
+        Separator::WhiteSpace => byte.is_ascii_whitespace(),
+        Separator::Byte(other) => byte == other,
+    }
+}
+
+/// A line from where its fields begin on.
+fn begin_of(separator: Separator, line: &[u8]) -> &[u8]
+    ensures { result.now ≡ begin_of separator line.now }
+{
+    match separator {
+        Separator::WhiteSpace => line.trim_ascii_start(),
+        Separator::Byte(_) => line,
+    }
+}
+
+/// How many bytes stand before the first white space.
+fn len_to_white_space(line: &[u8]) -> usize
+    ensures first { result ≡ position_or_len is_ascii_whitespace line.now }
+    ensures fits { result ≤ length line.now }
+{
+    for (place, byte) in line.iter().enumerate() {
+        if byte.is_ascii_whitespace() {
+            return place;
+        }
+    }
+    line.len()
+}
+
+/// How many bytes stand before the first one that is this byte.
+fn len_to_byte(separator: u8, line: &[u8]) -> usize
+    ensures first { result ≡ position_or_len (λ byte. byte == separator) line.now }
+    ensures fits { result ≤ length line.now }
+{
+    for (place, byte) in line.iter().enumerate() {
+        if *byte == separator {
+            return place;
+        }
+    }
+    line.len()
+}
+
+/// How many bytes stand before the first that parts fields.
+fn field_len(separator: Separator, line: &[u8]) -> usize
+    ensures first { result ≡ position_or_len (separates separator) line.now }
+    ensures fits { result ≤ length line.now }
+{
+    match separator {
+        Separator::WhiteSpace => len_to_white_space(line),
+        Separator::Byte(separator) => len_to_byte(separator, line),
+    }
+}
+
+/// What stands behind the first field.
+fn behind_field(separator: Separator, line: &[u8]) -> &[u8]
+    ensures { result.now ≡ behind_field separator line.now }
+{
+    let rest = begin_of(separator, line);
+    let (_, behind) = rest.split_at(field_len(separator, rest));
+    match behind.split_first() {
+        Some((_, rest)) => rest,
+        None => &[],
+    }
+}
+
+/// The first field.
+fn field_in(separator: Separator, line: &[u8]) -> &[u8]
+    ensures { result.now ≡ field_at separator 0 line.now }
+{
+    let rest = begin_of(separator, line);
+    let (field, _) = rest.split_at(field_len(separator, rest));
+    field
+}
+
+/// A line from the field of a column on; nothing of a line of fewer fields.
+fn rest_at(column: Column, line: &[u8]) -> &[u8]
+    ensures { field_at column.separator 0 result.now ≡ field_at column.separator column.place line.now }
+{
+    let mut rest = line;
+    for place in 0..column.place {
+        if rest.is_empty() {
+            return rest;
+        }
+        rest = behind_field(column.separator, rest);
+    }
+    rest
+}
+
+/// The field of a column, without white space at both ends; empty in a line of fewer fields. With `Separator::Byte(b',')`
+/// the field at place 1 of `a, 192.0.2.1 ,b` is `192.0.2.1`.
+pub fn field_at(column: Column, line: &[u8]) -> &[u8]
+    ensures { IsFieldOf column line.now result.now }
+{
+    let field = field_in(column.separator, rest_at(column, line));
+    match column.separator {
+        Separator::WhiteSpace => field,
+        Separator::Byte(_) => field.trim_ascii(),
+    }
 }
 
 /// The first field of a string, and what stands behind it.

@@ -91,6 +91,8 @@ fn message_of(shown: &ArrayString<42>, words: &str) -> ArrayString<MOST_MESSAGE>
 pub enum LineError {
     /// It has more than 1 MiB. Whoever cuts the lines tells it: `texts`, or a caller that reads a stream.
     TooLong,
+    /// The field that is read of it is missing or empty.
+    NoField,
     /// Its field is not UTF-8: its beginning, as it is shown.
     NotUtf8(ArrayString<42>),
     /// Its field is neither a network nor an address: the error of parsing it.
@@ -113,6 +115,11 @@ impl LineError {
             LineError::TooLong => {
                 let mut text = ArrayString::new();
                 text.push_str("longer than 1 MiB");
+                text
+            }
+            LineError::NoField => {
+                let mut text = ArrayString::new();
+                text.push_str("the field is missing or empty");
                 text
             }
             LineError::NotUtf8(shown) => message_of(shown, "not UTF-8"),

@@ -1,13 +1,15 @@
 //! Laws, each as the contract of a function that does nothing. After a call, a caller's proof has the law; a program
 //! that runs needs none of these.
-ghost use Rattle.std.specs.Prelude.{◌≡◌, [], ◌∷◌, Bool, List};
-ghost use Rattle.std.specs.List.{AllZip};
+ghost use Rattle.std.specs.Prelude.{◌≡◌, [], ◌∷◌, ◌==◌, ℕ, Bool, List, get_or};
+ghost use Rattle.std.specs.List.{AllZip, slice_split};
 ghost use Rattle.cidr.specs.declared.cidr.combined.IpCidr.{IpCidr};
 ghost use Rattle.cidr.specs.declared.family.Family.{Family};
+ghost use Rattle.cidr_lists.specs.Fields.{field_at};
 ghost use Rattle.cidr_lists.specs.Formats.{bare, styled};
 ghost use Rattle.cidr_lists.specs.Lists.{Text, ListSays, text_by};
 ghost use Rattle.cidr_lists.specs.ReadBack.{AreOfFamilies, AreUnions, SaysJust, TellsJust};
 ghost use Rattle.cidr_lists.specs.Sets.{printed_sets};
+ghost use Rattle.cidr_lists.specs.declared.columns.Separator.TheVariants.{Byte};
 ghost use Rattle.cidr_lists.specs.declared.formats.Format.TheVariants.{Json, Plain};
 ghost use Rattle.cidr_lists.specs.declared.lines.HostBits.{HostBits};
 
@@ -44,4 +46,10 @@ pub fn plain_format_is_read()
 /// before IPv6, in their order, and there are no other lines.
 pub fn json_is_read()
     ensures { (networks : Family → List (List Bool)) → AreOfFamilies networks → TellsJust (styled (bare Json) networks) networks }
+{}
+
+/// The fields of a line between bytes are the parts into which these cut it, in their order, and behind the last part
+/// each field is empty.
+pub fn fields_are_parts()
+    ensures { (byte place : ℕ) (line : List ℕ) → field_at (Byte byte) place line ≡ get_or (slice_split (λ b. b == byte) line) place [] }
 {}

@@ -10,7 +10,7 @@
 //!   them.
 //! - `columns::split_row`: a row of a table is a network and its value. `rows::Rows` collects them, and `table::Table`
 //!   is ready for look-ups.
-//! - `columns::split_line` and `fields::first_network`: the fields of a line that is looked up or picked, and
+//! - `columns::split_line` and `fields::network_at`: the fields of a line that is looked up or picked, and
 //!   `Sets::have_one` an address anywhere in a line, as in a log.
 //!
 //! A line in error is an `errors::LineError`, whose `message` is the text that follows `FILE:LINE: `: the string that is

@@ -495,6 +495,60 @@ rows_of_several_files() {
     run 0 $'seen:10.0.0.1 a\nseen:10.2.0.0/16 c\nten:10.0.0.0/8\n' '' '' match -k ten seen ten
 }
 
+# Lines by another field than the first. What `awk` writes of them is what is wanted.
+rows_of_fields() {
+    local bad=$': x: couldn\'t parse address in network: invalid IP address syntax\n' none=$': the field is missing or empty\n' wanted
+    wanted=$(awk '$3 ~ /^10\./' "$room/spaced")$'\n'
+    run 0 "$wanted" '' '' match --field 3 ten spaced
+    run 0 "$wanted" '' '' match --field=3 ten spaced
+    run 0 "$wanted" '' '' match --field +3 ten spaced
+    wanted=$(awk '$3 !~ /^10\./' "$room/spaced")$'\n'
+    run 0 "$wanted" '' '' match -v --field 3 ten spaced
+    wanted=$(awk -F, '$2 ~ /^10\./' "$room/commas")$'\n'
+    run 0 "$wanted" '' '' match --field 2 --separator , ten commas
+    run 0 "$wanted" '' '' match --separator=, ten commas --field=2
+    wanted=$(awk -F, '$2 ~ /^10\./' "$room/commas" | wc -l)$'\n'
+    run 0 "$wanted" '' '' match -c --field 2 --separator , ten commas
+    wanted=$(cd "$room" && grep ',10\.' commas commas)$'\n'
+    run 0 "$wanted" '' '' match --field 2 --separator , ten commas commas
+    run 0 $'10.0.0.1 a\n' '' '10.0.0.1 a\n11.0.0.1 10.0.0.1' match --field 1 ten
+    run 0 $'x|y|10.0.0.1\r\n' '' 'x|y|10.0.0.1\r\nx|y|11.0.0.1' match --field 3 --separator '|' ten
+    run 0 $'a, 10.0.0.1 ,b\n' '' 'a, 10.0.0.1 ,b' match --field 2 --separator , ten
+    run 0 $'a\t\t10.0.0.1\n' '' 'a\t\t10.0.0.1' match --field 3 --separator $'\t' ten
+    run 0 $'a\t \t10.0.0.1\n' '' 'a\t \t10.0.0.1' match --field 2 ten
+    run 0 $'10.0.0.1#x,10.0.0.1\n' '' '10.0.0.1#x,10.0.0.1' match --field 2 --separator , ten
+    # a line that is blank or a comment says nothing, but a sign that parts fields begins no comment
+    run 1 '' '' '\n \t\n # 1,2\n;10.0.0.1,10.0.0.1' match --field 2 --separator , ten
+    run 0 $'\n# 1\n' '' '\n# 1' match -v --field 2 ten
+    run 0 $';10.0.0.1;x\n' '' ';10.0.0.1;x\n#;10.0.0.1\n;11.0.0.1' match --field 2 --separator ';' ten
+    run 0 $' #10.0.0.1\n' '' ' #10.0.0.1\n;#10.0.0.1' match --field 2 --separator '#' ten
+    run 2 '' "-:1$none" ';;' match --field 2 --separator ';' ten
+    # a field that is not there, or is empty
+    run 2 $'a 10.0.0.1\n' "-:3$none" 'a 10.0.0.1\n\na\nb 10.0.0.2' match --field 2 ten
+    run 2 '' "-:1$none" 'a,,10.0.0.1' match --field 2 --separator , ten
+    run 2 '' "-:1$none" 'a, ,10.0.0.1' match --field 2 --separator , ten
+    run 2 '' "-:1$none" 'a,' match --field 2 --separator , ten
+    run 2 '' "-:1$none" 'a' match -v --field 18446744073709551615 --separator , ten
+    run 2 '' "-:1$none" 'a' match -v --field 18446744073709551615 ten
+    run 2 $'spaced: a b 10.0.0.1\nspaced:f g 10.2.0.0/16 h\n' "seen:1$none" '' match --field 3 ten spaced seen commas
+    run 2 '' "-:2$bad" 'a 11.0.0.1\na x' match --field 2 ten
+    run 2 '' "-:2$bad" 'a 10.0.0.1\na x' match -c --field 2 ten
+    run 2 '' $'-:1: \\xff: not UTF-8\n' 'a,\xff' match --field 2 --separator , ten
+    run 2 '' $'-:1: "10.0.0.1": couldn\'t parse address in network: invalid IP address syntax\n' 'a,"10.0.0.1"' match --field 2 --separator , ten
+    # the arguments
+    run 2 '' $'0: no number of a field, from 1 on\n' '' match --field 0 missing
+    run 2 '' $'x: no number of a field, from 1 on\n' '' match -k --field x missing
+    run 2 '' $'18446744073709551616: no number of a field, from 1 on\n' '' match --field 18446744073709551616 missing missing missing
+    run 2 '' $',,: more or less than one byte\n' '' match --field 1 --separator ,, missing
+    run 2 '' $': more or less than one byte\n' '' match --field 1 --separator= missing
+    run 2 '' $'\u00e9: more or less than one byte\n' '' match --field 1 --separator $'\u00e9' missing
+    run 2 '' $'--separator: only with --field, see: netset help match\n' '' match --separator , ten
+    run 2 '' $'--field: not with --any, see: netset help match\n' '' match --any --field 2 ten
+    run 2 '' $'VALUE is missing, see: netset help match\n' '' match ten --field
+    run 2 '' $'3: one argument too many, see: netset help match\n' '' match --field 2 --field 3 ten
+    run 2 '' $'--field: no such option, see: netset help look\n' '' look --field 2 owners
+}
+
 # The longest networks of addresses.
 rows_of_look_ups() {
     run 0 $'10.2.0.1 10.0.0.0/8 ten\n10.1.2.3 10.1.0.0/16 x  y \t; z\n192.0.2.7 192.0.2.7\n192.0.2.8 -\n2001:db8::1 2001:db8::/32 \xff#\n::1 ::/0 all\n' \
@@ -743,6 +797,7 @@ rows_where_a_stream_fails() {
     run 3 '' $'output failed\n' '(10.0.0.1)' match --any ten
     run 0 '' '' '10.0.0.1' match -q ten
     run 3 '' $'output failed\n' '' match ten seen missing
+    run 3 '' $'output failed\n' 'a 10.0.0.1' match --field 2 ten
     run 3 '' $'output failed\n' '' match -c ten nothing missing
     run 2 '' $'missing: no such file\n' '' match ten nothing missing
     run 3 '' $'output failed\n' '' show ::1
@@ -1140,6 +1195,7 @@ rows_without_memory() {
     refuse '10.0.0.0/8 x\n10.0.0.0/7\n2001:db8::/32 y' compile - compiled
     refuse '10.0.0.1\n11.0.0.1\n2001:db8::1' look one
     refuse '10.0.0.1\n11.0.0.1' match one
+    refuse 'a,10.0.0.1\nb,11.0.0.1' match --field 2 --separator , one
 }
 
 printf '10.0.0.0/8\n' >"$room/ten"
@@ -1158,6 +1214,8 @@ printf '10.0.0.7/8\n' >"$room/hosts"
 printf '11.0.0.0/8\n' >"$room/-list"
 printf '10.0.0.1\n' >"$room/address"
 printf '10.0.0.1 a\n11.0.0.1 b\n10.2.0.0/16 c\n' >"$room/seen"
+printf ' a b 10.0.0.1\nc\td  11.0.0.1 e\nf g 10.2.0.0/16 h\n' >"$room/spaced"
+printf 'a,10.0.0.1,b\nc,11.0.0.1\nd,10.2.0.0/16,\n' >"$room/commas"
 printf '12.0.0.0/8\n\n10.0.0.9\n# 10.0.0.1\n10.0.0.8' >"$room/again"
 printf '10.0.0.1/8\n' >"$room/"$'two\nlines'
 seq 0 255 | awk '{ print "10.1." $1 ".0/24 " $1 }' >"$room/parts"
@@ -1180,6 +1238,7 @@ for build in netset netset.by-rattle; do
     rows_of_findings
     rows_of_matches
     rows_of_several_files
+    rows_of_fields
     rows_of_look_ups
     rows_of_compiled_tables
     rows_of_outputs

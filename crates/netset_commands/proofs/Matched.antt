@@ -23,6 +23,7 @@ use Rattle.cidr_lists.specs.Within.{AreWithin, HasOneIn, LiesIn}
 use Rattle.netset_commands.specs.Matching.{ArePicked, ArePickedBy, IsEndedBy, IsEnough, IsErrorBy, IsFirstLong, IsLongOrLost, IsMatch, Picks, PicksAnywhere, PicksBy, PicksByField, all_written, has, line_written, written_of}
 use Rattle.cidr_lists.specs.Lines.{last_line, lines_among, lines_in}
 use Rattle.cidr_lists.specs.Fields.{FieldSays}
+use Rattle.netset_commands.specs.Picking.{Choice, IsChosen}
 use Rattle.netset_commands.specs.Program.{AnswersRequest, by_output}
 use Rattle.netset_commands.specs.Reading.{IsNextLine}
 use Rattle.cidr_lists.specs.Sets.{IsInSets, networks_of}
@@ -32,6 +33,7 @@ use Rattle.netset_commands.specs.declared.output.answers.Verdict.{Verdict}
 use Rattle.netset_commands.specs.declared.output.answers.Verdict.TheVariants.{Yes, No}
 use Rattle.netset_commands.specs.declared.errors.CommandError.{CommandError}
 use Rattle.netset_commands.specs.declared.errors.CommandError.TheVariants as error
+use Rattle.cidr_lists.specs.declared.columns.Column.{Column}
 use Rattle.cidr_lists.specs.declared.errors.LineError.{LineError}
 use Rattle.cidr_lists.specs.declared.errors.LineError.TheVariants.{TooLong}
 use Rattle.netset_commands.specs.declared.commands.matching.Gathered.{Gathered}
@@ -170,9 +172,10 @@ turned_by : (P : Type 0) (inverted lies picked : Bool) → picked ≡ (if invert
 turned_by P true lies picked e d = subst (λ (k : Bool). Decides k (¬ P)) (sym e) (decides_not P lies d)
 turned_by P false lies picked e d = subst (λ (k : Bool). Decides k P) (sym e) d
 
-pub picks_by : (IsIn : Family → List Bool → Type 0) (inverted : Bool) (line : List ℕ) (said : Option IpCidr) (lies picked : Bool)
-    → picked ≡ (if inverted then not lies else lies) → FieldSays line said → Decides lies (LiesIn IsIn said) → PicksByField IsIn inverted line (Ok picked)
-picks_by IsIn inverted line said lies picked e says d = (said, says, turned_by (LiesIn IsIn said) inverted lies picked e d)
+pub picks_by : (column : Column) (IsIn : Family → List Bool → Type 0) (inverted : Bool) (line : List ℕ) (said : Option IpCidr) (lies picked : Bool)
+    → picked ≡ (if inverted then not lies else lies) → FieldSays column line said → Decides lies (LiesIn IsIn said)
+    → PicksByField column IsIn inverted line (Ok picked)
+picks_by column IsIn inverted line said lies picked e says d = (said, says, turned_by (LiesIn IsIn said) inverted lies picked e d)
 
 pub picks_anywhere : (IsIn : Family → List Bool → Type 0) (inverted : Bool) (line : List ℕ) (found picked : Bool)
     → picked ≡ (if inverted then not found else found) → Decides found (HasOneIn IsIn line) → PicksAnywhere IsIn inverted line (Ok picked)
@@ -198,24 +201,24 @@ module _ (IsIn : Family → List Bool → Type 0) (sets : Sets) (h : (family : F
         (family, (word, among, (text, bare, (address, spells, (within_same family address).1 within)))),
   )
 
-  picks_by_same : (anywhere inverted : Bool) (line : List ℕ) (r : Result Bool LineError) → PicksBy anywhere (IsInSets sets) inverted line r
-      → PicksBy anywhere IsIn inverted line r
-  picks_by_same true inverted line (Ok picked) d =
+  picks_by_same : (anywhere : Bool) (column : Column) (inverted : Bool) (line : List ℕ) (r : Result Bool LineError)
+      → PicksBy anywhere column (IsInSets sets) inverted line r → PicksBy anywhere column IsIn inverted line r
+  picks_by_same true column inverted line (Ok picked) d =
       decides_same (Turned inverted (HasOneIn (IsInSets sets) line)) (Turned inverted (HasOneIn IsIn line)) picked
       (turned_same inverted (HasOneIn (IsInSets sets) line) (HasOneIn IsIn line) (one_same line)) d
-  picks_by_same true inverted line (Err e) bad = absurd bad
-  picks_by_same false inverted line (Ok picked) (what, says, d) = (
+  picks_by_same true column inverted line (Err e) bad = absurd bad
+  picks_by_same false column inverted line (Ok picked) (what, says, d) = (
     what,
     says,
     decides_same (Turned inverted (LiesIn (IsInSets sets) what)) (Turned inverted (LiesIn IsIn what)) picked
         (turned_same inverted (LiesIn (IsInSets sets) what) (LiesIn IsIn what) (lies_same what)) d,
   )
-  picks_by_same false inverted line (Err e) bad = bad
+  picks_by_same false column inverted line (Err e) bad = bad
 
-  pub picks_same : (anywhere inverted : Bool) (line : List ℕ) (r : Result Bool LineError) → Picks anywhere (IsInSets sets) inverted line r
-      → Picks anywhere IsIn inverted line r
-  picks_same anywhere inverted line r (inl long) = inl long
-  picks_same anywhere inverted line r (inr (short, picks)) = inr (short, picks_by_same anywhere inverted line r picks)
+  pub picks_same : (anywhere : Bool) (column : Column) (inverted : Bool) (line : List ℕ) (r : Result Bool LineError)
+      → Picks anywhere column (IsInSets sets) inverted line r → Picks anywhere column IsIn inverted line r
+  picks_same anywhere column inverted line r (inl long) = inl long
+  picks_same anywhere column inverted line r (inr (short, picks)) = inr (short, picks_by_same anywhere column inverted line r picks)
 
 -- ---- what is written
 flat_none : (f : List ℕ → List ℕ) → ((l : List ℕ) → f l ≡ []) → (ls : List (List ℕ)) → flat_map f ls ≡ []
@@ -622,46 +625,55 @@ pub of_list : (text : Text) (P Q : (Family → List Bool → Type 0) → Type 0)
 of_list text P Q f (inl (said, says, h)) = inl (said, says, f (Says said) h)
 of_list text P Q f (inr (table, has, h)) = inr (table, has, f (HasRow table) h)
 
-matched : (contents : List ℕ → Option Text) (options : List (List ℕ)) (list file : List ℕ) (sets : Sets) (known : Option (List ℕ)) (s t : State) (r : Result Verdict CommandError)
-    → ((text : Text) → contents list ≡ Some text → AreAddresses text sets) → ((text : Text) → contents file ≡ Some text → known ≡ Some text.bytes)
-    → Streams (Picks (has (codes "--any") options) (IsInSets sets) (has (codes "-v") options)) [] (written_of options) file known s t r → AnswersRequest contents (Match options list file) s t r
-matched contents options list file sets known s t r reads tells (inl (answer, verdict, w, match, written, is)) =
+matched : (contents : List ℕ → Option Text) (choice : Choice) (column : Column) (options : List (List ℕ)) (list file : List ℕ) (sets : Sets) (known : Option (List ℕ)) (s t : State) (r : Result Verdict CommandError)
+    → IsChosen choice column → ((text : Text) → contents list ≡ Some text → AreAddresses text sets) → ((text : Text) → contents file ≡ Some text → known ≡ Some text.bytes)
+    → Streams (Picks (has (codes "--any") options) column (IsInSets sets) (has (codes "-v") options)) [] (written_of options) file known s t r → AnswersRequest contents (Match choice options list file) s t r
+matched contents choice column options list file sets known s t r chosen reads tells (inl (answer, verdict, w, match, written, is)) =
     inl (inr (
       answer,
       verdict,
       w,
-      λ networks text p q.
-          of_list networks _ _ (λ IsIn same. known_match _ _ (picks_same IsIn sets same (has (codes "--any") options) (has (codes "-v") options)) [] (written_of options) known text.bytes answer verdict (tells text q) match)
-          (reads networks p),
+      (
+        column,
+        chosen,
+        λ networks text p q.
+            of_list networks _ _ (λ IsIn same. known_match _ _ (picks_same IsIn sets same (has (codes "--any") options) column (has (codes "-v") options)) [] (written_of options) known text.bytes answer verdict (tells text q) match)
+            (reads networks p),
+      ),
       written,
       is,
     ))
-matched contents options list file sets known s t r reads tells (inr (e, is, of_file, answer, begun, cut)) =
+matched contents choice column options list file sets known s t r chosen reads tells (inr (e, is, of_file, answer, begun, cut)) =
     inr (
       e,
       is,
       of_file,
       answer,
       begun,
-      λ networks text p q.
-          of_list networks _ _ (λ IsIn same. known_cut _ _ (picks_same IsIn sets same (has (codes "--any") options) (has (codes "-v") options)) [] (written_of options) known text.bytes answer e (tells text q) cut)
-          (reads networks p),
+      (
+        column,
+        chosen,
+        λ networks text p q.
+            of_list networks _ _ (λ IsIn same. known_cut _ _ (picks_same IsIn sets same (has (codes "--any") options) column (has (codes "-v") options)) [] (written_of options) known text.bytes answer e (tells text q) cut)
+            (reads networks p),
+      ),
     )
 
 -- a file that can't be opened
-unopened : (contents : List ℕ → Option Text) (options : List (List ℕ)) (list file : List ℕ) (s : State) (e : CommandError) → IsNotReadFurther file e
-    → AnswersRequest contents (Match options list file) s s (Err e)
-unopened contents options list file s (error.Argument text e) h = absurd h
-unopened contents options list file s (error.Line name number e) h = absurd h
-unopened contents options list file s (error.Input name why) h = inl (inl (refl, inr h))
-unopened contents options list file s error.NoMemory h = inl (inl (refl, inl tt))
-unopened contents options list file s error.Output h = absurd h
-unopened contents options list file s (error.File name why) h = absurd h
+unopened : (contents : List ℕ → Option Text) (choice : Choice) (column : Column) (options : List (List ℕ)) (list file : List ℕ) (s : State) (e : CommandError)
+    → IsChosen choice column → IsNotReadFurther file e
+    → AnswersRequest contents (Match choice options list file) s s (Err e)
+unopened contents choice column options list file s (error.Argument text e) chosen h = absurd h
+unopened contents choice column options list file s (error.Line name number e) chosen h = absurd h
+unopened contents choice column options list file s (error.Input name why) chosen h = inl (inl (refl, inr (column, chosen, inr h)))
+unopened contents choice column options list file s error.NoMemory chosen h = inl (inl (refl, inr (column, chosen, inl tt)))
+unopened contents choice column options list file s error.Output chosen h = absurd h
+unopened contents choice column options list file s (error.File name why) chosen h = absurd h
 
-pub matched_file : (contents : List ℕ → Option Text) (options : List (List ℕ)) (list file : List ℕ) (sets : Sets) (s t : State) (r : Result Verdict CommandError)
-    → ((text : Text) → contents list ≡ Some text → AreAddresses text sets)
-    → StreamsFile (Picks (has (codes "--any") options) (IsInSets sets) (has (codes "-v") options)) [] (written_of options) file (contents file) s t r
-    → AnswersRequest contents (Match options list file) s t r
-matched_file contents options list file sets s t r reads (inl (same, e, is, of)) = rw (same, is) (unopened contents options list file s e of)
-matched_file contents options list file sets s t r reads (inr (known, opens, streams)) =
-    matched contents options list file sets known s t r reads opens streams
+pub matched_file : (contents : List ℕ → Option Text) (choice : Choice) (column : Column) (options : List (List ℕ)) (list file : List ℕ) (sets : Sets) (s t : State) (r : Result Verdict CommandError)
+    → IsChosen choice column → ((text : Text) → contents list ≡ Some text → AreAddresses text sets)
+    → StreamsFile (Picks (has (codes "--any") options) column (IsInSets sets) (has (codes "-v") options)) [] (written_of options) file (contents file) s t r
+    → AnswersRequest contents (Match choice options list file) s t r
+matched_file contents choice column options list file sets s t r chosen reads (inl (same, e, is, of)) = rw (same, is) (unopened contents choice column options list file s e chosen of)
+matched_file contents choice column options list file sets s t r chosen reads (inr (known, opens, streams)) =
+    matched contents choice column options list file sets known s t r chosen reads opens streams

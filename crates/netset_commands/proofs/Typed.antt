@@ -1,15 +1,16 @@
 -- Requests as they are typed are read as these requests.
-use Rattle.std.proofs.Common.{◌≡◌, refl, sym, ◌∙◌, ap, subst, inl, inr, ℕ, Bool, true, false, ◌||◌, List, [], ◌∷◌, ◌++◌, codes, Option, Some, None, Result, Ok}
+use Rattle.std.proofs.Common.{◌≡◌, refl, sym, ◌∙◌, ap, subst, inl, inr, ℕ, Bool, true, false, ◌||◌, List, [], ◌∷◌, ◌++◌, codes, slice_get, Option, Some, None, Result, Ok}
 use Rattle.std.specs.List.{list_all, list_any}
 use Rattle.std.proofs.lemmas.Bool.{true≢false}
 use Rattle.cidr_lists.specs.Formats.{format_name}
-use Rattle.netset_commands.specs.Arguments.{Parts, and_then, asks_help, counted_request, extent_by, extra_operand, is_option, joined_arguments, line_request, lists_request, named_verb, only_operand, only_options, only_value, part_request, parts_from, read_request, takes, value_of, verb_request, word_parts}
+use Rattle.netset_commands.specs.Arguments.{Parts, and_then, asks_help, choice_by, choice_in, counted_request, extent_by, extra_operand, is_option, joined_arguments, line_request, lists_request, match_by, named_verb, only_operand, only_options, only_value, part_request, parts_from, read_request, takes, value_of, verb_request, word_parts}
 use Rattle.netset_commands.specs.Commands.{Request, Lists, Styled, NotIn, Diff, Free, Split, Check, Which, Match, MatchEach, Look, Compile, Describe, Class, Single, Help, Version, input_name, reading_of}
 use Rattle.netset_commands.specs.Free.{Extent, First, Count, All}
 use Rattle.netset_commands.specs.Matching.{has, is_word}
+use Rattle.netset_commands.specs.Picking.{Choice, FirstField, FieldOf}
 use Rattle.netset_commands.specs.Single.{Show, Nth}
 use Rattle.netset_commands.specs.Table.{commands, name_of, options_of, takes_value}
-use Rattle.netset_commands.specs.Typed.{AreTyped, IsTyped}
+use Rattle.netset_commands.specs.Typed.{AreTyped, GoesWith, IsTyped, choice_words}
 use Rattle.netset_commands.specs.declared.commands.arguments.Next.{Next}
 use Rattle.netset_commands.specs.declared.commands.arguments.Next.TheVariants.{Any, Value}
 use Rattle.netset_commands.specs.declared.commands.describe.Description.TheVariants.{Zones, Masks}
@@ -55,6 +56,14 @@ behind_value command name value files is none =
     ∙ ap (λ (r : Result Parts (List ℕ)). and_then (and_then r (λ more. Ok (joined_arguments (only_value value) more))) (λ more. Ok (joined_arguments (only_value name) more)))
     (operands_alone command files none)
 
+-- the same before another one
+behind_values : (command : Verb) (name value : List ℕ) (valued files : List (List ℕ)) → word_parts command Any name ≡ Ok (only_value name, Value)
+    → parts_from command (valued ++ files) Any ≡ Ok (parts_with [] valued files)
+    → parts_from command (name ∷ value ∷ (valued ++ files)) Any ≡ Ok (parts_with [] (name ∷ value ∷ valued) files)
+behind_values command name value valued files is rest =
+    ap (λ (r : Result (Parts × Next) (List ℕ)). and_then r (λ one. and_then (parts_from command (value ∷ (valued ++ files)) one.1) (λ more. Ok (joined_arguments one.0 more)))) is
+    ∙ ap (λ (r : Result Parts (List ℕ)). and_then (and_then r (λ more. Ok (joined_arguments (only_value value) more))) (λ more. Ok (joined_arguments (only_value name) more))) rest
+
 -- an operation has the option --format
 has_format : (operation : Operation) → takes_value (verb.Lists operation) (codes "--format") ≡ true
     → word_parts (verb.Lists operation) Any (codes "--format") ≡ Ok (only_value (codes "--format"), Value)
@@ -65,6 +74,15 @@ has_format operation takes =
 behind_count : (count : List ℕ) (operands : List (List ℕ)) → list_any is_option operands ≡ false
     → parts_from verb.Free (codes "--count" ∷ count ∷ operands) Any ≡ Ok (parts_with [] (codes "--count" ∷ count ∷ []) operands)
 behind_count count operands none = behind_value verb.Free (codes "--count") count operands refl none
+
+-- the options that tell a field before them
+behind_choice : (choice : Choice) (operands : List (List ℕ)) → list_any is_option operands ≡ false
+    → parts_from verb.Match (choice_words choice ++ operands) Any ≡ Ok (parts_with [] (choice_words choice) operands)
+behind_choice FirstField operands none = operands_alone verb.Match operands none
+behind_choice (FieldOf number None) operands none = behind_value verb.Match (codes "--field") number operands refl none
+behind_choice (FieldOf number (Some separator)) operands none =
+    behind_values verb.Match (codes "--field") number (codes "--separator" ∷ separator ∷ []) operands refl
+    (behind_value verb.Match (codes "--separator") separator operands refl none)
 
 -- ---- options
 -- the word is an option of the command
@@ -159,6 +177,18 @@ extent_asks every values found extent options pool len used is given by =
     ap (λ (r : Result (Option (List ℕ)) (List ℕ)). and_then (and_then r (λ count. extent_by (has (codes "--all") options) count)) (λ one. Ok (Free one pool len used))) given
     ∙ ap (λ (r : Result Extent (List ℕ)). and_then r (λ one. Ok (Free one pool len used))) (ap (λ (b : Bool). extent_by b found) is ∙ by)
 
+-- the field by which match picks lines
+no_output : (choice : Choice) → value_of verb.Match (codes "-o") (choice_words choice) ≡ Ok None
+no_output FirstField = refl
+no_output (FieldOf number None) = refl
+no_output (FieldOf number (Some separator)) = refl
+
+choice_asks : (choice : Choice) (options operands : List (List ℕ)) → GoesWith choice options
+    → choice_in (parts_with options (choice_words choice) operands) ≡ Ok choice
+choice_asks FirstField options operands goes = refl
+choice_asks (FieldOf number None) options operands goes = ap (λ (b : Bool). choice_by (Some number) b None) goes
+choice_asks (FieldOf number (Some separator)) options operands goes = ap (λ (b : Bool). choice_by (Some number) b (Some separator)) goes
+
 -- ---- a command line
 -- a command with the parts of its words
 abbrev with_parts : Verb → Result Parts (List ℕ) → Result (Verb × Parts) (List ℕ)
@@ -192,6 +222,15 @@ module _ (words options : List (List ℕ)) where
   plain_asks command operands request (is, all, no_page, none, enough) fits made =
       line_asks command [] [] operands (is, all, no_page, none, enough) (operands_alone command operands none) fits refl request made
 
+  match_asks : (choice : Choice) (operands : List (List ℕ)) (request : Request) → GoesWith choice options
+      → AreTyped verb.Match options (choice_words choice) operands words
+      → match_by choice (parts_with options (choice_words choice) operands) (slice_get operands 2) ≡ request → Asks request
+  match_asks choice operands request goes (is, all, no_page, none, enough) made =
+      line_asks verb.Match (choice_words choice) (choice_words choice) operands (is, all, no_page, none, enough) (behind_choice choice operands none) refl (no_output choice) request
+      (ap (λ (r : Result Choice (List ℕ)). and_then r (λ one. Ok (match_by one (parts_with options (choice_words choice) operands) (slice_get operands 2))))
+      (choice_asks choice options operands goes)
+      ∙ ap (λ (k : Request). Ok k) made)
+
   pub typed_asks : (request : Request) → IsTyped words options request → Asks request
   typed_asks (Lists operation files) typed = plain_asks (verb.Lists operation) files (Lists operation files) typed refl (without_value operation files)
   typed_asks (Styled style operation files) (plain, takes, (is, all, no_page, none, enough)) =
@@ -214,17 +253,16 @@ module _ (words options : List (List ℕ)) where
   typed_asks (Split operand len) typed = plain_asks verb.Split (operand ∷ len ∷ []) (Split operand len) typed refl refl
   typed_asks (Check files) typed = plain_asks verb.Check files (Check files) typed refl refl
   typed_asks (Which address files) typed = plain_asks verb.Which (address ∷ files) (Which address files) typed refl refl
-  typed_asks (Match given list file) (same, inl typed) =
-      plain_asks verb.Match (list ∷ file ∷ []) (Match options list file) typed refl refl ∙ ap (λ (k : List (List ℕ)). Ok (reading_of options, (None, Match k list file))) (sym same)
-  typed_asks (Match given list file) (same, inr (input, typed)) =
-      plain_asks verb.Match (list ∷ []) (Match options list input_name) typed refl refl
-      ∙ (ap (λ (k : List (List ℕ)). Ok (reading_of options, (None, Match k list input_name))) (sym same)
-      ∙ ap (λ (k : List ℕ). Ok (reading_of options, (None, Match given list k))) (sym input))
-  typed_asks (MatchEach given list []) typed = absurd typed
-  typed_asks (MatchEach given list (first ∷ [])) typed = absurd typed
-  typed_asks (MatchEach given list (first ∷ second ∷ files)) (same, typed) =
-      plain_asks verb.Match (list ∷ first ∷ second ∷ files) (MatchEach options list (first ∷ second ∷ files)) typed refl refl
-      ∙ ap (λ (k : List (List ℕ)). Ok (reading_of options, (None, MatchEach k list (first ∷ second ∷ files)))) (sym same)
+  typed_asks (Match choice given list file) (same, goes, inl typed) =
+      match_asks choice (list ∷ file ∷ []) (Match choice given list file) goes typed (ap (λ (k : List (List ℕ)). Match choice k list file) (sym same))
+  typed_asks (Match choice given list file) (same, goes, inr (input, typed)) =
+      match_asks choice (list ∷ []) (Match choice given list file) goes typed
+      (ap (λ (k : List (List ℕ)). Match choice k list input_name) (sym same) ∙ ap (λ (k : List ℕ). Match choice given list k) (sym input))
+  typed_asks (MatchEach choice given list []) typed = absurd typed
+  typed_asks (MatchEach choice given list (first ∷ [])) typed = absurd typed
+  typed_asks (MatchEach choice given list (first ∷ second ∷ files)) (same, goes, typed) =
+      match_asks choice (list ∷ first ∷ second ∷ files) (MatchEach choice given list (first ∷ second ∷ files)) goes typed
+      (ap (λ (k : List (List ℕ)). MatchEach choice k list (first ∷ second ∷ files)) (sym same))
   typed_asks (Look table file) (inl typed) = plain_asks verb.Look (table ∷ file ∷ []) (Look table file) typed refl refl
   typed_asks (Look table file) (inr (input, typed)) =
       plain_asks verb.Look (table ∷ []) (Look table input_name) typed refl refl ∙ ap (λ (k : List ℕ). Ok (reading_of options, (None, Look table k))) (sym input)

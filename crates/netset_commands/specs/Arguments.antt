@@ -9,6 +9,7 @@ use Rattle.cidr_lists.specs.declared.formats.Format.TheVariants as format
 use Rattle.netset_commands.specs.Commands.{Request, Lists, Styled, NotIn, Diff, Free, Split, Check, Which, Match, MatchEach, Look, Compile, Describe, Class, Single, Help, Version, input_name, reading_of}
 use Rattle.netset_commands.specs.Free.{Extent, First, Count, All}
 use Rattle.netset_commands.specs.Matching.{has, is_word}
+use Rattle.netset_commands.specs.Picking.{Choice, FirstField, FieldOf}
 use Rattle.netset_commands.specs.Single.{Show, Nth}
 use Rattle.netset_commands.specs.Table.{commands, most_of, name_of, needed_of, options_of, takes_value}
 use Rattle.netset_commands.specs.declared.commands.Reading.{Reading}
@@ -18,7 +19,7 @@ use Rattle.netset_commands.specs.declared.commands.operations.Operation.{Operati
 use Rattle.netset_commands.specs.declared.commands.table.Verb.{Verb}
 use Rattle.netset_commands.specs.declared.commands.table.Verb.TheVariants as verb
 use Rattle.netset_commands.specs.declared.errors.Misfit.{Misfit}
-use Rattle.netset_commands.specs.declared.errors.Misfit.TheVariants.{Unnamed, NoCommand, NoOption, Missing, Extra, NoFormat, NotPlain, NotStyled}
+use Rattle.netset_commands.specs.declared.errors.Misfit.TheVariants.{Unnamed, NoCommand, NoOption, Missing, Extra, NoFormat, NotPlain, NotStyled, NoField, Anywhere}
 
 -- ---- the line of a word that is wrong
 abbrev pub misfit_text : Misfit → List ℕ
@@ -29,6 +30,8 @@ misfit_text Missing = codes " is missing, see: netset help "
 misfit_text Extra = codes ": one argument too many, see: netset help "
 misfit_text NoFormat = codes ": no such format, but plain, json, nft, ipset, iptables, cisco, juniper and bird, see: netset help "
 misfit_text NotPlain = codes ": for the format plain alone, see: netset help "
+misfit_text NoField = codes ": only with --field, see: netset help "
+misfit_text Anywhere = codes ": not with --any, see: netset help "
 misfit_text NotStyled = codes ": not with --format, --prefix or --suffix, see: netset help "
 
 -- the word or what is missing, what is wrong with it, and the command whose page is to be seen
@@ -233,12 +236,23 @@ help_request [] = Ok (Help None)
 help_request (word ∷ words) = and_then (named_verb word) (λ command. Ok (Help (Some command)))
 
 -- the command match, of several files where there is a third operand, and else of one or of the standard input
-abbrev pub match_by : Parts → Option (List ℕ) → Request
-match_by parts None = Match parts.options (operand_or parts.operands 0 []) (operand_or parts.operands 1 input_name)
-match_by parts (Some third) = MatchEach parts.options (operand_or parts.operands 0 []) (drop 1 parts.operands)
+abbrev pub match_by : Choice → Parts → Option (List ℕ) → Request
+match_by choice parts None = Match choice parts.options (operand_or parts.operands 0 []) (operand_or parts.operands 1 input_name)
+match_by choice parts (Some third) = MatchEach choice parts.options (operand_or parts.operands 0 []) (drop 1 parts.operands)
 
-abbrev pub match_request : Parts → Request
-match_request parts = match_by parts (slice_get parts.operands 2)
+-- the field by which it picks lines, by the value of --field, whether --any is given, and the value of --separator
+abbrev pub choice_by : Option (List ℕ) → Bool → Option (List ℕ) → Result Choice (List ℕ)
+choice_by None any None = Ok FirstField
+choice_by None any (Some separator) = Err (misuse_text (codes "--separator") NoField (codes "match"))
+choice_by (Some number) false separator = Ok (FieldOf number separator)
+choice_by (Some number) true separator = Err (misuse_text (codes "--field") Anywhere (codes "match"))
+
+abbrev pub choice_in : Parts → Result Choice (List ℕ)
+choice_in parts = and_then (value_of verb.Match (codes "--field") parts.values) (λ number. and_then (value_of verb.Match (codes "--separator") parts.values)
+    (λ separator. choice_by number (has (codes "--any") parts.options) separator))
+
+abbrev pub match_request : Parts → Result Request (List ℕ)
+match_request parts = and_then (choice_in parts) (λ choice. Ok (match_by choice parts (slice_get parts.operands 2)))
 
 -- a command with as many operands as it takes
 abbrev pub verb_request : Verb → Parts → Result Request (List ℕ)
@@ -247,7 +261,7 @@ verb_request verb.Diff parts = Ok (Diff (operand_or parts.operands 0 []) (operan
 verb_request verb.Free parts = and_then (extent_in parts) (λ extent. Ok (Free extent (operand_or parts.operands 0 []) (operand_or parts.operands 1 []) (drop 2 parts.operands)))
 verb_request verb.Check parts = Ok (Check parts.operands)
 verb_request verb.Which parts = Ok (Which (operand_or parts.operands 0 []) (drop 1 parts.operands))
-verb_request verb.Match parts = Ok (match_request parts)
+verb_request verb.Match parts = match_request parts
 verb_request verb.Look parts = Ok (Look (operand_or parts.operands 0 []) (operand_or parts.operands 1 input_name))
 verb_request verb.Compile parts = Ok (Compile (operand_or parts.operands 0 []) (operand_or parts.operands 1 []))
 verb_request (verb.Describe what) parts = Ok (Describe what (operand_or parts.operands 0 []))

@@ -4,9 +4,12 @@ use Rattle.cidr_lists.specs.Formats.{style_in}
 use Rattle.netset_commands.specs.Arguments.{Parts, joined_arguments, misuse_text}
 use Rattle.netset_commands.specs.Commands.{Request, Lists, Styled, NotIn, Diff, Free, Split, Check, Which, Match, MatchEach, Look, Compile, Describe, Class, Single as ASingle, Help, Version}
 use Rattle.netset_commands.specs.Free.{Extent, First, Count, All}
+use Rattle.netset_commands.specs.Picking.{Choice, FirstField, FieldOf}
 use Rattle.netset_commands.specs.Table.{texts}
 use Rattle.netset_commands.specs.declared.commands.free.Extent.{Extent as GivenExtent}
 use Rattle.netset_commands.specs.declared.commands.free.Extent.TheVariants as extent
+use Rattle.netset_commands.specs.declared.commands.picking.Choice.{Choice as GivenChoice}
+use Rattle.netset_commands.specs.declared.commands.picking.Choice.TheVariants as choice
 use Rattle.netset_commands.specs.declared.commands.arguments.Next.{Next}
 use Rattle.netset_commands.specs.declared.commands.arguments.Parts.{Parts as GivenParts}
 use Rattle.netset_commands.specs.declared.errors.Misuse.{Misuse}
@@ -30,6 +33,15 @@ extent_of extent.First = First
 extent_of (extent.Count text) = Count text.now
 extent_of extent.All = All
 
+-- a value that is given, by its bytes
+abbrev pub given : Option (Bor (List ℕ)) → Option (List ℕ)
+given word = option_map (λ (w : Bor (List ℕ)). w.now) word
+
+-- the field of which each line is read, with the bytes of the arguments
+abbrev pub choice_of : GivenChoice → Choice
+choice_of choice.First = FirstField
+choice_of (choice.Field number separator) = FieldOf number.now (given separator)
+
 -- the same command with the bytes of its arguments
 abbrev pub request_of : Command → Request
 request_of (command.Lists operation files) = Lists operation (map (λ file. file.now) files.now)
@@ -40,8 +52,8 @@ request_of (command.Free extent pool len used) = Free (extent_of extent) pool.no
 request_of (command.Split operand len) = Split operand.now len.now
 request_of (command.Check files) = Check (map (λ file. file.now) files.now)
 request_of (command.Which address files) = Which address.now (map (λ file. file.now) files.now)
-request_of (command.Match options list file) = Match (map (λ w. w.now) options.now) list.now file.now
-request_of (command.MatchEach options list files) = MatchEach (map (λ w. w.now) options.now) list.now (map (λ file. file.now) files.now)
+request_of (command.Match choice options list file) = Match (choice_of choice) (map (λ w. w.now) options.now) list.now file.now
+request_of (command.MatchEach choice options list files) = MatchEach (choice_of choice) (map (λ w. w.now) options.now) list.now (map (λ file. file.now) files.now)
 request_of (command.Look table file) = Look table.now file.now
 request_of (command.Compile table name) = Compile table.now name.now
 request_of (command.Describe what operand) = Describe what operand.now
@@ -54,10 +66,6 @@ request_of command.Version = Version
 -- the parts of words by their bytes
 abbrev pub parts_in : GivenParts → Parts
 parts_in parts = record { options = texts parts.options.items; values = texts parts.values.items; operands = texts parts.operands.items }
-
--- a value that is given, by its bytes
-abbrev pub given : Option (Bor (List ℕ)) → Option (List ℕ)
-given word = option_map (λ (w : Bor (List ℕ)). w.now) word
 
 -- the line of a word that is wrong
 abbrev pub misuse_line : Misuse → List ℕ

@@ -20,6 +20,7 @@ use Rattle.netset_commands.specs.Changes.{AreSame}
 use Rattle.netset_commands.specs.Combining.{form_of, IsMade}
 use Rattle.netset_commands.specs.Operands.{IsNoNetworkText, OfList, OfOperand, ReadsAsNetwork}
 use Rattle.netset_commands.specs.Matching.{has, is_word, written_of, IsMatch, IsMatchOfEach, Picks}
+use Rattle.netset_commands.specs.Picking.{Choice, IsChosen}
 use Rattle.netset_commands.specs.Table.{help_text}
 use Rattle.netset_commands.specs.Which.{IsWhich}
 use Rattle.cidr.specs.either.IpAddress.{IsIpText}
@@ -28,6 +29,7 @@ use Rattle.netset_commands.specs.declared.commands.describe.Description.{Descrip
 use Rattle.netset_commands.specs.declared.commands.describe.Description.TheVariants.{Zones, Masks}
 use Rattle.netset_commands.specs.declared.commands.table.Verb.{Verb}
 use Rattle.netset_commands.specs.declared.commands.Reading.{Reading}
+use Rattle.cidr_lists.specs.declared.columns.Column.{Column}
 use Rattle.cidr_lists.specs.declared.lines.HostBits.TheVariants.{Refused, Cleared}
 use Rattle.cidr_lists.specs.declared.sets.Form.{Form}
 use Rattle.cidr_lists.specs.declared.sets.Form.TheVariants.{Networks}
@@ -49,8 +51,8 @@ pub data Request : Type 0 where
   Split : List ℕ → List ℕ → Request
   Check : List (List ℕ) → Request
   Which : List ℕ → List (List ℕ) → Request
-  Match : List (List ℕ) → List ℕ → List ℕ → Request
-  MatchEach : List (List ℕ) → List ℕ → List (List ℕ) → Request
+  Match : Choice → List (List ℕ) → List ℕ → List ℕ → Request
+  MatchEach : Choice → List (List ℕ) → List ℕ → List (List ℕ) → Request
   Look : List ℕ → List ℕ → Request
   Compile : List ℕ → List ℕ → Request
   Describe : Description → List ℕ → Request
@@ -79,8 +81,8 @@ lists_of (Free extent pool len used) = pool ∷ used
 lists_of (Split operand len) = operand ∷ []
 lists_of (Check files) = read_files files
 lists_of (Which address files) = read_files files
-lists_of (Match options list file) = list ∷ []
-lists_of (MatchEach options list files) = list ∷ []
+lists_of (Match choice options list file) = list ∷ []
+lists_of (MatchEach choice options list files) = list ∷ []
 lists_of (Look table file) = table ∷ []
 lists_of (Compile table name) = table ∷ []
 lists_of (Describe what operand) = operand ∷ []
@@ -88,8 +90,8 @@ lists_of request = []
 
 -- what it reads beside them
 abbrev pub others_of : Request → List (List ℕ)
-others_of (Match options list file) = file ∷ []
-others_of (MatchEach options list files) = files
+others_of (Match choice options list file) = file ∷ []
+others_of (MatchEach choice options list files) = files
 others_of (Look table file) = file ∷ []
 others_of (Class operand) = operand ∷ []
 others_of request = []
@@ -196,9 +198,9 @@ HoldsOf text P = ((said : List (List IpCidr)) × ListSays text said × P (Says s
     ⊎ ((table : Family → List (List Bool × List ℕ)) × HasTable table text.bytes × P (HasRow table))
 
 -- the lines of a file that a list picks, where no line that was read is too long
-abbrev pub IsMatchOf : List (List ℕ) → Text → List ℕ → List ℕ → Verdict → Type 0
-IsMatchOf options networks text answer verdict = HoldsOf networks
-    (λ IsIn. IsMatch (Picks (has (codes "--any") options) IsIn (has (codes "-v") options)) [] (written_of options) text None answer verdict)
+abbrev pub IsMatchOf : Column → List (List ℕ) → Text → List ℕ → List ℕ → Verdict → Type 0
+IsMatchOf column options networks text answer verdict = HoldsOf networks
+    (λ IsIn. IsMatch (Picks (has (codes "--any") options) column IsIn (has (codes "-v") options)) [] (written_of options) text None answer verdict)
 
 -- what `--version` writes: the version, and the line that `rt version` prints of the kit that proves it
 abbrev pub version_text : List ℕ
@@ -221,10 +223,12 @@ IsAnswer contents (Check files) answer verdict =
     (texts : List Text) → AreTold contents (read_files files) texts → IsCheck (read_files files) texts answer verdict
 IsAnswer contents (Which text files) answer verdict = (address : IpAddr) × IsIpText text address
     × ((texts : List Text) → AreTold contents (read_files files) texts → IsWhich address (read_files files) texts answer verdict)
-IsAnswer contents (Match options list file) answer verdict =
-    (networks text : Text) → contents list ≡ Some networks → contents file ≡ Some text → IsMatchOf options networks text.bytes answer verdict
-IsAnswer contents (MatchEach options list files) answer verdict = (networks : Text) → contents list ≡ Some networks → HoldsOf networks
-    (λ IsIn. IsMatchOfEach contents (Picks (has (codes "--any") options) IsIn (has (codes "-v") options)) (written_of options) files answer verdict)
+IsAnswer contents (Match choice options list file) answer verdict =
+    (column : Column) × IsChosen choice column
+    × ((networks text : Text) → contents list ≡ Some networks → contents file ≡ Some text → IsMatchOf column options networks text.bytes answer verdict)
+IsAnswer contents (MatchEach choice options list files) answer verdict = (column : Column) × IsChosen choice column
+    × ((networks : Text) → contents list ≡ Some networks → HoldsOf networks
+    (λ IsIn. IsMatchOfEach contents (Picks (has (codes "--any") options) column IsIn (has (codes "-v") options)) (written_of options) files answer verdict))
 IsAnswer contents (Look table file) answer verdict =
     (rows text : Text) → contents table ≡ Some rows → contents file ≡ Some text → IsLook rows text.bytes answer verdict
 IsAnswer contents (Compile table name) answer verdict = (answer ≡ []) × (verdict ≡ Yes)

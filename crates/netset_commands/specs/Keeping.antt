@@ -39,8 +39,8 @@ kind_of request = kind.Networks
 
 -- whether its list may be a file of look-ups
 abbrev pub takes_file : Request → Bool
-takes_file (Match options list file) = true
-takes_file (MatchEach options list files) = true
+takes_file (Match choice options list file) = true
+takes_file (MatchEach choice options list files) = true
 takes_file (Look table file) = true
 takes_file request = false
 

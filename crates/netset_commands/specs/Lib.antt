@@ -7,6 +7,7 @@ pub mod Sets
 pub mod Changes
 pub mod Free
 pub mod Operands
+pub mod Picking
 pub mod Describing
 pub mod Entries
 pub mod Findings

@@ -1,4 +1,4 @@
--- The lines of a file whose first field lies in a list, or that have an address of it.
+-- The lines of a file of which a field lies in a list, or that have an address of it.
 use Rattle.std.specs.Prelude.{◌≡◌, ◌≢◌, ◌⊎◌, ℕ, Bool, true, false, if◌then◌else◌, List, [], ◌∷◌, ◌++◌, length, codes, decimal, Option, Some, None, Result, Ok, Err, ◌+◌}
 use Rattle.std.specs.Bool.{Decides}
 use Rattle.std.specs.List.{AllByRecursion, AllZip, flat_map, items_where_true, list_any}
@@ -12,6 +12,7 @@ use Rattle.netset_commands.specs.declared.output.answers.Verdict.{Verdict}
 use Rattle.netset_commands.specs.declared.output.answers.Verdict.TheVariants.{Yes, No}
 use Rattle.netset_commands.specs.declared.errors.CommandError.{CommandError}
 use Rattle.netset_commands.specs.declared.errors.CommandError.TheVariants as error
+use Rattle.cidr_lists.specs.declared.columns.Column.{Column}
 use Rattle.cidr_lists.specs.declared.errors.LineError.{LineError}
 use Rattle.cidr_lists.specs.declared.errors.LineError.TheVariants.{TooLong}
 use Rattle.netset_commands.specs.declared.commands.matching.Written.{Written}
@@ -35,11 +36,11 @@ abbrev pub written_of : List (List ℕ) → Written
 written_of options = if has (codes "-q") options then written.Nothing
     else if has (codes "-c") options then written.Count else written.Lines
 
--- whether a line is picked: if what its first field says lies in the list, or with -v if it does not; or its error
-abbrev pub PicksByField : (Family → List Bool → Type 0) → Bool → List ℕ → Result Bool LineError → Type 0
-PicksByField IsIn inverted line (Ok picked) =
-    (said : Option IpCidr) × FieldSays line said × Decides picked (Turned inverted (LiesIn IsIn said))
-PicksByField IsIn inverted line (Err e) = IsBadField line e
+-- whether a line is picked: if what the field of the column says lies in the list, or with -v if it does not; or its error
+abbrev pub PicksByField : Column → (Family → List Bool → Type 0) → Bool → List ℕ → Result Bool LineError → Type 0
+PicksByField column IsIn inverted line (Ok picked) =
+    (said : Option IpCidr) × FieldSays column line said × Decides picked (Turned inverted (LiesIn IsIn said))
+PicksByField column IsIn inverted line (Err e) = IsBadField column line e
 
 -- whether a line is picked: if it has an address of the list, or with -v if it has none; no such line is in error
 abbrev pub PicksAnywhere : (Family → List Bool → Type 0) → Bool → List ℕ → Result Bool LineError → Type 0
@@ -47,9 +48,9 @@ PicksAnywhere IsIn inverted line (Ok picked) = Decides picked (Turned inverted (
 PicksAnywhere IsIn inverted line (Err e) = ⊥
 
 -- whether a line is picked, with --any or without, or its error
-abbrev pub PicksBy : Bool → (Family → List Bool → Type 0) → Bool → List ℕ → Result Bool LineError → Type 0
-PicksBy true IsIn inverted line r = PicksAnywhere IsIn inverted line r
-PicksBy false IsIn inverted line r = PicksByField IsIn inverted line r
+abbrev pub PicksBy : Bool → Column → (Family → List Bool → Type 0) → Bool → List ℕ → Result Bool LineError → Type 0
+PicksBy true column IsIn inverted line r = PicksAnywhere IsIn inverted line r
+PicksBy false column IsIn inverted line r = PicksByField column IsIn inverted line r
 
 -- what becomes of a line that is too long: with --any it is passed over, and else it is in error
 abbrev pub passed_over : Bool → Result Bool LineError
@@ -57,9 +58,9 @@ passed_over true = Ok false
 passed_over false = Err TooLong
 
 -- the same of any line
-abbrev pub Picks : Bool → (Family → List Bool → Type 0) → Bool → List ℕ → Result Bool LineError → Type 0
-Picks anywhere IsIn inverted line r =
-    ((r ≡ passed_over anywhere) × IsTooLong line) ⊎ (¬ (IsTooLong line) × PicksBy anywhere IsIn inverted line r)
+abbrev pub Picks : Bool → Column → (Family → List Bool → Type 0) → Bool → List ℕ → Result Bool LineError → Type 0
+Picks anywhere column IsIn inverted line r =
+    ((r ≡ passed_over anywhere) × IsTooLong line) ⊎ (¬ (IsTooLong line) × PicksBy anywhere column IsIn inverted line r)
 
 -- the line is in error, and this is its error
 abbrev pub IsErrorBy : (List ℕ → Result Bool LineError → Type 0) → List ℕ → LineError → Type 0

@@ -26,6 +26,7 @@ use Rattle.netset_commands.specs.Look.{IsLookCut, IsUnreadTable}
 use Rattle.netset_commands.specs.Stored.{IsNoTable, IsNotGiven}
 use Rattle.netset_commands.specs.Matching.{has, written_of, IsEndedBy, IsEndedIn, Picks}
 use Rattle.netset_commands.specs.Streaming.{IsCutShort}
+use Rattle.netset_commands.specs.Picking.{Choice, IsBadChoice, IsChosen}
 use Rattle.netset_commands.specs.Single.{HasNone, IsBadSingle, IsNoNetwork, IsNumber}
 use Rattle.netset_commands.specs.Unchecked.{IsUnchecked}
 use Rattle.netset_commands.specs.Which.{IsNoAddressArgument}
@@ -36,6 +37,7 @@ use Rattle.netset_commands.specs.declared.errors.ArgumentError.TheVariants as ba
 use Rattle.netset_commands.specs.declared.errors.FileError.{FileError}
 use Rattle.netset_commands.specs.declared.errors.FileError.TheVariants.{TooLarge, NotSaved, Unlike, Version, Short, Long, Changed}
 use Rattle.netset_commands.specs.declared.commands.Reading.{Reading}
+use Rattle.cidr_lists.specs.declared.columns.Column.{Column}
 use Rattle.cidr_lists.specs.declared.lines.HostBits.{HostBits}
 use Rattle.netset_commands.specs.declared.output.answers.Verdict.{Verdict}
 use Rattle.netset_commands.specs.declared.output.answers.Verdict.TheVariants.{Yes, No}
@@ -71,6 +73,8 @@ abbrev pub IsWrong : Request → CommandError → Type 0
 IsWrong (NotIn net files) e = IsBadArgument (λ text bad. (text ≡ net) × IsNoNetwork net bad) e
 IsWrong (Free extent pool len used) e = IsBadArgument (IsBadFree extent len) e
 IsWrong (Which text files) e = IsBadArgument (IsNoAddressArgument text) e
+IsWrong (Match choice options list file) e = IsBadArgument (IsBadChoice choice) e
+IsWrong (MatchEach choice options list files) e = IsBadArgument (IsBadChoice choice) e
 IsWrong (Compile table name) e = IsSameFile table name e
 IsWrong request e = ⊥
 
@@ -104,8 +108,10 @@ IsRequestRefused contents (Split operand len) (Err e) =
 IsRequestRefused contents (Check files) (Err e) = IsUnchecked contents (read_files files) e
 IsRequestRefused contents (Which text files) (Err e) = IsBadArgument (IsNoAddressArgument text) e
     ⊎ ((address : IpAddr) × IsIpText text address × IsUnchecked contents (read_files files) e)
-IsRequestRefused contents (Match options list file) (Err e) = IsNotGiven (IsUnread contents (list ∷ [])) (contents list) list e ⊎ IsInputError file e
-IsRequestRefused contents (MatchEach options list files) (Err e) = IsNotGiven (IsUnread contents (list ∷ [])) (contents list) list e
+IsRequestRefused contents (Match choice options list file) (Err e) = IsBadArgument (IsBadChoice choice) e
+    ⊎ ((column : Column) × IsChosen choice column × (IsNotGiven (IsUnread contents (list ∷ [])) (contents list) list e ⊎ IsInputError file e))
+IsRequestRefused contents (MatchEach choice options list files) (Err e) = IsBadArgument (IsBadChoice choice) e
+    ⊎ ((column : Column) × IsChosen choice column × IsNotGiven (IsUnread contents (list ∷ [])) (contents list) list e)
 IsRequestRefused contents (Look table file) (Err e) = IsNoTable (contents table) table e ⊎ IsInputError file e
 IsRequestRefused contents (Describe what operand) (Err e) = IsNoLength what operand × IsUnreadOperand contents operand e
 IsRequestRefused contents (Class operand) (Err e) = IsUnclassed contents operand e
@@ -126,14 +132,15 @@ AnswersWhole contents request old new r =
     × Answered old new answer written × (r ≡ by_output verdict written))
 
 -- what belongs to the lines that `match` has read of its file, if it was not read to its end, or has lines that are too long
-abbrev pub IsMatchUntil : (List ℕ → Option Text) → List (List ℕ) → List ℕ → List ℕ → List ℕ → CommandError → Type 0
-IsMatchUntil contents options list file answer e = (networks text : Text) → contents list ≡ Some networks → contents file ≡ Some text
-    → HoldsOf networks (λ IsIn. IsEndedBy (Picks (has (codes "--any") options) IsIn (has (codes "-v") options)) [] (written_of options) text.bytes answer e)
+abbrev pub IsMatchUntil : (List ℕ → Option Text) → Choice → List (List ℕ) → List ℕ → List ℕ → List ℕ → CommandError → Type 0
+IsMatchUntil contents choice options list file answer e = (column : Column) × IsChosen choice column × ((networks text : Text) → contents list ≡ Some networks → contents file ≡ Some text
+    → HoldsOf networks (λ IsIn. IsEndedBy (Picks (has (codes "--any") options) column IsIn (has (codes "-v") options)) [] (written_of options) text.bytes answer e))
 
 -- the same of several files, of which those before this one were read to their ends
-abbrev pub IsMatchEachUntil : (List ℕ → Option Text) → List (List ℕ) → List ℕ → List (List ℕ) → List ℕ → List ℕ → CommandError → Type 0
-IsMatchEachUntil contents options list before file answer e = (networks : Text) → contents list ≡ Some networks → HoldsOf networks
-    (λ IsIn. IsEndedIn contents (Picks (has (codes "--any") options) IsIn (has (codes "-v") options)) (written_of options) before file answer e)
+abbrev pub IsMatchEachUntil : (List ℕ → Option Text) → Choice → List (List ℕ) → List ℕ → List (List ℕ) → List ℕ → List ℕ → CommandError → Type 0
+IsMatchEachUntil contents choice options list before file answer e = (column : Column) × IsChosen choice column
+    × ((networks : Text) → contents list ≡ Some networks → HoldsOf networks
+    (λ IsIn. IsEndedIn contents (Picks (has (codes "--any") options) column IsIn (has (codes "-v") options)) (written_of options) before file answer e))
 
 -- the same of `look`
 abbrev pub IsLookUntil : (List ℕ → Option Text) → List ℕ → List ℕ → List ℕ → CommandError → Type 0
@@ -155,11 +162,11 @@ IsCompiled contents table name (Err e) =
 
 -- what becomes of a request and of the sink
 abbrev pub AnswersRequest : (List ℕ → Option Text) → Request → State → State → Result Verdict CommandError → Type 0
-AnswersRequest contents (Match options list file) old new r =
-    AnswersWhole contents (Match options list file) old new r ⊎ IsCutShort (IsMatchUntil contents options list file) file old new r
-AnswersRequest contents (MatchEach options list files) old new r = AnswersWhole contents (MatchEach options list files) old new r
+AnswersRequest contents (Match choice options list file) old new r =
+    AnswersWhole contents (Match choice options list file) old new r ⊎ IsCutShort (IsMatchUntil contents choice options list file) file old new r
+AnswersRequest contents (MatchEach choice options list files) old new r = AnswersWhole contents (MatchEach choice options list files) old new r
     ⊎ ((before after : List (List ℕ)) × (file : List ℕ) × (files ≡ before ++ file ∷ after)
-    × IsCutShort (IsMatchEachUntil contents options list before file) file old new r)
+    × IsCutShort (IsMatchEachUntil contents choice options list before file) file old new r)
 AnswersRequest contents (Look table file) old new r =
     AnswersWhole contents (Look table file) old new r ⊎ IsCutShort (IsLookUntil contents table file) file old new r
 AnswersRequest contents (Compile table name) old new r = (new ≡ old) × IsCompiled contents table name r
@@ -181,6 +188,8 @@ argument_message (bad.Network fault e) = fault_words fault (parse_message e)
 argument_message bad.Length = codes "no prefix length inside the network"
 argument_message bad.Index = codes "no index below 2^128"
 argument_message bad.Count = codes "no count below 2^64"
+argument_message bad.Field = codes "no number of a field, from 1 on"
+argument_message bad.Separator = codes "more or less than one byte"
 argument_message bad.NoAddress = codes "no address"
 argument_message bad.AddressOrFile = codes "no address, and no file that can be read"
 argument_message bad.Operand = codes "no network and no address, and no file that can be read"

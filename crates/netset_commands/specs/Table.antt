@@ -62,8 +62,8 @@ is_of_style option = is_word (codes "--format") option || (is_word (codes "--pre
 abbrev pub is_of_output : List ℕ → Bool
 is_of_output option = is_word (codes "-o") option
 
--- the options with a value: the network of `not --in`, how networks are written, how many `free --count` tells, and where the
--- answer is written
+-- the options with a value: the network of `not --in`, how networks are written, how many `free --count` tells, the field by
+-- which `match` picks, and where the answer is written
 abbrev pub takes_value : Verb → List ℕ → Bool
 takes_value (Lists Not) option = is_word (codes "--in") option || (is_of_style option || is_of_output option)
 takes_value (Lists Ranges) option = is_of_output option
@@ -73,6 +73,7 @@ takes_value Diff option = is_of_output option
 takes_value Free option = is_word (codes "--count") option || is_of_output option
 takes_value Split option = is_of_output option
 takes_value (Describe what) option = is_of_output option
+takes_value Match option = is_word (codes "--field") option || is_word (codes "--separator") option
 takes_value command option = false
 
 -- the operands that it needs, by their names on the page

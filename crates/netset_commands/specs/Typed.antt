@@ -9,6 +9,7 @@ use Rattle.netset_commands.specs.Arguments.{asks_help, is_option, missing_operan
 use Rattle.netset_commands.specs.Commands.{Request, Lists, Styled, NotIn, Diff, Free, Split, Check, Which, Match, MatchEach, Look, Compile, Describe, Class, Single, Help, Version, IsAnswer, input_name, reading_of}
 use Rattle.netset_commands.specs.Free.{First, Count, All}
 use Rattle.netset_commands.specs.Matching.{has}
+use Rattle.netset_commands.specs.Picking.{Choice, FirstField, FieldOf}
 use Rattle.netset_commands.specs.Program.{answer_status, contents_by}
 use Rattle.netset_commands.specs.Single.{Show, Nth}
 use Rattle.netset_commands.specs.Table.{name_of, takes_value}
@@ -25,9 +26,19 @@ AreTyped command options valued operands words = (words ≡ name_of command ∷ 
     × (list_any is_option operands ≡ false) × (missing_operand command operands ≡ None)
 
 -- the same of a list and a file, or without the file of a list and the standard input
-abbrev pub AreTypedFor : Verb → List (List ℕ) → List ℕ → List ℕ → List (List ℕ) → Type 0
-AreTypedFor command options list file words =
-    AreTyped command options [] (list ∷ file ∷ []) words ⊎ ((file ≡ input_name) × AreTyped command options [] (list ∷ []) words)
+abbrev pub AreTypedFor : Verb → List (List ℕ) → List (List ℕ) → List ℕ → List ℕ → List (List ℕ) → Type 0
+AreTypedFor command options valued list file words =
+    AreTyped command options valued (list ∷ file ∷ []) words ⊎ ((file ≡ input_name) × AreTyped command options valued (list ∷ []) words)
+
+-- the options of `match` that tell the field, with their values; --any goes with none of them
+abbrev pub choice_words : Choice → List (List ℕ)
+choice_words FirstField = []
+choice_words (FieldOf number None) = codes "--field" ∷ number ∷ []
+choice_words (FieldOf number (Some separator)) = codes "--field" ∷ number ∷ codes "--separator" ∷ separator ∷ []
+
+abbrev pub GoesWith : Choice → List (List ℕ) → Type 0
+GoesWith FirstField options = Unit {0}
+GoesWith (FieldOf number separator) options = has (codes "--any") options ≡ false
 
 -- these words, with these options, are a request
 abbrev pub IsTyped : List (List ℕ) → List (List ℕ) → Request → Type 0
@@ -44,11 +55,12 @@ IsTyped words options (Free All pool len used) = (has (codes "--all") options �
 IsTyped words options (Split operand len) = AreTyped verb.Split options [] (operand ∷ len ∷ []) words
 IsTyped words options (Check files) = AreTyped verb.Check options [] files words
 IsTyped words options (Which address files) = AreTyped verb.Which options [] (address ∷ files) words
-IsTyped words options (Match given list file) = (given ≡ options) × AreTypedFor verb.Match options list file words
-IsTyped words options (MatchEach given list (first ∷ second ∷ files)) =
-    (given ≡ options) × AreTyped verb.Match options [] (list ∷ first ∷ second ∷ files) words
-IsTyped words options (MatchEach given list files) = ⊥
-IsTyped words options (Look table file) = AreTypedFor verb.Look options table file words
+IsTyped words options (Match choice given list file) =
+    (given ≡ options) × GoesWith choice options × AreTypedFor verb.Match options (choice_words choice) list file words
+IsTyped words options (MatchEach choice given list (first ∷ second ∷ files)) = (given ≡ options) × GoesWith choice options
+    × AreTyped verb.Match options (choice_words choice) (list ∷ first ∷ second ∷ files) words
+IsTyped words options (MatchEach choice given list files) = ⊥
+IsTyped words options (Look table file) = AreTypedFor verb.Look options [] table file words
 IsTyped words options (Compile table name) = AreTyped verb.Compile options [] (table ∷ name ∷ []) words
 IsTyped words options (Describe what operand) = AreTyped (verb.Describe what) options [] (operand ∷ []) words
 IsTyped words options (Class operand) = AreTyped verb.Class options [] (operand ∷ []) words

@@ -21,6 +21,7 @@ pub mod inside;
 pub mod look;
 pub mod matching;
 pub mod operations;
+pub mod picking;
 pub mod single;
 pub mod split;
 pub mod table;
@@ -31,6 +32,7 @@ use crate::commands::describe::Description;
 use crate::commands::free::{Extent, length_of};
 use crate::commands::matching::has;
 use crate::commands::operations::Operation;
+use crate::commands::picking::Choice;
 use crate::commands::single::Single;
 use crate::commands::table::Verb;
 use cidr::IpCidr;
@@ -58,10 +60,10 @@ pub enum Command<'a> {
     Check(&'a [&'a str]),
     /// The lines of the lists of these files that have an address.
     Which(&'a str, &'a [&'a str]),
-    /// The options, the list, and the file of which lines are picked.
-    Match(&'a [&'a str], &'a str, &'a str),
-    /// The options, the list, and the files of which lines are picked.
-    MatchEach(&'a [&'a str], &'a str, &'a [&'a str]),
+    /// The field, the options, the list, and the file of which lines are picked.
+    Match(Choice<'a>, &'a [&'a str], &'a str, &'a str),
+    /// The field, the options, the list, and the files of which lines are picked.
+    MatchEach(Choice<'a>, &'a [&'a str], &'a str, &'a [&'a str]),
     /// The longest networks of the first file that have the addresses of the second one.
     Look(&'a str, &'a str),
     /// The table that is compiled, and the file that is written.
@@ -160,8 +162,8 @@ impl<'a> Command<'a> {
                 names.push(*pool)?;
                 names.extend_from_slice(used)?;
             }
-            Command::Match(_, list, _)
-            | Command::MatchEach(_, list, _)
+            Command::Match(_, _, list, _)
+            | Command::MatchEach(_, _, list, _)
             | Command::Look(list, _)
             | Command::Compile(list, _)
             | Command::Split(list, _)
@@ -185,8 +187,8 @@ impl<'a> Command<'a> {
             | Command::Diff(_, _)
             | Command::Check(_)
             | Command::Which(_, _)
-            | Command::Match(_, _, _)
-            | Command::MatchEach(_, _, _)
+            | Command::Match(_, _, _, _)
+            | Command::MatchEach(_, _, _, _)
             | Command::Look(_, _)
             | Command::Compile(_, _)
             | Command::Class(_)
@@ -215,10 +217,10 @@ impl<'a> Command<'a> {
     {
         let mut names = self.lists(memory)?;
         match self {
-            Command::Match(_, _, file) | Command::Look(_, file) | Command::Class(file) => {
+            Command::Match(_, _, _, file) | Command::Look(_, file) | Command::Class(file) => {
                 memory.push(&mut names, *file)?;
             }
-            Command::MatchEach(_, _, files) => {
+            Command::MatchEach(_, _, _, files) => {
                 let added = names.extend_from_slice(files);
                 memory.watch(added)?;
             }

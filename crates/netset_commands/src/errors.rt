@@ -49,6 +49,10 @@ pub enum Misfit {
     NotPlain,
     /// It is an option that no option of formats goes with.
     NotStyled,
+    /// It is an option that only goes with `--field`.
+    NoField,
+    /// It is an option that does not go with `--any`.
+    Anywhere,
 }
 
 /// Why the arguments are no command.
@@ -98,6 +102,10 @@ pub enum ArgumentError {
     Count,
     /// It is no index below 2^128.
     Index,
+    /// It is no number of a field, from 1 on and below 2^64.
+    Field,
+    /// It is not one byte.
+    Separator,
     /// It is the standard input, which is read already.
     ReadTwice,
     /// It is the table that is read, and was to be written.

@@ -28,6 +28,7 @@ use crate::commands::inside::not_in;
 use crate::commands::look::look;
 use crate::commands::matching::{match_each, matching};
 use crate::commands::operations::{Operation, form_of};
+use crate::commands::picking::column_of;
 use crate::commands::single::{answer_single, network_of};
 use crate::commands::split::split;
 use crate::commands::table::Verb;
@@ -126,9 +127,11 @@ fn answer<'a, M: Memory, F: Sources, D: Folder, O: Sink>(
         Command::Split(operand, len) => split(memory, sources, operand, len, out),
         Command::Check(files) => check(memory, sources, files, out),
         Command::Which(address, files) => which(memory, sources, address, files, out),
-        Command::Match(options, list, file) => matching(memory, sources, options, list, file, out),
-        Command::MatchEach(options, list, files) => {
-            match_each(memory, sources, options, list, files, out)
+        Command::Match(choice, options, list, file) => {
+            matching(memory, sources, choice, options, list, file, out)
+        }
+        Command::MatchEach(choice, options, list, files) => {
+            match_each(memory, sources, choice, options, list, files, out)
         }
         Command::Look(table, file) => look(memory, sources, table, file, out),
         Command::Compile(table, name) => compile(memory, sources, table, name, folder),
@@ -161,13 +164,17 @@ fn wrong_argument<'a>(command: Command<'a>) -> Option<CommandError<'a>>
             },
             None => Some(CommandError::Argument(len, ArgumentError::Length)),
         },
+        Command::Match(choice, _, _, _) | Command::MatchEach(choice, _, _, _) => {
+            match column_of(choice) {
+                Ok(_) => None,
+                Err(e) => Some(e),
+            }
+        }
         Command::Compile(table, name) => same_file(table, name),
         Command::Lists(_, _)
         | Command::Styled(_, _, _)
         | Command::Diff(_, _)
         | Command::Check(_)
-        | Command::Match(_, _, _)
-        | Command::MatchEach(_, _, _)
         | Command::Look(_, _)
         | Command::Split(_, _)
         | Command::Describe(_, _)

@@ -1,28 +1,40 @@
 -- What runs over texts in memory have printed and told.
-use Rattle.std.proofs.Common.{◌≡◌, refl, sym, ◌∙◌, ap, subst, arith, inl, ℕ, zero, suc, ◌<◌, ◌≤◌, Bool, List, [], ◌∷◌, ◌++◌, length, codes, Contains, IsAscii, IsUtf8, Option, Some, None, option_map, Ok, Err}
-use Rattle.std.specs.List.{AllZip}
+use Rattle.std.proofs.Common.{◌≡◌, refl, sym, ◌∙◌, ap, subst, arith, inl, inr, ℕ, zero, suc, ◌+◌, ◌<◌, ◌≤◌, Bool, false, List, [], ◌∷◌, ◌++◌, length, codes, slice_index, Contains, IsAscii, IsUtf8, Option, Some, None, option_map, Result, Ok, Err}
+use Rattle.std.specs.List.{AllZip, flat_map}
 use Rattle.std.specs.Option.{IfSome}
 use Rattle.std.proofs.lemmas.Bool.{false≢true}
+use Rattle.std.proofs.lemmas.List.{append-nil}
 use Rattle.std.proofs.lemmas.Str.{IsUtf8-from_ascii}
 use Rattle.cidr.specs.declared.cidr.combined.IpCidr.{IpCidr}
 use Rattle.cidr.specs.declared.family.Family.{Family}
 use Rattle.cidr_io.specs.Writing.{State, Whole, Tells}
 use Rattle.cidr_lists.specs.Lists.{ListSays, Text, text_by}
+use Rattle.cidr_lists.specs.Lines.{lines_in}
 use Rattle.cidr_lists.specs.Messages.{fault_line}
+use Rattle.cidr_lists.specs.Printing.{line}
 use Rattle.cidr_lists.specs.ReadBack.{AreUnions}
 use Rattle.cidr_lists.specs.Sets.{printed_sets}
+use Rattle.cidr_lists.specs.declared.columns.Column.{Column}
+use Rattle.cidr_lists.specs.declared.columns.Separator.{Separator}
+use Rattle.cidr_lists.specs.declared.columns.Separator.TheVariants.{Byte}
+use Rattle.cidr_lists.specs.declared.errors.LineError.{LineError}
 use Rattle.cidr_lists.specs.declared.lines.HostBits.{HostBits}
 use Rattle.cidr_lists.specs.declared.lines.HostBits.TheVariants.{Refused}
-use Rattle.netset_commands.specs.Commands.{IsMadeOf, Lists, Look, ReadsInputTwice, reading_of}
+use Rattle.netset_commands.specs.Commands.{HoldsOf, IsMadeOf, Lists, Look, Match, ReadsInputTwice, reading_of}
 use Rattle.netset_commands.specs.Look.{IsLook}
+use Rattle.netset_commands.specs.Matching.{ArePicked, IsMatch, Picks, line_written}
+use Rattle.netset_commands.specs.Picking.{FieldOf, IsChosen}
 use Rattle.netset_commands.specs.Program.{Runs, contents_by, error_line}
 use Rattle.netset_commands.specs.Typed.{AnswersTyped}
 use Rattle.netset_commands.specs.declared.commands.operations.Operation.TheVariants.{Merge}
 use Rattle.netset_commands.specs.declared.errors.CommandError.TheVariants as error
+use Rattle.netset_commands.specs.declared.commands.matching.Written.TheVariants as written
+use Rattle.netset_commands.specs.declared.output.answers.Verdict.{Verdict}
 use Rattle.netset_commands.specs.declared.output.answers.Verdict.TheVariants.{Yes}
 use Rattle.netset_commands.proofs.Failures.{Failed, lists_fail}
+use Rattle.netset_commands.proofs.Matched.{of_list}
 use Rattle.netset_commands.proofs.Typed.{typed_asks}
-use Rattle.netset_uses.specs.Runs.{HasPrinted, HasRun, HasToldLine, holding}
+use Rattle.netset_uses.specs.Runs.{AreLinesBySecond, HasPrinted, HasRun, HasToldLine, holding, second_field}
 use Rattle.netset_uses.specs.declared.runs.Finished.{Finished}
 
 -- ---- outputs
@@ -167,6 +179,50 @@ pub looks_printed : (words : List (List ℕ)) (contents : List ℕ → Option (L
 looks_printed words contents table file None same first second h = tt
 looks_printed words contents table file (Some run) same first second h =
     look_printed contents table file run first second (subst (λ (k : List (List ℕ)). HasRun k contents run) same h)
+
+-- ---- match
+abbrev pub match_words : List (List ℕ)
+match_words = codes "match" ∷ codes "--field" ∷ codes "2" ∷ codes "--separator" ∷ codes "," ∷ codes "list" ∷ codes "file" ∷ []
+
+-- the field that is asked for
+abbrev column_at : ℕ → Separator → Column
+column_at place separator = record { place = place; separator = separator }
+
+is_second : (column : Column) → IsChosen (FieldOf (codes "2") (Some (codes ","))) column → column ≡ second_field
+is_second column ((number, small), (byte, is, by)) =
+    let next : column.place + 1 ≡ 2 = number.1 in
+    let place : column.place ≡ 1 = omega (arith, next) in
+    let comma : 44 ≡ byte = ap (λ (text : List ℕ). slice_index text 0) is in
+    ap (λ (k : ℕ). column_at k column.separator) place ∙ ap (λ (k : Separator). column_at 1 k) (by ∙ ap (λ (k : ℕ). Byte k) (sym comma))
+
+-- all lines were read
+all_picked : (P : List ℕ → Result Bool LineError → Type 0) (text answer : List ℕ) (verdict : Verdict) → IsMatch P [] written.Lines text None answer verdict
+    → (picked : List (List ℕ)) × ArePicked P (lines_in text) picked × (answer ≡ flat_map line picked)
+all_picked P text answer verdict (read, left, picked, to, long, inl none, is, by) = (
+  picked,
+  subst (λ (k : List (List ℕ)). ArePicked P k picked) (sym (to.lines ∙ (ap (λ (k : List (List ℕ)). read ++ k) none ∙ append-nil read))) to.are,
+  is,
+)
+all_picked P text answer verdict (read, left, picked, to, long, inr (nothing, some), is, by) = cc
+
+pub match_printed : (contents : List ℕ → Option (List ℕ)) (list file : List ℕ) (run : Finished) → contents (codes "list") ≡ Some list
+    → contents (codes "file") ≡ Some file → HasRun match_words contents run → run.status ≡ 0
+    → HasPrinted (AreLinesBySecond (text_by Refused list) file) run
+match_printed contents list file run first second (answered, runs) ended =
+    let (answer, (column, chosen, is), whole, quiet) = answered match_words [] (Match (FieldOf (codes "2") (Some (codes ","))) [] (codes "list") (codes "file")) Yes refl
+    (refl, refl, inl (refl, refl, refl, refl, refl)) ended in
+    let match = is (text_by Refused list) (text_by Refused file) (told_text contents (codes "list") list first) (told_text contents (codes "file") file second) in
+    printed_by (AreLinesBySecond (text_by Refused list) file) run answer
+    (of_list (text_by Refused list) _ _ (λ IsIn same. all_picked (Picks false second_field IsIn false) file answer Yes same)
+    (subst (λ (k : Column). HoldsOf (text_by Refused list) (λ IsIn. IsMatch (Picks false k IsIn false) [] written.Lines file None answer Yes))
+    (is_second column chosen) match)) whole quiet
+
+pub matches_printed : (words : List (List ℕ)) (contents : List ℕ → Option (List ℕ)) (list file : List ℕ) (r : Option Finished) → words ≡ match_words
+    → contents (codes "list") ≡ Some list → contents (codes "file") ≡ Some file → IfSome r (HasRun words contents)
+    → IfSome r (λ run. run.status ≡ 0 → HasPrinted (AreLinesBySecond (text_by Refused list) file) run)
+matches_printed words contents list file None same first second h = tt
+matches_printed words contents list file (Some run) same first second h =
+    match_printed contents list file run first second (subst (λ (k : List (List ℕ)). HasRun k contents run) same h)
 
 -- ---- merge again
 -- the law of lists, as a function that does nothing ensures it

@@ -1,9 +1,16 @@
 -- What a run of `netset` over texts in memory has done.
 use Rattle.std.specs.Prelude.{◌≡◌, ℕ, Bool, false, List, [], Option, Some}
+use Rattle.std.specs.List.{flat_map}
 use Rattle.cidr_io.specs.Writing.{State}
 use Rattle.cidr_lists.specs.Lists.{IsFirstError, Text}
+use Rattle.cidr_lists.specs.Lines.{lines_in}
 use Rattle.cidr_lists.specs.Messages.{fault_line}
+use Rattle.cidr_lists.specs.Printing.{line}
+use Rattle.cidr_lists.specs.declared.columns.Column.{Column}
+use Rattle.cidr_lists.specs.declared.columns.Separator.TheVariants.{Byte}
 use Rattle.cidr_lists.specs.declared.errors.LineError.{LineError}
+use Rattle.netset_commands.specs.Commands.{HoldsOf}
+use Rattle.netset_commands.specs.Matching.{ArePicked, Picks}
 use Rattle.netset_commands.specs.Program.{Runs}
 use Rattle.netset_commands.specs.Typed.{AnswersTyped}
 use Rattle.netset_uses.specs.declared.runs.Finished.{Finished}
@@ -25,3 +32,12 @@ HasPrinted IsAnswer run = IsAnswer run.out.items × (run.err.items ≡ [])
 abbrev pub HasToldLine : List ℕ → Text → Finished → Type 0
 HasToldLine file text run = (run.out.items ≡ [])
     × ((number : ℕ) × (e : LineError) × IsFirstError text number e × (run.err.items ≡ fault_line file (number, e)))
+
+-- the second field of a line between commas
+abbrev pub second_field : Column
+second_field = record { place = 1; separator = Byte 44 }
+
+-- the lines of a text whose second field lies in a list
+abbrev pub AreLinesBySecond : Text → List ℕ → List ℕ → Type 0
+AreLinesBySecond networks text answer = HoldsOf networks (λ IsIn. (picked : List (List ℕ))
+    × ArePicked (Picks false second_field IsIn false) (lines_in text) picked × (answer ≡ flat_map line picked))

@@ -6,7 +6,7 @@ ghost use Rattle.netset_commands.specs.Commands.{IsMadeOf};
 ghost use Rattle.netset_commands.specs.Look.{IsLook};
 ghost use Rattle.netset_commands.specs.declared.commands.operations.Operation.TheVariants.{Merge};
 ghost use Rattle.netset_commands.specs.declared.output.answers.Verdict.TheVariants.{Yes};
-ghost use Rattle.netset_uses.specs.Runs.{HasPrinted, HasRun, HasToldLine};
+ghost use Rattle.netset_uses.specs.Runs.{AreLinesBySecond, HasPrinted, HasRun, HasToldLine};
 ghost use Rattle.netset_uses.specs.Texts.{contents_of};
 
 use crate::texts::{TextFile, TextFiles, Words};
@@ -84,6 +84,28 @@ pub fn look(alloc: Global, table: &[u8], file: &[u8]) -> Option<Finished>
         },
     ];
     run(alloc, &["look", "table", "file"], &files)
+}
+
+/// A run of `netset match --field 2 --separator , list file`. With status 0 it has printed the lines of the file whose
+/// second field between commas lies in the list.
+pub fn match_second(alloc: Global, list: &[u8], file: &[u8]) -> Option<Finished>
+    ensures { IfSome result (λ run. run.status ≡ 0 → HasPrinted (AreLinesBySecond (text_by Refused list.now) file.now) run) }
+{
+    let files = [
+        TextFile {
+            name: "list",
+            bytes: list,
+        },
+        TextFile {
+            name: "file",
+            bytes: file,
+        },
+    ];
+    run(
+        alloc,
+        &["match", "--field", "2", "--separator", ",", "list", "file"],
+        &files,
+    )
 }
 
 /// What `netset merge` prints of a list, and what it prints of that again: the same. `None` where a run ends with another

@@ -1,5 +1,5 @@
 //! Lists in memory: read, printed, and given to runs.
-use crate::runs::{look, merge, merge_twice};
+use crate::runs::{look, match_second, merge, merge_twice};
 use cidr_lists::errors::{LineError, ListError};
 use cidr_lists::lines::HostBits;
 use cidr_lists::sets::{Form, Sets};
@@ -57,6 +57,19 @@ fn look_prints_the_longest_networks(rt: HostRuntime) -> Result<(), Fail> {
     assert_eq!(rt;
         run.out.as_slice(),
         b"192.0.2.70 192.0.2.64/26 room #5\n192.0.2.7 192.0.2.0/24 the office\n198.51.100.1 -\n".as_slice()
+    );
+    assert_eq!(rt; run.err.len(), 0);
+    Ok(())
+}
+
+#[test]
+fn match_picks_by_the_second_field(rt: HostRuntime) -> Result<(), Fail> {
+    let file = b"# time,source\n1, 10.0.0.1 \n2,11.0.0.1\n3,10.2.0.0/16,10.0.0.1";
+    let run = match_second(rt.alloc(), b"10.0.0.0/8\n", file).ok_or("no memory")?;
+    assert_eq!(rt; run.status, 0);
+    assert_eq!(rt;
+        run.out.as_slice(),
+        b"1, 10.0.0.1 \n3,10.2.0.0/16,10.0.0.1\n".as_slice()
     );
     assert_eq!(rt; run.err.len(), 0);
     Ok(())

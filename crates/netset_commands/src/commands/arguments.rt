@@ -1,8 +1,8 @@
 //! The words of a command line as options and operands, and the command that they are.
-ghost use Rattle.std.specs.Prelude.{◌≡◌, ◌<◌, [], Ok, Err, Bool, true, false, length, drop, MatchOption, MatchResult, option_map, unwrap_or};
+ghost use Rattle.std.specs.Prelude.{◌≡◌, ◌<◌, [], Ok, Err, Bool, true, false, length, drop, MatchOption, MatchResult, option_map, slice_get, unwrap_or};
 ghost use Rattle.std.specs.List.{after_first, before_first};
-ghost use Rattle.netset_commands.specs.Arguments.{asks_help, chosen_style, extent_by, extra_operand, fresh, full_name, help_request, is_equals, is_plain, is_option, is_topic, letter_parts, line_parts, lists_request, long_parts, made_request, match_request, misuse_text, missing_operand, named_format, named_verb, no_option, no_parts, operand_or, part_request, parts_from, short_option, short_parts, some_style, style_in_values, style_of, taken_value, takes, target_in, topic_parts, value_of, verb_of, verb_request, word_parts};
-ghost use Rattle.netset_commands.specs.Command.{AddsParts, IsUsageError, given, extent_of, misuse_line, parts_in, request_of};
+ghost use Rattle.netset_commands.specs.Arguments.{asks_help, choice_by, choice_in, chosen_style, extent_by, extra_operand, fresh, full_name, help_request, is_equals, is_option, is_plain, is_topic, letter_parts, line_parts, lists_request, long_parts, made_request, match_by, match_request, missing_operand, misuse_text, named_format, named_verb, no_option, no_parts, operand_or, part_request, parts_from, short_option, short_parts, some_style, style_in_values, style_of, taken_value, takes, target_in, topic_parts, value_of, verb_of, verb_request, word_parts};
+ghost use Rattle.netset_commands.specs.Command.{AddsParts, IsUsageError, choice_of, extent_of, given, misuse_line, parts_in, request_of};
 ghost use Rattle.netset_commands.specs.Matching.{is_word};
 ghost use Rattle.netset_commands.specs.Table.{name_of, takes_value, texts};
 ghost use Rattle.netset_commands.specs.declared.errors.Misfit.TheVariants.{NotPlain};
@@ -13,6 +13,7 @@ use crate::commands::Command;
 use crate::commands::free::Extent;
 use crate::commands::matching::has;
 use crate::commands::operations::Operation;
+use crate::commands::picking::Choice;
 use crate::commands::single::Single;
 use crate::commands::table::{
     Verb, commands, most_of, name_of, needed_of, options_of, takes_value,
@@ -620,24 +621,72 @@ fn help_command<'a>(operands: &[&'a str]) -> Result<Command<'a>, Misuse<'a>>
     }
 }
 
+/// The field by which lines are picked, by the value of `--field`, whether `--any` is given, and the value of
+/// `--separator`.
+fn choice_by<'a>(
+    number: Option<&'a str>,
+    any: bool,
+    separator: Option<&'a str>,
+) -> Result<Choice<'a>, Misuse<'a>>
+    ensures { MatchResult result (λ choice. choice_by (given number.entry) any (given separator.entry) ≡ Ok (choice_of choice))
+        (λ misuse. choice_by (given number.entry) any (given separator.entry) ≡ Err (misuse_line misuse)) }
+{
+    match (number, any, separator) {
+        (None, _, None) => Ok(Choice::First),
+        (None, _, Some(_)) => Err(Misuse {
+            word: "--separator",
+            why: Misfit::NoField,
+            command: "match",
+        }),
+        (Some(number), false, separator) => Ok(Choice::Field(number, separator)),
+        (Some(_), true, _) => Err(Misuse {
+            word: "--field",
+            why: Misfit::Anywhere,
+            command: "match",
+        }),
+    }
+}
+
+/// The same by the parts of a line.
+fn choice_in<'a>(parts: &'a Parts<'a>) -> Result<Choice<'a>, Misuse<'a>>
+    ensures { MatchResult result (λ choice. choice_in (parts_in parts.now) ≡ Ok (choice_of choice))
+        (λ misuse. choice_in (parts_in parts.now) ≡ Err (misuse_line misuse)) }
+{
+    let values = parts.values.as_slice();
+    let number = value_of(Verb::Match, "--field", values)?;
+    let separator = value_of(Verb::Match, "--separator", values)?;
+    choice_by(number, has(parts.options.as_slice(), "--any"), separator)
+}
+
 /// The command `match`, of several files where there is a third operand, and else of one or of the standard input.
-fn match_command<'a>(parts: &'a Parts<'a>) -> Command<'a>
-    ensures { request_of result ≡ match_request (parts_in parts.now) }
+fn match_by<'a>(choice: Choice<'a>, parts: &'a Parts<'a>) -> Command<'a>
+    ensures { request_of result ≡ match_by (choice_of choice.entry) (parts_in parts.now) (slice_get (parts_in parts.now).operands 2) }
 {
     let options = parts.options.as_slice();
     let operands = parts.operands.as_slice();
     match operands.get(2) {
         None => Command::Match(
+            choice,
             options,
             operand_or(operands, 0, ""),
             operand_or(operands, 1, "-"),
         ),
         Some(_) => Command::MatchEach(
+            choice,
             options,
             operand_or(operands, 0, ""),
             operands_from(operands, 1),
         ),
     }
+}
+
+/// The command `match` with the field by which it picks lines.
+fn match_command<'a>(parts: &'a Parts<'a>) -> Result<Command<'a>, Misuse<'a>>
+    ensures { MatchResult result (λ command. match_request (parts_in parts.now) ≡ Ok (request_of command))
+        (λ misuse. match_request (parts_in parts.now) ≡ Err (misuse_line misuse)) }
+{
+    let choice = choice_in(parts)?;
+    Ok(match_by(choice, parts))
 }
 
 /// The command with as many operands as it takes.
@@ -654,7 +703,7 @@ fn verb_command<'a>(verb: Verb, parts: &'a Parts<'a>) -> Result<Command<'a>, Mis
         Verb::Which => {
             Ok(Command::Which(operand_or(operands, 0, ""), operands_from(operands, 1)))
         }
-        Verb::Match => Ok(match_command(parts)),
+        Verb::Match => match_command(parts),
         Verb::Look => Ok(Command::Look(operand_or(operands, 0, ""), operand_or(operands, 1, "-"))),
         Verb::Compile => Ok(Command::Compile(
             operand_or(operands, 0, ""),

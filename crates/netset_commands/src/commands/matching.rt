@@ -1,10 +1,11 @@
-//! The command `match`: the lines of files whose first field lies in a list, or that have an address of it.
+//! The command `match`: the lines of files of which a field lies in a list, or that have an address of it.
 ghost use Rattle.std.specs.Prelude.{◌≡◌, ◌<◌, ◌++◌, [], ◌∷◌, codes, true, false, not, if◌then◌else◌, map, IfOk, IfErr, IfSome, None};
 ghost use Rattle.std.specs.Bool.{Decides};
 ghost use Rattle.cidr_io.specs.Lines.{MayFail as NoLineFails};
 ghost use Rattle.cidr_io.specs.Writing.{Writes};
 ghost use Rattle.cidr_io.specs.Collecting.{Collects};
 ghost use Rattle.netset_commands.specs.Causes.{Cause, FileMayFail, TextFails};
+ghost use Rattle.netset_commands.specs.Command.{choice_of};
 ghost use Rattle.netset_commands.specs.Commands.{Match, MatchEach};
 ghost use Rattle.netset_commands.specs.Gathering.{Finishes, IsCounted, IsDone, IsNotReadFurther, NotesLong, Stops, Streams, StreamsEach, StreamsFile, GathersPart, label_of, lines_of_part, rest_written, told_behind};
 ghost use Rattle.netset_commands.specs.Matching.{Picks, PicksByField, either, has, line_written, passed_over, written_of};
@@ -15,6 +16,7 @@ ghost use Rattle.netset_commands.specs.declared.output.answers.Verdict.TheVarian
 ghost use Rattle.cidr_lists.specs.Printing.{line as line_of};
 ghost use Rattle.cidr_lists.specs.Sets.{IsInSets};
 
+use crate::commands::picking::{Choice, column_of};
 use crate::errors::{CommandError, Reason};
 use crate::input::files::Sources;
 use crate::input::several::read_addresses;
@@ -25,8 +27,9 @@ use cidr_io::lines::{LineReader, ReadError, is_too_long};
 use cidr_io::memory::Memory;
 use cidr_io::sink::{OutputFailed, Sink};
 use cidr_io::source::Source;
+use cidr_lists::columns::Column;
 use cidr_lists::errors::LineError;
-use cidr_lists::fields::first_network;
+use cidr_lists::fields::network_at;
 use cidr_lists::sets::Sets;
 use itoa::Buffer;
 
@@ -66,6 +69,7 @@ fn written_of(options: &[&str]) -> Written
 struct Matcher<'a> {
     sets: &'a Sets,
     anywhere: bool,
+    column: Column,
     inverted: bool,
     written: Written,
     /// The name in front of what is written of a file that is not the only one.
@@ -73,8 +77,9 @@ struct Matcher<'a> {
 }
 
 /// The matcher of these options.
-fn matcher_of<'a>(sets: &'a Sets, options: &[&str]) -> Matcher<'a>
+fn matcher_of<'a>(sets: &'a Sets, column: Column, options: &[&str]) -> Matcher<'a>
     ensures sets { result.sets.now ≡ sets.now }
+    ensures column { result.column ≡ column }
     ensures anywhere { result.anywhere ≡ has (codes "--any") (map (λ w. w.now) options.now) }
     ensures inverted { result.inverted ≡ has (codes "-v") (map (λ w. w.now) options.now) }
     ensures written { result.written ≡ written_of (map (λ w. w.now) options.now) }
@@ -83,6 +88,7 @@ fn matcher_of<'a>(sets: &'a Sets, options: &[&str]) -> Matcher<'a>
     Matcher {
         sets,
         anywhere: has(options, "--any"),
+        column,
         inverted: has(options, "-v"),
         written: written_of(options),
         name: None,
@@ -90,18 +96,18 @@ fn matcher_of<'a>(sets: &'a Sets, options: &[&str]) -> Matcher<'a>
 }
 
 impl Matcher<'_> {
-    /// Whether a line is picked by its first field.
+    /// Whether a line is picked by its field.
     fn picks_by_field(&self, line: &[u8]) -> Result<bool, LineError>
-        ensures { PicksByField (IsInSets self.now.sets.now) self.now.inverted line.now result }
+        ensures { PicksByField self.now.column (IsInSets self.now.sets.now) self.now.inverted line.now result }
     {
-        let network = first_network(line)?;
+        let network = network_at(self.column, line)?;
         let lies = self.sets.have(&network);
         Ok(is_picked(self.inverted, lies))
     }
 
     /// Whether a line is picked.
     fn picks(&self, line: &[u8]) -> Result<bool, LineError>
-        ensures { Picks self.now.anywhere (IsInSets self.now.sets.now) self.now.inverted line.now result }
+        ensures { Picks self.now.anywhere self.now.column (IsInSets self.now.sets.now) self.now.inverted line.now result }
     {
         if is_too_long(line) {
             return passed_over(self.anywhere);
@@ -242,7 +248,7 @@ impl Gathered {
         out: &mut S,
     ) -> Result<(), CommandError<'a>>
         requires { self.old.count < number }
-        ensures { GathersPart (Picks matcher.now.anywhere (IsInSets matcher.now.sets.now) matcher.now.inverted)
+        ensures { GathersPart (Picks matcher.now.anywhere matcher.now.column (IsInSets matcher.now.sets.now) matcher.now.inverted)
             (label_of matcher.now.name) matcher.now.written file.now number part.now has_more (S.state out.old) (S.state out.new)
             self.old self.new result }
     {
@@ -372,7 +378,7 @@ fn stream<'a, M: Memory, R: Source + Drop, S: Sink>(
     reader: &mut LineReader<R>,
     out: &mut S,
 ) -> Result<Verdict, CommandError<'a>>
-    ensures streams { Streams (Picks matcher.now.anywhere (IsInSets matcher.now.sets.now) matcher.now.inverted)
+    ensures streams { Streams (Picks matcher.now.anywhere matcher.now.column (IsInSets matcher.now.sets.now) matcher.now.inverted)
         (label_of matcher.now.name) matcher.now.written file.now reader.old.left (S.state out.old) (S.state out.new) result }
     ensures cause { IfErr result (Cause (λ name. (name ≡ file.now) × TextFails reader.old.left) (M.refused memory.new)) }
 {
@@ -409,7 +415,7 @@ fn match_file<'a, M: Memory, F: Sources, O: Sink>(
     file: &'a str,
     out: &mut O,
 ) -> Result<Verdict, CommandError<'a>>
-    ensures streams { StreamsFile (Picks matcher.now.anywhere (IsInSets matcher.now.sets.now) matcher.now.inverted)
+    ensures streams { StreamsFile (Picks matcher.now.anywhere matcher.now.column (IsInSets matcher.now.sets.now) matcher.now.inverted)
         (label_of matcher.now.name) matcher.now.written file.now (F.contents sources.now file.now) (O.state out.old) (O.state out.new) result }
     ensures cause { IfErr result (Cause (FileMayFail (F.contents sources.now)) (M.refused memory.new)) }
 {
@@ -427,17 +433,19 @@ fn match_file<'a, M: Memory, F: Sources, O: Sink>(
 pub fn matching<'a, M: Memory, F: Sources, O: Sink>(
     memory: &mut M,
     sources: &F,
+    choice: Choice<'a>,
     options: &[&str],
     list: &'a str,
     file: &'a str,
     out: &mut O,
 ) -> Result<Verdict, CommandError<'a>>
-    ensures answers { AnswersRequest (F.contents sources.now) (Match (map (λ w. w.now) options.now) list.now file.now)
+    ensures answers { AnswersRequest (F.contents sources.now) (Match (choice_of choice.entry) (map (λ w. w.now) options.now) list.now file.now)
         (O.state out.old) (O.state out.new) result }
     ensures cause { IfErr result (Cause (FileMayFail (F.contents sources.now)) (M.refused memory.new)) }
 {
+    let column = column_of(choice)?;
     let sets = read_addresses(memory, sources, list)?;
-    let matcher = matcher_of(&sets, options);
+    let matcher = matcher_of(&sets, column, options);
     match_file(memory, sources, &matcher, file, out)
 }
 
@@ -467,7 +475,7 @@ fn match_files<'a, M: Memory, F: Sources, O: Sink>(
     files: &[&'a str],
     out: &mut O,
 ) -> Result<Verdict, CommandError<'a>>
-    ensures streams { StreamsEach (F.contents sources.now) (Picks matcher.now.anywhere (IsInSets matcher.now.sets.now) matcher.now.inverted)
+    ensures streams { StreamsEach (F.contents sources.now) (Picks matcher.now.anywhere matcher.now.column (IsInSets matcher.now.sets.now) matcher.now.inverted)
         matcher.now.written (map (λ file. file.now) files.now) (O.state out.old) (O.state out.new) result }
     ensures cause { IfErr result (Cause (FileMayFail (F.contents sources.now)) (M.refused memory.new)) }
 {
@@ -479,6 +487,7 @@ fn match_files<'a, M: Memory, F: Sources, O: Sink>(
         let named = Matcher {
             sets: matcher.sets,
             anywhere: matcher.anywhere,
+            column: matcher.column,
             inverted: matcher.inverted,
             written: matcher.written,
             name: Some(*file),
@@ -496,17 +505,19 @@ fn match_files<'a, M: Memory, F: Sources, O: Sink>(
 pub fn match_each<'a, M: Memory, F: Sources, O: Sink>(
     memory: &mut M,
     sources: &F,
+    choice: Choice<'a>,
     options: &[&str],
     list: &'a str,
     files: &[&'a str],
     out: &mut O,
 ) -> Result<Verdict, CommandError<'a>>
     ensures answers { AnswersRequest (F.contents sources.now)
-        (MatchEach (map (λ w. w.now) options.now) list.now (map (λ file. file.now) files.now))
+        (MatchEach (choice_of choice.entry) (map (λ w. w.now) options.now) list.now (map (λ file. file.now) files.now))
         (O.state out.old) (O.state out.new) result }
     ensures cause { IfErr result (Cause (FileMayFail (F.contents sources.now)) (M.refused memory.new)) }
 {
+    let column = column_of(choice)?;
     let sets = read_addresses(memory, sources, list)?;
-    let matcher = matcher_of(&sets, options);
+    let matcher = matcher_of(&sets, column, options);
     match_files(memory, sources, &matcher, files, out)
 }

@@ -82,7 +82,7 @@ const WHICH: &str =
     "netset which ADDR [FILE..]\n                        the lines of the lists that have an address, which may be hosts too,\n                        and their networks\n";
 
 const MATCH: &str =
-    "netset match [--any] [-v] [-c] [-q] LIST [FILE..]\n                        the lines of FILE whose first field lies in LIST, or with --any those\n                        that have an address of LIST anywhere; -v all the other lines,\n                        -c only their number, -q only the status; of more than one file each\n                        line behind its name and a colon\n";
+    "netset match [--any] [--field N] [--separator C] [-v] [-c] [-q] LIST [FILE..]\n                        the lines of FILE whose first field lies in LIST, --field N whose\n                        field N does, --separator C of fields with byte C between them and\n                        not white space; --any the lines that have an address of LIST\n                        anywhere; -v all the other lines, -c only their number, -q only the\n                        status; of more than one file each line behind its name and a colon\n";
 
 const LOOK: &str =
     "netset look TABLE [FILE]\n                        the longest network of each address of FILE in the lines\n                        NET VALUE of TABLE, and its value\n";
@@ -196,7 +196,7 @@ pub fn options_of(command: Verb) -> &'static [&'static str]
 }
 
 /// Whether a command has an option with a value: the network of `not --in`, how networks are written, how many networks
-/// `free --count` tells, or where the answer is written.
+/// `free --count` tells, the field by which `match` picks, or where the answer is written.
 pub fn takes_value(command: Verb, option: &str) -> bool
     ensures { result ≡ takes_value command option.now }
 {
@@ -214,6 +214,7 @@ pub fn takes_value(command: Verb, option: &str) -> bool
         }
         Verb::Free => option == "--count" || option == "-o",
         Verb::Diff | Verb::Split | Verb::Describe(_) => option == "-o",
+        Verb::Match => option == "--field" || option == "--separator",
         _ => false,
     }
 }

@@ -28,6 +28,8 @@ fn argument_message(error: &ArgumentError) -> ArrayString<99>
         ArgumentError::Length => text.push_str("no prefix length inside the network"),
         ArgumentError::Index => text.push_str("no index below 2^128"),
         ArgumentError::Count => text.push_str("no count below 2^64"),
+        ArgumentError::Field => text.push_str("no number of a field, from 1 on"),
+        ArgumentError::Separator => text.push_str("more or less than one byte"),
         ArgumentError::NoAddress => text.push_str("no address"),
         ArgumentError::AddressOrFile => text.push_str("no address, and no file that can be read"),
         ArgumentError::Operand => {
@@ -249,6 +251,8 @@ fn misfit_text(why: Misfit) -> ArrayString<128>
             ": no such format, but plain, json, nft, ipset, iptables, cisco, juniper and bird, see: netset help ",
         ),
         Misfit::NotPlain => text.push_str(": for the format plain alone, see: netset help "),
+        Misfit::NoField => text.push_str(": only with --field, see: netset help "),
+        Misfit::Anywhere => text.push_str(": not with --any, see: netset help "),
         Misfit::NotStyled => {
             text.push_str(": not with --format, --prefix or --suffix, see: netset help ")
         }

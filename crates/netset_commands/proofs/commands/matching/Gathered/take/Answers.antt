@@ -6,17 +6,17 @@ use Rattle.netset_commands.proofs.commands.matching.Gathered.take.Goals as goal
 
 pub returns-then-not-is_line : goal.returns-then-not-is_line
 returns-then-not-is_line g c =
-    takes_empty (Picks c.args.matcher.now.anywhere (IsInSets c.args.matcher.now.sets.now) c.args.matcher.now.inverted) (label_of c.args.matcher.now.name) c.args.matcher.now.written c.args.file.now c.args.number c.args.part.now
+    takes_empty (Picks c.args.matcher.now.anywhere c.args.matcher.now.column (IsInSets c.args.matcher.now.sets.now) c.args.matcher.now.inverted) (label_of c.args.matcher.now.name) c.args.matcher.now.written c.args.file.now c.args.number c.args.part.now
     c.args.has_more (g.S.Sink.state c.args.out.now) c.args.self.now (c.is_line.ensures.none c.if-not-is_line.true)
 
 pub returns-in-Ok : goal.returns-in-Ok
 returns-in-Ok g c =
-    takes_picked (Picks c.args.matcher.now.anywhere (IsInSets c.args.matcher.now.sets.now) c.args.matcher.now.inverted) (label_of c.args.matcher.now.name) c.args.matcher.now.written c.args.file.now c.args.number c.args.part.now
+    takes_picked (Picks c.args.matcher.now.anywhere c.args.matcher.now.column (IsInSets c.args.matcher.now.sets.now) c.args.matcher.now.inverted) (label_of c.args.matcher.now.name) c.args.matcher.now.written c.args.file.now c.args.number c.args.part.now
     c.args.has_more (g.S.Sink.state c.args.out.now) (g.S.Sink.state c.push.new.out) c.args.self.now c.push.new.self (c.is_line.ensures.line c.if-not-is_line.false)
     (rw c.in-Ok-true.field-0-test at c.in-Ok-true.ensures) c.in-Ok.ensures.count c.in-Ok.ensures.collects
 
 pub returns-in-Ok-false : goal.returns-in-Ok-false
 returns-in-Ok-false g c =
-    takes_passed (Picks c.args.matcher.now.anywhere (IsInSets c.args.matcher.now.sets.now) c.args.matcher.now.inverted) (label_of c.args.matcher.now.name) c.args.matcher.now.written c.args.file.now c.args.number c.args.part.now
+    takes_passed (Picks c.args.matcher.now.anywhere c.args.matcher.now.column (IsInSets c.args.matcher.now.sets.now) c.args.matcher.now.inverted) (label_of c.args.matcher.now.name) c.args.matcher.now.written c.args.file.now c.args.number c.args.part.now
     c.args.has_more (g.S.Sink.state c.args.out.now) c.args.self.now (c.is_line.ensures.line c.if-not-is_line.false)
     (rw c.in-Ok-false.field-0-test at c.in-Ok-false.ensures)
