@@ -25,7 +25,7 @@ use Rattle.cidr_table.proofs.MapLaws.{contains_first, contains_later}
 use Rattle.cidr_lists.specs.Formats.{bare, json_layout, laid_out, members, network_by, plain_layout, row, styled}
 use Rattle.cidr_lists.specs.Lists.{is_line_feed, text_by}
 use Rattle.cidr_lists.specs.Printing.{line}
-use Rattle.cidr_lists.specs.ReadBack.{AreOfFamilies, SaysJust, TellsJust, TellsNetwork, quote}
+use Rattle.cidr_lists.specs.ReadBack.{AreOfFamilies, SaysJust, TellsJust, ObjectTells, quote}
 use Rattle.cidr_lists.specs.Sets.{printed_networks, printed_sets}
 use Rattle.cidr_lists.specs.declared.formats.Format.TheVariants as format
 use Rattle.cidr_lists.specs.declared.lines.HostBits.{HostBits}
@@ -174,7 +174,7 @@ module _ (family : Family) (behind : List ℕ) where
   json_family [] = refl
   json_family (p ∷ ps) = joined_lines object p ps
 
-  object_tells : (p : List Bool) → length p ≤ width_of family → TellsNetwork family (object p) p
+  object_tells : (p : List Bool) → length p ≤ width_of family → ObjectTells family (object p) p
   object_tells p fits =
       let w = width_of family in
       let first = address_text family (first_of w p) in
@@ -210,7 +210,7 @@ module _ (family : Family) (behind : List ℕ) where
       Lacks-append 10 front (members (plain_text family p) first last (length p) ++ behind) (lacks_by 10 front refl)
       (Lacks-append 10 (members (plain_text family p) first last (length p)) behind members_lack none)
 
-  objects_tell : (ps : List (List Bool)) → AreNetworks (width_of family) ps → AllZip (TellsNetwork family) (map object ps) ps
+  objects_tell : (ps : List (List Bool)) → AreNetworks (width_of family) ps → AllZip (ObjectTells family) (map object ps) ps
   objects_tell [] fit = tt
   objects_tell (p ∷ ps) fit = (object_tells p (fit p (contains_first p ps)), objects_tell ps (λ q c. fit q (contains_later p q ps c)))
 

@@ -32,11 +32,11 @@ abbrev pub quote : ℕ
 quote = 34
 
 -- the first member of the object is "network", and its string, which ends at the next quote, represents this network
-abbrev pub TellsNetwork : Family → List ℕ → List Bool → Type 0
-TellsNetwork family object p = (text : List ℕ) × (rest : List ℕ) × (object ≡ codes "{\"network\":\"" ++ (text ++ quote ∷ rest))
+abbrev pub ObjectTells : Family → List ℕ → List Bool → Type 0
+ObjectTells family object p = (text : List ℕ) × (rest : List ℕ) × (object ≡ codes "{\"network\":\"" ++ (text ++ quote ∷ rest))
     × Lacks quote text × IsNetworkText family text p
 
 -- the lines of a text are such objects, IPv4 before IPv6, and behind the last line feed there is nothing
 abbrev pub TellsJust : List ℕ → (Family → List (List Bool)) → Type 0
 TellsJust text networks = (four : List (List ℕ)) × (six : List (List ℕ)) × (slice_split is_line_feed text ≡ four ++ (six ++ [] ∷ []))
-    × AllZip (TellsNetwork Ipv4) four (networks Ipv4) × AllZip (TellsNetwork Ipv6) six (networks Ipv6)
+    × AllZip (ObjectTells Ipv4) four (networks Ipv4) × AllZip (ObjectTells Ipv6) six (networks Ipv6)

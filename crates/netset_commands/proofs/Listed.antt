@@ -19,8 +19,8 @@ use Rattle.cidr_lists.specs.declared.lists.Lists.{Lists}
 use Rattle.cidr_lists.specs.declared.sets.Sets.{Sets}
 use Rattle.cidr_sets.specs.model.Sets.{IsSetOf}
 use Rattle.cidr_table.specs.model.Cover.{Covers}
-use Rattle.netset_commands.specs.Answering.{AreAddresses, IsFileError}
-use Rattle.netset_commands.specs.Commands.{HasRow}
+use Rattle.netset_commands.specs.Answering.{HaveListAddresses, IsFileError}
+use Rattle.netset_commands.specs.Commands.{IsInRow}
 use Rattle.netset_commands.specs.Compiled.{HasTable, begins_file}
 use Rattle.netset_commands.specs.Gathering.{IsNotReadFurther}
 use Rattle.netset_commands.specs.LookUps.{unread}
@@ -125,7 +125,7 @@ pub addresses_had : (table : Table) (old new : Lists) (sets : Sets) → old.v4.i
     → map (λ (p : List Bool). p) new.v4.items ≡ map (λ (p : List Bool). p) old.v4.items ++ prefixes 32 words (parts_in table.ipv4)
     → map (λ (p : List Bool). p) new.v6.items ≡ map (λ (p : List Bool). p) old.v6.items ++ prefixes 128 wide_words (parts_in table.ipv6)
     → ((family : Family) → IsSetOf 129 (Covers (listed new family)) (networks_of sets family))
-    → (family : Family) → IsSetOf 129 (HasRow (by_family (rows_of table)) family) (networks_of sets family)
+    → (family : Family) → IsSetOf 129 (IsInRow (by_family (rows_of table)) family) (networks_of sets family)
 addresses_had table old new sets four six more4 more6 set family =
     subst (λ (k : List (List Bool)). IsSetOf 129 (Covers k) (networks_of sets family))
     (listed_rows table old new four six (same_bits old.v4.items new.v4.items (prefixes 32 words (parts_in table.ipv4)) more4)
@@ -133,5 +133,5 @@ addresses_had table old new sets four six more4 more6 set family =
 
 -- the sets have the addresses of the file
 pub are_addresses : (contents : Option Text) (bytes : List ℕ) (table : Family → List (List Bool × List ℕ)) (sets : Sets) → AreFileBytes contents bytes → HasTable table bytes
-    → ((family : Family) → IsSetOf 129 (HasRow table family) (networks_of sets family)) → (text : Text) → contents ≡ Some text → AreAddresses text sets
+    → ((family : Family) → IsSetOf 129 (IsInRow table family) (networks_of sets family)) → (text : Text) → contents ≡ Some text → HaveListAddresses text sets
 are_addresses contents bytes table sets are has set text is = inr (table, subst (HasTable table) (are text is).1 has, set)

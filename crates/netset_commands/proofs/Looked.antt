@@ -20,7 +20,7 @@ use Rattle.cidr_table.specs.model.Prefixes.{IsLookedUp}
 use Rattle.cidr_io.specs.Collecting.{Collects}
 use Rattle.netset_commands.specs.Commands.{Look}
 use Rattle.cidr_lists.specs.Lists.{IsTooLong, Text, lines_of}
-use Rattle.cidr_lists.specs.Fields.{IsBadLine, IsSplit}
+use Rattle.cidr_lists.specs.Fields.{IsBadLine}
 use Rattle.cidr_lists.specs.LookUps.{LineLooks, LookUp, found_line, is_found, look_line, printed_row}
 use Rattle.netset_commands.specs.Look.{TellsFound}
 use Rattle.netset_commands.specs.LookUps.{AreFirstSaid, AreFound, AskLooks, AsksLines, EndsReading, IsFoundOf, LooksAll, LooksEach, LooksLines, LooksOne, LooksUp, PushesFound, answer_of, answer_row, unread, verdict_of}

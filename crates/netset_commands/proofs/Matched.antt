@@ -12,11 +12,11 @@ use Rattle.cidr.specs.declared.family.Family.{Family}
 use Rattle.cidr_io.specs.Writing.{Answered, State, Whole, Part, Writes}
 use Rattle.cidr_io.specs.declared.sink.OutputFailed.{OutputFailed}
 use Rattle.cidr_io.proofs.Chains.{answered, part_none, then_writes}
-use Rattle.netset_commands.specs.Answering.{AreAddresses}
+use Rattle.netset_commands.specs.Answering.{HaveListAddresses}
 use Rattle.cidr_io.specs.Collecting.{Collects, Holds}
 use Rattle.netset_commands.specs.Causes.{TextFails}
 use Rattle.netset_commands.specs.Combining.{Turned}
-use Rattle.netset_commands.specs.Commands.{HasRow, HoldsOf, Match, Says}
+use Rattle.netset_commands.specs.Commands.{IsInRow, HoldsOf, Match, Says}
 use Rattle.netset_commands.specs.Gathering.{Finishes, IsCounted, IsDone, IsLost, IsNotReadFurther, NotesLong, Stops, Streams, StreamsFile, GathersPart, ended_by, lines_of_part, rest_written, told_behind}
 use Rattle.cidr_lists.specs.Lists.{IsTooLong, Text, is_line_feed, kept_of, lines_of}
 use Rattle.cidr_lists.specs.Within.{AreWithin, HasOneIn, LiesIn}
@@ -623,10 +623,10 @@ known_cut P Q f label what known text answer e is h = cut_same P Q f label what 
 -- what follows of the addresses of a list
 pub of_list : (text : Text) (P Q : (Family → List Bool → Type 0) → Type 0) → ((IsIn : Family → List Bool → Type 0) → P IsIn → Q IsIn) → HoldsOf text P → HoldsOf text Q
 of_list text P Q f (inl (said, says, h)) = inl (said, says, f (Says said) h)
-of_list text P Q f (inr (table, has, h)) = inr (table, has, f (HasRow table) h)
+of_list text P Q f (inr (table, has, h)) = inr (table, has, f (IsInRow table) h)
 
 matched : (contents : List ℕ → Option Text) (choice : Choice) (column : Column) (options : List (List ℕ)) (list file : List ℕ) (sets : Sets) (known : Option (List ℕ)) (s t : State) (r : Result Verdict CommandError)
-    → IsChosen choice column → ((text : Text) → contents list ≡ Some text → AreAddresses text sets) → ((text : Text) → contents file ≡ Some text → known ≡ Some text.bytes)
+    → IsChosen choice column → ((text : Text) → contents list ≡ Some text → HaveListAddresses text sets) → ((text : Text) → contents file ≡ Some text → known ≡ Some text.bytes)
     → Streams (Picks (has (codes "--any") options) column (IsInSets sets) (has (codes "-v") options)) [] (written_of options) file known s t r → AnswersRequest contents (Match choice options list file) s t r
 matched contents choice column options list file sets known s t r chosen reads tells (inl (answer, verdict, w, match, written, is)) =
     inl (inr (
@@ -671,7 +671,7 @@ unopened contents choice column options list file s error.Output chosen h = absu
 unopened contents choice column options list file s (error.File name why) chosen h = absurd h
 
 pub matched_file : (contents : List ℕ → Option Text) (choice : Choice) (column : Column) (options : List (List ℕ)) (list file : List ℕ) (sets : Sets) (s t : State) (r : Result Verdict CommandError)
-    → IsChosen choice column → ((text : Text) → contents list ≡ Some text → AreAddresses text sets)
+    → IsChosen choice column → ((text : Text) → contents list ≡ Some text → HaveListAddresses text sets)
     → StreamsFile (Picks (has (codes "--any") options) column (IsInSets sets) (has (codes "-v") options)) [] (written_of options) file (contents file) s t r
     → AnswersRequest contents (Match choice options list file) s t r
 matched_file contents choice column options list file sets s t r chosen reads (inl (same, e, is, of)) = rw (same, is) (unopened contents choice column options list file s e chosen of)

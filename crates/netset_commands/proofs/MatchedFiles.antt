@@ -10,7 +10,7 @@ use Rattle.cidr_lists.specs.Sets.{IsInSets}
 use Rattle.cidr_lists.specs.declared.columns.Column.{Column}
 use Rattle.cidr_lists.specs.declared.errors.LineError.{LineError}
 use Rattle.cidr_lists.specs.declared.sets.Sets.{Sets}
-use Rattle.netset_commands.specs.Answering.{AreAddresses}
+use Rattle.netset_commands.specs.Answering.{HaveListAddresses}
 use Rattle.netset_commands.specs.Commands.{MatchEach}
 use Rattle.netset_commands.specs.Gathering.{AreStreamed, IsNotReadFurther, StreamsEach, StreamsFile}
 use Rattle.netset_commands.specs.Matching.{AreMatched, IsEndedBy, IsEndedIn, IsMatch, IsMatchOfEach, Picks, either, file_label, has, written_of}
@@ -274,7 +274,7 @@ ended_same P Q f contents what before file answer e (first, rest, verdict, are, 
 )
 
 pub matched_each : (contents : List ℕ → Option Text) (choice : Choice) (column : Column) (options : List (List ℕ)) (list : List ℕ) (files : List (List ℕ)) (sets : Sets) (s t : State) (r : Result Verdict CommandError)
-    → IsChosen choice column → ((text : Text) → contents list ≡ Some text → AreAddresses text sets)
+    → IsChosen choice column → ((text : Text) → contents list ≡ Some text → HaveListAddresses text sets)
     → StreamsEach contents (Picks (has (codes "--any") options) column (IsInSets sets) (has (codes "-v") options)) (written_of options) files s t r
     → AnswersRequest contents (MatchEach choice options list files) s t r
 matched_each contents choice column options list files sets s t r chosen reads (inl (answer, verdict, w, match, written, is)) =

@@ -63,12 +63,12 @@ GivesList contents name (Ok (Stored bytes)) = AreFileBytes contents bytes.items
 GivesList contents name (Err e) = IsNotGiven (IsFileError contents name) contents name e
 
 -- the sets have the addresses of a list, or of the rows of a file of look-ups
-abbrev pub AreAddresses : Text → Sets → Type 0
-AreAddresses text sets = HoldsOf text (λ IsIn. (family : Family) → IsSetOf 129 (IsIn family) (networks_of sets family))
+abbrev pub HaveListAddresses : Text → Sets → Type 0
+HaveListAddresses text sets = HoldsOf text (λ IsIn. (family : Family) → IsSetOf 129 (IsIn family) (networks_of sets family))
 
 -- the addresses of a file, or why it is not read
 abbrev pub ReadsAddresses : Option Text → List ℕ → Result Sets CommandError → Type 0
-ReadsAddresses contents name (Ok sets) = (text : Text) → contents ≡ Some text → AreAddresses text sets
+ReadsAddresses contents name (Ok sets) = (text : Text) → contents ≡ Some text → HaveListAddresses text sets
 ReadsAddresses contents name (Err e) = IsNotGiven (IsFileError contents name) contents name e
 
 -- each list of some files has the addresses of its set

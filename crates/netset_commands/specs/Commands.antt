@@ -173,8 +173,8 @@ IsFreeOfUsed contents n most used answer verdict pool = (texts : List Text) → 
     → (said : List (List (List IpCidr))) × AllZip ListSays texts said × IsFree n most (pool ∷ said) answer verdict
 
 -- the networks of n bits inside a network, or inside the networks of a list
-abbrev pub IsSplit : (List ℕ → Option Text) → List ℕ → ℕ → List ℕ → Verdict → Type 0
-IsSplit contents operand n answer verdict =
+abbrev pub IsSplitInto : (List ℕ → Option Text) → List ℕ → ℕ → List ℕ → Verdict → Type 0
+IsSplitInto contents operand n answer verdict =
     ((network : IpCidr) × IsIpNetworkText operand network × ¬ (HasNone network n) × (answer ≡ split_text network n) × (verdict ≡ Yes))
     ⊎ (IsNoNetworkText operand × (n ≤ 128) × OfList (contents operand) (λ said. IsFree n None (said ∷ []) answer verdict))
 
@@ -189,13 +189,13 @@ IsDescription contents what operand answer = IsOfLength what operand answer
     ⊎ (IsNoLength what operand × OfOperand contents operand (λ said. IsTold (told_of what) said answer))
 
 -- the address is in the network of a row
-abbrev pub HasRow : (Family → List (List Bool × List ℕ)) → Family → List Bool → Type 0
-HasRow table family a = Covers (keys_of (table family)) a
+abbrev pub IsInRow : (Family → List (List Bool × List ℕ)) → Family → List Bool → Type 0
+IsInRow table family a = Covers (keys_of (table family)) a
 
 -- this holds of the addresses of a list: those of the networks of its lines, or of the rows of a file of look-ups
 abbrev pub HoldsOf : Text → ((Family → List Bool → Type 0) → Type 0) → Type 0
 HoldsOf text P = ((said : List (List IpCidr)) × ListSays text said × P (Says said))
-    ⊎ ((table : Family → List (List Bool × List ℕ)) × HasTable table text.bytes × P (HasRow table))
+    ⊎ ((table : Family → List (List Bool × List ℕ)) × HasTable table text.bytes × P (IsInRow table))
 
 -- the lines of a file that a list picks, where no line that was read is too long
 abbrev pub IsMatchOf : Column → List (List ℕ) → Text → List ℕ → List ℕ → Verdict → Type 0
@@ -218,7 +218,7 @@ IsAnswer contents (Diff old new) answer verdict =
     (before after : Text) → contents old ≡ Some before → contents new ≡ Some after → IsDiff before after answer verdict
 IsAnswer contents (Free extent pool len used) answer verdict = (n : ℕ) × IsNumber len n × (n ≤ 128) × (most : Option ℕ) × IsMost extent most
     × OfOperand contents pool (IsFreeOfUsed contents n most used answer verdict)
-IsAnswer contents (Split operand len) answer verdict = (n : ℕ) × IsNumber len n × IsSplit contents operand n answer verdict
+IsAnswer contents (Split operand len) answer verdict = (n : ℕ) × IsNumber len n × IsSplitInto contents operand n answer verdict
 IsAnswer contents (Check files) answer verdict =
     (texts : List Text) → AreTold contents (read_files files) texts → IsCheck (read_files files) texts answer verdict
 IsAnswer contents (Which text files) answer verdict = (address : IpAddr) × IsIpText text address

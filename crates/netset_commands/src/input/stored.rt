@@ -9,7 +9,7 @@ ghost use Rattle.cidr_arrays.specs.Arrays.{prefix_bits};
 ghost use Rattle.cidr_lists.specs.Sets.{networks_of};
 ghost use Rattle.cidr_sets.specs.model.Sets.{IsSetOf};
 ghost use Rattle.netset_commands.specs.Causes.{Cause};
-ghost use Rattle.netset_commands.specs.Commands.{HasRow};
+ghost use Rattle.netset_commands.specs.Commands.{IsInRow};
 ghost use Rattle.netset_commands.specs.Compiled.{HasTable};
 ghost use Rattle.netset_commands.specs.LookUps.{LooksUp};
 ghost use Rattle.netset_commands.specs.Stored.{ChecksFile, IsFaultTold, by_family, rows_in, told_in, told_of};
@@ -79,7 +79,7 @@ impl<'a> Stored<'a> {
     /// The addresses of the networks of its rows. The error is that there is no memory.
     pub fn addresses(&self, alloc: Global) -> Result<Sets, AllocError>
         ensures { IfOk result (λ sets. (family : AddressFamily)
-            → IsSetOf 129 (HasRow (by_family self.now) family) (networks_of sets family)) }
+            → IsSetOf 129 (IsInRow (by_family self.now) family) (networks_of sets family)) }
     {
         let mut lists = Lists::new(alloc);
         push_networks::<Ipv4Bytes, Ipv4Cidr>(&self.tables.ipv4, &mut lists.v4)?;
