@@ -12,7 +12,10 @@ MESSAGE_ROOM = 100
 MASK_ROOM = 80
 NAME_ROOM = 73
 FAULT_ROOM = 74
+LINE_ROOM = 144
 BYTES_ROOM = 17
+HOST_BITS_REFUSED = 0
+HOST_BITS_CLEARED = 1
 NO_INDEX = 0xFFFFFFFFFFFFFFFF
 NO_ROW = 0xFFFFFFFF
 
@@ -47,6 +50,9 @@ class Code(IntEnum):
     NO_SLASH = 24
     MASK = 25
     SCATTERED = 26
+    LINE_TOO_LONG = 27
+    TWO_FAMILIES = 28
+    REVERSED = 29
 
 
 class Purpose(IntEnum):
@@ -213,6 +219,17 @@ CALLS: dict[str, tuple[Any, list[Any]]] = {
     "read_masked_network": (c_uint32, [c_char_p, c_size_t, POINTER(Value)]),
     "read_reverse_name": (c_uint32, [c_char_p, c_size_t, POINTER(Value)]),
     "read_lines": (c_uint32, [c_char_p, c_size_t, c_void_p, c_size_t, POINTER(c_size_t)]),
+    "read_list": (c_uint32, [
+        c_char_p,
+        c_size_t,
+        c_uint32,
+        c_void_p,
+        c_size_t,
+        POINTER(c_size_t),
+        POINTER(c_uint64),
+        c_char_p,
+        c_size_t,
+    ]),
     "print_address": (c_size_t, [POINTER(Value), c_char_p, c_size_t]),
     "print_host": (c_size_t, [POINTER(Value), c_char_p, c_size_t]),
     "print_host_with_length": (c_size_t, [POINTER(Value), c_char_p, c_size_t]),
@@ -429,6 +446,7 @@ class Calls:
     read_masked_network: Callable[[Any, int, Any], int]
     read_reverse_name: Callable[[Any, int, Any], int]
     read_lines: Callable[[Any, int, Any, int, Any], int]
+    read_list: Callable[[Any, int, int, Any, int, Any, Any, Any, int], int]
     print_address: Callable[[Any, Any, int], int]
     print_host: Callable[[Any, Any, int], int]
     print_host_with_length: Callable[[Any, Any, int], int]

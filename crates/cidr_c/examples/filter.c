@@ -1,5 +1,6 @@
-/* filter LIST: writes those lines of standard input that are an address in one of the networks of the file LIST. What is
- * no address is told on standard error and left out. */
+/* filter LIST: writes those lines of standard input that are an address in one of the networks of the file LIST, which may
+ * have comments and ranges. What is no address is told on standard error and left out. */
+#include <inttypes.h>
 #include <pcidr.h>
 #include <stdio.h>
 #include <stdlib.h>
@@ -40,25 +41,44 @@ static size_t read_addresses(void) {
     return count;
 }
 
+/* The bytes of a file, and how many they are; NULL where it can't be read whole. */
+static char *read_file(const char *name, size_t *length) {
+    FILE *file = fopen(name, "rb");
+    if (!file) return NULL;
+    size_t room = 1 << 16, more = 0;
+    char *text = malloc(room);
+    for (*length = 0; text && (more = fread(text + *length, 1, room - *length, file)) > 0;) {
+        *length += more;
+        if (*length == room) {
+            char *larger = realloc(text, room *= 2);
+            if (!larger) free(text);
+            text = larger;
+        }
+    }
+    if (text && ferror(file)) free(text), text = NULL;
+    fclose(file);
+    return text;
+}
+
 int main(int argc, char **argv) {
-    FILE *list = argc == 2 ? fopen(argv[1], "r") : NULL;
+    size_t length, count = 0;
+    char *list = argc == 2 ? read_file(argv[1], &length) : NULL;
     if (!list) return fprintf(stderr, "usage: filter LIST\n"), 2;
     pcidr_value *networks = NULL;
-    size_t count = 0, room = 0;
-    while (next_line(list, lines[0])) {
-        if (count == room) {
-            room = 2 * room + 16;
-            networks = realloc(networks, room * sizeof *networks);
-            if (!networks) return fail("list", PCIDR_NO_MEMORY);
-        }
-        uint32_t code = pcidr_read_network(lines[0], strlen(lines[0]), &networks[count]);
-        if (code != PCIDR_OK) return fail(lines[0], code);
-        count++;
+    uint64_t line = 0;
+    char message[PCIDR_LINE_ROOM];
+    /* without room it tells how much there has to be */
+    uint32_t code = pcidr_read_list(list, length, PCIDR_HOST_BITS_REFUSED, NULL, 0, &count, &line, message, sizeof message);
+    if (code == PCIDR_NO_ROOM) {
+        networks = malloc(count * sizeof *networks);
+        if (!networks) return fail("list", PCIDR_NO_MEMORY);
+        code = pcidr_read_list(list, length, PCIDR_HOST_BITS_REFUSED, networks, count, &count, &line, message, sizeof message);
     }
-    fclose(list);
-
-    uint32_t code = pcidr_cover(networks, count, &count);
+    if (line != 0) return fprintf(stderr, "filter: %s:%" PRIu64 ": %s\n", argv[1], line, message), 2;
+    if (code == PCIDR_OK) code = pcidr_cover(networks, count, &count);
     if (code != PCIDR_OK) return fail("list", code);
+    free(list);
+
     for (size_t many; (many = read_addresses()) > 0;) {
         code = pcidr_contains_each(networks, count, addresses, many, held, many);
         if (code != PCIDR_OK) return fail("list", code);

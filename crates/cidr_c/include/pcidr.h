@@ -101,7 +101,10 @@ enum {
     PCIDR_NONE = 23,           /* there is no such network, address or number */
     PCIDR_NO_SLASH = 24,       /* of a network with a mask: there is no slash */
     PCIDR_MASK = 25,           /* what is after the last slash is no address of the family */
-    PCIDR_SCATTERED = 26       /* it is neither a network mask nor a host mask: its set bits are not all at one end */
+    PCIDR_SCATTERED = 26,      /* it is neither a network mask nor a host mask: its set bits are not all at one end */
+    PCIDR_LINE_TOO_LONG = 27,  /* a line of a list has more than 1 MiB */
+    PCIDR_TWO_FAMILIES = 28,   /* the ends of a range are of two families */
+    PCIDR_REVERSED = 29        /* the first address of a range is above the last one */
 };
 
 /* Room that is enough for any string of a value, and for any message, with the 0 behind it. */
@@ -112,6 +115,8 @@ enum {
 #define PCIDR_NAME_ROOM 73
 /* Room for what is wrong with a string, with the 0 behind it. */
 #define PCIDR_FAULT_ROOM 74
+/* Room for the message of a line in error, with the 0 behind it. */
+#define PCIDR_LINE_ROOM 144
 /* Room for the compact bytes of any value. */
 #define PCIDR_BYTES_ROOM 17
 
@@ -149,6 +154,28 @@ uint32_t pcidr_read_reverse_name(const char *text, size_t text_len, pcidr_value 
  * network. `count` becomes how many lines were read. PCIDR_NO_ROOM, where `out` is full before the text has ended; else
  * the error of line `count`, counted from 0. What `out` has behind `count` values stays. */
 uint32_t pcidr_read_lines(const char *text, size_t text_len, pcidr_value *out, size_t out_len, size_t *count);
+
+/* What is done with a set bit after the prefix of a network of a list: it is an error, or it is taken as unset. */
+#define PCIDR_HOST_BITS_REFUSED 0
+#define PCIDR_HOST_BITS_CLEARED 1
+
+/* Reads a list as the program `netset` does: a network, an address or a range, as 192.0.2.0-192.0.2.9, a line, with white
+ * space around it but none around the hyphen, and a comment behind it from # or ; on. A line may say nothing. Lines end
+ * in a line feed, or in CR and line feed, which the last one may lack. `host_bits` is one of the two above; any other
+ * number refuses set bits, too.
+ *
+ * PCIDR_OK, and `count` networks in `out`: those of IPv4 in the order of their lines, then those of IPv6; of a range the
+ * fewest that have its addresses, ascending, at most 62 in IPv4 and 254 in IPv6. What is behind them stays. `pcidr_cover`
+ * makes a set of them.
+ *
+ * Else the first error: of the first line that has one, LINE_TOO_LONG; NOT_UTF8; without a hyphen ADDRESS, LENGTH,
+ * LENGTH_TOO_LONG, HOST_PART; of a range NOT_ADDRESS, TWO_FAMILIES, REVERSED. Then `line` is the number of that line, from
+ * 1 on, and `message` the string that is wrong and what is wrong with it, as in `192.0.2.7/24: host bits set; the network
+ * is 192.0.2.0/24`, with a 0 behind, where `message_len` is above its length. Of a list without an error NO_ROOM where
+ * `out_len` is too small, and `count` is how many networks there are. NO_MEMORY may come before all of these. What an
+ * error does not set is as it was. Allocates. */
+uint32_t pcidr_read_list(const char *text, size_t text_len, uint32_t host_bits, pcidr_value *out, size_t out_len,
+                         size_t *count, uint64_t *line, char *message, size_t message_len);
 
 /* ---- values into strings: the length of the string, or 0 for a value that the call does not take
  *

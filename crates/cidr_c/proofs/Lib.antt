@@ -10,6 +10,7 @@ pub mod Hosts
 pub mod Indexes
 pub mod LineSteps
 pub mod Listed
+pub mod ListsRead
 pub mod Named
 pub mod NetworkLists
 pub mod Networks

@@ -1,4 +1,4 @@
-/* Calls around networks, of names, faults, masks, IPv4 inside IPv6, special purposes, ranges, sets, pools and access lists, on values whose answers stand
+/* Calls around networks, of names, faults, lists, masks, IPv4 inside IPv6, special purposes, ranges, sets, pools and access lists, on values whose answers stand
  * in RFCs or are counted by hand, and with arguments that are none. */
 #include <pcidr.h>
 #include <stdio.h>
@@ -178,6 +178,68 @@ static void faults(void) {
     WANT(is_fault("1234:5678:9abc:def0:1234:5678:9abc:def1/127",
                   "host bits set; the network is 1234:5678:9abc:def0:1234:5678:9abc:def0/127"));
     WANT(pcidr_text_fault("10/8", 4, NULL, 0) == 15);
+}
+
+/* What a list says, or which line is in error and why. */
+static pcidr_value said[80];
+static size_t networks;
+static uint64_t line;
+static char told[PCIDR_LINE_ROOM];
+
+static uint32_t read_list(const char *text, uint32_t host_bits, size_t room) {
+    for (size_t i = 0; i < 80; i++) said[i] = mark;
+    networks = 77, line = 66, strcpy(told, "as it was");
+    return pcidr_read_list(text, strlen(text), host_bits, said, room, &networks, &line, told, sizeof told);
+}
+
+/* Whether it says these networks, up to a null pointer, and all else is as it was. */
+static int says(const char *text, uint32_t host_bits, const char *const *wanted) {
+    size_t count = 0;
+    int same = read_list(text, host_bits, 80) == PCIDR_OK && line == 66 && strcmp(told, "as it was") == 0;
+    for (; wanted[count]; count++) same = same && is_same(said[count], value(wanted[count]));
+    for (size_t i = count; i < 80; i++) same = same && is_same(said[i], mark);
+    return same && networks == count;
+}
+
+/* Whether this line is in error, with this message, and all else is as it was. */
+static int is_bad(const char *text, uint32_t code, uint64_t number, const char *message) {
+    int same = read_list(text, PCIDR_HOST_BITS_REFUSED, 80) == code && line == number && strcmp(told, message) == 0;
+    for (size_t i = 0; i < 80; i++) same = same && is_same(said[i], mark);
+    return same && networks == 77;
+}
+
+static void lists(void) {
+    const char *const nothing[] = {NULL};
+    const char *const mixed[] = {"10.0.0.0/8", "192.0.2.1", "2001:db8::/32", "::1", NULL};
+    const char *const range[] = {"10.0.0.1", "10.0.0.2/31", "10.0.0.4/31", "10.0.0.6", "10.0.0.0/24", NULL};
+    const char *const network[] = {"192.0.2.0/24", NULL};
+    WANT(says("", 0, nothing) && says("\n", 0, nothing) && says(" \t\r\n# all\n;\n", 0, nothing));
+    WANT(says("2001:db8::/32\r\n10.0.0.0/8 # ours\r\n\r\n  ::1;theirs\n192.0.2.1", 0, mixed));
+    WANT(says("10.0.0.1-10.0.0.6\n10.0.0.0/24", 0, range) && says("192.0.2.0-192.0.2.255", 0, network));
+    WANT(says("192.0.2.7/24#192.0.3.7/24", PCIDR_HOST_BITS_CLEARED, network));
+    const char *const wrong = "192.0.2.7/24: host bits set; the network is 192.0.2.0/24";
+    WANT(is_bad("10.0.0.0/8\n# two\n192.0.2.7/24\nx", PCIDR_HOST_PART, 3, wrong));
+    WANT(read_list("192.0.2.7/24", 2, 80) == PCIDR_HOST_PART && read_list("192.0.2.7/24", UINT32_MAX, 80) == PCIDR_HOST_PART);
+    WANT(is_bad("10.0.0.0/8\r\n10.0.0.0/33", PCIDR_LENGTH_TOO_LONG, 2, "10.0.0.0/33: invalid length for network: Network length 33 is too long for Ipv4 (maximum: 32)"));
+    WANT(is_bad("::1\n10.0.0.0/x", PCIDR_LENGTH, 2, "10.0.0.0/x: couldn't parse length in network: invalid length text"));
+    WANT(is_bad("any", PCIDR_ADDRESS, 1, "any: couldn't parse address in network: invalid IP address syntax"));
+    WANT(is_bad("\xff # not told", PCIDR_NOT_UTF8, 1, "\\xff: not UTF-8"));
+    WANT(is_bad("10.0.0.1-x", PCIDR_NOT_ADDRESS, 1, "x: invalid IP address syntax"));
+    WANT(is_bad("10.0.0.1 - 10.0.0.2", PCIDR_NOT_ADDRESS, 1, "10.0.0.1 : invalid IP address syntax"));
+    WANT(is_bad("10.0.0.1-::1", PCIDR_TWO_FAMILIES, 1, "10.0.0.1-::1: the ends of the range are of two families"));
+    WANT(is_bad("\n10.0.0.2-10.0.0.1", PCIDR_REVERSED, 2,
+                "10.0.0.2-10.0.0.1: the first address of the range is above the last one"));
+    static char longer[(1 << 20) + 4];
+    memset(longer, ' ', sizeof longer - 1);
+    longer[1] = '\n';
+    WANT(is_bad(longer, PCIDR_LINE_TOO_LONG, 2, "longer than 1 MiB"));
+    longer[2] = '\n';
+    WANT(says(longer, 0, nothing));
+    WANT(read_list("10.0.0.0/8\n::/0\n", 0, 1) == PCIDR_NO_ROOM && networks == 2 && is_same(said[0], mark) && line == 66);
+    WANT(read_list("10.0.0.0/8\n::/0\nx", 0, 1) == PCIDR_ADDRESS && networks == 77 && line == 3);
+    WANT(read_list("10.0.0.0/8\n::/0\n", 0, 2) == PCIDR_OK && networks == 2 && is_same(said[2], mark));
+    char small[5] = "abcd";
+    WANT(pcidr_read_list("x", 1, 0, NULL, 0, &networks, &line, small, 5) == PCIDR_ADDRESS && line == 1 && strcmp(small, "abcd") == 0);
 }
 
 /* The addresses of RFC 4291, 2.5.5.2, RFC 3056, 2, and RFC 6052, 2.4. */
@@ -380,6 +442,7 @@ int main(void) {
     masks_and_names();
     zones();
     faults();
+    lists();
     inside_ipv6();
     purposes();
     ranges_and_pools();

@@ -70,6 +70,13 @@ static pcidr_row rows[COUNT], fewer[COUNT];
 static uint32_t smallest(void) { return pcidr_smallest(rows, COUNT, fewer, COUNT, &count); }
 static uint32_t forwards_same(void) { return pcidr_forwards_same(rows, COUNT, rows, COUNT / 2, &answer); }
 
+static const char list[] = "10.0.0.1-10.0.0.6 # four\n2001:db8::/32\r\n";
+static uint64_t line;
+static char told[PCIDR_LINE_ROOM];
+static uint32_t read_list(void) {
+    return pcidr_read_list(list, sizeof list - 1, PCIDR_HOST_BITS_REFUSED, out, ROOM, &count, &line, told, sizeof told);
+}
+
 static uint32_t build_table(void) { return pcidr_table_build(&table, ascending, COUNT, &count); }
 static uint32_t check_table(void) { return pcidr_table_check(&built, ascending, COUNT); }
 
@@ -97,6 +104,7 @@ static void set_values(void) {
     built = table, table.ranges = 2 * COUNT + 1;
     if (pcidr_set_write(ascending, COUNT, file, sizeof file, &file_len) != PCIDR_OK) failures++;
     memset(written, 0, sizeof written), memset(ranges, 0, sizeof ranges), number.high = 0, number.low = 9;
+    line = 9, told[0] = 9;
     memcpy(kept, networks, sizeof kept);
     count = COUNT;
 }
@@ -105,6 +113,7 @@ static void set_values(void) {
 static int is_left(void) {
     static const pcidr_value no_values[ROOM];
     static const pcidr_range no_ranges[COUNT];
+    if (line != 9 || told[0] != 9) return 0;
     if (number.high != 0 || number.low != 9 || memcmp(ranges, no_ranges, sizeof ranges) != 0) return 0;
     for (size_t i = 0; i < sizeof written; i++)
         if (written[i] != 0) return 0;
@@ -117,7 +126,7 @@ int main(void) {
     static uint32_t (*const calls[])(void) = {
         cover, make_union, intersection, difference, symmetric_difference, union_in_place, intersection_in_place,
         difference_in_place, contains_each, longest_match_each, summarize, first_free, best_free, permitted, shadowed, deciding, complement, is_subset,
-        is_disjoint, make_ranges, count_ipv4, nth_ipv4, covering, covered, smallest, forwards_same, build_table, check_table, write_file, write_set, check_file};
+        is_disjoint, make_ranges, count_ipv4, nth_ipv4, covering, covered, smallest, forwards_same, read_list, build_table, check_table, write_file, write_set, check_file};
     for (size_t i = 0; i < sizeof calls / sizeof *calls; i++) {
         uint32_t code = PCIDR_NO_MEMORY;
         size_t refused = 0;

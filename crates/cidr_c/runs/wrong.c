@@ -82,6 +82,10 @@ static void null_arguments(void) {
     WANT(pcidr_read_lines(NULL, 0, NULL, 0, &count) == PCIDR_NO_ROOM && count == 0);
     WANT(pcidr_read_lines(NULL, 0, &out, 1, &count) == PCIDR_ADDRESS && count == 0 && is_same(out, mark));
     WANT(pcidr_read_lines("::", 2, NULL, 0, &count) == PCIDR_NO_ROOM && count == 0);
+    uint64_t line = 7;
+    WANT(pcidr_read_list(NULL, 0, 0, NULL, 0, &count, &line, NULL, 0) == PCIDR_OK && count == 0 && line == 7);
+    WANT(pcidr_read_list("::", 2, 0, NULL, 0, &count, &line, NULL, 0) == PCIDR_NO_ROOM && count == 1 && line == 7);
+    WANT(pcidr_read_list("\n\xff", 2, 0, NULL, 0, &count, &line, NULL, 0) == PCIDR_NOT_UTF8 && count == 1 && line == 2);
     WANT(pcidr_print_lines(NULL, 0, NULL, 0, &count) == PCIDR_OK && count == 0);
     WANT(pcidr_cover(NULL, 0, &count) == PCIDR_OK && count == 0);
     WANT(pcidr_contains_each(NULL, 0, NULL, 0, NULL, 0) == PCIDR_OK);

@@ -1,9 +1,10 @@
 //! The numbers of the errors.
 ghost use Rattle.std.specs.Prelude.{◌≡◌, ◌<◌};
-ghost use Rattle.cidr_c.specs.model.Codes.{compact_code, mask_code, message, not_utf8, order_code, parse_code};
+ghost use Rattle.cidr_c.specs.model.Codes.{compact_code, line_code, mask_code, message, not_utf8, order_code, parse_code};
 
 use cidr::errors::{CompactError, NetworkParseError};
 use cidr_ext::MaskParseError;
+use cidr_lists::errors::LineError;
 use std::cmp::Ordering;
 
 /// There is no error.
@@ -61,6 +62,12 @@ pub const NO_SLASH: u32 = 24;
 pub const MASK: u32 = 25;
 /// It is neither a network mask nor a host mask.
 pub const SCATTERED: u32 = 26;
+/// A line has more than 1 MiB.
+pub const LINE_TOO_LONG: u32 = 27;
+/// The ends of a range are of two families.
+pub const TWO_FAMILIES: u32 = 28;
+/// The first address of a range is above the last one.
+pub const REVERSED: u32 = 29;
 
 /// The number of an error of parsing.
 pub fn parse_code(error: &NetworkParseError) -> u32
@@ -100,6 +107,21 @@ pub fn mask_code(error: &MaskParseError) -> u32
         MaskParseError::InvalidMask => MASK,
         MaskParseError::NonContiguousMask => SCATTERED,
         MaskParseError::InvalidHostPart => HOST_PART,
+    }
+}
+
+/// The number of an error of a line of a list.
+pub fn line_code(error: &LineError) -> u32
+    ensures { result ≡ line_code error.now }
+{
+    match error {
+        LineError::TooLong => LINE_TOO_LONG,
+        LineError::NotUtf8(_) => NOT_UTF8,
+        LineError::NoNetwork(_, e) => parse_code(e),
+        // (a line of a list is one field, which is not missing)
+        LineError::NoAddress(_, _) | LineError::NoField => NOT_ADDRESS,
+        LineError::TwoFamilies(_) => TWO_FAMILIES,
+        LineError::Reversed(_) => REVERSED,
     }
 }
 
@@ -145,6 +167,9 @@ pub fn message(code: u32) -> &'static str
         24 => "no slash before a mask",
         25 => "invalid mask",
         26 => "mask is not contiguous",
+        27 => "line is longer than 1 MiB",
+        28 => "the ends of the range are of two families",
+        29 => "the first address of the range is above the last one",
         _ => "",
     }
 }

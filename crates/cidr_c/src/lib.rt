@@ -15,6 +15,7 @@ mod forwarding;
 mod inside_ipv6;
 mod laws;
 mod lines;
+mod lists;
 mod lookups;
 mod masks;
 mod names;

@@ -104,3 +104,11 @@ IsListPut list old new count_new code =
     (count_new ≡ length list)
     × (((code ≡ 0) × (length list ≤ length old) × (take (length list) new ≡ list) × (drop (length list) new ≡ drop (length list) old))
     ⊎ ((code ≡ no_room) × (length old < length list) × (new ≡ old)))
+
+-- networks in the caller's room, or how many they are
+abbrev pub IsNetworksPut : List AnyIpCidr → List CValue → List CValue → ℕ → ℕ → Type 0
+IsNetworksPut networks old new count_new code =
+    (count_new ≡ length networks)
+    × (((code ≡ 0) × (length networks ≤ length old) × AreNetworkValues (take count_new new)
+    × (map network_in (take count_new new) ≡ networks) × (drop count_new new ≡ drop count_new old))
+    ⊎ ((code ≡ no_room) × (length old < length networks) × (new ≡ old)))

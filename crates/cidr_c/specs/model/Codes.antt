@@ -9,6 +9,8 @@ use Rattle.cidr.specs.declared.errors.NetworkParseError.{NetworkParseError}
 use Rattle.cidr.specs.declared.errors.NetworkParseError.TheVariants as parse_error
 use Rattle.cidr_ext.specs.declared.mask_text.MaskParseError.{MaskParseError}
 use Rattle.cidr_ext.specs.declared.mask_text.MaskParseError.TheVariants as mask_error
+use Rattle.cidr_lists.specs.declared.errors.LineError.{LineError}
+use Rattle.cidr_lists.specs.declared.errors.LineError.TheVariants as line_error
 
 -- a string is not UTF-8
 abbrev pub not_utf8 : ℕ
@@ -105,6 +107,16 @@ mask_code mask_error.InvalidMask = no_mask
 mask_code mask_error.NonContiguousMask = scattered_mask
 mask_code mask_error.InvalidHostPart = 5
 
+-- the errors of a line of a list, which is one field, so that none is missing
+abbrev pub line_code : LineError → ℕ
+line_code line_error.TooLong = 27
+line_code (line_error.NotUtf8 text) = not_utf8
+line_code (line_error.NoNetwork bad e) = parse_code e
+line_code (line_error.NoAddress bad e) = address_code e
+line_code line_error.NoField = 14
+line_code (line_error.TwoFamilies text) = 28
+line_code (line_error.Reversed text) = 29
+
 -- a comparison as a number
 abbrev pub order_code : Ordering → ℕ
 order_code Less = 0
@@ -140,4 +152,7 @@ message code =
     else (if code == 24 then codes "no slash before a mask"
     else (if code == 25 then codes "invalid mask"
     else (if code == 26 then codes "mask is not contiguous"
-    else [])))))))))))))))))))))))))
+    else (if code == 27 then codes "line is longer than 1 MiB"
+    else (if code == 28 then codes "the ends of the range are of two families"
+    else (if code == 29 then codes "the first address of the range is above the last one"
+    else []))))))))))))))))))))))))))))
