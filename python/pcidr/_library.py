@@ -11,7 +11,20 @@ from ctypes import byref
 from functools import partial
 from typing import TYPE_CHECKING, Any, TypeVar
 
-from pcidr._calls import CALLS, MESSAGE_ROOM, TEXT_ROOM, Calls, Code, Halves, Range, Row, Value
+from pcidr._calls import (
+    CALLS,
+    HOST_BITS_CLEARED,
+    HOST_BITS_REFUSED,
+    LINE_ROOM,
+    MESSAGE_ROOM,
+    TEXT_ROOM,
+    Calls,
+    Code,
+    Halves,
+    Range,
+    Row,
+    Value,
+)
 
 # The version of the library that the module wants.
 VERSION = (0, 3)
@@ -286,6 +299,21 @@ def filled(kind: type[T], room: int, call: Call, *given: object) -> ctypes.Array
             check(code)
             return (kind * count.value).from_buffer_copy(out)
         room = count.value
+
+
+def read_list(text: str | Buffer, strict: bool) -> Values:
+    """The networks that a list says; the first line in error raises `ValueError`."""
+    given = text.encode("utf-8", "surrogatepass") if isinstance(text, str) else bytes(memoryview(text))
+    host_bits = HOST_BITS_REFUSED if strict else HOST_BITS_CLEARED
+    line, told = ctypes.c_uint64(), ctypes.create_string_buffer(LINE_ROOM)
+
+    def call(*room: Any) -> int:
+        code = calls.read_list(given, len(given), host_bits, *room, line, told, LINE_ROOM)
+        if line.value:
+            raise ValueError(f"line {line.value}: {told.value.decode()}")
+        return code
+
+    return filled(Value, given.count(b"\n") + 1, call)
 
 
 def combined(call: Call, these: Values, those: Values) -> Values:

@@ -26,6 +26,7 @@ from pcidr._library import (
     filled,
     print_all,
     read_all,
+    read_list,
     tags_of,
 )
 from pcidr._values import (
@@ -192,6 +193,14 @@ class NetworkSet:
         if not isinstance(other, NetworkSet):
             return NotImplemented
         return self._of(combined(call, self._values, other._values), None)
+
+    @classmethod
+    def from_text(cls: type[S], text: str | Buffer, *, strict: bool = True) -> S:
+        """The set of the addresses that a list says, a string or bytes, as `netset` reads it: a network, an address or a
+        range such as ``192.0.2.0-192.0.2.9`` a line, with white space around it and a comment behind it from ``#`` or
+        ``;`` on. A bit set after a prefix is an error, and with ``strict=False`` taken as unset. The first line in error
+        raises `ValueError`, with its number and what is wrong."""
+        return cls._of(_covered(read_list(text, strict)), None)
 
     @classmethod
     def open(cls: type[S], path: Path, *, check: bool = True) -> S:

@@ -338,6 +338,45 @@ class OfIpaddress(unittest.TestCase):
         for text in ("", "192.0.2.0/24", "::", "x", "\ud800", "10.0.0.0-10.0.0.255", "\0"):
             self.assertIsNone(pcidr.text_fault(text))
 
+    def test_lists(self):
+        text = "10.0.0.0/9 # ours\r\n\r\n; theirs\n10.128.0.0-10.255.255.255\n\t2001:db8::/32 ;documentation\n::1"
+        wanted = ["10.0.0.0/8", "::1", "2001:db8::/32"]
+        for given in (text, text.encode(), bytearray(text, "utf-8"), memoryview(text.encode())):
+            for kind in (NetworkSet, MutableNetworkSet):
+                held = kind.from_text(given)
+                self.assertEqual((type(held), held.to_strings()), (kind, wanted))
+        self.assertEqual(list(NetworkSet.from_text("")), [])
+        self.assertEqual(NetworkSet.from_text("0.0.0.0/0\n::/0").to_strings(), ["0.0.0.0/0", "::/0"])
+        self.assertEqual(NetworkSet.from_text("192.0.2.7/24", strict=False), NetworkSet(["192.0.2.0/24"]))
+        faults = {
+            "::1\n192.0.2.7/24": "line 2: 192.0.2.7/24: host bits set; the network is 192.0.2.0/24",
+            "::1\n\n10.0.0.9-10.0.0.1\nx": "line 3: 10.0.0.9-10.0.0.1: the first address of the range is above the last one",
+            "10.0.0.1-::1": "line 1: 10.0.0.1-::1: the ends of the range are of two families",
+            "\ud800": r"line 1: \xed\xa0\x80: not UTF-8",
+            "h\u00e9\0": "line 1: h\u00e9\\x00: couldn't parse address in network: invalid IP address syntax",
+        }
+        for given, message in faults.items():
+            with self.assertRaises(ValueError) as raised:
+                NetworkSet.from_text(given)
+            self.assertEqual(str(raised.exception), message)
+        for given in (None, 5, ["10.0.0.0/8"]):
+            with self.assertRaises(TypeError):
+                NetworkSet.from_text(given)
+
+    def test_lists_of_random_ranges(self):
+        for _ in range(200):
+            lines, networks = [], []
+            for _ in range(RANDOM.randrange(20)):
+                first, last = sorted((any_address(), any_address()), key=int)
+                if first.version == last.version and RANDOM.random() < 0.5:
+                    networks += ipaddress.summarize_address_range(first, last)
+                    lines.append(f"{first}-{last}")
+                else:
+                    networks.append(any_network())
+                    lines.append(str(networks[-1]))
+                lines[-1] = RANDOM.choice(("", " ", "\t")) + lines[-1] + RANDOM.choice(("", " ", "#x", "\r", " ; 10.0.0.0/8\r"))
+            self.assertEqual(NetworkSet.from_text("\n".join(lines)), NetworkSet(networks))
+
     def test_exclusion(self):
         for _ in range(1000):
             outer = any_network(20)
