@@ -15,7 +15,7 @@ use Rattle.cidr_table.proofs.Reduced.{covers_more, least_alike}
 use Rattle.cidr_table.proofs.Refinements.{cover_width}
 use Rattle.cidr_sets.specs.model.Counts.{AreAddresses, HaveCount, IsAtIndex}
 use Rattle.cidr_sets.specs.model.Sets.{IsSetOf}
-use Rattle.cidr_c.specs.calls.Calls.{IsPut, IsSought, IsSoughtInMemory}
+use Rattle.cidr_c.specs.calls.Calls.{IsFoundOrNone, IsSought, IsSoughtInMemory}
 use Rattle.cidr_c.specs.model.Addresses.{AreAddressesIn, AreFamilyPart, HaveCountIn, IsApartFrom, IsAtIndexIn, IsFamilyPart, family_bit}
 use Rattle.cidr_c.proofs.Sought.{not_taken, sought}
 
@@ -99,7 +99,7 @@ match_more One Other Is Holds (Some a) none some h = some a h
 match_more One Other Is Holds None none some h = none h
 
 pub sought_in_memory : {P A : Type 0} (IsTaken IsNone : Type 0) (IsValue : P → Type 0) (value_in : P → A) (Holds : A → Type 0) (r : Option A)
-    (old new : P) (code : ℕ) → IsTaken → MatchOption r IsNone Holds → IsPut IsValue value_in r old new code
+    (old new : P) (code : ℕ) → IsTaken → MatchOption r IsNone Holds → IsFoundOrNone IsValue value_in r old new code
     → IsSoughtInMemory IsTaken IsNone IsValue value_in Holds old new code
 sought_in_memory IsTaken IsNone IsValue value_in Holds r old new code taken found put =
     inr (sought IsTaken (λ (n : ℕ). IsNone) IsValue value_in (λ (n : ℕ). Holds) 0 0 r old new code (taken, refl) found put)

@@ -6,14 +6,14 @@ use Rattle.cidr.specs.declared.cidr.any.AnyIpCidr.{AnyIpCidr}
 use Rattle.cidr_table.specs.model.Cover.{Covers}
 use Rattle.cidr_sets.specs.model.Sets.{IsSetOf}
 use Rattle.cidr_c.specs.calls.Batches.{AreNetworkValues, bits_in}
-use Rattle.cidr_c.specs.calls.Calls.{IsPut}
+use Rattle.cidr_c.specs.calls.Calls.{IsFoundOrNone}
 use Rattle.cidr_c.specs.model.Pools.{IsFreeSought}
 use Rattle.cidr_c.specs.model.Values.{IsNetworkValue, network_in}
 use Rattle.cidr_c.specs.declared.values.CValue.{CValue}
 
 pub free_sought : (IsFree : List (List Bool) → ℕ → Option (List Bool) → Type 0) (networks : List CValue) (len : ℕ) (set : List (List Bool))
     (r : Option AnyIpCidr) (old new : CValue) (code : ℕ) → AreNetworkValues networks → IsSetOf 129 (Covers (bits_in networks)) set
-    → IsFree set (len + 1) (option_map any_bits r) → IsPut IsNetworkValue network_in r old new code
+    → IsFree set (len + 1) (option_map any_bits r) → IsFoundOrNone IsNetworkValue network_in r old new code
     → IsFreeSought IsFree networks len old new code
 free_sought IsFree networks len set (Some n) old new code fine is_set free put = record {
   networks_of = λ _. fine;

@@ -4,7 +4,7 @@ use Rattle.std.specs.Prelude.{IfSome, IsUtf8}
 use Rattle.cidr.specs.either.IpNetwork.{network_family, network_prefix}
 use Rattle.cidr.specs.declared.cidr.combined.IpCidr.{IpCidr}
 use Rattle.cidr_ext.specs.texts.Reverse.{IsReverseName}
-use Rattle.cidr_c.specs.calls.Calls.{IsPut}
+use Rattle.cidr_c.specs.calls.Calls.{IsFoundOrNone}
 use Rattle.cidr_c.specs.model.Networks.{IsNameRead}
 use Rattle.cidr_c.specs.model.Values.{IsIpNetworkValue, ip_network_in}
 use Rattle.cidr_c.specs.declared.values.CValue.{CValue}
@@ -14,7 +14,7 @@ abbrev pub HasNameOf : List ℕ → IpCidr → Type 0
 HasNameOf name n = IsReverseName (network_family n) name (network_prefix n)
 
 pub name_read : (text name : List ℕ) (r : Option IpCidr) (old new : CValue) (code : ℕ) → IsUtf8 text → name ≡ text
-    → IfSome r (HasNameOf name) → ((n : IpCidr) → HasNameOf name n → r ≡ Some n) → IsPut IsIpNetworkValue ip_network_in r old new code
+    → IfSome r (HasNameOf name) → ((n : IpCidr) → HasNameOf name n → r ≡ Some n) → IsFoundOrNone IsIpNetworkValue ip_network_in r old new code
     → IsNameRead text old new code
 name_read text name (Some n) old new code utf8 same found only put = record {
   named = λ _. (utf8, put.1, subst (λ (m : IpCidr). HasNameOf text m) (sym put.2) (subst (λ (t : List ℕ). HasNameOf t n) same found));

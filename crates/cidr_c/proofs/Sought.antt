@@ -1,12 +1,12 @@
 -- What a call of a library found, and what C gets of it.
 use Rattle.std.proofs.Common.{◌≡◌, ◌↔◌, ℕ, Bool, Option, Some, None, inl, inr, refl, sym, subst, arith}
 use Rattle.std.specs.Prelude.{IsTrue, MatchOption}
-use Rattle.cidr_c.specs.calls.Calls.{IsPut, IsSought, IsYesOrNo}
+use Rattle.cidr_c.specs.calls.Calls.{IsFoundOrNone, IsSought, IsYesOrNo}
 
 -- what was found of n, where m is the same
 pub sought : {P A N : Type 0} (IsTaken : Type 0) (IsNone : N → Type 0) (IsValue : P → Type 0) (value_in : P → A) (Holds : N → A → Type 0)
     (n m : N) (r : Option A) (old new : P) (code : ℕ) → IsTaken × (n ≡ m) → MatchOption r (IsNone n) (Holds n)
-    → IsPut IsValue value_in r old new code → IsSought IsTaken (IsNone m) IsValue value_in (Holds m) old new code
+    → IsFoundOrNone IsValue value_in r old new code → IsSought IsTaken (IsNone m) IsValue value_in (Holds m) old new code
 sought {P} {A} {N} IsTaken IsNone IsValue value_in Holds n m (Some a) old new code taken holds put = record {
   found = λ _. (taken.0, put.1, subst (λ (k : N). Holds k (value_in new)) taken.1 (subst (λ (x : A). Holds n x) (sym put.2) holds));
   none = λ z. absurd (omega (arith, z, put.0));

@@ -5,7 +5,7 @@ use Rattle.std.specs.List.{slice_range}
 use Rattle.cidr_files.specs.Layout.{ipv4_parts, ipv6_parts, wide_words, words}
 use Rattle.cidr_files.specs.Tables.{AreOffsets, IsFile, offsets_in, part_at, stored_networks}
 use Rattle.cidr_c.specs.model.Tables.{ipv4_pair, ipv6_pair}
-use Rattle.cidr_c.specs.calls.Writing.{AreValues, IsFileOf, IsFileWritten, IsFirstRefusedAt, ipv4_rows, value_of}
+use Rattle.cidr_c.specs.calls.Writing.{AreValueOffsets, IsFileOf, IsFileWritten, IsFirstRefusedAt, ipv4_rows, bytes_of_row}
 use Rattle.cidr_c.specs.declared.values.CValue.{CValue}
 
 -- ---- how many IPv4 values stand first
@@ -75,7 +75,7 @@ file_of networks offsets values bytes k from k_is k_within fine from_is good net
           let within : from ≤ a = omega (arith, from_is, fine.ascending k (k + row) (omega arith) (omega (arith, lt, k_is))) in
           ap (λ vs. slice_range vs (get_or (offsets_in p6) row 0) (get_or (offsets_in p6) (row + 1) 0)) values6
           ∙ (ap₂ (λ m n. slice_range (drop from values) m n) x y
-          ∙ (back_value values from a b within ∙ ap (λ n. value_of offsets values (n + row)) k_is));
+          ∙ (back_value values from a b within ∙ ap (λ n. bytes_of_row offsets values (n + row)) k_is));
     }
 
 -- empty values lie one behind the other
@@ -90,7 +90,7 @@ empty_fine n = record {
 -- ---- what a call that writes leaves
 module _ (networks : List CValue) (offsets values old : List ℕ) (count : ℕ) where
   -- the values are wrong
-  pub values_refused : length networks < 2 ^ 31 → ¬ (AreValues networks offsets values) → IsFileWritten networks offsets values old old count count 22
+  pub values_refused : length networks < 2 ^ 31 → ¬ (AreValueOffsets networks offsets values) → IsFileWritten networks offsets values old old count count 22
   values_refused few wrong = record {
     file = λ z. absurd (omega (arith, z));
     fits = λ z. absurd (omega (arith, z));
@@ -105,7 +105,7 @@ module _ (networks : List CValue) (offsets values old : List ℕ) (count : ℕ) 
   }
 
   -- a network is refused
-  pub network_refused : (place : ℕ) → length networks < 2 ^ 31 → AreValues networks offsets values → IsFirstRefusedAt networks place
+  pub network_refused : (place : ℕ) → length networks < 2 ^ 31 → AreValueOffsets networks offsets values → IsFirstRefusedAt networks place
       → IsFileWritten networks offsets values old old count place 10
   network_refused place few fine refused = record {
     file = λ z. absurd (omega (arith, z));

@@ -9,7 +9,7 @@ ghost use Rattle.cidr.specs.declared.family.Family.TheVariants.{Ipv4, Ipv6};
 ghost use Rattle.cidr_sets.specs.model.Counts.{IsAtIndex};
 ghost use Rattle.cidr_table.specs.model.Cover.{IsReduced};
 ghost use Rattle.cidr_c.specs.calls.Batches.{AreNetworkValues, bits_in};
-ghost use Rattle.cidr_c.specs.calls.Calls.{IsAny, IsSoughtInMemory};
+ghost use Rattle.cidr_c.specs.calls.Calls.{IsAnyValue, IsSoughtInMemory};
 ghost use Rattle.cidr_c.specs.model.Addresses.{AreFamilyPart, HaveCountIn, IsApartFrom, IsAtIndexIn, IsFamilyPart};
 ghost use Rattle.cidr_c.specs.model.Codes.{no_memory, no_value};
 ghost use Rattle.cidr_c.specs.model.Tables.{ipv6_number};
@@ -97,7 +97,7 @@ fn family_set<C: OneFamily + Copy>(alloc: Global, values: &[CValue]) -> Result<N
 /// How many addresses of a family some networks have.
 fn counted<C: OneFamily + Copy>(alloc: Global, networks: &[CValue], count: &mut Halves) -> u32
     ensures { IsSoughtInMemory (AreNetworkValues networks.now) (HaveCountIn C.family (bits_in networks.now) (2 ^ 128))
-        IsAny ipv6_number (HaveCountIn C.family (bits_in networks.now)) count.old count.new result }
+        IsAnyValue ipv6_number (HaveCountIn C.family (bits_in networks.now)) count.old count.new result }
 {
     match family_set::<C>(alloc, networks) {
         Ok(set) => put_number(set.address_count(), count),
@@ -140,7 +140,7 @@ fn nth_of<C: OneFamily + Copy>(set: &NetworkSet<C>, index: u128) -> Option<IpAdd
 #[unsafe(no_mangle)]
 pub extern "C" fn pcidr_count_ipv4(alloc: Global, networks: &[CValue], count: &mut Halves) -> u32
     ensures { IsSoughtInMemory (AreNetworkValues networks.now) (HaveCountIn Ipv4 (bits_in networks.now) (2 ^ 128))
-        IsAny ipv6_number (HaveCountIn Ipv4 (bits_in networks.now)) count.old count.new result }
+        IsAnyValue ipv6_number (HaveCountIn Ipv4 (bits_in networks.now)) count.old count.new result }
 {
     counted::<Ipv4Cidr>(alloc, networks, count)
 }
@@ -149,7 +149,7 @@ pub extern "C" fn pcidr_count_ipv4(alloc: Global, networks: &[CValue], count: &m
 #[unsafe(no_mangle)]
 pub extern "C" fn pcidr_count_ipv6(alloc: Global, networks: &[CValue], count: &mut Halves) -> u32
     ensures { IsSoughtInMemory (AreNetworkValues networks.now) (HaveCountIn Ipv6 (bits_in networks.now) (2 ^ 128))
-        IsAny ipv6_number (HaveCountIn Ipv6 (bits_in networks.now)) count.old count.new result }
+        IsAnyValue ipv6_number (HaveCountIn Ipv6 (bits_in networks.now)) count.old count.new result }
 {
     counted::<Ipv6Cidr>(alloc, networks, count)
 }

@@ -1,7 +1,7 @@
 //! What the calls of the libraries find, where C has room for it.
 ghost use Rattle.std.specs.Prelude.{◌≡◌, ◌*◌, ◌+◌, ◌^◌, IsTrue};
 ghost use Rattle.cidr_c.specs.calls.Batches.{IsListPut};
-ghost use Rattle.cidr_c.specs.calls.Calls.{IsAny, IsPut, IsYesOrNo};
+ghost use Rattle.cidr_c.specs.calls.Calls.{IsAnyValue, IsFoundOrNone, IsYesOrNo};
 ghost use Rattle.cidr_c.specs.model.Tables.{ipv6_number};
 ghost use Rattle.cidr_c.specs.model.Values.{IsAddressValue, IsIpNetworkValue, IsNetworkValue, address_in, ip_network_in, network_in};
 
@@ -13,7 +13,7 @@ use cidr_arrays::Halves;
 /// Makes the value the network, if there is one.
 #[inline(always)]
 pub fn put_found_network(found: Option<IpCidr>, out: &mut CValue) -> u32
-    ensures { IsPut IsIpNetworkValue ip_network_in found out.old out.new result }
+    ensures { IsFoundOrNone IsIpNetworkValue ip_network_in found out.old out.new result }
 {
     let Some(network) = found else {
         return NONE;
@@ -25,7 +25,7 @@ pub fn put_found_network(found: Option<IpCidr>, out: &mut CValue) -> u32
 /// Makes the value the network, which may be `any`, if there is one.
 #[inline(always)]
 pub fn put_any_found(found: Option<AnyIpCidr>, out: &mut CValue) -> u32
-    ensures { IsPut IsNetworkValue network_in found out.old out.new result }
+    ensures { IsFoundOrNone IsNetworkValue network_in found out.old out.new result }
 {
     let Some(network) = found else {
         return NONE;
@@ -37,7 +37,7 @@ pub fn put_any_found(found: Option<AnyIpCidr>, out: &mut CValue) -> u32
 /// Makes the value the address, if there is one.
 #[inline(always)]
 pub fn put_found_address(found: Option<IpAddr>, out: &mut CValue) -> u32
-    ensures { IsPut IsAddressValue address_in found out.old out.new result }
+    ensures { IsFoundOrNone IsAddressValue address_in found out.old out.new result }
 {
     let Some(address) = found else {
         return NONE;
@@ -48,7 +48,7 @@ pub fn put_found_address(found: Option<IpAddr>, out: &mut CValue) -> u32
 
 /// Makes two halves the number, if there is one.
 pub fn put_number(found: Option<u128>, out: &mut Halves) -> u32
-    ensures { IsPut IsAny ipv6_number found out.old out.new result }
+    ensures { IsFoundOrNone IsAnyValue ipv6_number found out.old out.new result }
 {
     let Some(number) = found else {
         return NONE;
@@ -62,7 +62,7 @@ pub fn put_number(found: Option<u128>, out: &mut Halves) -> u32
 
 /// Makes a plain number the one that was found, if there is one.
 pub fn put_plain<T: Copy>(found: Option<T>, out: &mut T) -> u32
-    ensures { IsPut IsAny (λ n. n) found out.old out.new result }
+    ensures { IsFoundOrNone IsAnyValue (λ n. n) found out.old out.new result }
 {
     let Some(number) = found else {
         return NONE;

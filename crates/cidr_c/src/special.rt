@@ -4,7 +4,7 @@ ghost use Rattle.cidr.specs.model.Network.{BeginsWith};
 ghost use Rattle.cidr_ext.specs.model.Special.{HasNoEntry, HasPurpose, IsEntryOf, IsGlobal, multicast_of};
 ghost use Rattle.cidr_ext.specs.declared.registry.SpecialEntry.{SpecialEntry};
 ghost use Rattle.cidr_ext.specs.declared.registry.Purpose.TheVariants as purpose;
-ghost use Rattle.cidr_c.specs.calls.Calls.{IsAny, IsSought, IsYesOrNo};
+ghost use Rattle.cidr_c.specs.calls.Calls.{IsAnyValue, IsSought, IsYesOrNo};
 ghost use Rattle.cidr_c.specs.model.Networks.{address_bits_in, address_family_in};
 ghost use Rattle.cidr_c.specs.model.Special.{column_code, purpose_code, special_of};
 ghost use Rattle.cidr_c.specs.model.Values.{IsAddressValue};
@@ -45,7 +45,7 @@ pub struct CSpecial {
 #[unsafe(no_mangle)]
 pub extern "C" fn pcidr_special_entry(address: &CValue, out: &mut CSpecial) -> u32
     ensures { IsSought (IsAddressValue address.now)
-        (HasNoEntry (address_family_in address.now) (address_bits_in address.now)) IsAny (λ special. special)
+        (HasNoEntry (address_family_in address.now) (address_bits_in address.now)) IsAnyValue (λ special. special)
         (λ special. (entry : SpecialEntry) × IsEntryOf (address_family_in address.now) (address_bits_in address.now) entry
         × (special ≡ special_of entry)) out.old out.new result }
 {

@@ -1,7 +1,7 @@
 //! Files of look-up tables, written.
 ghost use Rattle.std.specs.Prelude.{◌≡◌, ◌+◌, ◌-◌, ◌^◌, ◌<◌, ◌≤◌, ◌⊎◌, drop, length, map, take, IfOk};
 ghost use Rattle.cidr_c.specs.model.Codes.{no_room};
-ghost use Rattle.cidr_c.specs.calls.Writing.{AreValues, IsFileWritten, IsSetWritten, ipv4_rows};
+ghost use Rattle.cidr_c.specs.calls.Writing.{AreValueOffsets, IsFileWritten, IsSetWritten, ipv4_rows};
 
 use crate::codes::{NO_MEMORY, NO_ROOM, NO_VALUE, OK, TOO_MANY, VALUES};
 use crate::tables::keys_in;
@@ -69,7 +69,7 @@ fn put_file(
 ) -> u32
     requires few { length networks.now < 2 ^ 31 }
     requires many { length offsets.now ≡ length networks.now + 1 }
-    requires values { AreValues networks.now offsets.now values.now }
+    requires values { AreValueOffsets networks.now offsets.now values.now }
     ensures { IsFileWritten networks.now offsets.now values.now out.old out.new count.old count.new result }
 {
     let split = ipv4_rows(networks);

@@ -56,8 +56,8 @@ abbrev pub IsYesOrNo : ℕ → Type 0 → Type 0
 IsYesOrNo code Holds = (code ≤ 1) × ((code ≡ 1) ↔ Holds)
 
 -- any value at all
-abbrev pub IsAny : {P : Type 0} → P → Type 0
-IsAny p = Unit {0}
+abbrev pub IsAnyValue : {P : Type 0} → P → Type 0
+IsAnyValue p = Unit {0}
 
 -- making a value of others, of which there may be none: 0, and the value, of which Holds is true; or the number of the error,
 -- of what the call does not take and then of none, and all is as it was
@@ -76,6 +76,6 @@ IsSoughtInMemory IsTaken IsNone IsValue value_in Holds old new code =
 
 -- ---- what private functions promise each other
 -- what a library's call found, where C has room for it
-abbrev pub IsPut : {P A : Type 0} → (P → Type 0) → (P → A) → Option A → P → P → ℕ → Type 0
-IsPut IsValue value_in (Some a) old new code = (code ≡ 0) × IsValue new × (value_in new ≡ a)
-IsPut IsValue value_in None old new code = (code ≡ no_such) × (new ≡ old)
+abbrev pub IsFoundOrNone : {P A : Type 0} → (P → Type 0) → (P → A) → Option A → P → P → ℕ → Type 0
+IsFoundOrNone IsValue value_in (Some a) old new code = (code ≡ 0) × IsValue new × (value_in new ≡ a)
+IsFoundOrNone IsValue value_in None old new code = (code ≡ no_such) × (new ≡ old)

@@ -20,21 +20,21 @@ abbrev pub ipv6_networks : List CValue → List (ℕ × ℕ)
 ipv6_networks values = map ipv6_pair (drop (ipv4_rows values) values)
 
 -- the value of a row
-abbrev pub value_of : List ℕ → List ℕ → ℕ → List ℕ
-value_of offsets values row = slice_range values (slice_index_or offsets row 0) (slice_index_or offsets (row + 1) 0)
+abbrev pub bytes_of_row : List ℕ → List ℕ → ℕ → List ℕ
+bytes_of_row offsets values row = slice_range values (slice_index_or offsets row 0) (slice_index_or offsets (row + 1) 0)
 
 -- the values lie one behind the other
-abbrev pub AreValues : List CValue → List ℕ → List ℕ → Type 0
-AreValues networks offsets values = AreOffsets offsets (length networks) (length values) × (length values < 2 ^ 32)
+abbrev pub AreValueOffsets : List CValue → List ℕ → List ℕ → Type 0
+AreValueOffsets networks offsets values = AreOffsets offsets (length networks) (length values) × (length values < 2 ^ 32)
 
 -- the bytes are a file of these networks and their values; the rows of IPv6 are those behind the rows of IPv4
 pub record IsFileOf (networks : List CValue) (offsets values bytes : List ℕ) : Type 0 where
   pub file : IsFile bytes
   pub ipv4 : stored_networks words (ipv4_parts bytes) ≡ ipv4_networks networks
   pub ipv6 : stored_networks wide_words (ipv6_parts bytes) ≡ ipv6_networks networks
-  pub ipv4_values : (row : ℕ) → row < ipv4_rows networks → value_in (ipv4_parts bytes) row ≡ value_of offsets values row
+  pub ipv4_values : (row : ℕ) → row < ipv4_rows networks → value_in (ipv4_parts bytes) row ≡ bytes_of_row offsets values row
   pub ipv6_values : (row : ℕ) → ipv4_rows networks + row < length networks
-      → value_in (ipv6_parts bytes) row ≡ value_of offsets values (ipv4_rows networks + row)
+      → value_in (ipv6_parts bytes) row ≡ bytes_of_row offsets values (ipv4_rows networks + row)
 
 -- the first value that is no network of its family or doesn't come behind the one before it
 abbrev pub IsFirstRefusedAt : List CValue → ℕ → Type 0
@@ -51,8 +51,8 @@ pub record IsFileWritten (networks : List CValue) (offsets values old new : List
   pub fits : code ≡ 0 → count_new ≤ length new
   pub behind : code ≡ 0 → drop count_new new ≡ drop count_new old
   pub many : code ≡ too_many → 2 ^ 31 ≤ length networks
-  pub values_wrong : code ≡ wrong_values → (length networks < 2 ^ 31) × ¬ (AreValues networks offsets values)
-  pub refused : code ≡ no_value → (length networks < 2 ^ 31) × AreValues networks offsets values × IsFirstRefusedAt networks count_new
+  pub values_wrong : code ≡ wrong_values → (length networks < 2 ^ 31) × ¬ (AreValueOffsets networks offsets values)
+  pub refused : code ≡ no_value → (length networks < 2 ^ 31) × AreValueOffsets networks offsets values × IsFirstRefusedAt networks count_new
   pub room : code ≡ no_room → (bytes : List ℕ) × IsFileOf networks offsets values bytes × (count_new ≡ length bytes) × (length new < count_new)
   pub codes : (code ≡ 0) ⊎ ((code ≡ too_many) ⊎ ((code ≡ wrong_values) ⊎ ((code ≡ no_memory) ⊎ ((code ≡ no_value) ⊎ (code ≡ no_room)))))
   pub stays : code ≢ 0 → new ≡ old

@@ -11,7 +11,7 @@ use Rattle.cidr_arrays.specs.declared.word.Halves.{Halves}
 use Rattle.cidr_ext.specs.model.Inside.{usable_of}
 use Rattle.cidr_ext.specs.texts.Reverse.{IsReverseName}
 use Rattle.cidr_ext.specs.model.Subnets.{IsSubnetAt, NoSubnetAt}
-use Rattle.cidr_c.specs.calls.Calls.{IsAny, IsSought}
+use Rattle.cidr_c.specs.calls.Calls.{IsAnyValue, IsSought}
 use Rattle.cidr_c.specs.model.Codes.{no_such, no_value, not_utf8}
 use Rattle.cidr_c.specs.model.Tables.{ipv6_number}
 use Rattle.cidr_c.specs.model.Values.{IsAddressValue, IsHostValue, IsIpNetworkValue, address_in, family_in, ip_network_in, prefix_in, width_in}
@@ -29,11 +29,11 @@ IsAddressSought host IsNone Holds =
 
 -- a number in two halves, or none
 abbrev pub IsNumberSought : Type 0 → Type 0 → (ℕ → Type 0) → Halves → Halves → ℕ → Type 0
-IsNumberSought IsTaken IsNone Holds = IsSought IsTaken IsNone IsAny ipv6_number Holds
+IsNumberSought IsTaken IsNone Holds = IsSought IsTaken IsNone IsAnyValue ipv6_number Holds
 
 -- a number in a room of its own, or none
 abbrev pub IsLengthSought : Type 0 → Type 0 → (ℕ → Type 0) → ℕ → ℕ → ℕ → Type 0
-IsLengthSought IsTaken IsNone Holds = IsSought IsTaken IsNone IsAny (λ n. n) Holds
+IsLengthSought IsTaken IsNone Holds = IsSought IsTaken IsNone IsAnyValue (λ n. n) Holds
 
 -- the family, the width and the bits of an address
 abbrev pub address_family_in : CValue → Family
