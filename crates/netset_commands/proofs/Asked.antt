@@ -1,5 +1,5 @@
 -- Addresses of lines that are read one after the other, before they are looked up.
-use Rattle.std.proofs.Common.{◌≡◌, refl, sym, ◌∙◌, ap, subst, ℕ, ◌+◌, ◌≤◌, Bool, true, false, arith, List, [], ◌∷◌, ◌++◌, length, Option, Some, None, Result, Ok, Err, append_assoc, length-append, append-nil}
+use Rattle.std.proofs.Common.{◌≡◌, refl, sym, ◌∙◌, ap, subst, ℕ, ◌+◌, Bool, true, false, arith, List, [], ◌∷◌, ◌++◌, length, Option, Some, None, Result, Ok, Err, append_assoc, length-append, append-nil}
 use Rattle.std.specs.Option.{IfSome}
 use Rattle.std.specs.List.{AllZip}
 use Rattle.cidr.specs.either.IpAddress.{IsIpText, address_family, plain_bits}
@@ -9,12 +9,11 @@ use Rattle.cidr_table.specs.model.Prefixes.{IsLookedUp}
 use Rattle.cidr_lists.specs.Lists.{lines_of}
 use Rattle.cidr_lists.specs.Fields.{IsBadLine}
 use Rattle.cidr_lists.specs.LookUps.{LineLooks, LookUp}
-use Rattle.netset_commands.specs.LookUps.{AreBeforeError, AreFirstSaid, AreReadBefore, AskLooks, AsksLines, EndsAsking, EndsReading, IsErrorBehind, LineAsks}
+use Rattle.netset_commands.specs.LookUps.{AreFirstSaid, AreReadBefore, AskLooks, AsksLines, EndsAsking, EndsReading, IsErrorBehind, LineAsks}
 use Rattle.netset_commands.specs.Reading.{IsNextLine, IsStopped}
 use Rattle.cidr_lists.specs.declared.errors.LineError.{LineError}
 use Rattle.netset_commands.specs.declared.errors.ReadError.{ReadError}
 use Rattle.netset_commands.specs.declared.errors.ReadError.TheVariants.{Line, Input, NoMemory}
-use Rattle.netset_commands.proofs.LinesRead.{LinesRead}
 use Rattle.netset_commands.proofs.Passed.{Passed, none_passed, one_passed, all_passed, error_passed, first_passed}
 use Rattle.netset_commands.proofs.Zips.{zip_length}
 

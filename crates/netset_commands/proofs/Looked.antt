@@ -1,5 +1,5 @@
 -- Addresses that are looked up, one line after the other.
-use Rattle.std.proofs.Common.{◌≡◌, ◌⊎◌, refl, sym, ◌∙◌, ap, subst, inl, inr, ℕ, ◌+◌, Bool, true, false, List, [], ◌∷◌, ◌++◌, ◌==◌, ◌<◌, ◌≤◌, length, take, drop, get_or, arith, codes, map, is_some, option_map, option_copied, Bor, Option, Some, None, Result, Ok, Err, ◌||◌}
+use Rattle.std.proofs.Common.{◌≡◌, ◌⊎◌, refl, sym, ◌∙◌, ap, subst, inl, inr, ℕ, ◌+◌, Bool, true, false, List, [], ◌∷◌, ◌++◌, ◌==◌, ◌<◌, ◌≤◌, length, take, drop, get_or, arith, codes, map, is_some, option_map, Bor, Option, Some, None, Result, Ok, Err, ◌||◌}
 use Rattle.std.specs.Option.{IfSome}
 use Rattle.std.specs.List.{AllZip, flat_map, list_any}
 use Rattle.std.proofs.lemmas.Bool.{true≢false}
@@ -7,7 +7,7 @@ use Rattle.std.proofs.lemmas.Grind.{flat_map-append}
 use Rattle.std.proofs.lemmas.List.Elements.{All-cons, All-nil}
 use Rattle.std.proofs.lemmas.List.{append-nil, flat_map_more, length-take, map-append, take-append-drop, take_more}
 use Rattle.std.proofs.lemmas.List.Folds.{list_any-append}
-use Rattle.cidr.specs.either.IpAddress.{IsIpText, address_family, plain_bits}
+use Rattle.cidr.specs.either.IpAddress.{address_family, plain_bits}
 use Rattle.cidr.specs.texts.Printed.{plain_text}
 use Rattle.cidr.specs.texts.PrintedAddress.{ip_text}
 use Rattle.cidr.specs.declared.addr.ip.IpAddr.{IpAddr}
@@ -19,7 +19,7 @@ use Rattle.cidr_io.proofs.Chains.{part_none, answered, then_writes}
 use Rattle.cidr_table.specs.model.Prefixes.{IsLookedUp}
 use Rattle.cidr_io.specs.Collecting.{Collects}
 use Rattle.netset_commands.specs.Commands.{Look}
-use Rattle.cidr_lists.specs.Lists.{IsTooLong, Text, lines_of}
+use Rattle.cidr_lists.specs.Lists.{Text, lines_of}
 use Rattle.cidr_lists.specs.Fields.{IsBadLine}
 use Rattle.cidr_lists.specs.LookUps.{LineLooks, LookUp, found_line, is_found, look_line, printed_row}
 use Rattle.netset_commands.specs.Look.{TellsFound}
@@ -27,7 +27,7 @@ use Rattle.netset_commands.specs.LookUps.{AreFirstSaid, AreFound, AskLooks, Asks
 use Rattle.cidr_lists.specs.Tables.{resolved, value_at}
 use Rattle.netset_commands.specs.Compiled.{SaysTable}
 use Rattle.netset_commands.specs.Program.{AnswersRequest}
-use Rattle.netset_commands.specs.Reading.{IsNextLine, IsStopped}
+use Rattle.netset_commands.specs.Reading.{IsStopped}
 use Rattle.netset_commands.specs.Streaming.{IsCut, IsOfFile, IsWritten}
 use Rattle.netset_commands.specs.declared.errors.CommandError.TheVariants as error
 use Rattle.netset_commands.specs.declared.errors.Reason.TheVariants.{Unknown}

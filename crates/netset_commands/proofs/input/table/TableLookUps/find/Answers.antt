@@ -1,4 +1,4 @@
-use Rattle.std.proofs.Common.{refl, sym, ◌∙◌, ap, option_copied}
+use Rattle.std.proofs.Common.{sym, ◌∙◌, ap, option_copied}
 use Rattle.cidr.specs.either.IpAddress.{address_family, plain_bits}
 use Rattle.cidr_lists.specs.Tables.{kept}
 use Rattle.netset_commands.proofs.Looked.{answer_found}
