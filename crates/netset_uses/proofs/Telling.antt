@@ -22,7 +22,7 @@ use Rattle.cidr_lists.specs.declared.lines.HostBits.{HostBits}
 use Rattle.cidr_lists.specs.declared.lines.HostBits.TheVariants.{Refused}
 use Rattle.netset_commands.specs.Commands.{HoldsOf, IsMadeOf, Lists, Look, Match, ReadsInputTwice, reading_of}
 use Rattle.netset_commands.specs.Look.{IsLook}
-use Rattle.netset_commands.specs.Matching.{ArePicked, IsMatch, Picks, line_written}
+use Rattle.netset_commands.specs.Matching.{ArePicked, IsMatch, Picks}
 use Rattle.netset_commands.specs.Picking.{FieldOf, IsChosen}
 use Rattle.netset_commands.specs.Program.{Runs, contents_by, error_line}
 use Rattle.netset_commands.specs.Typed.{AnswersTyped}
