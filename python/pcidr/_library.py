@@ -307,8 +307,8 @@ def read_list(text: str | Buffer, strict: bool) -> Values:
     host_bits = HOST_BITS_REFUSED if strict else HOST_BITS_CLEARED
     line, told = ctypes.c_uint64(), ctypes.create_string_buffer(LINE_ROOM)
 
-    def call(*room: Any) -> int:
-        code = calls.read_list(given, len(given), host_bits, *room, line, told, LINE_ROOM)
+    def call(out: Any, room: int, count: Any) -> int:
+        code = calls.read_list(given, len(given), host_bits, out, room, count, line, told, LINE_ROOM)
         if line.value:
             raise ValueError(f"line {line.value}: {told.value.decode()}")
         return code
