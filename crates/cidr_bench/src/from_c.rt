@@ -1,6 +1,7 @@
 //! The calls that the library for C makes, on the values that crates/cidr_c/beside/calls.c has.
 
 use crate::bench::{Bench, Call, Work, called};
+use crate::files;
 use crate::numbers::{Number, folded};
 use crate::reading::{Read, Text};
 use cidr::{AnyIpCidr, IpInet};
@@ -198,10 +199,10 @@ fn time_pairs(bench: &Bench<'_>, hosts: &[IpInet], others: &[IpInet]) -> io::Res
 }
 
 /// Times the calls with many values.
-fn time_many(bench: &Bench<'_>, many: &[IpInet], asked: &[IpInet]) -> io::Result<()> {
+fn time_many(bench: &Bench<'_>, many: &[IpInet], hosts: &[IpInet]) -> io::Result<()> {
     let alloc = bench.rt.alloc();
     let networks = networks_of(alloc, many)?;
-    let asked = networks_of(alloc, asked)?;
+    let asked = networks_of(alloc, hosts)?;
     let (networks, asked) = (networks.as_slice(), asked.as_slice());
     let work = ContainsEach {
         alloc,
@@ -214,7 +215,8 @@ fn time_many(bench: &Bench<'_>, many: &[IpInet], asked: &[IpInet]) -> io::Result
         networks,
         asked,
     };
-    bench.time("longest match each", asked.len(), work)
+    bench.time("longest match each", asked.len(), work)?;
+    files::time_all(bench, networks, hosts)
 }
 
 /// The first values, and those behind them.

@@ -17,6 +17,7 @@ mod bytes;
 mod changing;
 mod containing;
 mod covering;
+mod files;
 mod from_c;
 mod growth;
 mod idle;

@@ -23,6 +23,10 @@ static pcidr_value hosts[MANY], networks[MANY], around[MANY];
 static pcidr_value many_networks[NETWORKS], asked[ASKED];
 static uint8_t held[ASKED];
 static size_t matches[ASKED];
+/* A file of the many networks, each once, and of values of up to 7 bytes. */
+static uint8_t *file_bytes;
+static size_t file_len;
+static pcidr_file file;
 
 /* Number `index` of a fixed sequence in which none can be foreseen from those before it (SplitMix64). */
 static uint64_t random_at(uint64_t index) {
@@ -83,6 +87,24 @@ static void make_values(void) {
         pcidr_value host = host_at(chosen % 2 == 0 ? (chosen >> 32) % NETWORKS : i ^ 0x01000000);
         want(pcidr_address(&host, &asked[i]));
     }
+}
+
+static void make_file(void) {
+    static pcidr_value rows[NETWORKS];
+    static uint32_t offsets[NETWORKS + 1];
+    static uint8_t values[7 * NETWORKS];
+    size_t count = 0;
+    memcpy(rows, many_networks, sizeof rows);
+    qsort(rows, NETWORKS, sizeof *rows, pcidr_order);
+    for (size_t i = 0; i < NETWORKS; i++)
+        if (i == 0 || pcidr_compare(&rows[i], &rows[count - 1]) != 1) rows[count++] = rows[i];
+    for (size_t i = 0; i < count; i++) offsets[i + 1] = offsets[i] + (uint32_t)(i % 8);
+    pcidr_file_write(rows, count, offsets, count + 1, values, offsets[count], NULL, 0, &file_len);
+    file_bytes = malloc(file_len);
+    if (!file_bytes) exit(1);
+    want(pcidr_file_write(rows, count, offsets, count + 1, values, offsets[count], file_bytes, file_len, &file_len));
+    want(pcidr_file_open(file_bytes, file_len, &file));
+    want(pcidr_file_check(file_bytes, file_len));
 }
 
 /* ---- one number out of results, which hangs on each bit of them */
@@ -171,6 +193,15 @@ static uint32_t longest_match_each(uint32_t sum) {
     return sum;
 }
 
+static uint32_t look_up_in_file(uint32_t sum) {
+    pcidr_found found;
+    for (size_t i = 0; i < ASKED; i++) {
+        pcidr_file_lookup(file_bytes, file_len, &file, &asked[i], &found);
+        sum = mixed(sum, found.row + found.value_len);
+    }
+    return sum;
+}
+
 static double now(void) {
     struct timespec time;
     clock_gettime(CLOCK_MONOTONIC, &time);
@@ -219,5 +250,7 @@ int main(int argc, char **argv) {
     row("compare", compare, MANY, rounds);
     row("contains each", contains_each, ASKED, fewer);
     row("longest match each", longest_match_each, ASKED, fewer);
+    make_file();
+    row("look up in a file", look_up_in_file, ASKED, fewer);
     return 0;
 }
