@@ -95,10 +95,15 @@ module _ {C : Type 0} (cmp : C → C → Ordering) (bits : C → List Bool)
       }
 
 -- a code that is found is the answer
-pub found_answer : {C : Type 0} (bits : C → List Bool) (rows : List (C × ℕ)) (starts codes : List ℕ) (a : List Bool) (first last code : ℕ)
-    → AreMatchCodes bits rows starts codes → first ≡ leading a → last ≡ last_leading a → IsRangeCode starts codes first last code
+pub found_answer : {C : Type 0} (bits : C → List Bool) (rows : List (C × ℕ)) (starts codes : List ℕ) (a : List Bool) (code : ℕ)
+    → AreMatchCodes bits rows starts codes → IsRangeCode starts codes (leading a) (last_leading a) code
     → ¬ (code ≡ 2 ^ 32 - 2) → IsMatchCode bits rows a code
-found_answer bits rows starts codes a first last code all is_first is_last (inl e) other = absurd (other e)
-found_answer bits rows starts codes a first last code all is_first is_last (inr h) other =
-    let r = h.1 in
-    subst (λ n. IsMatchCode bits rows a n) (sym h.2) (all a h.0 (record { within = r.within; from = omega (arith, r.from); to = omega (arith, r.to) }))
+found_answer bits rows starts codes a code all (inl e) other = absurd (other e)
+found_answer bits rows starts codes a code all (inr h) other =
+    subst (λ n. IsMatchCode bits rows a n) (sym h.2) (all a h.0 h.1)
+
+-- the numbers of a look-up key, as they were computed
+pub of_key : (starts codes : List ℕ) (first last first' last' code : ℕ) → first' ≡ first → last' ≡ last
+    → IsRangeCode starts codes first' last' code → IsRangeCode starts codes first last code
+of_key starts codes first last first' last' code is_first is_last h =
+    subst (λ n. IsRangeCode starts codes n last code) is_first (subst (λ n. IsRangeCode starts codes first' n code) is_last h)

@@ -1,14 +1,17 @@
 -- The first 64 bits of what begins with a network, as a number.
-use Rattle.std.proofs.Common.{◌≡◌, refl, sym, ◌∙◌, ap, arith, ℕ, zero, suc, ◌+◌, ◌-◌, ◌*◌, ◌/◌, ◌^◌, ◌<◌, ◌≤◌, Bool, true, false, List, [], ◌∷◌, ◌++◌, length, get_or, take, drop, length-take}
-use Rattle.std.proofs.lemmas.Bool.{true≢false, false≢true}
+use Rattle.std.proofs.Common.{◌≡◌, refl, sym, ◌∙◌, ap, ap₂, subst, add-zero, arith, inl, inr, ℕ, zero, suc, ◌+◌, ◌-◌, ◌*◌, ◌/◌, ◌^◌, ◌<◌, ◌≤◌, Bool, true, false, List, [], ◌∷◌, ◌++◌, length, get_or, take, drop, length-take}
+use Rattle.std.proofs.lemmas.Bool.{true≢false, false≢true, cases_lt}
 use Rattle.std.proofs.Math.Nat.{pow-succ'}
-use Rattle.std.proofs.lemmas.Nat.{pow_pos, pow-add, shr_high}
-use Rattle.std.proofs.lemmas.List.{length-replicate, length-append}
+use Rattle.std.proofs.Math.Seq.{take-append-add}
+use Rattle.std.proofs.lemmas.Nat.{pow_pos, pow-add, shr_high, shl-shr, shr-shr}
+use Rattle.std.proofs.lemmas.List.{length-replicate, length-append, take-replicate}
 use Rattle.cidr.specs.model.Bits.{number}
 use Rattle.cidr.specs.model.BitString.{leading}
 use Rattle.cidr.specs.model.Network.{BeginsWith, zeros}
-use Rattle.cidr.specs.laws.BitLaws.{number-lt}
+use Rattle.cidr.specs.laws.BitLaws.{number-lt, number-append}
+use Rattle.cidr.proofs.NetworkNumbers.{number-zeros}
 use Rattle.cidr_table.proofs.Beginnings.{begins_length}
+use Rattle.cidr_fib.specs.Ranges.{last_leading}
 
 -- there are enough bits
 pub wide : (w n : ℕ) (p : List Bool) → w ≤ n → length (take w (p ++ zeros n)) ≡ w
@@ -108,6 +111,38 @@ ends_within n (suc w) (false ∷ q) le =
 
 pub leading_ends : (q : List Bool) → leading q + 2 ^ (64 - length q) ≤ 2 ^ 64
 leading_ends q = ends_within 64 64 q (omega arith)
+
+pub last_below : (q : List Bool) → last_leading q < 2 ^ 64
+last_below q = omega (arith, leading_ends q, pow_pos (64 - length q))
+
+-- the first of them, of a network of at most 64 bits
+leading_whole : (q : List Bool) → length q ≤ 64 → leading q ≡ number q * 2 ^ (64 - length q)
+leading_whole q le =
+    let d = 64 - length q in
+    let size : length q + d ≡ 64 = omega arith in
+    let cut : take 64 (q ++ zeros 64) ≡ q ++ take d (zeros 64) = subst (λ n. take n (q ++ zeros 64) ≡ q ++ take d (zeros 64)) size (take-append-add q (zeros 64) d) in
+    let shown = ap number (cut ∙ ap (λ z. q ++ z) (take-replicate d 64 false (omega arith))) ∙ number-append q (zeros d) in
+    shown ∙ ap₂ (λ n z. number q * 2 ^ n + z) (length-replicate d false) (number-zeros d) ∙ add-zero (number q * 2 ^ d)
+
+-- the first and the last of them have the same first bits, as many as the network has
+pub one_part : (q : List Bool) (k : ℕ) → k ≤ 64 → k ≤ length q → last_leading q / 2 ^ (64 - k) ≡ leading q / 2 ^ (64 - k)
+one_part q k le long = elim (cases_lt 64 (length q)) [
+  | inl more ↦
+      let none : 64 - length q ≡ 0 = omega arith in
+      let same : last_leading q ≡ leading q = omega (arith, ap (λ d. 2 ^ d) none) in
+      ap (λ n. n / 2 ^ (64 - k)) same
+  | inr few ↦
+      let d = 64 - length q in
+      let more = length q - k in
+      let split : d + more ≡ 64 - k = omega arith in
+      let some : 0 < 2 ^ d = pow_pos d in
+      let whole = leading_whole q few in
+      let first : leading q / 2 ^ d ≡ number q = ap (λ n. n / 2 ^ d) whole ∙ shl-shr (number q) d in
+      let last : last_leading q / 2 ^ d ≡ number q = ap (λ n. (n + (2 ^ d - 1)) / 2 ^ d) whole ∙ shr_high (number q) d (2 ^ d - 1) (omega arith) in
+      let parts : last_leading q / 2 ^ (d + more) ≡ leading q / 2 ^ (d + more) =
+      sym (shr-shr (last_leading q) d more) ∙ (ap (λ n. n / 2 ^ more) (last ∙ sym first) ∙ shr-shr (leading q) d more) in
+      subst (λ n. last_leading q / 2 ^ n ≡ leading q / 2 ^ n) split parts
+]
 
 -- what has a number of a network begins with it
 begins_from : (n w : ℕ) (q a : List Bool) → w ≤ n → length q ≤ w → length q ≤ length a

@@ -74,6 +74,15 @@ is_range starts firsts lows p from to end first last parted few is_from is_to so
       to = rw one behind;
     }
 
+-- where none begins in the part, the range before has all its numbers
+pub none_begins : (starts firsts lows : List ℕ) (p end first last : ℕ) → AreParted starts firsts lows
+    → p + 1 < length firsts → get_or firsts p 0 ≡ end → get_or firsts (p + 1) 0 ≡ end
+    → 0 < end → end ≤ length lows → last < 2 ^ 64 → first / 2 ^ 48 ≡ p → last / 2 ^ 48 ≡ first / 2 ^ 48
+    → IsRangeOfAll (map (λ start. start * 2 ^ 32) starts) first last (end - 1)
+none_begins starts firsts lows p end first last parted few is_from is_to some within fits is_first same =
+    is_range starts firsts lows p end end end first last parted few is_from is_to some (omega arith) (omega arith) within fits is_first
+    (omega (arith, is_first, same)) (λ lt. absurd (omega (arith, lt))) (λ lt. absurd (omega (arith, lt)))
+
 -- one part more
 pub firsts_more : (starts firsts : List ℕ) (at : ℕ) → AreFirsts starts firsts
     → ((i : ℕ) → i < at → get_or starts i 0 < length firsts * 2 ^ 16)

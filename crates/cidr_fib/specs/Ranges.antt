@@ -3,7 +3,8 @@
 use Rattle.std.specs.Prelude.{◌≡◌, ℕ, ◌+◌, ◌-◌, ◌*◌, ◌%◌, ◌^◌, ◌<◌, ◌≤◌, ◌⊎◌, Bool, List, Some, None, length, map, slice_get, slice_index_or}
 use Rattle.cidr.specs.model.BitString.{leading}
 use Rattle.cidr_fib.specs.declared.find.Ranges.{Ranges}
-use Rattle.cidr_fib.specs.declared.find.Ranges.TheVariants.{Whole, Parted, Marked}
+use Rattle.cidr_fib.specs.declared.find.Form.{Form}
+use Rattle.cidr_fib.specs.declared.find.Form.TheVariants.{Whole, Parted, Marked}
 use Rattle.cidr_fib.specs.declared.starts.Starts.{Starts}
 use Rattle.cidr_fib.specs.declared.starts.Starts.TheVariants.{Narrow, Wide}
 use Rattle.cidr_table.specs.model.Prefixes.{IsValueLookedUp}
@@ -43,13 +44,16 @@ IsEntry starts codes part entry = ((2 ^ 31 ≤ entry) × (entry < 2 ^ 32 - 1))
 abbrev pub ArePartEntries : (starts codes entries : List ℕ) → Type 0
 ArePartEntries starts codes entries = (p : ℕ) → p < length entries → IsEntry starts codes p (slice_index_or entries p 0)
 
--- ranges with these starts and codes
-abbrev pub AreCoded : (starts codes : List ℕ) → Ranges → Type 0
-AreCoded starts codes (Whole ranges) = (numbers ranges.starts ≡ starts) × (ranges.codes.items ≡ codes)
-AreCoded starts codes (Parted ranges) = (ranges.codes.items ≡ codes)
+-- ranges with these starts and codes, in each form
+abbrev pub AreFormed : (starts codes : List ℕ) → Form → Type 0
+AreFormed starts codes (Whole ranges) = (numbers ranges.starts ≡ starts) × (ranges.codes.items ≡ codes)
+AreFormed starts codes (Parted ranges) = (ranges.codes.items ≡ codes)
     × ((narrow : List ℕ) × (map (λ start. start * 2 ^ 32) narrow ≡ starts) × AreParted narrow ranges.firsts.items ranges.lows.items)
-AreCoded starts codes (Marked ranges) = (map (λ start. start * 2 ^ 32) ranges.starts.items ≡ starts) × (ranges.codes.items ≡ codes)
-    × ArePartEntries starts codes ranges.parts.entries.items
+AreFormed starts codes (Marked ranges) = (map (λ start. start * 2 ^ 32) ranges.starts.items ≡ starts) × (ranges.codes.items ≡ codes)
+
+-- and with entries of parts
+abbrev pub AreCoded : (starts codes : List ℕ) → Ranges → Type 0
+AreCoded starts codes ranges = ArePartEntries starts codes ranges.entries.items × AreFormed starts codes ranges.form
 
 -- the code of a range of these numbers, or the one that says nothing
 abbrev pub IsRangeCode : (starts codes : List ℕ) (first last code : ℕ) → Type 0

@@ -2,17 +2,18 @@
 ghost use Rattle.std.specs.Prelude.{◌≡◌, ℕ, ◌-◌, ◌*◌, ◌^◌, ◌<◌, List, length, map, position, IfOk, IfErr};
 ghost use Rattle.std.specs.List.Sorted.{IsStrictlySortedBy};
 ghost use Rattle.std.specs.Map.{keys_of};
+ghost use Rattle.cidr.specs.model.BitString.{leading};
 ghost use Rattle.cidr_table.specs.model.Prefixes.{IsValueLookedUp};
 ghost use Rattle.cidr_fib.specs.Errors.{is_too_large, AreRowsRefused};
 ghost use Rattle.cidr_fib.specs.Growth.{StartsAscend};
-ghost use Rattle.cidr_fib.specs.Ranges.{numbers, AreCoded, HaveAnswers, IsRangeCode};
+ghost use Rattle.cidr_fib.specs.Ranges.{numbers, AreCoded, AreFormed, HaveAnswers, IsRangeCode, last_leading};
 
 use crate::codes::{NOTHING, SEARCH, put_codes};
 use crate::error::ForwardingError;
 use crate::level::FirstLevel;
-use crate::marked::MarkedRanges;
+use crate::marked::{MarkedRanges, PART_BITS, entry_at, is_code};
 use crate::parts::PartedRanges;
-use crate::ranges::{Ends, last_bits, ranges_of};
+use crate::ranges::{Ends, is_in_one_part, last_bits, ranges_of};
 use crate::starts::{Start, Starts};
 use crate::tested::code_at;
 use cidr::NetworkBits;
@@ -21,7 +22,15 @@ use std::alloc::{AllocError, Global};
 
 /// The ranges of a table, each with a code.
 #[derive(Drop)]
-pub(crate) enum Ranges {
+pub(crate) struct Ranges {
+    /// What each part of the numbers tells alone. None where the form has no entries.
+    entries: Vec<u32>,
+    form: Form,
+}
+
+/// Ranges in the form that is quickest and takes few bytes.
+#[derive(Drop)]
+pub(crate) enum Form {
     Whole(WholeRanges),
     Parted(PartedRanges),
     Marked(MarkedRanges),
@@ -75,13 +84,13 @@ pub(crate) fn found<C: NetworkBits + Copy>(
     requires { HaveAnswers C.bits table.now.rows ranges.now }
     ensures { IsValueLookedUp C.bits (C.bits asked.now) table.now.rows result }
 {
-    let code = ranges.code(asked.first_bits(), last_bits(asked));
-    if code < SEARCH {
-        Some(code)
+    let code = ranges.code(asked);
+    if code == SEARCH {
+        searched(table, asked)
     } else if code == NOTHING {
         None
     } else {
-        searched(table, asked)
+        Some(code)
     }
 }
 
@@ -137,11 +146,12 @@ impl Ranges {
         ensures { IfOk result (λ ranges. AreCoded (map (λ start. start * 2 ^ 32) starts.items) codes.items ranges) }
     {
         if MarkedRanges::fits(starts.as_slice(), rows) {
-            let ranges = MarkedRanges::of(alloc, starts, codes)?;
-            Ok(Ranges::Marked(ranges))
+            let (entries, ranges) = MarkedRanges::of(alloc, starts, codes)?;
+            let form = Form::Marked(ranges);
+            Ok(Ranges { entries, form })
         } else if PartedRanges::fits(starts.len()) {
             let ranges = PartedRanges::of(alloc, starts.as_slice(), codes)?;
-            Ok(Ranges::Parted(ranges))
+            Ok(Ranges::without_entries(alloc, Form::Parted(ranges)))
         } else {
             Ranges::whole(alloc, Starts::Narrow(starts), codes)
         }
@@ -152,31 +162,66 @@ impl Ranges {
         ensures { IfOk result (λ ranges. AreCoded (numbers starts) codes.items ranges) }
     {
         let level = FirstLevel::of(alloc, &starts)?;
-        Ok(Ranges::Whole(WholeRanges {
+        let ranges = WholeRanges {
             starts,
             codes,
             level,
-        }))
+        };
+        Ok(Ranges::without_entries(alloc, Form::Whole(ranges)))
     }
 
-    /// The code of the range that has all numbers from the first to the last, or `SEARCH` where none is found.
+    /// Ranges of which no part tells anything alone.
+    fn without_entries(alloc: Global, form: Form) -> Ranges
+        ensures { (starts codes : List ℕ) → AreFormed starts codes form → AreCoded starts codes result }
+    {
+        let entries = Vec::new(alloc);
+        Ranges { entries, form }
+    }
+
+    /// The code of the range that has all numbers of the look-up key, or `SEARCH` where none is found. Where the key's
+    /// part has one range, its entry is read and nothing else: so much becomes a part of the caller.
     #[inline(always)]
-    fn code(&self, first: u64, last: u64) -> u32
+    fn code<C: NetworkBits>(&self, asked: &C) -> u32
         ensures { (starts codes : List ℕ) → AreCoded starts codes self.now
-            → IsRangeCode starts codes first last result }
+            → IsRangeCode starts codes (leading (C.bits asked.now)) (last_leading (C.bits asked.now)) result }
+    {
+        let entry = entry_at(self.entries.as_slice(), asked.first_bits());
+        if is_code(entry) {
+            if is_in_one_part(asked, PART_BITS) {
+                return entry;
+            }
+        }
+        self.form.code(asked, entry)
+    }
+}
+
+impl Form {
+    /// The same, where the part has that entry.
+    #[inline(always)]
+    fn code<C: NetworkBits>(&self, asked: &C, entry: u32) -> u32
+        ensures { (starts codes : List ℕ) → AreFormed starts codes self.now
+            → IsRangeCode starts codes (leading (C.bits asked.now)) (last_leading (C.bits asked.now)) result }
     {
         match self {
-            Ranges::Whole(ranges) => ranges.code(first, last),
-            Ranges::Parted(ranges) => ranges.code(first, last),
-            Ranges::Marked(ranges) => ranges.code(first, last),
+            Form::Whole(ranges) => ranges.code(asked),
+            Form::Parted(ranges) => ranges.code(asked),
+            Form::Marked(ranges) => ranges.code(asked, entry),
         }
     }
 }
 
 impl WholeRanges {
-    /// The code of the range that has all numbers from the first to the last, or `SEARCH` where none is found.
+    /// The code of the range that has all numbers of the look-up key, or `SEARCH` where none is found.
     #[inline(always)]
-    fn code(&self, first: u64, last: u64) -> u32
+    fn code<C: NetworkBits>(&self, asked: &C) -> u32
+        ensures { IsRangeCode (numbers self.now.starts) self.now.codes.items (leading (C.bits asked.now)) (last_leading (C.bits asked.now)) result }
+    {
+        self.code_by_level(asked.first_bits(), last_bits(asked))
+    }
+
+    /// The code of the range that has all numbers from the first to the last, or `SEARCH` where none is found.
+    #[inline(never)]
+    fn code_by_level(&self, first: u64, last: u64) -> u32
         ensures { IsRangeCode (numbers self.now.starts) self.now.codes.items first last result }
     {
         let codes = self.codes.as_slice();

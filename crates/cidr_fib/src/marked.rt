@@ -1,14 +1,20 @@
 //! Many ranges that nearly all begin where a network of 24 bits does: bits tell which of these they are.
-ghost use Rattle.std.specs.Prelude.{◌≡◌, ◌-◌, ◌*◌, ◌^◌, ◌<◌, ◌↔◌, ◌⊎◌, map, IfOk, IsTrue};
-ghost use Rattle.cidr_fib.specs.Ranges.{ArePartEntries, IsEntry, IsRangeCode};
+ghost use Rattle.std.specs.Prelude.{◌≡◌, ℕ, ◌-◌, ◌*◌, ◌/◌, ◌^◌, ◌<◌, ◌↔◌, ◌⊎◌, List, map, IfOk, IsTrue};
+ghost use Rattle.cidr.specs.model.BitString.{leading};
+ghost use Rattle.cidr_fib.specs.Ranges.{ArePartEntries, IsEntry, IsRangeCode, last_leading};
 
 use crate::codes::{NOTHING, SEARCH};
 use crate::level::last_upto;
+use crate::ranges::last_bits;
 use crate::starts::Start;
 use crate::tested::{code_at, has_all};
+use cidr::NetworkBits;
 use std::alloc::{AllocError, Global};
 
-/// How many parts there are: 18 bits choose one.
+/// How many of the first bits choose a part.
+pub(crate) const PART_BITS: usize = 18;
+
+/// How many parts there are.
 const PARTS: usize = 1 << 18;
 
 /// How many numbers of 64 bits a part has.
@@ -20,12 +26,13 @@ const PLACE: u32 = 1 << 31;
 /// The bytes that a row may take.
 const MOST_BYTES: usize = 15;
 
-/// Ranges with a code each. They take eight bytes each, and twelve for a part.
+/// Ranges with a code each. They take eight bytes each, and twelve for a part with its entry.
 #[derive(Drop)]
 pub(crate) struct MarkedRanges {
     starts: Vec<u32>,
     codes: Vec<u32>,
-    parts: AllParts,
+    /// A bit for each of the 64 networks of 24 bits of each part: whether a range begins in it.
+    marks: Vec<u64>,
 }
 
 /// What is told of each part.
@@ -33,7 +40,7 @@ pub(crate) struct MarkedRanges {
 struct AllParts {
     /// The code of its range, if one has all its numbers. Else about where the range of its first number stands.
     entries: Vec<u32>,
-    /// A bit for each of its 64 networks of 24 bits: whether a range begins in it.
+    /// As in `MarkedRanges`.
     marks: Vec<u64>,
 }
 
@@ -54,50 +61,58 @@ impl MarkedRanges {
             && elsewhere(starts) <= starts.len() / 8
     }
 
-    /// The ranges with these starts and codes: a pass over both.
+    /// The entries of parts, and the ranges with these starts and codes: a pass over both.
     pub(crate) fn of(
         alloc: Global,
         starts: Vec<u32>,
         codes: Vec<u32>,
-    ) -> Result<MarkedRanges, AllocError>
-        ensures starts { IfOk result (λ ranges. ranges.starts.items ≡ starts.items) }
-        ensures codes { IfOk result (λ ranges. ranges.codes.items ≡ codes.items) }
-        ensures entries { IfOk result (λ ranges.
-            ArePartEntries (map (λ start. start * 2 ^ 32) starts.items) codes.items ranges.parts.entries.items) }
+    ) -> Result<(Vec<u32>, MarkedRanges), AllocError>
+        ensures starts { IfOk result (λ made. made.1.starts.items ≡ starts.items) }
+        ensures codes { IfOk result (λ made. made.1.codes.items ≡ codes.items) }
+        ensures entries { IfOk result (λ made.
+            ArePartEntries (map (λ start. start * 2 ^ 32) starts.items) codes.items made.0.items) }
     {
-        let parts = AllParts::of(alloc, starts.as_slice(), codes.as_slice())?;
-        Ok(MarkedRanges {
+        let AllParts { entries, marks } = AllParts::of(alloc, starts.as_slice(), codes.as_slice())?;
+        let ranges = MarkedRanges {
             starts,
             codes,
-            parts,
-        })
+            marks,
+        };
+        Ok((entries, ranges))
     }
 
-    /// The code of the range that has all numbers from the first to the last, or `SEARCH` where none is found.
+    /// The code of the range that has all numbers of the look-up key, or `SEARCH` where none is found, where its part has
+    /// that entry.
     #[inline(always)]
-    pub(crate) fn code(&self, first: u64, last: u64) -> u32
-        ensures { ArePartEntries (map (λ start. start * 2 ^ 32) self.now.starts.items) self.now.codes.items self.now.parts.entries.items
-            → IsRangeCode (map (λ start. start * 2 ^ 32) self.now.starts.items) self.now.codes.items first last result }
+    pub(crate) fn code<C: NetworkBits>(&self, asked: &C, entry: u32) -> u32
+        ensures { IsRangeCode (map (λ start. start * 2 ^ 32) self.now.starts.items) self.now.codes.items (leading (C.bits asked.now)) (last_leading (C.bits asked.now)) result }
+    {
+        self.code_by_marks(entry, asked.first_bits(), last_bits(asked))
+    }
+
+    /// The code of the range that has all numbers from the first to the last, or `SEARCH` where none is found, by the
+    /// entry and the marks of the part.
+    #[inline(never)]
+    fn code_by_marks(&self, entry: u32, first: u64, last: u64) -> u32
+        ensures { IsRangeCode (map (λ start. start * 2 ^ 32) self.now.starts.items) self.now.codes.items first last result }
     {
         let part = (first / SIZE) as usize;
-        let Some(entry) = self.parts.entries.get(part) else {
-            return SEARCH;
-        };
-        let entry = *entry;
-        if is_code(entry) {
-            return if first / SIZE == last / SIZE {
-                entry
-            } else {
-                SEARCH
-            };
-        }
-        let marks = self.parts.marks.get(part).copied().unwrap_or(0);
+        let marks = self.marks.get(part).copied().unwrap_or(0);
         let (starts, codes) = (self.starts.as_slice(), self.codes.as_slice());
         let from = entry.wrapping_sub(PLACE) as usize;
         let code = code_at(starts, codes, marked_place(from, marks, first), first, last);
         if code != SEARCH {
             return code;
         }
+        self.code_nearby(from, first, last)
+    }
+
+    /// The same by a search from the range `from` on.
+    #[inline(never)]
+    fn code_nearby(&self, from: usize, first: u64, last: u64) -> u32
+        ensures { IsRangeCode (map (λ start. start * 2 ^ 32) self.now.starts.items) self.now.codes.items first last result }
+    {
+        let (starts, codes) = (self.starts.as_slice(), self.codes.as_slice());
         code_at(starts, codes, nearby(starts, from, first), first, last)
     }
 }
@@ -132,9 +147,20 @@ fn elsewhere(starts: &[u32]) -> usize {
     count
 }
 
+/// The entry of the part that a number is in, or one that is no code.
+#[inline(always)]
+pub(crate) fn entry_at(entries: &[u32], number: u64) -> u32
+    ensures { (starts codes : List ℕ) → ArePartEntries starts codes entries.now → IsEntry starts codes (number / 2 ^ 46) result }
+{
+    match entries.get((number / SIZE) as usize) {
+        Some(entry) => *entry,
+        None => PLACE,
+    }
+}
+
 /// Whether the entry of a part is the code of its range.
 #[inline(always)]
-fn is_code(entry: u32) -> bool
+pub(crate) fn is_code(entry: u32) -> bool
     ensures { IsTrue result ↔ (entry < 2 ^ 31 ⊎ (entry ≡ 2 ^ 32 - 1)) }
 {
     entry < PLACE || entry == NOTHING
@@ -185,7 +211,6 @@ fn marked_place(from: usize, marks: u64, number: u64) -> usize {
 }
 
 /// The last range from `from` on that begins at most with a number of the part: a part has 2^14 numbers of 32 bits.
-#[inline(never)]
 fn nearby(starts: &[u32], from: usize, number: u64) -> usize {
     if from >= starts.len() {
         return from;

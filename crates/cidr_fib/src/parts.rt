@@ -1,10 +1,16 @@
 //! Many ranges that begin with numbers of 32 bits: the first 16 bits choose a part, and the others are kept.
 ghost use Rattle.std.specs.Prelude.{◌≡◌, ℕ, ◌+◌, ◌-◌, ◌*◌, ◌/◌, ◌%◌, ◌^◌, ◌<◌, ◌≤◌, List, length, map, slice_index_or, IfOk, IsTrue};
 ghost use Rattle.cidr_fib.specs.Growth.{StartsAscend};
-ghost use Rattle.cidr_fib.specs.Ranges.{AreFirsts, AreParted, IsRangeCode, IsRangeOfAll};
+ghost use Rattle.cidr.specs.model.BitString.{leading};
+ghost use Rattle.cidr_fib.specs.Ranges.{AreFirsts, AreParted, IsRangeCode, IsRangeOfAll, last_leading};
 
 use crate::codes::SEARCH;
+use crate::ranges::{is_in_one_part, last_bits};
+use cidr::NetworkBits;
 use std::alloc::{AllocError, Global};
+
+/// How many of the first bits choose a part.
+const PART_BITS: usize = 16;
 
 /// How many parts there are.
 const PARTS: usize = 1 << 16;
@@ -47,12 +53,14 @@ impl PartedRanges {
         })
     }
 
-    /// The code of the range that has all numbers from the first to the last, or `SEARCH` where none is found.
+    /// The code of the range that has all numbers of the look-up key, or `SEARCH` where none is found. Where no range
+    /// begins in the key's part, there is no search: so much becomes a part of the caller, and the rest not.
     #[inline(always)]
-    pub(crate) fn code(&self, first: u64, last: u64) -> u32
+    pub(crate) fn code<C: NetworkBits>(&self, asked: &C) -> u32
         ensures { (starts : List ℕ) → AreParted starts self.now.firsts.items self.now.lows.items
-            → IsRangeCode (map (λ start. start * 2 ^ 32) starts) self.now.codes.items first last result }
+            → IsRangeCode (map (λ start. start * 2 ^ 32) starts) self.now.codes.items (leading (C.bits asked.now)) (last_leading (C.bits asked.now)) result }
     {
+        let first = asked.first_bits();
         let part = (first >> 48) as usize;
         let Some(from) = self.firsts.get(part) else {
             return SEARCH;
@@ -61,14 +69,45 @@ impl PartedRanges {
             return SEARCH;
         };
         let (from, to) = (*from as usize, *to as usize);
-        let lows = self.lows.as_slice();
-        if from > to || to > lows.len() || to == 0 {
+        if from > to || to > self.lows.len() || to == 0 {
             return SEARCH;
         }
+        if from == to {
+            if is_in_one_part(asked, PART_BITS) {
+                return self.code_before(to);
+            }
+        }
+        self.code_between(from, to, first, last_bits(asked))
+    }
+
+    /// The code of the range that has all numbers from the first to the last, or `SEARCH` where none is found. The
+    /// ranges of the first one's part are those behind the first `from`, up to the first `to`.
+    #[inline(never)]
+    fn code_between(&self, from: usize, to: usize, first: u64, last: u64) -> u32
+        requires some { 0 < to }
+        requires from { from ≤ to }
+        requires to { to ≤ length self.now.lows.items }
+        ensures { (starts : List ℕ) → AreParted starts self.now.firsts.items self.now.lows.items
+            → first / 2 ^ 48 + 1 < length self.now.firsts.items
+            → slice_index_or self.now.firsts.items (first / 2 ^ 48) 0 ≡ from
+            → slice_index_or self.now.firsts.items (first / 2 ^ 48 + 1) 0 ≡ to
+            → IsRangeCode (map (λ start. start * 2 ^ 32) starts) self.now.codes.items first last result }
+    {
+        let lows = self.lows.as_slice();
         let end = end_of(lows, from, to, low(first));
         if end == 0 || !has_all(lows, from, to, end, first, last) {
             return SEARCH;
         }
+        self.code_before(end)
+    }
+
+    /// The code of the range before `end`, or `SEARCH` where there is none.
+    #[inline(always)]
+    fn code_before(&self, end: usize) -> u32
+        requires { 0 < end }
+        ensures { (starts : List ℕ) (first last : ℕ) → IsRangeOfAll starts first last (end - 1)
+            → IsRangeCode starts self.now.codes.items first last result }
+    {
         match self.codes.get(end - 1) {
             Some(code) => *code,
             None => SEARCH,

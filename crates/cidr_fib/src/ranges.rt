@@ -1,5 +1,5 @@
 //! The ranges of ascending rows.
-ghost use Rattle.std.specs.Prelude.{◌≡◌, ℕ, ◌+◌, ◌-◌, ◌^◌, ◌<◌, ◌≤◌, ◌∷◌, [], length, slice_index_or, IfOk, OnOk};
+ghost use Rattle.std.specs.Prelude.{◌≡◌, ℕ, ◌+◌, ◌-◌, ◌/◌, ◌^◌, ◌<◌, ◌≤◌, ◌∷◌, [], length, slice_index_or, IfOk, OnOk, IsTrue};
 ghost use Rattle.std.specs.List.Sorted.{IsStrictlySortedBy};
 ghost use Rattle.std.specs.Map.{keys_of};
 ghost use Rattle.cidr.specs.model.BitString.{leading};
@@ -161,6 +161,16 @@ fn begin(
     starts.push(alloc, start)?;
     ends.push(end)?;
     Ok(())
+}
+
+/// Whether all addresses of the network have the same first bits, so many: where these bits choose a part of the
+/// numbers, the network lies in one.
+#[inline(always)]
+pub(crate) fn is_in_one_part<C: NetworkBits>(key: &C, bits: usize) -> bool
+    requires { bits ≤ 64 }
+    ensures { IsTrue result → last_leading (C.bits key.now) / 2 ^ (64 - bits) ≡ leading (C.bits key.now) / 2 ^ (64 - bits) }
+{
+    key.len() >= bits
 }
 
 /// The greatest number that the first 64 bits of an address in the network can be.

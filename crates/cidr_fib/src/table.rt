@@ -71,6 +71,7 @@ impl<C: NetworkBits + Copy> ForwardingTable<C> {
     /// ```
     /// ready.find(&"10.0.0.0/15".parse()?) // Some(2)
     /// ```
+    #[inline(always)]
     pub fn find(&self, asked: &C) -> Option<u32>
         ensures { IsValueLookedUp C.bits (C.bits asked.now) self.now.rows result }
     {

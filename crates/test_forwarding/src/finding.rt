@@ -7,7 +7,8 @@ use cidr_table::{Lookups, LpmTable};
 use std::fs;
 use std::time::Instant;
 
-/// How often each way has its turn. The least time of each counts.
+/// How often each way is run, one time behind the other, so that the caches hold what they can of it. The least time of
+/// each counts.
 const TURNS: u32 = 5;
 
 /// Writes the value of each look-up key, one a line, or `none`.
@@ -59,6 +60,8 @@ fn write_times<C: NetworkBits + Copy>(
         let start = Instant::now(rt)?;
         rows_sum = sum_by_rows(&rows, asked);
         rows_time = rows_time.min(start.elapsed(rt)?.as_nanos());
+    }
+    for _ in 0..TURNS {
         let start = Instant::now(rt)?;
         sum = sum_by_ranges(ready, asked);
         time = time.min(start.elapsed(rt)?.as_nanos());

@@ -1,4 +1,4 @@
-use Rattle.std.proofs.Common.{◌<◌, ap, arith, ◌∷◌, [], length, length-append}
+use Rattle.std.proofs.Common.{ap, arith, ◌∷◌, [], length, length-append}
 use Rattle.cidr_fib.proofs.Lows.{firsts_more, firsts_none}
 use Rattle.cidr_fib.proofs.parts.firsts_of.Goals as goal
 
