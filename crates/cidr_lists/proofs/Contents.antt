@@ -6,7 +6,6 @@ use Rattle.std.proofs.lemmas.Bool.Decides.{Decides-eqb}
 use Rattle.std.specs.Ordering.{is_gt}
 use Rattle.std.specs.declared.cmp.Ordering.{Ordering}
 use Rattle.std.specs.declared.cmp.Ordering.TheVariants.{Less, Equal, Greater}
-use Rattle.cidr.specs.either.IpAddress.{IsIpText}
 use Rattle.cidr.specs.declared.addr.ip.IpAddr.{IpAddr}
 use Rattle.cidr.specs.declared.cidr.combined.IpCidr.{IpCidr}
 use Rattle.cidr.specs.declared.cidr.combined.IpCidr.TheVariants.{V4, V6}
@@ -14,7 +13,7 @@ use Rattle.cidr.specs.declared.family.Family.TheVariants.{Ipv4, Ipv6}
 use Rattle.cidr.specs.texts.Refusal.{Lacks}
 use Rattle.cidr_sets.specs.model.Ranges.{IsBetween}
 use Rattle.cidr_sets.specs.model.Sets.{IsSetOf}
-use Rattle.cidr_lists.specs.Lists.{IsFieldError, hyphen, line_networks}
+use Rattle.cidr_lists.specs.Lists.{IsFieldError, hyphen, line_networks, IsEnd}
 use Rattle.cidr_lists.specs.Reading.{AddsContent, Grows, IsNoEnd, ReadsField}
 use Rattle.cidr_lists.specs.declared.errors.LineError.{LineError}
 use Rattle.cidr_lists.specs.declared.errors.LineError.TheVariants.{NoAddress}
@@ -105,12 +104,12 @@ module _ (bits : HostBits) (field front back : List ℕ) (split : field ≡ fron
   first_error (NoAddress bad e) none = (front, back, split, lacks, inl none)
   first_error e none = absurd none
 
-  last_error : (e : LineError) (first : IpAddr) → IsIpText front first → IsNoEnd back e → IsFieldError bits field e
+  last_error : (e : LineError) (first : IpAddr) → IsEnd front first → IsNoEnd back e → IsFieldError bits field e
   last_error (NoAddress bad e) first is none = (front, back, split, lacks, inr (first, is, none))
   last_error e first is none = absurd none
 
   pub no_first : (r : Result Content LineError) (y e : LineError) → r ≡ Err y → y ≡ e → IsNoEnd front e → ReadsField bits field r
   no_first r y e is same none = rw (is, same) (first_error e none)
 
-  pub no_last : (r : Result Content LineError) (y e : LineError) (first : IpAddr) → r ≡ Err y → y ≡ e → IsIpText front first → IsNoEnd back e → ReadsField bits field r
+  pub no_last : (r : Result Content LineError) (y e : LineError) (first : IpAddr) → r ≡ Err y → y ≡ e → IsEnd front first → IsNoEnd back e → ReadsField bits field r
   no_last r y e first is same begins none = rw (is, same) (last_error e first begins none)

@@ -1,12 +1,14 @@
 -- The string of a network has no comment sign, no hyphen and no white space.
-use Rattle.std.proofs.Common.{◌≡◌, ◌≢◌, refl, sym, ◌∙◌, ap, subst, arith, inl, inr, ◌⊎◌, ℕ, zero, suc, ◌-◌, ◌<◌, ◌≤◌, Bool, false, List, [], ◌∷◌, ◌++◌, drop, length, slice_index_or}
+use Rattle.std.proofs.Common.{◌≡◌, ◌≢◌, refl, sym, ◌∙◌, ap, subst, arith, inl, inr, ◌⊎◌, ℕ, zero, suc, ◌-◌, ◌<◌, ◌≤◌, ◌&&◌, not, Bool, false, List, [], ◌∷◌, ◌++◌, drop, length, slice_index_or, Option, Some, None, IfSome}
 use Rattle.std.specs.Char.{digit_value, is_ascii_whitespace}
+use Rattle.std.specs.List.{before_first}
 use Rattle.std.specs.Str.{IsTrimAscii, IsTrimAsciiStart}
 use Rattle.std.proofs.lemmas.Grind.{common_steps}
 use Rattle.std.proofs.lemmas.Bool.{cases_lt, true≢false}
+use Rattle.std.proofs.lemmas.Str.Ascii.{trim_ascii_start_is}
 use Rattle.std.proofs.lemmas.List.{drop_all, length-drop, length-take, nil_from_length, take_all}
 use Rattle.cidr.specs.either.IpAddress.{IsIpText}
-use Rattle.cidr.specs.either.IpText.{IsIpHostText}
+use Rattle.cidr.specs.either.IpText.{IsIpHostText, IsIpNetworkText}
 use Rattle.cidr.specs.texts.AddressText.{IsAddressText}
 use Rattle.cidr.specs.texts.HostText.{IsHostText}
 use Rattle.cidr.specs.texts.Ipv4Text.{IsJoined, IsOctetText, dot}
@@ -24,8 +26,11 @@ use Rattle.cidr.specs.declared.inet.combined.IpInet.{IpInet}
 use Rattle.cidr.specs.declared.inet.combined.IpInet.TheVariants as host
 use Rattle.cidr.proofs.Cuts.{Lacks-append, Lacks-cons, Lacks-digits, Lacks-length}
 use Rattle.cidr.proofs.Ipv4Grammar.{Lacks-joined, Lacks-octet}
-use Rattle.cidr_lists.specs.Fields.{IsSplit}
+use Rattle.cidr_lists.specs.Fields.{FieldSays, HasFields, IsSplit, begins_comment, field_at}
 use Rattle.cidr_lists.specs.Lists.{IsField, IsNetworkBy, hyphen, is_comment_sign}
+use Rattle.cidr_lists.specs.declared.columns.Column.{Column}
+use Rattle.cidr_lists.specs.declared.columns.Separator.{Separator}
+use Rattle.cidr_lists.specs.declared.columns.Separator.TheVariants.{WhiteSpace}
 use Rattle.cidr_lists.specs.declared.lines.HostBits.{HostBits}
 use Rattle.cidr_lists.specs.declared.lines.HostBits.TheVariants.{Refused, Cleared}
 use Rattle.cidr_lists.proofs.LineFeeds.{uncut}
@@ -148,16 +153,18 @@ module _ (bits : HostBits) (line : List ℕ) (network : IpCidr) (is : IsNetworkB
       (lacks 35 (omega arith) (omega arith) (omega arith) (omega arith) (omega arith) i within)
       (lacks 59 (omega arith) (omega arith) (omega arith) (omega arith) (omega arith) i within)
 
+  trimmed : IsTrimAscii line line
+  trimmed = (
+    0,
+    sym (take_all (length line) line (omega arith)),
+    λ i below. absurd (omega (arith, below)),
+    λ some. unspaced 0 some,
+    λ i from within. absurd (omega (arith, from, within)),
+    λ some. unspaced (length line - 1) (omega (arith, some)),
+  )
+
   pub is_field : IsField line line
-  is_field =
-      subst (λ (k : List ℕ). IsTrimAscii k line) (uncut is_comment_sign line (length line) uncommented (omega arith)) (
-        0,
-        sym (take_all (length line) line (omega arith)),
-        λ i below. absurd (omega (arith, below)),
-        λ some. unspaced 0 some,
-        λ i from within. absurd (omega (arith, from, within)),
-        λ some. unspaced (length line - 1) (omega (arith, some)),
-      )
+  is_field = subst (λ (k : List ℕ). IsTrimAscii k line) (uncut is_comment_sign line (length line) uncommented (omega arith)) trimmed
 
   pub no_feed : Lacks 10 line
   no_feed = lacks 10 (omega arith) (omega arith) (omega arith) (omega arith) (omega arith)
@@ -167,6 +174,18 @@ module _ (bits : HostBits) (line : List ℕ) (network : IpCidr) (is : IsNetworkB
 
   starts : IsTrimAsciiStart line line
   starts = (0, refl, omega arith, λ i below. absurd (omega (arith, below)), λ some. unspaced 0 some)
+
+  -- it has fields, of which it is the first
+  unmarked : (i : ℕ) → i < length line → begins_comment WhiteSpace (slice_index_or line i 0) ≡ false
+  unmarked i within = ap (λ (b : Bool). b && not (is_ascii_whitespace (slice_index_or line i 0))) (uncommented i within)
+
+  pub has_fields : line ≢ [] → HasFields WhiteSpace line
+  has_fields some = (line, trimmed, λ none. some (uncut (begins_comment WhiteSpace) line (length line) unmarked (omega arith) ∙ none))
+
+  pub is_first : IsTrimAscii (field_at WhiteSpace 0 line) line
+  is_first =
+      subst (λ (k : List ℕ). IsTrimAscii k line)
+      (uncut is_ascii_whitespace line (length line) unspaced (omega arith) ∙ ap (before_first is_ascii_whitespace) (trim_ascii_start_is line line starts)) trimmed
 
   -- its first field, and nothing behind that
   pub is_split : line ≢ [] → IsSplit line line []
@@ -190,3 +209,15 @@ module _ (bits : HostBits) (line : List ℕ) (network : IpCidr) (is : IsNetworkB
 pub address_split : (line : List ℕ) (address : IpAddr) → line ≢ [] → IsIpText line address → IsSplit line line []
 address_split line (address.V4 a) some h = is_split Refused line (V4 a) (inl h) some
 address_split line (address.V6 a) some h = is_split Refused line (V6 a) (inl h) some
+
+-- a network is what the first field of its line says
+abbrev FieldIs : List ℕ → IpCidr → Separator → ℕ → Type 0
+FieldIs line network separator place =
+    HasFields separator line × (field : List ℕ) × IsTrimAscii (field_at separator place line) field × IsIpNetworkText field network
+
+pub whole_says : (column : Column) (line : List ℕ) (found : Option IpCidr) → column.place ≡ 0 → column.separator ≡ WhiteSpace → line ≢ []
+    → IfSome found (IsNetworkBy Refused line) → IfSome found (λ network. FieldSays column line (Some network))
+whole_says column line None place separator some h = tt
+whole_says column line (Some network) place separator some h =
+    subst (λ (s : Separator). FieldIs line network s column.place) (sym separator)
+    (subst (λ (n : ℕ). FieldIs line network WhiteSpace n) (sym place) (has_fields Refused line network h some, line, is_first Refused line network h, h))

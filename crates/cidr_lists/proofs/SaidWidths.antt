@@ -161,16 +161,16 @@ content_tells bits field Blank said family is are =
 content_tells bits field (Network network) said family is are =
     at_networks (width_of family) (line_networks family said) (line_networks family (network ∷ [])) (ap (line_networks family) are)
     (narrow_tells family network (network_narrow bits field network is))
-content_tells bits field (Ipv4Range first last) said Ipv4 ((front, back, split, low, high), up) (networks, set, are) =
+content_tells bits field (Ipv4Range first last) said Ipv4 ((front, back, split, (head, _, low), (tail, _, high)), up) (networks, set, are) =
     at_networks 32 (line_networks Ipv4 said) networks (ap (line_networks Ipv4) are ∙ in_v4 networks)
-    (range_tells 32 first last networks (omega arith) (address_width Ipv4 front first low) (address_width Ipv4 back last high) set)
+    (range_tells 32 first last networks (omega arith) (address_width Ipv4 head first low) (address_width Ipv4 tail last high) set)
 content_tells bits field (Ipv4Range first last) said Ipv6 is (networks, set, are) =
     at_networks 128 (line_networks Ipv6 said) [] (ap (line_networks Ipv6) are ∙ not_in_v6 networks) (nothing_tells 128)
 content_tells bits field (Ipv6Range first last) said Ipv4 is (networks, set, are) =
     at_networks 32 (line_networks Ipv4 said) [] (ap (line_networks Ipv4) are ∙ not_in_v4 networks) (nothing_tells 32)
-content_tells bits field (Ipv6Range first last) said Ipv6 ((front, back, split, low, high), up) (networks, set, are) =
+content_tells bits field (Ipv6Range first last) said Ipv6 ((front, back, split, (head, _, low), (tail, _, high)), up) (networks, set, are) =
     at_networks 128 (line_networks Ipv6 said) networks (ap (line_networks Ipv6) are ∙ in_v6 networks)
-    (range_tells 128 first last networks (omega arith) (address_width Ipv6 front first low) (address_width Ipv6 back last high) set)
+    (range_tells 128 first last networks (omega arith) (address_width Ipv6 head first low) (address_width Ipv6 tail last high) set)
 
 -- ---- what lists say
 lines_tell : (bits : HostBits) (family : Family) (lines : List (List ℕ)) (said : List (List IpCidr)) → AllZip (LineSays bits) lines said

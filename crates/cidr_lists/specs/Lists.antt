@@ -61,10 +61,14 @@ abbrev pub IsFirstField : List ℕ → List ℕ → Type 0
 IsFirstField bytes field = (rest : List ℕ) × IsTrimAsciiStart bytes rest × (field ≡ before_first is_ascii_whitespace rest)
 
 -- ---- what a line says
--- the string is these two addresses with a hyphen between them
+-- without white space at both ends the string is this address
+abbrev pub IsEnd : List ℕ → IpAddr → Type 0
+IsEnd text address = (end : List ℕ) × IsTrimAscii text end × IsIpText end address
+
+-- the string is these two addresses with a hyphen between them, which may have white space around it
 abbrev pub AreEnds : List ℕ → IpAddr → IpAddr → Type 0
 AreEnds text first last =
-    (front : List ℕ) × (back : List ℕ) × (text ≡ front ++ hyphen ∷ back) × IsIpText front first × IsIpText back last
+    (front : List ℕ) × (back : List ℕ) × (text ≡ front ++ hyphen ∷ back) × IsEnd front first × IsEnd back last
 
 -- the string is a network, or a host whose network it is
 abbrev pub IsNetworkBy : HostBits → List ℕ → IpCidr → Type 0
@@ -108,6 +112,10 @@ IsNoNetworkBy Cleared text e = IsIpHostRefused text e × ((h : IpInet) → ¬ (I
 abbrev pub IsNoAddressBy : List ℕ → BadText → AddressError → Type 0
 IsNoAddressBy text bad e = IsNoAddress text × (e ≡ ip_error) × Shows text bad
 
+-- the same without white space at both ends
+abbrev pub IsNoEndBy : List ℕ → BadText → AddressError → Type 0
+IsNoEndBy text bad e = (end : List ℕ) × IsTrimAscii text end × IsNoAddressBy end bad e
+
 -- the first error of a field, with the string that is wrong: it is not UTF-8; else, without a hyphen, it is no network,
 -- and this is the first error; else what stands before its first hyphen is no address, or else what stands behind it;
 -- else the two are of two families; else the first is above the last
@@ -117,7 +125,7 @@ IsFieldError bits field NoField = ⊥
 IsFieldError bits field (NotUtf8 text) = ¬ (IsUtf8 field) × (text.bytes ≡ byte_excerpt field)
 IsFieldError bits field (NoNetwork bad e) = (field ≢ []) × Lacks hyphen field × IsNoNetworkBy bits field e × Shows field bad
 IsFieldError bits field (NoAddress bad e) = (front : List ℕ) × (back : List ℕ) × (field ≡ front ++ hyphen ∷ back) × Lacks hyphen front
-    × (IsNoAddressBy front bad e ⊎ ((first : IpAddr) × IsIpText front first × IsNoAddressBy back bad e))
+    × (IsNoEndBy front bad e ⊎ ((first : IpAddr) × IsEnd front first × IsNoEndBy back bad e))
 IsFieldError bits field (TwoFamilies text) = (first : IpAddr) × (last : IpAddr) × AreEnds field first last
     × (address_family first ≢ address_family last) × (text.bytes ≡ excerpt field)
 IsFieldError bits field (Reversed text) = (first : IpAddr) × (last : IpAddr) × AreEnds field first last

@@ -3,7 +3,7 @@ use Rattle.std.specs.Prelude.{◌≡◌, ℕ, Bool, List, ◌++◌, Result, Matc
 use Rattle.cidr.specs.declared.cidr.combined.IpCidr.{IpCidr}
 use Rattle.cidr.specs.declared.family.Family.{Family}
 use Rattle.cidr.specs.declared.family.Family.TheVariants.{Ipv4, Ipv6}
-use Rattle.cidr_lists.specs.Lists.{IsField, IsContent, IsFieldError, IsNoAddressBy, AreContentNetworks, line_networks}
+use Rattle.cidr_lists.specs.Lists.{IsField, IsContent, IsFieldError, IsNoEndBy, AreContentNetworks, line_networks}
 use Rattle.cidr_lists.specs.declared.errors.LineError.{LineError}
 use Rattle.cidr_lists.specs.declared.errors.LineError.TheVariants.{NoAddress}
 use Rattle.cidr_lists.specs.declared.lines.Content.{Content}
@@ -12,7 +12,7 @@ use Rattle.cidr_lists.specs.declared.lists.Lists.{Lists}
 
 -- the string is no address, and this is the error
 abbrev pub IsNoEnd : List ℕ → LineError → Type 0
-IsNoEnd text (NoAddress bad e) = IsNoAddressBy text bad e
+IsNoEnd text (NoAddress bad e) = IsNoEndBy text bad e
 IsNoEnd text e = ⊥
 
 -- what a field says, or its error

@@ -1,9 +1,8 @@
 //! What a line of a list says: nothing, a network, an address or a range.
 ghost use Rattle.std.specs.Prelude.{◌≡◌, [], IfSome, MatchResult};
 ghost use Rattle.std.specs.List.{before_first};
-ghost use Rattle.cidr.specs.either.IpAddress.{IsIpText};
 ghost use Rattle.cidr.specs.declared.addr.ip.IpAddr.TheVariants.{V4, V6};
-ghost use Rattle.cidr_lists.specs.Lists.{AreEnds, IsNetworkBy, IsNoNetworkBy, is_comment_sign};
+ghost use Rattle.cidr_lists.specs.Lists.{AreEnds, IsEnd, IsNetworkBy, IsNoNetworkBy, is_comment_sign};
 ghost use Rattle.cidr_lists.specs.Reading.{IsNoEnd, ReadsField, ReadsLine};
 ghost use Rattle.cidr_lists.specs.declared.lines.HostBits.{HostBits as Bits};
 
@@ -65,13 +64,14 @@ pub fn without_comment(line: &[u8]) -> &[u8]
     line
 }
 
-/// The address that an end of a range is.
+/// The address that an end of a range is, without white space at both ends.
 fn end_of(text: &str) -> Result<IpAddr, LineError>
-    ensures { MatchResult result (IsIpText text.now) (IsNoEnd text.now) }
+    ensures { MatchResult result (IsEnd text.now) (IsNoEnd text.now) }
 {
-    match text.parse() {
+    let end = text.trim_ascii();
+    match end.parse() {
         Ok(address) => Ok(address),
-        Err(e) => Err(LineError::NoAddress(BadText::new(text), e)),
+        Err(e) => Err(LineError::NoAddress(BadText::new(end), e)),
     }
 }
 
@@ -144,7 +144,7 @@ fn content_of_field(host_bits: HostBits, field: &str) -> Result<Content, LineErr
 }
 
 /// The network that a whole line is, without white space and comments.
-fn whole_network(host_bits: HostBits, line: &[u8]) -> Option<IpCidr>
+pub(crate) fn whole_network(host_bits: HostBits, line: &[u8]) -> Option<IpCidr>
     ensures { IfSome result (IsNetworkBy host_bits line.now) }
 {
     let Ok(text) = str::from_utf8(line) else {
@@ -157,8 +157,8 @@ fn whole_network(host_bits: HostBits, line: &[u8]) -> Option<IpCidr>
 }
 
 /// What a line says, by what stands before its comment, without white space at both ends: a field with a hyphen is a
-/// range, whose ends are addresses without white space around the hyphen, and any other a network or an address.
-/// `192.0.2.0-192.0.2.9` is a range, and `192.0.2.0 - 192.0.2.9` an error.
+/// range, whose ends are addresses, with white space around the hyphen or none, and any other a network or an address.
+/// `192.0.2.0-192.0.2.9` is a range, and `192.0.2.0 - 192.0.2.9` the same.
 ///
 /// The first error is, in this order: `NotUtf8`; `NoNetwork` without a hyphen; `NoAddress` of what stands before the
 /// first hyphen, or behind it; `TwoFamilies`; `Reversed`. A line of more than 1 MiB is for the caller to find.
