@@ -1,7 +1,10 @@
 pub mod Anywhere
+pub mod Classed
 pub mod Contents
+pub mod Described
 pub mod FieldsAt
 pub mod Found
+pub mod Hosts
 pub mod KeptNear
 pub mod LineFeeds
 pub mod Merged
@@ -13,6 +16,7 @@ pub mod PlainTexts
 pub mod PrintedLines
 pub mod PrintedTexts
 pub mod ReadBack
+pub mod Registered
 pub mod Resolved
 pub mod SaidWidths
 pub mod SameKeys

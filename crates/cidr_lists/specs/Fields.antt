@@ -118,6 +118,6 @@ IsBadField column line e =
     HasFields column.separator line × (field : List ℕ) × IsFieldOf column line field × (field ≢ []) × IsNoNetworkField Refused field e
 
 -- what the field of a column says, or its error
-abbrev pub ReadsField : Column → List ℕ → Result (Option IpCidr) LineError → Type 0
-ReadsField column line (Ok said) = FieldSays column line said
-ReadsField column line (Err e) = IsBadField column line e
+abbrev pub ReadsColumn : Column → List ℕ → Result (Option IpCidr) LineError → Type 0
+ReadsColumn column line (Ok said) = FieldSays column line said
+ReadsColumn column line (Err e) = IsBadField column line e

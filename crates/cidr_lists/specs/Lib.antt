@@ -1,6 +1,8 @@
 -- What lists say, and what is printed of them.
 pub mod Changes
+pub mod Classes
 pub mod Combining
+pub mod Descriptions
 pub mod Entries
 pub mod Faults
 pub mod Fields

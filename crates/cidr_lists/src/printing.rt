@@ -1,10 +1,13 @@
 //! Networks and addresses as they are printed.
-ghost use Rattle.std.specs.Prelude.{◌≡◌, ◌≤◌, ◌^◌, ℕ, List, length, Bool, decimal};
+ghost use Rattle.std.specs.Prelude.{◌≡◌, ◌≤◌, ◌^◌, ℕ, List, length, take, Bool, decimal};
+ghost use Rattle.cidr.specs.either.IpAddress.{address_family, plain_bits};
+ghost use Rattle.cidr.specs.model.Network.{width_of};
+ghost use Rattle.cidr.specs.texts.Printed.{plain_text};
 ghost use Rattle.cidr_lists.specs.Sets.{count_or_all};
 ghost use Rattle.cidr.specs.model.Bits.{bit_eq};
 
 use arrayvec::ArrayString;
-use cidr::{Ipv4Addr, Ipv4Cidr, Ipv6Addr, Ipv6Cidr, NetworkBits};
+use cidr::{BitString, IpAddr, Ipv4Addr, Ipv4Cidr, Ipv6Addr, Ipv6Cidr, NetworkBits};
 use cidr_sets::Addressed;
 use itoa::Buffer;
 
@@ -82,6 +85,26 @@ impl PrintedAddress for Ipv6Cidr {
 
     fn are_same(first: &Ipv6Addr, last: &Ipv6Addr) -> bool {
         first == last
+    }
+}
+
+/// The network of the first bits of an address, as it is printed.
+pub fn block_text(address: &IpAddr, len: u8) -> ArrayString<43>
+    ensures bytes { result.bytes ≡ plain_text (address_family address.now) (take len (plain_bits address.now)) }
+    ensures len { length result.bytes ≤ 43 }
+    ensures wide { length (plain_bits address.now) ≡ width_of (address_family address.now) }
+{
+    match address {
+        IpAddr::V4(address) => {
+            let mut network = Ipv4Cidr::new_host(*address);
+            network.clip(usize::from(len));
+            network.to_text()
+        }
+        IpAddr::V6(address) => {
+            let mut network = Ipv6Cidr::new_host(*address);
+            network.clip(usize::from(len));
+            network.to_text()
+        }
     }
 }
 

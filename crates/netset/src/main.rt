@@ -27,7 +27,10 @@ fn main(rt: HostRuntime) -> ExitCode {
         runtime: &rt,
         progress: &progress,
     };
-    let mut folder = Beside { runtime: &rt };
+    let mut folder = Beside {
+        runtime: &rt,
+        refused: false,
+    };
     let arguments = Given { system: &rt };
     let mut memory = Heap::new(rt.alloc());
     ExitCode::from(program(

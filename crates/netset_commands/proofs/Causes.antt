@@ -1,5 +1,5 @@
 -- What a run gives up for.
-use Rattle.std.proofs.Common.{◌≡◌, refl, sym, ap, subst, arith, inl, inr, ℕ, ◌+◌, ◌≤◌, Bor, Bool, true, false, List, ◌++◌, length, length-append, Option, Some, None, Result, Ok, Err, IfErr}
+use Rattle.std.proofs.Common.{◌≡◌, ◌⊎◌, refl, sym, ap, subst, arith, inl, inr, ℕ, ◌+◌, ◌≤◌, Bor, Bool, true, false, List, ◌++◌, length, length-append, Option, Some, None, Result, Ok, Err, IfErr}
 use Rattle.std.specs.List.{slice_split}
 use Rattle.std.specs.Option.{IfSome}
 use Rattle.std.proofs.lemmas.List.{length-map}
@@ -11,12 +11,13 @@ use Rattle.cidr_io.specs.declared.lines.ReadError.TheVariants.{Failed}
 use Rattle.cidr_io.specs.declared.lines.ReadError.TheVariants as no_line
 use Rattle.cidr_io.specs.declared.sink.OutputFailed.{OutputFailed}
 use Rattle.cidr_io.specs.Writing.{State}
-use Rattle.netset_commands.specs.Causes.{Cause, AreTooMany, LookCause, FileMayFail, ReadCause, TextFails}
-use Rattle.netset_commands.specs.Commands.{Single as ASingle}
+use Rattle.netset_commands.specs.Causes.{Cause, AreTooMany, LookCause, FileMayFail, ReadCause, Refusals, TextFails}
+use Rattle.netset_commands.specs.Commands.{Compile, Single as ASingle}
 use Rattle.netset_commands.specs.Gathering.{IsLost, Stops, ended_by, told_behind}
 use Rattle.cidr_lists.specs.Lists.{Text, is_line_feed, kept_of, lines_of}
 use Rattle.netset_commands.specs.LookUps.{unread}
-use Rattle.netset_commands.specs.Program.{AnswersRequest, IsBadArgument, by_output}
+use Rattle.netset_commands.specs.Look.{IsUnreadTable}
+use Rattle.netset_commands.specs.Program.{AnswersRequest, IsBadArgument, IsCaused, IsSameFile, by_output}
 use Rattle.netset_commands.specs.Reading.{IsStopped, read_error}
 use Rattle.netset_commands.specs.Single.{SingleRequest}
 use Rattle.netset_commands.specs.declared.output.answers.Verdict.{Verdict}
@@ -152,6 +153,18 @@ pub single_cause : (F : List ℕ → Type 0) (refused : Bool) (contents : List �
 single_cause F refused contents request s t (Ok verdict) h = tt
 single_cause F refused contents request s t (Err e) (inl (same, bad)) = argument_cause F refused _ e bad
 single_cause F refused contents request s t (Err e) (inr (answer, verdict, w, is, written, by)) = output_cause F refused verdict w (Err e) by
+
+-- a table that is not compiled, before a file is written
+pub uncompiled : (contents : List ℕ → Option Text) (refused : Refusals) (table name : List ℕ) (e : CommandError)
+    → IsSameFile table name e ⊎ IsUnreadTable (contents table) table e → Cause (FileMayFail contents) refused.memory e
+    → IsCaused contents refused (Compile table name) (Err e)
+uncompiled contents refused table name (error.Argument text why) is h = h
+uncompiled contents refused table name (error.Line file number why) is h = h
+uncompiled contents refused table name (error.Input file why) is h = h
+uncompiled contents refused table name error.NoMemory is h = h
+uncompiled contents refused table name error.Output is h = h
+uncompiled contents refused table name (error.File file why) (inl same) h = absurd same.1
+uncompiled contents refused table name (error.File file why) (inr unread) h = absurd unread
 
 -- ---- lines that are picked
 ended_cause : (F : List ℕ → Type 0) (refused : Bool) (e : CommandError) (w : Result (Unit {0}) OutputFailed) (r : Result Verdict CommandError)

@@ -12,7 +12,8 @@ use Rattle.netset_commands.specs.Answering.{AreRead, HasAddresses}
 use Rattle.cidr_lists.specs.Combining.{AllHave, FirstAlone, SomeHas}
 use Rattle.netset_commands.specs.Combining.{IsMade, Turned, form_of, step_of, turns}
 use Rattle.cidr_lists.specs.Sets.{Combined, Steps, IsInSets, networks_of, printed_sets}
-use Rattle.netset_commands.specs.Commands.{Lists, Styled, NotIn, Says, read_files}
+use Rattle.cidr_lists.specs.Texts.{SaysAddress}
+use Rattle.netset_commands.specs.Commands.{Lists, Styled, NotIn, read_files}
 use Rattle.netset_commands.specs.Program.{AnswersRequest, by_output}
 use Rattle.cidr_lists.specs.Formats.{Style, styled}
 use Rattle.cidr_lists.specs.Lists.{Text, line_networks}
@@ -104,7 +105,7 @@ module _ {X : Type 0} (In : X → Family → List Bool → Type 0) (family : Fam
   made_by Count x xs = by_unions (In x family a) xs
 
 pub has_same : (said : List (List (List IpCidr))) (sets : List Sets) (family : Family) (a : List Bool) → length a ≡ 129 → AllZip HasAddresses said sets
-    → AllZip (λ x y. IsInSets x family a ↔ Says y family a) sets said
+    → AllZip (λ x y. IsInSets x family a ↔ SaysAddress y family a) sets said
 has_same [] [] family a wide h = tt
 has_same [] (y ∷ sets) family a wide h = absurd h
 has_same (x ∷ said) [] family a wide h = absurd h
@@ -123,7 +124,7 @@ lists_written contents operation files read sets s t w r are made (text, printed
       (
         λ texts told_so.
             let (said, says, has) = are texts told_so in
-            (said, says, (networks_of sets, (λ family. set_same _ _ (networks_of sets family) (made family) (λ a wide. made_same IsInSets Says operation read said family a (has_same said read family a wide has))), printed)),
+            (said, says, (networks_of sets, (λ family. set_same _ _ (networks_of sets family) (made family) (λ a wide. made_same IsInSets SaysAddress operation read said family a (has_same said read family a wide has))), printed)),
         refl,
       ),
       written,
@@ -143,7 +144,7 @@ styled_written contents style operation files read sets text s t w r are made pr
       (
         λ texts told_so.
             let (said, says, has) = are texts told_so in
-            (said, says, networks_of sets, (λ family. set_same _ _ (networks_of sets family) (made family) (λ a wide. made_same IsInSets Says operation read said family a (has_same said read family a wide has))), printed),
+            (said, says, networks_of sets, (λ family. set_same _ _ (networks_of sets family) (made family) (λ a wide. made_same IsInSets SaysAddress operation read said family a (has_same said read family a wide has))), printed),
         refl,
       ),
       written,
@@ -173,7 +174,7 @@ not_in_written contents net files network read rest whole sets s t w r parsed ar
                 networks_of sets,
                 λ family. set_same _ _ (networks_of sets family) (both family) (λ a wide.
                     steps_same Intersection _ _ _ _ ((one family).exact a wide)
-                    (chained _ _ _ ((made family).exact a wide) (made_same IsInSets Says Not read said family a (has_same said read family a wide has)))),
+                    (chained _ _ _ ((made family).exact a wide) (made_same IsInSets SaysAddress Not read said family a (has_same said read family a wide has)))),
                 refl,
               ),
             ),

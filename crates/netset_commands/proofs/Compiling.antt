@@ -15,14 +15,14 @@ use Rattle.cidr_files.specs.Tables.{AreOffsets, stored_networks, value_in}
 use Rattle.cidr_files.specs.declared.contents.Rows.{Rows}
 use Rattle.cidr_lists.specs.Tables.{value_at}
 use Rattle.cidr_lists.specs.declared.rows.Span.{Span}
-use Rattle.netset_commands.specs.Columns.{AreColumns, network_of, value_bytes}
+use Rattle.netset_commands.specs.Columns.{AreColumns, numbered_network, value_bytes}
 use Rattle.netset_commands.specs.Compiled.{HasTheRows}
 use Rattle.netset_commands.specs.declared.output.compiled.Columns.{Columns}
 
 -- ---- networks
 module _ (w : ℕ) where
   -- the bits of a network are the first bits of its first address
-  pub network_bits : (p : List Bool) → length p ≤ w → prefix_bits w (network_of w p) ≡ p
+  pub network_bits : (p : List Bool) → length p ≤ w → prefix_bits w (numbered_network w p) ≡ p
   network_bits p fit =
       ap (take (length p)) (same_from_number w (number (first_of w p)) (first_of w p) (length-first_of w p fit) refl)
       ∙ take_at p (zeros (w - length p)) (length p) refl
@@ -40,7 +40,7 @@ range_behind xs ys a b from to =
 -- the first rows as columns
 pub record AreUpTo {C W : Type 0} (w : ℕ) (value : W → ℕ) (bits_of : C → List Bool) (all : List ℕ) (rows : List (C × Span)) (keys : List (Key W))
     (offsets values : List ℕ) (n : ℕ) : Type 0 where
-  pub networks : key_networks value keys ≡ map (λ (row : C × Span). network_of w (bits_of row.0)) (take n rows)
+  pub networks : key_networks value keys ≡ map (λ (row : C × Span). numbered_network w (bits_of row.0)) (take n rows)
   pub fit : (any : C × Span) (i : ℕ) → i < n → length (bits_of (get_or rows i any).0) ≤ w
   pub places : AreOffsets offsets n (length values)
   pub each : (any : C × Span) (i : ℕ) → i < n → slice_range values (get_or offsets i 0) (get_or offsets (i + 1) 0) ≡ value_at all (get_or rows i any).1
@@ -104,7 +104,7 @@ module _ {C W : Type 0} (w : ℕ) (value : W → ℕ) (bits_of : C → List Bool
       → AreUpTo w value bits_of all rows (keys ++ key ∷ []) (offsets ++ length (values ++ added) ∷ []) (values ++ added) (n + 1)
   one_more keys offsets values n row key added l is addressed long short valued st =
       let end : ℕ = length (values ++ added) in
-      let pair : C × Span → ℕ × ℕ = λ r. network_of w (bits_of r.0) in
+      let pair : C × Span → ℕ × ℕ = λ r. numbered_network w (bits_of r.0) in
       let make : ℕ → ℕ → ℕ × ℕ = λ a b. (a, b) in
       let named : make (value key.address) key.len ≡ pair row = ap₂ make addressed long in
       let behind : (i : ℕ) → i < n + 1 → get_or (offsets ++ end ∷ []) i 0 ≡ get_or offsets i 0 =
@@ -170,7 +170,7 @@ module _ {C W : Type 0} (w : ℕ) (value : W → ℕ) (bits_of : C → List Bool
       let same : n ≡ length rows = omega arith in
       let all_rows : take n rows ≡ rows = take_all n rows end in
       record {
-        networks = st.networks ∙ ap (map (λ (r : C × Span). network_of w (bits_of r.0))) all_rows;
+        networks = st.networks ∙ ap (map (λ (r : C × Span). numbered_network w (bits_of r.0))) all_rows;
         fit = λ any i l. st.fit any i (omega arith);
         offsets = subst (λ (k : ℕ). AreOffsets columns.offsets.items k (length columns.values.items)) same st.places;
         values = λ any i l. st.each any i (omega arith);
@@ -200,11 +200,11 @@ module _ {C W : Type 0} (w : ℕ) (value : W → ℕ) (bits_of : C → List Bool
     -- the bits of the networks
     said_networks : (rows : List (C × Span)) → ((any : C × Span) (i : ℕ) → i < length rows → length (bits_of (get_or rows i any).0) ≤ w)
         → (i : ℕ) → i < length (map said rows)
-        → prefix_bits w (get_or (map (λ (row : C × Span). network_of w (bits_of row.0)) rows) i (0, 0)) ≡ (get_or (map said rows) i ([], [])).0
+        → prefix_bits w (get_or (map (λ (row : C × Span). numbered_network w (bits_of row.0)) rows) i (0, 0)) ≡ (get_or (map said rows) i ([], [])).0
     said_networks [] fit i l = absurd (omega (arith, l))
     said_networks (row ∷ rows) fit i l =
         let l' : i < length (row ∷ rows) = omega (arith, length-map (row ∷ rows) said) in
-        let pair : C × Span → ℕ × ℕ = λ r. network_of w (bits_of r.0) in
+        let pair : C × Span → ℕ × ℕ = λ r. numbered_network w (bits_of r.0) in
         ap (prefix_bits w) (get_or-map pair (row ∷ rows) i row (0, 0) l')
         ∙ (network_bits w (bits_of (get_or (row ∷ rows) i row).0) (fit row i l')
         ∙ sym (ap (λ (p : List Bool × List ℕ). p.0) (get_or-map said (row ∷ rows) i row ([], []) l')))
@@ -213,7 +213,7 @@ module _ {C W : Type 0} (w : ℕ) (value : W → ℕ) (bits_of : C → List Bool
         → file.offsets.now ≡ columns.offsets.items → file.values.now ≡ columns.values.items → HasRows numbers parts value file
         → HasTheRows w numbers parts (map said rows)
     has_the_rows rows columns file are keys offsets values has =
-        let pair : C × Span → ℕ × ℕ = λ r. network_of w (bits_of r.0) in
+        let pair : C × Span → ℕ × ℕ = λ r. numbered_network w (bits_of r.0) in
         let networks : stored_networks numbers parts ≡ map pair rows = has.networks_are ∙ (ap (key_networks value) keys ∙ are.networks) in
         record {
           many = ap length networks ∙ (length-map rows pair ∙ sym (length-map rows said));

@@ -5,6 +5,7 @@ use Rattle.cidr_io.specs.Writing.{State, Whole, Answered, Tells}
 use Rattle.cidr_io.specs.declared.sink.OutputFailed.{OutputFailed}
 use Rattle.cidr_lists.specs.Lists.{Text}
 use Rattle.netset_commands.specs.Arguments.{Line, line_request}
+use Rattle.netset_commands.specs.Causes.{Refusals}
 use Rattle.netset_commands.specs.Commands.{Request, Lists, Styled, NotIn, Diff, Free, Split, Check, Which, Match, MatchEach, Look, Compile, Describe, Class, Single, Help, Version, IsAnswer, reading_of}
 use Rattle.netset_commands.specs.Program.{AnswersRequest, AnswersWhole, IsRequestRefused, KeepsGoing, Reports, Runs, RunsFound, RunsLine, RunsOnce, RunsRequest, answer_status, by_output, status_of, contents_by}
 use Rattle.netset_commands.specs.Typed.{HasAnswered, AnswersTyped}
@@ -106,7 +107,7 @@ answer_done contents (Help topic) verdict out new h = whole_done contents (Help 
 answer_done contents Version verdict out new h = whole_done contents Version verdict out new h
 
 -- ---- a run
-module _ (verdict : Verdict) (refused closed : Bool) (out new err new_err : State) where
+module _ (verdict : Verdict) (refused : Refusals) (closed : Bool) (out new err new_err : State) where
   -- the arguments were read as a request, and that was answered, perhaps to a file
   abbrev Found : (List ℕ → Option (List ℕ)) → Result Line (List ℕ) → Type 0
   Found contents found = (reading : Reading) × (target : Option (List ℕ)) × (request : Request) × (found ≡ Ok (reading, (target, request)))
@@ -166,7 +167,7 @@ one_request : {A : Type 0} (p q : A) (found : Result A (List ℕ)) → found ≡
 one_request {A} p q found is also = ap (λ (k : Result A (List ℕ)). result_unwrap_or k p) (sym is ∙ also)
 
 -- What such a run has written, where its arguments are a request as it is typed.
-pub answers_typed : (words : Option (List (List ℕ))) (contents : List ℕ → Option (List ℕ)) (refused closed : Bool) (out new err new_err : State) (status : ℕ)
+pub answers_typed : (words : Option (List (List ℕ))) (contents : List ℕ → Option (List ℕ)) (refused : Refusals) (closed : Bool) (out new err new_err : State) (status : ℕ)
     → Runs words contents refused closed out new err new_err status → AnswersTyped words contents out new err new_err status
 answers_typed words contents refused closed out new err new_err status runs given options request verdict is typed ends =
     let told = subst (λ (k : Option (List (List ℕ))). Runs k contents refused closed out new err new_err status) is runs in

@@ -7,7 +7,7 @@ use Rattle.cidr_io.specs.Writing.{State, Tells}
 use Rattle.cidr_io.specs.declared.sink.OutputFailed.{OutputFailed}
 use Rattle.cidr_lists.specs.Lists.{Text}
 use Rattle.netset_commands.specs.Arguments.{Line, line_request}
-use Rattle.netset_commands.specs.Causes.{Cause, FileMayFail}
+use Rattle.netset_commands.specs.Causes.{Cause, FileMayFail, Refusals}
 use Rattle.netset_commands.specs.Commands.{Lists, ReadsInputTwice, read_files}
 use Rattle.netset_commands.specs.Program.{AnswersRequest, IsCaused, IsUnread, Reports, Runs, RunsLine, RunsOnce, by_output, contents_by, error_line, status_of}
 use Rattle.netset_commands.specs.declared.commands.Reading.{Reading}
@@ -38,9 +38,9 @@ never_written verdict (Err f) e by two =
     let three : 2 ≡ status_of (Err error.Output) = subst (λ (k : CommandError). 2 ≡ status_of (Err k)) output two in
     cc
 
-answer_failed : (contents : List ℕ → Option Text) (op : Operation) (files : List (List ℕ)) (refused closed : Bool) (out new err new_err : State)
-    (r : Result Verdict CommandError) → 2 ≡ status_of r → AnswersRequest contents (Lists op files) out new r → IsCaused contents refused r
-    → Reports closed r err new_err → Failed contents refused (read_files files) out new err new_err
+answer_failed : (contents : List ℕ → Option Text) (op : Operation) (files : List (List ℕ)) (refused : Refusals) (closed : Bool) (out new err new_err : State)
+    (r : Result Verdict CommandError) → 2 ≡ status_of r → AnswersRequest contents (Lists op files) out new r → IsCaused contents refused (Lists op files) r
+    → Reports closed r err new_err → Failed contents refused.memory (read_files files) out new err new_err
 answer_failed contents op files refused closed out new err new_err (Ok Yes) two answers caused says = cc
 answer_failed contents op files refused closed out new err new_err (Ok No) two answers caused says = cc
 answer_failed contents op files refused closed out new err new_err (Err e) two (inl (same, unread)) caused says =
@@ -49,11 +49,11 @@ answer_failed contents op files refused closed out new err new_err (Err e) two (
     absurd (never_written verdict w e by two)
 
 -- ---- a run of arguments that are an operation on lists, without -k
-module _ (words : List (List ℕ)) (contents : List ℕ → Option (List ℕ)) (refused closed : Bool) (out new err new_err : State) (reading : Reading)
+module _ (words : List (List ℕ)) (contents : List ℕ → Option (List ℕ)) (refused : Refusals) (closed : Bool) (out new err new_err : State) (reading : Reading)
     (op : Operation) (files : List (List ℕ)) (asks : line_request words ≡ Ok (reading, (None, Lists op files))) (once : ¬ (ReadsInputTwice (Lists op files)))
     (first : reading.keeps_going ≡ false) (text : (word : List ℕ) → Contains words word → IsUtf8 word) where
   abbrev HasFailed : Type 0
-  HasFailed = Failed (contents_by reading.host_bits contents) refused (read_files files) out new err new_err
+  HasFailed = Failed (contents_by reading.host_bits contents) refused.memory (read_files files) out new err new_err
 
   once_failed : RunsOnce reading contents refused (Lists op files) closed out new err new_err 2 → HasFailed
   once_failed (inl (twice, e, why, ends)) = absurd (once twice)

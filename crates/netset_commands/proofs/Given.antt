@@ -2,6 +2,7 @@
 use Rattle.std.proofs.Common.{◌≡◌, sym, ◌∙◌, subst, inr, ℕ, Bool, true, false, List, Bor, Option, Some, None, Err, option_to_list}
 use Rattle.std.specs.Option.{IfSome}
 use Rattle.cidr.specs.declared.family.Family.{Family}
+use Rattle.cidr_files.specs.Faults.{IsFaultOfBytes}
 use Rattle.cidr_lists.specs.Lists.{Text}
 use Rattle.netset_commands.specs.Begun.{IsBegunAt, begun_left}
 use Rattle.netset_commands.specs.Causes.{Cause, FileMayFail}
@@ -9,7 +10,7 @@ use Rattle.netset_commands.specs.Compiled.{HasTable, SaysTable, begins_file}
 use Rattle.netset_commands.specs.Gathering.{IsNotReadFurther}
 use Rattle.netset_commands.specs.Look.{IsUnreadTable}
 use Rattle.netset_commands.specs.LookUps.{unread}
-use Rattle.netset_commands.specs.Stored.{AreFileBytes, ChecksFile, IsFaultTold, IsNoTable, IsNotGiven}
+use Rattle.netset_commands.specs.Stored.{AreFileBytes, ChecksFile, IsNoTable, IsNotGiven}
 use Rattle.netset_commands.specs.declared.errors.CommandError.{CommandError}
 use Rattle.netset_commands.specs.declared.errors.CommandError.TheVariants as error
 use Rattle.netset_commands.specs.declared.errors.ReadError.{ReadError}
@@ -84,8 +85,8 @@ no_lines contents file NoMemory begins h = h
 -- it is no file of look-ups
 pub no_file : (IsOther : CommandError → Type 0) (contents : Option Text) (name bytes : List ℕ) (e : CommandError) → IsOther error.NoMemory → AreFileBytes contents bytes
     → ChecksFile name bytes (Err e) → IsNotGiven IsOther contents name e
-no_file IsOther contents name bytes (error.File file why) none are h =
-    (h.0, λ text is. let (begins, same) = are text is in (begins, subst (λ (b : List ℕ). IsFaultTold b why) same h.1))
+no_file IsOther contents name bytes (error.File file why) none are (named, (f, fault, told)) =
+    (named, f, told, λ text is. let (begins, same) = are text is in (begins, subst (λ (b : List ℕ). IsFaultOfBytes b f) same fault))
 no_file IsOther contents name bytes (error.Argument text e) none are h = cc
 no_file IsOther contents name bytes (error.Line file number e) none are h = cc
 no_file IsOther contents name bytes (error.Input file why) none are h = cc

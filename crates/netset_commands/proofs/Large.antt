@@ -28,12 +28,12 @@ use Rattle.cidr_files.specs.declared.faults.WriteError.{WriteError}
 use Rattle.cidr_files.specs.declared.faults.WriteError.TheVariants.{Keys, Values, NoMemory}
 use Rattle.cidr_lists.specs.Tables.{resolved, value_at}
 use Rattle.cidr_lists.specs.declared.rows.Span.{Span}
-use Rattle.netset_commands.specs.Columns.{AreColumns, network_of, value_bytes}
+use Rattle.netset_commands.specs.Columns.{AreColumns, numbered_network, value_bytes}
 use Rattle.netset_commands.specs.Compiled.{AreTooLarge}
 use Rattle.netset_commands.specs.declared.output.compiled.Columns.{Columns}
 
 -- ---- the networks of sorted keys ascend
-network_fits : (w : ℕ) (p : List Bool) → length p ≤ w → IsNetwork w (network_of w p)
+network_fits : (w : ℕ) (p : List Bool) → length p ≤ w → IsNetwork w (numbered_network w p)
 network_fits w p fit =
     record {
       fits = fit;
@@ -50,7 +50,7 @@ by_order Equal Greater a b m n h k e = cc
 by_order Greater s a b m n h k e = cc
 
 -- the order of networks is that of their first addresses and then of their lengths
-precedes : (w : ℕ) (p q : List Bool) → length p ≤ w → length q ≤ w → bit_cmp p q ≡ Less → Precedes (network_of w p) (network_of w q)
+precedes : (w : ℕ) (p q : List Bool) → length p ≤ w → length q ≤ w → bit_cmp p q ≡ Less → Precedes (numbered_network w p) (numbered_network w q)
 precedes w p q fp fq less =
     let a : ℕ = number (first_of w p) in
     let b : ℕ = number (first_of w q) in
@@ -62,11 +62,11 @@ precedes w p q fp fq less =
     (ranked (length p) (length q) (nat_cmp (length p) (length q)) refl) padded
 
 ascending : (w : ℕ) (keys : List (List Bool)) → IsStrictlySortedBy bit_cmp keys → ((i : ℕ) → i < length keys → length (get_or keys i []) ≤ w)
-    → AreAscendingNetworks w (map (network_of w) keys)
+    → AreAscendingNetworks w (map (numbered_network w) keys)
 ascending w keys sorted fit =
-    let many : length (map (network_of w) keys) ≡ length keys = length-map keys (network_of w) in
-    let at : (i : ℕ) → i < length keys → get_or (map (network_of w) keys) i (0, 0) ≡ network_of w (get_or keys i []) =
-    λ i l. get_or-map (network_of w) keys i [] (0, 0) l in
+    let many : length (map (numbered_network w) keys) ≡ length keys = length-map keys (numbered_network w) in
+    let at : (i : ℕ) → i < length keys → get_or (map (numbered_network w) keys) i (0, 0) ≡ numbered_network w (get_or keys i []) =
+    λ i l. get_or-map (numbered_network w) keys i [] (0, 0) l in
     record {
       each = λ i l.
           let l' : i < length keys = omega (arith, many, l) in
@@ -74,8 +74,8 @@ ascending w keys sorted fit =
       ascending = λ i k less l.
           let l' : k < length keys = omega (arith, many, l) in
           let l'' : i < length keys = omega (arith, less, l') in
-          subst (λ (x : ℕ × ℕ). Precedes x (get_or (map (network_of w) keys) k (0, 0))) (sym (at i l''))
-          (subst (λ (y : ℕ × ℕ). Precedes (network_of w (get_or keys i [])) y) (sym (at k l'))
+          subst (λ (x : ℕ × ℕ). Precedes x (get_or (map (numbered_network w) keys) k (0, 0))) (sym (at i l''))
+          (subst (λ (y : ℕ × ℕ). Precedes (numbered_network w (get_or keys i [])) y) (sym (at k l'))
           (precedes w (get_or keys i []) (get_or keys k []) (fit i l'') (fit k l') (Less-from_sorted bit_cmp keys i k [] sorted less l')));
     }
 
@@ -110,13 +110,13 @@ long_values all rows long = inr (omega (arith, long, bytes_said all rows))
 module _ {W : Type 0} (w : ℕ) (value : W → ℕ) (all : List ℕ) (rows : List (List Bool × Span)) (columns : Columns W) (file : Rows W)
     (are : AreColumns w value (λ (p : List Bool). p) all rows columns) (keys : file.keys.now ≡ columns.keys.items) (offsets : file.offsets.now ≡ columns.offsets.items)
     (values : file.values.now ≡ columns.values.items) (sorted : IsStrictlySortedBy bit_cmp (keys_of rows)) where
-  networks_are : key_networks value file.keys.now ≡ map (network_of w) (keys_of rows)
-  networks_are = ap (key_networks value) keys ∙ (are.networks ∙ sym (map-map (network_of w) (λ (r : List Bool × Span). r.0) rows))
+  networks_are : key_networks value file.keys.now ≡ map (numbered_network w) (keys_of rows)
+  networks_are = ap (key_networks value) keys ∙ (are.networks ∙ sym (map-map (numbered_network w) (λ (r : List Bool × Span). r.0) rows))
 
   many_keys : length file.keys.now ≡ length rows
   many_keys =
       sym (length-map file.keys.now (λ (key : Key W). (value key.address, key.len)))
-      ∙ (ap length networks_are ∙ (length-map (keys_of rows) (network_of w) ∙ length-map rows (λ (r : List Bool × Span). r.0)))
+      ∙ (ap length networks_are ∙ (length-map (keys_of rows) (numbered_network w) ∙ length-map rows (λ (r : List Bool × Span). r.0)))
 
   are_ascending : AreAscendingNetworks w (key_networks value file.keys.now)
   are_ascending = subst (AreAscendingNetworks w) (sym networks_are) (ascending w (keys_of rows) sorted (fit_keys w rows are.fit))

@@ -1,7 +1,8 @@
 -- What a run leaves in the folder.
-use Rattle.std.proofs.Common.{◌≡◌, ◌≢◌, refl, sym, ◌∙◌, ap, subst, arith, inl, inr, ℕ, ◌≤◌, Bool, false, List, Option, Some, None, Result, Ok, Err}
+use Rattle.std.proofs.Common.{◌≡◌, ◌≢◌, refl, sym, ◌∙◌, ap, subst, arith, inl, inr, ℕ, ◌≤◌, Bool, true, false, List, Option, Some, None, Result, Ok, Err}
 use Rattle.cidr_io.specs.Writing.{State}
 use Rattle.cidr_lists.specs.Lists.{Text}
+use Rattle.netset_commands.specs.Causes.{Refusals}
 use Rattle.netset_commands.specs.Commands.{Request, Compile, IsAnswer}
 use Rattle.netset_commands.specs.Arguments.{Line, line_request}
 use Rattle.netset_commands.specs.Leaving.{IsSaved, Leaves, LeavesBy, LeavesFound, LeavesTo, RunLeaves}
@@ -109,15 +110,19 @@ module _ (name : List ℕ) (reading : Reading) (contents : List ℕ → Option (
   abbrev text : State
   text = record { taken = Some held.0; failed = held.1 }
 
+  -- what was refused before, in a folder in which nothing is written
+  abbrev before : Refusals
+  before = record { memory = refused; folder = true }
+
   -- the run that writes it
   abbrev RunsBefore : State → ℕ → Type 0
-  RunsBefore k n = RunsFound (Ok (reading, (None, request))) contents refused held.1 k text err new_err n
+  RunsBefore k n = RunsFound (Ok (reading, (None, request))) contents before held.1 k text err new_err n
 
   pub saved_into : (old new : Option (List (List ℕ × List ℕ))) → status ≤ 1 → RunsBefore start status → new ≡ with_file name bytes old
       → LeavesTo (Some name) (contents_by reading.host_bits contents) request old new status
   saved_into old new few runs saved =
       let (verdict, ends) = verdict_by status few in
-      let (answer, is, written, quiet) = found_answered verdict refused held.1 empty text err new_err reading request contents
+      let (answer, is, written, quiet) = found_answered verdict before held.1 empty text err new_err reading request contents
       (subst (RunsBefore empty) ends (subst (λ (k : State). RunsBefore k status) none runs)) in
       let all : held.0 ≡ answer = written.taken in
       inl (answer, verdict, is, ends, saved ∙ ap (λ (k : List ℕ). with_file name k old) (sym (ap (λ (k : List ℕ × Bool). k.0) whole) ∙ all))

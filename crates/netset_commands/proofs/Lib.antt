@@ -11,7 +11,6 @@ pub mod Taken
 pub mod Operands
 pub mod Pools
 pub mod Described
-pub mod Hosts
 pub mod Matched
 pub mod MatchedFiles
 pub mod Arguments
@@ -33,7 +32,6 @@ pub mod Given
 pub mod Listed
 pub mod Asked
 pub mod Looked
-pub mod Registered
 pub mod Classed
 pub mod Telling
 pub mod Loading

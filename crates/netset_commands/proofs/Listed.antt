@@ -25,7 +25,7 @@ use Rattle.netset_commands.specs.Compiled.{HasTable, begins_file}
 use Rattle.netset_commands.specs.Gathering.{IsNotReadFurther}
 use Rattle.netset_commands.specs.LookUps.{unread}
 use Rattle.netset_commands.specs.Reading.{ReadsList}
-use Rattle.netset_commands.specs.Stored.{AreFileBytes, IsNotGiven, by_family, rows_from, rows_of}
+use Rattle.netset_commands.specs.Stored.{AreFileBytes, IsNotGiven, by_family, rows_from, file_rows}
 use Rattle.netset_commands.specs.declared.errors.CommandError.{CommandError}
 use Rattle.netset_commands.specs.declared.errors.CommandError.TheVariants as error
 use Rattle.netset_commands.specs.declared.errors.ReadError.{ReadError}
@@ -110,7 +110,7 @@ networks_pushed bits_of w value numbers parts addresses old new rows row are is 
     h ∙ ap (λ (ns : List (ℕ × ℕ)). map bits_of old ++ map (prefix_bits w) ns) (take_all row networks past)
 
 listed_rows : (table : Table) (old new : Lists) → old.v4.items ≡ [] → old.v6.items ≡ [] → new.v4.items ≡ old.v4.items ++ prefixes 32 words (parts_in table.ipv4)
-    → new.v6.items ≡ old.v6.items ++ prefixes 128 wide_words (parts_in table.ipv6) → (family : Family) → listed new family ≡ keys_of (by_family (rows_of table) family)
+    → new.v6.items ≡ old.v6.items ++ prefixes 128 wide_words (parts_in table.ipv6) → (family : Family) → listed new family ≡ keys_of (by_family (file_rows table) family)
 listed_rows table old new four six more4 more6 Ipv4 =
     more4 ∙ (ap (λ (k : List (List Bool)). k ++ prefixes 32 words (parts_in table.ipv4)) four
     ∙ sym (networks_of_rows 32 (value_in (parts_in table.ipv4)) (stored_networks words (parts_in table.ipv4)) 0))
@@ -125,7 +125,7 @@ pub addresses_had : (table : Table) (old new : Lists) (sets : Sets) → old.v4.i
     → map (λ (p : List Bool). p) new.v4.items ≡ map (λ (p : List Bool). p) old.v4.items ++ prefixes 32 words (parts_in table.ipv4)
     → map (λ (p : List Bool). p) new.v6.items ≡ map (λ (p : List Bool). p) old.v6.items ++ prefixes 128 wide_words (parts_in table.ipv6)
     → ((family : Family) → IsSetOf 129 (Covers (listed new family)) (networks_of sets family))
-    → (family : Family) → IsSetOf 129 (IsInRow (by_family (rows_of table)) family) (networks_of sets family)
+    → (family : Family) → IsSetOf 129 (IsInRow (by_family (file_rows table)) family) (networks_of sets family)
 addresses_had table old new sets four six more4 more6 set family =
     subst (λ (k : List (List Bool)). IsSetOf 129 (Covers k) (networks_of sets family))
     (listed_rows table old new four six (same_bits old.v4.items new.v4.items (prefixes 32 words (parts_in table.ipv4)) more4)

@@ -23,7 +23,7 @@ use Rattle.cidr_lists.specs.Lists.{Text, lines_of}
 use Rattle.cidr_lists.specs.Fields.{IsBadLine}
 use Rattle.cidr_lists.specs.LookUps.{LineLooks, LookUp, found_line, is_found, look_line, printed_row}
 use Rattle.netset_commands.specs.Look.{TellsFound}
-use Rattle.netset_commands.specs.LookUps.{AreFirstSaid, AreFound, AskLooks, AsksLines, EndsReading, IsFoundOf, LooksAll, LooksEach, LooksLines, LooksOne, LooksUp, PushesFound, answer_of, answer_row, unread, verdict_of}
+use Rattle.netset_commands.specs.LookUps.{AreFirstSaid, AllFound, AskLooks, AsksLines, EndsReading, IsFoundOf, LooksAll, LooksEach, LooksLines, LooksOne, LooksUp, PushesFound, answer_of, answer_row, unread, verdict_of}
 use Rattle.cidr_lists.specs.Tables.{resolved, value_at}
 use Rattle.netset_commands.specs.Compiled.{SaysTable}
 use Rattle.netset_commands.specs.Program.{AnswersRequest}
@@ -192,7 +192,7 @@ found_at IsFound (Some address) None h = absurd h
 found_at IsFound None (Some one) h = absurd h
 
 pub all_found : (IsFound : IpAddr → Option Answer → Type 0) (asked : List (Option IpAddr)) (found : List (Option (IpAddr × Option Answer)))
-    → AllZip (IsFoundOf IsFound) asked found → AreFound IsFound found
+    → AllZip (IsFoundOf IsFound) asked found → AllFound IsFound found
 all_found IsFound [] [] h = All-nil (λ one. IfSome one (λ (pair : IpAddr × Option Answer). IsFound pair.0 pair.1))
 all_found IsFound [] (one ∷ found) h = absurd h
 all_found IsFound (ask ∷ asked) [] h = absurd h

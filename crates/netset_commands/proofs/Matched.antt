@@ -16,7 +16,8 @@ use Rattle.netset_commands.specs.Answering.{HaveListAddresses}
 use Rattle.cidr_io.specs.Collecting.{Collects, Holds}
 use Rattle.netset_commands.specs.Causes.{TextFails}
 use Rattle.netset_commands.specs.Combining.{Turned}
-use Rattle.netset_commands.specs.Commands.{IsInRow, HoldsOf, Match, Says}
+use Rattle.cidr_lists.specs.Texts.{SaysAddress}
+use Rattle.netset_commands.specs.Commands.{IsInRow, HoldsOf, Match}
 use Rattle.netset_commands.specs.Gathering.{Finishes, IsCounted, IsDone, IsLost, IsNotReadFurther, NotesLong, Stops, Streams, StreamsFile, GathersPart, ended_by, lines_of_part, rest_written, told_behind}
 use Rattle.cidr_lists.specs.Lists.{IsTooLong, Text, is_line_feed, kept_of, lines_of}
 use Rattle.cidr_lists.specs.Within.{AreWithin, HasOneIn, LiesIn}
@@ -622,7 +623,7 @@ known_cut P Q f label what known text answer e is h = cut_same P Q f label what 
 
 -- what follows of the addresses of a list
 pub of_list : (text : Text) (P Q : (Family → List Bool → Type 0) → Type 0) → ((IsIn : Family → List Bool → Type 0) → P IsIn → Q IsIn) → HoldsOf text P → HoldsOf text Q
-of_list text P Q f (inl (said, says, h)) = inl (said, says, f (Says said) h)
+of_list text P Q f (inl (said, says, h)) = inl (said, says, f (SaysAddress said) h)
 of_list text P Q f (inr (table, has, h)) = inr (table, has, f (IsInRow table) h)
 
 matched : (contents : List ℕ → Option Text) (choice : Choice) (column : Column) (options : List (List ℕ)) (list file : List ℕ) (sets : Sets) (known : Option (List ℕ)) (s t : State) (r : Result Verdict CommandError)

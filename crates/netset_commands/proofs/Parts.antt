@@ -1,5 +1,6 @@
 -- Words of a command line in their parts.
-use Rattle.std.proofs.Common.{◌≡◌, refl, sym, ◌∙◌, ap, ℕ, ◌+◌, ◌<◌, ◌≤◌, cond, ◌&&◌, Bool, true, false, List, [], ◌∷◌, ◌++◌, length, take, drop, get_or, map, Bor, codes, nat_eq, arith, Option, Some, None, Result, Ok, Err, subst, MatchResult}
+use Rattle.std.proofs.Common.{◌≡◌, refl, sym, ◌∙◌, ap, ℕ, ◌+◌, ◌<◌, ◌≤◌, cond, ◌&&◌, Bool, true, false, List, [], ◌∷◌, ◌++◌, length, take, drop, get_or, map, Bor, codes, nat_eq, arith, Option, Some, None, Result, Ok, Err, subst, MatchResult, ◌≢◌, ne_eqb}
+use Rattle.std.proofs.lemmas.List.Sums.{position_or_len_is}
 use Rattle.std.specs.List.{after_first, before_first, find, list_all, position_or_len, starts_with}
 use Rattle.std.specs.Option.{option_or}
 use Rattle.std.proofs.lemmas.Bool.{true≢false}
@@ -125,6 +126,11 @@ module _ (verb : Verb) (word : List ℕ) where
   -- without = there is no value
   pub no_equals : position_or_len is_equals word ≡ length word → takes_value verb word ≡ false → takes_value verb (before_first is_equals word) ≡ false
   no_equals none off = ap (takes_value verb) (take_all (position_or_len is_equals word) word (omega (arith, none))) ∙ off
+
+-- a word none of whose bytes is =
+pub without_equals : (word : List ℕ) → ((i : ℕ) → i < length word → get_or word i 0 ≢ 61) → position_or_len is_equals word ≡ length word
+without_equals word lacks =
+    position_or_len_is is_equals word (length word) 0 (omega arith) (λ k within. ne_eqb (get_or word k 0) 61 (lacks k within)) (λ past. absurd (omega (arith, past)))
 
 -- what is promised of other parts that are the same
 pub error_of : {A : Type 0} (found other : Result A (List ℕ)) (refused : Bool) (e : UsageError) → found ≡ other → IsUsageError other refused e → IsUsageError found refused e

@@ -11,7 +11,8 @@ use Rattle.cidr_lists.proofs.SetSteps.{set_same}
 use Rattle.cidr_sets.specs.model.Sets.{IsSetOf}
 use Rattle.netset_commands.specs.Answering.{AreRead, HasAddresses, ReadsListed, ReadsOperand, SplitsList, SplitsNetwork, TellsFree}
 use Rattle.netset_commands.specs.Combining.{IsMade}
-use Rattle.netset_commands.specs.Commands.{Free, IsFreeOfUsed, Says, Split}
+use Rattle.cidr_lists.specs.Texts.{SaysAddress}
+use Rattle.netset_commands.specs.Commands.{Free, IsFreeOfUsed, Split}
 use Rattle.netset_commands.specs.Free.{Extent, Count, IsBadCount, IsBadFree, IsBadLength, IsMost}
 use Rattle.netset_commands.specs.Operands.{IsNoNetworkText, OfOperand}
 use Rattle.netset_commands.specs.Program.{AnswersRequest, IsBadArgument}
@@ -53,7 +54,7 @@ free_written contents extent pool len used n most first others rest s t r number
               (
                 networks_of rest,
                 λ family. set_same _ _ (networks_of rest family) (made family) (λ a wide.
-                    made_same IsInSets Says Minus (first ∷ others) (said ∷ all) family a
+                    made_same IsInSets SaysAddress Minus (first ∷ others) (said ∷ all) family a
                     (has_same (said ∷ all) (first ∷ others) family a wide (has, hass))),
                 free,
               ),
@@ -86,7 +87,7 @@ list_split contents file len n sets s t r number reads (answer, verdict, w, free
           let (said, says, has) = reads text at in (
             said,
             says,
-            (networks_of sets, λ family. set_same _ _ (networks_of sets family) (has family) (λ a wide. alone Says said family a), free),
+            (networks_of sets, λ family. set_same _ _ (networks_of sets family) (has family) (λ a wide. alone SaysAddress said family a), free),
           ),
       written,
       is,

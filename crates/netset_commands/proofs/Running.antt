@@ -5,7 +5,7 @@ use Rattle.std.specs.Bool.{Decides}
 use Rattle.std.specs.List.{count_by}
 use Rattle.cidr_io.specs.Arguments.{AreArguments}
 use Rattle.cidr_io.specs.Writing.{State, Tells}
-use Rattle.netset_commands.specs.Causes.{Cause, FileMayFail}
+use Rattle.netset_commands.specs.Causes.{Cause, FileMayFail, Refusals}
 use Rattle.netset_commands.specs.Arguments.{Line, Parts, and_then, line_parts, line_request, part_request, read_request, target_in}
 use Rattle.netset_commands.specs.Commands.{AreLists, Request, input_name, lists_of, others_of, reading_of}
 use Rattle.netset_commands.specs.Keeping.{kind_of, lined, takes_file}
@@ -22,7 +22,7 @@ use Rattle.netset_commands.specs.declared.input.keeping.Kept.{Kept}
 use Rattle.cidr_lists.specs.declared.lines.Kind.{Kind}
 
 -- ---- with lists whose lines in error are told
-module _ (contents : List ℕ → Option Text) (request : Request) (kind : Kind) (takes : Bool) (names : List (List ℕ)) (refused closed : Bool) (out s t : State)
+module _ (contents : List ℕ → Option Text) (request : Request) (kind : Kind) (takes : Bool) (names : List (List ℕ)) (refused : Refusals) (closed : Bool) (out s t : State)
     (is_kind : kind ≡ kind_of request) (is_taken : takes ≡ takes_file request) (are : AreLists request names) where
   loaded_of : (lists : List Kept) (found : Bool) → AreListsLoaded takes contents kind names s t lists found
       → AreListsLoaded (takes_file request) contents (kind_of request) names s t lists found
@@ -42,19 +42,19 @@ module _ (contents : List ℕ → Option Text) (request : Request) (kind : Kind)
       (names, are, lines, t, tells, inl (fine, inl (any, refl, refl, refl)))
 
   pub no_line_in_error : (lists : List Kept) (new u : State) (r : Result Verdict CommandError) (status : ℕ) → AreListsLoaded takes contents kind names s t lists false
-      → AnswersRequest contents request out new r → IsCaused contents refused r → Reports closed r t u → status ≡ status_of r → TellsFaults contents refused request closed out new s u status
+      → AnswersRequest contents request out new r → IsCaused contents refused request r → Reports closed r t u → status ≡ status_of r → TellsFaults contents refused request closed out new s u status
   no_line_in_error lists new u r status h answers caused says is =
       let (lines, (tells, fine), any, kept) = loaded_of lists false h in
       (names, are, lines, t, tells, inl (fine, inr (any, (r, answers, caused, says, is))))
 
-  pub not_loaded : (u : State) (e : CommandError) (status : ℕ) → IsUnloaded (lined takes contents) kind names s t e → Cause (FileMayFail contents) refused e → Reports closed (Err e) t u → status ≡ status_of (Err e)
+  pub not_loaded : (u : State) (e : CommandError) (status : ℕ) → IsUnloaded (lined takes contents) kind names s t e → Cause (FileMayFail contents) refused.memory e → Reports closed (Err e) t u → status ≡ status_of (Err e)
       → TellsFaults contents refused request closed out out s u status
   not_loaded u e status h cause says is =
       let (before, after, split, why, front, rest, tells, fine, begun) = unloaded_of e h in
       (names, are, front ++ rest, t, tells, inr (before, after, split, front, rest, refl, fine, begun, e, why, cause, (refl, says, is)))
 
 -- the first argument that is wrong
-pub argument_first : (contents : List ℕ → Option Text) (request : Request) (refused closed : Bool) (out s u : State) (e : CommandError) (status : ℕ) → IsWrong request e
+pub argument_first : (contents : List ℕ → Option Text) (request : Request) (refused : Refusals) (closed : Bool) (out s u : State) (e : CommandError) (status : ℕ) → IsWrong request e
     → Reports closed (Err e) s u → status ≡ status_of (Err e) → KeepsGoing contents refused request closed out out s u status
 argument_first contents request refused closed out s u e status wrong says is = inl (e, wrong, (refl, says, is))
 
@@ -82,17 +82,17 @@ pub read_one : (verb : Verb) (parts : Parts) (reading : Reading) (target : Optio
 read_one verb parts reading target request is to read =
     read_target verb parts request (Ok target) is to ∙ ap (λ (k : Reading). Ok (k, (target, request))) (sym read)
 
-pub run_found : (found other : Result Line (List ℕ)) (contents : List ℕ → Option (List ℕ)) (refused closed : Bool) (out new s t : State) (status : ℕ)
+pub run_found : (found other : Result Line (List ℕ)) (contents : List ℕ → Option (List ℕ)) (refused : Refusals) (closed : Bool) (out new s t : State) (status : ℕ)
     → found ≡ other → RunsFound other contents refused closed out new s t status → RunsFound found contents refused closed out new s t status
 run_found found other contents refused closed out new s t status is h =
     subst (λ (k : Result Line (List ℕ)). RunsFound k contents refused closed out new s t status) (sym is) h
 
-pub run_misused : (found : Result Line (List ℕ)) (line : List ℕ) (contents : List ℕ → Option (List ℕ)) (refused closed : Bool) (out s t : State) (status : ℕ)
+pub run_misused : (found : Result Line (List ℕ)) (line : List ℕ) (contents : List ℕ → Option (List ℕ)) (refused : Refusals) (closed : Bool) (out s t : State) (status : ℕ)
     → found ≡ Err line → Tells s t line → status ≡ 2 → RunsFound found contents refused closed out out s t status
 run_misused found line contents refused closed out s t status is says ends =
     run_found found (Err line) contents refused closed out out s t status is (inl (refl, says, ends))
 
-pub run_once : (reading : Reading) (contents : List ℕ → Option (List ℕ)) (refused : Bool) (request : Request) (closed : Bool) (out new s t : State) (status : ℕ) (twice : Bool) (names : List (List ℕ))
+pub run_once : (reading : Reading) (contents : List ℕ → Option (List ℕ)) (refused : Refusals) (request : Request) (closed : Bool) (out new s t : State) (status : ℕ) (twice : Bool) (names : List (List ℕ))
     → names ≡ lists_of request ++ others_of request → Decides twice (1 < count_by (is_word input_name) names) → twice ≡ false → RunsRequest reading (contents_by reading.host_bits contents) refused request closed out new s t status
     → RunsOnce reading contents refused request closed out new s t status
 run_once reading contents refused request closed out new s t status twice names are decides once h = inr (
@@ -109,21 +109,28 @@ told_anyway closed error.NoMemory s t is says = absurd is
 told_anyway closed error.Output s t is says = absurd is
 told_anyway closed (error.File name why) s t is says = absurd is
 
-pub run_none : (reading : Reading) (contents : List ℕ → Option (List ℕ)) (refused : Bool) (request : Request) (closed : Bool) (out s t : State) (status : ℕ) (twice : Bool) (names : List (List ℕ)) (e : CommandError)
+pub run_none : (reading : Reading) (contents : List ℕ → Option (List ℕ)) (refused : Refusals) (request : Request) (closed : Bool) (out s t : State) (status : ℕ) (twice : Bool) (names : List (List ℕ)) (e : CommandError)
     → names ≡ lists_of request ++ others_of request → Decides twice (1 < count_by (is_word input_name) names) → twice ≡ true → IsReadTwice e → Reports false (Err e) s t → status ≡ status_of (Err e)
     → RunsOnce reading contents refused request closed out out s t status
 run_none reading contents refused request closed out s t status twice names e are decides again is says ends =
     inl (subst (λ (k : List (List ℕ)). 1 < count_by (is_word input_name) k) are (decides.0 again), e, is, (refl, told_anyway closed e s t is says, ends))
 
 -- the arguments, read as texts
-pub run_arguments : (words : Option (List (List ℕ))) (given : List (List ℕ)) (contents : List ℕ → Option (List ℕ)) (refused closed : Bool) (out new s t : State) (status : ℕ)
+pub run_arguments : (words : Option (List (List ℕ))) (given : List (List ℕ)) (contents : List ℕ → Option (List ℕ)) (refused : Refusals) (closed : Bool) (out new s t : State) (status : ℕ)
     → AreArguments words given → RunsFound (line_request given) contents refused closed out new s t status → Runs words contents refused closed out new s t status
 run_arguments words given contents refused closed out new s t status are (inl runs) = inl (given, are, runs)
 run_arguments words given contents refused closed out new s t status are (inr none) = inr (inr none)
 
 -- ---- an answer that goes to a file
-module _ (name : List ℕ) (reading : Reading) (contents : List ℕ → Option (List ℕ)) (before refused : Bool) (request : Request) (start : State) (held : List ℕ × Bool) (s t : State)
+module _ (name : List ℕ) (reading : Reading) (contents : List ℕ → Option (List ℕ)) (was memory folder : Bool) (request : Request) (start : State) (held : List ℕ × Bool) (s t : State)
     (answered : ℕ) (none : start ≡ empty) where
+  -- what was refused before there was the text, in a folder in which nothing is written, and in the end
+  abbrev before : Refusals
+  before = record { memory = was; folder = true }
+
+  abbrev refused : Refusals
+  refused = record { memory = memory; folder = folder }
+
   -- the text in memory
   abbrev text : State
   text = record { taken = Some held.0; failed = held.1 }
@@ -135,7 +142,7 @@ module _ (name : List ℕ) (reading : Reading) (contents : List ℕ → Option (
   abbrev Into : State → ℕ → Type 0
   Into u status = IntoFound name reading contents refused request s u status
 
-  module _ (bytes : List ℕ) (whole : held ≡ (bytes, false)) (kept : refused ≡ before) where
+  module _ (bytes : List ℕ) (whole : held ≡ (bytes, false)) (kept : memory ≡ was) where
     abbrev fine : held.1 ≡ false
     fine = ap (λ (k : List ℕ × Bool). k.1) whole
 
@@ -146,9 +153,9 @@ module _ (name : List ℕ) (reading : Reading) (contents : List ℕ → Option (
     pub into_told : RunsBefore start → Into t answered
     into_told runs = told_by (subst RunsBefore none runs)
 
-    module _ (u : State) (e : CommandError) (status : ℕ) (few : answered ≤ 1) (is : IsNotSaved name e) (says : Reports false (Err e) t u) (ends : status ≡ status_of (Err e)) where
+    module _ (u : State) (e : CommandError) (status : ℕ) (few : answered ≤ 1) (unsaved : folder ≡ true) (is : IsNotSaved name e) (says : Reports false (Err e) t u) (ends : status ≡ status_of (Err e)) where
       unsaved_by : RunsBefore empty → Into u status
-      unsaved_by (inl once) now out = inl (refl, (before, text, t, answered, once, inr (inl (fine, few, e, is, says, ends))))
+      unsaved_by (inl once) now out = inl (refl, (before, text, t, answered, once, inr (inl (fine, few, unsaved, e, is, says, ends))))
       unsaved_by (inr (left, (same, told, three))) now out =
           let is_three : answered ≡ 3 = three in
           absurd (omega (arith, few, is_three))
@@ -156,7 +163,7 @@ module _ (name : List ℕ) (reading : Reading) (contents : List ℕ → Option (
       pub into_unsaved : RunsBefore start → Into u status
       into_unsaved runs = unsaved_by (subst RunsBefore none runs)
 
-  module _ (lost : held.1 ≡ true) (refusal : refused ≡ true) (u : State) (status : ℕ) (says : Tells t u (codes "no memory\n")) (ends : status ≡ 3) where
+  module _ (lost : held.1 ≡ true) (refusal : memory ≡ true) (u : State) (status : ℕ) (says : Tells t u (codes "no memory\n")) (ends : status ≡ 3) where
     lost_by : RunsBefore empty → Into u status
     lost_by (inl once) now out = inl (refl, (before, text, t, answered, once, inr (inr (lost, refusal, says, ends))))
     lost_by (inr (left, (same, told, three))) now out = absurd (true≢false (sym lost ∙ ap (λ (k : State). k.failed) same))

@@ -14,7 +14,7 @@ use Rattle.cidr_files.specs.declared.layout.Table.{Table}
 use Rattle.cidr_table.proofs.MapLaws.{contains_cases, contains_first, contains_later, contains_nothing}
 use Rattle.cidr_table.specs.model.Prefixes.{IsLongestAt, IsLongestMatch, IsLookedUp}
 use Rattle.netset_commands.specs.Compiled.{HasTable, HasTheRows}
-use Rattle.netset_commands.specs.Stored.{AreTables, by_family, rows_from, rows_in, rows_of}
+use Rattle.netset_commands.specs.Stored.{AreTables, by_family, rows_from, stored_rows, file_rows}
 
 module _ (w : ℕ) (value : ℕ → List ℕ) where
   -- ---- one row after the other
@@ -85,7 +85,7 @@ network_clipped w asked network fits begins =
 pub found_clipped : (w : ℕ) (numbers : List ℕ → List ℕ) (parts : List (List ℕ)) (shift : ℕ) (asked : List Bool) (i len : ℕ) (network : List Bool) (value : List ℕ)
     → IsStoredTable w numbers parts shift → IsLongestMatch (prefix_bits w) asked (stored_networks numbers parts) (Some i)
     → len ≡ get_or (part_at parts 4) i 0 → network ≡ take len asked → value ≡ value_in parts i
-    → IsLookedUp (λ (p : List Bool). p) asked (rows_in w numbers parts) (Some (network, value))
+    → IsLookedUp (λ (p : List Bool). p) asked (stored_rows w numbers parts) (Some (network, value))
 found_clipped w numbers parts shift asked i len network value table m at clipped valued =
     let networks = stored_networks numbers parts in
     let addresses = numbers (part_at parts 3) in
@@ -97,16 +97,16 @@ found_clipped w numbers parts shift asked i len network value table m at clipped
     let long : len ≡ m.key.1 = at ∙ ap (λ (n : ℕ × ℕ). n.1) (sym pair ∙ first) in
     let fits : m.key.1 ≤ w = subst (λ (n : ℕ × ℕ). n.1 ≤ w) first (table.arrays.keys.each i l).fits in
     let named : network ≡ prefix_bits w m.key = clipped ∙ (ap (λ (k : ℕ). take k asked) long ∙ network_clipped w asked m.key fits m.begins) in
-    subst (λ (row : List Bool × List ℕ). IsLookedUp (λ (p : List Bool). p) asked (rows_in w numbers parts) (Some row))
+    subst (λ (row : List Bool × List ℕ). IsLookedUp (λ (p : List Bool). p) asked (stored_rows w numbers parts) (Some row))
     (ap₂ (λ (p : List Bool) (v : List ℕ). (p, v)) (sym named) (sym valued)) (found_row w (value_in parts) asked networks i m)
 
 -- ---- the rows of a file
-pub rows_had : (w : ℕ) (numbers : List ℕ → List ℕ) (parts : List (List ℕ)) → HasTheRows w numbers parts (rows_in w numbers parts)
+pub rows_had : (w : ℕ) (numbers : List ℕ → List ℕ) (parts : List (List ℕ)) → HasTheRows w numbers parts (stored_rows w numbers parts)
 rows_had w numbers parts =
     let networks = stored_networks numbers parts in
     let long = length-rows_from w (value_in parts) networks 0 in
-    let at : (i : ℕ) → i < length (rows_in w numbers parts)
-    → get_or (rows_in w numbers parts) i ([], []) ≡ (prefix_bits w (get_or networks i (0, 0)), value_in parts (0 + i)) =
+    let at : (i : ℕ) → i < length (stored_rows w numbers parts)
+    → get_or (stored_rows w numbers parts) i ([], []) ≡ (prefix_bits w (get_or networks i (0, 0)), value_in parts (0 + i)) =
     λ i l. row_at w (value_in parts) networks 0 i (omega (arith, l, long)) in
     record {
       many = sym long;
@@ -114,11 +114,11 @@ rows_had w numbers parts =
       values = λ i l. ap (value_in parts) (omega arith) ∙ sym (ap (λ (r : List Bool × List ℕ). r.1) (at i l));
     }
 
-pub table_had : (bytes : List ℕ) (table : Table) → IsFile bytes → IsTableCutFrom bytes table → HasTable (by_family (rows_of table)) bytes
+pub table_had : (bytes : List ℕ) (table : Table) → IsFile bytes → IsTableCutFrom bytes table → HasTable (by_family (file_rows table)) bytes
 table_had bytes table file cut = record {
   file = file;
-  ipv4 = subst (λ (parts : List (List ℕ)). HasTheRows 32 words parts (rows_in 32 words (parts_in table.ipv4))) cut.ipv4 (rows_had 32 words (parts_in table.ipv4));
-  ipv6 = subst (λ (parts : List (List ℕ)). HasTheRows 128 wide_words parts (rows_in 128 wide_words (parts_in table.ipv6))) cut.ipv6 (rows_had 128 wide_words (parts_in table.ipv6));
+  ipv4 = subst (λ (parts : List (List ℕ)). HasTheRows 32 words parts (stored_rows 32 words (parts_in table.ipv4))) cut.ipv4 (rows_had 32 words (parts_in table.ipv4));
+  ipv6 = subst (λ (parts : List (List ℕ)). HasTheRows 128 wide_words parts (stored_rows 128 wide_words (parts_in table.ipv6))) cut.ipv6 (rows_had 128 wide_words (parts_in table.ipv6));
 }
 
 pub tables_cut : (bytes : List ℕ) (table : Table) → IsFile bytes → IsTableCutFrom bytes table → AreTables table

@@ -12,7 +12,7 @@ use Rattle.cidr_io.proofs.Collected.{nothing_said}
 use Rattle.cidr_io.proofs.Chains.{part_more, part_none, whole_none, whole_part, whole_whole}
 use Rattle.cidr_lists.specs.Entries.{AreEntries}
 use Rattle.netset_commands.specs.Compiled.{begins_file}
-use Rattle.netset_commands.specs.Keeping.{AddsBy, AllSaid, IsAny, IsKept, IsTold, IsLoadError, IsNone, KeepsLine, KeepsListLines, KeepsList, SaysMore, kind_in, lined_in, only_lines}
+use Rattle.netset_commands.specs.Keeping.{AddsBy, AllSaid, IsAny, IsKept, AreErrorsTold, IsLoadError, IsNothingSaid, KeepsLine, KeepsListLines, KeepsList, SaysMore, kind_in, lined_in, only_lines}
 use Rattle.cidr_lists.specs.Faults.{AreErrors, AreTellings, IsFaulty, IsPartTold, IsSound}
 use Rattle.cidr_lists.specs.Messages.{fault_line}
 use Rattle.cidr_lists.specs.Lists.{IsTooLong, LineSays, Text, lines_of, line_networks, text_by}
@@ -165,7 +165,7 @@ module _ (kind : Kind) (bits : HostBits) (file : List ℕ) (s : State) (b : List
   IsKeeping contents left t block found said number = (lines : List ℕ) × SaysMore s b t block lines × IsAny found lines × (kind_in said ≡ kind)
       × IfSome contents (λ text. LinesRead (IsKept kind bits file) text left (lines, found, said) number)
 
-  pub keeping_started : (contents : Option (List ℕ)) (said : Said) → IsNone kind said → IsKeeping contents contents s b false said 1
+  pub keeping_started : (contents : Option (List ℕ)) (said : Said) → IsNothingSaid kind said → IsKeeping contents contents s b false said 1
   keeping_started contents said none = (
     [],
     λ start text h. subst (HasSaid start s b) (sym (append-nil text)) h,
@@ -325,7 +325,7 @@ blank_sound kinds.Networks bits = (blank_short, [], Blank, blank_field, refl)
 blank_sound kinds.Hosts bits = ([], 1, None, (blank_short, blank_field))
 blank_sound kinds.Rows bits = (None, (blank_short, ([], blank_field, refl)))
 
-blank_told : (kind : Kind) (file : List ℕ) (bits : HostBits) → IsTold kind file (text_by bits []) []
+blank_told : (kind : Kind) (file : List ℕ) (bits : HostBits) → AreErrorsTold kind file (text_by bits []) []
 blank_told kind file bits = ([], inl (blank_sound kind bits, refl), refl)
 
 file_lined : (contents : Option Text) → ((text : Text) → contents ≡ Some text → begins_file text.bytes ≡ true)
@@ -343,7 +343,7 @@ file_kept contents kind file s bytes are = (
   [],
   tells_nothing s,
   refl,
-  λ text at. subst (λ (k : Text). IsTold kind file k []) (file_lined contents (λ text is. (are text is).0) text at) (blank_told kind file text.host_bits),
+  λ text at. subst (λ (k : Text). AreErrorsTold kind file k []) (file_lined contents (λ text is. (are text is).0) text at) (blank_told kind file text.host_bits),
   λ _ text is. are text is,
 )
 

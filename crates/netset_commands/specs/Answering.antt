@@ -8,7 +8,8 @@ use Rattle.cidr_lists.specs.Changes.{merged}
 use Rattle.cidr_lists.specs.Lists.{Text, ListSays, IsFirstError, networks_in}
 use Rattle.cidr_lists.specs.Reading.{Grows}
 use Rattle.cidr_lists.specs.Sets.{networks_of}
-use Rattle.netset_commands.specs.Commands.{AreTold, HoldsOf, IsFree, IsTold, Says}
+use Rattle.cidr_lists.specs.Texts.{SaysAddress}
+use Rattle.netset_commands.specs.Commands.{AreTold, HoldsOf, IsFree, IsTold}
 use Rattle.netset_commands.specs.Program.{HasNoSubnets, IsBadArgument, IsUnread, IsUnreadPool, by_output}
 use Rattle.netset_commands.specs.Stored.{AreFileBytes, IsNotGiven}
 use Rattle.cidr_io.specs.Writing.{State, Answered}
@@ -48,7 +49,7 @@ AddsFile contents name old new (Err e) = IsFileError contents name e
 
 -- the sets have the addresses that a list says
 abbrev pub HasAddresses : List (List IpCidr) → Sets → Type 0
-HasAddresses said sets = (family : Family) → IsSetOf 129 (Says said family) (networks_of sets family)
+HasAddresses said sets = (family : Family) → IsSetOf 129 (SaysAddress said family) (networks_of sets family)
 
 -- the addresses of the list of a file, or why it is not read
 abbrev pub ReadsFile : Option Text → List ℕ → Result Sets CommandError → Type 0

@@ -1,4 +1,4 @@
--- What a run gives up for: an allocation that was refused, or a file that is not told.
+-- What a run gives up for: an allocation or the writing of a file that was refused, or a file that is not told.
 use Rattle.std.specs.Prelude.{◌≡◌, ℕ, ◌≤◌, Bool, true, List, length, Option, IfSome}
 use Rattle.cidr_lists.specs.Lists.{Text}
 use Rattle.netset_commands.specs.declared.errors.CommandError.{CommandError}
@@ -7,6 +7,11 @@ use Rattle.netset_commands.specs.declared.errors.ReadError.{ReadError}
 use Rattle.netset_commands.specs.declared.errors.ReadError.TheVariants.{Line, Input, NoMemory}
 use Rattle.netset_commands.specs.declared.commands.look.LookError.{LookError}
 use Rattle.netset_commands.specs.declared.commands.look.LookError.TheVariants.{Reading, Output}
+
+-- what was refused to a run: an allocation, and the writing of a file
+pub record Refusals : Type 0 where
+  pub memory : Bool
+  pub folder : Bool
 
 -- the bytes are about as many as 64 bits count, so that their lines may be more than there are numbers for
 abbrev pub AreTooMany : List ℕ → Type 0

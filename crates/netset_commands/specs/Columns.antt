@@ -10,8 +10,8 @@ use Rattle.cidr_lists.specs.declared.rows.Span.{Span}
 use Rattle.netset_commands.specs.declared.output.compiled.Columns.{Columns}
 
 -- a network by the number of its first address and its prefix length
-abbrev pub network_of : ℕ → List Bool → ℕ × ℕ
-network_of w network = (number (first_of w network), length network)
+abbrev pub numbered_network : ℕ → List Bool → ℕ × ℕ
+numbered_network w network = (number (first_of w network), length network)
 
 -- how many bytes the values of rows are, which stand among those of all
 abbrev pub value_bytes : {C : Type 0} → List ℕ → List (C × Span) → ℕ
@@ -19,7 +19,7 @@ value_bytes {C} all rows = sum_by (λ (row : C × Span). length (value_at all ro
 
 -- the networks and the values are those of the rows
 pub record AreColumns {C W : Type 0} (w : ℕ) (value : W → ℕ) (bits_of : C → List Bool) (all : List ℕ) (rows : List (C × Span)) (columns : Columns W) : Type 0 where
-  pub networks : key_networks value columns.keys.items ≡ map (λ (row : C × Span). network_of w (bits_of row.0)) rows
+  pub networks : key_networks value columns.keys.items ≡ map (λ (row : C × Span). numbered_network w (bits_of row.0)) rows
   pub fit : (any : C × Span) (i : ℕ) → i < length rows → length (bits_of (slice_index_or rows i any).0) ≤ w
   pub offsets : AreOffsets columns.offsets.items (length rows) (length columns.values.items)
   pub values : (any : C × Span) (i : ℕ) → i < length rows

@@ -64,8 +64,8 @@ request_of command.Version = Version
 
 -- ---- what private functions promise of arguments
 -- the parts of words by their bytes
-abbrev pub parts_in : GivenParts → Parts
-parts_in parts = record { options = texts parts.options.items; values = texts parts.values.items; operands = texts parts.operands.items }
+abbrev pub given_parts : GivenParts → Parts
+given_parts parts = record { options = texts parts.options.items; values = texts parts.values.items; operands = texts parts.operands.items }
 
 -- the line of a word that is wrong
 abbrev pub misuse_line : Misuse → List ℕ

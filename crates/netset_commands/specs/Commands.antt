@@ -36,6 +36,7 @@ use Rattle.cidr_lists.specs.declared.sets.Form.TheVariants.{Networks}
 use Rattle.netset_commands.specs.declared.commands.operations.Operation.{Operation}
 use Rattle.netset_commands.specs.declared.commands.operations.Operation.TheVariants.{Minus, Not}
 use Rattle.cidr_lists.specs.Sets.{IsPrinted}
+use Rattle.cidr_lists.specs.Texts.{SaysAddress}
 use Rattle.netset_commands.specs.Single.{SingleRequest, HasNone, IsNumber, IsSingleAnswer, split_text}
 use Rattle.netset_commands.specs.declared.output.answers.Verdict.{Verdict}
 use Rattle.netset_commands.specs.declared.output.answers.Verdict.TheVariants.{Yes}
@@ -133,25 +134,21 @@ abbrev pub IsPrintOf : Form → (Family → List Bool → Type 0) → List ℕ �
 IsPrintOf form IsIn text =
     (sets : Family → List (List Bool)) × ((family : Family) → IsSetOf 129 (IsIn family) (sets family)) × IsPrinted form sets text
 
--- the address is in one of the networks that a list says
-abbrev pub Says : List (List IpCidr) → Family → List Bool → Type 0
-Says said family a = Covers (networks_in family said) a
-
 -- what the operation makes of the lists
 abbrev pub IsMadeOf : Operation → List Text → List ℕ → Type 0
 IsMadeOf operation texts answer =
-    (said : List (List (List IpCidr))) × AllZip ListSays texts said × IsPrintOf (form_of operation) (IsMade Says operation said) answer
+    (said : List (List (List IpCidr))) × AllZip ListSays texts said × IsPrintOf (form_of operation) (IsMade SaysAddress operation said) answer
 
 -- the same in a style: what is printed of the shortest list of networks of each family that has these addresses
 abbrev pub IsStyledOf : Style → Operation → List Text → List ℕ → Type 0
 IsStyledOf style operation texts answer = (said : List (List (List IpCidr))) × AllZip ListSays texts said
-    × (sets : Family → List (List Bool)) × ((family : Family) → IsSetOf 129 (IsMade Says operation said family) (sets family))
+    × (sets : Family → List (List Bool)) × ((family : Family) → IsSetOf 129 (IsMade SaysAddress operation said family) (sets family))
     × (answer ≡ styled style sets)
 
 -- the addresses of a network that none of the lists has
 abbrev pub IsNotIn : IpCidr → List Text → List ℕ → Type 0
 IsNotIn network texts answer = (said : List (List (List IpCidr))) × AllZip ListSays texts said
-    × IsPrintOf Networks (λ family a. Covers (line_networks family (network ∷ [])) a × IsMade Says Not said family a)
+    × IsPrintOf Networks (λ family a. Covers (line_networks family (network ∷ [])) a × IsMade SaysAddress Not said family a)
     answer
 
 -- what a list has and another has not, both ways
@@ -165,7 +162,7 @@ IsDiff old new answer verdict =
 -- the first networks of n bits that have only addresses of a first list that no other has, at most so many
 abbrev pub IsFree : ℕ → Option ℕ → List (List (List IpCidr)) → List ℕ → Verdict → Type 0
 IsFree n most said answer verdict = (sets : Family → List (List Bool))
-    × ((family : Family) → IsSetOf 129 (IsMade Says Minus said family) (sets family)) × IsFreeText sets n most answer verdict
+    × ((family : Family) → IsSetOf 129 (IsMade SaysAddress Minus said family) (sets family)) × IsFreeText sets n most answer verdict
 
 -- the same of a pool and of files whose lists are used
 abbrev pub IsFreeOfUsed : (List ℕ → Option Text) → ℕ → Option ℕ → List (List ℕ) → List ℕ → Verdict → List (List IpCidr) → Type 0
@@ -180,7 +177,7 @@ IsSplitInto contents operand n answer verdict =
 
 -- what is told of each network of the shortest list that has the addresses of lines
 abbrev pub IsTold : (IpCidr → List ℕ) → List (List IpCidr) → List ℕ → Type 0
-IsTold told said answer = (sets : Family → List (List Bool)) × ((family : Family) → IsSetOf 129 (Says said family) (sets family))
+IsTold told said answer = (sets : Family → List (List Bool)) × ((family : Family) → IsSetOf 129 (SaysAddress said family) (sets family))
     × (answer ≡ all_told told sets)
 
 -- what is told of an operand: of a prefix length, or of networks
@@ -194,7 +191,7 @@ IsInRow table family a = Covers (keys_of (table family)) a
 
 -- this holds of the addresses of a list: those of the networks of its lines, or of the rows of a file of look-ups
 abbrev pub HoldsOf : Text → ((Family → List Bool → Type 0) → Type 0) → Type 0
-HoldsOf text P = ((said : List (List IpCidr)) × ListSays text said × P (Says said))
+HoldsOf text P = ((said : List (List IpCidr)) × ListSays text said × P (SaysAddress said))
     ⊎ ((table : Family → List (List Bool × List ℕ)) × HasTable table text.bytes × P (IsInRow table))
 
 -- the lines of a file that a list picks, where no line that was read is too long

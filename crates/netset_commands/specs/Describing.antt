@@ -1,15 +1,14 @@
 -- What is told of networks, a line or more each: the names of their zones in reverse DNS, or their masks.
-use Rattle.std.specs.Prelude.{◌≡◌, ℕ, ◌+◌, ◌-◌, ◌*◌, ◌/◌, ◌<◌, ◌≤◌, nat_lt, if◌then◌else◌, Bool, List, [], ◌++◌, length, codes}
+use Rattle.std.specs.Prelude.{◌≡◌, ℕ, ◌+◌, ◌-◌, ◌*◌, ◌/◌, ◌<◌, ◌≤◌, Bool, List, ◌++◌, length}
 use Rattle.std.specs.List.{flat_map}
 use Rattle.cidr.specs.either.IpNetwork.{network_family, network_prefix}
-use Rattle.cidr.specs.model.Network.{first_of, width_of, ones, zeros}
-use Rattle.cidr.specs.texts.PrintedAddress.{address_text}
 use Rattle.cidr.specs.declared.cidr.combined.IpCidr.{IpCidr}
 use Rattle.cidr.specs.declared.cidr.combined.IpCidr.TheVariants.{V4, V6}
 use Rattle.cidr.specs.declared.family.Family.{Family}
 use Rattle.cidr.specs.declared.family.Family.TheVariants.{Ipv4, Ipv6}
 use Rattle.cidr_ext.specs.texts.Reverse.{label_width}
 use Rattle.cidr_ext.specs.texts.Zones.{zones_of}
+use Rattle.cidr_lists.specs.Descriptions.{length_lines, mask_line}
 use Rattle.cidr_lists.specs.Printing.{line}
 use Rattle.netset_commands.specs.Single.{IsNumber}
 use Rattle.netset_commands.specs.declared.commands.describe.Description.{Description}
@@ -24,26 +23,6 @@ zone_length family n = (n + (label_width family - 1)) / label_width family * lab
 abbrev pub zone_lines : IpCidr → List ℕ
 zone_lines n =
     flat_map line (zones_of (network_family n) (network_prefix n) (zone_length (network_family n) (length (network_prefix n))))
-
--- ---- masks
--- the mask of a prefix length (RFC 4632, 3.1) and the host mask, its inverse, as a line
-abbrev pub mask_pair : Family → ℕ → List ℕ
-mask_pair family n =
-    address_text family (ones n ++ zeros (width_of family - n))
-    ++ (codes " " ++ line (address_text family (zeros n ++ ones (width_of family - n))))
-
--- the same behind the first address of a network
-abbrev pub mask_line : IpCidr → List ℕ
-mask_line n =
-    address_text (network_family n) (first_of (width_of (network_family n)) (network_prefix n))
-    ++ (codes " " ++ mask_pair (network_family n) (length (network_prefix n)))
-
--- the masks of a prefix length: those of IPv4, if it has the length, and those of IPv6
-abbrev pub ipv4_line : ℕ → List ℕ
-ipv4_line n = if nat_lt 32 n then [] else mask_pair Ipv4 n
-
-abbrev pub length_lines : ℕ → List ℕ
-length_lines n = ipv4_line n ++ mask_pair Ipv6 n
 
 -- ---- what is told
 abbrev pub told_of : Description → IpCidr → List ℕ

@@ -87,8 +87,8 @@ AllSaid bits lines (Hosts entries) = AreEntries [] 1 lines entries.items
 AllSaid bits lines (Rows rows) = (said : List (Option (IpCidr × List ℕ))) × AllZip (RowSays bits) lines said × Stores rows said
 
 -- nothing is said yet
-abbrev pub IsNone : Kind → Said → Type 0
-IsNone kind said = (kind_in said ≡ kind) × ((bits : HostBits) → AllSaid bits [] said)
+abbrev pub IsNothingSaid : Kind → Said → Type 0
+IsNothingSaid kind said = (kind_in said ≡ kind) × ((bits : HostBits) → AllSaid bits [] said)
 
 -- what a line says comes behind what the lines before say
 abbrev pub AddsBy : HostBits → List ℕ → ℕ → Said → Said → Result (Unit {0}) ReadError → Type 0
@@ -131,14 +131,14 @@ IsGivenBy text (Lines said) = AllSaid text.host_bits (lines_of text.bytes) said
 IsGivenBy text (Stored bytes) = (begins_file text.bytes ≡ true) × (bytes.items ≡ text.bytes)
 
 -- the lines in error are told of a list
-abbrev pub IsTold : Kind → List ℕ → Text → List ℕ → Type 0
-IsTold kind file text lines = (errors : List (ℕ × LineError)) × AreErrors kind text.host_bits 1 (lines_of text.bytes) errors
+abbrev pub AreErrorsTold : Kind → List ℕ → Text → List ℕ → Type 0
+AreErrorsTold kind file text lines = (errors : List (ℕ × LineError)) × AreErrors kind text.host_bits 1 (lines_of text.bytes) errors
     × (lines ≡ flat_map (fault_line file) errors)
 
 -- the same of the list of a file, which may be a file of look-ups, or not
 abbrev pub KeepsList : Bool → Option Text → Kind → List ℕ → State → State → Result (Given Said × Bool) CommandError → Type 0
 KeepsList takes contents kind file old new (Ok kept) = (lines : List ℕ) × Tells old new lines × IsAny kept.1 lines
-    × ((text : Text) → lined_in takes contents ≡ Some text → IsTold kind file text lines)
+    × ((text : Text) → lined_in takes contents ≡ Some text → AreErrorsTold kind file text lines)
     × (kept.1 ≡ false → (text : Text) → contents ≡ Some text → IsGivenBy text kept.0)
 KeepsList takes contents kind file old new (Err e) = (lines : List ℕ) × Tells old new lines × IsLoadError (file ∷ []) e
     × ((text : Text) → lined_in takes contents ≡ Some text → IsPartTold kind file text lines)

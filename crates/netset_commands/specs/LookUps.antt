@@ -133,8 +133,8 @@ abbrev pub answer_row : List ℕ → IpAddr → Answer → List Bool × List ℕ
 answer_row values address answer = (take answer.len (plain_bits address), value_at values answer.value)
 
 -- this is what a table has of an address
-abbrev pub IsAnswer : Table → IpAddr → Option Answer → Type 0
-IsAnswer table address found = IsLookedUp (λ (p : List Bool). p) (plain_bits address) (kept table (address_family address))
+abbrev pub HasAnswer : Table → IpAddr → Option Answer → Type 0
+HasAnswer table address found = IsLookedUp (λ (p : List Bool). p) (plain_bits address) (kept table (address_family address))
     (option_map (answer_row table.values.items address) found)
 
 -- a line that is not too long has this address, or says nothing
@@ -186,8 +186,8 @@ IsFoundOf IsFound (Some address) None = ⊥
 IsFoundOf IsFound None (Some found) = ⊥
 
 -- all of it was found
-abbrev pub AreFound : (IpAddr → Option Answer → Type 0) → List (Option (IpAddr × Option Answer)) → Type 0
-AreFound IsFound found = All (λ one. IfSome one (λ (pair : IpAddr × Option Answer). IsFound pair.0 pair.1)) found
+abbrev pub AllFound : (IpAddr → Option Answer → Type 0) → List (Option (IpAddr × Option Answer)) → Type 0
+AllFound IsFound found = All (λ one. IfSome one (λ (pair : IpAddr × Option Answer). IsFound pair.0 pair.1)) found
 
 -- the address that a line has was looked up
 abbrev pub AskLooks : (Family → List (List Bool × List ℕ)) → Option IpAddr → Option LookUp → Type 0

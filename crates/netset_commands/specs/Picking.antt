@@ -18,13 +18,13 @@ IsSeparator None separator = separator ≡ WhiteSpace
 IsSeparator (Some text) separator = (byte : ℕ) × (text ≡ byte ∷ []) × (separator ≡ Byte byte)
 
 -- the number is the one of the field at this place, from 0 on
-abbrev pub IsPlace : List ℕ → ℕ → Type 0
-IsPlace number place = IsNumber number (place + 1) × (place + 1 < 2 ^ 64)
+abbrev pub IsFieldPlace : List ℕ → ℕ → Type 0
+IsFieldPlace number place = IsNumber number (place + 1) × (place + 1 < 2 ^ 64)
 
 -- the field that is read of each line
 abbrev pub IsChosen : Choice → Column → Type 0
 IsChosen FirstField column = (column.place ≡ 0) × (column.separator ≡ WhiteSpace)
-IsChosen (FieldOf number separator) column = IsPlace number column.place × IsSeparator separator column.separator
+IsChosen (FieldOf number separator) column = IsFieldPlace number column.place × IsSeparator separator column.separator
 
 -- the number is none from 1 on
 abbrev pub IsBadNumber : List ℕ → List ℕ → ArgumentError → Type 0
@@ -39,4 +39,4 @@ IsBadSeparator separator text e = ⊥
 -- the number is wrong, or else the separator
 abbrev pub IsBadChoice : Choice → List ℕ → ArgumentError → Type 0
 IsBadChoice FirstField text e = ⊥
-IsBadChoice (FieldOf number separator) text e = IsBadNumber number text e ⊎ ((place : ℕ) × IsPlace number place × IsBadSeparator separator text e)
+IsBadChoice (FieldOf number separator) text e = IsBadNumber number text e ⊎ ((place : ℕ) × IsFieldPlace number place × IsBadSeparator separator text e)

@@ -12,7 +12,7 @@ use Rattle.cidr_io.specs.declared.sink.OutputFailed.{OutputFailed}
 use Rattle.cidr_lists.specs.Lists.{Text, text_by, ListSays, IsFirstError}
 use Rattle.netset_commands.specs.Arguments.{Line, line_request}
 use Rattle.netset_commands.specs.Commands.{Request, Lists, Styled, NotIn, Diff, Free, Split, Check, Which, Match, MatchEach, Look, Compile, Describe, Class, Single, ReadsInputTwice, input_name, read_files, AreLists, AreTold, HoldsOf, IsAnswer}
-use Rattle.netset_commands.specs.Causes.{Cause, FileMayFail}
+use Rattle.netset_commands.specs.Causes.{Cause, FileMayFail, Refusals}
 use Rattle.netset_commands.specs.Class.{IsClassUntil, IsUnclassed}
 use Rattle.netset_commands.specs.Compiled.{IsTooLarge}
 use Rattle.netset_commands.specs.Describing.{IsNoLength}
@@ -174,9 +174,10 @@ AnswersRequest contents (Class operand) old new r =
     AnswersWhole contents (Class operand) old new r ⊎ IsCutShort (IsClassUntil contents operand) operand old new r
 AnswersRequest contents request old new r = AnswersWhole contents request old new r
 
--- a request is given up only for its cause
-abbrev pub IsCaused : (List ℕ → Option Text) → Bool → Result Verdict CommandError → Type 0
-IsCaused contents refused r = IfErr r (Cause (FileMayFail contents) refused)
+-- a request is given up only for its cause; `compile` alone writes a file
+abbrev pub IsCaused : (List ℕ → Option Text) → Refusals → Request → Result Verdict CommandError → Type 0
+IsCaused contents refused (Compile table name) (Err (error.File file NotSaved)) = refused.folder ≡ true
+IsCaused contents refused request r = IfErr r (Cause (FileMayFail contents) refused.memory)
 
 -- the lists of the files, read this way
 abbrev pub contents_by : HostBits → (List ℕ → Option (List ℕ)) → List ℕ → Option Text
@@ -255,31 +256,31 @@ abbrev pub EndsWith : CommandError → Bool → State → State → State → St
 EndsWith e closed out new_out err new_err status = (new_out ≡ out) × Reports closed (Err e) err new_err × (status ≡ status_of (Err e))
 
 -- a request is answered, or given up for its cause, and the error is told
-abbrev pub RunsAnswer : (List ℕ → Option Text) → Bool → Request → Bool → State → State → State → State → ℕ → Type 0
+abbrev pub RunsAnswer : (List ℕ → Option Text) → Refusals → Request → Bool → State → State → State → State → ℕ → Type 0
 RunsAnswer contents refused request closed out new_out err new_err status = (r : Result Verdict CommandError)
-    × AnswersRequest contents request out new_out r × IsCaused contents refused r × Reports closed r err new_err × (status ≡ status_of r)
+    × AnswersRequest contents request out new_out r × IsCaused contents refused request r × Reports closed r err new_err × (status ≡ status_of r)
 
 -- a request of whose lists each line in error is told, up to a list that can't be read, and then nothing is written; where
 -- there is none, the request is answered
-abbrev pub TellsFaults : (List ℕ → Option Text) → Bool → Request → Bool → State → State → State → State → ℕ → Type 0
+abbrev pub TellsFaults : (List ℕ → Option Text) → Refusals → Request → Bool → State → State → State → State → ℕ → Type 0
 TellsFaults contents refused request closed out new_out err new_err status = (names : List (List ℕ)) × AreLists request names × (lines : List ℕ) × (mid : State) × Tells err mid lines
     × ((((texts : List Text) → AreTold (lined (takes_file request) contents) names texts → AreTellings (kind_of request) names texts lines)
     × (((lines ≢ []) × (new_out ≡ out) × (new_err ≡ mid) × (status ≡ 2))
     ⊎ ((lines ≡ []) × RunsAnswer contents refused request closed out new_out mid new_err status)))
     ⊎ ((before after : List (List ℕ)) × (names ≡ before ++ after) × (front rest : List ℕ) × (lines ≡ front ++ rest)
     × ((texts : List Text) → AreTold (lined (takes_file request) contents) before texts → AreTellings (kind_of request) before texts front)
-    × IsBegun (lined (takes_file request) contents) (kind_of request) after rest × (e : CommandError) × IsLoadError after e × Cause (FileMayFail contents) refused e
+    × IsBegun (lined (takes_file request) contents) (kind_of request) after rest × (e : CommandError) × IsLoadError after e × Cause (FileMayFail contents) refused.memory e
     × EndsWith e closed out new_out mid new_err status))
 
 -- the same, where no argument is wrong, and there is memory for the names of the lists
-abbrev pub KeepsGoing : (List ℕ → Option Text) → Bool → Request → Bool → State → State → State → State → ℕ → Type 0
+abbrev pub KeepsGoing : (List ℕ → Option Text) → Refusals → Request → Bool → State → State → State → State → ℕ → Type 0
 KeepsGoing contents refused request closed out new_out err new_err status =
     ((e : CommandError) × IsWrong request e × EndsWith e closed out new_out err new_err status)
     ⊎ ((((e : CommandError) → ¬ (IsWrong request e)) × TellsFaults contents refused request closed out new_out err new_err status)
-    ⊎ ((refused ≡ true) × EndsWith error.NoMemory closed out new_out err new_err status))
+    ⊎ ((refused.memory ≡ true) × EndsWith error.NoMemory closed out new_out err new_err status))
 
 -- what becomes of a request, its lists read this way
-abbrev pub RunsRequest : Reading → (List ℕ → Option Text) → Bool → Request → Bool → State → State → State → State → ℕ → Type 0
+abbrev pub RunsRequest : Reading → (List ℕ → Option Text) → Refusals → Request → Bool → State → State → State → State → ℕ → Type 0
 RunsRequest reading contents refused request closed out new_out err new_err status =
     ((reading.keeps_going ≡ true) × KeepsGoing contents refused request closed out new_out err new_err status)
     ⊎ ((reading.keeps_going ≡ false) × RunsAnswer contents refused request closed out new_out err new_err status)
@@ -289,7 +290,7 @@ abbrev pub IsReadTwice : CommandError → Type 0
 IsReadTwice e = IsBadArgument (λ text why. (text ≡ input_name) × (why ≡ bad.ReadTwice)) e
 
 -- what becomes of a request by itself: one that reads the standard input more than once is not answered
-abbrev pub RunsOnce : Reading → (List ℕ → Option (List ℕ)) → Bool → Request → Bool → State → State → State → State → ℕ → Type 0
+abbrev pub RunsOnce : Reading → (List ℕ → Option (List ℕ)) → Refusals → Request → Bool → State → State → State → State → ℕ → Type 0
 RunsOnce reading contents refused request closed out new_out err new_err status =
     (ReadsInputTwice request × (e : CommandError) × IsReadTwice e × EndsWith e closed out new_out err new_err status)
     ⊎ (¬ (ReadsInputTwice request) × RunsRequest reading (contents_by reading.host_bits contents) refused request closed out new_out err new_err status)
@@ -306,16 +307,17 @@ IsNotSaved name e = ⊥
 -- what becomes of a request whose answer goes to the file of this name: nothing is written to standard output, and a text in
 -- memory takes the answer. Where there is memory for it, the run ends as the request does, or the file can't be written; else
 -- that there is none is the error, and not that the output failed. What the file is then is said in `Leaving`. `before` tells
--- whether an allocation was refused before that of the text.
-abbrev pub RunsInto : List ℕ → Reading → (List ℕ → Option (List ℕ)) → Bool → Request → State → State → State → State → ℕ → Type 0
+-- what was refused before the text was there; `compile`, which writes a file itself, has no `-o`.
+abbrev pub RunsInto : List ℕ → Reading → (List ℕ → Option (List ℕ)) → Refusals → Request → State → State → State → State → ℕ → Type 0
 RunsInto name reading contents refused request out new_out err new_err status = (new_out ≡ out)
-    × ((before : Bool) × (text mid : State) × (answered : ℕ) × RunsOnce reading contents before request text.failed empty text err mid answered
-    × (((text.failed ≡ false) × (before ≡ refused) × (new_err ≡ mid) × (status ≡ answered))
-    ⊎ (((text.failed ≡ false) × (answered ≤ 1) × (e : CommandError) × IsNotSaved name e × Reports false (Err e) mid new_err × (status ≡ status_of (Err e)))
-    ⊎ ((text.failed ≡ true) × (refused ≡ true) × Tells mid new_err (codes "no memory\n") × (status ≡ 3)))))
+    × ((before : Refusals) × (text mid : State) × (answered : ℕ) × RunsOnce reading contents before request text.failed empty text err mid answered
+    × (((text.failed ≡ false) × (before.memory ≡ refused.memory) × (new_err ≡ mid) × (status ≡ answered))
+    ⊎ (((text.failed ≡ false) × (answered ≤ 1) × (refused.folder ≡ true) × (e : CommandError) × IsNotSaved name e × Reports false (Err e) mid new_err
+    × (status ≡ status_of (Err e)))
+    ⊎ ((text.failed ≡ true) × (refused.memory ≡ true) × Tells mid new_err (codes "no memory\n") × (status ≡ 3)))))
 
 -- the same where a file is named, or none
-abbrev pub RunsTo : Option (List ℕ) → Reading → (List ℕ → Option (List ℕ)) → Bool → Request → Bool → State → State → State → State → ℕ → Type 0
+abbrev pub RunsTo : Option (List ℕ) → Reading → (List ℕ → Option (List ℕ)) → Refusals → Request → Bool → State → State → State → State → ℕ → Type 0
 RunsTo None reading contents refused request closed out new_out err new_err status =
     RunsOnce reading contents refused request closed out new_out err new_err status
 RunsTo (Some name) reading contents refused request closed out new_out err new_err status =
@@ -326,7 +328,7 @@ abbrev pub IsMisused : List ℕ → State → State → State → State → ℕ 
 IsMisused line out new_out err new_err status = (new_out ≡ out) × Tells err new_err line × (status ≡ 2)
 
 -- what becomes of a line of arguments, or of words that are none
-abbrev pub RunsLine : Result Line (List ℕ) → (List ℕ → Option (List ℕ)) → Bool → Bool → State → State → State → State → ℕ → Type 0
+abbrev pub RunsLine : Result Line (List ℕ) → (List ℕ → Option (List ℕ)) → Refusals → Bool → State → State → State → State → ℕ → Type 0
 RunsLine (Ok (reading, (target, request))) contents refused closed out new_out err new_err status =
     RunsTo target reading contents refused request closed out new_out err new_err status
 RunsLine (Err line) contents refused closed out new_out err new_err status = IsMisused line out new_out err new_err status
@@ -335,22 +337,22 @@ RunsLine (Err line) contents refused closed out new_out err new_err status = IsM
 abbrev pub not_text_line : List ℕ → List ℕ
 not_text_line shown = shown ++ codes ": not UTF-8\n"
 
--- A run, from the arguments and the files to the exit status. `refused` tells whether an allocation was refused, and `closed` tells whether the output has failed since nobody
--- reads it any more.
-abbrev pub Runs : Option (List (List ℕ)) → (List ℕ → Option (List ℕ)) → Bool → Bool → State → State → State → State → ℕ → Type 0
+-- A run, from the arguments and the files to the exit status. `refused` tells whether an allocation or the writing of a file was
+-- refused, and `closed` whether the output has failed since nobody reads it any more.
+abbrev pub Runs : Option (List (List ℕ)) → (List ℕ → Option (List ℕ)) → Refusals → Bool → State → State → State → State → ℕ → Type 0
 Runs words contents refused closed out new_out err new_err status =
     ((given : List (List ℕ)) × AreArguments words given × RunsLine (line_request given) contents refused closed out new_out err new_err status)
     ⊎ (((shown : List ℕ) × IsNotText words shown × IsMisused (not_text_line shown) out new_out err new_err status)
-    ⊎ ((refused ≡ true) × EndsWith error.NoMemory closed out new_out err new_err status))
+    ⊎ ((refused.memory ≡ true) × EndsWith error.NoMemory closed out new_out err new_err status))
 
 -- ---- what private functions promise
 -- what becomes of words, or there was no memory for them
-abbrev pub RunsFound : Result Line (List ℕ) → (List ℕ → Option (List ℕ)) → Bool → Bool → State → State → State → State → ℕ → Type 0
+abbrev pub RunsFound : Result Line (List ℕ) → (List ℕ → Option (List ℕ)) → Refusals → Bool → State → State → State → State → ℕ → Type 0
 RunsFound found contents refused closed out new_out err new_err status =
     RunsLine found contents refused closed out new_out err new_err status
-    ⊎ ((refused ≡ true) × EndsWith error.NoMemory closed out new_out err new_err status)
+    ⊎ ((refused.memory ≡ true) × EndsWith error.NoMemory closed out new_out err new_err status)
 
 -- what becomes of a request whose answer goes to a file, or there was no memory for it, whatever the standard output is
-abbrev pub IntoFound : List ℕ → Reading → (List ℕ → Option (List ℕ)) → Bool → Request → State → State → ℕ → Type 0
+abbrev pub IntoFound : List ℕ → Reading → (List ℕ → Option (List ℕ)) → Refusals → Request → State → State → ℕ → Type 0
 IntoFound name reading contents refused request err new_err status = (closed : Bool) (out : State)
     → RunsFound (Ok (reading, (Some name, request))) contents refused closed out out err new_err status

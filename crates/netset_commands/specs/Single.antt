@@ -1,24 +1,22 @@
 -- The commands on one host or network, their arguments, and what each answers.
-use Rattle.std.specs.Prelude.{◌≡◌, ℕ, ◌-◌, ◌^◌, ◌<◌, ◌≤◌, ◌⊎◌, Bool, List, [], ◌∷◌, ◌++◌, length, codes, decimal}
+use Rattle.std.specs.Prelude.{◌≡◌, ℕ, ◌-◌, ◌^◌, ◌<◌, ◌≤◌, ◌⊎◌, Bool, List, [], length}
 use Rattle.std.specs.List.{flat_map}
 use Rattle.std.specs.Str.Parse.{IsNumeral, digits_value, without_leading_plus}
 use Rattle.cidr.specs.either.IpAddress.{address_family, plain_bits}
 use Rattle.cidr.specs.either.IpHost.{host_address, host_network}
-use Rattle.cidr.specs.either.IpNetwork.{network_family, network_prefix, address_by}
-use Rattle.cidr.specs.either.IpText.{ip_network_text, IsIpNetworkText, IsIpRefused, IsIpHostText, IsIpHostRefused}
-use Rattle.cidr.specs.model.Network.{first_of, last_of, mask_of, width_of}
+use Rattle.cidr.specs.either.IpNetwork.{network_family, network_prefix}
+use Rattle.cidr.specs.either.IpText.{IsIpNetworkText, IsIpRefused, IsIpHostText, IsIpHostRefused}
+use Rattle.cidr.specs.model.Network.{width_of}
 use Rattle.cidr.specs.texts.Printed.{plain_text}
-use Rattle.cidr.specs.model.Host.{Host}
-use Rattle.cidr.specs.texts.PrintedAddress.{address_text, ip_text}
+use Rattle.cidr.specs.texts.PrintedAddress.{ip_text}
 use Rattle.cidr.specs.declared.addr.ip.IpAddr.{IpAddr}
 use Rattle.cidr.specs.declared.cidr.combined.IpCidr.{IpCidr}
 use Rattle.cidr.specs.declared.family.Family.{Family}
-use Rattle.cidr.specs.declared.family.Family.TheVariants.{Ipv4, Ipv6}
 use Rattle.cidr.specs.declared.inet.combined.IpInet.{IpInet}
-use Rattle.cidr_ext.specs.model.Inside.{IsAddressAt, host_mask_of, usable_of}
-use Rattle.cidr_ext.specs.texts.Reverse.{reverse_text}
+use Rattle.cidr_ext.specs.model.Inside.{IsAddressAt}
 use Rattle.cidr_ext.specs.model.Subnets.{subnets_of}
 use Rattle.cidr_ext.specs.texts.TextFaults.{IsFaultOf}
+use Rattle.cidr_lists.specs.Descriptions.{IsHostLines}
 use Rattle.cidr_lists.specs.Printing.{line}
 use Rattle.netset_commands.specs.declared.output.answers.Verdict.{Verdict}
 use Rattle.netset_commands.specs.declared.output.answers.Verdict.TheVariants.{Yes, No}
@@ -33,41 +31,6 @@ pub data SingleRequest : Type 0 where
 -- the string is this number in decimal, perhaps with a plus in front
 abbrev pub IsNumber : List ℕ → ℕ → Type 0
 IsNumber text n = IsNumeral 10 (without_leading_plus text) × (n ≡ digits_value 10 (without_leading_plus text))
-
--- the name of a family
-abbrev pub family_name : Family → List ℕ
-family_name Ipv4 = codes "IPv4"
-family_name Ipv6 = codes "IPv6"
-
--- the address of a host as it is printed
-abbrev pub host_text : Family × Host → List ℕ
-host_text (family, host) = address_text family host.address
-
--- the address of the last of some hosts
-abbrev pub last_text : Family × Host → List (Family × Host) → List ℕ
-last_text host [] = host_text host
-last_text host (next ∷ rest) = last_text next rest
-
--- hosts as the range of their addresses, or as the only address
-abbrev pub range_text : List (Family × Host) → List ℕ
-range_text [] = codes "none"
-range_text (host ∷ []) = host_text host
-range_text (first ∷ next ∷ rest) = host_text first ++ (codes "-" ++ last_text next rest)
-
--- what there is to say of a network, itself, its first and last address, its mask and host mask, its prefix length, its family and the addresses
--- that hosts may have, and of an address in it: its name in reverse DNS
-abbrev pub host_lines : IpCidr → IpAddr → List ℕ
-host_lines n address =
-    codes "network " ++ (ip_network_text plain_text n
-    ++ (codes "\nfirst " ++ (ip_text (address_by first_of n)
-    ++ (codes "\nlast " ++ (ip_text (address_by last_of n)
-    ++ (codes "\nmask " ++ (ip_text (address_by mask_of n)
-    ++ (codes "\nhostmask " ++ (address_text (network_family n) (host_mask_of (width_of (network_family n)) (network_prefix n))
-    ++ (codes "\nlength " ++ (decimal (length (network_prefix n))
-    ++ (codes "\nfamily " ++ (family_name (network_family n)
-    ++ (codes "\nusable " ++ (range_text (usable_of (network_family n) (network_prefix n))
-    ++ (codes "\nname " ++ (reverse_text (address_family address) (plain_bits address)
-    ++ codes "\n")))))))))))))))))
 
 -- a network of a family as a line
 abbrev pub subnet_line : Family × List Bool → List ℕ
@@ -99,7 +62,7 @@ IsNthText network i answer No = (count_in network ≤ i) × (answer ≡ [])
 -- what a request is answered with
 abbrev pub IsSingleAnswer : SingleRequest → List ℕ → Verdict → Type 0
 IsSingleAnswer (Show text) answer verdict =
-    (host : IpInet) × IsIpHostText text host × (answer ≡ host_lines (host_network host) (host_address host)) × (verdict ≡ Yes)
+    (host : IpInet) × IsIpHostText text host × IsHostLines (host_network host) (host_address host) answer × (verdict ≡ Yes)
 IsSingleAnswer (Nth net place) answer verdict =
     (network : IpCidr) × (i : ℕ) × IsIpNetworkText net network × IsNumber place i × IsNthText network i answer verdict
 

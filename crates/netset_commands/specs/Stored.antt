@@ -20,28 +20,24 @@ use Rattle.netset_commands.specs.declared.errors.FileError.{FileError}
 use Rattle.netset_commands.specs.declared.errors.FileError.TheVariants.{Unlike, Version, Short, Long, Changed}
 
 -- how it is told what is wrong with a table in a file, or that there was no memory to see
-abbrev pub told_in : TableFault → Option FileError
-told_in in_table.NoMemory = None
-told_in f = Some Changed
+abbrev pub table_error_of : TableFault → Option FileError
+table_error_of in_table.NoMemory = None
+table_error_of f = Some Changed
 
 -- the same of a file
-abbrev pub told_of : Fault → Option FileError
-told_of fault.Magic = Some Unlike
-told_of (fault.Version other) = Some Version
-told_of fault.Short = Some Short
-told_of fault.Long = Some Long
-told_of (fault.Ipv4 f) = told_in f
-told_of (fault.Ipv6 f) = told_in f
+abbrev pub file_error_of : Fault → Option FileError
+file_error_of fault.Magic = Some Unlike
+file_error_of (fault.Version other) = Some Version
+file_error_of fault.Short = Some Short
+file_error_of fault.Long = Some Long
+file_error_of (fault.Ipv4 f) = table_error_of f
+file_error_of (fault.Ipv6 f) = table_error_of f
 
--- this is told of bytes that are no file of look-ups
-abbrev pub IsFaultTold : List ℕ → FileError → Type 0
-IsFaultTold bytes why = (f : Fault) × IsFaultOfBytes bytes f × (told_of f ≡ Some why)
-
--- why a file is not read that may be one of look-ups: it begins as one and is none; or this says why, where a line is in error
--- only in a file that does not begin as one
+-- why a file is not read that may be one of look-ups: it begins as one and has a fault; or this says why, where a line is in
+-- error only in a file that does not begin as one
 abbrev pub IsNotGiven : (CommandError → Type 0) → Option Text → List ℕ → CommandError → Type 0
-IsNotGiven IsOther contents name (error.File file why) =
-    (file.now ≡ name) × ((text : Text) → contents ≡ Some text → (begins_file text.bytes ≡ true) × IsFaultTold text.bytes why)
+IsNotGiven IsOther contents name (error.File file why) = (file.now ≡ name) × (f : Fault) × (file_error_of f ≡ Some why)
+    × ((text : Text) → contents ≡ Some text → (begins_file text.bytes ≡ true) × IsFaultOfBytes text.bytes f)
 IsNotGiven IsOther contents name (error.Line file number e) = IsOther (error.Line file number e)
     × ((text : Text) → contents ≡ Some text → begins_file text.bytes ≡ false)
 IsNotGiven IsOther contents name e = IsOther e
@@ -57,12 +53,12 @@ rows_from w value [] place = []
 rows_from w value (network ∷ networks) place = (prefix_bits w network, value place) ∷ rows_from w value networks (suc place)
 
 -- all of them
-abbrev pub rows_in : ℕ → (List ℕ → List ℕ) → List (List ℕ) → List (List Bool × List ℕ)
-rows_in w numbers parts = rows_from w (value_in parts) (stored_networks numbers parts) 0
+abbrev pub stored_rows : ℕ → (List ℕ → List ℕ) → List (List ℕ) → List (List Bool × List ℕ)
+stored_rows w numbers parts = rows_from w (value_in parts) (stored_networks numbers parts) 0
 
 -- those of IPv4 and those of IPv6
-abbrev pub rows_of : Table → List (List Bool × List ℕ) × List (List Bool × List ℕ)
-rows_of table = (rows_in 32 words (parts_in table.ipv4), rows_in 128 wide_words (parts_in table.ipv6))
+abbrev pub file_rows : Table → List (List Bool × List ℕ) × List (List Bool × List ℕ)
+file_rows table = (stored_rows 32 words (parts_in table.ipv4), stored_rows 128 wide_words (parts_in table.ipv6))
 
 -- the same by the family
 abbrev pub by_family : List (List Bool × List ℕ) × List (List Bool × List ℕ) → Family → List (List Bool × List ℕ)
@@ -77,6 +73,10 @@ pub record AreTables (table : Table) : Type 0 where
 -- these are the bytes of a file that begins as one of look-ups
 abbrev pub AreFileBytes : Option Text → List ℕ → Type 0
 AreFileBytes contents bytes = (text : Text) → contents ≡ Some text → (begins_file text.bytes ≡ true) × (bytes ≡ text.bytes)
+
+-- this is told of bytes that are no file of look-ups
+abbrev pub IsFaultTold : List ℕ → FileError → Type 0
+IsFaultTold bytes why = (f : Fault) × IsFaultOfBytes bytes f × (file_error_of f ≡ Some why)
 
 -- the tables of a file of these bytes; or why it is none, or memory
 abbrev pub ChecksFile : List ℕ → List ℕ → Result (List (List Bool × List ℕ) × List (List Bool × List ℕ)) CommandError → Type 0

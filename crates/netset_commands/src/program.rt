@@ -5,7 +5,7 @@ ghost use Rattle.std.specs.String.{string_bytes};
 ghost use Rattle.netset_commands.specs.Causes.{Cause, FileMayFail};
 ghost use Rattle.netset_commands.specs.Combining.{form_of};
 ghost use Rattle.netset_commands.specs.Arguments.{line_request, read_request};
-ghost use Rattle.netset_commands.specs.Command.{given, parts_in, request_of};
+ghost use Rattle.netset_commands.specs.Command.{given, given_parts, request_of};
 ghost use Rattle.netset_commands.specs.Leaving.{Leaves, LeavesBy, LeavesFound, LeavesTo, RunLeaves};
 ghost use Rattle.netset_commands.specs.Commands.{Lists, Styled};
 ghost use Rattle.cidr_lists.specs.Formats.{style_in};
@@ -112,7 +112,8 @@ fn answer<'a, M: Memory, F: Sources, D: Folder, O: Sink>(
 ) -> Result<Verdict, CommandError<'a>>
     ensures answers { AnswersRequest (F.contents sources.now) (request_of command.entry) (O.state out.old) (O.state out.new) result }
     ensures leaves { Leaves (F.contents sources.now) (request_of command.entry) (D.saved folder.old) (D.saved folder.new) result }
-    ensures cause { IsCaused (F.contents sources.now) (M.refused memory.new) result }
+    ensures cause { IsCaused (F.contents sources.now) (record { memory = M.refused memory.new; folder = D.refused folder.new })
+        (request_of command.entry) result }
 {
     match command {
         Command::Lists(operation, files) => lists(memory, sources, operation, files, out),
@@ -195,8 +196,8 @@ fn keep_going<'a, M: Memory, F: Sources, D: Folder, O: Output, E: Sink>(
     out: &mut O,
     err: &mut E,
 ) -> u8
-    ensures goes { KeepsGoing (F.contents sources.now) (M.refused memory.new) (request_of command.entry) (O.closed out.new) (O.Sink.state out.old) (O.Sink.state out.new)
-        (E.state err.old) (E.state err.new) result }
+    ensures goes { KeepsGoing (F.contents sources.now) (record { memory = M.refused memory.new; folder = D.refused folder.new }) (request_of command.entry)
+        (O.closed out.new) (O.Sink.state out.old) (O.Sink.state out.new) (E.state err.old) (E.state err.new) result }
     ensures leaves { LeavesBy (F.contents sources.now) (request_of command.entry) (D.saved folder.old) (D.saved folder.new) result }
 {
     if let Some(e) = wrong_argument(command) {
@@ -241,8 +242,8 @@ fn answer_once<'a, M: Memory, F: Files, D: Folder, O: Output, E: Sink>(
     out: &mut O,
     err: &mut E,
 ) -> u8
-    ensures runs { RunsFound (Ok (reading, (None, request_of command.entry))) (F.contents files.now) (M.refused memory.new) (O.closed out.new) (O.Sink.state out.old) (O.Sink.state out.new)
-        (E.state err.old) (E.state err.new) result }
+    ensures runs { RunsFound (Ok (reading, (None, request_of command.entry))) (F.contents files.now) (record { memory = M.refused memory.new; folder = D.refused folder.new })
+        (O.closed out.new) (O.Sink.state out.old) (O.Sink.state out.new) (E.state err.old) (E.state err.new) result }
     ensures leaves { LeavesFound (Ok (reading, (None, request_of command.entry))) (F.contents files.now) (D.saved folder.old) (D.saved folder.new) result }
 {
     let Ok(names) = command.files(memory) else {
@@ -280,7 +281,8 @@ fn answer_into<'a, M: Memory, F: Files, D: Folder, E: Sink>(
     command: Command<'a>,
     err: &mut E,
 ) -> u8
-    ensures runs { IntoFound name.now reading (F.contents files.now) (M.refused memory.new) (request_of command.entry) (E.state err.old) (E.state err.new) result }
+    ensures runs { IntoFound name.now reading (F.contents files.now) (record { memory = M.refused memory.new; folder = D.refused folder.new })
+        (request_of command.entry) (E.state err.old) (E.state err.new) result }
     ensures leaves { LeavesTo (Some name.now) (contents_by reading.host_bits (F.contents files.now)) (request_of command.entry)
         (D.saved folder.old) (D.saved folder.new) result }
 {
@@ -310,8 +312,8 @@ fn answer_to<'a, M: Memory, F: Files, D: Folder, O: Output, E: Sink>(
     out: &mut O,
     err: &mut E,
 ) -> u8
-    ensures runs { RunsFound (Ok (reading, (given target.entry, request_of command.entry))) (F.contents files.now) (M.refused memory.new) (O.closed out.new) (O.Sink.state out.old) (O.Sink.state out.new)
-        (E.state err.old) (E.state err.new) result }
+    ensures runs { RunsFound (Ok (reading, (given target.entry, request_of command.entry))) (F.contents files.now) (record { memory = M.refused memory.new; folder = D.refused folder.new })
+        (O.closed out.new) (O.Sink.state out.old) (O.Sink.state out.new) (E.state err.old) (E.state err.new) result }
     ensures leaves { LeavesFound (Ok (reading, (given target.entry, request_of command.entry))) (F.contents files.now) (D.saved folder.old) (D.saved folder.new) result }
 {
     match target {
@@ -330,9 +332,9 @@ fn answer_parts<M: Memory, F: Files, D: Folder, O: Output, E: Sink>(
     out: &mut O,
     err: &mut E,
 ) -> u8
-    ensures runs { RunsFound (read_request verb (parts_in parts.now)) (F.contents files.now) (M.refused memory.new) (O.closed out.new) (O.Sink.state out.old) (O.Sink.state out.new)
-        (E.state err.old) (E.state err.new) result }
-    ensures leaves { LeavesFound (read_request verb (parts_in parts.now)) (F.contents files.now) (D.saved folder.old) (D.saved folder.new) result }
+    ensures runs { RunsFound (read_request verb (given_parts parts.now)) (F.contents files.now) (record { memory = M.refused memory.new; folder = D.refused folder.new })
+        (O.closed out.new) (O.Sink.state out.old) (O.Sink.state out.new) (E.state err.old) (E.state err.new) result }
+    ensures leaves { LeavesFound (read_request verb (given_parts parts.now)) (F.contents files.now) (D.saved folder.old) (D.saved folder.new) result }
 {
     match command_of(verb, parts) {
         Ok(command) => match target_of(verb, parts) {
@@ -355,8 +357,8 @@ fn answer_texts<M: Memory, F: Files, D: Folder, O: Output, E: Sink>(
     out: &mut O,
     err: &mut E,
 ) -> u8
-    ensures runs { RunsFound (line_request (map string_bytes texts.now)) (F.contents files.now) (M.refused memory.new) (O.closed out.new) (O.Sink.state out.old) (O.Sink.state out.new)
-        (E.state err.old) (E.state err.new) result }
+    ensures runs { RunsFound (line_request (map string_bytes texts.now)) (F.contents files.now) (record { memory = M.refused memory.new; folder = D.refused folder.new })
+        (O.closed out.new) (O.Sink.state out.old) (O.Sink.state out.new) (E.state err.old) (E.state err.new) result }
     ensures leaves { LeavesFound (line_request (map string_bytes texts.now)) (F.contents files.now) (D.saved folder.old) (D.saved folder.new) result }
 {
     let Ok(words) = borrowed(memory, texts) else {
@@ -389,8 +391,8 @@ fn answer_arguments<M: Memory, A: Arguments, F: Files, D: Folder, O: Output, E: 
     out: &mut O,
     err: &mut E,
 ) -> u8
-    ensures runs { Runs (A.told arguments.now) (F.contents files.now) (M.refused memory.new) (O.closed out.new) (O.Sink.state out.old) (O.Sink.state out.new)
-        (E.state err.old) (E.state err.new) result }
+    ensures runs { Runs (A.told arguments.now) (F.contents files.now) (record { memory = M.refused memory.new; folder = D.refused folder.new })
+        (O.closed out.new) (O.Sink.state out.old) (O.Sink.state out.new) (E.state err.old) (E.state err.new) result }
     ensures leaves { RunLeaves (A.told arguments.now) (F.contents files.now) (D.saved folder.old) (D.saved folder.new) result }
 {
     match texts_of(memory, arguments) {
@@ -418,8 +420,8 @@ pub fn program<M: Memory, A: Arguments, F: Files, D: Folder, O: Output, E: Sink>
 ) -> u8
     ensures answers { AnswersTyped (A.told arguments.now) (F.contents files.now) (O.Sink.state out.old) (O.Sink.state out.new)
         (E.state err.old) (E.state err.new) result }
-    ensures runs { Runs (A.told arguments.now) (F.contents files.now) (M.refused memory.new) (O.closed out.new) (O.Sink.state out.old) (O.Sink.state out.new)
-        (E.state err.old) (E.state err.new) result }
+    ensures runs { Runs (A.told arguments.now) (F.contents files.now) (record { memory = M.refused memory.new; folder = D.refused folder.new })
+        (O.closed out.new) (O.Sink.state out.old) (O.Sink.state out.new) (E.state err.old) (E.state err.new) result }
     ensures leaves { RunLeaves (A.told arguments.now) (F.contents files.now) (D.saved folder.old) (D.saved folder.new) result }
 {
     answer_arguments(memory, arguments, files, folder, out, err)

@@ -20,6 +20,7 @@ use Rattle.cidr_lists.specs.declared.columns.Separator.TheVariants.{Byte}
 use Rattle.cidr_lists.specs.declared.errors.LineError.{LineError}
 use Rattle.cidr_lists.specs.declared.lines.HostBits.{HostBits}
 use Rattle.cidr_lists.specs.declared.lines.HostBits.TheVariants.{Refused}
+use Rattle.netset_commands.specs.Causes.{Refusals}
 use Rattle.netset_commands.specs.Commands.{HoldsOf, IsMadeOf, Lists, Look, Match, ReadsInputTwice, reading_of}
 use Rattle.netset_commands.specs.Look.{IsLook}
 use Rattle.netset_commands.specs.Matching.{ArePicked, IsMatch, Picks}
@@ -47,14 +48,14 @@ printed_by : (Is : List ℕ → Type 0) (run : Finished) (answer : List ℕ) →
 printed_by Is run answer is whole quiet = (subst Is (sym whole.taken) is, all_told run.err.items [] quiet)
 
 -- a run between outputs that hold what it has written
-module _ (words : List (List ℕ)) (contents : List ℕ → Option (List ℕ)) (refused closed : Bool) (status : ℕ) where
+module _ (words : List (List ℕ)) (contents : List ℕ → Option (List ℕ)) (refused : Refusals) (closed : Bool) (status : ℕ) where
   abbrev RanBetween : State → State → State → State → Type 0
   RanBetween s t u v = AnswersTyped (Some words) contents s t u v status × Runs (Some words) contents refused closed s t u v status
 
   pub ran : (s t u v : State) (out err : List ℕ) → AnswersTyped (Some words) contents s t u v status → Runs (Some words) contents refused closed s t u v status
       → s ≡ holding [] → t ≡ holding out → u ≡ holding [] → v ≡ holding err
       → AnswersTyped (Some words) contents (holding []) (holding out) (holding []) (holding err) status
-      × ((x y : Bool) × Runs (Some words) contents x y (holding []) (holding out) (holding []) (holding err) status)
+      × ((x : Refusals) × (y : Bool) × Runs (Some words) contents x y (holding []) (holding out) (holding []) (holding err) status)
   ran s t u v out err answered runs e f g h =
       let (printed, done) = subst (λ (k : State). RanBetween (holding []) (holding out) (holding []) k) h
       (subst (λ (k : State). RanBetween (holding []) (holding out) k v) g
@@ -141,7 +142,7 @@ pub merge_told : (contents : List ℕ → Option (List ℕ)) (list : List ℕ) (
     → length list < 18446744073709551613 → HasRun merge_words contents run → run.status ≡ 2 → HasToldLine (codes "list") (text_by Refused list) run
 merge_told contents list run told short (answered, (refused, closed, runs)) two =
     let done = subst (λ (k : ℕ). Runs (Some merge_words) contents refused closed (holding []) (holding run.out.items) (holding []) (holding run.err.items) k) two runs in
-    list_failed contents (codes "list") list refused run told short
+    list_failed contents (codes "list") list refused.memory run told short
     (lists_fail merge_words contents refused closed (holding []) (holding run.out.items) (holding []) (holding run.err.items) (reading_of [])
     Merge (codes "list" ∷ [])
     (typed_asks merge_words [] (Lists Merge (codes "list" ∷ [])) (refl, refl, refl, refl, refl)) once refl in_words done)

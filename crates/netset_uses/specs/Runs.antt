@@ -9,6 +9,7 @@ use Rattle.cidr_lists.specs.Printing.{line}
 use Rattle.cidr_lists.specs.declared.columns.Column.{Column}
 use Rattle.cidr_lists.specs.declared.columns.Separator.TheVariants.{Byte}
 use Rattle.cidr_lists.specs.declared.errors.LineError.{LineError}
+use Rattle.netset_commands.specs.Causes.{Refusals}
 use Rattle.netset_commands.specs.Commands.{HoldsOf}
 use Rattle.netset_commands.specs.Matching.{ArePicked, Picks}
 use Rattle.netset_commands.specs.Program.{Runs}
@@ -22,7 +23,8 @@ holding bytes = record { taken = Some bytes; failed = false }
 -- a run with these arguments over these files, that began with empty outputs
 abbrev pub HasRun : List (List ℕ) → (List ℕ → Option (List ℕ)) → Finished → Type 0
 HasRun words contents run = AnswersTyped (Some words) contents (holding []) (holding run.out.items) (holding []) (holding run.err.items) run.status
-    × ((refused closed : Bool) × Runs (Some words) contents refused closed (holding []) (holding run.out.items) (holding []) (holding run.err.items) run.status)
+    × ((refused : Refusals) × (closed : Bool) × Runs (Some words) contents refused closed (holding []) (holding run.out.items)
+    (holding []) (holding run.err.items) run.status)
 
 -- it has printed this answer, and told nothing
 abbrev pub HasPrinted : (List ℕ → Type 0) → Finished → Type 0

@@ -2,7 +2,7 @@
 ghost use Rattle.std.specs.Prelude.{◌≡◌, ◌<◌, [], Ok, Err, Bool, true, false, length, drop, MatchOption, MatchResult, option_map, slice_get, unwrap_or};
 ghost use Rattle.std.specs.List.{after_first, before_first};
 ghost use Rattle.netset_commands.specs.Arguments.{asks_help, choice_by, choice_in, chosen_style, extent_by, extra_operand, fresh, full_name, help_request, is_equals, is_option, is_plain, is_topic, letter_parts, line_parts, lists_request, long_parts, made_request, match_by, match_request, missing_operand, misuse_text, named_format, named_verb, no_option, no_parts, operand_or, part_request, parts_from, short_option, short_parts, some_style, style_in_values, style_of, taken_value, takes, target_in, topic_parts, value_of, verb_of, verb_request, word_parts};
-ghost use Rattle.netset_commands.specs.Command.{AddsParts, IsUsageError, choice_of, extent_of, given, misuse_line, parts_in, request_of};
+ghost use Rattle.netset_commands.specs.Command.{AddsParts, IsUsageError, choice_of, extent_of, given, misuse_line, given_parts, request_of};
 ghost use Rattle.netset_commands.specs.Matching.{is_word};
 ghost use Rattle.netset_commands.specs.Table.{name_of, takes_value, texts};
 ghost use Rattle.netset_commands.specs.declared.errors.Misfit.TheVariants.{NotPlain};
@@ -111,7 +111,7 @@ fn is_topic(command: Verb, word: &str) -> bool
 impl<'a> Parts<'a> {
     /// Those of no words.
     fn new(alloc: Global) -> Parts<'a>
-        ensures { parts_in result ≡ no_parts }
+        ensures { given_parts result ≡ no_parts }
     {
         Parts {
             options: Vec::new(alloc),
@@ -128,7 +128,7 @@ impl<'a> Parts<'a> {
         word: &'a str,
     ) -> Result<Next, UsageError<'a>>
         requires { 0 < length word.now }
-        ensures { MatchResult result (AddsParts (parts_in self.old) (parts_in self.new) (letter_parts command word.now))
+        ensures { MatchResult result (AddsParts (given_parts self.old) (given_parts self.new) (letter_parts command word.now))
             (IsUsageError (letter_parts command word.now) (M.refused memory.new)) }
     {
         let letters = &word.as_bytes()[1..];
@@ -148,7 +148,7 @@ impl<'a> Parts<'a> {
         command: Verb,
         word: &'a str,
     ) -> Result<Next, UsageError<'a>>
-        ensures { MatchResult result (AddsParts (parts_in self.old) (parts_in self.new) (topic_parts command word.now))
+        ensures { MatchResult result (AddsParts (given_parts self.old) (given_parts self.new) (topic_parts command word.now))
             (IsUsageError (topic_parts command word.now) (M.refused memory.new)) }
     {
         if !is_topic(command, word) {
@@ -165,7 +165,7 @@ impl<'a> Parts<'a> {
         command: Verb,
         word: &'a str,
     ) -> Result<Next, UsageError<'a>>
-        ensures { MatchResult result (AddsParts (parts_in self.old) (parts_in self.new) (long_parts command word.now))
+        ensures { MatchResult result (AddsParts (given_parts self.old) (given_parts self.new) (long_parts command word.now))
             (IsUsageError (long_parts command word.now) (M.refused memory.new)) }
     {
         if has(options_of(command), word) {
@@ -194,7 +194,7 @@ impl<'a> Parts<'a> {
         word: &'a str,
     ) -> Result<Next, UsageError<'a>>
         requires { 0 < length word.now }
-        ensures { MatchResult result (AddsParts (parts_in self.old) (parts_in self.new) (short_parts command word.now))
+        ensures { MatchResult result (AddsParts (given_parts self.old) (given_parts self.new) (short_parts command word.now))
             (IsUsageError (short_parts command word.now) (M.refused memory.new)) }
     {
         if takes_value(command, word) {
@@ -211,7 +211,7 @@ impl<'a> Parts<'a> {
         command: Verb,
         word: &'a str,
     ) -> Result<Next, UsageError<'a>>
-        ensures { MatchResult result (AddsParts (parts_in self.old) (parts_in self.new) (word_parts command Next.Any word.now))
+        ensures { MatchResult result (AddsParts (given_parts self.old) (given_parts self.new) (word_parts command Next.Any word.now))
             (IsUsageError (word_parts command Next.Any word.now) (M.refused memory.new)) }
     {
         if word == "--" {
@@ -236,7 +236,7 @@ impl<'a> Parts<'a> {
         word: &'a str,
     ) -> Result<Next, UsageError<'a>>
         ensures { MatchResult result
-            (AddsParts (parts_in self.old) (parts_in self.new) (word_parts command next word.now))
+            (AddsParts (given_parts self.old) (given_parts self.new) (word_parts command next word.now))
             (IsUsageError (word_parts command next word.now) (M.refused memory.new)) }
     {
         match next {
@@ -259,7 +259,7 @@ fn parts_of<'a, M: Memory>(
     command: Verb,
     words: &[&'a str],
 ) -> Result<Parts<'a>, UsageError<'a>>
-    ensures { MatchResult result (λ parts. parts_from command (texts words.now) Next.Any ≡ Ok (parts_in parts))
+    ensures { MatchResult result (λ parts. parts_from command (texts words.now) Next.Any ≡ Ok (given_parts parts))
         (IsUsageError (parts_from command (texts words.now) Next.Any) (M.refused memory.new)) }
 {
     let mut parts = Parts::new(memory.alloc());
@@ -322,7 +322,7 @@ pub fn line_parts<'a, M: Memory>(
     memory: &mut M,
     words: &[&'a str],
 ) -> Result<(Verb, Parts<'a>), UsageError<'a>>
-    ensures { MatchResult result (λ line. line_parts (texts words.now) ≡ Ok (line.0, parts_in line.1))
+    ensures { MatchResult result (λ line. line_parts (texts words.now) ≡ Ok (line.0, given_parts line.1))
         (IsUsageError (line_parts (texts words.now)) (M.refused memory.new)) }
 {
     let Some((name, words)) = words.split_first() else {
@@ -592,8 +592,8 @@ fn extent_by<'a>(all: bool, count: Option<&'a str>) -> Result<Extent<'a>, Misuse
 
 /// The command `free`.
 fn free_command<'a>(parts: &'a Parts<'a>) -> Result<Command<'a>, Misuse<'a>>
-    ensures { MatchResult result (λ command. verb_request AsFree (parts_in parts.now) ≡ Ok (request_of command))
-        (λ misuse. verb_request AsFree (parts_in parts.now) ≡ Err (misuse_line misuse)) }
+    ensures { MatchResult result (λ command. verb_request AsFree (given_parts parts.now) ≡ Ok (request_of command))
+        (λ misuse. verb_request AsFree (given_parts parts.now) ≡ Err (misuse_line misuse)) }
 {
     let operands = parts.operands.as_slice();
     let all = has(parts.options.as_slice(), "--all");
@@ -649,8 +649,8 @@ fn choice_by<'a>(
 
 /// The same by the parts of a line.
 fn choice_in<'a>(parts: &'a Parts<'a>) -> Result<Choice<'a>, Misuse<'a>>
-    ensures { MatchResult result (λ choice. choice_in (parts_in parts.now) ≡ Ok (choice_of choice))
-        (λ misuse. choice_in (parts_in parts.now) ≡ Err (misuse_line misuse)) }
+    ensures { MatchResult result (λ choice. choice_in (given_parts parts.now) ≡ Ok (choice_of choice))
+        (λ misuse. choice_in (given_parts parts.now) ≡ Err (misuse_line misuse)) }
 {
     let values = parts.values.as_slice();
     let number = value_of(Verb::Match, "--field", values)?;
@@ -660,7 +660,7 @@ fn choice_in<'a>(parts: &'a Parts<'a>) -> Result<Choice<'a>, Misuse<'a>>
 
 /// The command `match`, of several files where there is a third operand, and else of one or of the standard input.
 fn match_by<'a>(choice: Choice<'a>, parts: &'a Parts<'a>) -> Command<'a>
-    ensures { request_of result ≡ match_by (choice_of choice.entry) (parts_in parts.now) (slice_get (parts_in parts.now).operands 2) }
+    ensures { request_of result ≡ match_by (choice_of choice.entry) (given_parts parts.now) (slice_get (given_parts parts.now).operands 2) }
 {
     let options = parts.options.as_slice();
     let operands = parts.operands.as_slice();
@@ -682,8 +682,8 @@ fn match_by<'a>(choice: Choice<'a>, parts: &'a Parts<'a>) -> Command<'a>
 
 /// The command `match` with the field by which it picks lines.
 fn match_command<'a>(parts: &'a Parts<'a>) -> Result<Command<'a>, Misuse<'a>>
-    ensures { MatchResult result (λ command. match_request (parts_in parts.now) ≡ Ok (request_of command))
-        (λ misuse. match_request (parts_in parts.now) ≡ Err (misuse_line misuse)) }
+    ensures { MatchResult result (λ command. match_request (given_parts parts.now) ≡ Ok (request_of command))
+        (λ misuse. match_request (given_parts parts.now) ≡ Err (misuse_line misuse)) }
 {
     let choice = choice_in(parts)?;
     Ok(match_by(choice, parts))
@@ -691,8 +691,8 @@ fn match_command<'a>(parts: &'a Parts<'a>) -> Result<Command<'a>, Misuse<'a>>
 
 /// The command with as many operands as it takes.
 fn verb_command<'a>(verb: Verb, parts: &'a Parts<'a>) -> Result<Command<'a>, Misuse<'a>>
-    ensures { MatchResult result (λ command. verb_request verb (parts_in parts.now) ≡ Ok (request_of command))
-        (λ misuse. verb_request verb (parts_in parts.now) ≡ Err (misuse_line misuse)) }
+    ensures { MatchResult result (λ command. verb_request verb (given_parts parts.now) ≡ Ok (request_of command))
+        (λ misuse. verb_request verb (given_parts parts.now) ≡ Err (misuse_line misuse)) }
 {
     let operands = parts.operands.as_slice();
     match verb {
@@ -748,8 +748,8 @@ fn extra_operand<'a>(command: Verb, operands: &[&'a str]) -> Option<&'a str>
 
 /// The command that the parts of a line are.
 pub fn command_of<'a>(command: Verb, parts: &'a Parts<'a>) -> Result<Command<'a>, Misuse<'a>>
-    ensures { MatchResult result (λ made. part_request command (parts_in parts.now) ≡ Ok (request_of made))
-        (λ misuse. part_request command (parts_in parts.now) ≡ Err (misuse_line misuse)) }
+    ensures { MatchResult result (λ made. part_request command (given_parts parts.now) ≡ Ok (request_of made))
+        (λ misuse. part_request command (given_parts parts.now) ≡ Err (misuse_line misuse)) }
 {
     if asks_help(parts.options.as_slice()) {
         return Ok(Command::Help(Some(command)));
@@ -774,8 +774,8 @@ pub fn command_of<'a>(command: Verb, parts: &'a Parts<'a>) -> Result<Command<'a>
 
 /// The file that the answer is written to, if one is named. The page of a command is written to the standard output.
 pub fn target_of<'a>(command: Verb, parts: &Parts<'a>) -> Result<Option<&'a str>, Misuse<'a>>
-    ensures { MatchResult result (λ target. target_in command (parts_in parts.now) ≡ Ok (given target))
-        (λ misuse. target_in command (parts_in parts.now) ≡ Err (misuse_line misuse)) }
+    ensures { MatchResult result (λ target. target_in command (given_parts parts.now) ≡ Ok (given target))
+        (λ misuse. target_in command (given_parts parts.now) ≡ Err (misuse_line misuse)) }
 {
     if asks_help(parts.options.as_slice()) {
         return Ok(None);

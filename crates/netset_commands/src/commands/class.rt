@@ -1,136 +1,29 @@
 //! What addresses are for, by the registries of IANA.
-ghost use Rattle.std.specs.Prelude.{◌≡◌, ◌≤◌, length, IfErr};
+ghost use Rattle.std.specs.Prelude.{IfErr};
 ghost use Rattle.netset_commands.specs.Causes.{Cause, FileMayFail};
-ghost use Rattle.netset_commands.specs.Class.{HasClass, IsClassLine, IsNoAddressText, entry_text, purpose_name, reach_name};
+ghost use Rattle.netset_commands.specs.Class.{IsNoAddressText};
 ghost use Rattle.netset_commands.specs.Commands.{Class};
 ghost use Rattle.netset_commands.specs.Program.{AnswersRequest};
 
 use crate::commands::look::{LookError, look_all, verdict_of};
 use crate::errors::{ArgumentError, CommandError};
 use crate::input::files::Sources;
-use crate::input::table::{Answer, LookUps, block_text, unread};
+use crate::input::table::{Answer, LookUps, unread};
 use crate::output::answers::{Verdict, by_output};
-use arrayvec::ArrayString;
 use cidr::IpAddr;
-use cidr_ext::{Purpose, SpecialAddress, SpecialEntry};
 use cidr_io::block::Block;
 use cidr_io::lines::LineReader;
 use cidr_io::memory::Memory;
 use cidr_io::sink::{OutputFailed, Sink};
 use cidr_io::writing::write_text;
-use itoa::Buffer;
-
-/// The month of the registries that the entries are of.
-const REGISTRY_DATE: &str = "2025-05";
-
-/// What a block of a registry is for, in its words.
-fn purpose_name(purpose: Purpose) -> &'static str
-    ensures name { result.now ≡ purpose_name purpose }
-    ensures len { length result.now ≤ 32 }
-{
-    match purpose {
-        Purpose::ThisNetwork => "This-Network",
-        Purpose::Unspecified => "Unspecified",
-        Purpose::PrivateUse => "Private-Use",
-        Purpose::UniqueLocal => "Unique-Local",
-        Purpose::SharedAddressSpace => "Shared-Address-Space",
-        Purpose::Loopback => "Loopback",
-        Purpose::LinkLocal => "Link-Local",
-        Purpose::ProtocolAssignments => "IETF-Protocol-Assignments",
-        Purpose::ServiceContinuity => "IPv4-Service-Continuity",
-        Purpose::Dummy => "Dummy",
-        Purpose::PortControlAnycast => "PCP-Anycast",
-        Purpose::TurnAnycast => "TURN-Anycast",
-        Purpose::ServiceRegistrationAnycast => "DNS-SD-SRP-Anycast",
-        Purpose::Nat64Discovery => "NAT64/DNS64-Discovery",
-        Purpose::Documentation => "Documentation",
-        Purpose::As112 => "AS112",
-        Purpose::DirectAs112 => "Direct-Delegation-AS112",
-        Purpose::MulticastTunneling => "AMT",
-        Purpose::SixToFourRelay => "Deprecated-6to4-Relay-Anycast",
-        Purpose::SixA44Relay => "6a44-Relay-Anycast",
-        Purpose::SixToFour => "6to4",
-        Purpose::Benchmarking => "Benchmarking",
-        Purpose::Reserved => "Reserved",
-        Purpose::LimitedBroadcast => "Limited-Broadcast",
-        Purpose::Ipv4Mapped => "IPv4-Mapped",
-        Purpose::Translation => "IPv4-IPv6-Translation",
-        Purpose::DiscardOnly => "Discard-Only",
-        Purpose::Teredo => "TEREDO",
-        Purpose::DeprecatedOrchid => "Deprecated-ORCHID",
-        Purpose::OrchidV2 => "ORCHIDv2",
-        Purpose::DroneRemoteId => "Drone-Remote-ID",
-        Purpose::SegmentRouting => "SRv6-SIDs",
-    }
-}
-
-/// Whether addresses are globally reachable, by the column of a registry.
-fn reach_name(reachable: Option<bool>) -> &'static str
-    ensures name { result.now ≡ reach_name reachable }
-    ensures len { length result.now ≤ 10 }
-{
-    match reachable {
-        Some(true) => "global",
-        Some(false) => "not-global",
-        None => "n/a",
-    }
-}
-
-/// What is told of an entry of a registry.
-fn entry_text(entry: &SpecialEntry) -> ArrayString<64>
-    ensures bytes { result.bytes ≡ entry_text entry.now }
-    ensures len { length result.bytes ≤ 64 }
-{
-    let mut text = ArrayString::new();
-    text.push_str(purpose_name(entry.purpose));
-    text.push_str(" RFC");
-    text.push_str(Buffer::new().format(entry.rfc));
-    text.push_str(" ");
-    text.push_str(reach_name(entry.globally_reachable));
-    text.push_str(" ");
-    text.push_str(REGISTRY_DATE);
-    text
-}
-
-/// The block of an address and what is told of its entry, or a hyphen, and whether it has one.
-fn class_text(address: &IpAddr) -> (ArrayString<108>, bool)
-    ensures class { HasClass address.now result.0.bytes result.1 }
-    ensures len { length result.0.bytes ≤ 108 }
-{
-    let mut text = ArrayString::new();
-    match address.special_entry() {
-        Some(entry) => {
-            text.push_str(block_text(address, entry.len).as_str());
-            text.push_str(" ");
-            text.push_str(entry_text(entry).as_str());
-            (text, true)
-        }
-        None => {
-            text.push_str("-");
-            (text, false)
-        }
-    }
-}
-
-/// The line of an address, and whether it has an entry.
-fn class_line(address: &IpAddr) -> (ArrayString<149>, bool)
-    ensures { IsClassLine address.now result.0.bytes result.1 }
-{
-    let (class, found) = class_text(address);
-    let mut line = ArrayString::new();
-    line.push_str(address.to_text().as_str());
-    line.push_str(" ");
-    line.push_str(class.as_str());
-    line.push_str("\n");
-    (line, found)
-}
+use cidr_lists::classes::class_line;
 
 /// The registries, in which addresses are looked up.
 #[derive(Clone, Copy)]
 struct Registries;
 
 impl LookUps for Registries {
-    ghost use Rattle.netset_commands.specs.Class.{registry};
+    ghost use Rattle.cidr_lists.specs.Classes.{registry};
 
     ghost rows = { λ _. registry };
 

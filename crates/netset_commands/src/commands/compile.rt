@@ -1,9 +1,8 @@
 //! Compiling a table into a file of look-ups.
-ghost use Rattle.std.specs.Prelude.{◌≢◌, IfErr, MatchOption};
-ghost use Rattle.netset_commands.specs.Causes.{Cause, FileMayFail};
+ghost use Rattle.std.specs.Prelude.{◌≢◌, MatchOption};
 ghost use Rattle.netset_commands.specs.Commands.{Compile};
 ghost use Rattle.netset_commands.specs.Leaving.{Leaves};
-ghost use Rattle.netset_commands.specs.Program.{IsCompiled, IsSameFile};
+ghost use Rattle.netset_commands.specs.Program.{IsCaused, IsCompiled, IsSameFile};
 
 use crate::errors::{ArgumentError, CommandError, FileError};
 use crate::input::files::Sources;
@@ -33,7 +32,8 @@ pub fn compile<'a, M: Memory, F: Sources, D: Folder>(
 ) -> Result<Verdict, CommandError<'a>>
     ensures compiled { IsCompiled (F.contents sources.now) table.now name.now result }
     ensures leaves { Leaves (F.contents sources.now) (Compile table.now name.now) (D.saved folder.old) (D.saved folder.new) result }
-    ensures cause { IfErr result (Cause (FileMayFail (F.contents sources.now)) (M.refused memory.new)) }
+    ensures cause { IsCaused (F.contents sources.now) (record { memory = M.refused memory.new; folder = D.refused folder.new })
+        (Compile table.now name.now) result }
 {
     if let Some(e) = same_file(table, name) {
         return Err(e);

@@ -1,15 +1,14 @@
 //! What is told of each network: the names of its zones in reverse DNS, or its masks.
-ghost use Rattle.std.specs.Prelude.{◌≡◌, ◌≤◌, length, IfErr};
+ghost use Rattle.std.specs.Prelude.{IfErr};
 ghost use Rattle.std.specs.List.{flat_map};
-ghost use Rattle.cidr.specs.declared.family.Family.TheVariants.{Ipv6};
-ghost use Rattle.cidr.specs.either.IpNetwork.{network_family, network_prefix};
 ghost use Rattle.cidr_io.specs.Collecting.{Collects};
 ghost use Rattle.cidr_io.specs.Writing.{Answered, Writes};
 ghost use Rattle.cidr_lists.specs.Sets.{networks_of};
 ghost use Rattle.netset_commands.specs.Answering.{DescribesNetworks};
 ghost use Rattle.netset_commands.specs.Causes.{Cause, FileMayFail};
 ghost use Rattle.netset_commands.specs.Commands.{Describe};
-ghost use Rattle.netset_commands.specs.Describing.{all_told, ipv4_line, length_lines, mask_line, mask_pair, told_of, zone_lines};
+ghost use Rattle.cidr_lists.specs.Descriptions.{mask_line};
+ghost use Rattle.netset_commands.specs.Describing.{all_told, told_of, zone_lines};
 ghost use Rattle.netset_commands.specs.Program.{AnswersRequest};
 
 use crate::commands::free::length_of;
@@ -18,12 +17,13 @@ use crate::input::files::Sources;
 use crate::input::operands::read_operand;
 use crate::output::answers::{Verdict, by_output};
 use crate::output::families::OneFamily;
-use cidr::{BitString, IpCidr, Ipv4Cidr, Ipv6Cidr};
-use cidr_ext::{CidrExt, CidrReverseName};
+use cidr::IpCidr;
+use cidr_ext::CidrReverseName;
 use cidr_io::block::Block;
 use cidr_io::memory::Memory;
 use cidr_io::sink::{OutputFailed, Sink};
-use cidr_io::writing::flush;
+use cidr_io::writing::{flush, write_text};
+use cidr_lists::descriptions::{length_lines, mask_line};
 use cidr_lists::sets::Sets;
 
 /// What is told of a network.
@@ -46,35 +46,11 @@ fn push_zones<S: Sink>(block: &mut Block, out: &mut S, network: &IpCidr) -> Resu
     Ok(())
 }
 
-/// Appends the mask and the host mask of a network to a block, as a line.
-fn push_masks<S: Sink>(block: &mut Block, out: &mut S, network: &IpCidr) -> Result<(), OutputFailed>
-    ensures { Collects (S.state out.old) (S.state out.new) block.old block.new
-        (mask_pair (network_family network.now) (length (network_prefix network.now))) result }
-{
-    let mask = network.mask().to_text();
-    let host_mask = network.host_mask().to_text();
-    block.push_line(
-        out,
-        &[
-            mask.as_str().as_bytes(),
-            b" ",
-            host_mask.as_str().as_bytes(),
-            b"\n",
-        ],
-    )
-}
-
 /// Appends the first address, the mask and the host mask of a network to a block, as a line.
-fn push_network<S: Sink>(
-    block: &mut Block,
-    out: &mut S,
-    network: &IpCidr,
-) -> Result<(), OutputFailed>
+fn push_masks<S: Sink>(block: &mut Block, out: &mut S, network: &IpCidr) -> Result<(), OutputFailed>
     ensures { Collects (S.state out.old) (S.state out.new) block.old block.new (mask_line network.now) result }
 {
-    let first = network.first_address().to_text();
-    block.push_line(out, &[first.as_str().as_bytes(), b" "])?;
-    push_masks(block, out, network)
+    block.push(out, mask_line(network).as_str().as_bytes())
 }
 
 /// Appends what is told of a network to a block.
@@ -88,7 +64,7 @@ fn push_told<S: Sink>(
 {
     match what {
         Description::Zones => push_zones(block, out, network),
-        Description::Masks => push_network(block, out, network),
+        Description::Masks => push_masks(block, out, network),
     }
 }
 
@@ -135,49 +111,6 @@ fn describe_networks<'a, M: Memory, F: Sources, O: Sink>(
     by_output(Verdict::Yes, write_told(out, what, &sets))
 }
 
-/// Appends the masks of a prefix length in IPv4 to a block, if it has the length.
-fn push_ipv4<S: Sink>(block: &mut Block, out: &mut S, len: u8) -> Result<(), OutputFailed>
-    ensures { Collects (S.state out.old) (S.state out.new) block.old block.new (ipv4_line len) result }
-{
-    match Ipv4Cidr::null().subnet(len, 0) {
-        Some(network) => push_masks(block, out, &IpCidr::V4(network)),
-        None => Ok(()),
-    }
-}
-
-/// Appends the masks of a prefix length in IPv6 to a block.
-fn push_ipv6<S: Sink>(block: &mut Block, out: &mut S, len: u8) -> Result<(), OutputFailed>
-    requires { len ≤ 128 }
-    ensures { Collects (S.state out.old) (S.state out.new) block.old block.new (mask_pair Ipv6 len) result }
-{
-    match Ipv6Cidr::null().subnet(len, 0) {
-        Some(network) => push_masks(block, out, &IpCidr::V6(network)),
-        None => Ok(()),
-    }
-}
-
-/// Appends the masks of a prefix length to a block: those of IPv4, if it has the length, and those of IPv6.
-fn push_lengths<S: Sink>(block: &mut Block, out: &mut S, len: u8) -> Result<(), OutputFailed>
-    requires { len ≤ 128 }
-    ensures { Collects (S.state out.old) (S.state out.new) block.old block.new (length_lines len) result }
-{
-    push_ipv4(block, out, len)?;
-    push_ipv6(block, out, len)
-}
-
-/// Writes the masks of a prefix length, and flushes. An output that has failed before gets nothing.
-fn write_lengths<S: Sink>(out: &mut S, len: u8) -> Result<(), OutputFailed>
-    requires { len ≤ 128 }
-    ensures { Answered (S.state out.old) (S.state out.new) (length_lines len) result }
-{
-    if out.failed() {
-        return Err(OutputFailed);
-    }
-    let mut block = Block::new();
-    push_lengths(&mut block, out, len)?;
-    block.flush(out)
-}
-
 /// The commands `reverse` and `mask`.
 pub fn describe<'a, M: Memory, F: Sources, O: Sink>(
     memory: &mut M,
@@ -193,7 +126,7 @@ pub fn describe<'a, M: Memory, F: Sources, O: Sink>(
     match what {
         Description::Zones => describe_networks(memory, sources, what, operand, out),
         Description::Masks => match length_of(operand) {
-            Some(len) => by_output(Verdict::Yes, write_lengths(out, len)),
+            Some(len) => by_output(Verdict::Yes, write_text(out, length_lines(len).as_str())),
             None => describe_networks(memory, sources, what, operand, out),
         },
     }

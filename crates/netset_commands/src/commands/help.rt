@@ -3,7 +3,7 @@ ghost use Rattle.std.specs.Prelude.{◌≡◌, ◌++◌, ◌∷◌, [], codes, L
 ghost use Rattle.std.specs.List.{concat, flat_map};
 ghost use Rattle.cidr_io.specs.Collecting.{Collects};
 ghost use Rattle.cidr_io.specs.Writing.{Answered};
-ghost use Rattle.netset_commands.specs.Table.{about_of, format_note, help_text, note_of, output_note};
+ghost use Rattle.netset_commands.specs.Table.{about_of, help_text, note_of};
 
 use crate::commands::matching::has;
 use crate::commands::table::{
@@ -56,30 +56,8 @@ fn write_page<S: Sink>(out: &mut S) -> Result<(), OutputFailed>
 fn note_of<'a>(command: Verb, option: &str, note: &'a str) -> &'a str
     ensures { result.now ≡ note_of command option.now note.now }
 {
-    if has(options_of(command), option) {
+    if has(options_of(command), option) || takes_value(command, option) {
         note
-    } else {
-        ""
-    }
-}
-
-/// A note on formats, if the command has them.
-fn format_note(command: Verb) -> &'static str
-    ensures { result.now ≡ format_note command }
-{
-    if takes_value(command, "--format") {
-        FORMAT
-    } else {
-        ""
-    }
-}
-
-/// A note on the file that the answer is written to, if the command has one.
-fn output_note(command: Verb) -> &'static str
-    ensures { result.now ≡ output_note command }
-{
-    if takes_value(command, "-o") {
-        OUTPUT
     } else {
         ""
     }
@@ -97,8 +75,8 @@ pub fn write_help<S: Sink>(topic: Option<Verb>, out: &mut S) -> Result<(), Outpu
                 about_of(command),
                 note_of(command, "--host-bits", HOST_BITS),
                 note_of(command, "-k", KEEP_GOING),
-                format_note(command),
-                output_note(command),
+                note_of(command, "--format", FORMAT),
+                note_of(command, "-o", OUTPUT),
             ],
         ),
         None => write_page(out),

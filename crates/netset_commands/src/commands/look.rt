@@ -4,7 +4,7 @@ ghost use Rattle.std.specs.List.{AllZip};
 ghost use Rattle.cidr_io.specs.Lines.{MayFail as NoLineFails};
 ghost use Rattle.netset_commands.specs.Causes.{Cause, LookCause, FileMayFail, ReadCause, TextFails};
 ghost use Rattle.netset_commands.specs.Commands.{Look};
-ghost use Rattle.netset_commands.specs.LookUps.{AreFound, AsksAddress, AsksLine, AsksLines, IsFoundOf, LooksAll, LooksEach, LooksLines, LooksOne, verdict_of};
+ghost use Rattle.netset_commands.specs.LookUps.{AllFound, AsksAddress, AsksLine, AsksLines, IsFoundOf, LooksAll, LooksEach, LooksLines, LooksOne, verdict_of};
 ghost use Rattle.cidr_lists.specs.Lists.{Text};
 ghost use Rattle.netset_commands.specs.Compiled.{SaysTable};
 ghost use Rattle.netset_commands.specs.Program.{AnswersRequest};
@@ -150,7 +150,7 @@ fn push_each<T: LookUps, S: Sink>(
     block: &mut Block,
     out: &mut S,
 ) -> Result<bool, OutputFailed>
-    requires { AreFound (T.is_found table.now) found.now }
+    requires { AllFound (T.is_found table.now) found.now }
     ensures { LooksEach (T.rows table.now) (map (option_map (λ one. one.0)) found.now) (S.state out.old) (S.state out.new)
         block.old block.new result }
 {

@@ -1,7 +1,7 @@
 //! The field by which `match` picks lines, as the options name it.
 ghost use Rattle.std.specs.Prelude.{◌≡◌, ◌≢◌, ◌⊎◌, ℕ, ◌+◌, ◌^◌, ◌≤◌, length, List, IfSome, MatchOption, MatchResult, Some};
 ghost use Rattle.netset_commands.specs.Command.{choice_of, given};
-ghost use Rattle.netset_commands.specs.Picking.{FieldOf, IsBadChoice, IsChosen, IsPlace, IsSeparator};
+ghost use Rattle.netset_commands.specs.Picking.{FieldOf, IsBadChoice, IsChosen, IsFieldPlace, IsSeparator};
 ghost use Rattle.netset_commands.specs.Program.{IsBadArgument};
 ghost use Rattle.netset_commands.specs.Single.{IsNumber};
 
@@ -19,7 +19,7 @@ pub enum Choice<'a> {
 
 /// The place, from 0 on, of the field of a number.
 fn place_of(number: &str) -> Option<u64>
-    ensures { MatchOption result ((n : ℕ) → IsNumber number.now n → (n ≡ 0) ⊎ (2 ^ 64 ≤ n)) (IsPlace number.now) }
+    ensures { MatchOption result ((n : ℕ) → IsNumber number.now n → (n ≡ 0) ⊎ (2 ^ 64 ≤ n)) (IsFieldPlace number.now) }
 {
     match number.parse::<u64>() {
         Ok(number) => number.checked_sub(1),
@@ -39,7 +39,7 @@ fn byte_of(text: &str) -> Option<Separator>
 
 /// The field of a number and of what parts it from others.
 fn field_of<'a>(number: &'a str, separator: Option<&'a str>) -> Result<Column, CommandError<'a>>
-    ensures { MatchResult result (λ column. IsPlace number.now column.place × IsSeparator (given separator.entry) column.separator)
+    ensures { MatchResult result (λ column. IsFieldPlace number.now column.place × IsSeparator (given separator.entry) column.separator)
         (IsBadArgument (IsBadChoice (FieldOf number.now (given separator.entry)))) }
 {
     let Some(place) = place_of(number) else {

@@ -1,24 +1,25 @@
 //! The commands on one host or network.
 ghost use Rattle.std.specs.Prelude.{◌≡◌, ◌≤◌, ◌^◌, ℕ, List, Option, MatchOption, MatchResult};
 ghost use Rattle.cidr.specs.either.IpHost.{host_address, host_network};
-ghost use Rattle.cidr.specs.either.IpNetwork.{network_family, network_prefix};
 ghost use Rattle.cidr.specs.either.IpText.{IsIpNetworkText};
-ghost use Rattle.cidr_ext.specs.model.Inside.{usable_of};
 ghost use Rattle.cidr_io.specs.Writing.{Answered};
+ghost use Rattle.cidr_lists.specs.Descriptions.{host_lines};
 ghost use Rattle.netset_commands.specs.Command.{single_request};
 ghost use Rattle.netset_commands.specs.Commands.{Single as ASingle};
 ghost use Rattle.cidr_lists.specs.Lists.{Text};
 ghost use Rattle.netset_commands.specs.Program.{AnswersRequest, IsBadArgument};
-ghost use Rattle.netset_commands.specs.Single.{Show, Nth, IsNumber, IsNoNetwork, family_name as name_of, host_lines, range_text};
+ghost use Rattle.netset_commands.specs.Single.{Show, Nth, IsNumber, IsNoNetwork};
 
 use crate::errors::{ArgumentError, CommandError};
 use crate::output::answers::{Verdict, by_output};
 use crate::output::report::write_line;
 use arrayvec::ArrayString;
-use cidr::{Family, IpCidr, IpInet};
+use cidr::{IpCidr, IpInet};
 use cidr_ext::{AddressReverseName, CidrExt, text_fault};
 use cidr_io::sink::{OutputFailed, Sink};
 use cidr_io::writing::write_text;
+use cidr_lists::classes::class_text;
+use cidr_lists::descriptions::{family_name, usable_text};
 use itoa::Buffer;
 
 /// A command on one host or network, and its arguments.
@@ -30,40 +31,14 @@ pub enum Single<'a> {
     Nth(&'a str, &'a str),
 }
 
-/// The name of a family.
-fn family_name(family: Family) -> &'static str
-    ensures { result.now ≡ name_of family }
-{
-    match family {
-        Family::Ipv4 => "IPv4",
-        Family::Ipv6 => "IPv6",
-    }
-}
-
-/// The addresses that hosts may have of a network: the first and the last one, or the only one.
-fn usable_text(network: &IpCidr) -> ArrayString<79>
-    ensures { result.bytes ≡ range_text (usable_of (network_family network.now) (network_prefix network.now)) }
-{
-    let mut hosts = network.usable_hosts();
-    let mut text = ArrayString::new();
-    let Some(first) = hosts.next() else {
-        text.push_str("none");
-        return text;
-    };
-    text.push_str(first.address().to_text().as_str());
-    match hosts.next_back() {
-        Some(last) => {
-            text.push_str("-");
-            text.push_str(last.address().to_text().as_str());
-            text
-        }
-        None => text,
-    }
-}
-
-/// Writes what there is to say of a host and its network.
-fn write_host<S: Sink>(host: &IpInet, out: &mut S) -> Result<(), OutputFailed>
-    ensures { Answered (S.state out.old) (S.state out.new) (host_lines (host_network host.now) (host_address host.now)) result }
+/// Writes what there is to say of a host and its network, whose address is for this.
+fn write_host<S: Sink>(
+    host: &IpInet,
+    class: ArrayString<108>,
+    out: &mut S,
+) -> Result<(), OutputFailed>
+    ensures { Answered (S.state out.old) (S.state out.new)
+        (host_lines (host_network host.now) (host_address host.now) class.bytes) result }
 {
     let network = host.network();
     write_line(
@@ -87,6 +62,8 @@ fn write_host<S: Sink>(host: &IpInet, out: &mut S) -> Result<(), OutputFailed>
             usable_text(&network).as_str(),
             "\nname ",
             host.address().reverse_name().as_str(),
+            "\nclass ",
+            class.as_str(),
             "\n",
         ],
     )
@@ -97,7 +74,10 @@ fn show<'a, S: Sink>(text: &'a str, out: &mut S) -> Result<Verdict, CommandError
     ensures { (contents : List ℕ → Option Text) → AnswersRequest contents (ASingle (Show text.now)) (S.state out.old) (S.state out.new) result }
 {
     match text.parse::<IpInet>() {
-        Ok(host) => by_output(Verdict::Yes, write_host(&host, out)),
+        Ok(host) => {
+            let (class, _) = class_text(&host.address());
+            by_output(Verdict::Yes, write_host(&host, class, out))
+        }
         Err(e) => Err(CommandError::Argument(text, ArgumentError::Network(text_fault(text), e))),
     }
 }

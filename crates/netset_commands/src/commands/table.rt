@@ -1,8 +1,9 @@
 //! The table of the commands: names, options, operands and help.
 ghost use Rattle.std.specs.Prelude.{◌≡◌};
-ghost use Rattle.netset_commands.specs.Table.{about_of, commands, name_of, needed_of, most_of, options_of, takes_value, texts};
+ghost use Rattle.netset_commands.specs.Table.{about_of, commands, name_of, needed_of, most_of, options_of, takes_value, texts, values_of};
 
 use crate::commands::describe::Description;
+use crate::commands::matching::has;
 use crate::commands::operations::Operation;
 
 /// What a command does.
@@ -100,7 +101,7 @@ const CLASS: &str =
     "netset class ADDR|FILE  what an address, or each address of a file, is for by the registries of\n                        IANA: the block that has it, its name and RFC, whether it is globally\n                        reachable, and the date of the registries\n";
 
 const SHOW: &str =
-    "netset show HOST        the network of a host: its ends, masks, length, family and usable\n                        addresses, and the name of the host in reverse DNS\n";
+    "netset show HOST        the network of a host: its ends, masks, length, family and usable\n                        addresses; the host's name in reverse DNS, and what its address is\n                        for, as class tells it\n";
 
 const SPLIT: &str =
     "netset split NET|FILE LEN\n                        the networks of this prefix length inside a network, or inside the\n                        networks of a list\n";
@@ -195,28 +196,30 @@ pub fn options_of(command: Verb) -> &'static [&'static str]
     }
 }
 
-/// Whether a command has an option with a value: the network of `not --in`, how networks are written, how many networks
-/// `free --count` tells, the field by which `match` picks, or where the answer is written.
+/// The options of a command that have a value: the network of `not --in`, how networks are written, how many networks
+/// `free --count` tells, the field by which `match` picks, and where the answer is written.
+fn values_of(command: Verb) -> &'static [&'static str]
+    ensures { texts result.now ≡ values_of command }
+{
+    match command {
+        Verb::Lists(Operation::Not) => &["--in", "--format", "--prefix", "--suffix", "-o"],
+        Verb::Lists(Operation::Ranges)
+        | Verb::Lists(Operation::Count)
+        | Verb::Diff
+        | Verb::Split
+        | Verb::Describe(_) => &["-o"],
+        Verb::Lists(_) => &["--format", "--prefix", "--suffix", "-o"],
+        Verb::Free => &["--count", "-o"],
+        Verb::Match => &["--field", "--separator"],
+        _ => &[],
+    }
+}
+
+/// Whether a command has an option with a value.
 pub fn takes_value(command: Verb, option: &str) -> bool
     ensures { result ≡ takes_value command option.now }
 {
-    match command {
-        Verb::Lists(Operation::Not) => {
-            option == "--in"
-                || option == "--format"
-                || option == "--prefix"
-                || option == "--suffix"
-                || option == "-o"
-        }
-        Verb::Lists(Operation::Ranges) | Verb::Lists(Operation::Count) => option == "-o",
-        Verb::Lists(_) => {
-            option == "--format" || option == "--prefix" || option == "--suffix" || option == "-o"
-        }
-        Verb::Free => option == "--count" || option == "-o",
-        Verb::Diff | Verb::Split | Verb::Describe(_) => option == "-o",
-        Verb::Match => option == "--field" || option == "--separator",
-        _ => false,
-    }
+    has(values_of(command), option)
 }
 
 /// The names of the operands that a command needs.

@@ -1,7 +1,7 @@
 //! Telling every line in error of the lists of a command, in the pass that reads them.
 ghost use Rattle.std.specs.Prelude.{◌≡◌, ◌++◌, ℕ, List, Option, Some, map, MatchResult, IfErr, IfSome, true};
 ghost use Rattle.netset_commands.specs.Causes.{Cause, FileMayFail, ReadCause, TextFails};
-ghost use Rattle.netset_commands.specs.Keeping.{AddsBy, AreKept, IsGivenBy, IsNone, KeepsLine, KeepsListLines, KeepsList, lined};
+ghost use Rattle.netset_commands.specs.Keeping.{AddsBy, AreKept, IsGivenBy, IsNothingSaid, KeepsLine, KeepsListLines, KeepsList, lined};
 ghost use Rattle.cidr_lists.specs.Lists.{Text};
 ghost use Rattle.netset_commands.specs.Loading.{AreListsLoaded, IsUnloaded};
 
@@ -35,7 +35,7 @@ pub enum Said {
 impl Said {
     /// What no lines say.
     fn new(alloc: Global, kind: Kind) -> Said
-        ensures { IsNone kind result }
+        ensures { IsNothingSaid kind result }
     {
         match kind {
             Kind::Networks => Said::Networks(Lists::new(alloc)),

@@ -12,7 +12,7 @@ ghost use Rattle.netset_commands.specs.Causes.{Cause};
 ghost use Rattle.netset_commands.specs.Commands.{IsInRow};
 ghost use Rattle.netset_commands.specs.Compiled.{HasTable};
 ghost use Rattle.netset_commands.specs.LookUps.{LooksUp};
-ghost use Rattle.netset_commands.specs.Stored.{ChecksFile, IsFaultTold, by_family, rows_in, told_in, told_of};
+ghost use Rattle.netset_commands.specs.Stored.{ChecksFile, IsFaultTold, by_family, stored_rows, table_error_of, file_error_of};
 
 use crate::errors::{CommandError, FileError};
 use crate::input::table::{Answer, LookUps, push_match, push_none};
@@ -35,11 +35,11 @@ pub struct Stored<'a> {
 
 impl<'a> Model for Stored<'a> {
     ghost use Rattle.std.specs.Prelude.{Bool, List, ℕ};
-    ghost use Rattle.netset_commands.specs.Stored.{AreTables, rows_of};
+    ghost use Rattle.netset_commands.specs.Stored.{AreTables, file_rows};
 
     ghost Value = { List (List Bool × List ℕ) × List (List Bool × List ℕ) };
 
-    ghost view = { λ s. rows_of s.tables };
+    ghost view = { λ s. file_rows s.tables };
 
     ghost invariant = { λ s. AreTables s.tables };
 }
@@ -53,7 +53,7 @@ impl<'a> Stored<'a> {
     {
         match checked(alloc, bytes) {
             Ok(tables) => Ok(Ok(Stored { tables })),
-            Err(fault) => match told_of(&fault) {
+            Err(fault) => match file_error_of(&fault) {
                 Some(why) => Ok(Err(why)),
                 None => Err(AllocError),
             },
@@ -106,8 +106,8 @@ fn push_networks<W: Family, C: OfFile<W>>(
 }
 
 /// What is told of what is wrong with a table, or nothing where there was no memory to see.
-fn told_in(fault: &TableFault) -> Option<FileError>
-    ensures { result ≡ told_in fault.now }
+fn table_error_of(fault: &TableFault) -> Option<FileError>
+    ensures { result ≡ table_error_of fault.now }
 {
     match fault {
         TableFault::NoMemory => None,
@@ -116,15 +116,15 @@ fn told_in(fault: &TableFault) -> Option<FileError>
 }
 
 /// The same of a file.
-fn told_of(fault: &Fault) -> Option<FileError>
-    ensures { result ≡ told_of fault.now }
+fn file_error_of(fault: &Fault) -> Option<FileError>
+    ensures { result ≡ file_error_of fault.now }
 {
     match fault {
         Fault::Magic => Some(FileError::Unlike),
         Fault::Version(_) => Some(FileError::Version),
         Fault::Short => Some(FileError::Short),
         Fault::Long => Some(FileError::Long),
-        Fault::Ipv4(fault) | Fault::Ipv6(fault) => told_in(fault),
+        Fault::Ipv4(fault) | Fault::Ipv6(fault) => table_error_of(fault),
     }
 }
 
@@ -150,7 +150,7 @@ impl OfFile<Ipv6Bytes> for Ipv6Cidr {
 /// The longest network of a table that an address is in, and its value.
 fn found_in<'a, W: Family, C: OfFile<W>>(part: &Part<'a>, address: W) -> Option<(C, &'a [u8])>
     requires { IsStoredTable W.width W.numbers (parts_in part.now) part.now.shift }
-    ensures { IsLookedUp (λ p. p) (bits W.width (W.value address)) (rows_in W.width W.numbers (parts_in part.now))
+    ensures { IsLookedUp (λ p. p) (bits W.width (W.value address)) (stored_rows W.width W.numbers (parts_in part.now))
         (option_map (λ found. (C.bits found.0, found.1.now)) result) }
 {
     let (row, value) = lookup(part, address)?;

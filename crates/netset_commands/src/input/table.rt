@@ -1,14 +1,11 @@
 //! Reading tables, and the longest network of a table that an address is in.
-ghost use Rattle.std.specs.Prelude.{◌≡◌, ◌≤◌, Bool, List, ℕ, Option, None, Some, length, take, option_copied, option_map, IfErr};
+ghost use Rattle.std.specs.Prelude.{◌≡◌, Bool, List, ℕ, Option, None, Some, length, option_copied, option_map, IfErr};
 ghost use Rattle.cidr.specs.declared.addr.ip.IpAddr.{IpAddr as Address};
 ghost use Rattle.cidr.specs.declared.family.Family.{Family};
-ghost use Rattle.cidr.specs.either.IpAddress.{address_family, plain_bits};
-ghost use Rattle.cidr.specs.model.Network.{width_of};
-ghost use Rattle.cidr.specs.texts.Printed.{plain_text};
 ghost use Rattle.cidr_io.specs.Collecting.{Collects};
 ghost use Rattle.netset_commands.specs.Causes.{Cause, FileMayFail};
 ghost use Rattle.cidr_lists.specs.LookUps.{found_line};
-ghost use Rattle.netset_commands.specs.LookUps.{GivesRows, GivesTable, IsAnswer, LooksUp, PushesFound, ReadsFileRows, answer_of, ReadsTable, unread};
+ghost use Rattle.netset_commands.specs.LookUps.{GivesRows, GivesTable, HasAnswer, LooksUp, PushesFound, ReadsFileRows, answer_of, ReadsTable, unread};
 ghost use Rattle.cidr_lists.specs.Tables.{kept};
 ghost use Rattle.netset_commands.specs.declared.input.table.Answer.{Answer};
 
@@ -22,6 +19,7 @@ use cidr::{BitString, IpAddr, Ipv4Cidr, Ipv6Cidr};
 use cidr_io::block::Block;
 use cidr_io::memory::Memory;
 use cidr_io::sink::{OutputFailed, Sink};
+use cidr_lists::printing::block_text;
 use cidr_lists::rows::{Rows, Span, value_of};
 use cidr_lists::table::Table;
 
@@ -71,7 +69,7 @@ fn answer_of<C: BitString>(found: Option<&(C, Span)>) -> Option<Answer>
 impl LookUps for Table {
     ghost rows = { kept };
 
-    ghost is_found = { IsAnswer };
+    ghost is_found = { HasAnswer };
 
     fn find(&self, address: &IpAddr) -> Option<Answer> {
         match address {
@@ -99,26 +97,6 @@ impl LookUps for Table {
                 )
             }
             None => push_none(block, out, address.to_text()),
-        }
-    }
-}
-
-/// The network of the first bits of an address, as it is printed.
-pub fn block_text(address: &IpAddr, len: u8) -> ArrayString<43>
-    ensures bytes { result.bytes ≡ plain_text (address_family address.now) (take len (plain_bits address.now)) }
-    ensures len { length result.bytes ≤ 43 }
-    ensures wide { length (plain_bits address.now) ≡ width_of (address_family address.now) }
-{
-    match address {
-        IpAddr::V4(address) => {
-            let mut network = Ipv4Cidr::new_host(*address);
-            network.clip(usize::from(len));
-            network.to_text()
-        }
-        IpAddr::V6(address) => {
-            let mut network = Ipv6Cidr::new_host(*address);
-            network.clip(usize::from(len));
-            network.to_text()
         }
     }
 }

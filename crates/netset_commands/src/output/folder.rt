@@ -1,5 +1,5 @@
 //! Where files are written.
-ghost use Rattle.std.specs.Prelude.{ℕ, List, [], Option, None, Some};
+ghost use Rattle.std.specs.Prelude.{◌≡◌, ℕ, Bool, true, List, [], Option, None, Some, OnErr, OnOk};
 ghost use Rattle.netset_commands.specs.Saving.{Saves};
 
 use arrayvec::ArrayString;
@@ -18,9 +18,14 @@ pub trait Folder {
     /// The files that were written, each with its name and its bytes, in order, if they are told.
     ghost saved: { Self → Option (List (List ℕ × List ℕ)) };
 
-    /// Writes a file of this name, in place of the one that has it.
+    /// Whether a file was not written.
+    ghost refused: { Self → Bool };
+
+    /// Writes a file of this name, in place of the one that has it. An error is remembered.
     fn replace(&mut self, name: &str, bytes: &[u8]) -> Result<(), NotSaved>
-        ensures { Saves (saved self.old) (saved self.new) name.now bytes.now result };
+        ensures saves { Saves (saved self.old) (saved self.new) name.now bytes.now result }
+        ensures kept { OnOk result (refused self.new ≡ refused self.old) }
+        ensures refused { OnErr result (refused self.new ≡ true) };
 }
 
 /// A folder in which nothing is written.
@@ -29,6 +34,8 @@ pub struct Sealed;
 
 impl Folder for Sealed {
     ghost saved = { λ _. Some [] };
+
+    ghost refused = { λ _. true };
 
     fn replace(&mut self, _name: &str, _bytes: &[u8]) -> Result<(), NotSaved> {
         Err(NotSaved)
@@ -47,24 +54,41 @@ const LONGEST: usize = 4096;
 #[derive(Drop)]
 pub struct Beside<'a, R: rt::Files> {
     pub runtime: &'a R,
+    /// Whether a file was not written.
+    pub refused: bool,
 }
 
 impl<R: rt::Files + Alloc> Folder for Beside<'_, R> {
     ghost saved = { λ _. None };
 
+    ghost refused = { λ b. b.refused };
+
     fn replace(&mut self, name: &str, bytes: &[u8]) -> Result<(), NotSaved> {
-        if name == "-" {
-            return Err(NotSaved);
+        let written = replace_named(self.runtime, name, bytes);
+        if written.is_err() {
+            self.refused = true;
         }
-        match fs::symlink_metadata(self.runtime, name) {
-            Ok(there) if there.is_symlink() => {
-                let Ok(path) = fs::canonicalize(self.runtime, name) else {
-                    return Err(NotSaved);
-                };
-                replace_file(self.runtime, path.as_path().as_str(), bytes)
-            }
-            _ => replace_file(self.runtime, name, bytes),
+        written
+    }
+}
+
+/// Writes a file of this name, or what it leads to where it is a link, in place of the one that is there.
+fn replace_named<R: rt::Files + Alloc>(
+    files: &R,
+    name: &str,
+    bytes: &[u8],
+) -> Result<(), NotSaved> {
+    if name == "-" {
+        return Err(NotSaved);
+    }
+    match fs::symlink_metadata(files, name) {
+        Ok(there) if there.is_symlink() => {
+            let Ok(path) = fs::canonicalize(files, name) else {
+                return Err(NotSaved);
+            };
+            replace_file(files, path.as_path().as_str(), bytes)
         }
+        _ => replace_file(files, name, bytes),
     }
 }
 

@@ -61,57 +61,60 @@ returns-in-Version-clause-answers g c =
     rw c.in-Version.is (inr (version_text, Yes, c.write_text.result, (refl, refl), c.write_text.ensures, c.by_output-in-Version.ensures))
 
 pub returns-in-Lists-clause-cause : goal.returns-in-Lists-clause-cause
-returns-in-Lists-clause-cause g c = c.lists.ensures.cause
+returns-in-Lists-clause-cause g c = rw c.in-Lists.is c.lists.ensures.cause
 
 pub returns-in-Styled-clause-cause : goal.returns-in-Styled-clause-cause
-returns-in-Styled-clause-cause g c = c.styled_lists.ensures.cause
+returns-in-Styled-clause-cause g c = rw c.in-Styled.is c.styled_lists.ensures.cause
 
 pub returns-in-NotIn-clause-cause : goal.returns-in-NotIn-clause-cause
-returns-in-NotIn-clause-cause g c = c.not_in.ensures.cause
+returns-in-NotIn-clause-cause g c = rw c.in-NotIn.is c.not_in.ensures.cause
 
 pub returns-in-Diff-clause-cause : goal.returns-in-Diff-clause-cause
-returns-in-Diff-clause-cause g c = c.diff.ensures.cause
+returns-in-Diff-clause-cause g c = rw c.in-Diff.is c.diff.ensures.cause
 
 pub returns-in-Free-clause-cause : goal.returns-in-Free-clause-cause
-returns-in-Free-clause-cause g c = c.free.ensures.cause
+returns-in-Free-clause-cause g c = rw c.in-Free.is c.free.ensures.cause
 
 pub returns-in-Split-clause-cause : goal.returns-in-Split-clause-cause
-returns-in-Split-clause-cause g c = c.split.ensures.cause
+returns-in-Split-clause-cause g c = rw c.in-Split.is c.split.ensures.cause
 
 pub returns-in-Which-clause-cause : goal.returns-in-Which-clause-cause
-returns-in-Which-clause-cause g c = c.which.ensures.cause
+returns-in-Which-clause-cause g c = rw c.in-Which.is c.which.ensures.cause
 
 pub returns-in-Match-clause-cause : goal.returns-in-Match-clause-cause
-returns-in-Match-clause-cause g c = c.matching.ensures.cause
+returns-in-Match-clause-cause g c = rw c.in-Match.is c.matching.ensures.cause
 
 pub returns-in-MatchEach-clause-cause : goal.returns-in-MatchEach-clause-cause
-returns-in-MatchEach-clause-cause g c = c.match_each.ensures.cause
+returns-in-MatchEach-clause-cause g c = rw c.in-MatchEach.is c.match_each.ensures.cause
 
 pub returns-in-Look-clause-cause : goal.returns-in-Look-clause-cause
-returns-in-Look-clause-cause g c = c.look.ensures.cause
+returns-in-Look-clause-cause g c = rw c.in-Look.is c.look.ensures.cause
 
 pub returns-in-Compile-clause-cause : goal.returns-in-Compile-clause-cause
-returns-in-Compile-clause-cause g c = c.compile.ensures.cause
+returns-in-Compile-clause-cause g c = rw c.in-Compile.is c.compile.ensures.cause
 
 pub returns-in-Check-clause-cause : goal.returns-in-Check-clause-cause
-returns-in-Check-clause-cause g c = c.check.ensures.cause
+returns-in-Check-clause-cause g c = rw c.in-Check.is c.check.ensures.cause
 
 pub returns-in-Describe-clause-cause : goal.returns-in-Describe-clause-cause
-returns-in-Describe-clause-cause g c = c.describe.ensures.cause
+returns-in-Describe-clause-cause g c = rw c.in-Describe.is c.describe.ensures.cause
 
 pub returns-in-Class-clause-cause : goal.returns-in-Class-clause-cause
-returns-in-Class-clause-cause g c = c.class.ensures.cause
+returns-in-Class-clause-cause g c = rw c.in-Class.is c.class.ensures.cause
 
 pub returns-in-Single-clause-cause : goal.returns-in-Single-clause-cause
 returns-in-Single-clause-cause g c =
-    single_cause (FileMayFail (g.F.Sources.contents c.args.sources.now)) (g.M.Memory.refused c.args.memory.now) (g.F.Sources.contents c.args.sources.now)
-    (single_request c.in-Single.single) _ _ c.answer_single.result (c.answer_single.ensures (g.F.Sources.contents c.args.sources.now))
+    rw c.in-Single.is (single_cause (FileMayFail (g.F.Sources.contents c.args.sources.now)) (g.M.Memory.refused c.args.memory.now) (g.F.Sources.contents c.args.sources.now)
+    (single_request c.in-Single.single) _ _ c.answer_single.result (c.answer_single.ensures (g.F.Sources.contents c.args.sources.now)))
 
 pub returns-in-Help-clause-cause : goal.returns-in-Help-clause-cause
-returns-in-Help-clause-cause g c = output_cause (FileMayFail (g.F.Sources.contents c.args.sources.now)) _ _ _ c.by_output.result c.by_output.ensures
+returns-in-Help-clause-cause g c =
+    rw c.in-Help.is (output_cause (FileMayFail (g.F.Sources.contents c.args.sources.now)) (g.M.Memory.refused c.args.memory.now) _ _ c.by_output.result c.by_output.ensures)
 
 pub returns-in-Version-clause-cause : goal.returns-in-Version-clause-cause
-returns-in-Version-clause-cause g c = output_cause (FileMayFail (g.F.Sources.contents c.args.sources.now)) _ _ _ c.by_output-in-Version.result c.by_output-in-Version.ensures
+returns-in-Version-clause-cause g c =
+    rw c.in-Version.is (output_cause (FileMayFail (g.F.Sources.contents c.args.sources.now)) (g.M.Memory.refused c.args.memory.now) _ _ c.by_output-in-Version.result
+    c.by_output-in-Version.ensures)
 
 pub returns-in-Lists-clause-leaves : goal.returns-in-Lists-clause-leaves
 returns-in-Lists-clause-leaves g c = rw c.in-Lists.is refl

@@ -9,7 +9,9 @@ use Rattle.netset_commands.proofs.program.answer_once.Goals as goal
 
 pub returns-then-name_input_twice-clause-runs : goal.returns-then-name_input_twice-clause-runs
 returns-then-name_input_twice-clause-runs g c = inl
-    (run_none c.args.reading (g.F.Files.contents c.args.files.now) (g.M.Memory.refused c.files.new.memory) (request_of c.args.command) (g.O.Output.closed c.args.out.now)
+    (run_none c.args.reading (g.F.Files.contents c.args.files.now)
+    (record { memory = g.M.Memory.refused c.files.new.memory; folder = g.D.Folder.refused c.args.folder.now }) (request_of c.args.command)
+    (g.O.Output.closed c.args.out.now)
     (g.O.Sink.state c.args.out.now) (g.E.Sink.state c.args.err.now) (g.E.Sink.state c.report-then-name_input_twice.new.err)
     c.report-then-name_input_twice.result c.name_input_twice.result (bytes_of c.in-Ok.names.items) c.read_twice.result c.in-Ok.ensures.names
     (rw c.as_slice.ensures.value at c.name_input_twice.ensures) c.if-name_input_twice.true c.read_twice.ensures
@@ -17,14 +19,18 @@ returns-then-name_input_twice-clause-runs g c = inl
 
 pub returns-then-reading-clause-runs : goal.returns-then-reading-clause-runs
 returns-then-reading-clause-runs g c = inl
-    (run_once c.args.reading (g.F.Files.contents c.args.files.now) (g.M.Memory.refused c.keep_going.new.memory) (request_of c.args.command) (g.O.Output.closed c.keep_going.new.out)
+    (run_once c.args.reading (g.F.Files.contents c.args.files.now)
+    (record { memory = g.M.Memory.refused c.keep_going.new.memory; folder = g.D.Folder.refused c.keep_going.new.folder }) (request_of c.args.command)
+    (g.O.Output.closed c.keep_going.new.out)
     (g.O.Sink.state c.args.out.now) (g.O.Sink.state c.keep_going.new.out) (g.E.Sink.state c.args.err.now) (g.E.Sink.state c.keep_going.new.err)
     c.keep_going.result c.name_input_twice.result (bytes_of c.in-Ok.names.items) c.in-Ok.ensures.names
     (rw c.as_slice.ensures.value at c.name_input_twice.ensures) c.if-name_input_twice.false (inl (c.if-reading.true, c.keep_going.ensures.goes)))
 
 pub returns-clause-runs : goal.returns-clause-runs
 returns-clause-runs g c = inl
-    (run_once c.args.reading (g.F.Files.contents c.args.files.now) (g.M.Memory.refused c.answer-answered.new.memory) (request_of c.args.command) (g.O.Output.closed c.answer-answered.new.out)
+    (run_once c.args.reading (g.F.Files.contents c.args.files.now)
+    (record { memory = g.M.Memory.refused c.answer-answered.new.memory; folder = g.D.Folder.refused c.answer-answered.new.folder }) (request_of c.args.command)
+    (g.O.Output.closed c.answer-answered.new.out)
     (g.O.Sink.state c.args.out.now) (g.O.Sink.state c.answer-answered.new.out) (g.E.Sink.state c.args.err.now) (g.E.Sink.state c.report-2.new.err)
     c.report-2.result c.name_input_twice.result (bytes_of c.in-Ok.names.items) c.in-Ok.ensures.names
     (rw c.as_slice.ensures.value at c.name_input_twice.ensures) c.if-name_input_twice.false

@@ -1,7 +1,7 @@
 use Rattle.std.proofs.Common.{◌≡◌, ◌∙◌, ap, codes, List, Option, Result, Ok, ℕ}
 use Rattle.std.proofs.lemmas.Result.{err_from_is_err_and}
 use Rattle.netset_commands.specs.Arguments.{Parts, and_then, choice_by, choice_in, value_of}
-use Rattle.netset_commands.specs.Command.{given, parts_in}
+use Rattle.netset_commands.specs.Command.{given, given_parts}
 use Rattle.netset_commands.specs.Matching.{has}
 use Rattle.netset_commands.specs.declared.commands.table.Verb.TheVariants as verb
 use Rattle.netset_commands.proofs.commands.arguments.choice_in.Goals as goal
@@ -21,21 +21,21 @@ behind_both parts number separator is also =
 pub returns-in_err-number : goal.returns-in_err-number
 returns-in_err-number c =
     let (y, is, same) = err_from_is_err_and c.from_residual.result c.from_residual.ensures.1 in
-    let parts = parts_in c.args.parts.now in
+    let parts = given_parts c.args.parts.now in
     rw (is, same) (ap (λ (r : Result (Option (List ℕ)) (List ℕ)). and_then r (λ n. and_then (value_of verb.Match (codes "--separator") parts.values) (λ separator. choice_by n (has (codes "--any") parts.options) separator)))
     (rw c.as_slice-values.ensures.value at c.in_err-number.ensures))
 
 pub returns-in_err-separator : goal.returns-in_err-separator
 returns-in_err-separator c =
     let (y, is, same) = err_from_is_err_and c.from_residual-in_err-separator.result c.from_residual-in_err-separator.ensures.1 in
-    let parts = parts_in c.args.parts.now in
+    let parts = given_parts c.args.parts.now in
     rw (is, same) (behind_field parts (given c.in_ok-number.number) (rw c.as_slice-values.ensures.value at c.in_ok-number.ensures)
     ∙ ap (λ (r : Result (Option (List ℕ)) (List ℕ)). and_then r (λ text. choice_by (given c.in_ok-number.number) (has (codes "--any") parts.options) text))
     (rw c.as_slice-values.ensures.value at c.in_err-separator.ensures))
 
 pub returns : goal.returns
 returns c =
-    let parts = parts_in c.args.parts.now in
+    let parts = given_parts c.args.parts.now in
     rw (behind_both parts (given c.in_ok-number.number) (given c.in_ok-separator.separator) (rw c.as_slice-values.ensures.value at c.in_ok-number.ensures)
     (rw c.as_slice-values.ensures.value at c.in_ok-separator.ensures))
     (rw (c.has.ensures, c.as_slice.ensures.value) at c.choice_by.ensures)

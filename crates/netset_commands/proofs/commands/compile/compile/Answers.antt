@@ -1,11 +1,14 @@
-use Rattle.std.proofs.Common.{inr, refl, sym}
+use Rattle.std.proofs.Common.{inl, inr, refl, sym}
+use Rattle.std.proofs.lemmas.Result.{err_from_is_err_and}
 use Rattle.cidr_lists.specs.Tables.{kept}
+use Rattle.netset_commands.specs.Causes.{FileMayFail}
+use Rattle.netset_commands.proofs.Causes.{argument_cause, uncompiled}
 use Rattle.netset_commands.proofs.commands.compile.compile.Goals as goal
 
 pub returns-in-Ok-clause-leaves : goal.returns-in-Ok-clause-leaves
 returns-in-Ok-clause-leaves g c = (
   c.in-Some-file.bytes.items,
-  rw c.as_slice.ensures.value at c.in-Ok.ensures,
+  rw c.as_slice.ensures.value at c.in-Ok.ensures.saves,
   λ text is. (
     kept c.in_ok-rows.rows,
     c.in_ok-rows.ensures.reads text is,
@@ -25,3 +28,25 @@ returns-in_default-file-clause-compiled g c = inr (
     ),
   ),
 )
+
+pub returns-in-Some-clause-cause : goal.returns-in-Some-clause-cause
+returns-in-Some-clause-cause g c =
+    uncompiled (g.F.Sources.contents c.args.sources.now)
+    (record { memory = g.M.Memory.refused c.args.memory.now; folder = g.D.Folder.refused c.args.folder.now }) c.args.table.now c.args.name.now c.in-Some.e
+    (inl c.in-Some.ensures)
+    (argument_cause (FileMayFail (g.F.Sources.contents c.args.sources.now)) (g.M.Memory.refused c.args.memory.now) _ c.in-Some.e c.in-Some.ensures.1)
+
+pub returns-in_err-rows-clause-cause : goal.returns-in_err-rows-clause-cause
+returns-in_err-rows-clause-cause g c =
+    let (y, is, same) = err_from_is_err_and c.from_residual.result c.from_residual.ensures.1 in
+    rw (is, same) (uncompiled (g.F.Sources.contents c.args.sources.now)
+    (record { memory = g.M.Memory.refused c.read_table.new.memory; folder = g.D.Folder.refused c.args.folder.now }) c.args.table.now c.args.name.now _
+    (inr c.in_err-rows.ensures.reads) c.in_err-rows.ensures.cause)
+
+pub returns-in_err-file-clause-cause : goal.returns-in_err-file-clause-cause
+returns-in_err-file-clause-cause g c =
+    let (y, is, same) = err_from_is_err_and c.from_residual-in_err-file.result c.from_residual-in_err-file.ensures.1 in
+    rw (is, same) c.in_err-file.ensures.refused
+
+pub returns-clause-cause : goal.returns-clause-cause
+returns-clause-cause g c = c.in-Err.ensures.refused

@@ -12,7 +12,7 @@ returns-in-Zones-clause-answers g c =
 pub returns-in-Some-clause-answers : goal.returns-in-Some-clause-answers
 returns-in-Some-clause-answers g c =
     rw c.in-Masks.is (length_described (g.F.Sources.contents c.args.sources.now) c.args.operand.now c.in-Some.len (g.O.Sink.state c.args.out.now)
-    (g.O.Sink.state c.write_lengths.new.out) c.write_lengths.result c.by_output.result c.in-Some.ensures c.write_lengths.ensures c.by_output.ensures)
+    (g.O.Sink.state c.write_text.new.out) c.write_text.result c.by_output.result c.in-Some.ensures (rw (c.as_str.ensures.value, c.length_lines.ensures) at c.write_text.ensures) c.by_output.ensures)
 
 pub returns-in-Some-clause-cause : goal.returns-in-Some-clause-cause
 returns-in-Some-clause-cause g c = output_cause (FileMayFail (g.F.Sources.contents c.args.sources.now)) _ _ _ c.by_output.result c.by_output.ensures

@@ -1,7 +1,7 @@
 use Rattle.std.proofs.Common.{[], ◌∷◌, ◌∙◌, ap₂, List, ℕ, Ok, sym}
 use Rattle.std.proofs.lemmas.Result.{err_from_is_err_and}
 use Rattle.netset_commands.specs.Arguments.{named_value, only_options, only_value}
-use Rattle.netset_commands.specs.Command.{parts_in}
+use Rattle.netset_commands.specs.Command.{given_parts}
 use Rattle.netset_commands.specs.declared.commands.arguments.Next.TheVariants.{Any}
 use Rattle.netset_commands.proofs.Parts.{added_as, before_value, long_option, option_pushed, pair_pushed, value_pushed, with_value, without_value}
 use Rattle.netset_commands.proofs.commands.arguments.Parts.add_long.Goals as goal
@@ -36,7 +36,7 @@ returns-in_ok-push-in-Some-2 g c = (
 
 pub returns-in-None : goal.returns-in-None
 returns-in-None g c =
-    added_as _ _ (parts_in c.args.self.now) (parts_in c.add_topic.new.self) (g.M.Memory.refused c.add_topic.new.memory) c.add_topic.result
+    added_as _ _ (given_parts c.args.self.now) (given_parts c.add_topic.new.self) (g.M.Memory.refused c.add_topic.new.memory) c.add_topic.result
     (without_value c.args.command c.args.word.now (sym (rw c.options_of.ensures at c.has.ensures) ∙ c.if-has.false) (sym c.takes_value.ensures ∙ c.if-takes_value.false)
     (c.in-None.ensures (sym c.takes_value.ensures ∙ c.if-takes_value.false)))
     c.add_topic.ensures

@@ -1,7 +1,7 @@
 use Rattle.std.proofs.Common.{◌∙◌, sym}
 use Rattle.std.proofs.lemmas.Result.{err_from_is_err_and}
 use Rattle.netset_commands.specs.Arguments.{only_value}
-use Rattle.netset_commands.specs.Command.{parts_in}
+use Rattle.netset_commands.specs.Command.{given_parts}
 use Rattle.netset_commands.proofs.Parts.{added_as, letter_word, short_value, value_pushed}
 use Rattle.netset_commands.proofs.commands.arguments.Parts.add_short.Goals as goal
 
@@ -19,6 +19,6 @@ returns-in_err-push g c =
 
 pub returns : goal.returns
 returns g c =
-    added_as _ _ (parts_in c.args.self.now) (parts_in c.add_letters.new.self) (g.M.Memory.refused c.add_letters.new.memory) c.add_letters.result
+    added_as _ _ (given_parts c.args.self.now) (given_parts c.add_letters.new.self) (g.M.Memory.refused c.add_letters.new.memory) c.add_letters.result
     (letter_word c.args.command c.args.word.now (sym c.takes_value.ensures ∙ c.if-takes_value.false))
     c.add_letters.ensures

@@ -3,8 +3,8 @@ use Rattle.cidr.specs.either.IpHost.{host_address}
 use Rattle.cidr.specs.either.IpNetwork.{network_family, network_prefix}
 use Rattle.cidr.specs.texts.PrintedAddress.{ip_text}
 use Rattle.cidr_ext.specs.model.Inside.{usable_of}
-use Rattle.netset_commands.proofs.Hosts.{first_and_last}
-use Rattle.netset_commands.proofs.commands.single.usable_text.Goals as goal
+use Rattle.cidr_lists.proofs.Hosts.{first_and_last}
+use Rattle.cidr_lists.proofs.descriptions.usable_text.Goals as goal
 
 pub returns-in-Some-next_back : goal.returns-in-Some-next_back
 returns-in-Some-next_back c =

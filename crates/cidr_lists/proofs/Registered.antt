@@ -11,7 +11,7 @@ use Rattle.cidr_ext.specs.declared.registry.SpecialEntry.{SpecialEntry}
 use Rattle.cidr_sets.proofs.Joining.{contains_map}
 use Rattle.cidr_table.proofs.MapLaws.{contains_cases, contains_first, contains_later, contains_nothing}
 use Rattle.cidr_table.specs.model.Prefixes.{IsLookedUp}
-use Rattle.netset_commands.specs.Class.{entry_row, registry}
+use Rattle.cidr_lists.specs.Classes.{entry_row, registry}
 
 -- an element by what a function gives of it
 pub from_mapped : {X Y : Type 0} (f : X → Y) (xs : List X) (y : Y) → Contains (map f xs) y → (x : X) × Contains xs x × (f x ≡ y)

@@ -1,7 +1,7 @@
 use Rattle.std.proofs.Common.{◌∙◌, ap, take, ℕ}
 use Rattle.cidr.specs.texts.Printed.{plain_text}
 use Rattle.cidr.specs.declared.family.Family.TheVariants.{Ipv4, Ipv6}
-use Rattle.netset_commands.proofs.input.table.block_text.Goals as goal
+use Rattle.cidr_lists.proofs.printing.block_text.Goals as goal
 
 pub returns-in-V4-clause-bytes : goal.returns-in-V4-clause-bytes
 returns-in-V4-clause-bytes c =

@@ -1,6 +1,6 @@
 use Rattle.std.proofs.Common.{refl}
-use Rattle.netset_commands.proofs.Classed.{class_found, no_class_found}
-use Rattle.netset_commands.proofs.commands.class.class_text.Goals as goal
+use Rattle.cidr_lists.proofs.Classed.{class_found, no_class_found}
+use Rattle.cidr_lists.proofs.classes.class_text.Goals as goal
 
 pub returns-in-Some-clause-class : goal.returns-in-Some-clause-class
 returns-in-Some-clause-class c =

@@ -1,6 +1,6 @@
 use Rattle.std.proofs.Common.{refl}
-use Rattle.netset_commands.proofs.Classed.{line_of_class}
-use Rattle.netset_commands.proofs.commands.class.class_line.Goals as goal
+use Rattle.cidr_lists.proofs.Classed.{line_of_class}
+use Rattle.cidr_lists.proofs.classes.class_line.Goals as goal
 
 pub returns : goal.returns
 returns c =

@@ -6,7 +6,7 @@ use Rattle.cidr.specs.texts.PrintedAddress.{ip_text}
 use Rattle.cidr.specs.declared.family.Family.{Family}
 use Rattle.cidr.specs.declared.inet.combined.IpInet.{IpInet}
 use Rattle.cidr.specs.declared.inet.combined.IpInet.TheVariants.{V4, V6}
-use Rattle.netset_commands.specs.Single.{host_text, last_text, range_text}
+use Rattle.cidr_lists.specs.Descriptions.{host_text, last_text, range_text}
 
 abbrev pub Shown : Type 0
 Shown = Family × Host
