@@ -160,7 +160,7 @@ uint32_t pcidr_read_lines(const char *text, size_t text_len, pcidr_value *out, s
 #define PCIDR_HOST_BITS_CLEARED 1
 
 /* Reads a list as the program `netset` does: a network, an address or a range, as 192.0.2.0-192.0.2.9, a line, with white
- * space around it but none around the hyphen, and a comment behind it from # or ; on. A line may say nothing. Lines end
+ * space around it and around the hyphen, and a comment behind it from # or ; on. A line may say nothing. Lines end
  * in a line feed, or in CR and line feed, which the last one may lack. `host_bits` is one of the two above; any other
  * number refuses set bits, too.
  *
@@ -739,10 +739,10 @@ uint32_t pcidr_ipv6_table_lookup_each(const pcidr_halves *starts, size_t starts_
                                       size_t out_len);
 
 /* Writes the table of networks. Before it `table->ranges` is for how many ranges there is room, and after PCIDR_OK how many
- * there are. Errors: NO_MEMORY; TOO_MANY; SHIFT; NO_VALUE, and `place` is the index of the first value that is no network
- * of the family, or does not come after the one before it; NO_ROOM, and `place` is how many ranges are room enough. Then
- * `table` is as it was, and so are the arrays. Takes O(n), and O(log n) for each entry of the level. Allocates: 8 bytes for
- * each network, or 24 in IPv6. */
+ * there are; what the arrays have behind these is not specified. Errors: NO_MEMORY; TOO_MANY; SHIFT; NO_VALUE, and `place`
+ * is the index of the first value that is no network of the family, or does not come after the one before it; NO_ROOM, and
+ * `place` is how many ranges are room enough. Then `table` is as it was, and so are the arrays. Takes O(n), and O(log n) for
+ * each entry of the level. Allocates: 8 bytes for each network, or 24 in IPv6. */
 static inline uint32_t pcidr_table_build(pcidr_table *table, const pcidr_value *networks, size_t networks_len,
                                          size_t *place) {
     size_t count = 0;

@@ -10,7 +10,7 @@ use Rattle.cidr_files.specs.Layout.{ipv4_counts, ipv4_parts, ipv6_counts, ipv6_p
 use Rattle.cidr_files.specs.Tables.{AreArrays, AreOffsets, offsets_in, part_at, stored_networks, value_in}
 use Rattle.cidr_files.proofs.KeyRows.{same_arrays}
 use Rattle.cidr_c.specs.calls.Calls.{IsYesOrNo}
-use Rattle.cidr_c.specs.model.Files.{AreInside, IsFoundInFile, IsFoundInParts, IsInNetworks, IsInSet, IsInSetAt, IsMatched, bytes_at, parts_at}
+use Rattle.cidr_c.specs.model.Files.{LieInBytes, IsFoundInFile, IsFoundInParts, IsInNetworks, IsInSet, IsInSetAt, IsMatched, bytes_at, parts_at}
 use Rattle.cidr_c.specs.model.Tables.{no_row}
 use Rattle.cidr_c.specs.model.Values.{IsLow, number_in}
 use Rattle.cidr_c.specs.declared.files.CFile.{CFile}
@@ -46,9 +46,9 @@ module _ (w : ℕ) (numbers : List ℕ → List ℕ) (size : ℕ) (table : CFile
       refl (sym s) (sym a) (sym l) good)
 
   pub row_there : (row value value_len : ℕ) → row < table.rows → row + 1 < 2 ^ 32 → value + value_len ≤ length bytes
-      → (AreInside size table bytes → AreArrays w numbers (parts_at size table bytes) table.shift
+      → (LieInBytes size table bytes → AreArrays w numbers (parts_at size table bytes) table.shift
       → IsLongestMatch (prefix_bits w) (bits w address) (stored_networks numbers (parts_at size table bytes)) (Some row))
-      → (AreInside size table bytes → AreOffsets (offsets_in (parts_at size table bytes)) (length (stored_networks numbers (parts_at size table bytes)))
+      → (LieInBytes size table bytes → AreOffsets (offsets_in (parts_at size table bytes)) (length (stored_networks numbers (parts_at size table bytes)))
       (length (bytes_at bytes table.values table.values_len)) → row < length (stored_networks numbers (parts_at size table bytes))
       → bytes_at bytes value value_len ≡ value_in (parts_at size table bytes) row)
       → IsFoundInParts w numbers size table bytes address (record { value = value; value_len = value_len; row = row })
@@ -62,7 +62,7 @@ module _ (w : ℕ) (numbers : List ℕ → List ℕ) (size : ℕ) (table : CFile
   }
 
   pub nothing_there : (found : CFound) → found ≡ record { value = 0; value_len = 0; row = no_row }
-      → (AreInside size table bytes → AreArrays w numbers (parts_at size table bytes) table.shift
+      → (LieInBytes size table bytes → AreArrays w numbers (parts_at size table bytes) table.shift
       → IsLongestMatch (prefix_bits w) (bits w address) (stored_networks numbers (parts_at size table bytes)) None)
       → IsFoundInParts w numbers size table bytes address found
   nothing_there found is none =
@@ -75,7 +75,7 @@ module _ (w : ℕ) (numbers : List ℕ → List ℕ) (size : ℕ) (table : CFile
       })
 
   -- whether there is one
-  pub has_one : (row : ℕ) → (AreInside size table bytes → AreArrays w numbers (parts_at size table bytes) table.shift
+  pub has_one : (row : ℕ) → (LieInBytes size table bytes → AreArrays w numbers (parts_at size table bytes) table.shift
       → IsLongestMatch (prefix_bits w) (bits w address) (stored_networks numbers (parts_at size table bytes)) (Some row))
       → IsInSetAt w numbers size table bytes address 1
   has_one row longest = record {
@@ -88,7 +88,7 @@ module _ (w : ℕ) (numbers : List ℕ → List ℕ) (size : ℕ) (table : CFile
         );
   }
 
-  pub has_none : (AreInside size table bytes → AreArrays w numbers (parts_at size table bytes) table.shift
+  pub has_none : (LieInBytes size table bytes → AreArrays w numbers (parts_at size table bytes) table.shift
       → IsLongestMatch (prefix_bits w) (bits w address) (stored_networks numbers (parts_at size table bytes)) None)
       → IsInSetAt w numbers size table bytes address 0
   has_none none = record {

@@ -11,7 +11,7 @@ use Rattle.cidr_table.specs.model.Loading.{placed}
 use Rattle.cidr_table.proofs.LastPlaces.{placed_push}
 use Rattle.cidr_table.proofs.LastRows.{EndsAt, last_row}
 use Rattle.cidr_table.proofs.MapLaws.{contains_cases, contains_nothing}
-use Rattle.cidr_c.specs.calls.Lookups.{AreMatched, AreIndexed, IsLongestIndex, IsRowIndex}
+use Rattle.cidr_c.specs.calls.Lookups.{AreLongestIndexes, AreIndexed, IsLongestIndex, IsRowIndex}
 use Rattle.cidr_c.specs.calls.Batches.{AreNetworkValues}
 use Rattle.cidr_c.specs.model.Values.{network_in}
 use Rattle.cidr_c.specs.declared.values.CValue.{CValue}
@@ -84,7 +84,7 @@ longest_index ns rows asked index last (inr none) = inr (
 
 pub matched : (values asked : List CValue) (rows : List (AnyIpCidr × ℕ)) (old out : List ℕ) (n : ℕ) → AreNetworkValues values
     → AreIndexed (map network_in values) rows → length asked ≤ n → AreFirst (IsRowIndex rows) n asked out
-    → drop (length asked) out ≡ drop (length asked) old → AreMatched values asked old out 0
+    → drop (length asked) out ≡ drop (length asked) old → AreLongestIndexes values asked old out 0
 matched values asked rows old out n fine last past first behind = record {
   networks = λ _. fine;
   answers = λ _. all (IsLongestIndex (map network_in values)) n asked out past

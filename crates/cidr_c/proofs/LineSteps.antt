@@ -13,11 +13,12 @@ use Rattle.std.proofs.lemmas.Slice.{drop-put_mid, take-put_mid, overwrites}
 use Rattle.std.proofs.lemmas.List.Concat.{flat_map-append}
 use Rattle.cidr.specs.either.IpText.{any_network_text}
 use Rattle.cidr.specs.texts.Printed.{plain_text}
+use Rattle.cidr_io.specs.Lines.{is_line_feed}
 use Rattle.cidr_c.proofs.NetworkLists.{item_more}
 use Rattle.cidr_c.specs.calls.Batches.{AreNetworkValues}
 use Rattle.cidr_c.specs.model.Values.{IsNetworkValue, network_in}
 use Rattle.cidr_c.specs.model.Codes.{parse_code}
-use Rattle.cidr_c.specs.calls.Lines.{lines_between_feeds, is_line_feed, SpellsNetwork, IsFirstLine, IsLineRead, AreLinesRead, printed_lines}
+use Rattle.cidr_c.specs.calls.Lines.{lines_between_feeds, SpellsNetwork, IsFirstLine, IsLineRead, AreLinesRead, printed_lines}
 use Rattle.cidr_c.specs.declared.values.CValue.{CValue}
 
 -- the lines that are left

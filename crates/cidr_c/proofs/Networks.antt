@@ -1,6 +1,7 @@
 -- What making a network from an address and a prefix length tells of a value.
-use Rattle.std.proofs.Common.{◌≡◌, ◌≢◌, ℕ, ◌-◌, ◌≤◌, ◌<◌, Bool, List, take, drop, Ok, Err, arith, inl, inr, ap, subst}
+use Rattle.std.proofs.Common.{◌≡◌, ◌≢◌, ℕ, ◌-◌, ◌≤◌, ◌<◌, Bool, List, ◌∷◌, take, drop, Ok, Err, arith, inl, inr, ap, subst}
 use Rattle.std.proofs.lemmas.Bool.Decides.{nat_tests}
+use Rattle.cidr.proofs.EitherHolding.{begins_behind}
 use Rattle.cidr.specs.laws.BitLaws.{same_bits, bit_eq_Decides}
 use Rattle.cidr.specs.model.Bits.{bits}
 use Rattle.cidr.specs.model.Network.{BeginsWith, width_of, zeros, network_from}
@@ -65,3 +66,10 @@ contained v w n m code one other is =
     subst (λ x. IsYesOrNo code (BeginsWith (any_bits x) (any_bits (network_in v)))) other.1
     (subst (λ x. IsYesOrNo code (BeginsWith (any_bits m) (any_bits x))) one.1 is) in
     (told.0, (λ is_one. (one.0, other.0, told.1.0 is_one), λ all. told.1.1 all.2))
+
+-- a bit in front of the bits of both changes no answer
+pub told_behind : (b : Bool) (outer inner : List Bool) (code : ℕ) → IsYesOrNo code (BeginsWith inner outer)
+    → IsYesOrNo code (BeginsWith (b ∷ inner) (b ∷ outer))
+told_behind b outer inner code told =
+    let same = begins_behind b inner outer in
+    (told.0, (λ yes. same.0 (told.1.0 yes), λ h. told.1.1 (same.1 h)))

@@ -5,7 +5,7 @@ use Rattle.std.specs.List.{slice_range}
 use Rattle.cidr_files.specs.Layout.{IsLaidOut, bytes_behind, header, ipv4_counts, ipv4_parts, ipv4_sizes, ipv6_counts, ipv6_parts, ipv6_sizes, padded, padded_room, parts_by_size, sizes_of}
 use Rattle.cidr_files.specs.Tables.{AreOffsets, IsStoredTable}
 use Rattle.cidr_files.specs.declared.layout.Counts.{Counts}
-use Rattle.cidr_c.specs.model.Files.{AreInside, bytes_at, file_in, parts_at, table_from}
+use Rattle.cidr_c.specs.model.Files.{LieInBytes, bytes_at, file_in, parts_at, table_from}
 use Rattle.cidr_c.specs.declared.files.CFile.{CFile}
 
 -- parts of these sizes, the first at a place and each behind the one before
@@ -75,7 +75,7 @@ all_inside : (p a b c d e f g n : ℕ)
 all_inside p a b c d e f g n h = (omega (arith, h), omega (arith, h), omega (arith, h), omega (arith, h), omega (arith, h))
 
 inside_from : (size place : ℕ) (counts : Counts) (bytes : List ℕ) → place + padded_room (sizes_of size counts) ≤ length bytes
-    → AreInside size (table_from place size counts) bytes
+    → LieInBytes size (table_from place size counts) bytes
 inside_from size place counts bytes fits =
     let all =
     all_inside place (size * counts.ranges) (4 * counts.ranges) (4 * counts.entries) (size * counts.rows) counts.rows (4 * (counts.rows + 1)) counts.values (length bytes)
@@ -83,11 +83,11 @@ inside_from size place counts bytes fits =
     record { starts = all.0; answers = all.1; level = all.2; offsets = all.3; values = all.4 }
 
 -- the parts of the two tables of a file are
-pub ipv4_inside : (bytes : List ℕ) (file : CFile) → file ≡ file_in bytes → IsLaidOut bytes → AreInside 4 file.ipv4 bytes
+pub ipv4_inside : (bytes : List ℕ) (file : CFile) → file ≡ file_in bytes → IsLaidOut bytes → LieInBytes 4 file.ipv4 bytes
 ipv4_inside bytes file same laid_out =
-    subst (λ (f : CFile). AreInside 4 f.ipv4 bytes) (sym same) (inside_from 4 header (ipv4_counts bytes) bytes (omega (arith, laid_out.long)))
+    subst (λ (f : CFile). LieInBytes 4 f.ipv4 bytes) (sym same) (inside_from 4 header (ipv4_counts bytes) bytes (omega (arith, laid_out.long)))
 
-pub ipv6_inside : (bytes : List ℕ) (file : CFile) → file ≡ file_in bytes → IsLaidOut bytes → AreInside 16 file.ipv6 bytes
+pub ipv6_inside : (bytes : List ℕ) (file : CFile) → file ≡ file_in bytes → IsLaidOut bytes → LieInBytes 16 file.ipv6 bytes
 ipv6_inside bytes file same laid_out =
-    subst (λ (f : CFile). AreInside 16 f.ipv6 bytes) (sym same)
+    subst (λ (f : CFile). LieInBytes 16 f.ipv6 bytes) (sym same)
     (inside_from 16 (header + padded_room (ipv4_sizes bytes)) (ipv6_counts bytes) bytes (omega (arith, laid_out.long)))

@@ -7,7 +7,7 @@ ghost use Rattle.cidr_arrays.specs.Arrays.{prefix_bits};
 ghost use Rattle.cidr_files.specs.Layout.{padded, padded_room, sizes_of, wide_word, words};
 ghost use Rattle.cidr_files.specs.Tables.{AreArrays, AreOffsets, offsets_in, stored_networks, value_in};
 ghost use Rattle.cidr_c.specs.calls.Calls.{IsYesOrNo};
-ghost use Rattle.cidr_c.specs.model.Files.{AreAnsweredIn, AreInside, IsFileChecked, IsFoundInFile, IsFoundInParts, IsInSet, IsInSetAt, IsOpened, bytes_at, file_fault_code, file_in, parts_at, table_fault_code, table_from};
+ghost use Rattle.cidr_c.specs.model.Files.{AreAnsweredIn, LieInBytes, IsFileChecked, IsFoundInFile, IsFoundInParts, IsInSet, IsInSetAt, IsOpened, bytes_at, file_fault_code, file_in, parts_at, table_fault_code, table_from};
 ghost use Rattle.cidr_c.specs.model.Tables.{no_row};
 ghost use Rattle.cidr_c.specs.model.Values.{IsLow, number_in};
 
@@ -277,7 +277,7 @@ fn row_at<W: Family>(bytes: &[u8], table: &CFileTable, size: usize, address: W) 
     requires { size ≤ 16 }
     ensures within { IfSome result (λ row. row < table.now.rows) }
     ensures fits { IfSome result (λ row. row + 1 < 2 ^ 32) }
-    ensures longest { AreInside size table.now bytes.now → AreArrays W.width W.numbers (parts_at size table.now bytes.now) table.now.shift
+    ensures longest { LieInBytes size table.now bytes.now → AreArrays W.width W.numbers (parts_at size table.now bytes.now) table.now.shift
         → IsLongestMatch (prefix_bits W.width) (bits W.width (W.value address))
         (stored_networks W.numbers (parts_at size table.now bytes.now)) result }
 {
@@ -303,7 +303,7 @@ fn value_at(bytes: &[u8], table: &CFileTable, row: usize) -> Option<(usize, u32)
     requires { row < table.now.rows }
     ensures inside { IfSome result (λ value. value.0 + value.1 ≤ length bytes.now) }
     ensures value { IfSome result (λ value. (size : ℕ) → bytes_at bytes.now value.0 value.1 ≡ value_in (parts_at size table.now bytes.now) row) }
-    ensures none { result ≡ None → (size : ℕ) → AreInside size table.now bytes.now → (rows : ℕ) → row < rows
+    ensures none { result ≡ None → (size : ℕ) → LieInBytes size table.now bytes.now → (rows : ℕ) → row < rows
         → ¬ (AreOffsets (offsets_in (parts_at size table.now bytes.now)) rows (length (bytes_at bytes.now table.now.values table.now.values_len))) }
 {
     let offsets = part_at(bytes, table.offsets, 4 * (table.rows as usize + 1))?;
@@ -377,13 +377,10 @@ fn part_at(bytes: &[u8], place: usize, size: usize) -> Option<&[u8]>
     ensures inside { IfSome result (λ _. place + size ≤ length bytes.now) }
     ensures none { result ≡ None → length bytes.now < place + size }
 {
-    if place > bytes.len() {
+    if place.saturating_add(size) > bytes.len() {
         return None;
     }
     let rest = &bytes[place..];
-    if size > rest.len() {
-        return None;
-    }
     Some(&rest[..size])
 }
 

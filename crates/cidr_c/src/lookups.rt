@@ -6,7 +6,7 @@ ghost use Rattle.cidr_table.specs.model.Loading.{placed};
 ghost use Rattle.cidr_c.specs.calls.Batches.{AreNetworkValues};
 ghost use Rattle.cidr_c.specs.calls.Calls.{IsYesOrNo};
 ghost use Rattle.cidr_c.specs.model.Codes.{no_memory, no_value};
-ghost use Rattle.cidr_c.specs.calls.Lookups.{AreContained, AreIndexed, AreMatched, IsRowIndex};
+ghost use Rattle.cidr_c.specs.calls.Lookups.{AreContained, AreIndexed, AreLongestIndexes, IsRowIndex};
 ghost use Rattle.cidr_c.specs.model.Values.{network_in};
 
 use crate::batches::networks_of;
@@ -65,7 +65,7 @@ pub extern "C" fn pcidr_longest_match_each(
     asked: &[CValue],
     out: &mut [usize],
 ) -> u32
-    ensures { AreMatched networks.now asked.now out.old out.new result }
+    ensures { AreLongestIndexes networks.now asked.now out.old out.new result }
 {
     let table = match table_of(alloc, networks) {
         Ok(table) => table,

@@ -5,7 +5,6 @@ ghost use Rattle.cidr.specs.model.Network.{BeginsWith, first_of, last_of, mask_o
 ghost use Rattle.cidr.specs.model.Host.{first_host};
 ghost use Rattle.cidr.specs.either.IpHost.{IpWrapsDown, IpWrapsUp, host_address, host_at, host_network, ip_stepped_down, ip_stepped_up};
 ghost use Rattle.cidr.specs.either.IpNetwork.{address_by, any_bits, any_of};
-ghost use Rattle.cidr.specs.declared.cidr.any.AnyIpCidr.TheVariants.{V4, V6};
 ghost use Rattle.cidr_c.specs.calls.Calls.{IsYesOrNo, IsConverted, IsStepped};
 ghost use Rattle.cidr_c.specs.model.Orders.{IsCompared, field_order, host_value_order, network_order};
 ghost use Rattle.cidr_c.specs.model.Codes.{order_code};
@@ -18,7 +17,8 @@ use crate::values::{
     put_host, put_network,
 };
 use cidr::laws::hosts::order_is_by_family_address_and_length;
-use cidr::{AnyIpCidr, IpInet, Ipv4Cidr, Ipv6Cidr, NetworkBits};
+use cidr::{AnyIpCidr, BitString, IpInet, NetworkBits};
+use cidr_sets::is_inside;
 use std::cmp::Ordering;
 
 /// The first address of the network of a host.
@@ -107,41 +107,26 @@ pub extern "C" fn pcidr_contains(outer: &CValue, inner: &CValue) -> u32
 {
     if is_ipv4(outer) && is_ipv4(inner) {
         if let (Some(outer), Some(inner)) = (ipv4_network(outer), ipv4_network(inner)) {
-            return ipv4_answer(&outer, &inner);
+            return contains(&outer, &inner);
         }
     }
     if is_ipv6(outer) && is_ipv6(inner) {
         if let (Some(outer), Some(inner)) = (ipv6_network(outer), ipv6_network(inner)) {
-            return ipv6_answer(&outer, &inner);
+            return contains(&outer, &inner);
         }
     }
     match (network_of(outer), network_of(inner)) {
-        (Some(outer), Some(inner)) => any_answer(&outer, &inner),
+        (Some(outer), Some(inner)) => contains(&outer, &inner),
         _ => 0,
     }
 }
 
-/// 1 where the first network contains the second, and 0 where not.
+/// 1 where the first network contains the second, and 0 where not, by their bits.
 #[inline(always)]
-fn ipv4_answer(outer: &Ipv4Cidr, inner: &Ipv4Cidr) -> u32
-    ensures { IsYesOrNo result (BeginsWith (any_bits (V4 inner.now)) (any_bits (V4 outer.now))) }
+fn contains<C: BitString>(outer: &C, inner: &C) -> u32
+    ensures { IsYesOrNo result (BeginsWith (C.bits inner.now) (C.bits outer.now)) }
 {
-    u32::from(outer.contains_cidr(inner))
-}
-
-/// The same for IPv6.
-#[inline(always)]
-fn ipv6_answer(outer: &Ipv6Cidr, inner: &Ipv6Cidr) -> u32
-    ensures { IsYesOrNo result (BeginsWith (any_bits (V6 inner.now)) (any_bits (V6 outer.now))) }
-{
-    u32::from(outer.contains_cidr(inner))
-}
-
-/// The same for networks of any family.
-fn any_answer(outer: &AnyIpCidr, inner: &AnyIpCidr) -> u32
-    ensures { IsYesOrNo result (BeginsWith (any_bits inner.now) (any_bits outer.now)) }
-{
-    if outer.contains_cidr(inner) { 1 } else { 0 }
+    u32::from(is_inside(inner, outer))
 }
 
 /// How two networks compare, by their bits.

@@ -1,9 +1,10 @@
 -- Texts of networks, one a line.
-use Rattle.std.specs.Prelude.{◌≡◌, ◌≢◌, ◌⊎◌, ℕ, ◌+◌, ◌*◌, ◌<◌, ◌≤◌, ◌==◌, Bool, List, [], ◌∷◌, ◌++◌, drop, length, take, flat_map, slice_get, slice_index_or, Some, set, true, false, Ok, Err, IsUtf8}
+use Rattle.std.specs.Prelude.{◌≡◌, ◌≢◌, ◌⊎◌, ℕ, ◌+◌, ◌*◌, ◌<◌, ◌≤◌, Bool, List, [], ◌∷◌, ◌++◌, drop, length, take, flat_map, slice_get, slice_index_or, Some, set, true, false, Ok, Err, IsUtf8}
 use Rattle.std.specs.List.{AllZip, slice_split}
 use Rattle.cidr.specs.either.IpText.{ReadsAnyNetwork, any_network_text}
 use Rattle.cidr.specs.texts.Printed.{plain_text}
 use Rattle.cidr.specs.declared.errors.NetworkParseError.{NetworkParseError}
+use Rattle.cidr_io.specs.Lines.{is_line_feed}
 use Rattle.cidr_c.specs.calls.Batches.{AreNetworkValues}
 use Rattle.cidr_c.specs.calls.Calls.{IsRead}
 use Rattle.cidr_c.specs.model.Codes.{no_room, no_value, not_utf8, parse_code}
@@ -11,9 +12,6 @@ use Rattle.cidr_c.specs.model.Values.{IsNetworkValue, network_in}
 use Rattle.cidr_c.specs.declared.values.CValue.{CValue}
 
 -- the bytes between line feeds
-abbrev pub is_line_feed : ℕ → Bool
-is_line_feed byte = byte == 10
-
 abbrev pub lines_between_feeds : List ℕ → List (List ℕ)
 lines_between_feeds text = slice_split is_line_feed text
 

@@ -49,8 +49,8 @@ IsLongestIndex networks asked index =
     ⊎ ((index ≡ no_index) × IsLongestMatch any_bits (any_bits asked) networks None)
 
 -- each answer is the index of the longest match
-abbrev pub AreMatched : List CValue → List CValue → List ℕ → List ℕ → ℕ → Type 0
-AreMatched values = AreAllAnswered (IsLongestIndex (map network_in values)) values
+abbrev pub AreLongestIndexes : List CValue → List CValue → List ℕ → List ℕ → ℕ → Type 0
+AreLongestIndexes values = AreAllAnswered (IsLongestIndex (map network_in values)) values
 
 -- the network at this index is one of which this holds beside the asked one
 abbrev pub IsRelatedAt : (List Bool → List Bool → Type 0) → List CValue → List Bool → ℕ → Type 0

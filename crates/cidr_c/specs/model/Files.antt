@@ -147,7 +147,7 @@ parts_at size table bytes =
     ∷ bytes_at bytes table.values table.values_len ∷ []
 
 -- all that a look-up reads of them lies inside of the bytes
-pub record AreInside (size : ℕ) (table : CFileTable) (bytes : List ℕ) : Type 0 where
+pub record LieInBytes (size : ℕ) (table : CFileTable) (bytes : List ℕ) : Type 0 where
   pub starts : table.starts + size * table.ranges ≤ length bytes
   pub answers : table.answers + 4 * table.ranges ≤ length bytes
   pub level : table.level + 4 * table.entries ≤ length bytes
@@ -159,11 +159,11 @@ pub record IsFoundInParts (w : ℕ) (numbers : List ℕ → List ℕ) (size : �
   pub inside : found.value + found.value_len ≤ length bytes
   pub nothing : found.row ≡ no_row → (found.value ≡ 0) × (found.value_len ≡ 0)
   pub within : found.row ≢ no_row → found.row < table.rows
-  pub matched : AreInside size table bytes → IsStoredTable w numbers (parts_at size table bytes) table.shift
+  pub matched : LieInBytes size table bytes → IsStoredTable w numbers (parts_at size table bytes) table.shift
       → IsMatched w (stored_networks numbers (parts_at size table bytes)) (value_in (parts_at size table bytes)) bytes address found
 
 -- whether one of their networks has an address
 pub record IsInSetAt (w : ℕ) (numbers : List ℕ → List ℕ) (size : ℕ) (table : CFileTable) (bytes : List ℕ) (address code : ℕ) : Type 0 where
   pub codes : code ≤ 1
-  pub answer : AreInside size table bytes → IsStoredTable w numbers (parts_at size table bytes) table.shift
+  pub answer : LieInBytes size table bytes → IsStoredTable w numbers (parts_at size table bytes) table.shift
       → IsYesOrNo code (IsInNetworks w (stored_networks numbers (parts_at size table bytes)) address)

@@ -1,5 +1,5 @@
 use Rattle.std.proofs.Common.{◌≡◌, ℕ, ◌<◌, false, slice_index_or}
-use Rattle.cidr_c.specs.calls.Lines.{is_line_feed}
+use Rattle.cidr_io.specs.Lines.{is_line_feed}
 use Rattle.cidr_c.proofs.lines.first_line.Given as goal
 
 abbrev pub invariant-loop-place : goal.invariant-loop-place
