@@ -1,5 +1,5 @@
-/* Calls around networks, of names, faults, lists, masks, IPv4 inside IPv6, special purposes, ranges, sets, pools and access lists, on values whose answers stand
- * in RFCs or are counted by hand, and with arguments that are none. */
+/* Calls around networks, of names, faults, lists, masks, IPv4 inside IPv6, special purposes, ranges, sets, pools and access
+ * lists, on values whose answers stand in RFCs or are counted by hand, and with arguments that are none. */
 #include <pcidr.h>
 #include <stdio.h>
 #include <string.h>
@@ -225,7 +225,8 @@ static void lists(void) {
     WANT(is_bad("any", PCIDR_ADDRESS, 1, "any: couldn't parse address in network: invalid IP address syntax"));
     WANT(is_bad("\xff # not told", PCIDR_NOT_UTF8, 1, "\\xff: not UTF-8"));
     WANT(is_bad("10.0.0.1-x", PCIDR_NOT_ADDRESS, 1, "x: invalid IP address syntax"));
-    WANT(is_bad("10.0.0.1 - 10.0.0.2", PCIDR_NOT_ADDRESS, 1, "10.0.0.1 : invalid IP address syntax"));
+    WANT(says("10.0.0.1 - 10.0.0.6\n10.0.0.0/24", 0, range) && says("192.0.2.0\t-  192.0.2.255", 0, network));
+    WANT(is_bad("10.0.0.1 - 10.0.0.x", PCIDR_NOT_ADDRESS, 1, "10.0.0.x: invalid IP address syntax"));
     WANT(is_bad("10.0.0.1-::1", PCIDR_TWO_FAMILIES, 1, "10.0.0.1-::1: the ends of the range are of two families"));
     WANT(is_bad("\n10.0.0.2-10.0.0.1", PCIDR_REVERSED, 2,
                 "10.0.0.2-10.0.0.1: the first address of the range is above the last one"));

@@ -61,6 +61,25 @@ static size_t around(size_t rows) {
     return many;
 }
 
+/* 1,000 addresses: those at both ends of each of the four rows of the worked file, and 62 before and behind each of them. */
+static size_t near_ends(void) {
+    size_t many = 0;
+    for (size_t i = 0; i < 4; i++) {
+        pcidr_value ends[2], begin;
+        WANT(pcidr_first(&networks[i], &ends[0]) == PCIDR_OK && pcidr_last(&networks[i], &ends[1]) == PCIDR_OK);
+        for (size_t k = 0; k < 2; k++) {
+            ends[k].tag = ends[k].tag < 64 ? 0 : 64;
+            WANT(pcidr_step_down(&ends[k], 0, 62, &begin) == PCIDR_OK);
+            for (uint64_t step = 0; step < 125; step++) {
+                WANT(pcidr_step_up(&begin, 0, step, &asked[many]) == PCIDR_OK);
+                asked[many++].tag = begin.tag ? 192 : 32;
+            }
+        }
+    }
+    WANT(many == 1000);
+    return many;
+}
+
 /* Whether what is found is inside of bytes, whatever they are, and both calls say the same. */
 static void inside(const uint8_t *bytes, size_t size, const pcidr_file *file, size_t many) {
     WANT(pcidr_file_lookup_each(bytes, size, file, asked, many, others, AROUND) == PCIDR_OK);
@@ -139,7 +158,7 @@ static void worked(void) {
 static void cut(void) {
     pcidr_file whole, file;
     write_worked();
-    size_t many = around(4);
+    size_t many = near_ends();
     WANT(pcidr_file_open(room, SIZE, &whole) == PCIDR_OK);
     for (size_t size = 0; size < SIZE; size++) {
         uint8_t *bytes = copied(room, size);
@@ -160,7 +179,7 @@ static void changed(void) {
     static const uint8_t changes[] = {1, 0x80, 0xff};
     pcidr_file whole;
     write_worked();
-    size_t many = around(4), accepted = 0;
+    size_t many = near_ends(), accepted = 0;
     WANT(pcidr_file_open(room, SIZE, &whole) == PCIDR_OK);
     WANT(pcidr_file_lookup_each(room, SIZE, &whole, asked, many, founds, AROUND) == PCIDR_OK);
     uint8_t *bytes = copied(room, SIZE);

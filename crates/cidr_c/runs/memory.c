@@ -24,6 +24,11 @@ static size_t matches[COUNT], count;
 static pcidr_value ascending[COUNT];
 static uint32_t starts[2 * COUNT + 1], found[2 * COUNT + 1], level[3];
 static pcidr_table table, built;
+/* The same of IPv6. */
+static pcidr_value ascending_ipv6[COUNT];
+static pcidr_halves starts_ipv6[2 * COUNT + 1];
+static uint32_t found_ipv6[2 * COUNT + 1], level_ipv6[3];
+static pcidr_table table_ipv6, built_ipv6;
 /* Their file, and room for it. */
 static uint32_t offsets[COUNT + 1];
 static uint8_t file[1 << 14], written[1 << 14];
@@ -63,6 +68,8 @@ static pcidr_halves number;
 static uint32_t make_ranges(void) { return pcidr_ranges(networks, COUNT, ranges, COUNT, &count); }
 static uint32_t count_ipv4(void) { return pcidr_count_ipv4(networks, COUNT, &number); }
 static uint32_t nth_ipv4(void) { return pcidr_nth_ipv4(networks, COUNT, 0, 3, out); }
+static uint32_t count_ipv6(void) { return pcidr_count_ipv6(ascending_ipv6, COUNT, &number); }
+static uint32_t nth_ipv6(void) { return pcidr_nth_ipv6(ascending_ipv6, COUNT, 0, 3, out); }
 static uint32_t covering(void) { return pcidr_covering(networks, COUNT, &networks[0], matches, COUNT, &count); }
 static uint32_t covered(void) { return pcidr_covered(networks, COUNT, &networks[0], matches, COUNT, &count); }
 
@@ -79,6 +86,8 @@ static uint32_t read_list(void) {
 
 static uint32_t build_table(void) { return pcidr_table_build(&table, ascending, COUNT, &count); }
 static uint32_t check_table(void) { return pcidr_table_check(&built, ascending, COUNT); }
+static uint32_t build_table_ipv6(void) { return pcidr_table_build(&table_ipv6, ascending_ipv6, COUNT, &count); }
+static uint32_t check_table_ipv6(void) { return pcidr_table_check(&built_ipv6, ascending_ipv6, COUNT); }
 
 static uint32_t write_file(void) {
     return pcidr_file_write(ascending, COUNT, offsets, COUNT + 1, NULL, 0, written, sizeof written, &count);
@@ -94,6 +103,7 @@ static void set_values(void) {
         networks[i].low = i * 37 % COUNT << 26, networks[i].tag = 6;
         others[i].low = i * 23 % COUNT << 27 & 0xffffffff, others[i].tag = 9;
         ascending[i].low = i << 26, ascending[i].tag = 6;
+        ascending_ipv6[i].high = i << 58, ascending_ipv6[i].tag = 64 + 7;
         rules[i].network = networks[i], rules[i].action = i % 2;
         rows[i].network = networks[i], rows[i].value = i % 3;
         if (i == COUNT - 1) rules[i].network = networks[0];
@@ -102,6 +112,10 @@ static void set_values(void) {
     table.level = level, table.level_len = 3, table.shift = 31;
     if (build_table() != PCIDR_OK) failures++;
     built = table, table.ranges = 2 * COUNT + 1;
+    table_ipv6.ipv6_starts = starts_ipv6, table_ipv6.answers = found_ipv6, table_ipv6.ranges = 2 * COUNT + 1;
+    table_ipv6.level = level_ipv6, table_ipv6.level_len = 3, table_ipv6.shift = 127;
+    if (build_table_ipv6() != PCIDR_OK) failures++;
+    built_ipv6 = table_ipv6, table_ipv6.ranges = 2 * COUNT + 1;
     if (pcidr_set_write(ascending, COUNT, file, sizeof file, &file_len) != PCIDR_OK) failures++;
     memset(written, 0, sizeof written), memset(ranges, 0, sizeof ranges), number.high = 0, number.low = 9;
     line = 9, told[0] = 9;
@@ -125,8 +139,10 @@ static int is_left(void) {
 int main(void) {
     static uint32_t (*const calls[])(void) = {
         cover, make_union, intersection, difference, symmetric_difference, union_in_place, intersection_in_place,
-        difference_in_place, contains_each, longest_match_each, summarize, first_free, best_free, permitted, shadowed, deciding, complement, is_subset,
-        is_disjoint, make_ranges, count_ipv4, nth_ipv4, covering, covered, smallest, forwards_same, read_list, build_table, check_table, write_file, write_set, check_file};
+        difference_in_place, contains_each, longest_match_each, summarize, first_free, best_free, permitted, shadowed,
+        deciding, complement, is_subset, is_disjoint, make_ranges, count_ipv4, count_ipv6, nth_ipv4, nth_ipv6, covering,
+        covered, smallest, forwards_same, read_list, build_table, check_table, build_table_ipv6, check_table_ipv6,
+        write_file, write_set, check_file};
     for (size_t i = 0; i < sizeof calls / sizeof *calls; i++) {
         uint32_t code = PCIDR_NO_MEMORY;
         size_t refused = 0;

@@ -36,15 +36,19 @@ static uint32_t no_address(size_t reader) { return reader < 2 ? PCIDR_NOT_ADDRES
 
 static size_t (*const printers[])(const pcidr_value *, char *, size_t) = {
     pcidr_print_address, pcidr_print_host, pcidr_print_host_with_length, pcidr_print_network,
-    pcidr_print_network_with_length};
+    pcidr_print_network_with_length, pcidr_print_with_mask, pcidr_print_with_host_mask};
 static size_t (*const writers[])(const pcidr_value *, uint8_t *, size_t) = {pcidr_network_to_bytes,
                                                                            pcidr_host_to_bytes};
 static uint32_t (*const byte_readers[])(const uint8_t *, size_t, pcidr_value *, size_t *) = {pcidr_network_from_bytes,
                                                                                              pcidr_host_from_bytes};
-static uint32_t (*const parts[])(const pcidr_value *, pcidr_value *) = {pcidr_first, pcidr_last, pcidr_mask,
-                                                                         pcidr_address, pcidr_network};
+static uint32_t (*const parts[])(const pcidr_value *, pcidr_value *) = {
+    pcidr_first, pcidr_last, pcidr_mask, pcidr_address, pcidr_network, pcidr_host_mask, pcidr_first_usable,
+    pcidr_last_usable, pcidr_sibling, pcidr_next_network, pcidr_previous_network, pcidr_ipv6_mapped};
 static uint32_t (*const steps[])(const pcidr_value *, uint64_t, uint64_t, pcidr_value *) = {
-    pcidr_step_up, pcidr_step_down, pcidr_at};
+    pcidr_step_up, pcidr_step_down, pcidr_at, pcidr_nth};
+static uint32_t (*const questions[])(const pcidr_value *) = {
+    pcidr_is_global, pcidr_is_private, pcidr_is_loopback, pcidr_is_link_local, pcidr_is_documentation,
+    pcidr_is_unspecified, pcidr_is_multicast};
 static uint32_t (*const sets[])(const pcidr_value *, size_t, const pcidr_value *, size_t, pcidr_value *, size_t,
                                 size_t *) = {pcidr_union, pcidr_intersection, pcidr_difference,
                                              pcidr_symmetric_difference};
@@ -58,7 +62,9 @@ static void null_arguments(void) {
         WANT(byte_readers[i](NULL, 0, &out, &count) == PCIDR_TRUNCATED && is_left());
     for (size_t i = 0; i < LENGTH(printers); i++) WANT(printers[i](&address, NULL, 0) >= 8);
     for (size_t i = 0; i < LENGTH(writers); i++) WANT(writers[i](&address, NULL, 0) == 5);
-    WANT(pcidr_message(PCIDR_HOST_PART, NULL, 0) == 33);
+    WANT(pcidr_message(PCIDR_HOST_PART, NULL, 0) == 33 && pcidr_print_reverse_name(&address, NULL, 0) == 21);
+    WANT(pcidr_read_masked_network(NULL, 0, &out) == PCIDR_NO_SLASH && is_left());
+    WANT(pcidr_read_reverse_name(NULL, 0, &out) == PCIDR_NONE && is_left());
 
     WANT(pcidr_print_lines(&wide, 1, NULL, 0, &count) == PCIDR_NO_ROOM && is_left());
     for (size_t i = 0; i < LENGTH(sets); i++) {
@@ -96,6 +102,37 @@ static void null_arguments(void) {
     WANT(pcidr_longest_match_each(&wide, 1, NULL, 0, NULL, 0) == PCIDR_OK);
     WANT(pcidr_longest_match_each(NULL, 0, &wide, 1, &count, 1) == PCIDR_OK && count == PCIDR_NO_INDEX);
     WANT(pcidr_longest_match_each(&wide, 1, &address, 1, NULL, 0) == PCIDR_NO_ROOM);
+    count = 77;
+}
+
+/* Each list of the calls that answer, find and count, and each room, is null in turn. */
+static void null_lists(void) {
+    pcidr_halves number = {7, 8};
+    const pcidr_row row = {wide, 1};
+    uint32_t answer = 7;
+    WANT(pcidr_is_subset(&wide, 1, NULL, 0, &answer) == PCIDR_OK && answer == 0);
+    WANT(pcidr_is_subset(NULL, 0, &wide, 1, &answer) == PCIDR_OK && answer == 1);
+    answer = 7;
+    WANT(pcidr_is_disjoint(&wide, 1, NULL, 0, &answer) == PCIDR_OK && answer == 1);
+    answer = 7;
+    WANT(pcidr_is_disjoint(NULL, 0, &wide, 1, &answer) == PCIDR_OK && answer == 1);
+    WANT(pcidr_forwards_same(&row, 1, NULL, 0, &answer) == PCIDR_OK && answer == 0);
+    answer = 7;
+    WANT(pcidr_forwards_same(NULL, 0, &row, 1, &answer) == PCIDR_OK && answer == 0);
+    WANT(pcidr_smallest(&row, 1, NULL, 0, &count) == PCIDR_NO_ROOM && count == 1);
+    WANT(pcidr_complement(NULL, 0, &wide, NULL, 0, &count) == PCIDR_NO_ROOM && count == 1);
+    WANT(pcidr_summarize(&address, &address, NULL, 0, &count) == PCIDR_NO_ROOM && count == 1);
+    WANT(pcidr_subnets(&wide, 9, 0, 0, NULL, 0, &count) == PCIDR_OK && count == 0);
+    WANT(pcidr_count_ipv4(NULL, 0, &number) == PCIDR_OK && number.high == 0 && number.low == 0);
+    WANT(pcidr_nth_ipv4(NULL, 0, 0, 0, &out) == PCIDR_NONE && pcidr_nth_ipv6(NULL, 0, 0, 0, &out) == PCIDR_NONE);
+    WANT(pcidr_first_free(NULL, 0, 8, &out) == PCIDR_NONE && pcidr_best_free(NULL, 0, 8, &out) == PCIDR_NONE);
+    WANT(pcidr_permits(NULL, 0, &address) == 0 && is_same(out, mark));
+    count = 77;
+    WANT(pcidr_permitted(NULL, 0, NULL, 0, &count) == PCIDR_OK && count == 0);
+    count = 77;
+    WANT(pcidr_shadowed(NULL, 0, NULL, 0, &count) == PCIDR_OK && count == 0);
+    count = 77;
+    WANT(pcidr_deciding(NULL, 0, &wide, NULL, 0, &count) == PCIDR_OK && count == 0);
     count = 77;
 }
 
@@ -176,17 +213,19 @@ static void no_value(pcidr_value bad) {
     WANT(pcidr_compare_hosts(&bad, &host) == 2 && pcidr_compare_hosts(&host, &bad) == 0);
     WANT(pcidr_print_lines(&bad, 1, text, sizeof text, &count) == PCIDR_NO_VALUE && is_left());
 
-    WANT(pcidr_ipv6_mapped(&bad, &out) == PCIDR_NO_VALUE && pcidr_ipv4_mapped(&bad, &out) == PCIDR_NO_VALUE && is_left());
+    WANT(pcidr_ipv4_mapped(&bad, &out) == PCIDR_NO_VALUE && is_left());
     WANT(pcidr_ipv4_6to4(&bad, &out) == PCIDR_NO_VALUE && pcidr_ipv4_nat64(&bad, &out) == PCIDR_NO_VALUE && is_left());
     memset(text, 'x', sizeof text);
     WANT(pcidr_print_reverse_zone(&bad, 0, text, sizeof text) == 0 && text[0] == 'x');
+    WANT(pcidr_print_reverse_name(&bad, text, sizeof text) == 0 && text[0] == 'x');
 
     const pcidr_value both[] = {wide, bad};
     pcidr_range ranges[2];
     pcidr_halves number;
     WANT(pcidr_ranges(both, 2, ranges, 2, &count) == PCIDR_NO_VALUE && is_left());
     WANT(pcidr_count_ipv4(both, 2, &number) == PCIDR_NO_VALUE && pcidr_count_ipv6(both, 2, &number) == PCIDR_NO_VALUE);
-    WANT(pcidr_nth_ipv4(both, 2, 0, 0, &out) == PCIDR_NO_VALUE && pcidr_nth_ipv6(both, 2, 0, 0, &out) == PCIDR_NO_VALUE && is_left());
+    WANT(pcidr_nth_ipv4(both, 2, 0, 0, &out) == PCIDR_NO_VALUE);
+    WANT(pcidr_nth_ipv6(both, 2, 0, 0, &out) == PCIDR_NO_VALUE && is_left());
     pcidr_value room[] = {wide, bad};
     WANT(pcidr_cover(room, 2, &count) == PCIDR_NO_VALUE && is_same(room[0], wide) && is_same(room[1], bad) && is_left());
     for (size_t i = 0; i < LENGTH(sets); i++) {
@@ -207,6 +246,58 @@ static void no_value(pcidr_value bad) {
     WANT(pcidr_longest_match_each(&wide, 1, both, 2, indexes, 2) == PCIDR_NO_VALUE);
     WANT(pcidr_covering(both, 2, &address, indexes, 2, &count) == PCIDR_NO_VALUE && is_left());
     WANT(pcidr_covered(&wide, 1, &bad, indexes, 2, &count) == PCIDR_NO_VALUE && is_left());
+}
+
+/* The same in each place of the calls around networks, of masks and of purposes. */
+static void no_value_around(pcidr_value bad) {
+    pcidr_halves number = {7, 8};
+    pcidr_value room[] = {mark, mark};
+    pcidr_special entry;
+    uint8_t len = 7;
+    memset(&entry, 9, sizeof entry);
+    WANT(pcidr_supernet(&bad, 0, &out) == PCIDR_NO_VALUE && pcidr_subnet(&bad, 128, 0, 0, &out) == PCIDR_NO_VALUE);
+    WANT(pcidr_subnets(&bad, 128, 0, 0, room, 2, &count) == PCIDR_NO_VALUE && is_left());
+    WANT(pcidr_position(&bad, &address, &number) == PCIDR_NO_VALUE);
+    WANT(pcidr_position(&any, &address, &number) == PCIDR_NO_VALUE);
+    WANT(pcidr_position(&wide, &bad, &number) == PCIDR_NO_VALUE);
+    WANT(pcidr_address_count(&bad, &number) == PCIDR_NO_VALUE);
+    WANT(pcidr_usable_count(&bad, &count) == PCIDR_NO_VALUE && number.high == 7 && number.low == 8 && is_left());
+    WANT(pcidr_mask_length(&bad, &len) == PCIDR_NO_VALUE && pcidr_host_mask_length(&bad, &len) == PCIDR_NO_VALUE);
+    WANT(pcidr_special_entry(&bad, &entry) == PCIDR_NO_VALUE && entry.len == 9 && len == 7);
+    for (size_t i = 0; i < LENGTH(questions); i++) WANT(questions[i](&bad) == 0);
+    WANT(pcidr_overlaps(&bad, &any) == 0 && pcidr_overlaps(&any, &bad) == 0);
+    WANT(pcidr_spanning(&bad, &wide, &out) == PCIDR_NO_VALUE && pcidr_spanning(&wide, &bad, &out) == PCIDR_NO_VALUE);
+    WANT(pcidr_summarize(&bad, &address, room, 2, &count) == PCIDR_NO_VALUE);
+    WANT(pcidr_summarize(&address, &bad, room, 2, &count) == PCIDR_NO_VALUE && is_same(room[0], mark) && is_left());
+}
+
+/* The same in each list of further calls. */
+static void no_value_among(pcidr_value bad) {
+    const pcidr_value both[] = {wide, bad};
+    const pcidr_rule rules[] = {{wide, 1}, {bad, 1}};
+    const pcidr_row rows[] = {{wide, 1}, {bad, 1}};
+    pcidr_value room[] = {mark, mark};
+    pcidr_row fewer[] = {{mark, 7}, {mark, 7}};
+    size_t indexes[] = {7, 7};
+    uint32_t answer = 7;
+    WANT(pcidr_complement(both, 2, &wide, room, 2, &count) == PCIDR_NO_VALUE);
+    WANT(pcidr_complement(&wide, 1, &bad, room, 2, &count) == PCIDR_NO_VALUE && is_same(room[0], mark) && is_left());
+    WANT(pcidr_is_subset(both, 2, &wide, 1, &answer) == PCIDR_NO_VALUE);
+    WANT(pcidr_is_subset(&wide, 1, both, 2, &answer) == PCIDR_NO_VALUE);
+    WANT(pcidr_is_disjoint(both, 2, &wide, 1, &answer) == PCIDR_NO_VALUE);
+    WANT(pcidr_is_disjoint(&wide, 1, both, 2, &answer) == PCIDR_NO_VALUE);
+    WANT(pcidr_first_free(both, 2, 8, &out) == PCIDR_NO_VALUE);
+    WANT(pcidr_best_free(both, 2, 8, &out) == PCIDR_NO_VALUE && is_left());
+    WANT(pcidr_permits(rules, 1, &address) == 1 && pcidr_permits(rules, 2, &address) == 0);
+    WANT(pcidr_permits(rules, 1, &bad) == 0);
+    WANT(pcidr_permitted(rules, 2, room, 2, &count) == PCIDR_NO_VALUE && is_same(room[0], mark));
+    WANT(pcidr_shadowed(rules, 2, indexes, 2, &count) == PCIDR_NO_VALUE);
+    WANT(pcidr_deciding(rules, 2, &wide, indexes, 2, &count) == PCIDR_NO_VALUE);
+    WANT(pcidr_deciding(rules, 1, &bad, indexes, 2, &count) == PCIDR_NO_VALUE && indexes[0] == 7 && is_left());
+    WANT(pcidr_smallest(rows, 2, fewer, 2, &count) == PCIDR_NO_VALUE && fewer[0].value == 7 && is_left());
+    WANT(pcidr_forwards_same(rows, 2, rows, 1, &answer) == PCIDR_NO_VALUE);
+    WANT(pcidr_forwards_same(rows, 1, rows, 2, &answer) == PCIDR_NO_VALUE);
+    WANT(answer == 7);
 }
 
 /* Values of another kind than the call takes. */
@@ -380,8 +471,9 @@ int main(void) {
     WANT(pcidr_read_network("any", 3, &any) == PCIDR_OK);
     WANT(pcidr_read_address("10.1.2.3", 8, &address) == PCIDR_OK);
     null_arguments();
+    null_lists();
     strings();
-    for (size_t i = 0; i < LENGTH(bad); i++) no_value(bad[i]);
+    for (size_t i = 0; i < LENGTH(bad); i++) no_value(bad[i]), no_value_around(bad[i]), no_value_among(bad[i]);
     other_values();
     small_rooms();
     same_place();
