@@ -1,6 +1,6 @@
 #!/usr/bin/env python3
 """make_calls.py [--check]: writes pcidr/_calls.py, the stubs of the calls, from the header of the library for C. With
---check it writes nothing, and prints each line of that file which the header has otherwise or has no more."""
+--check it writes nothing, and prints each line that only that file has, and each that it lacks."""
 from __future__ import annotations
 
 import re
@@ -123,10 +123,11 @@ def main() -> None:
     if sys.argv[1:] != ["--check"]:
         MADE.write_text(made, encoding="utf-8")
         return
-    theirs = set(joined(made))
-    wrong = [line for line in joined(MADE.read_text(encoding="utf-8")) if line not in theirs]
+    theirs, ours = joined(made), joined(MADE.read_text(encoding="utf-8"))
+    wrong = [f"pcidr.h has no such line: {line.strip()}" for line in ours if line not in theirs]
+    wrong += [f"there is no such line: {line.strip()}" for line in theirs if line not in ours]
     for line in wrong:
-        print(f"pcidr/_calls.py: pcidr.h has no such line: {line.strip()}")
+        print(f"pcidr/_calls.py: {line}")
     sys.exit(1 if wrong else 0)
 
 

@@ -1,15 +1,25 @@
-"""measure.py: times calls of one value beside those of `ipaddress`, and merges, look-ups of many addresses and files by
-the module. Prints of each a line with its name and the least time of some turns: nanoseconds of a call, or seconds of
-processor time."""
+"""measure.py: times calls of one value by the extension, by `ctypes` and of `ipaddress`, or where they are there of `radix`
+and `netaddr`, by turns, and then merges, look-ups of many addresses and files by the module. Prints of each a line with its
+name and the least time of some turns: nanoseconds of a call, or seconds of processor time. `measure.py calls` prints the
+nanoseconds of the former here alone, one a line."""
 import ipaddress
 import os
 import random
+import subprocess
+import sys
 import tempfile
 import time
 import timeit
 from array import array
+from itertools import zip_longest
 
 from pcidr import Address, Network, NetworkSet, Table, merge
+
+try:
+    import netaddr
+    import radix
+except ImportError:
+    netaddr = radix = None
 
 RANDOM = random.Random(1)
 TURNS = 5
@@ -60,27 +70,50 @@ CALLS = {
     "network.first": "their_network.network_address",
     "network.netmask": "their_network.netmask",
     "network.prefixlen": "their_network.prefixlen",
+    "network.with_prefixlen": "their_network.with_prefixlen",
     "address.packed": "their_address.packed",
+    "address.is_private": "their_address.is_private",
+    "address.reverse_pointer": "their_address.reverse_pointer",
     "address + 1": "their_address + 1",
     "str(address)": "str(their_address)",
-    'table.lookup("10.1.2.3")': None,
-    '"10.1.2.3" in held': None,
+    'table.lookup("10.1.2.3")': radix and 'their_table.search_best("10.1.2.3")',
+    '"10.1.2.3" in held': netaddr and '"10.1.2.3" in their_set',
 }
 
 
-def measure_calls():
-    """Prints how long calls of one value take, and those of `ipaddress`."""
+def timed(calls):
+    """How many nanoseconds each of some calls takes: the least of some turns."""
     names = {"Address": Address, "Network": Network, "ipaddress": ipaddress}
     names |= {"address": Address("10.1.2.3"), "other": Address("10.1.2.4"), "network": Network("10.0.0.0/8")}
     names |= {f"their_{name}": names[name].to_ipaddress() for name in ("address", "other", "network")}
     names |= {"table": Table({"10.0.0.0/8": 1}), "held": NetworkSet(["10.0.0.0/8"])}
     names["table"].lookup_each(["10.1.2.3"])
-    for ours, theirs in CALLS.items():
-        least = [min(timeit.repeat(call, globals=names, number=20_000, repeat=9)) for call in (ours, theirs) if call]
-        print("\t".join([ours, *(f"{seconds / 20_000 * 1e9:.0f}" for seconds in least)]))
+    if radix:
+        names |= {"their_table": radix.Radix(), "their_set": netaddr.IPSet(["10.0.0.0/8"])}
+        names["their_table"].add("10.0.0.0/8")
+    return [min(timeit.repeat(call, globals=names, number=20_000, repeat=5)) / 20_000 * 1e9 for call in calls]
+
+
+def by_ctypes():
+    """Those of the calls here without the extension, in another process."""
+    words = [sys.executable, *["-P"] * getattr(sys.flags, "safe_path", False), __file__, "calls"]
+    made = subprocess.run(words, env=os.environ | {"PCIDR_CTYPES": "1"}, stdout=subprocess.PIPE, check=True, text=True)
+    return list(map(float, made.stdout.split()))
+
+
+def measure_calls():
+    """Prints how long calls of one value take: here, by `ctypes`, and those of the others."""
+    theirs = [call for call in CALLS.values() if call]  # of the first ones
+    turns = [(timed(CALLS), by_ctypes(), timed(theirs)) for _ in range(TURNS)]
+    least = [map(min, zip(*column)) for column in zip(*turns)]
+    for call, *taken in zip_longest(CALLS, *least):
+        print("\t".join([call, *(f"{each:.0f}" for each in taken if each)]))
 
 
 def main():
+    if sys.argv[1:] == ["calls"]:
+        print("\n".join(map(str, timed(CALLS))))
+        return
     measure_calls()
     many = [text(*network()) for _ in range(900_000)]
     measure(f"merge of 900,000 strings, of which {len(merge(many)):,} networks are left", lambda: merge(many))

@@ -16,6 +16,7 @@ typedef uint32_t (*reader)(const char *, size_t, pcidr_value *);
 typedef size_t (*printer)(const pcidr_value *, char *, size_t);
 typedef uint32_t (*comparer)(const pcidr_value *, const pcidr_value *);
 typedef uint32_t (*part)(pcidr_value, pcidr_value *);
+typedef uint32_t (*question)(const pcidr_value *);
 
 /* Which calls are those of addresses, of hosts and of networks. */
 typedef struct {
@@ -27,6 +28,9 @@ typedef struct {
 static kind addresses, hosts, networks;
 static comparer contains;
 static part first_part, last_part, mask_part, host_mask_part, address_part, network_part;
+static part ipv6_mapped, ipv4_mapped, ipv4_6to4, ipv4_nat64;
+static question is_private, is_loopback, is_link_local, is_multicast, is_unspecified, is_documentation, is_global;
+static printer host_with_length, network_with_length, with_mask, with_host_mask, reverse_name;
 static uint32_t (*step_up)(pcidr_value, uint64_t, uint64_t, pcidr_value *);
 static uint32_t (*step_down)(pcidr_value, uint64_t, uint64_t, pcidr_value *);
 
@@ -167,33 +171,38 @@ static PyObject *shown_max_prefixlen(PyObject *self, void *unused) {
     return PyLong_FromLong(tag < 64 ? 32 : 128);
 }
 
-/* A part of a value, by a call of the library. */
+/* What a call of the library makes of a value, or None where it says that there is none. */
 static PyObject *part_of(PyObject *self, part call, PyObject *class) {
     pcidr_value out;
     uint32_t code = call(*value_in(self), &out);
     if (!code) return made_of(class, &out);
+    if (code == PCIDR_NONE) return Py_NewRef(Py_None);
     raised(code, self);
     return NULL;
 }
 
-static PyObject *shown_first(PyObject *self, void *unused) {
-    (void)unused;
-    return part_of(self, first_part, address_class);
+/* An address, and a value of the same kind. */
+static PyObject *address_by(PyObject *self, void *call) {
+    return part_of(self, *(part *)call, address_class);
 }
 
-static PyObject *shown_last(PyObject *self, void *unused) {
-    (void)unused;
-    return part_of(self, last_part, address_class);
+static PyObject *same_by(PyObject *self, void *call) {
+    return part_of(self, *(part *)call, (PyObject *)Py_TYPE(self));
 }
 
-static PyObject *shown_netmask(PyObject *self, void *unused) {
-    (void)unused;
-    return part_of(self, mask_part, address_class);
+/* A string with a prefix length or a mask; `any` has no mask. */
+static PyObject *string_by(PyObject *self, void *print) {
+    char room[PCIDR_MASK_ROOM];
+    size_t length = (*(printer *)print)(value_in(self), room, sizeof room);
+    if (length) return PyUnicode_FromStringAndSize(room, (Py_ssize_t)length);
+    return PyErr_Format(PyExc_ValueError, "any has addresses of two families");
 }
 
-static PyObject *shown_hostmask(PyObject *self, void *unused) {
-    (void)unused;
-    return part_of(self, host_mask_part, address_class);
+static PyObject *name_by(PyObject *self, void *print) {
+    char room[PCIDR_NAME_ROOM];
+    size_t length = (*(printer *)print)(value_in(self), room, sizeof room);
+    if (length) return PyUnicode_FromStringAndSize(room, (Py_ssize_t)length);
+    return PyErr_Format(PyExc_ValueError, "%S has no name in reverse DNS", self);
 }
 
 /* The address that a call of the module makes of the value. */
@@ -221,10 +230,10 @@ static PyGetSetDef shown_attributes[] = {
     {"version", shown_version, NULL, "4 or 6, or None for the network `any`.", NULL},
     {"prefixlen", shown_prefixlen, NULL, "The prefix length, or None for the network `any`.", NULL},
     {"max_prefixlen", shown_max_prefixlen, NULL, "The number of bits of an address: 32 or 128.", NULL},
-    {"first", shown_first, NULL, "The first address of the network; `any` raises `ValueError`.", NULL},
-    {"last", shown_last, NULL, "The last address of the network, as `first` has the first one.", NULL},
-    {"netmask", shown_netmask, NULL, "The mask of the network, as an address; `any` raises `ValueError`.", NULL},
-    {"hostmask", shown_hostmask, NULL, "The inverse of the mask, as an address; `any` raises `ValueError`.", NULL},
+    {"first", address_by, NULL, "The first address of the network; `any` raises `ValueError`.", &first_part},
+    {"last", address_by, NULL, "The last address of the network, as `first` has the first one.", &last_part},
+    {"netmask", address_by, NULL, "The mask of the network, as an address; `any` raises `ValueError`.", &mask_part},
+    {"hostmask", address_by, NULL, "The inverse of the mask, as an address.", &host_mask_part},
     {NULL, NULL, NULL, NULL, NULL},
 };
 
@@ -255,9 +264,9 @@ static int filled(PyObject *self, PyObject *arguments, PyObject *named, const ki
     return failed ? -1 : 0;
 }
 
-static PyObject *printed(PyObject *self, const kind *of) {
+static PyObject *printed(PyObject *self, printer print) {
     char room[PCIDR_TEXT_ROOM];
-    size_t length = of->print(value_in(self), room, sizeof room);
+    size_t length = print(value_in(self), room, sizeof room);
     return PyUnicode_FromStringAndSize(room, (Py_ssize_t)length);
 }
 
@@ -274,12 +283,36 @@ static PyObject *compared(PyObject *self, PyObject *other, int operation, const 
     }
 }
 
+/* The attributes by which all kinds are asked, which `answer` answers. */
+#define QUESTIONS(answer)                                                                                              \
+    {"is_private", answer, NULL, "Whether it is private (RFC 1918), or unique-local (RFC 4193).", &is_private},        \
+    {"is_loopback", answer, NULL, "Whether it is in 127.0.0.0/8, or is ::1.", &is_loopback},                           \
+    {"is_link_local", answer, NULL, "Whether it is in 169.254.0.0/16 or fe80::/10.", &is_link_local},                  \
+    {"is_multicast", answer, NULL, "Whether it is in 224.0.0.0/4 or ff00::/8.", &is_multicast},                        \
+    {"is_unspecified", answer, NULL, "Whether it is 0.0.0.0 or ::.", &is_unspecified},                                 \
+    {"is_documentation", answer, NULL, "Whether it is in a block for documentation.", &is_documentation}
+
+/* What addresses and networks have alike. */
+#define MAPPED                                                                                                         \
+    {"ipv6_mapped", same_by, NULL, "That of the IPv4-mapped addresses; None of one of IPv6.", &ipv6_mapped},           \
+    {"ipv4_mapped", same_by, NULL, "The inverse; None of one that isn't in ::ffff:0:0/96.", &ipv4_mapped},             \
+    {"reverse_pointer", name_by, NULL, "Its domain name in reverse DNS.", &reverse_name}
+
+/* Whether a call says yes of an address. */
+static int says(void *call, const pcidr_value *address) {
+    return (*(question *)call)(address) == 1;
+}
+
+static PyObject *address_answer(PyObject *self, void *call) {
+    return PyBool_FromLong(says(call, value_in(self)));
+}
+
 static int address_init(PyObject *self, PyObject *arguments, PyObject *named) {
     return filled(self, arguments, named, &addresses);
 }
 
 static PyObject *address_str(PyObject *self) {
-    return printed(self, &addresses);
+    return printed(self, addresses.print);
 }
 
 static PyObject *address_compare(PyObject *self, PyObject *other, int operation) {
@@ -355,6 +388,11 @@ static PyObject *address_subtract(PyObject *self, PyObject *count) {
 }
 
 static PyGetSetDef address_attributes[] = {
+    QUESTIONS(address_answer),
+    {"is_global", address_answer, NULL, "Whether it is globally reachable by the registries of IANA.", &is_global},
+    MAPPED,
+    {"sixtofour", address_by, NULL, "The IPv4 address of the site of a 6to4 address, or None.", &ipv4_6to4},
+    {"nat64", address_by, NULL, "The IPv4 address in an address of translation, or None.", &ipv4_nat64},
     {"packed", address_packed, NULL, "The bytes of the address, the highest first: 4 or 16.", NULL},
     {NULL, NULL, NULL, NULL, NULL},
 };
@@ -376,16 +414,11 @@ static int host_init(PyObject *self, PyObject *arguments, PyObject *named) {
 }
 
 static PyObject *host_str(PyObject *self) {
-    return printed(self, &hosts);
+    return printed(self, hosts.print);
 }
 
 static PyObject *host_compare(PyObject *self, PyObject *other, int operation) {
     return compared(self, other, operation, &hosts);
-}
-
-static PyObject *host_ip(PyObject *self, void *unused) {
-    (void)unused;
-    return part_of(self, address_part, address_class);
 }
 
 static PyObject *host_network(PyObject *self, void *unused) {
@@ -393,8 +426,19 @@ static PyObject *host_network(PyObject *self, void *unused) {
     return part_of(self, network_part, network_class);
 }
 
+/* Of a host its address is asked. */
+static PyObject *host_answer(PyObject *self, void *call) {
+    pcidr_value address;
+    uint32_t code = address_part(*value_in(self), &address);
+    if (!code) return PyBool_FromLong(says(call, &address));
+    raised(code, self);
+    return NULL;
+}
+
 static PyGetSetDef host_attributes[] = {
-    {"ip", host_ip, NULL, "The address.", NULL},
+    QUESTIONS(host_answer),
+    {"with_prefixlen", string_by, NULL, "The string with its prefix length, also a full one.", &host_with_length},
+    {"ip", address_by, NULL, "The address.", &address_part},
     {"network", host_network, NULL, "The network.", NULL},
     {NULL, NULL, NULL, NULL, NULL},
 };
@@ -413,7 +457,7 @@ static int network_init(PyObject *self, PyObject *arguments, PyObject *named) {
 }
 
 static PyObject *network_str(PyObject *self) {
-    return printed(self, &networks);
+    return printed(self, networks.print);
 }
 
 static PyObject *network_compare(PyObject *self, PyObject *other, int operation) {
@@ -443,10 +487,26 @@ static PyObject *network_num_addresses(PyObject *self, void *unused) {
     return PySequence_GetItem(counts, value_in(self)->tag);
 }
 
+/* Of a network its first and its last address are: such blocks are networks, and no network has the begin of one and the
+ * end of another. */
+static PyObject *network_answer(PyObject *self, void *call) {
+    pcidr_value first, last;
+    uint32_t code = first_part(*value_in(self), &first);
+    if (!code) code = last_part(*value_in(self), &last);
+    if (!code) return PyBool_FromLong(says(call, &first) && says(call, &last));
+    raised(code, self);
+    return NULL;
+}
+
 static PyGetSetDef network_attributes[] = {
+    QUESTIONS(network_answer),
+    MAPPED,
+    {"with_prefixlen", string_by, NULL, "The string with its prefix length, also a full one.", &network_with_length},
+    {"with_netmask", string_by, NULL, "The string with the mask in place of the prefix length.", &with_mask},
+    {"with_hostmask", string_by, NULL, "The string with the inverse of the mask in its place.", &with_host_mask},
     {"num_addresses", network_num_addresses, NULL, "The number of addresses; `len` stops at 2^63.", NULL},
-    {"network_address", shown_first, NULL, "The first address.", NULL},
-    {"broadcast_address", shown_last, NULL, "The last address, which is that of broadcasts in IPv4.", NULL},
+    {"network_address", address_by, NULL, "The first address.", &first_part},
+    {"broadcast_address", address_by, NULL, "The last address, which is that of broadcasts in IPv4.", &last_part},
     {NULL, NULL, NULL, NULL, NULL},
 };
 
@@ -690,6 +750,15 @@ static PyObject *connect(PyObject *module, PyObject *arguments) {
         {"pcidr_step_down_by_value", &step_down},    {"pcidr_ipv4_table_lookup", &ipv4_row},
         {"pcidr_ipv6_table_lookup", &ipv6_row},      {"pcidr_file_lookup", &file_row},
         {"pcidr_set_has", &file_has},                {"pcidr_host_mask_by_value", &host_mask_part},
+        {"pcidr_is_private", &is_private},           {"pcidr_is_loopback", &is_loopback},
+        {"pcidr_is_link_local", &is_link_local},     {"pcidr_is_multicast", &is_multicast},
+        {"pcidr_is_unspecified", &is_unspecified},   {"pcidr_is_documentation", &is_documentation},
+        {"pcidr_is_global", &is_global},             {"pcidr_print_host_with_length", &host_with_length},
+        {"pcidr_print_network_with_length", &network_with_length},
+        {"pcidr_print_with_mask", &with_mask},       {"pcidr_print_with_host_mask", &with_host_mask},
+        {"pcidr_print_reverse_name", &reverse_name}, {"pcidr_ipv6_mapped_by_value", &ipv6_mapped},
+        {"pcidr_ipv4_mapped_by_value", &ipv4_mapped}, {"pcidr_ipv4_6to4_by_value", &ipv4_6to4},
+        {"pcidr_ipv4_nat64_by_value", &ipv4_nat64},
     };
     for (size_t place = 0; place < sizeof calls / sizeof *calls; place++) {
         void *found = dlsym(library, calls[place].name);

@@ -35,6 +35,7 @@ LEVEL_BITS = 18
 # So many packed addresses are looked up at a time, whose values stay in the nearer caches.
 PACKED = 1 << 13
 
+K = TypeVar("K")
 T = TypeVar("T", ctypes.c_size_t, Range, Row, Value)
 Call = Callable[..., int]
 # What has packed addresses: whatever `memoryview` takes.
@@ -125,6 +126,16 @@ def read(call: Call, text: str) -> Value:
     if code:
         check(code, text)
     return value
+
+
+def sought(made: Callable[[Value], K], call: Call, *given: object) -> K | None:
+    """What is made of the value that a call finds, or None where it says that there is none."""
+    out = Value()
+    code = call(*given, out)
+    if code == Code.NONE:
+        return None
+    check(code)
+    return made(out)
 
 
 def tried(call: Call, text: str) -> tuple[int, Value]:

@@ -27,6 +27,7 @@ from pcidr._library import (
     print_all,
     read_all,
     read_list,
+    sought,
     tags_of,
 )
 from pcidr._values import (
@@ -38,7 +39,6 @@ from pcidr._values import (
     Network,
     network_value,
     renamed,
-    sought,
 )
 
 V = TypeVar("V")
@@ -123,8 +123,19 @@ def permits(rules: Iterable[tuple[AnyNetwork, bool]], address: AnyAddress) -> bo
 
 def shadowed(rules: Iterable[tuple[AnyNetwork, bool]]) -> list[int]:
     """The indexes of the rules of an access list that no address reaches, since earlier ones have all of theirs."""
+    return _places(calls.shadowed, rules)
+
+
+def deciding(rules: Iterable[tuple[AnyNetwork, bool]], network: AnyNetwork) -> list[int]:
+    """The indexes of the rules of an access list that decide the addresses of a network, each the first one for some of
+    them. Of the network of a shadowed rule they are the earlier ones that have all of its addresses."""
+    return _places(calls.deciding, rules, network_value(network))
+
+
+def _places(call: Call, rules: Iterable[tuple[AnyNetwork, bool]], *asked: Value) -> list[int]:
+    """The indexes of rules that a call finds."""
     given = _rules(rules)
-    return list(map(int, filled(ctypes.c_size_t, len(given), calls.shadowed, given, len(given))))
+    return list(map(int, filled(ctypes.c_size_t, len(given), call, given, len(given), *asked)))
 
 
 def _rules(rules: Iterable[tuple[AnyNetwork, bool]]) -> ctypes.Array[Rule]:
@@ -330,7 +341,7 @@ class NetworkSet:
         values, call = self._values, {4: calls.nth_ipv4, 6: calls.nth_ipv6}.get(version)
         if call is None:
             raise ValueError(f"no family of addresses: {version}")
-        made = sought(Address, call, values, len(values), place >> 64, place & LOW) if 0 <= place < 1 << 128 else None
+        made = sought(Address._of, call, values, len(values), place >> 64, place & LOW) if 0 <= place < 1 << 128 else None
         if made is None:
             raise IndexError(f"the set has no IPv{version} address {index}")
         return made
@@ -356,12 +367,8 @@ class NetworkSet:
         length = integer(prefixlen)
         if not 0 <= length <= 128:
             raise ValueError(f"no prefix length: {prefixlen}")
-        values, out = self._values, Value()
-        code = call(values, len(values), length, out)
-        if code == Code.NONE:
-            return None
-        check(code)
-        return Network._of(out)
+        values = self._values
+        return sought(Network._of, call, values, len(values), length)
 
     def __invert__(self: S) -> S:
         return self.complement()

@@ -5,10 +5,11 @@ from collections.abc import Callable, Sequence
 from operator import index
 from typing import Any, ClassVar, TypeVar
 
-from pcidr._calls import Code, Value
-from pcidr._library import Call, Values, array, calls, check, printed, read
+from pcidr._calls import MASK_ROOM, NAME_ROOM, Code, Value
+from pcidr._library import Call, Values, array, calls, check, printed, read, sought
 
 S = TypeVar("S", bound="Shown")
+M = TypeVar("M", bound="_Mapped")
 
 _new = object.__new__
 
@@ -118,8 +119,68 @@ class Shown:
         """The inverse of the mask, as an address: 0.0.0.255 of a /24. `any` has none, and raises `ValueError`."""
         return self._part(calls.host_mask)
 
+    def _has_all(self, call: Call) -> bool:
+        """Whether a call says yes of all of its addresses."""
+        raise NotImplementedError
 
-class OfAddress(Shown):
+    @property
+    def is_private(self) -> bool:
+        """Whether it is private: in 10.0.0.0/8, 172.16.0.0/12, 192.168.0.0/16 or fc00::/7. `ipaddress` calls private
+        what is not globally reachable."""
+        return self._has_all(calls.is_private)
+
+    @property
+    def is_loopback(self) -> bool:
+        """Whether it is in 127.0.0.0/8, or is ::1."""
+        return self._has_all(calls.is_loopback)
+
+    @property
+    def is_link_local(self) -> bool:
+        """Whether it is in 169.254.0.0/16 or fe80::/10."""
+        return self._has_all(calls.is_link_local)
+
+    @property
+    def is_multicast(self) -> bool:
+        """Whether it is in 224.0.0.0/4 or ff00::/8."""
+        return self._has_all(calls.is_multicast)
+
+    @property
+    def is_unspecified(self) -> bool:
+        """Whether it is 0.0.0.0 or ::."""
+        return self._has_all(calls.is_unspecified)
+
+    @property
+    def is_documentation(self) -> bool:
+        """Whether it is in a block for documentation, as 192.0.2.0/24 and 2001:db8::/32 are."""
+        return self._has_all(calls.is_documentation)
+
+
+class _Mapped(Shown):
+    """What addresses and networks have alike."""
+
+    __slots__ = ()
+
+    @property
+    def ipv6_mapped(self: M) -> M | None:
+        """That of the IPv4-mapped addresses, as ``::ffff:192.0.2.1`` of ``192.0.2.1``; None of one of IPv6."""
+        return sought(type(self)._of, calls.ipv6_mapped, self._value)
+
+    @property
+    def ipv4_mapped(self: M) -> M | None:
+        """The inverse of `ipv6_mapped`; None of one that isn't in ::ffff:0:0/96."""
+        return sought(type(self)._of, calls.ipv4_mapped, self._value)
+
+    @property
+    def reverse_pointer(self) -> str:
+        """Its domain name in reverse DNS: ``1.2.0.192.in-addr.arpa``. A network whose prefix doesn't end at a label of
+        such a name, 8 bits or 4 in IPv6, raises `ValueError`."""
+        name = printed(calls.print_reverse_name, self._value, NAME_ROOM)
+        if not name:
+            raise ValueError(f"{self} has no name in reverse DNS")
+        return name
+
+
+class OfAddress(_Mapped):
     """What addresses have."""
 
     __slots__ = ()
@@ -148,6 +209,25 @@ class OfAddress(Shown):
         """The bytes of the address, the highest first: 4 or 16."""
         return int(self).to_bytes(4 if self._value.tag < 64 else 16, "big")
 
+    def _has_all(self, call: Call) -> bool:
+        return call(self._value) == 1
+
+    @property
+    def is_global(self) -> bool:
+        """Whether it is globally reachable by the registries of IANA: where it is in none of their blocks, or in one
+        that they say so of."""
+        return self._has_all(calls.is_global)
+
+    @property
+    def sixtofour(self) -> Any:
+        """The IPv4 address of the site of a 6to4 address, of 2002::/16, or None."""
+        return sought(_classes[0]._of, calls.ipv4_6to4, self._value)
+
+    @property
+    def nat64(self) -> Any:
+        """The IPv4 address in an address of translation (NAT64), of 64:ff9b::/96, or None."""
+        return sought(_classes[0]._of, calls.ipv4_nat64, self._value)
+
 
 class OfHost(Shown):
     """What hosts have."""
@@ -167,8 +247,16 @@ class OfHost(Shown):
         check(calls.network(self._value, out))
         return _classes[1]._of(out)
 
+    def _has_all(self, call: Call) -> bool:
+        return call(self.ip._value) == 1
 
-class OfNetwork(Shown):
+    @property
+    def with_prefixlen(self) -> str:
+        """The string with its prefix length also where that is full: ``192.0.2.1/32``."""
+        return printed(calls.print_host_with_length, self._value)
+
+
+class OfNetwork(_Mapped):
     """What networks have."""
 
     __slots__ = ()
@@ -191,6 +279,31 @@ class OfNetwork(Shown):
     def broadcast_address(self) -> Any:
         """The last address, which is that of broadcasts in IPv4."""
         return self._part(calls.last)
+
+    def _has_all(self, call: Call) -> bool:
+        """Such blocks are networks, and no network has the begin of one and the end of another."""
+        return call(self.first._value) == call(self.last._value) == 1
+
+    @property
+    def with_prefixlen(self) -> str:
+        """The string with its prefix length also where that is full: ``192.0.2.1/32``."""
+        return printed(calls.print_network_with_length, self._value)
+
+    @property
+    def with_netmask(self) -> str:
+        """The string with the mask in place of the prefix length: ``192.0.2.0/255.255.255.0``."""
+        return self._with(calls.print_with_mask)
+
+    @property
+    def with_hostmask(self) -> str:
+        """The string with the inverse of the mask in place of the prefix length: ``192.0.2.0/0.0.0.255``."""
+        return self._with(calls.print_with_host_mask)
+
+    def _with(self, call: Call) -> str:
+        shown = printed(call, self._value, MASK_ROOM)
+        if not shown:
+            raise ValueError("any has addresses of two families")
+        return shown
 
 
 # The classes of addresses and of networks; functions: `check`, and the value of what stands for a network; and by the

@@ -9,11 +9,11 @@ from collections.abc import Iterator
 from functools import partial
 from itertools import count, takewhile
 from operator import index as integer
-from typing import TYPE_CHECKING, Any, NamedTuple, TypeVar, Union
+from typing import TYPE_CHECKING, Any, NamedTuple, Union
 
-from pcidr._calls import FAULT_ROOM, MASK_ROOM, NAME_ROOM, Code, Purpose, Special, Value
+from pcidr._calls import FAULT_ROOM, NAME_ROOM, Code, Halves, Purpose, Special, Value
 from pcidr._kinds import OfAddress, OfHost, OfNetwork, Shown, each_of, register
-from pcidr._library import Call, array, calls, check, combined, printed, read, tried
+from pcidr._library import Call, array, calls, check, combined, printed, read, sought, tried
 
 OfIpaddress = Union[ipaddress.IPv4Address, ipaddress.IPv6Address, ipaddress.IPv4Network, ipaddress.IPv6Network]
 Packed = Union[bytes, bytearray]
@@ -22,8 +22,6 @@ AnyNetwork = Union["Address", "Network", str, OfIpaddress]
 WithLength = tuple[AnyAddress, Union[int, str]]
 AnyHost = Union["Address", "Host", "Network", str, Packed, OfIpaddress, WithLength]
 
-K = TypeVar("K", bound=Shown)
-
 ADDRESSES_AND_NETWORKS = (ipaddress.IPv4Address, ipaddress.IPv6Address, ipaddress.IPv4Network, ipaddress.IPv6Network)
 _INTERFACES = (ipaddress.IPv4Interface, ipaddress.IPv6Interface)  # which are addresses of that module, too
 _OF_NUMBERS = re.compile("#?_?[bnxX]").fullmatch
@@ -31,16 +29,6 @@ _WIDTHS = {4: 32, 6: 128}
 _ADDRESS_TAGS = {4: 32, 6: 192}
 LOW = 2**64 - 1
 _SUBNETS = 256  # so many at a time
-
-
-def sought(kind: type[K], call: Call, *given: object) -> K | None:
-    """What a call makes of values, or None where it says that there is none."""
-    out = Value()
-    code = call(*given, out)
-    if code == Code.NONE:
-        return None
-    check(code)
-    return kind._of(out)
 
 
 def text_fault(text: str) -> str | None:
@@ -169,73 +157,9 @@ class _Common(Shown):
         """The string as `ipaddress` writes it, which has the prefix length also where that is full."""
         return str(self.to_ipaddress())
 
-    def _has_all(self, call: Call) -> bool:
-        """Whether a call says yes of all of its addresses."""
-        raise NotImplementedError
-
-    @property
-    def is_private(self) -> bool:
-        """Whether it is private: in 10.0.0.0/8, 172.16.0.0/12, 192.168.0.0/16 or fc00::/7. `ipaddress` calls private
-        what is not globally reachable."""
-        return self._has_all(calls.is_private)
-
-    @property
-    def is_loopback(self) -> bool:
-        """Whether it is in 127.0.0.0/8, or is ::1."""
-        return self._has_all(calls.is_loopback)
-
-    @property
-    def is_link_local(self) -> bool:
-        """Whether it is in 169.254.0.0/16 or fe80::/10."""
-        return self._has_all(calls.is_link_local)
-
-    @property
-    def is_multicast(self) -> bool:
-        """Whether it is in 224.0.0.0/4 or ff00::/8."""
-        return self._has_all(calls.is_multicast)
-
-    @property
-    def is_unspecified(self) -> bool:
-        """Whether it is 0.0.0.0 or ::."""
-        return self._has_all(calls.is_unspecified)
-
-    @property
-    def is_documentation(self) -> bool:
-        """Whether it is in a block for documentation, as 192.0.2.0/24 and 2001:db8::/32 are."""
-        return self._has_all(calls.is_documentation)
-
-    @property
-    def reverse_pointer(self) -> str:
-        """Its domain name in reverse DNS: ``1.2.0.192.in-addr.arpa``. A network whose prefix doesn't end at a label of
-        such a name, 8 bits or 4 in IPv6, raises `ValueError`."""
-        name = printed(calls.print_reverse_name, self._named(), NAME_ROOM)
-        if not name:
-            raise ValueError(f"{self} has no name in reverse DNS")
-        return name
-
-    def _named(self) -> Value:
-        """The value whose name in reverse DNS it is."""
-        return self._value
-
     family = renamed("family", "version")
     length = renamed("length", "prefixlen")
     mask = renamed("mask", "netmask")
-
-
-class _Mapped(_Common):
-    """What addresses and networks have alike."""
-
-    __slots__ = ()
-
-    @property
-    def ipv6_mapped(self: K) -> K | None:
-        """That of the IPv4-mapped addresses, as ``::ffff:192.0.2.1`` of ``192.0.2.1``; None of one of IPv6."""
-        return sought(type(self), calls.ipv6_mapped, self._value)
-
-    @property
-    def ipv4_mapped(self: K) -> K | None:
-        """The inverse of `ipv6_mapped`; None of one that isn't in ::ffff:0:0/96."""
-        return sought(type(self), calls.ipv4_mapped, self._value)
 
 
 class SpecialEntry(NamedTuple):
@@ -252,7 +176,7 @@ class SpecialEntry(NamedTuple):
     reserved_by_protocol: bool | None
 
 
-class Address(_Mapped, OfAddress):
+class Address(_Common, OfAddress):
     """An IPv4 or IPv6 address, as ``Address("10.0.0.1")``. IPv4 addresses come before IPv6 addresses. A string that is
     none raises `ValueError`; a prefix length is not taken. `bytes` are a packed address, 4 or 16 of them.
 
@@ -270,6 +194,14 @@ class Address(_Mapped, OfAddress):
         def __sub__(self, count: int) -> Address:
             ...
 
+        @property
+        def sixtofour(self) -> Address | None:
+            ...
+
+        @property
+        def nat64(self) -> Address | None:
+            ...
+
     @classmethod
     def from_int(cls, number: int, version: int) -> Address:
         """The address of a family, 4 or 6, with this number; one that it doesn't have raises `ValueError`."""
@@ -277,15 +209,6 @@ class Address(_Mapped, OfAddress):
         if version not in _WIDTHS or not 0 <= exact < 1 << _WIDTHS[version]:
             raise ValueError(f"no address of IPv{version}: {number}")
         return cls._of(_numbered(exact, _ADDRESS_TAGS[version]))
-
-    def _has_all(self, call: Call) -> bool:
-        return call(self._value) == 1
-
-    @property
-    def is_global(self) -> bool:
-        """Whether it is globally reachable by the registries of IANA: where it is in none of their blocks, or in one
-        that they say so of."""
-        return calls.is_global(self._value) == 1
 
     @property
     def special_entry(self) -> SpecialEntry | None:
@@ -299,16 +222,6 @@ class Address(_Mapped, OfAddress):
         columns = out.source, out.destination, out.forwardable, out.globally_reachable, out.reserved_by_protocol
         return SpecialEntry(block, Purpose(out.purpose), out.rfc, *((False, True, None)[column] for column in columns))
 
-    @property
-    def sixtofour(self) -> Address | None:
-        """The IPv4 address of the site of a 6to4 address, of 2002::/16, or None."""
-        return sought(Address, calls.ipv4_6to4, self._value)
-
-    @property
-    def nat64(self) -> Address | None:
-        """The IPv4 address in an address of translation (NAT64), of 64:ff9b::/96, or None."""
-        return sought(Address, calls.ipv4_nat64, self._value)
-
     def __bytes__(self) -> bytes:
         return self.packed
 
@@ -321,30 +234,7 @@ class Address(_Mapped, OfAddress):
         return ipaddress.IPv4Address(int(self)) if self.version == 4 else ipaddress.IPv6Address(int(self))
 
 
-class _WithPrefix(_Common):
-    """What hosts and networks have alike."""
-
-    __slots__ = ()
-
-    @property
-    def with_prefixlen(self) -> str:
-        """The string with its prefix length also where that is full: ``192.0.2.1/32``."""
-        raise NotImplementedError
-
-    @property
-    def with_netmask(self) -> str:
-        """The string with the mask in place of the prefix length: ``192.0.2.0/255.255.255.0``."""
-        raise NotImplementedError
-
-    @property
-    def with_hostmask(self) -> str:
-        """The string with the inverse of the mask in place of the prefix length: ``192.0.2.0/0.0.0.255``."""
-        raise NotImplementedError
-
-    with_length = renamed("with_length", "with_prefixlen")
-
-
-class Host(_WithPrefix, OfHost):
+class Host(_Common, OfHost):
     """An address in its network, as ``Host("10.0.0.5/8")``, in the order of the addresses and then of the lengths. A
     string that is none raises `ValueError`; an address alone has full prefix length. ``Host((address, 8))`` is another
     way to write it. `ipaddress` calls it an interface."""
@@ -372,22 +262,19 @@ class Host(_WithPrefix, OfHost):
             raise wrong
         self._become(masked)
 
-    def _has_all(self, call: Call) -> bool:
-        return call(self.ip._value) == 1
-
-    def _named(self) -> Value:
-        return self.ip._value
-
     @property
-    def with_prefixlen(self) -> str:
-        return printed(calls.print_host_with_length, self._value)
+    def reverse_pointer(self) -> str:
+        """The domain name of the address in reverse DNS: ``1.2.0.192.in-addr.arpa``."""
+        return self.ip.reverse_pointer
 
     @property
     def with_netmask(self) -> str:
+        """The string with the mask in place of the prefix length: ``192.0.2.1/255.255.255.0``."""
         return f"{self.ip}/{self.netmask}"
 
     @property
     def with_hostmask(self) -> str:
+        """The string with the inverse of the mask in place of the prefix length: ``192.0.2.1/0.0.0.255``."""
         return f"{self.ip}/{self.hostmask}"
 
     @property
@@ -403,9 +290,10 @@ class Host(_WithPrefix, OfHost):
         return ipaddress.ip_interface(self.with_prefixlen)
 
     address = renamed("address", "ip")
+    with_length = renamed("with_length", "with_prefixlen")
 
 
-class Network(_WithPrefix, _Mapped, OfNetwork):
+class Network(_Common, OfNetwork):
     """An IPv4 or IPv6 network, as ``Network("10.0.0.0/8")``, or ``Network("any")``, which has all addresses.
 
     A string that is none raises `ValueError`, also where a bit after the prefix is set; with ``strict=False`` such bits
@@ -444,26 +332,6 @@ class Network(_WithPrefix, _Mapped, OfNetwork):
         elif code:
             raise wrong
         self._become(value)
-
-    @property
-    def with_prefixlen(self) -> str:
-        return printed(calls.print_network_with_length, self._value)
-
-    @property
-    def with_netmask(self) -> str:
-        return self._with(calls.print_with_mask)
-
-    @property
-    def with_hostmask(self) -> str:
-        return self._with(calls.print_with_host_mask)
-
-    def _with(self, call: Call) -> str:
-        self._own_length()
-        return printed(call, self._value, MASK_ROOM)
-
-    def _has_all(self, call: Call) -> bool:
-        """Such blocks are networks, and no network has the begin of one and the end of another."""
-        return call(self.first._value) == call(self.last._value) == 1
 
     def subnet_of(self, other: AnyNetwork) -> bool:
         """Whether all of its addresses are in the other network, which may be of another family."""
@@ -521,7 +389,7 @@ class Network(_WithPrefix, _Mapped, OfNetwork):
 
     def _beside(self, call: Call) -> Network:
         self._own_length()
-        made = sought(Network, call, self._value)
+        made = sought(Network._of, call, self._value)
         if made is None:
             raise ValueError(f"there is no such network beside {self}")
         return made
@@ -585,6 +453,12 @@ class Network(_WithPrefix, _Mapped, OfNetwork):
         check(calls.nth(self._value, place >> 64, place & LOW, out))
         return Address._of(out)
 
+    def index(self, address: AnyAddress) -> int:
+        """The index of an address, the inverse of ``network[i]``; one that isn't in it raises `ValueError`."""
+        asked, number = Address(address), Halves()
+        check(calls.position(self._value, asked._value, number), self, asked)
+        return number.high << 64 | number.low
+
     def __iter__(self) -> Iterator[Address]:
         self._own_length()
         return (self[i] for i in range(self.num_addresses))
@@ -594,6 +468,7 @@ class Network(_WithPrefix, _Mapped, OfNetwork):
         return (self[i] for i in range(self.num_addresses - 1, -1, -1))
 
     count = renamed("count", "num_addresses")
+    with_length = renamed("with_length", "with_prefixlen")
 
 
 # By the tags, how many addresses a network has.

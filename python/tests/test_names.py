@@ -17,7 +17,7 @@ from array import array
 from importlib.util import find_spec
 
 import pcidr
-from pcidr import Address, Host, MutableNetworkSet, Network, NetworkSet, Purpose, Table
+from pcidr import Address, Host, MutableNetworkSet, Network, NetworkSet, Purpose, Table, _kinds
 
 RANDOM = random.Random(7)
 
@@ -199,6 +199,16 @@ class OfIpaddress(unittest.TestCase):
         with self.assertRaises(ValueError):
             Network("any").hosts()
 
+    def test_indexes(self):
+        for _ in range(500):
+            theirs = any_network()
+            place = RANDOM.randrange(theirs.num_addresses)
+            self.assertEqual(Network(theirs).index(theirs[place]), place)
+            self.assertEqual(Network(theirs)[place], Address(theirs[place]))
+        for network, address in (("10.0.0.0/8", "11.0.0.0"), ("10.0.0.0/8", "::"), ("any", "::"), ("::/0", "::/0")):
+            with self.assertRaises(ValueError):
+                Network(network).index(address)
+
     def test_addresses_of_numbers_and_bytes(self):
         for _ in range(500):
             theirs = any_address()
@@ -370,7 +380,7 @@ class OfIpaddress(unittest.TestCase):
                 first, last = sorted((any_address(), any_address()), key=int)
                 if first.version == last.version and RANDOM.random() < 0.5:
                     networks += ipaddress.summarize_address_range(first, last)
-                    lines.append(f"{first}-{last}")
+                    lines.append(RANDOM.choice(("{}-{}", "{} - {}", "{}-\t{}")).format(first, last))
                 else:
                     networks.append(any_network())
                     lines.append(str(networks[-1]))
@@ -573,8 +583,15 @@ class OfIPSet(unittest.TestCase):
             for name in self.NAMES[::5]:
                 self.assertEqual(pcidr.permits(rules, name), name in wanted)
             self.assertEqual(pcidr.shadowed(rules), hidden)
+            asked = RANDOM.choice(self.NETWORKS)
+            left, first = self.addresses([asked]), []
+            for place, (network, _) in enumerate(rules):
+                own = self.addresses([network])
+                first += [place] if left & own else []
+                left -= own
+            self.assertEqual(pcidr.deciding(rules, asked), first)
         for wrong in ([("10.0.0.1/8", True)], [("x", False)]):
-            for call in (pcidr.permitted, pcidr.shadowed):
+            for call in (pcidr.permitted, pcidr.shadowed, lambda rules: pcidr.deciding(rules, "10.0.0.1")):
                 with self.assertRaises(ValueError):
                     call(wrong)
         for action in ("deny", None, [1], 0.5):
@@ -728,6 +745,74 @@ class Others(unittest.TestCase):
             self.assertEqual([(str(first), str(last)) for first, last in NetworkSet(networks).ranges()],
                              [(str(Address(first)), str(Address(last))) for first, last in ranges])
 
+    @unittest.skipUnless(find_spec("netaddr"), "there is no netaddr")
+    def test_changes_of_sets_of_netaddr(self):
+        import netaddr
+
+        for _ in range(100):
+            ours, theirs = MutableNetworkSet(), netaddr.IPSet()
+            for _ in range(10):
+                name = RANDOM.choice(("add", "remove", "update", "pop", "copy", "clear"))
+                texts = [text for text in (near_text() for _ in range(3)) if text != "any"]
+                if name == "pop":  # theirs is any one
+                    for text in NetworkSet([ours.pop()]).to_strings() if ours else []:
+                        theirs.remove(text)
+                elif name == "copy":
+                    ours, theirs = ours.copy(), theirs.copy()
+                elif name == "clear":
+                    if RANDOM.random() < 0.2:
+                        ours.clear()
+                        theirs.clear()
+                else:
+                    for given in [texts] if name == "update" else texts:
+                        getattr(ours, name)(given)
+                        getattr(theirs, name)(given)
+                networks = map(Network, ours.to_strings())
+                self.assertEqual([network.with_prefixlen for network in networks], list(map(str, theirs.iter_cidrs())))
+
+    @unittest.skipUnless(find_spec("netaddr"), "there is no netaddr")
+    def test_calls_of_netaddr(self):
+        import netaddr
+
+        def shown(networks):
+            return [network.with_prefixlen for network in networks]
+
+        for _ in range(300):
+            outer, address = any_network(8), any_address()
+            length = RANDOM.randint(outer.prefixlen, outer.max_prefixlen)
+            inner = Network((outer[RANDOM.randrange(outer.num_addresses)], length), strict=False)
+            ours, theirs = Network(outer), netaddr.IPNetwork(str(outer))
+            left = netaddr.cidr_exclude(theirs, str(inner))
+            self.assertEqual(shown(ours.address_exclude(inner)), list(map(str, left)))
+            self.assertEqual(shown(ours.subnets(new_prefix=length)), list(map(str, theirs.subnet(length))))
+            for wider in theirs.supernet(RANDOM.randint(0, outer.prefixlen)):
+                self.assertEqual(ours.supernet(new_prefix=wider.prefixlen).with_prefixlen, str(wider))
+            self.assertEqual(ours.num_addresses, theirs.size)
+            if outer.version == 4:
+                self.assertEqual(list(map(str, ours.hosts())), list(map(str, theirs.iter_hosts())))
+                mapped = theirs.ipv6()
+                self.assertEqual(ours.ipv6_mapped, Network(str(mapped)))
+                self.assertEqual(Network(str(mapped)).ipv4_mapped, Network(str(mapped.ipv4())))
+            self.assertEqual(Address(address).reverse_pointer + ".", netaddr.IPAddress(str(address)).reverse_dns)
+            other = any_address()
+            if address.version == other.version and address != other:
+                ends = sorted((address, other))
+                ranges = netaddr.iprange_to_cidrs(*map(str, ends))
+                self.assertEqual(shown(pcidr.summarize_address_range(*ends)), list(map(str, ranges)))
+
+    @unittest.skipUnless(find_spec("netaddr"), "there is no netaddr")
+    def test_look_ups_of_netaddr(self):
+        import netaddr
+
+        for _ in range(300):
+            names = [name for name in {near_text() for _ in range(12)} if name != "any"]
+            table = Table((name, name) for name in names)
+            for asked in {str(Network(near_text().replace("any", "::")).last) for _ in range(6)}:
+                found = [network.with_prefixlen for network, _ in table.covering(asked)]
+                self.assertEqual(found[::-1], list(map(str, netaddr.all_matching_cidrs(asked, names))))
+                row, best = table.lookup(asked), netaddr.smallest_matching_cidr(asked, names)
+                self.assertEqual(row and row[0].with_prefixlen, None if best is None else str(best))
+
     @unittest.skipUnless(find_spec("radix"), "there is no radix")
     def test_radix(self):
         import radix
@@ -742,9 +827,14 @@ class Others(unittest.TestCase):
                 best, found = (theirs.search_best(asked), ours.lookup(asked)) if asked != "any" else (None, None)
                 self.assertEqual(found and found[0].with_prefixlen, best and best.prefix)
                 if asked != "any":
+                    self.assertEqual(ours.get(asked) is None, theirs.search_exact(asked) is None)
                     for name, rows in (("search_covering", ours.covering(asked)), ("search_covered", ours.covered(asked))):
                         found = sorted(network.with_prefixlen for network, _ in rows)
                         self.assertEqual(found, sorted(node.prefix for node in getattr(theirs, name)(asked)))
+            for name in set(names):
+                theirs.delete(name)
+                del ours[name]
+                self.assertEqual({network.with_prefixlen for network in ours}, {node.prefix for node in theirs.nodes()})
 
 
 class Packed(unittest.TestCase):
@@ -779,6 +869,38 @@ class Packed(unittest.TestCase):
             texts, packed = list(map(str, ipv6)), b"".join(address.packed for address in ipv6)
             for given in (packed, bytearray(packed), memoryview(packed).cast("B", [count, 16]) if count else b""):
                 self.same(given, 6, texts)
+
+    @unittest.skipUnless(find_spec("numpy"), "there is no numpy")
+    def test_arrays_of_numpy(self):
+        import numpy
+
+        for count in (0, 1, 5, 300):
+            numbers = numpy.array([0x0A000000 | RANDOM.getrandbits(9) for _ in range(count)], dtype=numpy.uint32)
+            texts, packed = [str(ipaddress.IPv4Address(int(number))) for number in numbers], numbers.astype(">u4")
+            octets = packed.view(numpy.uint8)
+            for given in (numbers, packed, packed.view("S4"), octets, octets.reshape(count, 4)):
+                self.same(given, 4, texts)
+            ipv6 = [ipaddress.IPv6Address(0x20010DB8 << 96 | RANDOM.getrandbits(9)) for _ in range(count)]
+            octets = numpy.frombuffer(b"".join(address.packed for address in ipv6), dtype=numpy.uint8)
+            for given in (octets, octets.reshape(count, 16), octets.view("S16")):
+                self.same(given, 6, list(map(str, ipv6)))
+        table, numbers = Table({"10.0.0.0/8": 1}), numpy.array([0x0A000001, 0x0B000000], dtype=numpy.uint32)
+        self.assertEqual(numpy.asarray(table.lookup_packed(numbers).places).tolist(), [0, -1])
+        with self.assertRaises(TypeError):
+            table.lookup_packed(numpy.zeros(4, dtype=numpy.uint32)[::2])
+
+    def test_no_copy_is_made(self):
+        """Beside the answers, of four bytes each, there is room for some values at a time."""
+        table, given = Table({"10.0.0.0/8": 1}), bytes(4_000_000)
+        table.lookup_packed(given[:4])
+        tracemalloc.start()
+        try:
+            found = table.lookup_packed(given)
+            most = tracemalloc.get_traced_memory()[1]
+        finally:
+            tracemalloc.stop()
+        self.assertEqual(len(found), 1_000_000)
+        self.assertLess(most, found.places.nbytes + 1_000_000)
 
     def test_no_rows_of_octets(self):
         """An array of no addresses, which has a second dimension."""
@@ -847,6 +969,29 @@ class Memory(unittest.TestCase):
         self.assertLess(after[0] - before[0], 50_000)
         self.assertLess(after[1] - before[1], 4_000)
 
+    def test_ten_million_calls(self):
+        """They leave the process as large as it was after the first ones. By `ctypes` they are a million."""
+        table, held = Table({"10.0.0.0/8": 1, "::/0": 2}), NetworkSet(["10.0.0.0/8", "::/64"])
+        address, network, host = Address("2001:db8::1"), Network("10.0.0.0/8"), Host("10.0.0.5/8")
+        table.lookup_each(["::"])
+
+        def turn(count):
+            for _ in range(count):  # of 25 calls
+                Address("10.1.2.3"), Address("2001:db8::1"), Network("10.0.0.0/8"), Host("::5/64"), address.packed
+                network.first, network.last, network.netmask, network.prefixlen, host.ip, host.network, str(address)
+                "10.1.2.3" in network, address in network, address < address, network == network, hash(network)
+                address + 1, int(address), address.is_private, "::1" in held, address in held
+                table.lookup("10.1.2.3"), table.lookup(address)
+                with contextlib.suppress(ValueError):
+                    Address("x")
+
+        turn(2_000)
+        gc.collect()
+        before = resident()
+        turn(400_000 if _kinds.IS_FAST else 40_000)
+        gc.collect()
+        self.assertLess(resident() - before, 4_000)
+
     def test_a_table_in_itself_is_collected(self):
         class Value:
             pass
@@ -859,6 +1004,12 @@ class Memory(unittest.TestCase):
         del table, value
         gc.collect()
         self.assertIsNone(gone())
+
+
+def resident():
+    """How many KiB of memory the process has."""
+    with open("/proc/self/statm", encoding="ascii") as file:
+        return int(file.read().split()[1]) * resource.getpagesize() // 1024
 
 
 def mmap_of(content):
