@@ -5,15 +5,14 @@
 //! value stands without the call that prints it.
 #![tactic(auto)]
 
-mod failure;
 mod parsers;
 mod routes;
 mod written_once;
 
+use anyhow::Result;
 use cidr::{Ipv4Addr, Ipv4Cidr};
-use failure::Failure;
 
-fn main(rt: HostRuntime) -> Result<(), Failure> {
+fn main(rt: HostRuntime) -> Result<()> {
     let network = "192.0.2.48/28".parse::<Ipv4Cidr>()?;
     println!(rt; "{}", network.first_address())?; // 192.0.2.48
     println!(rt; "{}", network.last_address())?; // 192.0.2.63
@@ -27,7 +26,7 @@ fn main(rt: HostRuntime) -> Result<(), Failure> {
 }
 
 /// The topics.
-fn topics(rt: &HostRuntime) -> Result<(), Failure> {
+fn topics(rt: &HostRuntime) -> Result<()> {
     parsers::strict(rt)?;
     parsers::with_names(rt)?;
     routes::both_families(rt)?;

@@ -1,5 +1,4 @@
 //! Strings that are parsed, and what is returned of those that are not.
-use crate::failure::Failure;
 use cidr::errors::NetworkParseError;
 use cidr::parsers::{parse_cidr, parse_cidr_ignore_hostbits};
 use cidr::{AddrParseError, Ipv4Addr, Ipv4Cidr};

@@ -1,9 +1,9 @@
 //! Functions that are written once over all families, by the traits.
-use crate::failure::Failure;
+use anyhow::Result;
 use cidr::{Address, Cidr, Inet, InetPair, IpAddr, IpInet, Ipv4Cidr, Ipv4Inet, Ipv4InetPair};
 
 /// Such functions at types of one family and of either.
-pub fn traits(rt: &HostRuntime) -> Result<(), Failure> {
+pub fn traits(rt: &HostRuntime) -> Result<()> {
     println!(rt; "{}", lower("10.0.0.2".parse::<IpAddr>()?, "::1".parse()?))?; // 10.0.0.2
     println!(rt; "{}", is_at_end("192.0.2.63/28".parse::<IpInet>()?))?; // true
     let network = "10.0.0.0/8".parse::<Ipv4Cidr>()?;
