@@ -4,7 +4,8 @@
 use cidr::{Ipv4Addr, Ipv6Addr};
 use cidr_arrays::{Key, Word};
 use cidr_files::{
-    Fault, Ipv4Bytes, Ipv6Bytes, Rows, Table, WriteError, checked, has, lookup, written,
+    Family, Fault, Ipv4Bytes, Ipv6Bytes, Part, Rows, Table, WriteError, checked, has, lookup,
+    written,
 };
 use std::alloc::{AllocError, Global};
 use std::io;
@@ -113,38 +114,56 @@ fn changes(alloc: Global, file: &[u8]) -> Result<(usize, usize), Failure> {
     Ok((refused, same))
 }
 
-/// Whether the rows of the addresses in and around the networks are the same.
+/// How far before and behind the ends of networks addresses are looked up.
+const REACH: u32 = 62;
+
+/// Whether the rows of 1,000 addresses are the same: of both ends of each network, and of those around them.
 fn have_same_rows(table: &Table<'_>, other: &Table<'_>) -> bool {
     let ipv4 = [
-        Ipv4Addr::new(0, 0, 0, 0),
-        Ipv4Addr::new(9, 255, 255, 255),
         Ipv4Addr::new(10, 0, 0, 0),
-        Ipv4Addr::new(10, 0, 255, 255),
+        Ipv4Addr::new(10, 255, 255, 255),
         Ipv4Addr::new(10, 1, 0, 0),
         Ipv4Addr::new(10, 1, 255, 255),
-        Ipv4Addr::new(10, 2, 0, 0),
-        Ipv4Addr::new(10, 255, 255, 255),
-        Ipv4Addr::new(11, 0, 0, 0),
-        Ipv4Addr::new(192, 0, 1, 255),
         Ipv4Addr::new(192, 0, 2, 0),
         Ipv4Addr::new(192, 0, 2, 255),
-        Ipv4Addr::new(192, 0, 3, 0),
-        Ipv4Addr::new(255, 255, 255, 255),
     ];
     let ipv6 = [
-        Ipv6Addr::new(0, 0, 0, 0, 0, 0, 0, 0),
-        Ipv6Addr::new(0x2001, 0xdb7, 0xffff, 0, 0, 0, 0, 0),
         Ipv6Addr::new(0x2001, 0xdb8, 0, 0, 0, 0, 0, 0),
-        Ipv6Addr::new(0x2001, 0xdb8, 0xffff, 0, 0, 0, 0, 0),
-        Ipv6Addr::new(0x2001, 0xdb9, 0, 0, 0, 0, 0, 0),
+        Ipv6Addr::new(
+            0x2001, 0xdb8, 0xffff, 0xffff, 0xffff, 0xffff, 0xffff, 0xffff,
+        ),
     ];
-    ipv4.iter().all(|&address| ipv4_row(table, address) == ipv4_row(other, address))
-        && ipv6.iter().all(|&address| has_ipv6(table, address) == has_ipv6(other, address))
+    ipv4.iter().all(|&end| have_same_ipv4_rows(table, other, end))
+        && ipv6.iter().all(|&end| have_same_ipv6_rows(table, other, end))
+}
+
+/// Whether the rows of an IPv4 address and of those around it are the same.
+fn have_same_ipv4_rows(table: &Table<'_>, other: &Table<'_>, end: Ipv4Addr) -> bool {
+    let first = end.to_bits().wrapping_sub(REACH);
+    for step in 0..=2 * REACH {
+        let address = first.wrapping_add(step).to_le_bytes();
+        if row(&table.ipv4, address) != row(&other.ipv4, address) {
+            return false;
+        }
+    }
+    true
+}
+
+/// The same in IPv6.
+fn have_same_ipv6_rows(table: &Table<'_>, other: &Table<'_>, end: Ipv6Addr) -> bool {
+    let first = end.to_bits().wrapping_sub(u128::from(REACH));
+    for step in 0..=2 * REACH {
+        let address = Ipv6Bytes::of(first.wrapping_add(u128::from(step)));
+        if row(&table.ipv6, address) != row(&other.ipv6, address) {
+            return false;
+        }
+    }
+    true
 }
 
 /// The row of the longest network that an address is in.
-fn ipv4_row(table: &Table<'_>, address: Ipv4Addr) -> Option<usize> {
-    let (row, _name) = lookup(&table.ipv4, address.to_bits().to_le_bytes())?;
+fn row<W: Family>(part: &Part<'_>, address: W) -> Option<usize> {
+    let (row, _name) = lookup(part, address)?;
     Some(row)
 }
 
