@@ -307,7 +307,10 @@ rows_of_ranges() {
     run 0 $'10.0.0.0\n10.0.0.7\n' '' '10.0.0.1-10.0.0.6' minus eight_addresses -
     run 2 '' $'-:1: 10.0.0.0/31: invalid IP address syntax\n' '10.0.0.0/31-10.0.0.6' merge
     run 2 '' $'-:1: 10.0.0.6/32: invalid IP address syntax\n' '10.0.0.1-10.0.0.6/32' merge
-    run 2 '' $'-:1: 10.0.0.1 : invalid IP address syntax\n' '10.0.0.1 - 10.0.0.6' merge
+    run 0 $'10.0.0.1\n10.0.0.2/31\n10.0.0.4/31\n10.0.0.6\n' '' '10.0.0.1 - 10.0.0.6' merge
+    run 0 $'10.0.0.1-10.0.0.6\n::1-::2\n' '' '10.0.0.1\t -10.0.0.6\n::1-  ::2 # two' ranges
+    run 2 '' $'-:1: 10.0.0.x: invalid IP address syntax\n' '10.0.0.1 - 10.0.0.x' merge
+    run 2 '' $'-:1: 10.0.0.1 10.0.0.2: invalid IP address syntax\n' '10.0.0.1 10.0.0.2 - 10.0.0.6' merge
     run 2 '' $'-:1: 10.0.0.2-10.0.0.3: invalid IP address syntax\n' '10.0.0.1-10.0.0.2-10.0.0.3' merge
     run 2 '' $'-:1: : invalid IP address syntax\n' '10.0.0.1-' merge
     run 2 '' $'-:1: : invalid IP address syntax\n' '-' merge
@@ -608,11 +611,11 @@ rows_of_logs() {
 
 # The commands on one host or network.
 rows_of_one_network() {
-    run 0 $'network 192.0.2.0/24\nfirst 192.0.2.0\nlast 192.0.2.255\nmask 255.255.255.0\nhostmask 0.0.0.255\nlength 24\nfamily IPv4\nusable 192.0.2.1-192.0.2.254\nname 7.2.0.192.in-addr.arpa\n' \
+    run 0 $'network 192.0.2.0/24\nfirst 192.0.2.0\nlast 192.0.2.255\nmask 255.255.255.0\nhostmask 0.0.0.255\nlength 24\nfamily IPv4\nusable 192.0.2.1-192.0.2.254\nname 7.2.0.192.in-addr.arpa\nclass 192.0.2.0/24 Documentation RFC5737 not-global 2025-05\n' \
         '' '' show 192.0.2.7/24
-    run 0 $'network ::1\nfirst ::1\nlast ::1\nmask ffff:ffff:ffff:ffff:ffff:ffff:ffff:ffff\nhostmask ::\nlength 128\nfamily IPv6\nusable ::1\nname 1.0.0.0.0.0.0.0.0.0.0.0.0.0.0.0.0.0.0.0.0.0.0.0.0.0.0.0.0.0.0.0.ip6.arpa\n' \
+    run 0 $'network ::1\nfirst ::1\nlast ::1\nmask ffff:ffff:ffff:ffff:ffff:ffff:ffff:ffff\nhostmask ::\nlength 128\nfamily IPv6\nusable ::1\nname 1.0.0.0.0.0.0.0.0.0.0.0.0.0.0.0.0.0.0.0.0.0.0.0.0.0.0.0.0.0.0.0.ip6.arpa\nclass ::1 Loopback RFC4291 not-global 2025-05\n' \
         '' '' show ::1
-    run 0 $'network 10.0.0.2/31\nfirst 10.0.0.2\nlast 10.0.0.3\nmask 255.255.255.254\nhostmask 0.0.0.1\nlength 31\nfamily IPv4\nusable 10.0.0.2-10.0.0.3\nname 3.0.0.10.in-addr.arpa\n' \
+    run 0 $'network 10.0.0.2/31\nfirst 10.0.0.2\nlast 10.0.0.3\nmask 255.255.255.254\nhostmask 0.0.0.1\nlength 31\nfamily IPv4\nusable 10.0.0.2-10.0.0.3\nname 3.0.0.10.in-addr.arpa\nclass 10.0.0.0/8 Private-Use RFC1918 not-global 2025-05\n' \
         '' '' show 10.0.0.3/31
     run 2 '' $'192.0.2.7/33: invalid length for network: Network length 33 is too long for Ipv4 (maximum: 32)\n' '' show 192.0.2.7/33
     run 0 $'192.0.2.0/26\n192.0.2.64/26\n192.0.2.128/26\n192.0.2.192/26\n' '' '' split 192.0.2.0/24 26
