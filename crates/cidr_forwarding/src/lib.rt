@@ -2,9 +2,9 @@
 //!
 //! A table forwards an address to the value of the longest network that it is in. [`forwards_same`] tells whether two
 //! tables give each address the same value, and [`SmallestTable`] has the calls of `LpmTable` that make a table of the
-//! fewest rows with the same forwarding, as routers want it (FIB compression): with as many values as before or fewer,
-//! and no list of rows with that forwarding is shorter, whatever its order and its networks (Draves, King,
-//! Venkatachary and Zill, "Constructing Optimal IP Routing Tables", INFOCOM 1999).
+//! fewest rows with the same forwarding, as routers want it (FIB compression): no list of rows with that forwarding is
+//! shorter, whatever its order and its networks (Draves, King, Venkatachary and Zill, "Constructing Optimal IP Routing
+//! Tables", INFOCOM 1999).
 //!
 //! ```
 //! routes.set("192.0.2.0/25".parse()?, 3)?;
