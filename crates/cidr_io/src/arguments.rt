@@ -31,6 +31,7 @@ pub trait Arguments {
 /// The arguments that the system has given, which nothing is told of.
 #[derive(Clone, Copy)]
 pub struct Given<'a, R: Env> {
+    /// The system.
     pub system: &'a R,
 }
 

@@ -257,7 +257,8 @@ impl<S: Source + Drop> LineReader<S> {
     /// behind the last line feed too, where that line may be empty. Behind the last line are only empty ones.
     ///
     /// It takes time in the length of the line, also of one that is too long. The errors are `Failed` where a read of
-    /// the source fails, and `NoMemory`, which `memory` remembers. After an error the reader is at no line.
+    /// the source fails, and `NoMemory`, which `memory` remembers. After an error the reader is at no line, and what it
+    /// reads next is not told.
     pub fn read_line<M: Memory>(&mut self, memory: &mut M) -> Result<bool, ReadError>
         ensures line { IfOk result (λ more. IfSome self.old.left
             (λ text. IsNextLine text self.new.line more self.new.left)) }
@@ -300,7 +301,8 @@ impl<S: Source + Drop> LineReader<S> {
         &self.block[self.start..self.stop]
     }
 
-    /// Whether a whole line is read already behind this one, so that nothing is read for it.
+    /// Whether a whole line is read already behind this one, so that nothing is read for it. No contract says when that
+    /// is: what is made of lines has to be the same either way.
     pub fn has_line(&self) -> bool {
         self.ahead.is_some()
     }
