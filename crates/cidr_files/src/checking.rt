@@ -12,8 +12,9 @@ use crate::opening::open;
 use cidr_arrays::{Index, Key, Word};
 use std::alloc::{AllocError, Global};
 
-/// The tables of a file, by [`open`] and by [`check`](crate::check) of both: one pass over its bytes, and the memory of
-/// a check. The error is the first of those that [`Fault`] names, in its order.
+/// The tables of a file, by [`open`] and by [`check`](crate::check) of both, in the time and memory of these. The error
+/// is the first of those that [`Fault`] names, in its order, but that `NoMemory` of a table may come before what else is
+/// wrong with it.
 ///
 /// ```
 /// let table = checked(rt.alloc(), file.as_slice())?;

@@ -26,7 +26,8 @@ pub trait Family: Word {
     /// How many these are.
     ghost size: { ℕ };
 
-    /// The addresses that bytes are, 4 or 16 bytes each. Bytes at the end that are too few for one are left out.
+    /// The addresses that bytes are, 4 or 16 bytes each, where they lie: nothing is copied. Bytes at the end that are too
+    /// few for one are left out.
     fn addresses(bytes: &[u8]) -> &[Self]
         ensures { map Self.value result.now ≡ numbers bytes.now };
 

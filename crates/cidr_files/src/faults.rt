@@ -3,14 +3,14 @@
 use cidr_arrays::BuildError;
 use std::alloc::AllocError;
 
-/// What is wrong with a table: the first thing.
+/// What is wrong with a table: the first thing, or that there was no memory to see.
 #[derive(Debug, Drop, PartialEq)]
 pub enum TableFault {
     /// The keys, the ranges or the first level.
     Arrays(cidr_arrays::Fault),
     /// The values don't lie one behind the other, or there are not as many as keys.
     Offsets,
-    /// There was no memory to check it; it may be right or wrong.
+    /// There was no memory to check it: it may be right or wrong, in whatever way.
     NoMemory,
 }
 
@@ -25,13 +25,13 @@ pub enum Fault {
     Short,
     /// It is longer than its header says.
     Long,
-    /// The table of IPv4 networks is none, and this is why.
+    /// The table of IPv4 networks is none, and this is why, or there was no memory to see.
     Ipv4(TableFault),
-    /// The table of IPv6 networks is none, and this is why; that of IPv4 networks is right.
+    /// The same of the table of IPv6 networks; that of IPv4 networks is right.
     Ipv6(TableFault),
 }
 
-/// Why no file was made.
+/// Why no file was made; [`written`](crate::written) says what comes first.
 #[derive(Debug, Drop, PartialEq)]
 pub enum WriteError {
     /// The keys are too many, or the key at an index is refused: `NoRoom` is never told.

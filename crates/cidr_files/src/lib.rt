@@ -2,7 +2,7 @@
 //!
 //! A file has a table of IPv4 networks and one of IPv6 networks, each row with a value of any bytes. [`open`] reads the
 //! header and cuts the bytes into parts, [`check`] says whether these are a table, and [`lookup`] reads some of their
-//! bytes. README.md describes a file to the byte.
+//! bytes. [`written`] makes the bytes of a file. README.md describes them.
 #![tactic(auto)]
 
 mod arrays;

@@ -25,8 +25,8 @@ pub struct Found {
 /// The row of the longest network that an address is in, and its value; `None` where it is in none: the longest match of a
 /// forwarding table (RFC 1812, 5.2.4.3).
 ///
-/// Whatever the bytes are, it reads nothing outside of them, and the row is one of them. It is the longest match in parts
-/// that [`check`](crate::check) accepted.
+/// Whatever the bytes are, it reads nothing outside of them, and the row, counted from 0, is one of them. It is the
+/// longest match, and the value that of its row, in parts that [`check`](crate::check) accepted.
 ///
 /// It takes one search among the ranges that the first level leaves, O(log r) for r of them, and allocates nothing.
 ///
@@ -50,8 +50,8 @@ pub fn lookup<'a, W: Family>(part: &Part<'a>, address: W) -> Option<(usize, &'a 
     ))
 }
 
-/// What [`lookup`] finds, with the place of the value among the values in place of its bytes. In parts that are no
-/// table the place is inside of the values, too.
+/// What [`lookup`] finds, in its time, with the place of the value among the values in place of its bytes. In parts that
+/// are no table the place is inside of the values, too.
 #[inline(always)]
 pub fn find<W: Family>(part: &Part<'_>, address: W) -> Option<Found>
     ensures within { IfSome result (λ found. found.row < length (stored_networks W.numbers (parts_in part.now))) }

@@ -46,7 +46,7 @@ pub fn open(bytes: &[u8]) -> Result<Table<'_>, Fault>
 }
 
 /// The counts of the IPv4 table and of the IPv6 table, as the header of a file has them: what is behind the end counts
-/// as 0. Whether the bytes are a file is for [`open`].
+/// as 0. Whether the bytes are a file is for [`open`]. A few reads, and no allocation.
 pub fn counts(bytes: &[u8]) -> (Counts, Counts)
     ensures ipv4 { result.0 ≡ ipv4_counts bytes.now }
     ensures ipv6 { result.1 ≡ ipv6_counts bytes.now }
