@@ -138,7 +138,7 @@ fn rest_at(column: Column, line: &[u8]) -> &[u8]
 }
 
 /// The field of a column, without white space at both ends; empty in a line of fewer fields. With `Separator::Byte(b',')`
-/// the field at place 1 of `a, 192.0.2.1 ,b` is `192.0.2.1`.
+/// the field at place 1 of `a, 192.0.2.1 ,b` is `192.0.2.1`. A comment sign is a byte like any other.
 pub fn field_at(column: Column, line: &[u8]) -> &[u8]
     ensures { IsFieldOf column line.now result.now }
 {
@@ -171,7 +171,7 @@ pub fn split_line(line: &[u8]) -> Option<(&[u8], &[u8])>
     Some(parts)
 }
 
-/// Whether a field is empty or begins a comment, by `#` or `;`.
+/// Whether a field is empty or begins a comment, by `#` or `;`. One with white space in front says something.
 pub fn says_nothing(field: &[u8]) -> bool
     ensures { Decides result (SaysNothing field.now) }
 {
@@ -196,7 +196,8 @@ pub fn split_row(line: &[u8]) -> Option<(&[u8], &[u8])>
 }
 
 /// The network that a field is, or with `HostBits::Cleared` that of the host that it is; an address is one too, and a
-/// range is none. The errors are `NotUtf8`, and then `NoNetwork` with the first error of parsing it.
+/// range is none, nor is a field with white space at an end. The errors are `NotUtf8`, and then `NoNetwork` with the
+/// first error of parsing it.
 pub fn network_in(host_bits: HostBits, field: &[u8]) -> Result<IpCidr, LineError>
     ensures { MatchResult result (IsNetworkBy host_bits field.now) (IsNoNetworkField host_bits field.now) }
 {
@@ -209,7 +210,8 @@ pub fn network_in(host_bits: HostBits, field: &[u8]) -> Result<IpCidr, LineError
     }
 }
 
-/// The address that a field is. The errors are `NotUtf8`, and then `NoAddress`.
+/// The address that a field is; one with white space at an end or a prefix length is none. The errors are `NotUtf8`, and
+/// then `NoAddress`.
 pub fn address_in(field: &[u8]) -> Result<IpAddr, LineError>
     ensures { MatchResult result (IsIpText field.now) (IsNoAddressField field.now) }
 {

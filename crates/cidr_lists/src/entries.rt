@@ -81,7 +81,8 @@ fn is_plain(text: &str, host: &IpInet) -> bool
 /// The entry that a line has: what stands before its comment, without white space at both ends, as a network or a host.
 /// `None` for a line that is blank or a comment alone. A range is in error here.
 ///
-/// The errors are `NotUtf8`, and then `NoNetwork` with the first error of parsing a host.
+/// The errors are `NotUtf8`, and then `NoNetwork` with the first error of parsing a host. A line of more than 1 MiB is
+/// for the caller to find.
 pub fn entry_of<'a>(place: Place<'a>, line: &[u8]) -> Result<Option<Entry<'a>>, LineError>
     ensures { ReadsEntry place.entry.file.now place.entry.number line.now result }
 {

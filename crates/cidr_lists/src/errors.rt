@@ -95,7 +95,7 @@ pub enum LineError {
     NoField,
     /// Its field is not UTF-8: its beginning, as it is shown.
     NotUtf8(ArrayString<42>),
-    /// Its field is neither a network nor an address: the error of parsing it.
+    /// Its field is no network and no address, or for an entry no host: the error of parsing it.
     NoNetwork(BadText, NetworkParseError),
     /// Its first field, or an end of its range, is no address: the error of parsing it.
     NoAddress(BadText, AddrParseError),

@@ -147,8 +147,9 @@ pub enum Kind {
     Half,
 }
 
-/// The finding of a kind in a line, near whose network this stands, or `None` where there is none of that kind. The
-/// caller has to prove that `near` is what `near_at` gave for the line, among the same lines.
+/// The finding of a kind in a line, near whose network this stands, or `None` where there is none of that kind, in
+/// constant time. `index` is that of the line among the lines, counted from 0. The caller has to prove that `near` is
+/// what `near_at` gave for the line, among the same lines.
 pub fn find<'a>(
     kind: Kind,
     entries: &[Entry<'a>],

@@ -45,6 +45,7 @@ pub enum Format {
 /// A format, and two strings for [`Format::Plain`]; the others do without them.
 #[derive(Clone, Copy, Debug)]
 pub struct Style<'a> {
+    /// What the sets are printed for.
     pub format: Format,
     /// In front of each network.
     pub prefix: &'a str,
@@ -544,7 +545,7 @@ pub fn formats() -> &'static [Format]
     &FORMATS
 }
 
-/// The format of a name, or `None` where there is none.
+/// The format of a name, in lower case as `format_name` has it, or `None` where there is none.
 pub fn format_of(name: &str) -> Option<Format>
     ensures { result ≡ format_of name.now }
 {

@@ -38,9 +38,9 @@ pub enum Content {
     Blank,
     /// A network, or an address.
     Network(IpCidr),
-    /// The IPv4 addresses from a first to a last one.
+    /// The IPv4 addresses from a first to a last one, both included.
     Ipv4Range(Ipv4Addr, Ipv4Addr),
-    /// The IPv6 addresses from a first to a last one.
+    /// The IPv6 addresses from a first to a last one, both included.
     Ipv6Range(Ipv6Addr, Ipv6Addr),
 }
 

@@ -266,8 +266,8 @@ pub fn near_lines(alloc: Global, entries: &[Entry<'_>]) -> Result<Vec<Near>, All
     Ok(near)
 }
 
-/// What stands near the network of the line at an index, which is kept for the first line of the network. The caller
-/// has to prove that `near` is what `near_lines` gave of these lines, and that the index is below their number.
+/// What stands near the network of the line at an index, which is kept for the first line of the network: two reads. The
+/// caller has to prove that `near` is what `near_lines` gave of these lines, and that the index is below their number.
 pub fn near_at(near: &[Near], entries: &[Entry<'_>], index: usize) -> Near
     requires near { AreNear (map entry_network entries.now) near.now }
     requires within { index < length entries.now }

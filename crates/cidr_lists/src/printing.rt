@@ -88,7 +88,8 @@ impl PrintedAddress for Ipv6Cidr {
     }
 }
 
-/// The network of the first bits of an address, as it is printed.
+/// The network of the first `len` bits of an address, as it is printed, without a full prefix length; of the address
+/// itself where `len` is above its width.
 pub fn block_text(address: &IpAddr, len: u8) -> ArrayString<43>
     ensures bytes { result.bytes ≡ plain_text (address_family address.now) (take len (plain_bits address.now)) }
     ensures len { length result.bytes ≤ 43 }

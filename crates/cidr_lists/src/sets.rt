@@ -145,8 +145,8 @@ impl Sets {
         })
     }
 
-    /// The addresses of each family that the sets have not: where there are none, all of that family. The error is that
-    /// there is no memory.
+    /// The addresses of each family that the sets have not: where there are none, all of that family. It takes the time
+    /// and memory of `complement_in` of `NetworkSet`. The error is that there is no memory.
     pub fn complement(&self) -> Result<Sets, AllocError>
         ensures { IfOk result (λ sets. (family : Family)
             → IsSetOf 129 (λ a. ¬ (IsInSets self.now family a)) (networks_of sets family)) }

@@ -171,7 +171,7 @@ impl Sets {
     }
 
     /// What is printed of the addresses in this form, as bytes: a line for each network or range, those of IPv4 first,
-    /// or the lines `IPv4 COUNT` and `IPv6 COUNT`. The error is that an allocation fails.
+    /// or the lines `IPv4 COUNT` and `IPv6 COUNT`. It looks at each network once. The error is that an allocation fails.
     pub fn to_text(&self, alloc: Global, form: Form) -> Result<Vec<u8>, AllocError>
         ensures { IfOk result (λ text. IsPrinted form (networks_of self.now) text.items) }
     {
