@@ -83,6 +83,7 @@ pub enum Command<'a> {
 /// How lists are read.
 #[derive(Clone, Copy, Debug, Drop, PartialEq)]
 pub struct Reading {
+    /// What is done with a set bit after the prefix of a network.
     pub host_bits: HostBits,
     /// Whether reading goes on behind a line in error, to tell others too.
     pub keeps_going: bool,

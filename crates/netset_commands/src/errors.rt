@@ -60,6 +60,7 @@ pub enum Misfit {
 pub struct Misuse<'a> {
     /// The first word that is wrong, or the name of what is missing.
     pub word: &'a str,
+    /// What is wrong with it.
     pub why: Misfit,
     /// The name of the command, or nothing where there is none.
     pub command: &'a str,
@@ -112,7 +113,7 @@ pub enum ArgumentError {
     Same,
 }
 
-/// Why a file of look-ups is not written, or not read.
+/// Why a file is not written, or one of look-ups not read.
 #[derive(Clone, Copy, Debug, Drop, PartialEq)]
 pub enum FileError {
     /// The table has 2^31 networks of a family or more, or values of 2^32 bytes or more.
@@ -131,21 +132,22 @@ pub enum FileError {
     Changed,
 }
 
-/// Why a command gave no answer.
+/// Why a command gave no answer. But for a failed output nothing was written, or, by those that answer line by line, as
+/// `match`, `look` and `class` do, what belongs to the lines before.
 #[derive(Debug, Drop)]
 pub enum CommandError<'a> {
-    /// The first argument that is wrong, and why; nothing was written.
+    /// The first argument that is wrong, and why.
     Argument(&'a str, ArgumentError),
-    /// The first line in error of this file, from 1 on; nothing was written, but by `match` and `look` lines before it.
+    /// The first line in error of this file, from 1 on.
     Line(&'a str, u64, LineError),
-    /// This file can't be read, and why; nothing was written, but by `match` and `look` lines before.
+    /// This file can't be read, and why.
     Input(&'a str, Reason),
-    /// There is no memory; nothing was written, but by `match` and `look` lines before.
+    /// There is no memory.
     NoMemory,
     /// The output has failed; a beginning of the answer was written.
     Output,
-    /// No file of look-ups is written, since the table of this name doesn't fit in one, or the file of this name can't
-    /// be written; or the file of this name begins as one and is none. Nothing was written.
+    /// No file is written, since the table of this name doesn't fit in one of look-ups, or the file of this name can't be
+    /// written; or the file of this name begins as one of look-ups and is none.
     File(&'a str, FileError),
 }
 

@@ -405,11 +405,12 @@ fn answer_arguments<M: Memory, A: Arguments, F: Files, D: Folder, O: Output, E: 
 }
 
 /// Answers the arguments on `out`, writes the line that belongs to the answer, if there is one, to `err`, and returns
-/// the exit status: 0 for an answer, 1 for none, no or findings, 2 for usage, a file that can't be read and a line in error, 3 where the output
-/// failed or there is no memory. Where nobody reads the output any more, there is no such line. The file of `compile` is
-/// written to `folder`, and with `-o` an answer in place of `out`, and nothing else.
+/// the exit status: 0 for an answer, 1 for none, no or findings, 2 for arguments, files and lines in error, 3 where the
+/// output failed, a file can't be written, or there is no memory. Where nobody reads the output any more, there is no
+/// such line. The file of `compile` is written to `folder`, and with `-o` an answer in place of `out`, and nothing else.
 ///
-/// The contract says twice what is written: in short where the status is 0 or 1 (`answers`), and with all errors (`runs`).
+/// The contract says twice what is written to `out` and `err`: in short where the status is 0 or 1 (`answers`), and with
+/// all errors (`runs`). `leaves` says what is written to `folder`.
 pub fn program<M: Memory, A: Arguments, F: Files, D: Folder, O: Output, E: Sink>(
     memory: &mut M,
     arguments: &A,

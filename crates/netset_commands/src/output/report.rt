@@ -220,8 +220,9 @@ fn status_of(error: &CommandError<'_>) -> u8
 }
 
 /// Writes the line that belongs to an answer, if there is one, and returns the exit status whatever the sink does: 0
-/// for an answer, 1 for none, no or findings, 2 for usage, a file that can't be read and a line in error, 3 where the output failed or there is no
-/// memory. An output that failed is told unless it is closed: nobody reads it any more.
+/// for an answer, 1 for none, no or findings, 2 for arguments, files and lines in error, 3 where the output failed, a
+/// file can't be written, or there is no memory. An output that failed is told unless it is closed: nobody reads it any
+/// more.
 pub fn report<E: Sink>(answer: &Result<Verdict, CommandError<'_>>, closed: bool, err: &mut E) -> u8
     ensures status { result ≡ status_of answer.now }
     ensures says { Reports closed answer.now (E.state err.old) (E.state err.new) }
