@@ -102,7 +102,7 @@ finding_text (Mergeable place) = codes "mergeable with " ++ place_text place
 abbrev pub note_line : Note → List ℕ
 note_line note = place_text note.place ++ (codes ": " ++ line (finding_text note.finding))
 
--- ---- what private functions promise
+-- ---- what `find` and private functions promise
 -- of the findings of this rank none holds, or only this one
 abbrev pub IsOnly : (Finding → Type 0) → ℕ → Option Finding → Type 0
 IsOnly Holds place None = (f : Finding) → rank f ≡ place → ¬ (Holds f)
