@@ -20,7 +20,8 @@ pub fn family_name(family: Family) -> &'static str
     }
 }
 
-/// The addresses that hosts may have of a network: `192.0.2.1-192.0.2.254` of `192.0.2.0/24`, or the only one, or `none`.
+/// The addresses that hosts may have of a network, which has one at least: `192.0.2.1-192.0.2.254` of `192.0.2.0/24`, or
+/// the only one.
 pub fn usable_text(network: &IpCidr) -> ArrayString<79>
     ensures { result.bytes ≡ range_text (usable_of (network_family network.now) (network_prefix network.now)) }
 {
@@ -87,7 +88,7 @@ fn ipv6_masks(len: u8) -> ArrayString<80>
     }
 }
 
-/// The masks of a prefix length in each family that has it, a line each, IPv4 before IPv6.
+/// The masks of a prefix length in each family that has it, a line each, IPv4 before IPv6: no line of one above 128.
 pub fn length_lines(len: u8) -> ArrayString<160>
     ensures { result.bytes ≡ length_lines len }
 {
