@@ -1274,4 +1274,9 @@ if ! NETSET=$program beside/compare 25 >"$room/compared"; then
     cat "$room/compared" >&2
     differs=1
 fi
+# What people who run networks do with it, beside what does it today.
+if ! beside/jobs "$program" >"$room/done"; then
+    cat "$room/done" >&2
+    differs=1
+fi
 exit "$differs"
