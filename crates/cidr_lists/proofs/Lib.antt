@@ -7,6 +7,7 @@ pub mod Found
 pub mod Hosts
 pub mod KeptNear
 pub mod LineFeeds
+pub mod MaskedTexts
 pub mod Merged
 pub mod Nested
 pub mod NumberedRows

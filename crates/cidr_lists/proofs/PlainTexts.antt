@@ -28,11 +28,12 @@ use Rattle.cidr.proofs.Cuts.{Lacks-append, Lacks-cons, Lacks-digits, Lacks-lengt
 use Rattle.cidr.proofs.Ipv4Grammar.{Lacks-joined, Lacks-octet}
 use Rattle.cidr_lists.specs.Fields.{FieldSays, HasFields, IsSplit, begins_comment, field_at}
 use Rattle.cidr_lists.specs.Lists.{IsField, IsNetworkBy, hyphen, is_comment_sign}
+use Rattle.cidr_lists.specs.Reading.{without_masks}
 use Rattle.cidr_lists.specs.declared.columns.Column.{Column}
 use Rattle.cidr_lists.specs.declared.columns.Separator.{Separator}
 use Rattle.cidr_lists.specs.declared.columns.Separator.TheVariants.{WhiteSpace}
 use Rattle.cidr_lists.specs.declared.lines.HostBits.{HostBits}
-use Rattle.cidr_lists.specs.declared.lines.HostBits.TheVariants.{Refused, Cleared}
+use Rattle.cidr_lists.specs.declared.lines.HostBits.TheVariants.{Refused, Cleared, RefusedWithMasks, ClearedWithMasks}
 use Rattle.cidr_lists.proofs.LineFeeds.{uncut}
 
 -- a byte that is no digit, dot, colon, slash or plus
@@ -97,10 +98,13 @@ module _ (c : ℕ) (far : 16 ≤ digit_value c) (no_dot : dot ≢ c) (no_colon :
   lacks_host text (host.V4 h) is = lacks_host_of Ipv4 text h is
   lacks_host text (host.V6 h) is = lacks_host_of Ipv6 text h is
 
-  lacks_network : (bits : HostBits) (text : List ℕ) (network : IpCidr) → IsNetworkBy bits text network → Lacks c text
+  lacks_network : (bits : HostBits) (text : List ℕ) (network : IpCidr) → IsNetworkBy (without_masks bits) text network → Lacks c text
   lacks_network Refused text (V4 p) h = lacks_by_family Ipv4 text p h
   lacks_network Refused text (V6 p) h = lacks_by_family Ipv6 text p h
   lacks_network Cleared text network (h, is, same) = lacks_host text h is
+  lacks_network RefusedWithMasks text (V4 p) h = lacks_by_family Ipv4 text p h
+  lacks_network RefusedWithMasks text (V6 p) h = lacks_by_family Ipv6 text p h
+  lacks_network ClearedWithMasks text network (h, is, same) = lacks_host text h is
 
 -- bytes that begin no comment, and are no white space
 no_sign : (b : ℕ) → b ≢ 35 → b ≢ 59 → is_comment_sign b ≡ false
@@ -133,12 +137,19 @@ nothing_trimmed = (
   λ some. absurd (omega (arith, some)),
 )
 
--- a network is its line's field
-module _ (bits : HostBits) (line : List ℕ) (network : IpCidr) (is : IsNetworkBy bits line network) where
+-- what is a network without masks is one with them
+pub with_masks : (bits : HostBits) (text : List ℕ) (network : IpCidr) → IsNetworkBy (without_masks bits) text network → IsNetworkBy bits text network
+with_masks Refused text network h = h
+with_masks Cleared text network h = h
+with_masks RefusedWithMasks text network h = inl h
+with_masks ClearedWithMasks text network (host, is, same) = (host, inl is, same)
+
+-- a network without a mask is its line's field
+module _ (bits : HostBits) (line : List ℕ) (network : IpCidr) (is : IsNetworkBy (without_masks bits) line network) where
   lacks : (c : ℕ) → 16 ≤ digit_value c → dot ≢ c → colon ≢ c → slash ≢ c → plus ≢ c → Lacks c line
   lacks c far no_dot no_colon no_slash no_plus = lacks_network c far no_dot no_colon no_slash no_plus bits line network is
 
-  unspaced : (i : ℕ) → i < length line → is_ascii_whitespace (slice_index_or line i 0) ≡ false
+  pub unspaced : (i : ℕ) → i < length line → is_ascii_whitespace (slice_index_or line i 0) ≡ false
   unspaced i within =
       no_space (slice_index_or line i 0)
       (lacks 9 (omega arith) (omega arith) (omega arith) (omega arith) (omega arith) i within)

@@ -6,7 +6,7 @@ use Rattle.std.proofs.lemmas.Grind.{get_or_default_zero}
 use Rattle.std.proofs.lemmas.List.{take_all, take_at}
 use Rattle.std.proofs.lemmas.List.Concat.{flat_map-append}
 use Rattle.std.proofs.lemmas.List.Splits.{slice_split_at}
-use Rattle.cidr.specs.either.IpHost.{host_network}
+use Rattle.cidr.specs.either.IpHost.{host_at, host_network}
 use Rattle.cidr.specs.model.Host.{first_host}
 use Rattle.cidr.specs.model.Network.{width_of, zeros}
 use Rattle.cidr.specs.texts.Printed.{plain_text}
@@ -25,12 +25,14 @@ use Rattle.cidr_table.proofs.MapLaws.{contains_first, contains_later}
 use Rattle.cidr_lists.specs.Lists.{IsContent, IsNetworkBy, IsTooLong, LineSays, ListSays, hyphen, is_line_feed, kept_of, lines_of, most_bytes, line_networks, networks_in, text_by, AreContentNetworks as AreOfContent}
 use Rattle.cidr_lists.specs.Printing.{line}
 use Rattle.cidr_lists.specs.ReadBack.{AreOfFamilies, SaysJust}
+use Rattle.cidr_lists.specs.Reading.{without_masks}
 use Rattle.cidr_lists.specs.Sets.{printed_networks, printed_sets}
 use Rattle.cidr_lists.specs.declared.lines.Content.{Content}
 use Rattle.cidr_lists.specs.declared.lines.Content.TheVariants.{Blank, Network, Ipv4Range, Ipv6Range}
 use Rattle.cidr_lists.specs.declared.lines.HostBits.{HostBits}
-use Rattle.cidr_lists.specs.declared.lines.HostBits.TheVariants.{Refused, Cleared}
-use Rattle.cidr_lists.proofs.PlainTexts.{is_field, no_feed, no_hyphen, one_field, one_trim}
+use Rattle.cidr_lists.specs.declared.lines.HostBits.TheVariants.{Refused, Cleared, RefusedWithMasks, ClearedWithMasks}
+use Rattle.cidr_lists.proofs.MaskedTexts.{network_again, no_mask_host, no_mask_network, one_masked}
+use Rattle.cidr_lists.proofs.PlainTexts.{is_field, no_feed, no_hyphen, one_field, one_trim, with_masks}
 use Rattle.cidr_lists.proofs.ShortTexts.{cut_nothing, empty_network, plain_not_long}
 
 -- a network of a family
@@ -42,34 +44,53 @@ of_family Ipv6 p = V6 p
 same_again : (w : ℕ) (p : List Bool) → take (length p) (p ++ zeros (w - length p)) ≡ p
 same_again w p = take_at p (zeros (w - length p)) (length p) refl
 
-plain_is : (bits : HostBits) (family : Family) (p : List Bool) → length p ≤ width_of family → IsNetworkBy bits (plain_text family p) (of_family family p)
+plain_is : (bits : HostBits) (family : Family) (p : List Bool) → length p ≤ width_of family
+    → IsNetworkBy (without_masks bits) (plain_text family p) (of_family family p)
 plain_is Refused Ipv4 p fits = network_plain Ipv4 p fits
 plain_is Refused Ipv6 p fits = network_plain Ipv6 p fits
 plain_is Cleared Ipv4 p fits =
     (host.V4 (first_host 32 p), host_plain Ipv4 (first_host 32 p) (length-first_of 32 p fits, fits), ap (λ (k : List Bool). V4 k) (sym (same_again 32 p)))
 plain_is Cleared Ipv6 p fits =
     (host.V6 (first_host 128 p), host_plain Ipv6 (first_host 128 p) (length-first_of 128 p fits, fits), ap (λ (k : List Bool). V6 k) (sym (same_again 128 p)))
+plain_is RefusedWithMasks Ipv4 p fits = network_plain Ipv4 p fits
+plain_is RefusedWithMasks Ipv6 p fits = network_plain Ipv6 p fits
+plain_is ClearedWithMasks Ipv4 p fits =
+    (host.V4 (first_host 32 p), host_plain Ipv4 (first_host 32 p) (length-first_of 32 p fits, fits), ap (λ (k : List Bool). V4 k) (sym (same_again 32 p)))
+plain_is ClearedWithMasks Ipv6 p fits =
+    (host.V6 (first_host 128 p), host_plain Ipv6 (first_host 128 p) (length-first_of 128 p fits, fits), ap (λ (k : List Bool). V6 k) (sym (same_again 128 p)))
 
-one_by : (bits : HostBits) (text : List ℕ) (m n : IpCidr) → IsNetworkBy bits text m → IsNetworkBy bits text n → m ≡ n
+pub one_by : (bits : HostBits) (text : List ℕ) (m n : IpCidr) → IsNetworkBy bits text m → IsNetworkBy bits text n → m ≡ n
 one_by Refused text m n h k = one_ip_network text m n h k
 one_by Cleared text m n (a, is, same) (b, also, other) = same ∙ (ap host_network (one_ip_host text a b is also) ∙ sym other)
+one_by RefusedWithMasks text m n (inl h) (inl k) = one_ip_network text m n h k
+one_by RefusedWithMasks text m n (inl h) (inr k) = absurd (no_mask_network text (host_at first_host n) m h k)
+one_by RefusedWithMasks text m n (inr h) (inl k) = absurd (no_mask_network text (host_at first_host m) n k h)
+one_by RefusedWithMasks text m n (inr h) (inr k) =
+    sym (network_again m) ∙ (ap host_network (one_masked text (host_at first_host m) (host_at first_host n) h k) ∙ network_again n)
+one_by ClearedWithMasks text m n (a, inl is, same) (b, inl also, other) = same ∙ (ap host_network (one_ip_host text a b is also) ∙ sym other)
+one_by ClearedWithMasks text m n (a, inl is, same) (b, inr also, other) = absurd (no_mask_host text b a is also)
+one_by ClearedWithMasks text m n (a, inr is, same) (b, inl also, other) = absurd (no_mask_host text a b also is)
+one_by ClearedWithMasks text m n (a, inr is, same) (b, inr also, other) = same ∙ (ap host_network (one_masked text a b is also) ∙ sym other)
 
--- ---- a line that is a network says that network alone
-module _ (bits : HostBits) (text : List ℕ) (network : IpCidr) (short : ¬ (IsTooLong text)) (is : IsNetworkBy bits text network) where
+-- ---- a line that is a network without a mask says that network alone
+module _ (bits : HostBits) (text : List ℕ) (network : IpCidr) (short : ¬ (IsTooLong text)) (plain : IsNetworkBy (without_masks bits) text network) where
+  is : IsNetworkBy bits text network
+  is = with_masks bits text network plain
+
   line_says : LineSays bits text (network ∷ [])
-  line_says = (short, text, Network network, is_field bits text network is, is, refl)
+  line_says = (short, text, Network network, is_field bits text network plain, is, refl)
 
   one_content : (content : Content) → IsContent bits text content → content ≡ Network network
   one_content Blank h = absurd (empty_network bits network (subst (λ (k : List ℕ). IsNetworkBy bits k network) h is))
   one_content (Network n) h = ap (λ (k : IpCidr). Network k) (one_by bits text n network h is)
   one_content (Ipv4Range first last) ((front, back, split, low, high), up) =
-      absurd (not_lacking hyphen front back (subst (λ (k : List ℕ). Lacks hyphen k) split (no_hyphen bits text network is)))
+      absurd (not_lacking hyphen front back (subst (λ (k : List ℕ). Lacks hyphen k) split (no_hyphen bits text network plain)))
   one_content (Ipv6Range first last) ((front, back, split, low, high), up) =
-      absurd (not_lacking hyphen front back (subst (λ (k : List ℕ). Lacks hyphen k) split (no_hyphen bits text network is)))
+      absurd (not_lacking hyphen front back (subst (λ (k : List ℕ). Lacks hyphen k) split (no_hyphen bits text network plain)))
 
   one_said : (said : List IpCidr) → LineSays bits text said → said ≡ network ∷ []
   one_said said (fits, field, content, trimmed, says, are) =
-      let same = one_field bits text network is field trimmed in
+      let same = one_field bits text network plain field trimmed in
       let only = one_content content (subst (λ (k : List ℕ). IsContent bits k content) same says) in
       subst (λ (k : Content). AreOfContent k said) only are
 

@@ -6,9 +6,9 @@ use Rattle.std.proofs.lemmas.List.{length-replicate, length-take, take-take, tak
 use Rattle.std.proofs.lemmas.List.Elements.{Contains-append_cases, Contains-append_left, Contains-append_right}
 use Rattle.std.specs.declared.cmp.Ordering.TheVariants.{Greater}
 use Rattle.cidr.specs.either.IpText.{IsIpHostText}
-use Rattle.cidr.specs.either.IpHost.{host_network}
+use Rattle.cidr.specs.either.IpHost.{host_at, host_network}
 use Rattle.cidr.specs.model.Bits.{bit_cmp}
-use Rattle.cidr.specs.model.Host.{Host, network_of}
+use Rattle.cidr.specs.model.Host.{Host, first_host, network_of}
 use Rattle.cidr.specs.model.Network.{BeginsWith, width_of}
 use Rattle.cidr.specs.texts.HostText.{IsHostText}
 use Rattle.cidr.specs.texts.NetworkText.{IsNetworkText}
@@ -24,14 +24,16 @@ use Rattle.cidr_table.proofs.MapLaws.{contains_nothing}
 use Rattle.cidr_sets.specs.model.Ranges.{IsBetween}
 use Rattle.cidr_sets.specs.model.Sets.{IsSetOf}
 use Rattle.cidr_lists.specs.Combining.{SomeHas}
+use Rattle.cidr_lists.specs.Masks.{IsMaskedHost}
 use Rattle.cidr_lists.specs.Lists.{IsContent, IsNetworkBy, LineSays, ListSays, AreContentNetworks as AreOfContent, Text, lines_of, line_networks, networks_in}
 use Rattle.cidr_lists.specs.ReadBack.{AreOfFamilies, AreUnions}
 use Rattle.cidr_lists.specs.Texts.{SaysAddress}
 use Rattle.cidr_lists.specs.declared.lines.Content.{Content}
 use Rattle.cidr_lists.specs.declared.lines.Content.TheVariants.{Blank, Network, Ipv4Range, Ipv6Range}
 use Rattle.cidr_lists.specs.declared.lines.HostBits.{HostBits}
-use Rattle.cidr_lists.specs.declared.lines.HostBits.TheVariants.{Refused, Cleared}
+use Rattle.cidr_lists.specs.declared.lines.HostBits.TheVariants.{Refused, Cleared, RefusedWithMasks, ClearedWithMasks}
 use Rattle.cidr_lists.proofs.Anywhere.{address_width}
+use Rattle.cidr_lists.proofs.MaskedTexts.{mask_fits, network_again}
 use Rattle.cidr_lists.proofs.Contents.{in_v4, in_v6, not_in_v4, not_in_v6}
 
 -- the first w bits of a long list tell whether it is in the set
@@ -128,10 +130,20 @@ host_narrow : (text : List ℕ) (h : IpInet) → IsIpHostText text h → IsNarro
 host_narrow text (host.V4 h) is = host_width Ipv4 text h is
 host_narrow text (host.V6 h) is = host_width Ipv6 text h is
 
+masked_narrow : (text : List ℕ) (h : IpInet) → IsMaskedHost text h → IsNarrow (host_network h)
+masked_narrow text (host.V4 h) (_, _, _, (_, mask, _, len)) = omega (arith, length-take h.len h.address, mask_fits 32 h.len mask len)
+masked_narrow text (host.V6 h) (_, _, _, (_, mask, _, len)) = omega (arith, length-take h.len h.address, mask_fits 128 h.len mask len)
+
 network_narrow : (bits : HostBits) (text : List ℕ) (network : IpCidr) → IsNetworkBy bits text network → IsNarrow network
 network_narrow Refused text (V4 p) h = network_width Ipv4 text p h
 network_narrow Refused text (V6 p) h = network_width Ipv6 text p h
 network_narrow Cleared text network (h, is, same) = subst IsNarrow (sym same) (host_narrow text h is)
+network_narrow RefusedWithMasks text (V4 p) (inl h) = network_width Ipv4 text p h
+network_narrow RefusedWithMasks text (V6 p) (inl h) = network_width Ipv6 text p h
+network_narrow RefusedWithMasks text network (inr h) =
+    subst IsNarrow (network_again network) (masked_narrow text (host_at first_host network) h)
+network_narrow ClearedWithMasks text network (h, inl is, same) = subst IsNarrow (sym same) (host_narrow text h is)
+network_narrow ClearedWithMasks text network (h, inr is, same) = subst IsNarrow (sym same) (masked_narrow text h is)
 
 nothing_tells : (w : ℕ) → TellFirst w (Covers [])
 nothing_tells w a b la lb same (p, c, begins) = absurd (contains_nothing p c)

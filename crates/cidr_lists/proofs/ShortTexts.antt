@@ -1,8 +1,9 @@
 -- The printed string of a network is short, so that its line is not too long, and not empty.
-use Rattle.std.proofs.Common.{◌≡◌, ap, inl, inr, ◌⊎◌, ℕ, ◌+◌, ◌*◌, ◌≤◌, Bool, true, false, if◌then◌else◌, ◌==◌, List, [], ◌∷◌, ◌++◌, length, length-append, arith}
+use Rattle.std.proofs.Common.{◌≡◌, ap, subst, inl, inr, ◌⊎◌, ℕ, ◌+◌, ◌*◌, ◌≤◌, Bool, true, false, if◌then◌else◌, ◌==◌, List, [], ◌∷◌, ◌++◌, length, length-append, arith}
 use Rattle.std.proofs.lemmas.Fmt.{length-decimal-le}
+use Rattle.cidr.specs.either.IpHost.{host_at, host_family, host_parts}
 use Rattle.cidr.specs.either.IpText.{IsIpHostText}
-use Rattle.cidr.specs.model.Host.{Host}
+use Rattle.cidr.specs.model.Host.{Host, first_host}
 use Rattle.cidr.specs.model.Network.{width_of, first_of}
 use Rattle.cidr.specs.texts.AddressText.{IsAddressText}
 use Rattle.cidr.specs.texts.HostText.{IsHostText}
@@ -22,8 +23,9 @@ use Rattle.cidr.proofs.LooseGrammar.{has_colon}
 use Rattle.cidr.proofs.NetworkPrinting.{IsAddressText-address_text}
 use Rattle.cidr.proofs.OctetReading.{four_joined, octet_length}
 use Rattle.cidr_lists.specs.Lists.{IsNetworkBy, IsTooLong}
+use Rattle.cidr_lists.specs.Masks.{IsMaskedHost}
 use Rattle.cidr_lists.specs.declared.lines.HostBits.{HostBits}
-use Rattle.cidr_lists.specs.declared.lines.HostBits.TheVariants.{Refused, Cleared}
+use Rattle.cidr_lists.specs.declared.lines.HostBits.TheVariants.{Refused, Cleared, RefusedWithMasks, ClearedWithMasks}
 
 -- ---- addresses
 joined_short : (text ns : List ℕ) → IsJoined IsOctetText text ns → length text ≤ 4 * length ns
@@ -107,7 +109,7 @@ plain_not_long family p fits long = omega (arith, long, plain_short family p fit
 pub cut_nothing : (front back : List ℕ) (c : ℕ) → ¬ ([] ≡ front ++ c ∷ back)
 cut_nothing front back c e = omega (arith, ap length e, length-append front (c ∷ back))
 
-empty_address : (family : Family) (a : List Bool) → ¬ (IsAddressText family [] a)
+pub empty_address : (family : Family) (a : List Bool) → ¬ (IsAddressText family [] a)
 empty_address Ipv4 a h =
     let (i, j, k, l, (front, back, split, octet, more)) = four_joined [] a h in
     cut_nothing front back dot split
@@ -125,7 +127,17 @@ empty_ip_host : (h : IpInet) → ¬ (IsIpHostText [] h)
 empty_ip_host (host.V4 h) is = empty_host Ipv4 h is
 empty_ip_host (host.V6 h) is = empty_host Ipv6 h is
 
+empty_masked : (h : IpInet) → ¬ (IsMaskedHost [] h)
+empty_masked h (front, back, inl split, is) = cut_nothing front back slash split
+empty_masked h (front, back, inr (none, first, trim), is) =
+    empty_address (host_family h) (host_parts h).address (subst (λ (k : List ℕ). IsAddressText (host_family h) k (host_parts h).address) first is.0)
+
 pub empty_network : (bits : HostBits) (network : IpCidr) → ¬ (IsNetworkBy bits [] network)
 empty_network Refused (V4 p) h = empty_by_family Ipv4 p h
 empty_network Refused (V6 p) h = empty_by_family Ipv6 p h
 empty_network Cleared network (h, is, same) = empty_ip_host h is
+empty_network RefusedWithMasks (V4 p) (inl is) = empty_by_family Ipv4 p is
+empty_network RefusedWithMasks (V6 p) (inl is) = empty_by_family Ipv6 p is
+empty_network RefusedWithMasks network (inr is) = empty_masked (host_at first_host network) is
+empty_network ClearedWithMasks network (h, inl is, same) = empty_ip_host h is
+empty_network ClearedWithMasks network (h, inr is, same) = empty_masked h is

@@ -9,7 +9,7 @@ use Rattle.cidr.specs.declared.addr.ip.IpAddr.{IpAddr}
 use Rattle.cidr.specs.declared.cidr.combined.IpCidr.{IpCidr}
 use Rattle.cidr_io.specs.Shown.{byte_excerpt}
 use Rattle.cidr_lists.specs.Lists.{IsFirstField, SaysNothing, IsBadLineBy, IsField, IsNoAddressBy, IsNoNetworkBy, is_comment_sign}
-use Rattle.cidr_lists.specs.Messages.{Shows}
+use Rattle.cidr_lists.specs.Messages.{ShowsBy}
 use Rattle.cidr_lists.specs.declared.errors.LineError.{LineError}
 use Rattle.cidr_lists.specs.declared.lines.HostBits.TheVariants.{Refused}
 use Rattle.cidr_lists.specs.declared.errors.LineError.TheVariants.{NotUtf8, NoNetwork, NoAddress, NoField}
@@ -21,7 +21,7 @@ use Rattle.cidr_lists.specs.declared.lines.HostBits.{HostBits}
 -- the field is no network, and this is the error, with the field
 abbrev pub IsNoNetworkField : HostBits → List ℕ → LineError → Type 0
 IsNoNetworkField bits field (NotUtf8 text) = ¬ (IsUtf8 field) × (text.bytes ≡ byte_excerpt field)
-IsNoNetworkField bits field (NoNetwork bad e) = IsNoNetworkBy bits field e × Shows field bad
+IsNoNetworkField bits field (NoNetwork bad e) = IsNoNetworkBy bits field e × ShowsBy bits field bad
 IsNoNetworkField bits field e = ⊥
 
 -- ---- lines

@@ -11,6 +11,7 @@ pub mod Formats
 pub mod Lines
 pub mod Lists
 pub mod LookUps
+pub mod Masks
 pub mod Messages
 pub mod Nearness
 pub mod Printing

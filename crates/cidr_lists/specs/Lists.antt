@@ -1,16 +1,17 @@
 -- What a list of networks says: a network, an address or a range of addresses a line, with white space
 -- around it, and a comment behind it from # or ; on. Line feeds separate lines, so that a last one makes an empty line,
 -- which says nothing. A line of more than 1 MiB is in error, whatever it says.
-use Rattle.std.specs.Prelude.{◌≡◌, ◌≢◌, ◌⊎◌, ℕ, ◌+◌, ◌==◌, Bool, List, [], ◌∷◌, ◌++◌, length, map, IsUtf8, ◌||◌}
+use Rattle.std.specs.Prelude.{◌≡◌, ◌≢◌, ◌⊎◌, ℕ, ◌+◌, ◌==◌, Bool, true, false, List, [], ◌∷◌, ◌++◌, length, map, IsUtf8, ◌||◌}
 use Rattle.std.specs.Char.{is_ascii_whitespace}
 use Rattle.std.specs.List.{AllZip, before_first, flat_map}
 use Rattle.std.specs.Str.{IsTrimAscii, IsTrimAsciiStart}
 use Rattle.std.specs.declared.cmp.Ordering.TheVariants.{Greater}
 use Rattle.cidr.specs.either.IpAddress.{IsIpText, address_family, ip_address_bits}
-use Rattle.cidr.specs.either.IpHost.{host_network}
+use Rattle.cidr.specs.either.IpHost.{host_at, host_network}
 use Rattle.cidr.specs.either.IpText.{IsIpHostRefused, IsIpHostText, IsIpNetworkText, IsIpRefused}
 use Rattle.cidr.specs.model.Bits.{bit_cmp}
 use Rattle.cidr.specs.model.Errors.{AddressError}
+use Rattle.cidr.specs.model.Host.{first_host}
 use Rattle.cidr.specs.texts.Messages.{ip_error}
 use Rattle.cidr.specs.texts.Refusal.{Lacks}
 use Rattle.cidr.specs.declared.addr.ip.IpAddr.{IpAddr}
@@ -26,12 +27,13 @@ pub use Rattle.cidr_io.specs.Lines.{IsTooLong, is_line_feed, kept_of, lines_of, 
 use Rattle.cidr_io.specs.Shown.{byte_excerpt, excerpt}
 use Rattle.cidr_sets.specs.model.Ranges.{IsBetween}
 use Rattle.cidr_sets.specs.model.Sets.{IsSetOf}
-use Rattle.cidr_lists.specs.Messages.{Shows}
+use Rattle.cidr_lists.specs.Masks.{IsMaskedHost}
+use Rattle.cidr_lists.specs.Messages.{Shows, ShowsBy}
 use Rattle.cidr_lists.specs.declared.errors.BadText.{BadText}
 use Rattle.cidr_lists.specs.declared.errors.LineError.{LineError}
 use Rattle.cidr_lists.specs.declared.errors.LineError.TheVariants.{TooLong, NotUtf8, NoNetwork, NoAddress, NoField, TwoFamilies, Reversed}
 use Rattle.cidr_lists.specs.declared.lines.HostBits.{HostBits}
-use Rattle.cidr_lists.specs.declared.lines.HostBits.TheVariants.{Refused, Cleared}
+use Rattle.cidr_lists.specs.declared.lines.HostBits.TheVariants.{Refused, Cleared, RefusedWithMasks, ClearedWithMasks}
 use Rattle.cidr_lists.specs.declared.lines.Content.{Content}
 use Rattle.cidr_lists.specs.declared.lines.Content.TheVariants.{Blank, Network, Ipv4Range, Ipv6Range}
 
@@ -39,10 +41,17 @@ use Rattle.cidr_lists.specs.declared.lines.Content.TheVariants.{Blank, Network, 
 abbrev pub is_comment_sign : ℕ → Bool
 is_comment_sign byte = (byte == 35) || (byte == 59)
 
--- a list: its bytes, and what is done with a set bit after the prefix of a network
+-- a list: its bytes, and how its networks are read
 pub record Text : Type 0 where
   pub bytes : List ℕ
   pub host_bits : HostBits
+
+-- whether set bits are taken as unset, and whether masks are read
+abbrev pub way_of : Bool → Bool → HostBits
+way_of false false = Refused
+way_of true false = Cleared
+way_of false true = RefusedWithMasks
+way_of true true = ClearedWithMasks
 
 abbrev pub text_by : HostBits → List ℕ → Text
 text_by bits bytes = record { bytes = bytes; host_bits = bits }
@@ -70,10 +79,13 @@ abbrev pub AreEnds : List ℕ → IpAddr → IpAddr → Type 0
 AreEnds text first last =
     (front : List ℕ) × (back : List ℕ) × (text ≡ front ++ hyphen ∷ back) × IsEnd front first × IsEnd back last
 
--- the string is a network, or a host whose network it is
+-- the string is a network, or a host whose network it is; with masks it may be one with a mask too
 abbrev pub IsNetworkBy : HostBits → List ℕ → IpCidr → Type 0
 IsNetworkBy Refused text network = IsIpNetworkText text network
 IsNetworkBy Cleared text network = (host : IpInet) × IsIpHostText text host × (network ≡ host_network host)
+IsNetworkBy RefusedWithMasks text network = IsIpNetworkText text network ⊎ IsMaskedHost text (host_at first_host network)
+IsNetworkBy ClearedWithMasks text network =
+    (host : IpInet) × (IsIpHostText text host ⊎ IsMaskedHost text host) × (network ≡ host_network host)
 
 -- the field is empty, a network or an address, or a range of one family, whose first address is not above its last
 abbrev pub IsContent : HostBits → List ℕ → Content → Type 0
@@ -103,10 +115,12 @@ LineSays bits line said = ¬ (IsTooLong line)
 abbrev pub IsNoAddress : List ℕ → Type 0
 IsNoAddress text = (a : IpAddr) → ¬ (IsIpText text a)
 
--- the string is no network, or no host, and this is the first error
+-- the string is no network, or no host, and this is the first error; with masks none with a mask either
 abbrev pub IsNoNetworkBy : HostBits → List ℕ → NetworkParseError → Type 0
 IsNoNetworkBy Refused text e = IsIpRefused text e × ((n : IpCidr) → ¬ (IsIpNetworkText text n))
 IsNoNetworkBy Cleared text e = IsIpHostRefused text e × ((h : IpInet) → ¬ (IsIpHostText text h))
+IsNoNetworkBy RefusedWithMasks text e = IsIpRefused text e × ((n : IpCidr) → ¬ (IsNetworkBy RefusedWithMasks text n))
+IsNoNetworkBy ClearedWithMasks text e = IsIpHostRefused text e × ((n : IpCidr) → ¬ (IsNetworkBy ClearedWithMasks text n))
 
 -- the string is no address: its beginning and its fault, and the error
 abbrev pub IsNoAddressBy : List ℕ → BadText → AddressError → Type 0
@@ -123,7 +137,7 @@ abbrev pub IsFieldError : HostBits → List ℕ → LineError → Type 0
 IsFieldError bits field TooLong = ⊥
 IsFieldError bits field NoField = ⊥
 IsFieldError bits field (NotUtf8 text) = ¬ (IsUtf8 field) × (text.bytes ≡ byte_excerpt field)
-IsFieldError bits field (NoNetwork bad e) = (field ≢ []) × Lacks hyphen field × IsNoNetworkBy bits field e × Shows field bad
+IsFieldError bits field (NoNetwork bad e) = (field ≢ []) × Lacks hyphen field × IsNoNetworkBy bits field e × ShowsBy bits field bad
 IsFieldError bits field (NoAddress bad e) = (front : List ℕ) × (back : List ℕ) × (field ≡ front ++ hyphen ∷ back) × Lacks hyphen front
     × (IsNoEndBy front bad e ⊎ ((first : IpAddr) × IsEnd front first × IsNoEndBy back bad e))
 IsFieldError bits field (TwoFamilies text) = (first : IpAddr) × (last : IpAddr) × AreEnds field first last

@@ -1,17 +1,39 @@
 -- The messages of lines in error: the string that is wrong, as it is shown, and what is wrong with it.
-use Rattle.std.specs.Prelude.{◌≡◌, ℕ, Bool, true, false, if◌then◌else◌, List, ◌++◌, codes, decimal, Option, Some, None}
+use Rattle.std.specs.Prelude.{◌≡◌, ◌⊎◌, ℕ, Bool, true, false, if◌then◌else◌, List, ◌++◌, codes, decimal, Option, Some, None}
+use Rattle.cidr.specs.either.IpHost.{host_network}
 use Rattle.cidr.specs.texts.Messages.{address_message, parse_message}
+use Rattle.cidr.specs.declared.inet.combined.IpInet.{IpInet}
 use Rattle.cidr_ext.specs.texts.TextFaults.{IsFaultOf, fault_message}
 use Rattle.cidr_ext.specs.declared.text_faults.TextFault.{TextFault}
 use Rattle.cidr_ext.specs.declared.text_faults.TextFault.TheVariants.{MaskForLength, HostBits}
 use Rattle.cidr_io.specs.Shown.{excerpt, shown}
+use Rattle.cidr_lists.specs.Masks.{IsMaskedHost}
 use Rattle.cidr_lists.specs.declared.errors.BadText.{BadText}
 use Rattle.cidr_lists.specs.declared.errors.LineError.{LineError}
 use Rattle.cidr_lists.specs.declared.errors.LineError.TheVariants.{TooLong, NotUtf8, NoNetwork, NoAddress, NoField, TwoFamilies, Reversed}
+use Rattle.cidr_lists.specs.declared.lines.HostBits.{HostBits as Bits}
+use Rattle.cidr_lists.specs.declared.lines.HostBits.TheVariants.{Refused, Cleared, RefusedWithMasks, ClearedWithMasks}
 
 -- the beginning of a string as it is shown, and its first fault, if it has one
 abbrev pub Shows : List ℕ → BadText → Type 0
 Shows text bad = (bad.text.bytes ≡ excerpt text) × IsFaultOf text bad.fault
+
+-- where masks are read, a mask in place of a length is no fault
+abbrev pub but_a_mask : Option TextFault → Option TextFault
+but_a_mask (Some MaskForLength) = None
+but_a_mask fault = fault
+
+-- and what is wrong with a string that is no network is that host bits are set behind its mask, or else its first fault
+abbrev pub IsMaskFault : List ℕ → Option TextFault → Type 0
+IsMaskFault text fault = ((host : IpInet) × IsMaskedHost text host × (fault ≡ Some (HostBits (host_network host))))
+    ⊎ (((host : IpInet) → ¬ (IsMaskedHost text host)) × (first : Option TextFault) × IsFaultOf text first × (fault ≡ but_a_mask first))
+
+-- the beginning and the fault of a string that is no network
+abbrev pub ShowsBy : Bits → List ℕ → BadText → Type 0
+ShowsBy Refused text bad = Shows text bad
+ShowsBy Cleared text bad = Shows text bad
+ShowsBy RefusedWithMasks text bad = (bad.text.bytes ≡ excerpt text) × IsMaskFault text bad.fault
+ShowsBy ClearedWithMasks text bad = (bad.text.bytes ≡ excerpt text) × IsMaskFault text bad.fault
 
 -- what is wrong with a string: its first fault, or else the words of the error
 abbrev pub fault_words : Option TextFault → List ℕ → List ℕ

@@ -8,12 +8,20 @@ use Rattle.cidr_lists.specs.declared.errors.LineError.{LineError}
 use Rattle.cidr_lists.specs.declared.errors.LineError.TheVariants.{NoAddress}
 use Rattle.cidr_lists.specs.declared.lines.Content.{Content}
 use Rattle.cidr_lists.specs.declared.lines.HostBits.{HostBits}
+use Rattle.cidr_lists.specs.declared.lines.HostBits.TheVariants.{Refused, Cleared, RefusedWithMasks, ClearedWithMasks}
 use Rattle.cidr_lists.specs.declared.lists.Lists.{Lists}
 
 -- the string is no address, and this is the error
 abbrev pub IsNoEnd : List ℕ → LineError → Type 0
 IsNoEnd text (NoAddress bad e) = IsNoEndBy text bad e
 IsNoEnd text e = ⊥
+
+-- the same way of reading networks, without masks
+abbrev pub without_masks : HostBits → HostBits
+without_masks Refused = Refused
+without_masks Cleared = Cleared
+without_masks RefusedWithMasks = Refused
+without_masks ClearedWithMasks = Cleared
 
 -- what a field says, or its error
 abbrev pub ReadsField : HostBits → List ℕ → Result Content LineError → Type 0

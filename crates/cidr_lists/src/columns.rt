@@ -9,6 +9,7 @@ ghost use Rattle.cidr_lists.specs.Fields.{AreFirstAndRest, IsFieldOf, IsNoAddres
 
 use crate::errors::{BadText, LineError};
 use crate::lines::{HostBits, is_comment_sign, network_of, without_comment};
+use crate::masks::bad_network;
 use cidr::{IpAddr, IpCidr};
 use cidr_io::shown::byte_excerpt;
 
@@ -195,9 +196,8 @@ pub fn split_row(line: &[u8]) -> Option<(&[u8], &[u8])>
     Some(parts)
 }
 
-/// The network that a field is, or with `HostBits::Cleared` that of the host that it is; an address is one too, and a
-/// range is none, nor is a field with white space at an end. The errors are `NotUtf8`, and then `NoNetwork` with the
-/// first error of parsing it.
+/// The network that a field is, as `lines::network_of` reads it; a range is none, nor is a field with white space at an
+/// end. The errors are `NotUtf8`, and then `NoNetwork` with the first error of parsing it.
 pub fn network_in(host_bits: HostBits, field: &[u8]) -> Result<IpCidr, LineError>
     ensures { MatchResult result (IsNetworkBy host_bits field.now) (IsNoNetworkField host_bits field.now) }
 {
@@ -206,7 +206,7 @@ pub fn network_in(host_bits: HostBits, field: &[u8]) -> Result<IpCidr, LineError
     };
     match network_of(host_bits, text) {
         Ok(network) => Ok(network),
-        Err(e) => Err(LineError::NoNetwork(BadText::new(text), e)),
+        Err(e) => Err(LineError::NoNetwork(bad_network(host_bits, text), e)),
     }
 }
 

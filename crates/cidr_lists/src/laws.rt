@@ -6,15 +6,20 @@ ghost use Rattle.cidr.specs.declared.cidr.combined.IpCidr.{IpCidr};
 ghost use Rattle.cidr.specs.declared.family.Family.{Family};
 ghost use Rattle.cidr_lists.specs.Fields.{field_at};
 ghost use Rattle.cidr_lists.specs.Formats.{bare, styled};
-ghost use Rattle.cidr_lists.specs.Lists.{Text, ListSays, text_by};
+ghost use Rattle.cidr_lists.specs.Lists.{IsNetworkBy, Text, ListSays, text_by};
 ghost use Rattle.cidr_lists.specs.ReadBack.{AreOfFamilies, AreUnions, SaysJust, TellsJust};
 ghost use Rattle.cidr_lists.specs.Sets.{printed_sets};
 ghost use Rattle.cidr_lists.specs.declared.columns.Separator.TheVariants.{Byte};
 ghost use Rattle.cidr_lists.specs.declared.formats.Format.TheVariants.{Json, Plain};
 ghost use Rattle.cidr_lists.specs.declared.lines.HostBits.{HostBits};
 
-/// What is printed of networks, read as a list, says these networks, whatever is done with host bits: printed networks
-/// have none.
+/// A string is one network at most, in each way of reading networks.
+pub fn a_string_is_one_network()
+    ensures { (bits : HostBits) (text : List ℕ) (m n : IpCidr) → IsNetworkBy bits text m → IsNetworkBy bits text n → m ≡ n }
+{}
+
+/// What is printed of networks, read as a list, says these networks, in each way of reading networks: printed networks
+/// have no host bits and no masks.
 pub fn printed_networks_are_read()
     ensures { (bits : HostBits) (networks : Family → List (List Bool)) → AreOfFamilies networks
         → SaysJust (text_by bits (printed_sets networks)) networks }

@@ -32,6 +32,7 @@ pub mod formats;
 pub mod laws;
 pub mod lines;
 pub mod lists;
+mod masks;
 pub mod near;
 pub mod printing;
 pub mod rows;

@@ -3,21 +3,45 @@ ghost use Rattle.std.specs.Prelude.{◌≡◌, [], IfSome, MatchResult};
 ghost use Rattle.std.specs.List.{before_first};
 ghost use Rattle.cidr.specs.declared.addr.ip.IpAddr.TheVariants.{V4, V6};
 ghost use Rattle.cidr_lists.specs.Lists.{AreEnds, IsEnd, IsNetworkBy, IsNoNetworkBy, is_comment_sign};
-ghost use Rattle.cidr_lists.specs.Reading.{IsNoEnd, ReadsField, ReadsLine};
+ghost use Rattle.cidr_lists.specs.Reading.{IsNoEnd, ReadsField, ReadsLine, without_masks};
 ghost use Rattle.cidr_lists.specs.declared.lines.HostBits.{HostBits as Bits};
+ghost use Rattle.cidr_lists.specs.declared.lines.HostBits.TheVariants.{Cleared, ClearedWithMasks, RefusedWithMasks};
 
 use crate::errors::{BadText, LineError};
+use crate::masks::{bad_network, masked_host, masked_network};
 use cidr::errors::NetworkParseError;
 use cidr::{IpAddr, IpCidr, IpInet, Ipv4Addr, Ipv6Addr};
 use cidr_io::shown::{byte_excerpt, excerpt};
 
-/// What is done with a set bit after the prefix of a network.
+/// How networks are read: what is done with a set bit after the prefix, and whether a mask may stand in the place of a
+/// prefix length, behind a slash or white space, as in `192.0.2.0/255.255.255.0` and `192.0.2.0 0.0.0.255`.
 #[derive(Clone, Copy, Debug, Drop, PartialEq)]
 pub enum HostBits {
-    /// It is an error.
+    /// A set bit is an error, and so is a mask.
     Refused,
-    /// It is taken as unset, so that a host says its network.
+    /// A set bit is taken as unset, so that a host says its network; a mask is an error.
     Cleared,
+    /// A set bit is an error, and a mask is read: a network mask, or a host mask, its inverse. What could be either is a
+    /// network mask.
+    RefusedWithMasks,
+    /// A set bit is taken as unset, and a mask is read.
+    ClearedWithMasks,
+}
+
+impl HostBits {
+    ghost use Rattle.cidr_lists.specs.Lists.{way_of};
+
+    /// The way of reading that takes set bits as unset, and reads masks, if these are true.
+    pub fn by(clears: bool, takes_masks: bool) -> HostBits
+        ensures { result ≡ way_of clears takes_masks }
+    {
+        match (clears, takes_masks) {
+            (false, false) => HostBits::Refused,
+            (true, false) => HostBits::Cleared,
+            (false, true) => HostBits::RefusedWithMasks,
+            (true, true) => HostBits::ClearedWithMasks,
+        }
+    }
 }
 
 /// What the lines of a list are.
@@ -111,17 +135,52 @@ fn range_of(field: &str, first: IpAddr, last: IpAddr) -> Result<Content, LineErr
     }
 }
 
-/// The network that a string is, or with `HostBits::Cleared` that of the host that it is; an address is a network too.
-/// The error is the first of parsing it.
+/// The network of the host that a string is.
+fn cleared_network(field: &str) -> Result<IpCidr, NetworkParseError>
+    ensures { MatchResult result (IsNetworkBy Cleared field.now) (IsNoNetworkBy Cleared field.now) }
+{
+    match field.parse::<IpInet>() {
+        Ok(host) => Ok(host.network()),
+        Err(e) => Err(e),
+    }
+}
+
+/// The network that a string is, with a mask or without.
+fn network_or_masked(field: &str) -> Result<IpCidr, NetworkParseError>
+    ensures { MatchResult result (IsNetworkBy RefusedWithMasks field.now) (IsNoNetworkBy RefusedWithMasks field.now) }
+{
+    match field.parse() {
+        Ok(network) => Ok(network),
+        Err(e) => match masked_network(field) {
+            Some(network) => Ok(network),
+            None => Err(e),
+        },
+    }
+}
+
+/// The network of the host that a string is, with a mask or without.
+fn cleared_or_masked(field: &str) -> Result<IpCidr, NetworkParseError>
+    ensures { MatchResult result (IsNetworkBy ClearedWithMasks field.now) (IsNoNetworkBy ClearedWithMasks field.now) }
+{
+    match cleared_network(field) {
+        Ok(network) => Ok(network),
+        Err(e) => match masked_host(field) {
+            Some(host) => Ok(host.network()),
+            None => Err(e),
+        },
+    }
+}
+
+/// The network that a string is; an address is one too. Where set bits are cleared it is that of the host that the string
+/// is, and where masks are read the string may have one. The error is the first of parsing it without a mask.
 pub fn network_of(host_bits: HostBits, field: &str) -> Result<IpCidr, NetworkParseError>
     ensures { MatchResult result (IsNetworkBy host_bits field.now) (IsNoNetworkBy host_bits field.now) }
 {
     match host_bits {
         HostBits::Refused => field.parse(),
-        HostBits::Cleared => match field.parse::<IpInet>() {
-            Ok(host) => Ok(host.network()),
-            Err(e) => Err(e),
-        },
+        HostBits::Cleared => cleared_network(field),
+        HostBits::RefusedWithMasks => network_or_masked(field),
+        HostBits::ClearedWithMasks => cleared_or_masked(field),
     }
 }
 
@@ -135,7 +194,7 @@ fn content_of_field(host_bits: HostBits, field: &str) -> Result<Content, LineErr
     let Some((front, back)) = field.split_once('-') else {
         return match network_of(host_bits, field) {
             Ok(network) => Ok(Content::Network(network)),
-            Err(e) => Err(LineError::NoNetwork(BadText::new(field), e)),
+            Err(e) => Err(LineError::NoNetwork(bad_network(host_bits, field), e)),
         };
     };
     let first = end_of(front)?;
@@ -143,14 +202,24 @@ fn content_of_field(host_bits: HostBits, field: &str) -> Result<Content, LineErr
     range_of(field, first, last)
 }
 
-/// The network that a whole line is, without white space and comments.
+/// The same way of reading, without masks.
+fn without_masks(host_bits: HostBits) -> HostBits
+    ensures { result ≡ without_masks host_bits }
+{
+    match host_bits {
+        HostBits::Refused | HostBits::RefusedWithMasks => HostBits::Refused,
+        HostBits::Cleared | HostBits::ClearedWithMasks => HostBits::Cleared,
+    }
+}
+
+/// The network that a whole line is, without white space, comments and masks.
 pub(crate) fn whole_network(host_bits: HostBits, line: &[u8]) -> Option<IpCidr>
-    ensures { IfSome result (IsNetworkBy host_bits line.now) }
+    ensures { IfSome result (IsNetworkBy (without_masks host_bits) line.now) }
 {
     let Ok(text) = str::from_utf8(line) else {
         return None;
     };
-    match network_of(host_bits, text) {
+    match network_of(without_masks(host_bits), text) {
         Ok(network) => Some(network),
         Err(_) => None,
     }

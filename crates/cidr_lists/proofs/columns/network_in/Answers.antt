@@ -9,4 +9,4 @@ returns-in-Ok-network_of c =
 pub returns-in-Err : goal.returns-in-Err
 returns-in-Err c =
     let same : c.in-Ok.text.now ≡ c.args.field.now = c.in-Ok.ensures.cases.0 in
-    (rw same at c.in-Err.ensures, rw same at c.new.ensures)
+    (rw same at c.in-Err.ensures, rw same at c.bad_network.ensures)

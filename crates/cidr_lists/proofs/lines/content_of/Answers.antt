@@ -1,9 +1,13 @@
 use Rattle.std.proofs.Common.{◌≡◌}
-use Rattle.cidr_lists.proofs.PlainTexts.{is_field}
+use Rattle.cidr_lists.proofs.PlainTexts.{is_field, with_masks}
 use Rattle.cidr_lists.proofs.lines.content_of.Goals as goal
 
 pub returns-in-Some : goal.returns-in-Some
-returns-in-Some c = (c.args.line.now, is_field c.args.host_bits c.args.line.now c.in-Some.network c.in-Some.ensures, c.in-Some.ensures)
+returns-in-Some c = (
+  c.args.line.now,
+  is_field c.args.host_bits c.args.line.now c.in-Some.network c.in-Some.ensures,
+  with_masks c.args.host_bits c.args.line.now c.in-Some.network c.in-Some.ensures,
+)
 
 pub returns-in-Ok : goal.returns-in-Ok
 returns-in-Ok c =

@@ -11,7 +11,7 @@ returns-then-is_empty c = is_nothing c.args.field.now c.is_empty.result c.is_emp
 pub returns-in-Err : goal.returns-in-Err
 returns-in-Err c =
     let lacks = split_parts 45 c.args.field.now None c.in_default.ensures.cases (omega arith) in
-    (not_empty c.args.field.now c.is_empty.result c.is_empty.ensures c.if-is_empty.false, lacks, c.in-Err.ensures, c.new.ensures)
+    (not_empty c.args.field.now c.is_empty.result c.is_empty.ensures c.if-is_empty.false, lacks, c.in-Err.ensures, c.bad_network.ensures)
 
 pub returns-in_err-first : goal.returns-in_err-first
 returns-in_err-first c =

@@ -1,0 +1,141 @@
+//! Networks and hosts with a mask in place of the prefix length.
+ghost use Rattle.std.specs.Prelude.{◌≡◌, MatchOption, drop, length, ℕ};
+ghost use Rattle.std.specs.Char.{is_ascii_whitespace};
+ghost use Rattle.std.specs.List.{before_first};
+ghost use Rattle.std.specs.Str.{IsTrimAsciiStart};
+ghost use Rattle.cidr.specs.either.IpHost.{host_at};
+ghost use Rattle.cidr.specs.model.Host.{first_host};
+ghost use Rattle.cidr.specs.model.Network.{width_of};
+ghost use Rattle.cidr_ext.specs.texts.MaskText.{IsLengthOfMask};
+ghost use Rattle.cidr_lists.specs.Masks.{AreAddressAndMask, IsLengthBeside, IsMaskedHost};
+ghost use Rattle.cidr_lists.specs.Messages.{but_a_mask, IsMaskFault, ShowsBy};
+ghost use Rattle.cidr.specs.declared.cidr.combined.IpCidr.{IpCidr as Network};
+ghost use Rattle.cidr.specs.declared.inet.combined.IpInet.{IpInet as Host};
+
+use crate::errors::BadText;
+use crate::lines::HostBits;
+use cidr::laws::hosts::equal_hosts_are_the_same;
+use cidr::{IpAddr, IpCidr, IpInet};
+use cidr_ext::{AddressExt, TextFault, text_fault};
+use cidr_io::shown::excerpt;
+
+/// The prefix length that a mask stands for: that of a network mask, or of a host mask that is none.
+fn length_of_mask<A: AddressExt>(mask: A) -> Option<u8>
+    ensures { MatchOption result
+        ((n : ℕ) → ¬ (IsLengthOfMask (width_of (A.family_of mask)) n (A.bits mask)))
+        (λ n. IsLengthOfMask (width_of (A.family_of mask)) n (A.bits mask)) }
+{
+    match mask.mask_length() {
+        Some(len) => Some(len),
+        None => mask.host_mask_length(),
+    }
+}
+
+/// The prefix length that a mask of the family of an address stands for.
+fn length_beside(address: &IpAddr, mask: &IpAddr) -> Option<u8>
+    ensures { MatchOption result ((n : ℕ) → ¬ (IsLengthBeside address.now mask.now n)) (IsLengthBeside address.now mask.now) }
+{
+    match address {
+        IpAddr::V4(_) => match mask {
+            IpAddr::V4(mask) => length_of_mask(*mask),
+            IpAddr::V6(_) => None,
+        },
+        IpAddr::V6(_) => match mask {
+            IpAddr::V6(mask) => length_of_mask(*mask),
+            IpAddr::V4(_) => None,
+        },
+    }
+}
+
+/// The host whose address the first string is, and the second a mask of its prefix length.
+fn host_of(front: &str, back: &str) -> Option<IpInet>
+    ensures { MatchOption result ((host : Host) → ¬ (AreAddressAndMask front.now back.now host)) (AreAddressAndMask front.now back.now) }
+{
+    let Ok(address) = front.parse::<IpAddr>() else {
+        return None;
+    };
+    let Ok(mask) = back.parse::<IpAddr>() else {
+        return None;
+    };
+    let Some(len) = length_beside(&address, &mask) else {
+        return None;
+    };
+    match IpInet::new(address, len) {
+        Ok(host) => Some(host),
+        Err(_) => None,
+    }
+}
+
+/// What stands before the first white space of a string, and what behind it, without white space in front.
+fn cut_at_white_space(text: &str) -> (&str, &str)
+    ensures front { result.0.now ≡ before_first is_ascii_whitespace text.now }
+    ensures back { IsTrimAsciiStart (drop (length result.0.now) text.now) result.1.now }
+{
+    for (place, byte) in text.as_bytes().iter().enumerate() {
+        if byte.is_ascii_whitespace() {
+            return (&text[..place], text[place..].trim_ascii_start());
+        }
+    }
+    (text, "")
+}
+
+/// The host that a string with a mask is: an address and, behind a slash or white space, a network mask or a host mask.
+/// A mask that could be either is a network mask.
+pub(crate) fn masked_host(text: &str) -> Option<IpInet>
+    ensures { MatchOption result ((host : Host) → ¬ (IsMaskedHost text.now host)) (IsMaskedHost text.now) }
+{
+    if let Some((front, back)) = text.split_once('/') {
+        return host_of(front, back);
+    }
+    let (front, back) = cut_at_white_space(text);
+    host_of(front, back)
+}
+
+/// The network that a string with a mask is: the same host, if no bit after its prefix is set.
+pub(crate) fn masked_network(text: &str) -> Option<IpCidr>
+    ensures { MatchOption result ((network : Network) → ¬ (IsMaskedHost text.now (host_at first_host network)))
+        (λ network. IsMaskedHost text.now (host_at first_host network)) }
+{
+    let Some(host) = masked_host(text) else {
+        return None;
+    };
+    equal_hosts_are_the_same();
+    if host.first() == host {
+        Some(host.network())
+    } else {
+        None
+    }
+}
+
+/// The fault of a string where a mask in place of a prefix length is none.
+fn but_a_mask(fault: Option<TextFault>) -> Option<TextFault>
+    ensures { result ≡ but_a_mask fault }
+{
+    match fault {
+        Some(TextFault::MaskForLength) => None,
+        other => other,
+    }
+}
+
+/// What is wrong with a string that is no network where masks are read.
+fn mask_fault(text: &str) -> Option<TextFault>
+    ensures { IsMaskFault text.now result }
+{
+    match masked_host(text) {
+        Some(host) => Some(TextFault::HostBits(host.network())),
+        None => but_a_mask(text_fault(text)),
+    }
+}
+
+/// A string that is no network where networks are read in this way.
+pub(crate) fn bad_network(host_bits: HostBits, text: &str) -> BadText
+    ensures { ShowsBy host_bits text.now result }
+{
+    match host_bits {
+        HostBits::Refused | HostBits::Cleared => BadText::new(text),
+        HostBits::RefusedWithMasks | HostBits::ClearedWithMasks => BadText {
+            text: excerpt(text),
+            fault: mask_fault(text),
+        },
+    }
+}
