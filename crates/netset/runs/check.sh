@@ -133,6 +133,8 @@ rows_of_arguments() {
     page=$'netset merge [FILE..]   the shortest list of networks that has the addresses of all the lists
 --host-bits             a bit set behind the prefix of a network in a list is taken as unset,
                         and is no error
+--masks                 a network in a list may have a mask in place of its prefix length, as
+                        192.0.2.0/255.255.255.0 and 192.0.2.0 0.0.0.255
 -k                      each line of a list in error is told, and not only the first
 --format NAME           how the networks are written: plain, json, nft, ipset, iptables,
                         cisco, juniper or bird
@@ -675,6 +677,67 @@ rows_of_host_bits() {
     run 2 '' $'B is missing, see: netset help minus\n' '' minus --host-bits ten
 }
 
+# Masks in place of prefix lengths in lists: network masks and host masks, behind a slash or white space.
+rows_of_masks() {
+    local host=$'host bits set; the network is 10.0.0.0/8\n' none=$'couldn\'t parse address in network: invalid IP address syntax\n'
+    local length=$'couldn\'t parse length in network: invalid length text\n'
+    run 0 $'10.0.0.0/8\n172.16.0.0/12\n192.0.2.0/24\n192.168.0.0/16\n' '' \
+        '192.0.2.0/255.255.255.0\n10.0.0.0 255.0.0.0\n192.168.0.0/0.0.255.255\n172.16.0.0 \t 0.15.255.255 # ours\r\n' merge --masks
+    run 0 $'2001:db8::/32\n2001:db9::/32\n' '' \
+        '2001:db8::/ffff:ffff::\n2001:db9:: ::ffff:ffff:ffff:ffff:ffff:ffff' merge --masks
+    run 0 $'10.0.0.0/30\n192.0.2.0/24\n' '' \
+        '192.0.2.0/25\n192.0.2.128 - 192.0.2.254\n192.0.2.255\n\n10.0.0.0\t255.255.255.254\n10.0.0.2 0.0.0.1;x' merge --masks
+    run 0 $'192.0.2.1\n' '' '192.0.2.1 255.255.255.255' merge --masks
+    run 0 $'0.0.0.0/0\n' '' '0.0.0.0/0.0.0.0' merge --masks
+    run 0 $'0.0.0.0\n' '' '0.0.0.0 255.255.255.255' merge --masks
+    run 0 $'192.0.2.0/31\n' '' '192.0.2.0 0.0.0.1' merge --masks
+    run 0 $'128.0.0.0/1\n' '' '128.0.0.0 127.255.255.255' merge --masks
+    run 2 '' "-:1: 10.0.0.7 255.0.0.0: $host" '10.0.0.7 255.0.0.0' merge --masks
+    run 2 '' "-:2: 10.0.0.7/0.255.255.255: $host" '\n10.0.0.7/0.255.255.255' merge --masks
+    run 2 '' $'-:1: 10.0.0.1 0.0.0.0: host bits set; the network is 0.0.0.0/0\n' '10.0.0.1 0.0.0.0' merge --masks
+    run 2 '' $'-:1: 2001:db8::1/ffff:ffff::: host bits set; the network is 2001:db8::/32\n' '2001:db8::1/ffff:ffff::' merge --masks
+    run 2 '' "-:1: 10.0.0.7/8: $host" '10.0.0.7/8' merge --masks
+    run 2 '' "-:1: 192.0.2.0 255.0.255.0: $none" '192.0.2.0 255.0.255.0' merge --masks
+    run 2 '' "-:1: 192.0.2.0/0.255.0.255: $length" '192.0.2.0/0.255.0.255' merge --masks
+    run 2 '' "-:1: 192.0.2.0 ffff:ffff::: $none" '192.0.2.0 ffff:ffff::' merge --masks
+    run 2 '' "-:1: 192.0.2.0/ffff:ffff::: $length" '192.0.2.0/ffff:ffff::' merge --masks
+    run 2 '' "-:1: 2001:db8::/255.0.0.0: $length" '2001:db8::/255.0.0.0' merge --masks
+    run 2 '' "-:1: x/255.0.0.0: $none" 'x/255.0.0.0' merge --masks
+    run 2 '' $'-:1: 010.0.0.0/255.0.0.0: a leading zero in an octet\n' '010.0.0.0/255.0.0.0' merge --masks
+    run 2 '' "-:1: 10.0.0.0 255.0.0.0 x: $none" '10.0.0.0 255.0.0.0 x' merge --masks
+    run 2 '' "-:1: 10.0.0.0 / 255.0.0.0: $none" '10.0.0.0 / 255.0.0.0' merge --masks
+    run 2 '' "-:1: 10.0.0.0 8: $none" '10.0.0.0 8' merge --masks
+    run 2 '' $'-:1: 10.0.0.0/255.0.0.0: a mask in place of a length\n' '10.0.0.0/255.0.0.0' merge
+    run 2 '' "-:1: 10.0.0.0 255.0.0.0: $none" '10.0.0.0 255.0.0.0' merge
+    run 2 '' "-:1: 10.0.0.7 255.0.0.0: ${host}-:3: x: $none" '10.0.0.7 255.0.0.0\n11.0.0.0 255.0.0.0\nx' merge -k --masks
+    run 0 $'10.0.0.0/8\n192.0.2.0/24\n' '' '10.0.0.7 255.0.0.0\n192.0.2.9/0.0.0.255\n192.0.2.7/24\n10.0.0.9' merge --masks --host-bits
+    run 0 $'0.0.0.0/0\n' '' '10.0.0.1 0.0.0.0' merge --host-bits --masks
+    run 2 '' "-:1: 192.0.2.0 255.0.255.0: $none" '192.0.2.0 255.0.255.0' merge --host-bits --masks
+    run 2 '' $'-:1: 10.0.0.0/255.0.0.0: a mask in place of a length\n' '10.0.0.0/255.0.0.0' merge --host-bits
+    run 0 $'10.128.0.0/9\n' '' '10.0.0.0 255.128.0.0' minus --masks ten -
+    run 0 $'10.0.0.0/9\n' '' '10.0.0.0 0.127.255.255' and --masks ten -
+    run 0 $'10.128.0.0/9\n' '' '10.0.0.0/255.128.0.0' not --masks --in 10.0.0.0/8
+    run 2 '' $'10.0.0.0/255.0.0.0: a mask in place of a length\n' '' not --masks --in 10.0.0.0/255.0.0.0
+    run 1 $'-10.128.0.0/9\n' '' '10.0.0.0 255.128.0.0' diff --masks ten -
+    run 0 $'10.128.0.0/26\n' '' '10.0.0.0 255.128.0.0' free --masks ten 26 -
+    run 0 $'10.1.0.0-10.1.255.255\n' '' '10.1.0.0 255.255.0.0' ranges --masks
+    run 0 $'IPv4 256\nIPv6 0\n' '' '10.1.2.0/255.255.255.0' count --masks
+    run 0 $'10.0.0.1 a\n10.2.0.0/16 c\n' '' '10.0.0.0 255.0.0.0' match --masks - seen
+    run 2 '' $'seen:1: 10.0.0.1 a: couldn\'t parse address in network: invalid IP address syntax\n' '' match --masks seen ten
+    run 0 $'10.0.0.1 10.0.0.0/8 west\n' '' '10.0.0.0/255.0.0.0 west' look --masks - address
+    run 0 $'10.0.0.1 10.0.0.1 255.0.0.0 west\n' '' '10.0.0.1 255.0.0.0 west' look --masks - address
+    run 2 '' $'-:1: 10.0.0.7/255.0.0.0: host bits set; the network is 10.0.0.0/8\n' '10.0.0.7/255.0.0.0 west' look --masks - address
+    run 0 '' '' '10.0.0.0/255.0.0.0 west' compile --masks - masked
+    run 0 $'10.0.0.1 10.0.0.0/8 west\n' '' '10.0.0.1' look masked
+    run 0 $'10.in-addr.arpa\n' '' '10.0.0.0 255.0.0.0' reverse --masks -
+    run 0 $'10.0.0.0 255.0.0.0 0.255.255.255\n' '' '10.0.0.0 0.255.255.255' mask --masks -
+    run 0 $'10.0.0.0/9\n10.128.0.0/9\n' '' '10.0.0.0 255.0.0.0' split --masks - 9
+    run 2 '' $'--masks: no such option, see: netset help check\n' '' check --masks
+    run 2 '' $'--masks: no such option, see: netset help which\n' '' which --masks 10.0.0.1
+    run 2 '' $'--masks: no such option, see: netset help show\n' '' show --masks ::1
+    run 2 '' $'--masks=1: no such option, see: netset help merge\n' '' merge --masks=1
+}
+
 # Each line in error.
 rows_of_all_errors() {
     local host=$'host bits set; the network is 10.0.0.0/8\n' none=$'couldn\'t parse address in network: invalid IP address syntax\n'
@@ -1179,6 +1242,7 @@ rows_without_memory() {
     refuse '10.0.0.1/9\n10.0.0.0/9\n10.128.0.0/9\n::\n' check - both
     refuse '10.0.0.0/9\n' not --in ::/0 -
     refuse '10.0.0.0/9\n' merge --host-bits -
+    refuse '10.0.0.0 255.128.0.0\n' merge --masks -
     refuse '10.0.0.0/9\n' merge -k both -
     refuse '10.0.0.0/9\n' merge both - -o made
     refuse '10.0.0.0/9\n' diff both - -o made
@@ -1253,6 +1317,7 @@ for build in netset netset.by-rattle; do
     rows_of_descriptions
     rows_of_classes
     rows_of_host_bits
+    rows_of_masks
     rows_of_all_errors
     rows_of_long_lines
     rows_of_messages

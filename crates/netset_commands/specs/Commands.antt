@@ -13,7 +13,7 @@ use Rattle.netset_commands.specs.Describing.{IsNoLength, IsOfLength, all_told, t
 use Rattle.netset_commands.specs.Findings.{IsCheck}
 use Rattle.netset_commands.specs.Free.{Extent, IsFreeText, IsMost}
 use Rattle.netset_commands.specs.Look.{IsLook}
-use Rattle.cidr_lists.specs.Lists.{Text, ListSays, line_networks, networks_in}
+use Rattle.cidr_lists.specs.Lists.{Text, ListSays, line_networks, networks_in, way_of}
 use Rattle.cidr_lists.specs.Formats.{Style, styled}
 use Rattle.cidr_lists.specs.Changes.{AreChanges, printed_changes}
 use Rattle.netset_commands.specs.Changes.{AreSame}
@@ -30,7 +30,6 @@ use Rattle.netset_commands.specs.declared.commands.describe.Description.TheVaria
 use Rattle.netset_commands.specs.declared.commands.table.Verb.{Verb}
 use Rattle.netset_commands.specs.declared.commands.Reading.{Reading}
 use Rattle.cidr_lists.specs.declared.columns.Column.{Column}
-use Rattle.cidr_lists.specs.declared.lines.HostBits.TheVariants.{Refused, Cleared}
 use Rattle.cidr_lists.specs.declared.sets.Form.{Form}
 use Rattle.cidr_lists.specs.declared.sets.Form.TheVariants.{Networks}
 use Rattle.netset_commands.specs.declared.commands.operations.Operation.{Operation}
@@ -120,7 +119,7 @@ ReadsInputTwice request = 1 < count_by (is_word input_name) (lists_of request ++
 -- how lists are read by these options
 abbrev pub reading_of : List (List ℕ) → Reading
 reading_of options = record {
-  host_bits = if has (codes "--host-bits") options then Cleared else Refused;
+  host_bits = way_of (has (codes "--host-bits") options) (has (codes "--masks") options);
   keeps_going = has (codes "-k") options;
 }
 

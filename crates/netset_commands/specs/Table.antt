@@ -36,7 +36,7 @@ row name options values needed most about = record { name = name; options = opti
 -- the options without a value: of the commands that read lists of networks, with those of `match` before, of the others that
 -- read lists, and of all others
 abbrev pub list_options : List (List ℕ)
-list_options = codes "--host-bits" ∷ codes "-k" ∷ codes "-h" ∷ codes "--help" ∷ []
+list_options = codes "--host-bits" ∷ codes "--masks" ∷ codes "-k" ∷ codes "-h" ∷ codes "--help" ∷ []
 
 abbrev pub match_options : List (List ℕ)
 match_options = codes "--any" ∷ codes "-v" ∷ codes "-c" ∷ codes "-q" ∷ list_options

@@ -267,11 +267,7 @@ pub fn reading_of(options: &[&str]) -> Reading
     ensures { result ≡ reading_of (texts options.now) }
 {
     Reading {
-        host_bits: if has(options, "--host-bits") {
-            HostBits::Cleared
-        } else {
-            HostBits::Refused
-        },
+        host_bits: HostBits::by(has(options, "--host-bits"), has(options, "--masks")),
         keeps_going: has(options, "-k"),
     }
 }

@@ -114,7 +114,7 @@ const VERSION: &str =
     "netset --version        the version, and the line of the kit that proves the program\n";
 
 pub const HOST_BITS: &str =
-    "--host-bits             a bit set behind the prefix of a network in a list is taken as unset,\n                        and is no error\n";
+    "--host-bits             a bit set behind the prefix of a network in a list is taken as unset,\n                        and is no error\n--masks                 a network in a list may have a mask in place of its prefix length, as\n                        192.0.2.0/255.255.255.0 and 192.0.2.0 0.0.0.255\n";
 
 pub const KEEP_GOING: &str =
     "-k                      each line of a list in error is told, and not only the first\n";
@@ -130,7 +130,7 @@ pub const OPTIONS: &str =
     "\nOptions stand anywhere behind the command; those of one letter may be joined, as -vc:\n";
 
 pub const LISTS: &str =
-    "-h, --help              what this page says of the command\n--                      what is behind it are no options\n--host-bits is for commands that read lists, but check and which, -k for all that read lists, and\n--format, --prefix and --suffix are for merge, nets, minus, and and not, and -o is for these,\nranges, count, diff, free, reverse, mask and split.\n\nA line of a list is a network, an address or a range FIRST-LAST, and may end in a comment\nfrom # or ; on. The file - is the standard input, which is also read where no file is named.\nStatus: 0 done, 1 none, a difference or findings, 2 usage, a wrong argument, a file that\ncannot be read or a line in error, 3 output or memory.\n";
+    "-h, --help              what this page says of the command\n--                      what is behind it are no options\n--host-bits and --masks are for commands that read lists, but check and which, -k for all that read\nlists, and --format, --prefix and --suffix are for merge, nets, minus, and and not, and -o is for\nthese, ranges, count, diff, free, reverse, mask and split.\n\nA line of a list is a network, an address or a range FIRST-LAST, and may end in a comment\nfrom # or ; on. The file - is the standard input, which is also read where no file is named.\nStatus: 0 done, 1 none, a difference or findings, 2 usage, a wrong argument, a file that\ncannot be read or a line in error, 3 output or memory.\n";
 
 /// The commands, in their order on the page.
 pub fn commands() -> &'static [Verb]
@@ -179,8 +179,8 @@ pub fn options_of(command: Verb) -> &'static [&'static str]
         | Verb::Look
         | Verb::Compile
         | Verb::Describe(_)
-        | Verb::Split => { &["--host-bits", "-k", "-h", "--help"] }
-        Verb::Free => &["--all", "--host-bits", "-k", "-h", "--help"],
+        | Verb::Split => { &["--host-bits", "--masks", "-k", "-h", "--help"] }
+        Verb::Free => &["--all", "--host-bits", "--masks", "-k", "-h", "--help"],
         Verb::Check | Verb::Which => &["-k", "-h", "--help"],
         Verb::Match => &[
             "--any",
@@ -188,6 +188,7 @@ pub fn options_of(command: Verb) -> &'static [&'static str]
             "-c",
             "-q",
             "--host-bits",
+            "--masks",
             "-k",
             "-h",
             "--help",
