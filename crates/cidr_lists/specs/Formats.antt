@@ -1,12 +1,15 @@
 -- What is printed of sets for other tools: of each family a head, its networks, and a tail. The head makes the set of the
 -- tool anew, so that it then has these addresses and no others.
-use Rattle.std.specs.Prelude.{ℕ, Bool, true, false, if◌then◌else◌, ◌==◌, List, [], ◌∷◌, ◌++◌, length, bytes_eq, codes, decimal, Option}
+use Rattle.std.specs.Prelude.{ℕ, Bool, true, false, if◌then◌else◌, ◌==◌, List, [], ◌∷◌, ◌++◌, length, bytes_eq, codes, decimal, ◌≡◌, Option, Some, None, option_map}
 use Rattle.std.specs.List.{find, flat_map}
 use Rattle.cidr.specs.model.Network.{width_of, first_of, last_of}
 use Rattle.cidr.specs.texts.Printed.{plain_text, forced_text}
 use Rattle.cidr.specs.texts.PrintedAddress.{address_text}
 use Rattle.cidr.specs.declared.family.Family.{Family}
 use Rattle.cidr.specs.declared.family.Family.TheVariants.{Ipv4, Ipv6}
+use Rattle.cidr_sets.specs.model.Sets.{IsSetOf}
+use Rattle.cidr_lists.specs.Printing.{line}
+use Rattle.cidr_lists.specs.Sets.{printed_sets}
 use Rattle.cidr_lists.specs.declared.formats.Format.{Format}
 use Rattle.cidr_lists.specs.declared.formats.Format.TheVariants as format
 use Rattle.cidr_lists.specs.declared.formats.Layout.{Layout as GivenLayout}
@@ -175,6 +178,38 @@ styled_family style family networks = laid_out (λ notation p. network_by notati
 abbrev pub styled : Style → (Family → List (List Bool)) → List ℕ
 styled style sets = styled_family style Ipv4 (sets Ipv4) ++ styled_family style Ipv6 (sets Ipv6)
 
+-- the same in a style, or a network a line where there is none
+abbrev pub printed_by : Option Style → (Family → List (List Bool)) → List ℕ
+printed_by None sets = printed_sets sets
+printed_by (Some style) sets = styled style sets
+
+-- what is printed so of the shortest list of networks of each family that has these addresses
+abbrev pub IsPrintBy : Option Style → (Family → List Bool → Type 0) → List ℕ → Type 0
+IsPrintBy style IsIn text =
+    (sets : Family → List (List Bool)) × ((family : Family) → IsSetOf 129 (IsIn family) (sets family)) × (text ≡ printed_by style sets)
+
+-- ---- what is printed of networks of both families that come one after the other
+-- a network, where it is of the family
+abbrev pub of_family : Family → Family × List Bool → List (List Bool)
+of_family Ipv4 (Ipv4, prefix) = prefix ∷ []
+of_family Ipv4 (Ipv6, prefix) = []
+of_family Ipv6 (Ipv4, prefix) = []
+of_family Ipv6 (Ipv6, prefix) = prefix ∷ []
+
+-- a network as a line
+abbrev pub subnet_line : Family × List Bool → List ℕ
+subnet_line (family, prefix) = line (plain_text family prefix)
+
+-- those of each family in a style, or one a line where there is none
+abbrev pub printed_walk : Option Style → List (Family × List Bool) → List ℕ
+printed_walk None walk = flat_map subnet_line walk
+printed_walk (Some style) walk = styled style (λ family. flat_map (of_family family) walk)
+
+-- nothing in front of a network and nothing behind, where there is a style
+abbrev pub IsBare : Option Style → Type 0
+IsBare None = Unit {0}
+IsBare (Some style) = style ≡ bare style.format
+
 -- the name of a format
 abbrev pub format_name : Format → List ℕ
 format_name format.Plain = codes "plain"
@@ -195,6 +230,28 @@ abbrev pub format_of : List ℕ → Option Format
 format_of name = find (λ (format : Format). bytes_eq (format_name format) name) formats
 
 -- ---- what private functions promise
+-- a network of either family
+abbrev pub either_by : Notation → Family × List Bool → List ℕ
+either_by notation network = network_by notation network.0 network.1
+
+-- how the networks of a family are printed where they come one after the other
+abbrev pub lines_alone : Layout
+lines_alone = record { none = []; head = []; before = []; notation = Plain; behind = codes "\n"; between = []; tail = [] }
+
+abbrev pub walk_layout : Option Style → Family → Layout
+walk_layout None family = lines_alone
+walk_layout (Some style) family = layout_of style family
+
+-- what stands in front of the next network: the one before it and what is between, or the head
+abbrev pub before_next : Layout → Option (Family × List Bool) → List ℕ
+before_next layout None = layout.head
+before_next layout (Some network) = row either_by layout network ++ layout.between
+
+-- the last one and the tail, or what stands for no network
+abbrev pub last_row : Layout → Option (Family × List Bool) → List ℕ
+last_row layout None = layout.none
+last_row layout (Some network) = row either_by layout network ++ layout.tail
+
 -- the texts of a style
 abbrev pub style_in : GivenStyle → Style
 style_in style = record { format = style.format; prefix = style.prefix.now; suffix = style.suffix.now }

@@ -2,16 +2,17 @@
 //!
 //! Each tool has a set for IPv4, `netset4`, and one for IPv6, `netset6`. A format is a [`Layout`] for each family, so that
 //! a further one is such a layout.
-ghost use Rattle.std.specs.Prelude.{◌≡◌, ◌≤◌, ◌++◌, ◌∷◌, [], ℕ, List, length, IfOk, OnOk};
+ghost use Rattle.std.specs.Prelude.{◌≡◌, ◌≤◌, ◌++◌, ◌∷◌, [], ℕ, List, length, option_map, IfOk, OnOk};
+ghost use Rattle.cidr.specs.either.IpNetwork.{network_family, network_prefix};
 ghost use Rattle.cidr.specs.declared.family.Family.TheVariants.{Ipv4, Ipv6};
-ghost use Rattle.cidr_lists.specs.Formats.{and_longer, bird, cisco, format_name, format_of, formats, halved, ipset, iptables, json, juniper, laid_out, later_rows, layout_in, layout_of, lines_layout, members, nft, plain_layout, row, style_in, styled};
+ghost use Rattle.cidr_lists.specs.Formats.{and_longer, bird, cisco, format_name, format_of, formats, halved, ipset, iptables, json, juniper, laid_out, later_rows, layout_in, layout_of, lines_alone, lines_layout, members, network_by, nft, plain_layout, row, style_in, styled, walk_layout};
 ghost use Rattle.cidr_lists.specs.Sets.{networks_of};
 ghost use Rattle.cidr_lists.specs.declared.formats.Notation.{Notation as ANotation};
 
 use crate::printing::Printed;
 use crate::sets::Sets;
 use arrayvec::ArrayString;
-use cidr::{BitString, Family, Ipv4Cidr, Ipv6Cidr};
+use cidr::{BitString, Family, IpCidr, Ipv4Cidr, Ipv6Cidr};
 use itoa::Buffer;
 use std::alloc::{AllocError, Global};
 
@@ -248,6 +249,16 @@ impl Written for Ipv6Cidr {
     }
 }
 
+/// A network of either family in a notation: at most 200 bytes.
+pub fn network_text(network: &IpCidr, notation: Notation) -> ArrayString<MOST>
+    ensures { result.bytes ≡ network_by notation (network_family network.now) (network_prefix network.now) }
+{
+    match network {
+        IpCidr::V4(network) => network.written(notation),
+        IpCidr::V6(network) => network.written(notation),
+    }
+}
+
 /// A network a line, between two texts.
 fn plain<'a>(prefix: &'a str, suffix: &'a str) -> Layout<'a>
     ensures { layout_in result ≡ plain_layout prefix.now suffix.now }
@@ -444,6 +455,32 @@ pub fn layout_of<'a>(style: &Style<'a>, family: Family) -> Layout<'a>
         Format::Cisco => cisco(family),
         Format::Juniper => juniper(family),
         Format::Bird => bird(family),
+    }
+}
+
+/// A network a line, and nothing else.
+fn lines_alone() -> Layout<'static>
+    ensures { layout_in result ≡ lines_alone }
+{
+    Layout {
+        none: "",
+        head: "",
+        before: "",
+        notation: Notation::Plain,
+        behind: "\n",
+        between: "",
+        tail: "",
+    }
+}
+
+/// What is printed of the networks of a family where they come one after the other: in a style, or a network a line where
+/// there is none.
+pub fn walk_layout<'a>(style: Option<Style<'a>>, family: Family) -> Layout<'a>
+    ensures { layout_in result ≡ walk_layout (option_map (λ s. style_in s) style.entry) family }
+{
+    match style {
+        None => lines_alone(),
+        Some(style) => layout_of(&style, family),
     }
 }
 

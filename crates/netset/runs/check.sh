@@ -277,7 +277,24 @@ define netset6 = [
     run 2 '' "--suffix: for the format plain alone$other" '' merge --format nft --suffix x
     run 2 '' "nft: one argument too many$other" '' merge --format json --format nft
     run 2 '' "VALUE is missing$other" '' merge --format
-    run 2 '' $'--in: not with --format, --prefix or --suffix, see: netset help not\n' '' not --in ::/0 --format json
+    run 0 $'10.128.0.0/9 x\n' '' '10.0.0.0/9' not --in 10.0.0.0/8 --suffix ' x'
+    run 0 $'{"network":"10.128.0.0/9","first":"10.128.0.0","last":"10.255.255.255","length":9,"family":"IPv4"}\n' \
+        '' '10.0.0.0/9' not --format json --in=10.0.0.0/8 -
+    run 0 '' '' '' not --in 10.0.0.0/9 --format json ten
+    run 0 $'create netset4 hash:net family inet maxelem 4294967295
+flush netset4
+create netset6 hash:net family inet6 maxelem 4294967295
+flush netset6
+add netset6 ::/1
+add netset6 8000::/1\n' '' '' not --in ::/0 ten --format ipset
+    run 0 $'no ip prefix-list netset4
+ip prefix-list netset4 permit 10.128.0.0/9 le 32
+no ipv6 prefix-list netset6
+ipv6 prefix-list netset6 deny ::/0 le 128\n' '' '10.0.0.0/9' not --in 10.0.0.0/8 - --format cisco
+    run 2 '' $'--prefix: for the format plain alone, see: netset help not\n' '' not --in ::/0 --format json --prefix x
+    run 2 '' $'x: no such format, but plain, json, nft, ipset, iptables, cisco, juniper and bird, see: netset help not\n' '' not --in ::/0 --format x
+    run 2 '' $'10.0.0.1/8: host bits set; the network is 10.0.0.0/8\n' '' not --in 10.0.0.1/8 --format json missing
+    run 2 '' $'missing: no such file\n' '' not --in ::/0 --format json missing
     run 2 '' $'--format: no such option, see: netset help ranges\n' '' ranges --format json
     run 2 '' $'--format: no such option, see: netset help diff\n' '' diff --format json ten both
     run 2 '' $'missing: no such file\n' '' merge --format nft missing
@@ -857,6 +874,8 @@ rows_where_a_stream_fails() {
     run 2 '' $'-:1: x: invalid IP address syntax\n' 'x' look owners
     run 1 '' '' '' look owners
     run 3 '' $'output failed\n' '' not --in ::/0 ten
+    run 3 '' $'output failed\n' '' not --in ::/0 ten --format nft
+    run 0 '' '' '' not --in 10.0.0.0/8 ten --format json
     run 3 '' $'output failed\n' '10.0.0.1' match ten
     run 3 '' $'output failed\n' '10.0.0.1\nx' match ten
     run 3 '' $'output failed\n' '10.0.0.1' match -c ten
@@ -990,6 +1009,8 @@ rows_of_outputs() {
     saved made 'x0.0.0.0/0\nx8000::/1\n'
     run 0 '' '' '' not --in 10.0.0.0/7 -o made ten
     saved made '11.0.0.0/8\n'
+    run 0 '' '' '' not --in 10.0.0.0/7 -o made ten --prefix=x
+    saved made 'x11.0.0.0/8\n'
     run 0 '' '' '' ranges ten -o made
     saved made '10.0.0.0-10.255.255.255\n'
     run 0 '' '' '' count ten -o made
@@ -1241,6 +1262,7 @@ rows_without_memory() {
     done
     refuse '10.0.0.1/9\n10.0.0.0/9\n10.128.0.0/9\n::\n' check - both
     refuse '10.0.0.0/9\n' not --in ::/0 -
+    refuse '10.0.0.0/9\n' not --in ::/0 - --format json
     refuse '10.0.0.0/9\n' merge --host-bits -
     refuse '10.0.0.0 255.128.0.0\n' merge --masks -
     refuse '10.0.0.0/9\n' merge -k both -

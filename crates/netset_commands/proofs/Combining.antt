@@ -1,5 +1,5 @@
 -- Sets put together, and the lists that they stand for.
-use Rattle.std.proofs.Common.{◌≡◌, ◌↔◌, ◌⊎◌, refl, sym, ◌∙◌, inl, inr, ℕ, List, Bool, [], ◌∷◌, length, true, false, Option, Result}
+use Rattle.std.proofs.Common.{◌≡◌, ◌↔◌, ◌⊎◌, refl, sym, ◌∙◌, inl, inr, ℕ, List, Bool, [], ◌∷◌, length, true, false, subst, Option, Result, IfErr}
 use Rattle.std.specs.List.{AllZip}
 use Rattle.cidr.specs.declared.cidr.combined.IpCidr.{IpCidr}
 use Rattle.cidr.specs.either.IpText.{IsIpNetworkText}
@@ -8,14 +8,15 @@ use Rattle.cidr_table.specs.model.Cover.{Covers}
 use Rattle.cidr_sets.specs.model.Sets.{IsSetOf}
 use Rattle.cidr_io.specs.Writing.{State, Answered}
 use Rattle.cidr_io.specs.declared.sink.OutputFailed.{OutputFailed}
-use Rattle.netset_commands.specs.Answering.{AreRead, HasAddresses}
+use Rattle.netset_commands.specs.Answering.{AreRead, HasAddresses, PrintsBy}
+use Rattle.netset_commands.specs.Causes.{Cause}
 use Rattle.cidr_lists.specs.Combining.{AllHave, FirstAlone, SomeHas}
 use Rattle.netset_commands.specs.Combining.{IsMade, Turned, form_of, step_of, turns}
-use Rattle.cidr_lists.specs.Sets.{Combined, Steps, IsInSets, networks_of, printed_sets}
+use Rattle.cidr_lists.specs.Sets.{Combined, Steps, IsInSets, networks_of}
 use Rattle.cidr_lists.specs.Texts.{SaysAddress}
 use Rattle.netset_commands.specs.Commands.{Lists, Styled, NotIn, read_files}
 use Rattle.netset_commands.specs.Program.{AnswersRequest, by_output}
-use Rattle.cidr_lists.specs.Formats.{Style, styled}
+use Rattle.cidr_lists.specs.Formats.{Style, printed_by, styled}
 use Rattle.cidr_lists.specs.Lists.{Text, line_networks}
 use Rattle.netset_commands.specs.Sets.{Prints}
 use Rattle.netset_commands.specs.declared.output.answers.Verdict.{Verdict}
@@ -26,6 +27,7 @@ use Rattle.netset_commands.specs.declared.commands.operations.Operation.TheVaria
 use Rattle.cidr_lists.specs.declared.sets.Step.{Step}
 use Rattle.cidr_lists.specs.declared.sets.Step.TheVariants.{Union, Difference, Intersection}
 use Rattle.cidr_lists.specs.declared.sets.Sets.{Sets}
+use Rattle.netset_commands.proofs.Causes.{output_cause}
 use Rattle.cidr_lists.proofs.SetSteps.{same, chained, steps_same, set_same, IsCombined}
 
 pub turned_same : (turned : Bool) (P Q : Type 0) → (P ↔ Q) → Turned turned P ↔ Turned turned Q
@@ -144,7 +146,7 @@ styled_written contents style operation files read sets text s t w r are made pr
       (
         λ texts told_so.
             let (said, says, has) = are texts told_so in
-            (said, says, networks_of sets, (λ family. set_same _ _ (networks_of sets family) (made family) (λ a wide. made_same IsInSets SaysAddress operation read said family a (has_same said read family a wide has))), printed),
+            (said, says, (networks_of sets, (λ family. set_same _ _ (networks_of sets family) (made family) (λ a wide. made_same IsInSets SaysAddress operation read said family a (has_same said read family a wide has))), printed)),
         refl,
       ),
       written,
@@ -152,15 +154,17 @@ styled_written contents style operation files read sets text s t w r are made pr
     )
 
 -- what both a network and the rest of the lists have
-pub not_in_written : (contents : List ℕ → Option Text) (net : List ℕ) (files : List (List ℕ)) (network : IpCidr) (read : List Sets) (rest whole sets : Sets)
-    (s t : State) (w : Result (Unit {0}) OutputFailed) (r : Result Verdict CommandError) → IsIpNetworkText net network → AreRead contents (read_files files) read
+pub not_in_written : (contents : List ℕ → Option Text) (style : Option Style) (net : List ℕ) (files : List (List ℕ)) (network : IpCidr) (read : List Sets) (rest whole sets : Sets)
+    (refused : Bool) (s t : State) (r : Result Verdict CommandError) → IsIpNetworkText net network → AreRead contents (read_files files) read
     → ((family : Family) → IsSetOf 129 (IsMade IsInSets Not read family) (networks_of rest family))
     → ((family : Family) → IsSetOf 129 (Covers (line_networks family (network ∷ []))) (networks_of whole family))
     → ((family : Family) → IsSetOf 129 (λ a. Steps Intersection (IsInSets whole family a) (IsInSets rest family a)) (networks_of sets family))
-    → Answered s t (printed_sets (networks_of sets)) w → r ≡ by_output Yes w → AnswersRequest contents (NotIn net files) s t r
-not_in_written contents net files network read rest whole sets s t w r parsed are made one both written is =
+    → PrintsBy style (networks_of sets) refused s t r → AnswersRequest contents (NotIn style net files) s t r
+not_in_written contents style net files network read rest whole sets refused s t r parsed are made one both (inl (kept, lack, none)) =
+    subst (AnswersRequest contents (NotIn style net files) s t) (sym none) (inl (kept, inr (network, parsed, tt)))
+not_in_written contents style net files network read rest whole sets refused s t r parsed are made one both (inr (w, written, is)) =
     inr (
-      printed_sets (networks_of sets),
+      printed_by style (networks_of sets),
       Yes,
       w,
       (
@@ -183,6 +187,12 @@ not_in_written contents net files network read rest whole sets s t w r parsed ar
       written,
       is,
     )
+
+-- what sets are not printed for
+pub prints_cause : (F : List ℕ → Type 0) (refused : Bool) (style : Option Style) (sets : Family → List (List Bool)) (s t : State) (r : Result Verdict CommandError)
+    → PrintsBy style sets refused s t r → IfErr r (Cause F refused)
+prints_cause F refused style sets s t r (inl (kept, lack, is)) = subst (λ (k : Result Verdict CommandError). IfErr k (Cause F refused)) (sym is) lack
+prints_cause F refused style sets s t r (inr (w, written, is)) = output_cause F refused Yes w r is
 
 -- ---- what an operation makes
 turned_kept : (operation : Operation) (step : Step) (turned : Bool) (first : Sets) (others items : List Sets) (a : List Bool) (family : Family) → step ≡ step_of operation

@@ -86,7 +86,7 @@ answer_done : (contents : List ℕ → Option Text) (request : Request) (verdict
     → Written contents request verdict out new
 answer_done contents (Lists operation files) verdict out new h = whole_done contents (Lists operation files) verdict out new h
 answer_done contents (Styled style operation files) verdict out new h = whole_done contents (Styled style operation files) verdict out new h
-answer_done contents (NotIn net files) verdict out new h = whole_done contents (NotIn net files) verdict out new h
+answer_done contents (NotIn style net files) verdict out new h = whole_done contents (NotIn style net files) verdict out new h
 answer_done contents (Diff old lists) verdict out new h = whole_done contents (Diff old lists) verdict out new h
 answer_done contents (Free extent pool len used) verdict out new h = whole_done contents (Free extent pool len used) verdict out new h
 answer_done contents (Split operand len) verdict out new h = whole_done contents (Split operand len) verdict out new h

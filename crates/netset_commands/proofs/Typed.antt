@@ -23,7 +23,7 @@ use Rattle.netset_commands.proofs.Arguments.{same_text}
 use Rattle.netset_commands.proofs.Parts.{and_first, and_second, before_value, if_false, long_word, operand_word}
 use Rattle.netset_commands.proofs.Running.{read_one}
 use Rattle.netset_commands.proofs.Telling.{none_of}
-use Rattle.netset_commands.proofs.Values.{styled_request}
+use Rattle.netset_commands.proofs.Values.{inside_request, styled_request}
 
 -- options, values and operands
 abbrev parts_with : List (List ℕ) → List (List ℕ) → List (List ℕ) → Parts
@@ -238,9 +238,16 @@ module _ (words options : List (List ℕ)) where
       line_asks (verb.Lists operation) values values files (is, all, no_page, none, enough)
       (behind_value (verb.Lists operation) (codes "--format") (format_name style.format) files (has_format operation takes) none) refl refl
       (Styled style operation files) (styled_request operation style files plain)
-  typed_asks (NotIn net files) (is, all, no_page, none, enough) =
+  typed_asks (NotIn None net files) (no_style, (is, all, no_page, none, enough)) =
       line_asks (verb.Lists Not) (codes "--in" ∷ net ∷ []) (codes "--in" ∷ net ∷ []) files (is, all, no_page, none, enough)
-      (behind_value (verb.Lists Not) (codes "--in") net files refl none) refl refl (NotIn net files) refl
+      (behind_value (verb.Lists Not) (codes "--in") net files refl none) refl refl (NotIn None net files) refl
+  typed_asks (NotIn (Some style) net files) (plain, (is, all, no_page, none, enough)) =
+      let format = codes "--format" ∷ format_name style.format ∷ [] in
+      let values = codes "--in" ∷ net ∷ format in
+      line_asks (verb.Lists Not) values values files (is, all, no_page, none, enough)
+      (behind_values (verb.Lists Not) (codes "--in") net format files refl
+      (behind_value (verb.Lists Not) (codes "--format") (format_name style.format) files refl none)) refl refl
+      (NotIn (Some style) net files) (inside_request style net files plain)
   typed_asks (Diff old new) typed = plain_asks verb.Diff (old ∷ new ∷ []) (Diff old new) typed refl refl
   typed_asks (Free First pool len used) (one, typed) =
       plain_asks verb.Free (pool ∷ len ∷ used) (Free First pool len used) typed refl (extent_asks false [] None First options pool len used one refl refl)

@@ -4,10 +4,11 @@ use Rattle.std.proofs.lemmas.List.{drop_more, length-drop}
 use Rattle.cidr_lists.specs.Formats.{Style, bare, format_name, format_of, formats}
 use Rattle.cidr_lists.specs.declared.formats.Format.{Format}
 use Rattle.cidr_lists.specs.declared.formats.Format.TheVariants as format
-use Rattle.netset_commands.specs.Arguments.{and_then, lists_request, made_request, misuse_text, style_of, taken_value, value_behind, value_of}
-use Rattle.netset_commands.specs.Commands.{Styled}
+use Rattle.netset_commands.specs.Arguments.{and_then, chosen_style, lists_request, made_request, misuse_text, style_of, taken_value, value_behind, value_of}
+use Rattle.netset_commands.specs.Commands.{Styled, NotIn}
 use Rattle.netset_commands.specs.Table.{name_of, texts}
 use Rattle.netset_commands.specs.declared.commands.operations.Operation.{Operation}
+use Rattle.netset_commands.specs.declared.commands.operations.Operation.TheVariants.{Not}
 use Rattle.netset_commands.specs.declared.commands.table.Verb.{Verb}
 use Rattle.netset_commands.specs.declared.commands.table.Verb.TheVariants as verb
 use Rattle.netset_commands.specs.declared.errors.Misfit.TheVariants.{NoFormat}
@@ -84,13 +85,22 @@ bare_style command format.Cisco = refl
 bare_style command format.Juniper = refl
 bare_style command format.Bird = refl
 
+-- the style of a format's name
+pub style_found : (command : Verb) (style : Style) → style ≡ bare style.format → chosen_style command (Some (format_name style.format)) None None ≡ Ok (Some style)
+style_found command style plain =
+    let line = misuse_text (format_name style.format) NoFormat (name_of command) in
+    ap (λ (k : Option Format). and_then (ok_or k line) (λ f. and_then (style_of command f None None) (λ s. Ok (Some s)))) (named_found style.format)
+    ∙ (ap (λ (r : Result Style (List ℕ)). and_then r (λ s. Ok (Some s))) (bare_style command style.format)
+    ∙ ap (λ (k : Style). Ok (Some k)) (sym plain))
+
 -- an operation with a format
 pub styled_request : (operation : Operation) (style : Style) (files : List (List ℕ)) → style ≡ bare style.format
     → lists_request operation (codes "--format" ∷ format_name style.format ∷ []) files ≡ Ok (Styled style operation files)
 styled_request operation style files plain =
-    let command = verb.Lists operation in
-    let line = misuse_text (format_name style.format) NoFormat (name_of command) in
-    ap (λ (k : Option Format). and_then (and_then (ok_or k line) (λ f. and_then (style_of command f None None) (λ s. Ok (Some s))))
-    (λ chosen. made_request operation None chosen files)) (named_found style.format)
-    ∙ (ap (λ (r : Result Style (List ℕ)). and_then (and_then r (λ s. Ok (Some s))) (λ chosen. made_request operation None chosen files)) (bare_style command style.format)
-    ∙ ap (λ (k : Style). Ok (Styled k operation files)) (sym plain))
+    ap (λ (r : Result (Option Style) (List ℕ)). and_then r (λ chosen. Ok (made_request operation None chosen files))) (style_found (verb.Lists operation) style plain)
+
+-- not inside a network with a format
+pub inside_request : (style : Style) (net : List ℕ) (files : List (List ℕ)) → style ≡ bare style.format
+    → lists_request Not (codes "--in" ∷ net ∷ codes "--format" ∷ format_name style.format ∷ []) files ≡ Ok (NotIn (Some style) net files)
+inside_request style net files plain =
+    ap (λ (r : Result (Option Style) (List ℕ)). and_then r (λ chosen. Ok (made_request Not (Some net) chosen files))) (style_found (verb.Lists Not) style plain)

@@ -1,10 +1,11 @@
 -- What functions that read several lists promise.
-use Rattle.std.specs.Prelude.{◌≡◌, ◌⊎◌, ℕ, ◌≤◌, Bool, List, [], ◌∷◌, Option, Some, None, Result, Ok, Err}
+use Rattle.std.specs.Prelude.{◌≡◌, ◌⊎◌, ℕ, ◌≤◌, Bool, true, List, [], ◌∷◌, Option, Some, None, Result, Ok, Err}
 use Rattle.std.specs.List.{AllZip}
 use Rattle.cidr.specs.declared.cidr.combined.IpCidr.{IpCidr}
 use Rattle.cidr.specs.declared.family.Family.{Family}
 use Rattle.cidr_sets.specs.model.Sets.{IsSetOf}
 use Rattle.cidr_lists.specs.Changes.{merged}
+use Rattle.cidr_lists.specs.Formats.{Style, printed_by}
 use Rattle.cidr_lists.specs.Lists.{Text, ListSays, IsFirstError, networks_in}
 use Rattle.cidr_lists.specs.Reading.{Grows}
 use Rattle.cidr_lists.specs.Sets.{networks_of}
@@ -106,6 +107,11 @@ ReadsOperand contents operand (Err e) = IsUnreadOperand contents operand e
 abbrev pub ReadsPool : (List ℕ → Option Text) → List ℕ → List (List ℕ) → Result Several CommandError → Type 0
 ReadsPool contents pool used (Ok several) = ReadsOperand contents pool (Ok several.first) × AreRead contents used several.others.items
 ReadsPool contents pool used (Err e) = IsUnreadPool contents pool used e
+
+-- what is printed of sets in a style was written, or there was no memory for it
+abbrev pub PrintsBy : Option Style → (Family → List (List Bool)) → Bool → State → State → Result Verdict CommandError → Type 0
+PrintsBy style sets refused old new r = ((new ≡ old) × (refused ≡ true) × (r ≡ Err error.NoMemory))
+    ⊎ ((written : Result (Unit {0}) OutputFailed) × Answered old new (printed_by style sets) written × (r ≡ by_output Yes written))
 
 -- the free networks of sets were told
 abbrev pub TellsFree : (Family → List (List Bool)) → ℕ → Option ℕ → State → State → Result Verdict CommandError → Type 0

@@ -19,7 +19,7 @@ use Rattle.netset_commands.specs.declared.commands.operations.Operation.{Operati
 use Rattle.netset_commands.specs.declared.commands.table.Verb.{Verb}
 use Rattle.netset_commands.specs.declared.commands.table.Verb.TheVariants as verb
 use Rattle.netset_commands.specs.declared.errors.Misfit.{Misfit}
-use Rattle.netset_commands.specs.declared.errors.Misfit.TheVariants.{Unnamed, NoCommand, NoOption, Missing, Extra, NoFormat, NotPlain, NotStyled, NoField, Anywhere}
+use Rattle.netset_commands.specs.declared.errors.Misfit.TheVariants.{Unnamed, NoCommand, NoOption, Missing, Extra, NoFormat, NotPlain, NoField, Anywhere}
 
 -- ---- the line of a word that is wrong
 abbrev pub misfit_text : Misfit → List ℕ
@@ -32,7 +32,6 @@ misfit_text NoFormat = codes ": no such format, but plain, json, nft, ipset, ipt
 misfit_text NotPlain = codes ": for the format plain alone, see: netset help "
 misfit_text NoField = codes ": only with --field, see: netset help "
 misfit_text Anywhere = codes ": not with --any, see: netset help "
-misfit_text NotStyled = codes ": not with --format, --prefix or --suffix, see: netset help "
 
 -- the word or what is missing, what is wrong with it, and the command whose page is to be seen
 abbrev pub misuse_text : List ℕ → Misfit → List ℕ → List ℕ
@@ -210,15 +209,14 @@ style_in_values command values = and_then (value_of command (codes "--format") v
     (λ prefix. and_then (value_of command (codes "--suffix") values) (λ suffix. chosen_style command name prefix suffix)))
 
 -- an operation on lists; not may be inside a network
-abbrev pub made_request : Operation → Option (List ℕ) → Option Style → List (List ℕ) → Result Request (List ℕ)
-made_request operation None None files = Ok (Lists operation files)
-made_request operation None (Some style) files = Ok (Styled style operation files)
-made_request operation (Some net) None files = Ok (NotIn net files)
-made_request operation (Some net) (Some style) files = Err (misuse_text (codes "--in") NotStyled (name_of (verb.Lists operation)))
+abbrev pub made_request : Operation → Option (List ℕ) → Option Style → List (List ℕ) → Request
+made_request operation None None files = Lists operation files
+made_request operation None (Some style) files = Styled style operation files
+made_request operation (Some net) style files = NotIn style net files
 
 abbrev pub lists_request : Operation → List (List ℕ) → List (List ℕ) → Result Request (List ℕ)
 lists_request operation values files = and_then (value_of (verb.Lists operation) (codes "--in") values)
-    (λ net. and_then (style_in_values (verb.Lists operation) values) (λ style. made_request operation net style files))
+    (λ net. and_then (style_in_values (verb.Lists operation) values) (λ style. Ok (made_request operation net style files)))
 
 -- how many networks free is to tell: by the value of --count, or by --all, or the first
 abbrev pub extent_by : Bool → Option (List ℕ) → Result Extent (List ℕ)

@@ -46,7 +46,7 @@ choice_of (choice.Field number separator) = FieldOf number.now (given separator)
 abbrev pub request_of : Command → Request
 request_of (command.Lists operation files) = Lists operation (map (λ file. file.now) files.now)
 request_of (command.Styled style operation files) = Styled (style_in style) operation (map (λ file. file.now) files.now)
-request_of (command.NotIn net files) = NotIn net.now (map (λ file. file.now) files.now)
+request_of (command.NotIn style net files) = NotIn (option_map (λ s. style_in s) style) net.now (map (λ file. file.now) files.now)
 request_of (command.Diff old new) = Diff old.now new.now
 request_of (command.Free extent pool len used) = Free (extent_of extent) pool.now len.now (map (λ file. file.now) used.now)
 request_of (command.Split operand len) = Split operand.now len.now

@@ -14,7 +14,7 @@ use Rattle.netset_commands.specs.Findings.{IsCheck}
 use Rattle.netset_commands.specs.Free.{Extent, IsFreeText, IsMost}
 use Rattle.netset_commands.specs.Look.{IsLook}
 use Rattle.cidr_lists.specs.Lists.{Text, ListSays, line_networks, networks_in, way_of}
-use Rattle.cidr_lists.specs.Formats.{Style, styled}
+use Rattle.cidr_lists.specs.Formats.{Style, IsPrintBy}
 use Rattle.cidr_lists.specs.Changes.{AreChanges, printed_changes}
 use Rattle.netset_commands.specs.Changes.{AreSame}
 use Rattle.netset_commands.specs.Combining.{form_of, IsMade}
@@ -31,7 +31,6 @@ use Rattle.netset_commands.specs.declared.commands.table.Verb.{Verb}
 use Rattle.netset_commands.specs.declared.commands.Reading.{Reading}
 use Rattle.cidr_lists.specs.declared.columns.Column.{Column}
 use Rattle.cidr_lists.specs.declared.sets.Form.{Form}
-use Rattle.cidr_lists.specs.declared.sets.Form.TheVariants.{Networks}
 use Rattle.netset_commands.specs.declared.commands.operations.Operation.{Operation}
 use Rattle.netset_commands.specs.declared.commands.operations.Operation.TheVariants.{Minus, Not}
 use Rattle.cidr_lists.specs.Sets.{IsPrinted}
@@ -45,7 +44,7 @@ use Rattle.cidr_lists.specs.declared.changes.Sign.{Sign}
 pub data Request : Type 0 where
   Lists : Operation → List (List ℕ) → Request
   Styled : Style → Operation → List (List ℕ) → Request
-  NotIn : List ℕ → List (List ℕ) → Request
+  NotIn : Option Style → List ℕ → List (List ℕ) → Request
   Diff : List ℕ → List ℕ → Request
   Free : Extent → List ℕ → List ℕ → List (List ℕ) → Request
   Split : List ℕ → List ℕ → Request
@@ -75,7 +74,7 @@ read_files (file ∷ files) = file ∷ files
 abbrev pub lists_of : Request → List (List ℕ)
 lists_of (Lists operation files) = read_files files
 lists_of (Styled style operation files) = read_files files
-lists_of (NotIn net files) = read_files files
+lists_of (NotIn style net files) = read_files files
 lists_of (Diff old new) = old ∷ new ∷ []
 lists_of (Free extent pool len used) = pool ∷ used
 lists_of (Split operand len) = operand ∷ []
@@ -138,17 +137,15 @@ abbrev pub IsMadeOf : Operation → List Text → List ℕ → Type 0
 IsMadeOf operation texts answer =
     (said : List (List (List IpCidr))) × AllZip ListSays texts said × IsPrintOf (form_of operation) (IsMade SaysAddress operation said) answer
 
--- the same in a style: what is printed of the shortest list of networks of each family that has these addresses
+-- the same in a style
 abbrev pub IsStyledOf : Style → Operation → List Text → List ℕ → Type 0
-IsStyledOf style operation texts answer = (said : List (List (List IpCidr))) × AllZip ListSays texts said
-    × (sets : Family → List (List Bool)) × ((family : Family) → IsSetOf 129 (IsMade SaysAddress operation said family) (sets family))
-    × (answer ≡ styled style sets)
+IsStyledOf style operation texts answer =
+    (said : List (List (List IpCidr))) × AllZip ListSays texts said × IsPrintBy (Some style) (IsMade SaysAddress operation said) answer
 
 -- the addresses of a network that none of the lists has
-abbrev pub IsNotIn : IpCidr → List Text → List ℕ → Type 0
-IsNotIn network texts answer = (said : List (List (List IpCidr))) × AllZip ListSays texts said
-    × IsPrintOf Networks (λ family a. Covers (line_networks family (network ∷ [])) a × IsMade SaysAddress Not said family a)
-    answer
+abbrev pub IsNotIn : Option Style → IpCidr → List Text → List ℕ → Type 0
+IsNotIn style network texts answer = (said : List (List (List IpCidr))) × AllZip ListSays texts said
+    × IsPrintBy style (λ family a. Covers (line_networks family (network ∷ [])) a × IsMade SaysAddress Not said family a) answer
 
 -- what a list has and another has not, both ways
 abbrev pub IsDiff : Text → Text → List ℕ → Verdict → Type 0
@@ -208,8 +205,8 @@ IsAnswer contents (Lists operation files) answer verdict =
     ((texts : List Text) → AreTold contents (read_files files) texts → IsMadeOf operation texts answer) × (verdict ≡ Yes)
 IsAnswer contents (Styled style operation files) answer verdict =
     ((texts : List Text) → AreTold contents (read_files files) texts → IsStyledOf style operation texts answer) × (verdict ≡ Yes)
-IsAnswer contents (NotIn net files) answer verdict = (network : IpCidr) × IsIpNetworkText net network
-    × ((texts : List Text) → AreTold contents (read_files files) texts → IsNotIn network texts answer) × (verdict ≡ Yes)
+IsAnswer contents (NotIn style net files) answer verdict = (network : IpCidr) × IsIpNetworkText net network
+    × ((texts : List Text) → AreTold contents (read_files files) texts → IsNotIn style network texts answer) × (verdict ≡ Yes)
 IsAnswer contents (Diff old new) answer verdict =
     (before after : Text) → contents old ≡ Some before → contents new ≡ Some after → IsDiff before after answer verdict
 IsAnswer contents (Free extent pool len used) answer verdict = (n : ℕ) × IsNumber len n × (n ≤ 128) × (most : Option ℕ) × IsMost extent most

@@ -70,7 +70,7 @@ IsSameFile table name e = (table ≡ name) × IsBadArgument (λ text why. (text 
 
 -- an argument that is wrong whatever the lists say
 abbrev pub IsWrong : Request → CommandError → Type 0
-IsWrong (NotIn net files) e = IsBadArgument (λ text bad. (text ≡ net) × IsNoNetwork net bad) e
+IsWrong (NotIn style net files) e = IsBadArgument (λ text bad. (text ≡ net) × IsNoNetwork net bad) e
 IsWrong (Free extent pool len used) e = IsBadArgument (IsBadFree extent len) e
 IsWrong (Which text files) e = IsBadArgument (IsNoAddressArgument text) e
 IsWrong (Match choice options list file) e = IsBadArgument (IsBadChoice choice) e
@@ -97,7 +97,7 @@ abbrev pub IsRequestRefused : (List ℕ → Option Text) → Request → Result 
 IsRequestRefused contents request (Ok verdict) = ⊥
 IsRequestRefused contents (Lists operation files) (Err e) = IsUnread contents (read_files files) e
 IsRequestRefused contents (Styled style operation files) (Err e) = IsUnread contents (read_files files) e
-IsRequestRefused contents (NotIn net files) (Err e) = IsWrong (NotIn net files) e
+IsRequestRefused contents (NotIn style net files) (Err e) = IsWrong (NotIn style net files) e
     ⊎ ((network : IpCidr) × IsIpNetworkText net network × IsUnread contents (read_files files) e)
 IsRequestRefused contents (Diff old new) (Err e) = IsUnread contents (old ∷ new ∷ []) e
 IsRequestRefused contents (Free extent pool len used) (Err e) = IsBadArgument (IsBadFree extent len) e

@@ -4,7 +4,7 @@ use Rattle.std.specs.Prelude.{◌≡◌, ◌⊎◌, ℕ, true, false, List, [], 
 use Rattle.std.specs.List.{list_all, list_any}
 use Rattle.cidr_io.specs.Writing.{State, Whole, Tells}
 use Rattle.cidr_lists.specs.Lists.{Text}
-use Rattle.cidr_lists.specs.Formats.{bare, format_name}
+use Rattle.cidr_lists.specs.Formats.{IsBare, Style, bare, format_name}
 use Rattle.netset_commands.specs.Arguments.{asks_help, is_option, missing_operand, takes}
 use Rattle.netset_commands.specs.Commands.{Request, Lists, Styled, NotIn, Diff, Free, Split, Check, Which, Match, MatchEach, Look, Compile, Describe, Class, Single, Help, Version, IsAnswer, input_name, reading_of}
 use Rattle.netset_commands.specs.Free.{First, Count, All}
@@ -40,13 +40,18 @@ abbrev pub GoesWith : Choice → List (List ℕ) → Type 0
 GoesWith FirstField options = Unit {0}
 GoesWith (FieldOf number separator) options = has (codes "--any") options ≡ false
 
+-- the option that tells a style, with its value
+abbrev pub style_words : Option Style → List (List ℕ)
+style_words None = []
+style_words (Some style) = codes "--format" ∷ format_name style.format ∷ []
+
 -- these words, with these options, are a request
 abbrev pub IsTyped : List (List ℕ) → List (List ℕ) → Request → Type 0
 IsTyped words options (Lists operation files) = AreTyped (verb.Lists operation) options [] files words
 IsTyped words options (Styled style operation files) = (style ≡ bare style.format)
     × (takes_value (verb.Lists operation) (codes "--format") ≡ true)
     × AreTyped (verb.Lists operation) options (codes "--format" ∷ format_name style.format ∷ []) files words
-IsTyped words options (NotIn net files) = AreTyped (verb.Lists Not) options (codes "--in" ∷ net ∷ []) files words
+IsTyped words options (NotIn style net files) = IsBare style × AreTyped (verb.Lists Not) options (codes "--in" ∷ net ∷ style_words style) files words
 IsTyped words options (Diff old new) = AreTyped verb.Diff options [] (old ∷ new ∷ []) words
 IsTyped words options (Free First pool len used) = (has (codes "--all") options ≡ false) × AreTyped verb.Free options [] (pool ∷ len ∷ used) words
 IsTyped words options (Free (Count count) pool len used) =

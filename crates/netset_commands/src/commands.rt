@@ -48,8 +48,8 @@ pub enum Command<'a> {
     Lists(Operation, &'a [&'a str]),
     /// The same, and how the networks are written.
     Styled(Style<'a>, Operation, &'a [&'a str]),
-    /// The addresses of a network that no list of these files has.
-    NotIn(&'a str, &'a [&'a str]),
+    /// The addresses of a network that no list of these files has, and how they are written, if that is told.
+    NotIn(Option<Style<'a>>, &'a str, &'a [&'a str]),
     /// What the second file adds to the first one, and what it lacks.
     Diff(&'a str, &'a str),
     /// The free networks of a prefix length in a pool, of whose addresses others are used.
@@ -147,7 +147,7 @@ impl<'a> Command<'a> {
         match self {
             Command::Lists(_, files)
             | Command::Styled(_, _, files)
-            | Command::NotIn(_, files)
+            | Command::NotIn(_, _, files)
             | Command::Check(files)
             | Command::Which(_, files) => {
                 if files.is_empty() {
@@ -184,7 +184,7 @@ impl<'a> Command<'a> {
             Command::Describe(what, operand) => is_no_list(*what, operand),
             Command::Lists(_, _)
             | Command::Styled(_, _, _)
-            | Command::NotIn(_, _)
+            | Command::NotIn(_, _, _)
             | Command::Diff(_, _)
             | Command::Check(_)
             | Command::Which(_, _)

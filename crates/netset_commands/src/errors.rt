@@ -47,8 +47,6 @@ pub enum Misfit {
     NoFormat,
     /// It is an option for the format `plain` alone.
     NotPlain,
-    /// It is an option that no option of formats goes with.
-    NotStyled,
     /// It is an option that only goes with `--field`.
     NoField,
     /// It is an option that does not go with `--any`.

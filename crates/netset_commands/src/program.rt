@@ -120,7 +120,7 @@ fn answer<'a, M: Memory, F: Sources, D: Folder, O: Sink>(
         Command::Styled(style, operation, files) => {
             styled_lists(memory, sources, &style, operation, files, out)
         }
-        Command::NotIn(net, files) => not_in(memory, sources, net, files, out),
+        Command::NotIn(style, net, files) => not_in(memory, sources, style, net, files, out),
         Command::Diff(old, new) => diff(memory, sources, old, new, out),
         Command::Free(extent, pool, len, used) => {
             free(memory, sources, extent, pool, len, used, out)
@@ -150,7 +150,7 @@ fn wrong_argument<'a>(command: Command<'a>) -> Option<CommandError<'a>>
         (IsWrong (request_of command.entry)) }
 {
     match command {
-        Command::NotIn(net, _) => match network_of(net) {
+        Command::NotIn(_, net, _) => match network_of(net) {
             Ok(_) => None,
             Err(e) => Some(e),
         },

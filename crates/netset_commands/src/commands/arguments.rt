@@ -541,20 +541,13 @@ fn made_command<'a>(
     net: Option<&'a str>,
     style: Option<Style<'a>>,
     files: &'a [&'a str],
-) -> Result<Command<'a>, Misuse<'a>>
-    ensures { MatchResult result
-        (λ command. made_request operation (given net.entry) (option_map (λ s. style_in s) style.entry) (texts files.now) ≡ Ok (request_of command))
-        (λ misuse. made_request operation (given net.entry) (option_map (λ s. style_in s) style.entry) (texts files.now) ≡ Err (misuse_line misuse)) }
+) -> Command<'a>
+    ensures { request_of result ≡ made_request operation (given net.entry) (option_map (λ s. style_in s) style.entry) (texts files.now) }
 {
     match (net, style) {
-        (None, None) => Ok(Command::Lists(operation, files)),
-        (None, Some(style)) => Ok(Command::Styled(style, operation, files)),
-        (Some(net), None) => Ok(Command::NotIn(net, files)),
-        (Some(_), Some(_)) => Err(Misuse {
-            word: "--in",
-            why: Misfit::NotStyled,
-            command: name_of(Verb::Lists(operation)),
-        }),
+        (None, None) => Command::Lists(operation, files),
+        (None, Some(style)) => Command::Styled(style, operation, files),
+        (Some(net), style) => Command::NotIn(style, net, files),
     }
 }
 
@@ -570,7 +563,7 @@ fn lists_command<'a>(
     let verb = Verb::Lists(operation);
     let net = value_of(verb, "--in", values)?;
     let style = style_in_values(verb, values)?;
-    made_command(operation, net, style, files)
+    Ok(made_command(operation, net, style, files))
 }
 
 /// How many networks `free` is to tell, by whether `--all` is given and by the value of `--count`.

@@ -254,9 +254,6 @@ fn misfit_text(why: Misfit) -> ArrayString<128>
         Misfit::NotPlain => text.push_str(": for the format plain alone, see: netset help "),
         Misfit::NoField => text.push_str(": only with --field, see: netset help "),
         Misfit::Anywhere => text.push_str(": not with --any, see: netset help "),
-        Misfit::NotStyled => {
-            text.push_str(": not with --format, --prefix or --suffix, see: netset help ")
-        }
     }
     text
 }

@@ -1,14 +1,20 @@
 //! Writing sets.
-ghost use Rattle.std.specs.Prelude.{[]};
+ghost use Rattle.std.specs.Prelude.{[], option_map};
 ghost use Rattle.cidr_io.specs.Writing.{Answered};
+ghost use Rattle.cidr_lists.specs.Formats.{style_in};
 ghost use Rattle.cidr_lists.specs.declared.sets.Form.TheVariants.{Counts};
+ghost use Rattle.netset_commands.specs.Answering.{PrintsBy};
 ghost use Rattle.netset_commands.specs.Sets.{Prints};
 ghost use Rattle.cidr_lists.specs.Sets.{networks_of, printed_sets};
 
+use crate::errors::CommandError;
+use crate::output::answers::{Verdict, by_output};
 use crate::output::printing::write_networks;
 use crate::output::report::write_line;
+use cidr_io::memory::Memory;
 use cidr_io::sink::{OutputFailed, Sink};
 use cidr_io::writing::{flush, write_all};
+use cidr_lists::formats::Style;
 use cidr_lists::printing::count_text;
 use cidr_lists::sets::Sets;
 
@@ -33,6 +39,26 @@ pub fn write_bytes<S: Sink>(out: &mut S, bytes: &[u8]) -> Result<(), OutputFaile
     }
     write_all(out, bytes)?;
     flush(out)
+}
+
+/// Writes the networks in a style, whose text is made whole before it is written, or one a line where there is none.
+pub fn write_by<'a, M: Memory, S: Sink>(
+    memory: &mut M,
+    style: Option<Style<'_>>,
+    sets: &Sets,
+    out: &mut S,
+) -> Result<Verdict, CommandError<'a>>
+    ensures { PrintsBy (option_map (λ s. style_in s) style.entry) (networks_of sets.now) (M.refused memory.new)
+        (S.state out.old) (S.state out.new) result }
+{
+    match style {
+        None => by_output(Verdict::Yes, write_sets(out, sets)),
+        Some(style) => {
+            let text = sets.to_style(memory.alloc(), &style);
+            let text = memory.watch(text)?;
+            by_output(Verdict::Yes, write_bytes(out, text.as_slice()))
+        }
+    }
 }
 
 /// Writes how many addresses of each family there are, a line each. An output that has failed before gets nothing.
