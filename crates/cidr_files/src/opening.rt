@@ -22,6 +22,7 @@ pub fn open(bytes: &[u8]) -> Result<Table<'_>, Fault>
     ensures laid_out { IfOk result (λ _. IsLaidOut bytes.now) }
     ensures cut { IfOk result (IsTableCutFrom bytes.now) }
     ensures refused { IfErr result (IsFaultOfBytes bytes.now) }
+    ensures unopened { IfErr result (λ _. ¬ (IsLaidOut bytes.now)) }
 {
     if word_at(bytes, 0) != MAGIC {
         return Err(Fault::Magic);
