@@ -1,5 +1,6 @@
 pub mod Answering
 pub mod Bits
+pub mod Blocks
 pub mod Checks
 pub mod Compared
 pub mod Counted

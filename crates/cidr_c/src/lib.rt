@@ -8,6 +8,7 @@ mod codes;
 mod comparing;
 mod counting;
 mod covering;
+mod entries;
 mod faults;
 mod files;
 mod finding;

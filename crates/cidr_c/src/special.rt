@@ -10,6 +10,7 @@ ghost use Rattle.cidr_c.specs.model.Special.{column_code, purpose_code, special_
 ghost use Rattle.cidr_c.specs.model.Values.{IsAddressValue};
 
 use crate::codes::{NO_VALUE, NONE, OK};
+use crate::entries::{entry_of, has_purpose, is_global, is_private};
 use crate::finding::yes_or_no;
 use crate::values::{CValue, address_of};
 use cidr_ext::{Purpose, SpecialAddress, SpecialEntry};
@@ -52,7 +53,7 @@ pub extern "C" fn pcidr_special_entry(address: &CValue, out: &mut CSpecial) -> u
     let Some(address) = address_of(address) else {
         return NO_VALUE;
     };
-    let Some(entry) = address.special_entry() else {
+    let Some(entry) = entry_of(address) else {
         return NONE;
     };
     put_entry(entry, out);
@@ -133,7 +134,7 @@ pub extern "C" fn pcidr_is_global(address: &CValue) -> u32
         × IsGlobal (address_family_in address.now) (address_bits_in address.now)) }
 {
     match address_of(address) {
-        Some(address) => yes_or_no(address.is_global()),
+        Some(address) => yes_or_no(is_global(address)),
         None => 0,
     }
 }
@@ -146,7 +147,7 @@ pub extern "C" fn pcidr_is_private(address: &CValue) -> u32
         ⊎ HasPurpose purpose.UniqueLocal (address_family_in address.now) (address_bits_in address.now))) }
 {
     match address_of(address) {
-        Some(address) => yes_or_no(address.is_private()),
+        Some(address) => yes_or_no(is_private(address)),
         None => 0,
     }
 }
@@ -158,7 +159,7 @@ pub extern "C" fn pcidr_is_loopback(address: &CValue) -> u32
         × HasPurpose purpose.Loopback (address_family_in address.now) (address_bits_in address.now)) }
 {
     match address_of(address) {
-        Some(address) => yes_or_no(address.is_loopback()),
+        Some(address) => yes_or_no(has_purpose(address, Purpose::Loopback)),
         None => 0,
     }
 }
@@ -170,7 +171,7 @@ pub extern "C" fn pcidr_is_link_local(address: &CValue) -> u32
         × HasPurpose purpose.LinkLocal (address_family_in address.now) (address_bits_in address.now)) }
 {
     match address_of(address) {
-        Some(address) => yes_or_no(address.is_link_local()),
+        Some(address) => yes_or_no(has_purpose(address, Purpose::LinkLocal)),
         None => 0,
     }
 }
@@ -182,7 +183,7 @@ pub extern "C" fn pcidr_is_documentation(address: &CValue) -> u32
         × HasPurpose purpose.Documentation (address_family_in address.now) (address_bits_in address.now)) }
 {
     match address_of(address) {
-        Some(address) => yes_or_no(address.is_documentation()),
+        Some(address) => yes_or_no(has_purpose(address, Purpose::Documentation)),
         None => 0,
     }
 }
@@ -194,7 +195,7 @@ pub extern "C" fn pcidr_is_unspecified(address: &CValue) -> u32
         × HasPurpose purpose.Unspecified (address_family_in address.now) (address_bits_in address.now)) }
 {
     match address_of(address) {
-        Some(address) => yes_or_no(address.is_unspecified()),
+        Some(address) => yes_or_no(has_purpose(address, Purpose::Unspecified)),
         None => 0,
     }
 }

@@ -9,4 +9,4 @@ use Rattle.cidr_c.proofs.special.pcidr_is_loopback.Goals as goal
 pub returns-in-Some : goal.returns-in-Some
 returns-in-Some c =
     answered (IsAddressValue c.args.address.now) (λ (a : IpAddr). HasPurpose purpose.Loopback (address_family a) (plain_bits a))
-    c.in-Some.address (address_in c.args.address.now) c.is_loopback.result c.yes_or_no.result c.in-Some.ensures c.is_loopback.ensures c.yes_or_no.ensures
+    c.in-Some.address (address_in c.args.address.now) c.has_purpose.result c.yes_or_no.result c.in-Some.ensures c.has_purpose.ensures c.yes_or_no.ensures

@@ -9,4 +9,4 @@ use Rattle.cidr_c.proofs.special.pcidr_is_unspecified.Goals as goal
 pub returns-in-Some : goal.returns-in-Some
 returns-in-Some c =
     answered (IsAddressValue c.args.address.now) (λ (a : IpAddr). HasPurpose purpose.Unspecified (address_family a) (plain_bits a))
-    c.in-Some.address (address_in c.args.address.now) c.is_unspecified.result c.yes_or_no.result c.in-Some.ensures c.is_unspecified.ensures c.yes_or_no.ensures
+    c.in-Some.address (address_in c.args.address.now) c.has_purpose.result c.yes_or_no.result c.in-Some.ensures c.has_purpose.ensures c.yes_or_no.ensures

@@ -12,8 +12,8 @@ use Rattle.cidr_c.proofs.special.pcidr_special_entry.Goals as goal
 
 pub returns : goal.returns
 returns c =
-    let entry = c.in-Some-special_entry.entry.now in
+    let entry = c.in-Some-entry_of.entry.now in
     sought (IsAddressValue c.args.address.now) (λ (a : IpAddr). HasNoEntry (address_family a) (plain_bits a)) IsAnyValue (λ special. special)
     (λ (a : IpAddr) (special : CSpecial). (entry : SpecialEntry) × IsEntryOf (address_family a) (plain_bits a) entry × (special ≡ special_of entry))
     c.in-Some.address (address_in c.args.address.now) (Some c.put_entry.new.out) c.args.out.now c.put_entry.new.out 0
-    c.in-Some.ensures (entry, c.in-Some-special_entry.ensures, c.put_entry.ensures) (refl, tt, refl)
+    c.in-Some.ensures (entry, c.in-Some-entry_of.ensures, c.put_entry.ensures) (refl, tt, refl)
