@@ -1,10 +1,9 @@
 //! Look-ups in a file, as the library for C makes them.
 
 use crate::bench::{Bench, Call};
-use cidr::{AnyIpCidr, IpAddr, IpInet};
+use cidr::{AnyIpCidr, IpAddr};
 use cidr_arrays::{Key, Word};
-use cidr_files::{Family, Ipv4Bytes, Ipv6Bytes, Rows, Table, checked, lookup, written};
-use cidr_table::LpmTable;
+use cidr_files::{Family, Ipv4Bytes, Ipv6Bytes, Rows, Table, checked, has, lookup, written};
 use std::alloc::{AllocError, Global};
 use std::io;
 
@@ -73,33 +72,40 @@ fn found(found: Option<(usize, &[u8])>) -> u32 {
     }
 }
 
-/// Times look-ups of addresses in a file of networks.
-pub fn time_all(bench: &Bench<'_>, networks: &[AnyIpCidr], asked: &[IpInet]) -> io::Result<()> {
-    let alloc = bench.rt.alloc();
-    let mut addresses = Vec::new(alloc);
-    for host in asked {
-        addresses.push(host.address())?;
+/// Whether an address is in one of the networks.
+#[derive(Drop)]
+struct HasIn<'a>(&'a Table<'a>);
+
+impl Call<IpAddr> for HasIn<'_> {
+    fn number(&self, asked: &IpAddr) -> u32 {
+        u32::from(match asked {
+            IpAddr::V4(address) => has(&self.0.ipv4, Ipv4Bytes::of(u128::from(address.to_bits()))),
+            IpAddr::V6(address) => has(&self.0.ipv6, Ipv6Bytes::of(address.to_bits())),
+        })
     }
+}
+
+/// Times look-ups of addresses in a file of networks, which ascend.
+pub fn time_all(bench: &Bench<'_>, networks: &[AnyIpCidr], asked: &[IpAddr]) -> io::Result<()> {
+    let alloc = bench.rt.alloc();
     let Some(bytes) = file_of(alloc, networks) else {
         return Ok(());
     };
     match checked(alloc, bytes.as_slice()) {
-        Ok(table) => bench.each("look up in a file", FindIn(&table), addresses.as_slice()),
+        Ok(table) => {
+            bench.each("look up in a file", FindIn(&table), asked)?;
+            bench.each("has in a file", HasIn(&table), asked)
+        }
         Err(_) => Ok(()),
     }
 }
 
-/// A file of networks, each once.
+/// A file of networks that ascend.
 fn file_of(alloc: Global, networks: &[AnyIpCidr]) -> Option<Vec<u8>> {
-    let mut rows = Vec::new(alloc);
-    for network in networks {
-        rows.push((*network, ())).ok()?;
-    }
-    let table = LpmTable::from_rows(rows);
     let mut ipv4 = Lists::<Ipv4Bytes>::new(alloc).ok()?;
     let mut ipv6 = Lists::<Ipv6Bytes>::new(alloc).ok()?;
-    for (index, row) in table.iter().enumerate() {
-        match &row.0 {
+    for (index, network) in networks.iter().enumerate() {
+        match network {
             AnyIpCidr::Any => {}
             AnyIpCidr::V4(network) => {
                 let address = Ipv4Bytes::of(u128::from(network.first_address().to_bits()));

@@ -1,10 +1,10 @@
 //! The calls that the library for C makes, on the values that crates/cidr_c/beside/calls.c has.
 
 use crate::bench::{Bench, Call, Work, called};
-use crate::files;
 use crate::numbers::{Number, folded};
 use crate::reading::{Read, Text};
-use cidr::{AnyIpCidr, IpInet};
+use crate::{arrays, files};
+use cidr::{AnyIpCidr, IpAddr, IpInet};
 use cidr_sets::NetworkSet;
 use cidr_table::{Lookups, LpmTable};
 use std::alloc::{AllocError, Global};
@@ -216,7 +216,32 @@ fn time_many(bench: &Bench<'_>, many: &[IpInet], hosts: &[IpInet]) -> io::Result
         asked,
     };
     bench.time("longest match each", asked.len(), work)?;
-    files::time_all(bench, networks, hosts)
+    let ascending = ascending(alloc, networks)?;
+    let addresses = addresses_of(alloc, hosts)?;
+    arrays::time_all(bench, ascending.as_slice(), addresses.as_slice())?;
+    files::time_all(bench, ascending.as_slice(), addresses.as_slice())
+}
+
+/// Networks in their order, each once.
+fn ascending(alloc: Global, networks: &[AnyIpCidr]) -> Result<Vec<AnyIpCidr>, AllocError> {
+    let mut rows = Vec::with_capacity(alloc, networks.len())?;
+    for network in networks {
+        rows.push((*network, ()))?;
+    }
+    let mut found = Vec::new(alloc);
+    for row in LpmTable::from_rows(rows).iter() {
+        found.push(row.0)?;
+    }
+    Ok(found)
+}
+
+/// The addresses of hosts.
+fn addresses_of(alloc: Global, hosts: &[IpInet]) -> Result<Vec<IpAddr>, AllocError> {
+    let mut addresses = Vec::with_capacity(alloc, hosts.len())?;
+    for host in hosts {
+        addresses.push(host.address())?;
+    }
+    Ok(addresses)
 }
 
 /// The first values, and those behind them.

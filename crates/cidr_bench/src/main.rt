@@ -11,6 +11,7 @@
 //! turn.
 #![tactic(auto)]
 
+mod arrays;
 mod bench;
 mod bits;
 mod bytes;

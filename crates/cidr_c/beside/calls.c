@@ -1,6 +1,7 @@
 /* calls ROUNDS: times calls of the library. Prints of each a line with tabs between: its name, the nanoseconds that it
- * takes, the least of five turns, and a number that hangs on all results. `calls values` prints the values that the calls
- * get, one a line, for crates/cidr_bench. */
+ * takes, the least of five turns, and a number that hangs on all results. `calls ROUNDS plain` times in their place plain
+ * loops in C that do the same, where there is one. `calls values` prints the values that the calls get, one a line, for
+ * crates/cidr_bench. */
 #define _POSIX_C_SOURCE 199309L
 #include <pcidr.h>
 #include <stdio.h>
@@ -8,7 +9,7 @@
 #include <string.h>
 #include <time.h>
 
-enum { MANY = 1024, NETWORKS = 100000, ASKED = 1000000, TURNS = 5 };
+enum { MANY = 1024, NETWORKS = 100000, ASKED = 1000000, TURNS = 5, LEVEL_BITS = 17 };
 
 static const uint8_t ipv4_lengths[32] = {24, 24, 24, 24, 24, 24, 24, 24, 24, 24, 24, 24, 24, 24, 24, 24,
                                          24, 24, 23, 23, 22, 22, 22, 22, 21, 20, 20, 19, 19, 18, 17, 16};
@@ -23,7 +24,12 @@ static pcidr_value hosts[MANY], networks[MANY], around[MANY];
 static pcidr_value many_networks[NETWORKS], asked[ASKED];
 static uint8_t held[ASKED];
 static size_t matches[ASKED];
-/* A file of the many networks, each once, and of values of up to 7 bytes. */
+/* The many networks, each once, in their order: those of IPv6 are behind those of IPv4. */
+static pcidr_value rows[NETWORKS];
+static size_t rows_len;
+/* The tables of those of IPv4 and of IPv6, in arrays. */
+static pcidr_table tables[2];
+/* A file of them, with values of up to 7 bytes. */
 static uint8_t *file_bytes;
 static size_t file_len;
 static pcidr_file file;
@@ -89,19 +95,44 @@ static void make_values(void) {
     }
 }
 
-static void make_file(void) {
-    static pcidr_value rows[NETWORKS];
-    static uint32_t offsets[NETWORKS + 1];
-    static uint8_t values[7 * NETWORKS];
-    size_t count = 0;
+static void make_rows(void) {
     memcpy(rows, many_networks, sizeof rows);
     qsort(rows, NETWORKS, sizeof *rows, pcidr_order);
     for (size_t i = 0; i < NETWORKS; i++)
-        if (i == 0 || pcidr_compare(&rows[i], &rows[count - 1]) != 1) rows[count++] = rows[i];
+        if (i == 0 || pcidr_compare(&rows[i], &rows[rows_len - 1]) != 1) rows[rows_len++] = rows[i];
+}
+
+/* Memory, which is there. */
+static void *room_for(size_t count, size_t size) {
+    void *room = calloc(count, size);
+    if (!room) exit(1);
+    return room;
+}
+
+static void make_tables(void) {
+    size_t middle = 0, place;
+    while (middle < rows_len && rows[middle].tag < 64) middle++;
+    for (int family = 0; family < 2; family++) {
+        pcidr_table *table = &tables[family];
+        size_t count = family ? rows_len - middle : middle;
+        table->ranges = pcidr_table_room((uint32_t)count);
+        if (family) table->ipv6_starts = room_for(table->ranges, sizeof *table->ipv6_starts);
+        else table->ipv4_starts = room_for(table->ranges, sizeof *table->ipv4_starts);
+        table->answers = room_for(table->ranges, sizeof *table->answers);
+        table->level_len = (1 << LEVEL_BITS) + 1;
+        table->level = room_for(table->level_len, sizeof *table->level);
+        table->shift = (family ? 128 : 32) - LEVEL_BITS;
+        want(pcidr_table_build(table, family ? rows + middle : rows, count, &place));
+    }
+}
+
+static void make_file(void) {
+    static uint32_t offsets[NETWORKS + 1];
+    static uint8_t values[7 * NETWORKS];
+    size_t count = rows_len;
     for (size_t i = 0; i < count; i++) offsets[i + 1] = offsets[i] + (uint32_t)(i % 8);
     pcidr_file_write(rows, count, offsets, count + 1, values, offsets[count], NULL, 0, &file_len);
-    file_bytes = malloc(file_len);
-    if (!file_bytes) exit(1);
+    file_bytes = room_for(file_len, 1);
     want(pcidr_file_write(rows, count, offsets, count + 1, values, offsets[count], file_bytes, file_len, &file_len));
     want(pcidr_file_open(file_bytes, file_len, &file));
     want(pcidr_file_check(file_bytes, file_len));
@@ -193,12 +224,70 @@ static uint32_t longest_match_each(uint32_t sum) {
     return sum;
 }
 
+static uint32_t look_up_in_arrays(uint32_t sum) {
+    for (size_t i = 0; i < ASKED; i++) sum = mixed(sum, pcidr_table_lookup(&tables[asked[i].tag > 32], &asked[i]));
+    return sum;
+}
+
 static uint32_t look_up_in_file(uint32_t sum) {
     pcidr_found found;
     for (size_t i = 0; i < ASKED; i++) {
         pcidr_file_lookup(file_bytes, file_len, &file, &asked[i], &found);
         sum = mixed(sum, found.row + found.value_len);
     }
+    return sum;
+}
+
+static uint32_t has_in_file(uint32_t sum) {
+    for (size_t i = 0; i < ASKED; i++) sum = mixed(sum, pcidr_set_has(file_bytes, file_len, &file, &asked[i]));
+    return sum;
+}
+
+/* ---- plain loops that do the same as some of them, for values that are known to be networks and addresses */
+
+/* Whether a network has another one, by shifts of what differs. */
+static int plainly_contains(const pcidr_value *outer, const pcidr_value *inner) {
+    unsigned tag = outer->tag;
+    if (tag > inner->tag || (tag < 64) != (inner->tag < 64)) return 0;
+    if (tag < 64) return tag == 0 || (uint32_t)(outer->low ^ inner->low) >> (32 - tag) == 0;
+    if (tag == 64) return 1;
+    if (tag <= 128) return (outer->high ^ inner->high) >> (128 - tag) == 0;
+    return outer->high == inner->high && (outer->low ^ inner->low) >> (192 - tag) == 0;
+}
+
+static uint32_t plain_contains(uint32_t sum) {
+    for (size_t i = 0; i < MANY; i++) sum = mixed(sum, (uint32_t)plainly_contains(&around[i], &networks[i]));
+    return sum;
+}
+
+/* The order of first addresses, those of IPv4 before those of IPv6. */
+static int plain_order(const void *one, const void *other) {
+    const pcidr_value *a = one, *b = other;
+    if ((a->tag < 64) != (b->tag < 64)) return a->tag < 64 ? -1 : 1;
+    if (a->high != b->high) return a->high < b->high ? -1 : 1;
+    if (a->low != b->low) return a->low < b->low ? -1 : 1;
+    return (a->tag > b->tag) - (a->tag < b->tag);
+}
+
+/* Sorts the networks, leaves out those that lie in the one before, and searches the last one that begins at most with an
+ * address by halving. */
+static uint32_t plain_contains_each(uint32_t sum) {
+    static pcidr_value outer[NETWORKS];
+    size_t count = 0;
+    memcpy(outer, many_networks, sizeof outer);
+    qsort(outer, NETWORKS, sizeof *outer, plain_order);
+    for (size_t i = 0; i < NETWORKS; i++)
+        if (count == 0 || !plainly_contains(&outer[count - 1], &outer[i])) outer[count++] = outer[i];
+    for (size_t i = 0; i < ASKED; i++) {
+        size_t from = 0, to = count;
+        while (from < to) {
+            size_t middle = from + (to - from) / 2;
+            if (plain_order(&outer[middle], &asked[i]) <= 0) from = middle + 1;
+            else to = middle;
+        }
+        held[i] = from > 0 && plainly_contains(&outer[from - 1], &asked[i]);
+    }
+    for (size_t i = 0; i < ASKED; i++) sum = mixed(sum, held[i]);
     return sum;
 }
 
@@ -242,6 +331,14 @@ int main(int argc, char **argv) {
     unsigned long rounds = argc > 1 ? strtoul(argv[1], NULL, 10) : 0, fewer = rounds / 1000;
     if (rounds == 0) rounds = 1;
     if (fewer == 0) fewer = 1;
+    make_rows();
+    make_tables();
+    make_file();
+    if (argc > 2) {
+        row("contains", plain_contains, MANY, rounds);
+        row("contains each", plain_contains_each, ASKED, fewer);
+        return 0;
+    }
     row("read a network", read_networks, MANY, rounds);
     row("print a network", print_networks, MANY, rounds);
     row("first address", first_addresses, MANY, rounds);
@@ -250,7 +347,8 @@ int main(int argc, char **argv) {
     row("compare", compare, MANY, rounds);
     row("contains each", contains_each, ASKED, fewer);
     row("longest match each", longest_match_each, ASKED, fewer);
-    make_file();
+    row("look up in arrays", look_up_in_arrays, ASKED, fewer);
     row("look up in a file", look_up_in_file, ASKED, fewer);
+    row("has in a file", has_in_file, ASKED, fewer);
     return 0;
 }
