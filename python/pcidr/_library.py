@@ -254,13 +254,21 @@ class Unpacked:
         for begin in range(0, len(self._octets), width * PACKED):
             part = self._octets[begin : begin + width * PACKED]
             count = len(part) // width
-            if self._is_number:
-                out.cast("I")[2 : 6 * count : 6] = part.cast("I")
-            else:  # of the two halves the lower one comes second, and each has its lowest byte first
-                for place in range(width):
-                    at = 11 - place if width == 4 else 7 - place if place < 8 else 23 - place
-                    out[at : 24 * count : 24] = part[place::width]
+            if width == 4:
+                out.cast("I")[2 : 6 * count : 6] = self._numbers(part, "I")
+            else:
+                halves, words = self._numbers(part, "Q"), out.cast("Q")
+                words[0 : 3 * count : 3], words[1 : 3 * count : 3] = halves[0::2], halves[1::2]
             yield values, count
+
+    def _numbers(self, part: memoryview, kind: str) -> memoryview:
+        """Some of the bytes as numbers that this processor has: each item is copied once, not byte by byte."""
+        if self._is_number:
+            return part.cast(kind)
+        numbers = pack(kind)
+        numbers.frombytes(part)
+        numbers.byteswap()
+        return memoryview(numbers)
 
 
 def tags_of(values: Values) -> bytes:

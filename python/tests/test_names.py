@@ -914,6 +914,13 @@ class Packed(unittest.TestCase):
         wanted = ["low" if number < 0x0A800000 else "high" for number in numbers]
         self.assertEqual([row[1] for row in table.lookup_packed(numbers)], wanted)
         self.assertEqual([row[1] for row in table.lookup_packed(numbers.tobytes(), 6)], ["six"] * 7_500)
+        packed = array("I", numbers)
+        packed.byteswap()
+        self.assertEqual([row[1] for row in table.lookup_packed(memoryview(packed).cast("B"))], wanted)
+        halves = Table({"::/1": "low", "8000::/1": "high"})
+        octets = RANDOM.randbytes(16 * 30_000)
+        wanted = ["low" if first < 0x80 else "high" for first in octets[::16]]
+        self.assertEqual([row[1] for row in halves.lookup_packed(octets, 6)], wanted)
         places = table.lookup_packed(numbers).places
         self.assertEqual(list(places), [number >= 0x0A800000 for number in numbers])
         del table["::/0"]
