@@ -1,5 +1,5 @@
-//! The entries of addresses in the registries of IANA. `cidr_ext` looks at the numbers of 128 bits that all entries have; here
-//! the halves of an entry are compared with those of the address, some five times as quickly.
+//! The entries of addresses in the registries of IANA. `cidr_ext` shifts numbers of 128 bits; here the first bits that an
+//! entry and an address share are counted by halves, in a third of the time.
 ghost use Rattle.std.specs.Prelude.{◌≡◌, ◌↔◌, ◌⊎◌, ℕ, ◌+◌, ◌-◌, ◌/◌, ◌%◌, ◌^◌, ◌<◌, ◌≤◌, IsTrue, MatchOption, true};
 ghost use Rattle.cidr.specs.either.IpAddress.{address_family, plain_bits};
 ghost use Rattle.cidr_ext.specs.declared.registry.Purpose.TheVariants as purpose;
