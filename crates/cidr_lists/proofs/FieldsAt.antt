@@ -102,5 +102,6 @@ bad_field column line field error.NoField says is some bad = absurd bad
 bad_field column line field (error.NotUtf8 text) says is some bad = (says, field, is, some, bad)
 bad_field column line field (error.NoNetwork text e) says is some bad = (says, field, is, some, bad)
 bad_field column line field (error.NoAddress text e) says is some bad = absurd bad
+bad_field column line field (error.NoAction text) says is some bad = absurd bad
 bad_field column line field (error.TwoFamilies text) says is some bad = absurd bad
 bad_field column line field (error.Reversed text) says is some bad = absurd bad

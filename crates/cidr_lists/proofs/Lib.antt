@@ -19,7 +19,9 @@ pub mod PrintedTexts
 pub mod ReadBack
 pub mod Registered
 pub mod Resolved
+pub mod RuleTexts
 pub mod SaidWidths
+pub mod Shadows
 pub mod SameKeys
 pub mod SetSteps
 pub mod ShortTexts

@@ -41,18 +41,18 @@ short_says bits line field content said fits trimmed is are =
     subst (λ (k : List ℕ). LineSays bits k said) (sym (kept_short line fits)) ((λ long. omega (arith, fits, long)), field, content, trimmed, is, are)
 
 -- ---- the lines of a text
-cut_first : (text : List ℕ) (n : ℕ) → n ≡ position_or_len is_line_feed text → n < length text
+pub cut_first : (text : List ℕ) (n : ℕ) → n ≡ position_or_len is_line_feed text → n < length text
     → lines_of text ≡ kept_of (take n text) ∷ lines_of (drop (n + 1) text)
 cut_first text n is within =
     ap (map kept_of) (slice_split_first is_line_feed text 0 (omega (arith, is, within)))
     ∙ ap (λ (k : ℕ). kept_of (take k text) ∷ lines_of (drop (k + 1) text)) (sym is)
 
-cut_last : (text : List ℕ) (n : ℕ) → n ≡ position_or_len is_line_feed text → n ≡ length text → lines_of text ≡ kept_of (take n text) ∷ []
+pub cut_last : (text : List ℕ) (n : ℕ) → n ≡ position_or_len is_line_feed text → n ≡ length text → lines_of text ≡ kept_of (take n text) ∷ []
 cut_last text n is all =
     ap (map kept_of) (slice_split_none is_line_feed text (λ k d within. fails_before_first is_line_feed text k d (omega (arith, is, all, within))))
     ∙ ap (λ (k : List ℕ). kept_of k ∷ []) (sym (take_all n text (omega (arith, all))))
 
-cut_any : (text : List ℕ) (n : ℕ) → n ≡ position_or_len is_line_feed text → n ≤ length text
+pub cut_any : (text : List ℕ) (n : ℕ) → n ≡ position_or_len is_line_feed text → n ≤ length text
     → (after : List (List ℕ)) × (lines_of text ≡ kept_of (take n text) ∷ after)
 cut_any text n is fits = elim (cases_lt n (length text)) [
   | inl within ↦ (lines_of (drop (n + 1) text), cut_first text n is within)
@@ -60,7 +60,7 @@ cut_any text n is fits = elim (cases_lt n (length text)) [
 ]
 
 -- ---- lists side by side
-zip_push : {X Y : Type 0} (R : X → Y → Type 0) (xs : List X) (ys : List Y) (x : X) (y : Y) → AllZip R xs ys → R x y → AllZip R (xs ++ x ∷ []) (ys ++ y ∷ [])
+pub zip_push : {X Y : Type 0} (R : X → Y → Type 0) (xs : List X) (ys : List Y) (x : X) (y : Y) → AllZip R xs ys → R x y → AllZip R (xs ++ x ∷ []) (ys ++ y ∷ [])
 zip_push R [] [] x y h here = (here, tt)
 zip_push R [] (w ∷ ys) x y h here = absurd h
 zip_push R (v ∷ xs) [] x y h here = absurd h

@@ -17,6 +17,7 @@ pub mod Nearness
 pub mod Printing
 pub mod ReadBack
 pub mod Reading
+pub mod Rules
 pub mod Sets
 pub mod Tables
 pub mod Texts

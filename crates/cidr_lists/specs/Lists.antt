@@ -31,7 +31,7 @@ use Rattle.cidr_lists.specs.Masks.{IsMaskedHost}
 use Rattle.cidr_lists.specs.Messages.{Shows, ShowsBy}
 use Rattle.cidr_lists.specs.declared.errors.BadText.{BadText}
 use Rattle.cidr_lists.specs.declared.errors.LineError.{LineError}
-use Rattle.cidr_lists.specs.declared.errors.LineError.TheVariants.{TooLong, NotUtf8, NoNetwork, NoAddress, NoField, TwoFamilies, Reversed}
+use Rattle.cidr_lists.specs.declared.errors.LineError.TheVariants.{TooLong, NotUtf8, NoNetwork, NoAddress, NoField, NoAction, TwoFamilies, Reversed}
 use Rattle.cidr_lists.specs.declared.lines.HostBits.{HostBits}
 use Rattle.cidr_lists.specs.declared.lines.HostBits.TheVariants.{Refused, Cleared, RefusedWithMasks, ClearedWithMasks}
 use Rattle.cidr_lists.specs.declared.lines.Content.{Content}
@@ -136,6 +136,7 @@ IsNoEndBy text bad e = (end : List ℕ) × IsTrimAscii text end × IsNoAddressBy
 abbrev pub IsFieldError : HostBits → List ℕ → LineError → Type 0
 IsFieldError bits field TooLong = ⊥
 IsFieldError bits field NoField = ⊥
+IsFieldError bits field (NoAction text) = ⊥
 IsFieldError bits field (NotUtf8 text) = ¬ (IsUtf8 field) × (text.bytes ≡ byte_excerpt field)
 IsFieldError bits field (NoNetwork bad e) = (field ≢ []) × Lacks hyphen field × IsNoNetworkBy bits field e × ShowsBy bits field bad
 IsFieldError bits field (NoAddress bad e) = (front : List ℕ) × (back : List ℕ) × (field ≡ front ++ hyphen ∷ back) × Lacks hyphen front

@@ -99,6 +99,8 @@ pub enum LineError {
     NoNetwork(BadText, NetworkParseError),
     /// Its first field, or an end of its range, is no address: the error of parsing it.
     NoAddress(BadText, AddrParseError),
+    /// Its first word is neither `permit` nor `deny`: the word, as it is shown.
+    NoAction(ArrayString<42>),
     /// The ends of its range are of two families: the range, as it is shown.
     TwoFamilies(ArrayString<42>),
     /// The first address of its range is above the last one: the range, as it is shown.
@@ -130,6 +132,7 @@ impl LineError {
                 let words = widened(e.to_text().as_str());
                 message_of(&bad.text, address_words(&bad.fault, words).as_str())
             }
+            LineError::NoAction(shown) => message_of(shown, "neither permit nor deny"),
             LineError::TwoFamilies(shown) => {
                 message_of(shown, "the ends of the range are of two families")
             }

@@ -36,6 +36,7 @@ mod masks;
 pub mod near;
 pub mod printing;
 pub mod rows;
+pub mod rules;
 pub mod sets;
 pub mod table;
 pub mod texts;

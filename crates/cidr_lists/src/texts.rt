@@ -18,7 +18,7 @@ use cidr_sets::Ranges;
 use std::alloc::{AllocError, Global};
 
 /// The most bytes of a line, without its line feed: 1 MiB.
-const MOST_BYTES: usize = 1_048_576;
+pub(crate) const MOST_BYTES: usize = 1_048_576;
 
 /// Whether a byte is a line feed.
 fn is_line_feed(byte: u8) -> bool
@@ -28,7 +28,7 @@ fn is_line_feed(byte: u8) -> bool
 }
 
 /// How many bytes the first line has, without its line feed.
-fn line_len(text: &[u8]) -> usize
+pub(crate) fn line_len(text: &[u8]) -> usize
     ensures first { result ≡ position_or_len is_line_feed text.now }
     ensures fits { result ≤ length text.now }
 {

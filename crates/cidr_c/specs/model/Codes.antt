@@ -114,6 +114,7 @@ line_code (line_error.NotUtf8 text) = not_utf8
 line_code (line_error.NoNetwork bad e) = parse_code e
 line_code (line_error.NoAddress bad e) = address_code e
 line_code line_error.NoField = 14
+line_code (line_error.NoAction text) = 14
 line_code (line_error.TwoFamilies text) = 28
 line_code (line_error.Reversed text) = 29
 
