@@ -700,8 +700,8 @@ rows_of_masks() {
     local length=$'couldn\'t parse length in network: invalid length text\n'
     run 0 $'10.0.0.0/8\n172.16.0.0/12\n192.0.2.0/24\n192.168.0.0/16\n' '' \
         '192.0.2.0/255.255.255.0\n10.0.0.0 255.0.0.0\n192.168.0.0/0.0.255.255\n172.16.0.0 \t 0.15.255.255 # ours\r\n' merge --masks
-    run 0 $'2001:db8::/32\n2001:db9::/32\n' '' \
-        '2001:db8::/ffff:ffff::\n2001:db9:: ::ffff:ffff:ffff:ffff:ffff:ffff' merge --masks
+    run 0 $'2001:db8::/32\n2001:dba::/32\n' '' \
+        '2001:db8::/ffff:ffff::\n2001:dba:: ::ffff:ffff:ffff:ffff:ffff:ffff' merge --masks
     run 0 $'10.0.0.0/30\n192.0.2.0/24\n' '' \
         '192.0.2.0/25\n192.0.2.128 - 192.0.2.254\n192.0.2.255\n\n10.0.0.0\t255.255.255.254\n10.0.0.2 0.0.0.1;x' merge --masks
     run 0 $'192.0.2.1\n' '' '192.0.2.1 255.255.255.255' merge --masks
