@@ -416,6 +416,83 @@ rows_of_pools() {
     run 0 $'10.0.0.1\n' '' '' free 10.0.0.1 32
 }
 
+# Networks of a length in each format, of both families, of one, of none, and of all addresses.
+rows_of_walks() {
+    run 0 $'allow 10.0.0.0/9;\nallow 10.128.0.0/9;\nallow ::/9;\n' '' '' free --prefix 'allow ' --suffix=';' both 9 --count 3
+    run 0 $'10.0.0.0/9 x\n' '' '' free both 9 --suffix ' x'
+    run 0 $'10.0.0.0/9\n10.128.0.0/9\n' '' '' split --format plain ten 9
+    run 0 $'{"network":"10.0.0.0/9","first":"10.0.0.0","last":"10.127.255.255","length":9,"family":"IPv4"}
+{"network":"10.128.0.0/9","first":"10.128.0.0","last":"10.255.255.255","length":9,"family":"IPv4"}
+{"network":"::/9","first":"::","last":"7f:ffff:ffff:ffff:ffff:ffff:ffff:ffff","length":9,"family":"IPv6"}\n' \
+        '' '' free both 9 --count=3 --format json
+    run 0 $'{"network":"8000::/1","first":"8000::","last":"ffff:ffff:ffff:ffff:ffff:ffff:ffff:ffff","length":1,"family":"IPv6"}\n' '' '' split eight 1 --format json
+    run 0 $'add table inet netset
+add set inet netset netset4 { type ipv4_addr; flags interval; }
+flush set inet netset netset4
+add table inet netset
+add set inet netset netset6 { type ipv6_addr; flags interval; }
+flush set inet netset netset6
+add element inet netset netset6 { ::/2 }
+add element inet netset netset6 { 4000::/2 }\n' '' '' split --format nft ::/1 2
+    run 0 $'create netset4 hash:net family inet maxelem 4294967295
+flush netset4
+add netset4 0.0.0.0/1
+add netset4 128.0.0.0/1
+create netset6 hash:net family inet6 maxelem 4294967295
+flush netset6\n' '' '' split --format ipset 0.0.0.0/0 0
+    run 0 $'create netset4 hash:net family inet maxelem 4294967295
+flush netset4
+create netset6 hash:net family inet6 maxelem 4294967295
+flush netset6
+add netset6 ::/1
+add netset6 8000::/1\n' '' '' free ::/0 0 --format ipset
+    run 0 $'*filter
+:netset - [0:0]
+-4 -A netset -s 10.0.0.1 -j ACCEPT
+COMMIT\n' '' '' free ten 32 --format iptables --count 1 zero
+    run 0 $'no ip prefix-list netset4
+ip prefix-list netset4 permit 10.0.0.0/9 le 32
+ip prefix-list netset4 permit 10.128.0.0/9 le 32
+no ipv6 prefix-list netset6
+ipv6 prefix-list netset6 deny ::/0 le 128\n' '' '' split 10.0.0.0/8 9 --format cisco
+    run 0 $'policy-options {
+    replace:
+    prefix-list netset4 {
+        10.0.0.0/9;
+    }
+    replace:
+    prefix-list netset6 {
+    }
+}\n' '' '' free ten 9 --format juniper
+    run 0 $'define netset4 = [
+    10.0.0.0/9+,
+    10.128.0.0/9+
+];
+define netset6 = [
+    ::/9+
+];\n' '' '' free --format bird --count 3 both 9
+    run 0 $'# netset4 has no network
+define netset6 = [
+    ::1/128+
+];\n' '' '' split ::1 128 --format bird
+    # where there is none, the sets are made anew too
+    run 1 $'# netset4 has no network\n# netset6 has no network\n' '' '10.0.0.0/9' free ten 8 - --format bird
+    run 1 $'*filter\n:netset - [0:0]\nCOMMIT\n' '' '' split ten 7 --format iptables
+    run 0 $'*filter\n:netset - [0:0]\nCOMMIT\n' '' '' free ten 9 --format iptables --count 0
+    run 1 '' '' '' split ten 7 --format json
+    run 1 '' '' '' free --all ten 7 --prefix x
+    run 2 '' $'23: no prefix length inside the network\n' '' split 192.0.2.0/24 23 --format nft
+    run 2 '' $'xml: no such format, but plain, json, nft, ipset, iptables, cisco, juniper and bird, see: netset help split\n' '' split ten 9 --format xml
+    run 2 '' $'--suffix: for the format plain alone, see: netset help free\n' '' free ten 9 --format bird --suffix x
+    run 2 '' $'bird: one argument too many, see: netset help free\n' '' free ten 9 --format bird --format bird
+    run 2 '' $'missing: no network and no address, and no file that can be read\n' '' split missing 9 --format json
+    run 2 '' $'missing: no such file\n' '' free ten 9 missing --format json
+    # of many networks each comes once
+    "$program" split 10.0.0.0/8 24 --format json | tail -n 1 | cmp -s - \
+        <(printf '{"network":"10.255.255.0/24","first":"10.255.255.0","last":"10.255.255.255","length":24,"family":"IPv4"}\n') || differs=1
+    [[ $("$program" split 10.0.0.0/8 24 --format bird | grep -c '+,$') == 65535 ]] || differs=1
+}
+
 # What is found in lists.
 rows_of_findings() {
     local deep='2001:db8::/32\n2001:db8::/33\n2001:db8:8000::/33\n2001:DB8:8000::5/33'
@@ -887,6 +964,9 @@ rows_where_a_stream_fails() {
     run 2 '' $'missing: no such file\n' '' match ten nothing missing
     run 3 '' $'output failed\n' '' show ::1
     run 3 '' $'output failed\n' '' split ::/0 128
+    run 3 '' $'output failed\n' '' split ::/0 128 --format bird
+    run 3 '' $'output failed\n' '' free ten 7 --format nft
+    run 1 '' '' '' free ten 7 --format json
     run 3 '' $'output failed\n' '' nth ::/0 1
     run 1 '' '' '' nth ::1 1
     local error_file=/dev/full
@@ -1272,6 +1352,8 @@ rows_without_memory() {
     refuse '10.0.0.0/9\n' free both 9 -
     refuse '10.0.0.0/9\n' free --all 10.0.0.0/8 9 -
     refuse '10.0.0.0/9\n' split - 10
+    refuse '10.0.0.0/9\n' split - 10 --format juniper
+    refuse '10.0.0.0/9\n' free --all 10.0.0.0/8 9 - --format cisco -o made
     refuse '10.0.0.0/9\n' reverse -
     refuse '' mask 10.0.0.0/8
     refuse '10.0.0.1\n8.8.8.8\n::1' class -
@@ -1302,6 +1384,7 @@ printf '10.0.0.0/8 ten\n10.1.0.0/16\tfirst\r\n\n# 10.2.0.0/16 x\n10.1.0.0/16  x 
 printf '10.0.0.7/8\n' >"$room/hosts"
 printf '11.0.0.0/8\n' >"$room/-list"
 printf '10.0.0.1\n' >"$room/address"
+printf '10.0.0.0\n' >"$room/zero"
 printf '10.0.0.1 a\n11.0.0.1 b\n10.2.0.0/16 c\n' >"$room/seen"
 printf ' a b 10.0.0.1\nc\td  11.0.0.1 e\nf g 10.2.0.0/16 h\n' >"$room/spaced"
 printf 'a,10.0.0.1,b\nc,11.0.0.1\nd,10.2.0.0/16,\n' >"$room/commas"
@@ -1324,6 +1407,7 @@ for build in netset netset.by-rattle; do
     rows_of_input_twice
     rows_of_changes
     rows_of_pools
+    rows_of_walks
     rows_of_findings
     rows_of_matches
     rows_of_several_files

@@ -8,6 +8,8 @@ pub mod Walked
 pub mod Changed
 pub mod Spans
 pub mod Taken
+pub mod LaidOut
+pub mod Lined
 pub mod Operands
 pub mod Pools
 pub mod Described

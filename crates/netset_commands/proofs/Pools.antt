@@ -1,9 +1,14 @@
 -- The free networks of a pool, and those inside the networks of a list.
-use Rattle.std.proofs.Common.{◌↔◌, refl, sym, subst, arith, inl, inr, ℕ, ◌≤◌, Bool, List, [], ◌∷◌, Option, None, Result, Ok, IfErr}
+use Rattle.std.proofs.Common.{◌↔◌, refl, sym, subst, arith, inl, inr, ℕ, ◌<◌, ◌≤◌, ◌≡◌, Bool, true, false, nat_lt, List, [], ◌∷◌, length, Option, None, Result, Ok, IfErr}
+use Rattle.std.proofs.lemmas.Bool.{ltb-true, ltb-false}
+use Rattle.cidr.specs.either.IpNetwork.{network_family, network_prefix}
 use Rattle.cidr.specs.either.IpText.{IsIpNetworkText}
 use Rattle.cidr.specs.declared.cidr.combined.IpCidr.{IpCidr}
 use Rattle.cidr.specs.declared.family.Family.{Family}
-use Rattle.cidr_io.specs.Writing.{State}
+use Rattle.cidr.specs.model.Network.{width_of}
+use Rattle.cidr_io.specs.Writing.{State, Answered}
+use Rattle.cidr_io.specs.declared.sink.OutputFailed.{OutputFailed}
+use Rattle.cidr_lists.specs.Formats.{Style, printed_walk}
 use Rattle.cidr_lists.specs.Lists.{Text}
 use Rattle.cidr_lists.specs.Sets.{IsInSets, networks_of}
 use Rattle.cidr_lists.specs.declared.sets.Sets.{Sets}
@@ -13,10 +18,10 @@ use Rattle.netset_commands.specs.Answering.{AreRead, HasAddresses, ReadsListed, 
 use Rattle.netset_commands.specs.Combining.{IsMade}
 use Rattle.cidr_lists.specs.Texts.{SaysAddress}
 use Rattle.netset_commands.specs.Commands.{Free, IsFreeOfUsed, Split}
-use Rattle.netset_commands.specs.Free.{Extent, Count, IsBadCount, IsBadFree, IsBadLength, IsMost}
+use Rattle.netset_commands.specs.Free.{Extent, Count, IsBadCount, IsBadFree, IsBadLength, IsMost, inside_of}
 use Rattle.netset_commands.specs.Operands.{IsNoNetworkText, OfOperand}
 use Rattle.netset_commands.specs.Program.{AnswersRequest, IsBadArgument}
-use Rattle.netset_commands.specs.Single.{IsNumber, split_text}
+use Rattle.netset_commands.specs.Single.{HasNone, IsNumber, split_text}
 use Rattle.netset_commands.specs.declared.commands.operations.Operation.TheVariants.{Minus}
 use Rattle.netset_commands.specs.Causes.{Cause}
 use Rattle.netset_commands.specs.declared.errors.ArgumentError.{ArgumentError}
@@ -28,14 +33,15 @@ use Rattle.netset_commands.specs.declared.output.answers.Verdict.TheVariants.{Ye
 use Rattle.netset_commands.proofs.Causes.{argument_cause, output_cause}
 use Rattle.netset_commands.proofs.Combining.{has_same, made_same}
 use Rattle.netset_commands.proofs.Operands.{operand_weaker}
+use Rattle.netset_commands.proofs.Taken.{inside_some}
 
 -- what is free of the sets is free of the lists
-pub free_written : (contents : List ℕ → Option Text) (extent : Extent) (pool len : List ℕ) (used : List (List ℕ)) (n : ℕ) (most : Option ℕ) (first : Sets)
+pub free_written : (contents : List ℕ → Option Text) (style : Option Style) (extent : Extent) (pool len : List ℕ) (used : List (List ℕ)) (n : ℕ) (most : Option ℕ) (first : Sets)
     (others : List Sets) (rest : Sets) (s t : State) (r : Result Verdict CommandError) → IsNumber len n × (n ≤ 128) → IsMost extent most
     → ReadsOperand contents pool (Ok first) → AreRead contents used others
     → ((family : Family) → IsSetOf 129 (IsMade IsInSets Minus (first ∷ others) family) (networks_of rest family))
-    → TellsFree (networks_of rest) n most s t r → AnswersRequest contents (Free extent pool len used) s t r
-free_written contents extent pool len used n most first others rest s t r number count reads are made (answer, verdict, w, free, written, is) =
+    → TellsFree style (networks_of rest) n most s t r → AnswersRequest contents (Free style extent pool len used) s t r
+free_written contents style extent pool len used n most first others rest s t r number count reads are made (answer, verdict, w, free, written, is) =
     inr (
       answer,
       verdict,
@@ -46,7 +52,7 @@ free_written contents extent pool len used n most first others rest s t r number
         number.1,
         most,
         count,
-        operand_weaker contents pool (λ said. HasAddresses said first) (IsFreeOfUsed contents n most used answer verdict)
+        operand_weaker contents pool (λ said. HasAddresses said first) (IsFreeOfUsed contents style n most used answer verdict)
             (λ said has texts told_so.
             let (all, says, hass) = are texts told_so in (
               all,
@@ -73,9 +79,9 @@ alone : {X : Type 0} (In : X → Family → List Bool → Type 0) (x : X) (famil
 alone In x family a = (λ h. (h, λ none. none), λ h. h.0)
 
 -- what is inside the networks of a set is inside those of the list
-pub list_split : (contents : List ℕ → Option Text) (file len : List ℕ) (n : ℕ) (sets : Sets) (s t : State) (r : Result Verdict CommandError)
-    → IsNumber len n × (n ≤ 128) → ReadsListed contents file (Ok sets) → TellsFree (networks_of sets) n None s t r → SplitsList contents file len s t r
-list_split contents file len n sets s t r number reads (answer, verdict, w, free, written, is) =
+pub list_split : (contents : List ℕ → Option Text) (style : Option Style) (file len : List ℕ) (n : ℕ) (sets : Sets) (s t : State) (r : Result Verdict CommandError)
+    → IsNumber len n × (n ≤ 128) → ReadsListed contents file (Ok sets) → TellsFree style (networks_of sets) n None s t r → SplitsList contents style file len s t r
+list_split contents style file len n sets s t r number reads (answer, verdict, w, free, written, is) =
     inr (
       n,
       number.0,
@@ -93,19 +99,31 @@ list_split contents file len n sets s t r number reads (answer, verdict, w, free
       is,
     )
 
-pub split_in_list : (contents : List ℕ → Option Text) (operand len : List ℕ) (s t : State) (r : Result Verdict CommandError) → IsNoNetworkText operand
-    → SplitsList contents operand len s t r → AnswersRequest contents (Split operand len) s t r
-split_in_list contents operand len s t r none (inl (same, e, is, why)) =
-    subst (AnswersRequest contents (Split operand len) s t) (sym is) (inl (same, inr (none, why)))
-split_in_list contents operand len s t r none (inr (n, number, short, answer, verdict, w, list, written, is)) =
+pub split_in_list : (contents : List ℕ → Option Text) (style : Option Style) (operand len : List ℕ) (s t : State) (r : Result Verdict CommandError) → IsNoNetworkText operand
+    → SplitsList contents style operand len s t r → AnswersRequest contents (Split style operand len) s t r
+split_in_list contents style operand len s t r none (inl (same, e, is, why)) =
+    subst (AnswersRequest contents (Split style operand len) s t) (sym is) (inl (same, inr (none, why)))
+split_in_list contents style operand len s t r none (inr (n, number, short, answer, verdict, w, list, written, is)) =
     inr (answer, verdict, w, (n, number, inr (none, short, list)), written, is)
 
-pub split_in_network : (contents : List ℕ → Option Text) (operand len : List ℕ) (network : IpCidr) (s t : State) (r : Result Verdict CommandError)
-    → IsIpNetworkText operand network → SplitsNetwork network len s t r → AnswersRequest contents (Split operand len) s t r
-split_in_network contents operand len network s t r reads (inl (same, e, is, why)) =
-    subst (AnswersRequest contents (Split operand len) s t) (sym is) (inl (same, inl (network, reads, why)))
-split_in_network contents operand len network s t r reads (inr (n, number, some, w, written, is)) =
-    inr (split_text network n, Yes, w, (n, number, inl (network, reads, some, refl, refl)), written, is)
+pub split_in_network : (contents : List ℕ → Option Text) (style : Option Style) (operand len : List ℕ) (network : IpCidr) (s t : State) (r : Result Verdict CommandError)
+    → IsIpNetworkText operand network → SplitsNetwork style network len s t r → AnswersRequest contents (Split style operand len) s t r
+split_in_network contents style operand len network s t r reads (inl (same, e, is, why)) =
+    subst (AnswersRequest contents (Split style operand len) s t) (sym is) (inl (same, inl (network, reads, why)))
+split_in_network contents style operand len network s t r reads (inr (n, number, some, w, written, is)) =
+    inr (split_text style network n, Yes, w, (n, number, inl (network, reads, some, refl, refl)), written, is)
+
+-- the networks inside one are those that there are
+not_less : (a b : ℕ) (less : Bool) → nat_lt a b ≡ less → ¬ (a < b) → b ≤ a
+not_less a b true is none = absurd (none (ltb-true a b is))
+not_less a b false is none = ltb-false a b is
+
+pub subnets_written : (style : Option Style) (network : IpCidr) (n : ℕ) (s t : State) (w : Result (Unit {0}) OutputFailed) → ¬ (HasNone network n)
+    → Answered s t (printed_walk style (inside_of n network)) w → Answered s t (split_text style network n) w
+subnets_written style network n s t w some written =
+    subst (λ (k : List (Family × List Bool)). Answered s t (printed_walk style k) w)
+    (inside_some n network (not_less n (length (network_prefix network)) (nat_lt n (length (network_prefix network))) refl (λ low. some (inl low)))
+    (not_less (width_of (network_family network)) n (nat_lt (width_of (network_family network)) n) refl (λ high. some (inr high)))) written
 
 -- the count is wrong, and the length is not
 pub count_wrong : (extent : Extent) (len : List ℕ) (n : ℕ) (e : CommandError) → IsNumber len n × (n ≤ 128) → IsBadArgument (IsBadCount extent) e
@@ -118,15 +136,15 @@ count_wrong extent len n error.NoMemory number h = absurd h
 count_wrong extent len n error.Output number h = absurd h
 
 -- what they are given up for
-pub free_cause : (F : List ℕ → Type 0) (refused : Bool) (sets : Family → List (List Bool)) (n : ℕ) (most : Option ℕ) (s t : State) (r : Result Verdict CommandError)
-    → TellsFree sets n most s t r → IfErr r (Cause F refused)
-free_cause F refused sets n most s t r (answer, verdict, w, free, written, is) = output_cause F refused verdict w r is
+pub free_cause : (F : List ℕ → Type 0) (refused : Bool) (style : Option Style) (sets : Family → List (List Bool)) (n : ℕ) (most : Option ℕ) (s t : State) (r : Result Verdict CommandError)
+    → TellsFree style sets n most s t r → IfErr r (Cause F refused)
+free_cause F refused style sets n most s t r (answer, verdict, w, free, written, is) = output_cause F refused verdict w r is
 
-pub network_cause : (F : List ℕ → Type 0) (refused : Bool) (network : IpCidr) (len : List ℕ) (s t : State) (r : Result Verdict CommandError)
-    → SplitsNetwork network len s t r → IfErr r (Cause F refused)
-network_cause F refused network len s t r (inl (same, e, is, why)) =
+pub network_cause : (F : List ℕ → Type 0) (refused : Bool) (style : Option Style) (network : IpCidr) (len : List ℕ) (s t : State) (r : Result Verdict CommandError)
+    → SplitsNetwork style network len s t r → IfErr r (Cause F refused)
+network_cause F refused style network len s t r (inl (same, e, is, why)) =
     subst (λ (k : Result Verdict CommandError). IfErr k (Cause F refused)) (sym is) (argument_cause F refused _ e why)
-network_cause F refused network len s t r (inr (n, number, some, w, written, is)) = output_cause F refused Yes w r is
+network_cause F refused style network len s t r (inr (n, number, some, w, written, is)) = output_cause F refused Yes w r is
 
 -- arguments that are right are not wrong
 no_bad_length : (len : List ℕ) (n : ℕ) (text : List ℕ) (why : ArgumentError) → IsNumber len n × (n ≤ 128) → ¬ (IsBadLength len text why)

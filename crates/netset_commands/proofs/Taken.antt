@@ -1,29 +1,23 @@
--- Lines of networks that are collected up to a number.
+-- Networks that are collected up to a number, of which the last is held.
 use Rattle.std.proofs.Common.{◌≡◌, ◌⊎◌, inl, inr, refl, sym, ◌∙◌, ap, ap₂, subst, arith, ℕ, ◌+◌, ◌-◌, ◌<◌, ◌≤◌, Bool, true, false, List, [], ◌∷◌, ◌++◌, length, length-append, take, drop, get_or, append_assoc, Option, Some, None, Result, Ok, Err, nat_lt, cond}
 use Rattle.std.specs.List.{flat_map}
 use Rattle.std.specs.Bool.{Decides}
 use Rattle.std.specs.Option.{IfSome}
 use Rattle.std.proofs.lemmas.Bool.{true≢false, ltb-true, ltb-false, lt-ltb, le-ltb}
-use Rattle.std.proofs.lemmas.List.{append-nil, flat_map_more, take-append-le, take_all, take_more, take-append-drop}
+use Rattle.std.proofs.lemmas.List.{append-nil, take-append-le, take_all, take_more, take-append-drop}
 use Rattle.std.proofs.lemmas.List.Concat.{flat_map-append}
 use Rattle.std.proofs.Math.Seq.{take-append-add}
 use Rattle.cidr.specs.either.IpNetwork.{network_family, network_prefix}
 use Rattle.cidr.specs.model.Network.{width_of}
 use Rattle.cidr.specs.declared.cidr.combined.IpCidr.{IpCidr}
-use Rattle.cidr.specs.declared.cidr.combined.IpCidr.TheVariants.{V4, V6}
 use Rattle.cidr.specs.declared.family.Family.{Family}
-use Rattle.cidr.specs.declared.family.Family.TheVariants.{Ipv4, Ipv6}
 use Rattle.cidr_ext.specs.model.Subnets.{subnets_of}
 use Rattle.cidr_io.proofs.Chains.{part_more}
 use Rattle.cidr_io.proofs.Collected.{collected_more, none_collected}
 use Rattle.cidr_io.specs.Collecting.{Collects}
-use Rattle.cidr_io.specs.Writing.{State, Answered, Part, Writes}
+use Rattle.cidr_io.specs.Writing.{State, Part}
 use Rattle.cidr_io.specs.declared.sink.OutputFailed.{OutputFailed}
-use Rattle.cidr_lists.specs.Sets.{networks_of}
-use Rattle.cidr_lists.specs.declared.sets.Sets.{Sets}
-use Rattle.netset_commands.specs.Free.{TakesLines, all_inside, inside_of, less, taken}
-use Rattle.netset_commands.specs.Single.{subnet_line}
-use Rattle.netset_commands.proofs.Blocks.{line_lost, line_written}
+use Rattle.netset_commands.specs.Free.{TakesRows, all_before, inside_of, last_behind, less, pair_of, taken}
 
 -- ---- the first of a list
 short : {X : Type 0} (m : ℕ) (xs ys : List X) → m ≤ length xs → take m (xs ++ ys) ≡ take m xs ++ take (m - length xs) ys
@@ -84,38 +78,60 @@ one_more_fits (Some m) n h some = fits_by (nat_lt n m) refl
         let l : m ≤ n = ltb-false n m is in
         absurd (some (ap (λ (k : ℕ). Some k) (let e : m - n ≡ 0 = omega (arith, l) in e)))
 
--- ---- one line after the other
-module _ {X : Type 0} (f : X → List ℕ) where
-  -- the first of the lines came behind a block, and so many more may
-  pub record Taking (most now : Option ℕ) (all left : List X) (s t : State) (block rest : List ℕ) : Type 0 where
+-- ---- what stands in front of networks, one after the other
+pub taken_none : {X : Type 0} (most : Option ℕ) → taken {X = X} most [] ≡ []
+taken_none None = refl
+taken_none (Some m) = take_all m [] (omega arith)
+
+pub behind-append : {X : Type 0} (last : Option X) (xs ys : List X) → last_behind last (xs ++ ys) ≡ last_behind (last_behind last xs) ys
+behind-append last [] ys = refl
+behind-append last (x ∷ xs) ys = behind-append (Some x) xs ys
+
+module _ {X : Type 0} (f : Option X → List ℕ) where
+  pub before-append : (last : Option X) (xs ys : List X) → all_before f last (xs ++ ys) ≡ all_before f last xs ++ all_before f (last_behind last xs) ys
+  before-append last [] ys = refl
+  before-append last (x ∷ xs) ys =
+      ap (λ (k : List ℕ). f last ++ k) (before-append (Some x) xs ys)
+      ∙ sym (append_assoc (f last) (all_before f (Some x) xs) (all_before f (last_behind (Some x) xs) ys))
+
+  one_before : (last : Option X) (xs : List X) (x : X) → all_before f last xs ++ f (last_behind last xs) ≡ all_before f last (xs ++ x ∷ [])
+  one_before last xs x =
+      sym (before-append last xs (x ∷ []) ∙ ap (λ (k : List ℕ). all_before f last xs ++ k) (append-nil (f (last_behind last xs))))
+
+fits_none : (most : Option ℕ) → Fits most 0
+fits_none None = tt
+fits_none (Some m) = omega arith
+
+module _ {X : Type 0} (f : Option X → List ℕ) (first : Option X) where
+  -- what stands in front of the first of them came behind a block, the last of these is held, and so many more may come
+  pub record Taking (most now : Option ℕ) (held : Option X) (all left : List X) (s t : State) (block rest : List ℕ) : Type 0 where
     pub done : List X
     pub split : all ≡ done ++ left
-    pub collected : Collects s t block rest (flat_map f done) (Ok tt)
+    pub collected : Collects s t block rest (all_before f first done) (Ok tt)
     pub count : now ≡ less most (length done)
     pub fits : Fits most (length done)
+    pub place : held ≡ last_behind first done
 
-  fits_none : (most : Option ℕ) → Fits most 0
-  fits_none None = tt
-  fits_none (Some m) = omega arith
-
-  pub taking_started : (most : Option ℕ) (all : List X) (s : State) (block : List ℕ) → Taking most most all all s s block block
+  pub taking_started : (most : Option ℕ) (all : List X) (s : State) (block : List ℕ) → Taking most most first all all s s block block
   taking_started most all s block =
-      record { done = []; split = refl; collected = none_collected s block; count = less_none most; fits = fits_none most }
+      record { done = []; split = refl; collected = none_collected s block; count = less_none most; fits = fits_none most; place = refl }
 
-  pub taking_on : (most now next : Option ℕ) (all left rest : List X) (s t u : State) (b c d text : List ℕ) (x : X) → left ≡ x ∷ rest → text ≡ f x
-      → ((now ≡ Some 0) → ⊥) → next ≡ less now 1 → Taking most now all left s t b c → Collects t u c d text (Ok tt) → Taking most next all rest s u b d
-  taking_on most now next all left rest s t u b c d text x is shows some then g more =
+  pub taking_on : (most now next : Option ℕ) (held : Option X) (all left rest : List X) (s t u : State) (b c d : List ℕ) (x : X) → left ≡ x ∷ rest
+      → ((now ≡ Some 0) → ⊥) → next ≡ less now 1 → Taking most now held all left s t b c → Collects t u c d (f held) (Ok tt)
+      → Taking most next (Some x) all rest s u b d
+  taking_on most now next held all left rest s t u b c d x is some then g more =
       let size : length (g.done ++ x ∷ []) ≡ length g.done + 1 = length-append g.done (x ∷ []) in record {
         done = g.done ++ x ∷ [];
         split = g.split ∙ (ap (λ (k : List X). g.done ++ k) is ∙ sym (append_assoc g.done (x ∷ []) rest));
         collected = subst (λ (k : List ℕ). Collects s u b d k (Ok tt))
-            (ap (λ (k : List ℕ). flat_map f g.done ++ k) shows ∙ flat_map_more f [] g.done x)
-            (collected_more s t u b c d (flat_map f g.done) text (Ok tt) g.collected more);
+            (ap (λ (k : Option X). all_before f first g.done ++ f k) g.place ∙ one_before f first g.done x)
+            (collected_more s t u b c d (all_before f first g.done) (f held) (Ok tt) g.collected more);
         count = then ∙ (ap (λ (k : Option ℕ). less k 1) g.count ∙ (less_both most (length g.done) 1 ∙ ap (λ (k : ℕ). less most k) (sym size)));
         fits = subst (Fits most) (sym size) (one_more_fits most (length g.done) g.fits (λ none. some (g.count ∙ none)));
+        place = sym (behind-append first g.done (x ∷ []));
       }
 
-  -- the lines that there may be, of those that are done and one more
+  -- those that there may be, of those that are done and one more
   taken_front : (most : Option ℕ) (all done rest : List X) (x : X) → all ≡ done ++ x ∷ rest → Fits most (length (done ++ x ∷ []))
       → taken most all ≡ (done ++ x ∷ []) ++ taken (less most (length (done ++ x ∷ []))) rest
   taken_front most all done rest x is fits =
@@ -123,80 +139,105 @@ module _ {X : Type 0} (f : X → List ℕ) where
       ∙ (taken_both most (done ++ x ∷ []) rest
       ∙ ap (λ (k : List X). k ++ taken (less most (length (done ++ x ∷ []))) rest) (taken_whole most (done ++ x ∷ []) fits))
 
-  pub taking_lost : (most now : Option ℕ) (all left rest : List X) (s t u : State) (b c d text : List ℕ) (x : X) (e : OutputFailed)
-      → left ≡ x ∷ rest → text ≡ f x → ((now ≡ Some 0) → ⊥) → Taking most now all left s t b c → Part t u (c ++ text)
-      → Collects s u b d (flat_map f (taken most all)) (Err e)
-  taking_lost most now all left rest s t u b c d text x e is shows some g part =
-      let front : Part s u (b ++ (flat_map f g.done ++ text)) = collected_more s t u b c d (flat_map f g.done) text (Err e) g.collected part in
-      let here : flat_map f g.done ++ text ≡ flat_map f (g.done ++ x ∷ []) = ap (λ (k : List ℕ). flat_map f g.done ++ k) shows ∙ flat_map_more f [] g.done x in
-      let behind : List X = taken (less most (length (g.done ++ x ∷ []))) rest in
+  pub taking_lost : (most now : Option ℕ) (held : Option X) (all left rest : List X) (s t u : State) (b c d : List ℕ) (x : X) (e : OutputFailed)
+      → left ≡ x ∷ rest → ((now ≡ Some 0) → ⊥) → Taking most now held all left s t b c → Part t u (c ++ f held)
+      → Collects s u b d (all_before f first (taken most all)) (Err e)
+  taking_lost most now held all left rest s t u b c d x e is some g part =
+      let text : List ℕ = all_before f first (g.done ++ x ∷ []) in
+      let front : Part s u (b ++ (all_before f first g.done ++ f held)) =
+      collected_more s t u b c d (all_before f first g.done) (f held) (Err e) g.collected part in
+      let here : all_before f first g.done ++ f held ≡ text =
+      ap (λ (k : Option X). all_before f first g.done ++ f k) g.place ∙ one_before f first g.done x in
+      let others : List X = taken (less most (length (g.done ++ x ∷ []))) rest in
+      let behind : List ℕ = all_before f (last_behind first (g.done ++ x ∷ [])) others in
       let fits : Fits most (length (g.done ++ x ∷ [])) =
       subst (Fits most) (sym (length-append g.done (x ∷ []))) (one_more_fits most (length g.done) g.fits (λ none. some (g.count ∙ none))) in
-      let all_of : taken most all ≡ (g.done ++ x ∷ []) ++ behind = taken_front most all g.done rest x (g.split ∙ ap (λ (k : List X). g.done ++ k) is) fits in
-      let whole : flat_map f (taken most all) ≡ flat_map f (g.done ++ x ∷ []) ++ flat_map f behind =
-      ap (flat_map f) all_of ∙ flat_map-append f (g.done ++ x ∷ []) behind in
-      let some_of : Part s u ((b ++ flat_map f (g.done ++ x ∷ [])) ++ flat_map f behind) =
-      part_more s u (b ++ flat_map f (g.done ++ x ∷ [])) (flat_map f behind) (subst (λ (k : List ℕ). Part s u (b ++ k)) here front) in
-      subst (λ (k : List ℕ). Part s u k)
-      (append_assoc b (flat_map f (g.done ++ x ∷ [])) (flat_map f behind) ∙ ap (λ (k : List ℕ). b ++ k) (sym whole)) some_of
+      let all_of : taken most all ≡ (g.done ++ x ∷ []) ++ others = taken_front most all g.done rest x (g.split ∙ ap (λ (k : List X). g.done ++ k) is) fits in
+      let whole : all_before f first (taken most all) ≡ text ++ behind =
+      ap (all_before f first) all_of ∙ before-append f first (g.done ++ x ∷ []) others in
+      let some_of : Part s u ((b ++ text) ++ behind) =
+      part_more s u (b ++ text) behind (subst (λ (k : List ℕ). Part s u (b ++ k)) here front) in
+      subst (λ (k : List ℕ). Part s u k) (append_assoc b text behind ∙ ap (λ (k : List ℕ). b ++ k) (sym whole)) some_of
+
+  abbrev Took : Option ℕ → Option ℕ → Option X → List X → State → State → List ℕ → List ℕ → Type 0
+  Took most now held all s t b c = Collects s t b c (all_before f first (taken most all)) (Ok tt)
+      × (now ≡ less most (length all)) × (held ≡ last_behind first (taken most all))
 
   -- no more may come
-  pub taking_done : (most now : Option ℕ) (all left : List X) (s t : State) (b c : List ℕ) → now ≡ Some 0 → Taking most now all left s t b c
-      → Collects s t b c (flat_map f (taken most all)) (Ok tt) × (now ≡ less most (length all))
-  taking_done most now all left s t b c none g =
+  pub taking_done : (most now : Option ℕ) (held : Option X) (all left : List X) (s t : State) (b c : List ℕ) → now ≡ Some 0
+      → Taking most now held all left s t b c → Took most now held all s t b c
+  taking_done most now held all left s t b c none g =
       let is : less most (length g.done) ≡ Some 0 = sym g.count ∙ none in
       let all_of : taken most all ≡ g.done =
       ap (taken most) g.split ∙ (taken_both most g.done left
       ∙ (ap₂ (λ (j k : List X). j ++ k) (taken_whole most g.done g.fits) (none_more most (length g.done) left g.fits is) ∙ append-nil g.done)) in
       let size : length all ≡ length g.done + length left = ap length g.split ∙ length-append g.done left in (
-        subst (λ (k : List X). Collects s t b c (flat_map f k) (Ok tt)) (sym all_of) g.collected,
+        subst (λ (k : List X). Collects s t b c (all_before f first k) (Ok tt)) (sym all_of) g.collected,
         none ∙ sym (ap (λ (k : ℕ). less most k) size ∙ still_none most (length g.done) (length left) is),
+        g.place ∙ ap (last_behind first) (sym all_of),
       )
 
   -- none are left
-  pub taking_ended : (most now : Option ℕ) (all left : List X) (s t : State) (b c : List ℕ) → left ≡ [] → Taking most now all left s t b c
-      → Collects s t b c (flat_map f (taken most all)) (Ok tt) × (now ≡ less most (length all))
-  taking_ended most now all left s t b c none g =
-      let is : all ≡ g.done = g.split ∙ (ap (λ (k : List X). g.done ++ k) none ∙ append-nil g.done) in (
-        subst (λ (k : List X). Collects s t b c (flat_map f k) (Ok tt)) (sym (ap (taken most) is ∙ taken_whole most g.done g.fits)) g.collected,
+  pub taking_ended : (most now : Option ℕ) (held : Option X) (all left : List X) (s t : State) (b c : List ℕ) → left ≡ []
+      → Taking most now held all left s t b c → Took most now held all s t b c
+  taking_ended most now held all left s t b c none g =
+      let is : all ≡ g.done = g.split ∙ (ap (λ (k : List X). g.done ++ k) none ∙ append-nil g.done) in
+      let all_of : taken most all ≡ g.done = ap (taken most) is ∙ taken_whole most g.done g.fits in (
+        subst (λ (k : List X). Collects s t b c (all_before f first k) (Ok tt)) (sym all_of) g.collected,
         g.count ∙ ap (λ (k : ℕ). less most k) (sym (ap length is)),
+        g.place ∙ ap (last_behind first) (sym all_of),
       )
 
 -- ---- more networks behind others
-abbrev Lines : Type 0
-Lines = List (Family × List Bool)
+abbrev pub Walk : Type 0
+Walk = List (Family × List Bool)
 
-pub takes_more : (most left : Option ℕ) (xs ys : Lines) (s t u : State) (b c d : List ℕ) (r : Result (Option ℕ) OutputFailed)
-    → TakesLines most xs s t b c (Ok left) → TakesLines left ys t u c d r → TakesLines most (xs ++ ys) s u b d r
-takes_more most left xs ys s t u b c d (Ok next) (first, is) (more, then) =
-    let text : flat_map subnet_line (taken most xs) ++ flat_map subnet_line (taken left ys) ≡ flat_map subnet_line (taken most (xs ++ ys)) =
-    ap (λ (k : Option ℕ). flat_map subnet_line (taken most xs) ++ flat_map subnet_line (taken k ys)) is
-    ∙ (sym (flat_map-append subnet_line (taken most xs) (taken (less most (length xs)) ys)) ∙ ap (flat_map subnet_line) (sym (taken_both most xs ys))) in (
-      subst (λ (k : List ℕ). Collects s u b d k (Ok tt)) text
-          (collected_more s t u b c d (flat_map subnet_line (taken most xs)) (flat_map subnet_line (taken left ys)) (Ok tt) first more),
-      then ∙ (ap (λ (k : Option ℕ). less k (length ys)) is ∙ (less_both most (length xs) (length ys) ∙ ap (λ (k : ℕ). less most k) (sym (length-append xs ys)))),
-    )
-takes_more most left xs ys s t u b c d (Err e) (first, is) part =
-    let text : flat_map subnet_line (taken most xs) ++ flat_map subnet_line (taken left ys) ≡ flat_map subnet_line (taken most (xs ++ ys)) =
-    ap (λ (k : Option ℕ). flat_map subnet_line (taken most xs) ++ flat_map subnet_line (taken k ys)) is
-    ∙ (sym (flat_map-append subnet_line (taken most xs) (taken (less most (length xs)) ys)) ∙ ap (flat_map subnet_line) (sym (taken_both most xs ys))) in
-    subst (λ (k : List ℕ). Part s u (b ++ k)) text
-    (collected_more s t u b c d (flat_map subnet_line (taken most xs)) (flat_map subnet_line (taken left ys)) (Err e) first part)
+module _ (f : Option (Family × List Bool) → List ℕ) where
+  both_before : (most left : Option ℕ) (first last : Option (Family × List Bool)) (xs ys : Walk) → left ≡ less most (length xs)
+      → last ≡ last_behind first (taken most xs)
+      → all_before f first (taken most xs) ++ all_before f last (taken left ys) ≡ all_before f first (taken most (xs ++ ys))
+  both_before most left first last xs ys is stands =
+      ap (λ (k : Option ℕ). all_before f first (taken most xs) ++ all_before f last (taken k ys)) is
+      ∙ (ap (λ (k : Option (Family × List Bool)). all_before f first (taken most xs) ++ all_before f k (taken (less most (length xs)) ys)) stands
+      ∙ (sym (before-append f first (taken most xs) (taken (less most (length xs)) ys)) ∙ ap (all_before f first) (sym (taken_both most xs ys))))
 
--- nothing behind what was lost
-pub takes_lost : (most : Option ℕ) (xs ys : Lines) (s t : State) (b c d : List ℕ) (e : OutputFailed) → TakesLines most xs s t b c (Err e)
-    → TakesLines most (xs ++ ys) s t b d (Err e)
-takes_lost most xs ys s t b c d e part =
-    let behind : List ℕ = flat_map subnet_line (taken (less most (length xs)) ys) in
-    let text : flat_map subnet_line (taken most xs) ++ behind ≡ flat_map subnet_line (taken most (xs ++ ys)) =
-    sym (flat_map-append subnet_line (taken most xs) (taken (less most (length xs)) ys)) ∙ ap (flat_map subnet_line) (sym (taken_both most xs ys)) in
-    subst (λ (k : List ℕ). Part s t k)
-    (append_assoc b (flat_map subnet_line (taken most xs)) behind ∙ ap (λ (k : List ℕ). b ++ k) text)
-    (part_more s t (b ++ flat_map subnet_line (taken most xs)) behind part)
+  both_behind : (most left : Option ℕ) (first last : Option (Family × List Bool)) (xs ys : Walk) → left ≡ less most (length xs)
+      → last ≡ last_behind first (taken most xs) → last_behind last (taken left ys) ≡ last_behind first (taken most (xs ++ ys))
+  both_behind most left first last xs ys is stands =
+      ap (λ (k : Option ℕ). last_behind last (taken k ys)) is
+      ∙ (ap (λ (k : Option (Family × List Bool)). last_behind k (taken (less most (length xs)) ys)) stands
+      ∙ (sym (behind-append first (taken most xs) (taken (less most (length xs)) ys)) ∙ ap (last_behind first) (sym (taken_both most xs ys))))
 
-pub takes_none : (most : Option ℕ) (s : State) (b : List ℕ) → TakesLines most [] s s b b (Ok most)
-takes_none None s b = (none_collected s b, refl)
-takes_none (Some m) s b = (subst (λ (k : Lines). Collects s s b b (flat_map subnet_line k) (Ok tt)) (sym (take_all m [] (omega arith))) (none_collected s b), less_none (Some m))
+  pub takes_more : (most left : Option ℕ) (first last : Option IpCidr) (xs ys : Walk) (s t u : State) (b c d : List ℕ)
+      (r : Result (Option ℕ × Option IpCidr) OutputFailed) → TakesRows f most first xs s t b c (Ok (left, last)) → TakesRows f left last ys t u c d r
+      → TakesRows f most first (xs ++ ys) s u b d r
+  takes_more most left first last xs ys s t u b c d (Ok (next, final)) (front, is, stands) (more, then, ends) = (
+    subst (λ (k : List ℕ). Collects s u b d k (Ok tt)) (both_before most left (pair_of first) (pair_of last) xs ys is stands)
+        (collected_more s t u b c d (all_before f (pair_of first) (taken most xs)) (all_before f (pair_of last) (taken left ys)) (Ok tt) front more),
+    then ∙ (ap (λ (k : Option ℕ). less k (length ys)) is ∙ (less_both most (length xs) (length ys) ∙ ap (λ (k : ℕ). less most k) (sym (length-append xs ys)))),
+    ends ∙ both_behind most left (pair_of first) (pair_of last) xs ys is stands,
+  )
+  takes_more most left first last xs ys s t u b c d (Err e) (front, is, stands) part =
+      subst (λ (k : List ℕ). Part s u (b ++ k)) (both_before most left (pair_of first) (pair_of last) xs ys is stands)
+      (collected_more s t u b c d (all_before f (pair_of first) (taken most xs)) (all_before f (pair_of last) (taken left ys)) (Err e) front part)
+
+  -- nothing behind what was lost
+  pub takes_lost : (most : Option ℕ) (first : Option IpCidr) (xs ys : Walk) (s t : State) (b c d : List ℕ) (e : OutputFailed)
+      → TakesRows f most first xs s t b c (Err e) → TakesRows f most first (xs ++ ys) s t b d (Err e)
+  takes_lost most first xs ys s t b c d e part =
+      let text : List ℕ = all_before f (pair_of first) (taken most xs) in
+      let others : Walk = taken (less most (length xs)) ys in
+      let behind : List ℕ = all_before f (last_behind (pair_of first) (taken most xs)) others in
+      let whole : text ++ behind ≡ all_before f (pair_of first) (taken most (xs ++ ys)) =
+      sym (before-append f (pair_of first) (taken most xs) others) ∙ ap (all_before f (pair_of first)) (sym (taken_both most xs ys)) in
+      subst (λ (k : List ℕ). Part s t k) (append_assoc b text behind ∙ ap (λ (k : List ℕ). b ++ k) whole) (part_more s t (b ++ text) behind part)
+
+  pub takes_none : (most : Option ℕ) (first : Option IpCidr) (s : State) (b : List ℕ) → TakesRows f most first [] s s b b (Ok (most, first))
+  takes_none most first s b = (
+    subst (λ (k : Walk). Collects s s b b (all_before f (pair_of first) k) (Ok tt)) (sym (taken_none most)) (none_collected s b),
+    less_none most,
+    ap (last_behind (pair_of first)) (sym (taken_none most)),
+  )
 
 -- the networks inside one that has them, or none
 pub inside_some : (n : ℕ) (network : IpCidr) → length (network_prefix network) ≤ n → n ≤ width_of (network_family network)
@@ -206,7 +247,7 @@ inside_some n network low high =
     (le-ltb n (length (network_prefix network)) low)
     ∙ ap (λ (b : Bool). cond b [] (subnets_of (network_family network) (network_prefix network) n)) (le-ltb (width_of (network_family network)) n high)
 
-either_way : (b : Bool) (xs : Lines) → xs ≡ [] → cond b [] xs ≡ []
+either_way : (b : Bool) (xs : Walk) → xs ≡ [] → cond b [] xs ≡ []
 either_way true xs is = refl
 either_way false xs is = is
 
@@ -219,78 +260,49 @@ inside_none n network (inr high) =
     (ap (λ (b : Bool). cond b [] (subnets_of (network_family network) (network_prefix network) n)) (lt-ltb (width_of (network_family network)) n high))
 
 -- one network of a slice more
-module _ {C : Type 0} (of : C → Lines) (all : List C) (i : ℕ) (x : C) (within : i < length all) where
-  lines_front : flat_map of (take (i + 1) all) ≡ flat_map of (take i all) ++ of (get_or all i x)
-  lines_front =
+module _ (f : Option (Family × List Bool) → List ℕ) {C : Type 0} (of : C → Walk) (all : List C) (i : ℕ) (x : C) (within : i < length all) where
+  walk_front : flat_map of (take (i + 1) all) ≡ flat_map of (take i all) ++ of (get_or all i x)
+  walk_front =
       ap (flat_map of) (take_more all i x within)
-      ∙ (flat_map-append of (take i all) (get_or all i x ∷ []) ∙ ap (λ (k : Lines). flat_map of (take i all) ++ k) (append-nil (of (get_or all i x))))
+      ∙ (flat_map-append of (take i all) (get_or all i x ∷ []) ∙ ap (λ (k : Walk). flat_map of (take i all) ++ k) (append-nil (of (get_or all i x))))
 
-  lines_whole : flat_map of (take (i + 1) all) ++ flat_map of (drop (i + 1) all) ≡ flat_map of all
-  lines_whole = sym (flat_map-append of (take (i + 1) all) (drop (i + 1) all)) ∙ ap (flat_map of) (take-append-drop (i + 1) all)
+  walk_whole : flat_map of (take (i + 1) all) ++ flat_map of (drop (i + 1) all) ≡ flat_map of all
+  walk_whole = sym (flat_map-append of (take (i + 1) all) (drop (i + 1) all)) ∙ ap (flat_map of) (take-append-drop (i + 1) all)
 
-  pub each_taken : x ≡ get_or all i x → (most left next : Option ℕ) (s t u : State) (b c d : List ℕ) → TakesLines most (flat_map of (take i all)) s t b c (Ok left)
-      → TakesLines left (of x) t u c d (Ok next) → TakesLines most (flat_map of (take (i + 1) all)) s u b d (Ok next)
-  each_taken is most left next s t u b c d before more =
-      subst (λ (k : Lines). TakesLines most k s u b d (Ok next)) (ap (λ (y : C). flat_map of (take i all) ++ of y) is ∙ sym lines_front)
-      (takes_more most left (flat_map of (take i all)) (of x) s t u b c d (Ok next) before more)
+  pub each_taken : x ≡ get_or all i x → (most left next : Option ℕ) (first last final : Option IpCidr) (s t u : State) (b c d : List ℕ)
+      → TakesRows f most first (flat_map of (take i all)) s t b c (Ok (left, last)) → TakesRows f left last (of x) t u c d (Ok (next, final))
+      → TakesRows f most first (flat_map of (take (i + 1) all)) s u b d (Ok (next, final))
+  each_taken is most left next first last final s t u b c d before more =
+      subst (λ (k : Walk). TakesRows f most first k s u b d (Ok (next, final))) (ap (λ (y : C). flat_map of (take i all) ++ of y) is ∙ sym walk_front)
+      (takes_more f most left first last (flat_map of (take i all)) (of x) s t u b c d (Ok (next, final)) before more)
 
-  pub each_lost : x ≡ get_or all i x → (most left : Option ℕ) (e : OutputFailed) (s t u : State) (b c d : List ℕ) → TakesLines most (flat_map of (take i all)) s t b c (Ok left)
-      → TakesLines left (of x) t u c d (Err e) → TakesLines most (flat_map of all) s u b d (Err e)
-  each_lost is most left e s t u b c d before more =
-      subst (λ (k : Lines). TakesLines most k s u b d (Err e)) lines_whole
-      (takes_lost most (flat_map of (take (i + 1) all)) (flat_map of (drop (i + 1) all)) s u b d d e
-      (subst (λ (k : Lines). TakesLines most k s u b d (Err e)) (ap (λ (y : C). flat_map of (take i all) ++ of y) is ∙ sym lines_front)
-      (takes_more most left (flat_map of (take i all)) (of x) s t u b c d (Err e) before more)))
+  pub each_lost : x ≡ get_or all i x → (most left : Option ℕ) (first last : Option IpCidr) (e : OutputFailed) (s t u : State) (b c d : List ℕ)
+      → TakesRows f most first (flat_map of (take i all)) s t b c (Ok (left, last)) → TakesRows f left last (of x) t u c d (Err e)
+      → TakesRows f most first (flat_map of all) s u b d (Err e)
+  each_lost is most left first last e s t u b c d before more =
+      subst (λ (k : Walk). TakesRows f most first k s u b d (Err e)) walk_whole
+      (takes_lost f most first (flat_map of (take (i + 1) all)) (flat_map of (drop (i + 1) all)) s u b d d e
+      (subst (λ (k : Walk). TakesRows f most first k s u b d (Err e)) (ap (λ (y : C). flat_map of (take i all) ++ of y) is ∙ sym walk_front)
+      (takes_more f most left first last (flat_map of (take i all)) (of x) s t u b c d (Err e) before more)))
 
 -- more may come
 pub not_done : (done : Bool) (left : Option ℕ) → Decides done (left ≡ Some 0) → done ≡ false → (left ≡ Some 0) → ⊥
 not_done done left decides is none = true≢false (sym (decides.1 none) ∙ is)
 
-pub takes_inside : (most : Option ℕ) (n : ℕ) (network : IpCidr) (subnets : Lines) (s t : State) (b d : List ℕ) (r : Result (Option ℕ) OutputFailed)
-    → subnets ≡ subnets_of (network_family network) (network_prefix network) n → (length (network_prefix network) ≤ n) × (n ≤ width_of (network_family network))
-    → TakesLines most subnets s t b d r → TakesLines most (inside_of n network) s t b d r
-takes_inside most n network subnets s t b d r are within takes =
-    subst (λ (k : Lines). TakesLines most k s t b d r) (are ∙ sym (inside_some n network within.0 within.1)) takes
+pub takes_inside : (f : Option (Family × List Bool) → List ℕ) (most : Option ℕ) (first : Option IpCidr) (n : ℕ) (network : IpCidr) (subnets : Walk) (s t : State)
+    (b d : List ℕ) (r : Result (Option ℕ × Option IpCidr) OutputFailed) → subnets ≡ subnets_of (network_family network) (network_prefix network) n
+    → (length (network_prefix network) ≤ n) × (n ≤ width_of (network_family network)) → TakesRows f most first subnets s t b d r
+    → TakesRows f most first (inside_of n network) s t b d r
+takes_inside f most first n network subnets s t b d r are within takes =
+    subst (λ (k : Walk). TakesRows f most first k s t b d r) (are ∙ sym (inside_some n network within.0 within.1)) takes
 
-pub takes_outside : (most : Option ℕ) (n : ℕ) (network : IpCidr) (s : State) (b : List ℕ)
-    → (n < length (network_prefix network)) ⊎ (width_of (network_family network) < n) → TakesLines most (inside_of n network) s s b b (Ok most)
-takes_outside most n network s b none =
-    subst (λ (k : Lines). TakesLines most k s s b b (Ok most)) (sym (inside_none n network none)) (takes_none most s b)
+pub takes_outside : (f : Option (Family × List Bool) → List ℕ) (most : Option ℕ) (first : Option IpCidr) (n : ℕ) (network : IpCidr) (s : State) (b : List ℕ)
+    → (n < length (network_prefix network)) ⊎ (width_of (network_family network) < n) → TakesRows f most first (inside_of n network) s s b b (Ok (most, first))
+takes_outside f most first n network s b none =
+    subst (λ (k : Walk). TakesRows f most first k s s b b (Ok (most, first))) (sym (inside_none n network none)) (takes_none f most first s b)
 
-pub all_taken : {C : Type 0} (of : C → Lines) (all : List C) (i : ℕ) → length all ≤ i → (most left : Option ℕ) (s t : State) (b c : List ℕ)
-    → TakesLines most (flat_map of (take i all)) s t b c (Ok left) → TakesLines most (flat_map of all) s t b c (Ok left)
-all_taken {C} of all i past most left s t b c h =
-    subst (λ (k : List C). TakesLines most (flat_map of k) s t b c (Ok left)) (take_all i all past) h
-
--- ---- the networks of both families
-module _ (most : Option ℕ) (n : ℕ) (sets : Sets) where
-  abbrev First : Lines
-  First = flat_map (λ p. inside_of n (V4 p)) (networks_of sets Ipv4)
-
-  abbrev Second : Lines
-  Second = flat_map (λ p. inside_of n (V6 p)) (networks_of sets Ipv6)
-
-  abbrev Lost : State → State → List ℕ → List ℕ → OutputFailed → Type 0
-  Lost s t b d e = TakesLines most (First ++ Second) s t b d (Err e)
-
-  lost_written : (s t : State) (b d : List ℕ) (r : Result (Unit {0}) OutputFailed) (y : OutputFailed) → r ≡ Err y → s.failed ≡ false → b ≡ []
-      → Lost s t b d y → Answered s t (flat_map subnet_line (taken most (all_inside n (networks_of sets)))) r
-  lost_written s t b d r y is fine none part = line_lost s t b (flat_map subnet_line (taken most (First ++ Second))) r y is fine none part
-
-  pub inside_lost_first : (s t : State) (b d : List ℕ) (r : Result (Unit {0}) OutputFailed) (y : OutputFailed) → r ≡ Err y → s.failed ≡ false → b ≡ []
-      → TakesLines most First s t b d (Err y) → Answered s t (flat_map subnet_line (taken most (all_inside n (networks_of sets)))) r
-  inside_lost_first s t b d r y is fine none part =
-      lost_written s t b d r y is fine none (takes_lost most First Second s t b d d y part)
-
-  pub inside_lost_then : (left : Option ℕ) (s t u : State) (b c d : List ℕ) (r : Result (Unit {0}) OutputFailed) (y : OutputFailed) → r ≡ Err y
-      → s.failed ≡ false → b ≡ [] → TakesLines most First s t b c (Ok left) → TakesLines left Second t u c d (Err y)
-      → Answered s u (flat_map subnet_line (taken most (all_inside n (networks_of sets)))) r
-  inside_lost_then left s t u b c d r y is fine none first part =
-      lost_written s u b d r y is fine none (takes_more most left First Second s t u b c d (Err y) first part)
-
-  pub inside_written : (left last : Option ℕ) (s t u v : State) (b c d : List ℕ) (r : Result (Unit {0}) OutputFailed) → s.failed ≡ false → b ≡ []
-      → TakesLines most First s t b c (Ok left) → TakesLines left Second t u c d (Ok last) → Writes u v d r
-      → Answered s v (flat_map subnet_line (taken most (all_inside n (networks_of sets)))) r
-  inside_written left last s t u v b c d r fine none first second wrote =
-      let both = takes_more most left First Second s t u b c d (Ok last) first second in
-      line_written s u v b d (flat_map subnet_line (taken most (First ++ Second))) r fine none both.0 wrote
+pub all_taken : (f : Option (Family × List Bool) → List ℕ) {C : Type 0} (of : C → Walk) (all : List C) (i : ℕ) → length all ≤ i → (most left : Option ℕ)
+    (first last : Option IpCidr) (s t : State) (b c : List ℕ) → TakesRows f most first (flat_map of (take i all)) s t b c (Ok (left, last))
+    → TakesRows f most first (flat_map of all) s t b c (Ok (left, last))
+all_taken f {C} of all i past most left first last s t b c h =
+    subst (λ (k : List C). TakesRows f most first (flat_map of k) s t b c (Ok (left, last))) (take_all i all past) h

@@ -2,15 +2,15 @@
 use Rattle.std.proofs.Common.{◌≡◌, refl, sym, ◌∙◌, ap, subst, inl, inr, ℕ, Bool, true, false, ◌||◌, List, [], ◌∷◌, ◌++◌, codes, slice_get, Option, Some, None, Result, Ok}
 use Rattle.std.specs.List.{list_all, list_any}
 use Rattle.std.proofs.lemmas.Bool.{true≢false}
-use Rattle.cidr_lists.specs.Formats.{format_name}
-use Rattle.netset_commands.specs.Arguments.{Parts, and_then, asks_help, choice_by, choice_in, counted_request, extent_by, extra_operand, is_option, joined_arguments, line_request, lists_request, match_by, named_verb, only_operand, only_options, only_value, part_request, parts_from, read_request, takes, value_of, verb_request, word_parts}
+use Rattle.cidr_lists.specs.Formats.{IsBare, Style, format_name}
+use Rattle.netset_commands.specs.Arguments.{Parts, and_then, asks_help, choice_by, choice_in, counted_request, extent_by, extra_operand, is_option, joined_arguments, line_request, lists_request, match_by, named_verb, only_operand, only_options, only_value, part_request, parts_from, read_request, style_in_values, takes, value_of, verb_request, word_parts}
 use Rattle.netset_commands.specs.Commands.{Request, Lists, Styled, NotIn, Diff, Free, Split, Check, Which, Match, MatchEach, Look, Compile, Describe, Class, Single, Help, Version, input_name, reading_of}
 use Rattle.netset_commands.specs.Free.{Extent, First, Count, All}
 use Rattle.netset_commands.specs.Matching.{has, is_word}
 use Rattle.netset_commands.specs.Picking.{Choice, FirstField, FieldOf}
 use Rattle.netset_commands.specs.Single.{Show, Nth}
 use Rattle.netset_commands.specs.Table.{commands, name_of, options_of, takes_value}
-use Rattle.netset_commands.specs.Typed.{AreTyped, GoesWith, IsTyped, choice_words}
+use Rattle.netset_commands.specs.Typed.{AreTyped, GoesWith, IsTyped, choice_words, style_words}
 use Rattle.netset_commands.specs.declared.commands.arguments.Next.{Next}
 use Rattle.netset_commands.specs.declared.commands.arguments.Next.TheVariants.{Any, Value}
 use Rattle.netset_commands.specs.declared.commands.describe.Description.TheVariants.{Zones, Masks}
@@ -23,7 +23,7 @@ use Rattle.netset_commands.proofs.Arguments.{same_text}
 use Rattle.netset_commands.proofs.Parts.{and_first, and_second, before_value, if_false, long_word, operand_word}
 use Rattle.netset_commands.proofs.Running.{read_one}
 use Rattle.netset_commands.proofs.Telling.{none_of}
-use Rattle.netset_commands.proofs.Values.{inside_request, styled_request}
+use Rattle.netset_commands.proofs.Values.{inside_request, style_found, styled_request}
 
 -- options, values and operands
 abbrev parts_with : List (List ℕ) → List (List ℕ) → List (List ℕ) → Parts
@@ -70,10 +70,12 @@ has_format : (operation : Operation) → takes_value (verb.Lists operation) (cod
 has_format operation takes =
     long_word (verb.Lists operation) (codes "--format") refl refl refl ∙ before_value (verb.Lists operation) (codes "--format") refl takes
 
--- how many networks before them
-behind_count : (count : List ℕ) (operands : List (List ℕ)) → list_any is_option operands ≡ false
-    → parts_from verb.Free (codes "--count" ∷ count ∷ operands) Any ≡ Ok (parts_with [] (codes "--count" ∷ count ∷ []) operands)
-behind_count count operands none = behind_value verb.Free (codes "--count") count operands refl none
+-- a style before them
+behind_style : (command : Verb) (style : Option Style) (operands : List (List ℕ))
+    → word_parts command Any (codes "--format") ≡ Ok (only_value (codes "--format"), Value) → list_any is_option operands ≡ false
+    → parts_from command (style_words style ++ operands) Any ≡ Ok (parts_with [] (style_words style) operands)
+behind_style command None operands is none = operands_alone command operands none
+behind_style command (Some style) operands is none = behind_value command (codes "--format") (format_name style.format) operands is none
 
 -- the options that tell a field before them
 behind_choice : (choice : Choice) (operands : List (List ℕ)) → list_any is_option operands ≡ false
@@ -169,13 +171,46 @@ without_value Not files = refl
 without_value Ranges files = refl
 without_value of_lists.Count files = refl
 
--- as many networks as the options say
-extent_asks : (every : Bool) (values : List (List ℕ)) (found : Option (List ℕ)) (extent : Extent) (options : List (List ℕ)) (pool len : List ℕ) (used : List (List ℕ))
-    → has (codes "--all") options ≡ every → value_of verb.Free (codes "--count") values ≡ Ok found → extent_by every found ≡ Ok extent
-    → verb_request verb.Free (parts_with options values (pool ∷ len ∷ used)) ≡ Ok (Free extent pool len used)
-extent_asks every values found extent options pool len used is given by =
-    ap (λ (r : Result (Option (List ℕ)) (List ℕ)). and_then (and_then r (λ count. extent_by (has (codes "--all") options) count)) (λ one. Ok (Free one pool len used))) given
-    ∙ ap (λ (r : Result Extent (List ℕ)). and_then r (λ one. Ok (Free one pool len used))) (ap (λ (b : Bool). extent_by b found) is ∙ by)
+-- the style that the options say, and neither a file nor a count
+style_told : (command : Verb) (style : Option Style) → IsBare style → style_in_values command (style_words style) ≡ Ok style
+style_told command None plain = refl
+style_told command (Some style) plain = style_found command style plain
+
+no_file_told : (command : Verb) (style : Option Style) → value_of command (codes "-o") (style_words style) ≡ Ok None
+no_file_told command None = refl
+no_file_told command (Some style) = refl
+
+no_count_told : (style : Option Style) → value_of verb.Free (codes "--count") (style_words style) ≡ Ok None
+no_count_told None = refl
+no_count_told (Some style) = refl
+
+-- the same behind a count
+module _ (count : List ℕ) where
+  abbrev counted_words : Option Style → List (List ℕ)
+  counted_words style = codes "--count" ∷ count ∷ style_words style
+
+  counted_style : (style : Option Style) → IsBare style → style_in_values verb.Free (counted_words style) ≡ Ok style
+  counted_style None plain = refl
+  counted_style (Some style) plain = style_found verb.Free style plain
+
+  counted_file : (style : Option Style) → value_of verb.Free (codes "-o") (counted_words style) ≡ Ok None
+  counted_file None = refl
+  counted_file (Some style) = refl
+
+  count_told : (style : Option Style) → value_of verb.Free (codes "--count") (counted_words style) ≡ Ok (Some count)
+  count_told None = refl
+  count_told (Some style) = refl
+
+-- as many networks as the options say, in the style that they say
+extent_asks : (every : Bool) (values : List (List ℕ)) (found : Option (List ℕ)) (extent : Extent) (style : Option Style) (options : List (List ℕ)) (pool len : List ℕ)
+    (used : List (List ℕ)) → has (codes "--all") options ≡ every → value_of verb.Free (codes "--count") values ≡ Ok found → extent_by every found ≡ Ok extent
+    → style_in_values verb.Free values ≡ Ok style
+    → verb_request verb.Free (parts_with options values (pool ∷ len ∷ used)) ≡ Ok (Free style extent pool len used)
+extent_asks every values found extent style options pool len used is given by told =
+    let behind : Extent → Result Request (List ℕ) = λ one. and_then (style_in_values verb.Free values) (λ s. Ok (Free s one pool len used)) in
+    ap (λ (r : Result (Option (List ℕ)) (List ℕ)). and_then (and_then r (λ count. extent_by (has (codes "--all") options) count)) behind) given
+    ∙ (ap (λ (r : Result Extent (List ℕ)). and_then r behind) (ap (λ (b : Bool). extent_by b found) is ∙ by)
+    ∙ ap (λ (r : Result (Option Style) (List ℕ)). and_then r (λ s. Ok (Free s extent pool len used))) told)
 
 -- the field by which match picks lines
 no_output : (choice : Choice) → value_of verb.Match (codes "-o") (choice_words choice) ≡ Ok None
@@ -249,15 +284,23 @@ module _ (words options : List (List ℕ)) where
       (behind_value (verb.Lists Not) (codes "--format") (format_name style.format) files refl none)) refl refl
       (NotIn (Some style) net files) (inside_request style net files plain)
   typed_asks (Diff old new) typed = plain_asks verb.Diff (old ∷ new ∷ []) (Diff old new) typed refl refl
-  typed_asks (Free First pool len used) (one, typed) =
-      plain_asks verb.Free (pool ∷ len ∷ used) (Free First pool len used) typed refl (extent_asks false [] None First options pool len used one refl refl)
-  typed_asks (Free (Count count) pool len used) (one, (is, all, no_page, none, enough)) =
-      line_asks verb.Free (codes "--count" ∷ count ∷ []) (codes "--count" ∷ count ∷ []) (pool ∷ len ∷ used) (is, all, no_page, none, enough)
-      (behind_count count (pool ∷ len ∷ used) none) refl refl (Free (Count count) pool len used)
-      (extent_asks false (codes "--count" ∷ count ∷ []) (Some count) (Count count) options pool len used one refl refl)
-  typed_asks (Free All pool len used) (every, typed) =
-      plain_asks verb.Free (pool ∷ len ∷ used) (Free All pool len used) typed refl (extent_asks true [] None All options pool len used every refl refl)
-  typed_asks (Split operand len) typed = plain_asks verb.Split (operand ∷ len ∷ []) (Split operand len) typed refl refl
+  typed_asks (Free style First pool len used) (plain, one, (is, all, no_page, none, enough)) =
+      line_asks verb.Free (style_words style) (style_words style) (pool ∷ len ∷ used) (is, all, no_page, none, enough)
+      (behind_style verb.Free style (pool ∷ len ∷ used) refl none) refl (no_file_told verb.Free style) (Free style First pool len used)
+      (extent_asks false (style_words style) None First style options pool len used one (no_count_told style) refl (style_told verb.Free style plain))
+  typed_asks (Free style (Count count) pool len used) (plain, one, (is, all, no_page, none, enough)) =
+      line_asks verb.Free (counted_words count style) (counted_words count style) (pool ∷ len ∷ used) (is, all, no_page, none, enough)
+      (behind_values verb.Free (codes "--count") count (style_words style) (pool ∷ len ∷ used) refl (behind_style verb.Free style (pool ∷ len ∷ used) refl none)) refl
+      (counted_file count style) (Free style (Count count) pool len used)
+      (extent_asks false (counted_words count style) (Some count) (Count count) style options pool len used one (count_told count style) refl (counted_style count style plain))
+  typed_asks (Free style All pool len used) (plain, every, (is, all, no_page, none, enough)) =
+      line_asks verb.Free (style_words style) (style_words style) (pool ∷ len ∷ used) (is, all, no_page, none, enough)
+      (behind_style verb.Free style (pool ∷ len ∷ used) refl none) refl (no_file_told verb.Free style) (Free style All pool len used)
+      (extent_asks true (style_words style) None All style options pool len used every (no_count_told style) refl (style_told verb.Free style plain))
+  typed_asks (Split style operand len) (plain, (is, all, no_page, none, enough)) =
+      line_asks verb.Split (style_words style) (style_words style) (operand ∷ len ∷ []) (is, all, no_page, none, enough)
+      (behind_style verb.Split style (operand ∷ len ∷ []) refl none) refl (no_file_told verb.Split style) (Split style operand len)
+      (ap (λ (r : Result (Option Style) (List ℕ)). and_then r (λ s. Ok (Split s operand len))) (style_told verb.Split style plain))
   typed_asks (Check files) typed = plain_asks verb.Check files (Check files) typed refl refl
   typed_asks (Which address files) typed = plain_asks verb.Which (address ∷ files) (Which address files) typed refl refl
   typed_asks (Match choice given list file) (same, goes, inl typed) =

@@ -3,24 +3,12 @@ use Rattle.std.proofs.Common.{◌≡◌, refl, sym, ◌∙◌, ap, subst, ℕ, �
 use Rattle.std.specs.List.{flat_map}
 use Rattle.std.proofs.lemmas.List.{append-nil, drop_all, drop_more, flat_map_more}
 use Rattle.std.proofs.lemmas.List.Concat.{flat_map-append}
-use Rattle.cidr.specs.either.IpNetwork.{network_family, network_prefix}
-use Rattle.cidr.specs.either.IpText.{ip_network_text}
-use Rattle.cidr.specs.texts.Printed.{plain_text}
-use Rattle.cidr.specs.declared.cidr.combined.IpCidr.{IpCidr}
-use Rattle.cidr.specs.declared.cidr.combined.IpCidr.TheVariants.{V4, V6}
 use Rattle.cidr_io.specs.Writing.{State, Part, Writes}
 use Rattle.cidr_io.specs.declared.sink.OutputFailed.{OutputFailed}
 use Rattle.cidr_io.proofs.Chains.{part_more}
 use Rattle.cidr_io.specs.Collecting.{Collects, Holds}
-use Rattle.cidr_lists.specs.Printing.{line}
-use Rattle.netset_commands.specs.Single.{subnet_line}
 use Rattle.netset_commands.proofs.Blocks.{nothing_held, last_block}
 use Rattle.cidr_io.proofs.Collected.{held_then, held_lost}
-
--- a network as a line
-pub subnet_text : (n : IpCidr) → line (ip_network_text plain_text n) ≡ subnet_line (network_family n, network_prefix n)
-subnet_text (V4 p) = refl
-subnet_text (V6 p) = refl
 
 module _ {X : Type 0} (f : X → List ℕ) where
   -- the first of the lines are written or in the block

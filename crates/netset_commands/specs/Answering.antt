@@ -114,22 +114,22 @@ PrintsBy style sets refused old new r = ((new ≡ old) × (refused ≡ true) × 
     ⊎ ((written : Result (Unit {0}) OutputFailed) × Answered old new (printed_by style sets) written × (r ≡ by_output Yes written))
 
 -- the free networks of sets were told
-abbrev pub TellsFree : (Family → List (List Bool)) → ℕ → Option ℕ → State → State → Result Verdict CommandError → Type 0
-TellsFree sets n most old new r = (answer : List ℕ) × (verdict : Verdict) × (written : Result (Unit {0}) OutputFailed)
-    × IsFreeText sets n most answer verdict × Answered old new answer written × (r ≡ by_output verdict written)
+abbrev pub TellsFree : Option Style → (Family → List (List Bool)) → ℕ → Option ℕ → State → State → Result Verdict CommandError → Type 0
+TellsFree style sets n most old new r = (answer : List ℕ) × (verdict : Verdict) × (written : Result (Unit {0}) OutputFailed)
+    × IsFreeText style sets n most answer verdict × Answered old new answer written × (r ≡ by_output verdict written)
 
 -- the networks inside a network were told, or the length is none of theirs
-abbrev pub SplitsNetwork : IpCidr → List ℕ → State → State → Result Verdict CommandError → Type 0
-SplitsNetwork network len old new r = ((new ≡ old) × (e : CommandError) × (r ≡ Err e) × IsBadArgument (HasNoSubnets network len) e)
+abbrev pub SplitsNetwork : Option Style → IpCidr → List ℕ → State → State → Result Verdict CommandError → Type 0
+SplitsNetwork style network len old new r = ((new ≡ old) × (e : CommandError) × (r ≡ Err e) × IsBadArgument (HasNoSubnets network len) e)
     ⊎ ((n : ℕ) × IsNumber len n × ¬ (HasNone network n) × (written : Result (Unit {0}) OutputFailed)
-    × Answered old new (split_text network n) written × (r ≡ by_output Yes written))
+    × Answered old new (split_text style network n) written × (r ≡ by_output Yes written))
 
 -- those inside the networks of a list were told, or the length is none, or the list is not read
-abbrev pub SplitsList : (List ℕ → Option Text) → List ℕ → List ℕ → State → State → Result Verdict CommandError → Type 0
-SplitsList contents file len old new r =
+abbrev pub SplitsList : (List ℕ → Option Text) → Option Style → List ℕ → List ℕ → State → State → Result Verdict CommandError → Type 0
+SplitsList contents style file len old new r =
     ((new ≡ old) × (e : CommandError) × (r ≡ Err e) × (IsBadArgument (IsBadLength len) e ⊎ ((n : ℕ) × IsNumber len n × (n ≤ 128) × IsUnlisted contents file e)))
     ⊎ ((n : ℕ) × IsNumber len n × (n ≤ 128) × (answer : List ℕ) × (verdict : Verdict) × (written : Result (Unit {0}) OutputFailed)
-    × OfList (contents file) (λ said. IsFree n None (said ∷ []) answer verdict) × Answered old new answer written × (r ≡ by_output verdict written))
+    × OfList (contents file) (λ said. IsFree style n None (said ∷ []) answer verdict) × Answered old new answer written × (r ≡ by_output verdict written))
 
 -- what is told of the networks of an operand was written, or it is not read
 abbrev pub DescribesNetworks : (List ℕ → Option Text) → Description → List ℕ → State → State → Result Verdict CommandError → Type 0

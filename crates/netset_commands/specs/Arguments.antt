@@ -228,6 +228,14 @@ extent_by true (Some count) = Err (misuse_text (codes "--all") Extra (codes "fre
 abbrev pub extent_in : Parts → Result Extent (List ℕ)
 extent_in parts = and_then (value_of verb.Free (codes "--count") parts.values) (λ count. extent_by (has (codes "--all") parts.options) count)
 
+abbrev pub free_request : Parts → Result Request (List ℕ)
+free_request parts = and_then (extent_in parts) (λ extent. and_then (style_in_values verb.Free parts.values)
+    (λ style. Ok (Free style extent (operand_or parts.operands 0 []) (operand_or parts.operands 1 []) (drop 2 parts.operands))))
+
+abbrev pub split_request : Parts → Result Request (List ℕ)
+split_request parts = and_then (style_in_values verb.Split parts.values)
+    (λ style. Ok (Split style (operand_or parts.operands 0 []) (operand_or parts.operands 1 [])))
+
 -- the command help, of a command or of all
 abbrev pub help_request : List (List ℕ) → Result Request (List ℕ)
 help_request [] = Ok (Help None)
@@ -256,7 +264,7 @@ match_request parts = and_then (choice_in parts) (λ choice. Ok (match_by choice
 abbrev pub verb_request : Verb → Parts → Result Request (List ℕ)
 verb_request (verb.Lists operation) parts = lists_request operation parts.values parts.operands
 verb_request verb.Diff parts = Ok (Diff (operand_or parts.operands 0 []) (operand_or parts.operands 1 []))
-verb_request verb.Free parts = and_then (extent_in parts) (λ extent. Ok (Free extent (operand_or parts.operands 0 []) (operand_or parts.operands 1 []) (drop 2 parts.operands)))
+verb_request verb.Free parts = free_request parts
 verb_request verb.Check parts = Ok (Check parts.operands)
 verb_request verb.Which parts = Ok (Which (operand_or parts.operands 0 []) (drop 1 parts.operands))
 verb_request verb.Match parts = match_request parts
@@ -265,7 +273,7 @@ verb_request verb.Compile parts = Ok (Compile (operand_or parts.operands 0 []) (
 verb_request (verb.Describe what) parts = Ok (Describe what (operand_or parts.operands 0 []))
 verb_request verb.Class parts = Ok (Class (operand_or parts.operands 0 []))
 verb_request verb.Show parts = Ok (Single (Show (operand_or parts.operands 0 [])))
-verb_request verb.Split parts = Ok (Split (operand_or parts.operands 0 []) (operand_or parts.operands 1 []))
+verb_request verb.Split parts = split_request parts
 verb_request verb.Nth parts = Ok (Single (Nth (operand_or parts.operands 0 []) (operand_or parts.operands 1 [])))
 verb_request verb.Help parts = help_request parts.operands
 verb_request verb.Version parts = Ok Version

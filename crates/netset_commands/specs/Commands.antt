@@ -46,8 +46,8 @@ pub data Request : Type 0 where
   Styled : Style → Operation → List (List ℕ) → Request
   NotIn : Option Style → List ℕ → List (List ℕ) → Request
   Diff : List ℕ → List ℕ → Request
-  Free : Extent → List ℕ → List ℕ → List (List ℕ) → Request
-  Split : List ℕ → List ℕ → Request
+  Free : Option Style → Extent → List ℕ → List ℕ → List (List ℕ) → Request
+  Split : Option Style → List ℕ → List ℕ → Request
   Check : List (List ℕ) → Request
   Which : List ℕ → List (List ℕ) → Request
   Match : Choice → List (List ℕ) → List ℕ → List ℕ → Request
@@ -76,8 +76,8 @@ lists_of (Lists operation files) = read_files files
 lists_of (Styled style operation files) = read_files files
 lists_of (NotIn style net files) = read_files files
 lists_of (Diff old new) = old ∷ new ∷ []
-lists_of (Free extent pool len used) = pool ∷ used
-lists_of (Split operand len) = operand ∷ []
+lists_of (Free style extent pool len used) = pool ∷ used
+lists_of (Split style operand len) = operand ∷ []
 lists_of (Check files) = read_files files
 lists_of (Which address files) = read_files files
 lists_of (Match choice options list file) = list ∷ []
@@ -102,8 +102,8 @@ IsNoList Masks operand = ((n : ℕ) × IsNumber operand n × (n ≤ 128)) ⊎ Re
 
 -- the first of them is no list
 abbrev pub HasNoFirstList : Request → Type 0
-HasNoFirstList (Free extent pool len used) = ReadsAsNetwork pool
-HasNoFirstList (Split operand len) = ReadsAsNetwork operand
+HasNoFirstList (Free style extent pool len used) = ReadsAsNetwork pool
+HasNoFirstList (Split style operand len) = ReadsAsNetwork operand
 HasNoFirstList (Describe what operand) = IsNoList what operand
 HasNoFirstList request = ⊥
 
@@ -156,20 +156,20 @@ IsDiff old new answer verdict =
     × (answer ≡ printed_changes changes) × AreSame changes verdict
 
 -- the first networks of n bits that have only addresses of a first list that no other has, at most so many
-abbrev pub IsFree : ℕ → Option ℕ → List (List (List IpCidr)) → List ℕ → Verdict → Type 0
-IsFree n most said answer verdict = (sets : Family → List (List Bool))
-    × ((family : Family) → IsSetOf 129 (IsMade SaysAddress Minus said family) (sets family)) × IsFreeText sets n most answer verdict
+abbrev pub IsFree : Option Style → ℕ → Option ℕ → List (List (List IpCidr)) → List ℕ → Verdict → Type 0
+IsFree style n most said answer verdict = (sets : Family → List (List Bool))
+    × ((family : Family) → IsSetOf 129 (IsMade SaysAddress Minus said family) (sets family)) × IsFreeText style sets n most answer verdict
 
 -- the same of a pool and of files whose lists are used
-abbrev pub IsFreeOfUsed : (List ℕ → Option Text) → ℕ → Option ℕ → List (List ℕ) → List ℕ → Verdict → List (List IpCidr) → Type 0
-IsFreeOfUsed contents n most used answer verdict pool = (texts : List Text) → AreTold contents used texts
-    → (said : List (List (List IpCidr))) × AllZip ListSays texts said × IsFree n most (pool ∷ said) answer verdict
+abbrev pub IsFreeOfUsed : (List ℕ → Option Text) → Option Style → ℕ → Option ℕ → List (List ℕ) → List ℕ → Verdict → List (List IpCidr) → Type 0
+IsFreeOfUsed contents style n most used answer verdict pool = (texts : List Text) → AreTold contents used texts
+    → (said : List (List (List IpCidr))) × AllZip ListSays texts said × IsFree style n most (pool ∷ said) answer verdict
 
 -- the networks of n bits inside a network, or inside the networks of a list
-abbrev pub IsSplitInto : (List ℕ → Option Text) → List ℕ → ℕ → List ℕ → Verdict → Type 0
-IsSplitInto contents operand n answer verdict =
-    ((network : IpCidr) × IsIpNetworkText operand network × ¬ (HasNone network n) × (answer ≡ split_text network n) × (verdict ≡ Yes))
-    ⊎ (IsNoNetworkText operand × (n ≤ 128) × OfList (contents operand) (λ said. IsFree n None (said ∷ []) answer verdict))
+abbrev pub IsSplitInto : (List ℕ → Option Text) → Option Style → List ℕ → ℕ → List ℕ → Verdict → Type 0
+IsSplitInto contents style operand n answer verdict =
+    ((network : IpCidr) × IsIpNetworkText operand network × ¬ (HasNone network n) × (answer ≡ split_text style network n) × (verdict ≡ Yes))
+    ⊎ (IsNoNetworkText operand × (n ≤ 128) × OfList (contents operand) (λ said. IsFree style n None (said ∷ []) answer verdict))
 
 -- what is told of each network of the shortest list that has the addresses of lines
 abbrev pub IsTold : (IpCidr → List ℕ) → List (List IpCidr) → List ℕ → Type 0
@@ -209,9 +209,9 @@ IsAnswer contents (NotIn style net files) answer verdict = (network : IpCidr) ×
     × ((texts : List Text) → AreTold contents (read_files files) texts → IsNotIn style network texts answer) × (verdict ≡ Yes)
 IsAnswer contents (Diff old new) answer verdict =
     (before after : Text) → contents old ≡ Some before → contents new ≡ Some after → IsDiff before after answer verdict
-IsAnswer contents (Free extent pool len used) answer verdict = (n : ℕ) × IsNumber len n × (n ≤ 128) × (most : Option ℕ) × IsMost extent most
-    × OfOperand contents pool (IsFreeOfUsed contents n most used answer verdict)
-IsAnswer contents (Split operand len) answer verdict = (n : ℕ) × IsNumber len n × IsSplitInto contents operand n answer verdict
+IsAnswer contents (Free style extent pool len used) answer verdict = (n : ℕ) × IsNumber len n × (n ≤ 128) × (most : Option ℕ) × IsMost extent most
+    × OfOperand contents pool (IsFreeOfUsed contents style n most used answer verdict)
+IsAnswer contents (Split style operand len) answer verdict = (n : ℕ) × IsNumber len n × IsSplitInto contents style operand n answer verdict
 IsAnswer contents (Check files) answer verdict =
     (texts : List Text) → AreTold contents (read_files files) texts → IsCheck (read_files files) texts answer verdict
 IsAnswer contents (Which text files) answer verdict = (address : IpAddr) × IsIpText text address

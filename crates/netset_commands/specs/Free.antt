@@ -1,5 +1,5 @@
 -- The networks of a prefix length that are free in a pool, or inside the networks of a list.
-use Rattle.std.specs.Prelude.{◌≡◌, ◌⊎◌, ℕ, ◌-◌, ◌^◌, ◌<◌, ◌≤◌, nat_lt, if◌then◌else◌, Bool, List, [], ◌++◌, length, take, Option, Some, None, option_map, Result, Ok, Err}
+use Rattle.std.specs.Prelude.{◌≡◌, ◌⊎◌, ℕ, ◌-◌, ◌^◌, ◌<◌, ◌≤◌, nat_lt, if◌then◌else◌, Bool, List, [], ◌∷◌, ◌++◌, length, take, Option, Some, None, option_map, Result, Ok, Err}
 use Rattle.std.specs.List.{flat_map}
 use Rattle.cidr.specs.either.IpNetwork.{network_family, network_prefix}
 use Rattle.cidr.specs.model.Network.{width_of}
@@ -11,8 +11,9 @@ use Rattle.cidr_ext.specs.model.Subnets.{subnets_of}
 use Rattle.cidr_io.specs.Collecting.{Collects}
 use Rattle.cidr_io.specs.Writing.{State}
 use Rattle.cidr_io.specs.declared.sink.OutputFailed.{OutputFailed}
+use Rattle.cidr_lists.specs.Formats.{Layout, Style, either_by, laid_out, printed_walk}
 use Rattle.cidr_lists.specs.Sets.{IsFreeOf}
-use Rattle.netset_commands.specs.Single.{IsNumber, subnet_line}
+use Rattle.netset_commands.specs.Single.{IsNumber}
 use Rattle.netset_commands.specs.declared.output.answers.Verdict.{Verdict}
 use Rattle.netset_commands.specs.declared.output.answers.Verdict.TheVariants.{Yes, No}
 use Rattle.netset_commands.specs.declared.errors.ArgumentError.{ArgumentError}
@@ -48,11 +49,11 @@ inside_of n network = if nat_lt n (length (network_prefix network)) then []
 abbrev pub all_inside : ℕ → (Family → List (List Bool)) → List (Family × List Bool)
 all_inside n sets = flat_map (λ p. inside_of n (V4 p)) (sets Ipv4) ++ flat_map (λ p. inside_of n (V6 p)) (sets Ipv6)
 
--- the first of them, one a line, or nothing where there is none
-abbrev pub IsFreeText : (Family → List (List Bool)) → ℕ → Option ℕ → List ℕ → Verdict → Type 0
-IsFreeText sets n most answer Yes =
-    (network : IpCidr) × IsFreeOf sets n (Some network) × (answer ≡ flat_map subnet_line (taken most (all_inside n sets)))
-IsFreeText sets n most answer No = IsFreeOf sets n None × (answer ≡ [])
+-- the first of them, or none where there is none
+abbrev pub IsFreeText : Option Style → (Family → List (List Bool)) → ℕ → Option ℕ → List ℕ → Verdict → Type 0
+IsFreeText style sets n most answer Yes =
+    (network : IpCidr) × IsFreeOf sets n (Some network) × (answer ≡ printed_walk style (taken most (all_inside n sets)))
+IsFreeText style sets n most answer No = IsFreeOf sets n None × (answer ≡ printed_walk style [])
 
 -- ---- arguments that are wrong
 -- the string is no prefix length
@@ -70,8 +71,31 @@ abbrev pub IsBadFree : Extent → List ℕ → List ℕ → ArgumentError → Ty
 IsBadFree extent len text e = IsBadLength len text e ⊎ ((n : ℕ) × IsNumber len n × (n ≤ 128) × IsBadCount extent text e)
 
 -- ---- what private functions promise
--- so many of the networks were collected, one a line
-abbrev pub TakesLines : Option ℕ → List (Family × List Bool) → State → State → List ℕ → List ℕ → Result (Option ℕ) OutputFailed → Type 0
-TakesLines most all old new block rest (Ok left) =
-    Collects old new block rest (flat_map subnet_line (taken most all)) (Ok tt) × (left ≡ less most (length all))
-TakesLines most all old new block rest (Err e) = Collects old new block rest (flat_map subnet_line (taken most all)) (Err e)
+-- what stands in front of each of these, behind one before them, if there is one: `before` tells it by the one before
+abbrev pub all_before : {X : Type 0} → (Option X → List ℕ) → Option X → List X → List ℕ
+all_before before last [] = []
+all_before before last (x ∷ xs) = before last ++ all_before before (Some x) xs
+
+-- the last of these, or the one before them
+abbrev pub last_behind : {X : Type 0} → Option X → List X → Option X
+last_behind last [] = last
+last_behind last (x ∷ xs) = last_behind (Some x) xs
+
+-- a network by its family and bits
+abbrev pub pair_of : Option IpCidr → Option (Family × List Bool)
+pair_of network = option_map (λ (n : IpCidr). (network_family n, network_prefix n)) network
+
+-- what stands in front of so many of the networks was collected, and the last of them is held
+abbrev pub TakesRows : (Option (Family × List Bool) → List ℕ) → Option ℕ → Option IpCidr → List (Family × List Bool) → State → State → List ℕ → List ℕ
+    → Result (Option ℕ × Option IpCidr) OutputFailed → Type 0
+TakesRows before most first all old new block rest (Ok (left, last)) =
+    Collects old new block rest (all_before before (pair_of first) (taken most all)) (Ok tt)
+    × (left ≡ less most (length all)) × (pair_of last ≡ last_behind (pair_of first) (taken most all))
+TakesRows before most first all old new block rest (Err e) =
+    Collects old new block rest (all_before before (pair_of first) (taken most all)) (Err e)
+
+-- so many of the networks were collected, as a layout has them
+abbrev pub TakesLayout : Layout → Option ℕ → List (Family × List Bool) → State → State → List ℕ → List ℕ → Result (Option ℕ) OutputFailed → Type 0
+TakesLayout layout most all old new block rest (Ok left) =
+    Collects old new block rest (laid_out either_by layout (taken most all)) (Ok tt) × (left ≡ less most (length all))
+TakesLayout layout most all old new block rest (Err e) = Collects old new block rest (laid_out either_by layout (taken most all)) (Err e)

@@ -71,7 +71,7 @@ IsSameFile table name e = (table ≡ name) × IsBadArgument (λ text why. (text 
 -- an argument that is wrong whatever the lists say
 abbrev pub IsWrong : Request → CommandError → Type 0
 IsWrong (NotIn style net files) e = IsBadArgument (λ text bad. (text ≡ net) × IsNoNetwork net bad) e
-IsWrong (Free extent pool len used) e = IsBadArgument (IsBadFree extent len) e
+IsWrong (Free style extent pool len used) e = IsBadArgument (IsBadFree extent len) e
 IsWrong (Which text files) e = IsBadArgument (IsNoAddressArgument text) e
 IsWrong (Match choice options list file) e = IsBadArgument (IsBadChoice choice) e
 IsWrong (MatchEach choice options list files) e = IsBadArgument (IsBadChoice choice) e
@@ -100,9 +100,9 @@ IsRequestRefused contents (Styled style operation files) (Err e) = IsUnread cont
 IsRequestRefused contents (NotIn style net files) (Err e) = IsWrong (NotIn style net files) e
     ⊎ ((network : IpCidr) × IsIpNetworkText net network × IsUnread contents (read_files files) e)
 IsRequestRefused contents (Diff old new) (Err e) = IsUnread contents (old ∷ new ∷ []) e
-IsRequestRefused contents (Free extent pool len used) (Err e) = IsBadArgument (IsBadFree extent len) e
+IsRequestRefused contents (Free style extent pool len used) (Err e) = IsBadArgument (IsBadFree extent len) e
     ⊎ ((n : ℕ) × IsNumber len n × (n ≤ 128) × (most : Option ℕ) × IsMost extent most × IsUnreadPool contents pool used e)
-IsRequestRefused contents (Split operand len) (Err e) =
+IsRequestRefused contents (Split style operand len) (Err e) =
     ((network : IpCidr) × IsIpNetworkText operand network × IsBadArgument (HasNoSubnets network len) e)
     ⊎ (IsNoNetworkText operand × (IsBadArgument (IsBadLength len) e ⊎ ((n : ℕ) × IsNumber len n × (n ≤ 128) × IsUnlisted contents operand e)))
 IsRequestRefused contents (Check files) (Err e) = IsUnchecked contents (read_files files) e

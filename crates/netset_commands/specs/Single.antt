@@ -1,22 +1,20 @@
 -- The commands on one host or network, their arguments, and what each answers.
-use Rattle.std.specs.Prelude.{◌≡◌, ℕ, ◌-◌, ◌^◌, ◌<◌, ◌≤◌, ◌⊎◌, Bool, List, [], length}
-use Rattle.std.specs.List.{flat_map}
+use Rattle.std.specs.Prelude.{◌≡◌, ℕ, ◌-◌, ◌^◌, ◌<◌, ◌≤◌, ◌⊎◌, Bool, List, [], length, Option}
 use Rattle.std.specs.Str.Parse.{IsNumeral, digits_value, without_leading_plus}
 use Rattle.cidr.specs.either.IpAddress.{address_family, plain_bits}
 use Rattle.cidr.specs.either.IpHost.{host_address, host_network}
 use Rattle.cidr.specs.either.IpNetwork.{network_family, network_prefix}
 use Rattle.cidr.specs.either.IpText.{IsIpNetworkText, IsIpRefused, IsIpHostText, IsIpHostRefused}
 use Rattle.cidr.specs.model.Network.{width_of}
-use Rattle.cidr.specs.texts.Printed.{plain_text}
 use Rattle.cidr.specs.texts.PrintedAddress.{ip_text}
 use Rattle.cidr.specs.declared.addr.ip.IpAddr.{IpAddr}
 use Rattle.cidr.specs.declared.cidr.combined.IpCidr.{IpCidr}
-use Rattle.cidr.specs.declared.family.Family.{Family}
 use Rattle.cidr.specs.declared.inet.combined.IpInet.{IpInet}
 use Rattle.cidr_ext.specs.model.Inside.{IsAddressAt}
 use Rattle.cidr_ext.specs.model.Subnets.{subnets_of}
 use Rattle.cidr_ext.specs.texts.TextFaults.{IsFaultOf}
 use Rattle.cidr_lists.specs.Descriptions.{IsHostLines}
+use Rattle.cidr_lists.specs.Formats.{Style, printed_walk}
 use Rattle.cidr_lists.specs.Printing.{line}
 use Rattle.netset_commands.specs.declared.output.answers.Verdict.{Verdict}
 use Rattle.netset_commands.specs.declared.output.answers.Verdict.TheVariants.{Yes, No}
@@ -32,17 +30,13 @@ pub data SingleRequest : Type 0 where
 abbrev pub IsNumber : List ℕ → ℕ → Type 0
 IsNumber text n = IsNumeral 10 (without_leading_plus text) × (n ≡ digits_value 10 (without_leading_plus text))
 
--- a network of a family as a line
-abbrev pub subnet_line : Family × List Bool → List ℕ
-subnet_line (family, prefix) = line (plain_text family prefix)
-
 -- no network of n bits is inside this one
 abbrev pub HasNone : IpCidr → ℕ → Type 0
 HasNone network n = (n < length (network_prefix network)) ⊎ (width_of (network_family network) < n)
 
--- the networks of n bits inside a network, ascending, one a line
-abbrev pub split_text : IpCidr → ℕ → List ℕ
-split_text network n = flat_map subnet_line (subnets_of (network_family network) (network_prefix network) n)
+-- the networks of n bits inside a network, ascending
+abbrev pub split_text : Option Style → IpCidr → ℕ → List ℕ
+split_text style network n = printed_walk style (subnets_of (network_family network) (network_prefix network) n)
 
 -- how many addresses a network has
 abbrev pub count_in : IpCidr → ℕ

@@ -77,7 +77,7 @@ abbrev pub row_of : Verb → Row
 row_of (Lists op) = row (lists_row op).0 list_options (lists_row op).1.0 (lists_row op).1.1.0 None (lists_row op).1.1.1
 row_of (Describe what) = row (told_row what).0 list_options output_values (told_row what).1.0 (Some 1) (told_row what).1.1
 row_of Diff = row (codes "diff") list_options output_values two_lists (Some 2) DIFF.now
-row_of Free = row (codes "free") (codes "--all" ∷ list_options) (codes "--count" ∷ output_values) (codes "POOL" ∷ codes "LEN" ∷ []) None FREE.now
+row_of Free = row (codes "free") (codes "--all" ∷ list_options) (codes "--count" ∷ style_values) (codes "POOL" ∷ codes "LEN" ∷ []) None FREE.now
 row_of Check = row (codes "check") keep_options [] [] None CHECK.now
 row_of Which = row (codes "which") keep_options [] (codes "ADDR" ∷ []) None WHICH.now
 row_of Match = row (codes "match") match_options (codes "--field" ∷ codes "--separator" ∷ []) (codes "LIST" ∷ []) None MATCH.now
@@ -85,7 +85,7 @@ row_of Look = row (codes "look") list_options [] (codes "TABLE" ∷ []) (Some 2)
 row_of Compile = row (codes "compile") list_options [] (codes "TABLE" ∷ codes "OUT" ∷ []) (Some 2) COMPILE.now
 row_of Class = row (codes "class") help_options [] (codes "ADDR|FILE" ∷ []) (Some 1) CLASS.now
 row_of Show = row (codes "show") help_options [] (codes "HOST" ∷ []) (Some 1) SHOW.now
-row_of Split = row (codes "split") list_options output_values (codes "NET|FILE" ∷ codes "LEN" ∷ []) (Some 2) SPLIT.now
+row_of Split = row (codes "split") list_options style_values (codes "NET|FILE" ∷ codes "LEN" ∷ []) (Some 2) SPLIT.now
 row_of Nth = row (codes "nth") help_options [] (codes "NET" ∷ codes "INDEX" ∷ []) (Some 2) NTH.now
 row_of Help = row (codes "help") help_options [] [] (Some 1) HELP.now
 row_of Version = row (codes "--version") help_options [] [] (Some 0) VERSION.now

@@ -53,11 +53,11 @@ IsTyped words options (Styled style operation files) = (style ≡ bare style.for
     × AreTyped (verb.Lists operation) options (codes "--format" ∷ format_name style.format ∷ []) files words
 IsTyped words options (NotIn style net files) = IsBare style × AreTyped (verb.Lists Not) options (codes "--in" ∷ net ∷ style_words style) files words
 IsTyped words options (Diff old new) = AreTyped verb.Diff options [] (old ∷ new ∷ []) words
-IsTyped words options (Free First pool len used) = (has (codes "--all") options ≡ false) × AreTyped verb.Free options [] (pool ∷ len ∷ used) words
-IsTyped words options (Free (Count count) pool len used) =
-    (has (codes "--all") options ≡ false) × AreTyped verb.Free options (codes "--count" ∷ count ∷ []) (pool ∷ len ∷ used) words
-IsTyped words options (Free All pool len used) = (has (codes "--all") options ≡ true) × AreTyped verb.Free options [] (pool ∷ len ∷ used) words
-IsTyped words options (Split operand len) = AreTyped verb.Split options [] (operand ∷ len ∷ []) words
+IsTyped words options (Free style First pool len used) = IsBare style × (has (codes "--all") options ≡ false) × AreTyped verb.Free options (style_words style) (pool ∷ len ∷ used) words
+IsTyped words options (Free style (Count count) pool len used) = IsBare style
+    × (has (codes "--all") options ≡ false) × AreTyped verb.Free options (codes "--count" ∷ count ∷ style_words style) (pool ∷ len ∷ used) words
+IsTyped words options (Free style All pool len used) = IsBare style × (has (codes "--all") options ≡ true) × AreTyped verb.Free options (style_words style) (pool ∷ len ∷ used) words
+IsTyped words options (Split style operand len) = IsBare style × AreTyped verb.Split options (style_words style) (operand ∷ len ∷ []) words
 IsTyped words options (Check files) = AreTyped verb.Check options [] files words
 IsTyped words options (Which address files) = AreTyped verb.Which options [] (address ∷ files) words
 IsTyped words options (Match choice given list file) =

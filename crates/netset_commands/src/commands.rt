@@ -53,9 +53,9 @@ pub enum Command<'a> {
     /// What the second file adds to the first one, and what it lacks.
     Diff(&'a str, &'a str),
     /// The free networks of a prefix length in a pool, of whose addresses others are used.
-    Free(Extent<'a>, &'a str, &'a str, &'a [&'a str]),
+    Free(Option<Style<'a>>, Extent<'a>, &'a str, &'a str, &'a [&'a str]),
     /// The networks of a prefix length inside a network, or inside the networks of a list.
-    Split(&'a str, &'a str),
+    Split(Option<Style<'a>>, &'a str, &'a str),
     /// What is found in the lists of these files.
     Check(&'a [&'a str]),
     /// The lines of the lists of these files that have an address.
@@ -159,7 +159,7 @@ impl<'a> Command<'a> {
                 names.push(*old)?;
                 names.push(*new)?;
             }
-            Command::Free(_, pool, _, used) => {
+            Command::Free(_, _, pool, _, used) => {
                 names.push(*pool)?;
                 names.extend_from_slice(used)?;
             }
@@ -167,7 +167,7 @@ impl<'a> Command<'a> {
             | Command::MatchEach(_, _, list, _)
             | Command::Look(list, _)
             | Command::Compile(list, _)
-            | Command::Split(list, _)
+            | Command::Split(_, list, _)
             | Command::Describe(_, list) => names.push(*list)?,
             Command::Class(_) | Command::Single(_) | Command::Help(_) | Command::Version => {}
         }
@@ -179,8 +179,8 @@ impl<'a> Command<'a> {
         ensures { Decides result (HasNoFirstList (request_of self.now)) }
     {
         match self {
-            Command::Free(_, pool, _, _) => is_network(pool),
-            Command::Split(operand, _) => is_network(operand),
+            Command::Free(_, _, pool, _, _) => is_network(pool),
+            Command::Split(_, operand, _) => is_network(operand),
             Command::Describe(what, operand) => is_no_list(*what, operand),
             Command::Lists(_, _)
             | Command::Styled(_, _, _)

@@ -10,3 +10,4 @@ pub mod ranges;
 pub mod report;
 pub mod sets;
 pub mod terminal;
+pub mod walks;

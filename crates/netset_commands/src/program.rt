@@ -122,10 +122,10 @@ fn answer<'a, M: Memory, F: Sources, D: Folder, O: Sink>(
         }
         Command::NotIn(style, net, files) => not_in(memory, sources, style, net, files, out),
         Command::Diff(old, new) => diff(memory, sources, old, new, out),
-        Command::Free(extent, pool, len, used) => {
-            free(memory, sources, extent, pool, len, used, out)
+        Command::Free(style, extent, pool, len, used) => {
+            free(memory, sources, style, extent, pool, len, used, out)
         }
-        Command::Split(operand, len) => split(memory, sources, operand, len, out),
+        Command::Split(style, operand, len) => split(memory, sources, style, operand, len, out),
         Command::Check(files) => check(memory, sources, files, out),
         Command::Which(address, files) => which(memory, sources, address, files, out),
         Command::Match(choice, options, list, file) => {
@@ -158,7 +158,7 @@ fn wrong_argument<'a>(command: Command<'a>) -> Option<CommandError<'a>>
             Ok(_) => None,
             Err(e) => Some(e),
         },
-        Command::Free(extent, _, len, _) => match length_of(len) {
+        Command::Free(_, extent, _, len, _) => match length_of(len) {
             Some(_) => match most_of(extent) {
                 Ok(_) => None,
                 Err(e) => Some(e),
@@ -177,7 +177,7 @@ fn wrong_argument<'a>(command: Command<'a>) -> Option<CommandError<'a>>
         | Command::Diff(_, _)
         | Command::Check(_)
         | Command::Look(_, _)
-        | Command::Split(_, _)
+        | Command::Split(_, _, _)
         | Command::Describe(_, _)
         | Command::Class(_)
         | Command::Single(_)

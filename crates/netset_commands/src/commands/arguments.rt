@@ -1,13 +1,12 @@
 //! The words of a command line as options and operands, and the command that they are.
 ghost use Rattle.std.specs.Prelude.{◌≡◌, ◌<◌, [], Ok, Err, Bool, true, false, length, drop, MatchOption, MatchResult, option_map, slice_get, unwrap_or};
 ghost use Rattle.std.specs.List.{after_first, before_first};
-ghost use Rattle.netset_commands.specs.Arguments.{asks_help, choice_by, choice_in, chosen_style, extent_by, extra_operand, fresh, full_name, help_request, is_equals, is_option, is_plain, is_topic, letter_parts, line_parts, lists_request, long_parts, made_request, match_by, match_request, missing_operand, misuse_text, named_format, named_verb, no_option, no_parts, operand_or, part_request, parts_from, short_option, short_parts, some_style, style_in_values, style_of, taken_value, takes, target_in, topic_parts, value_of, verb_of, verb_request, word_parts};
+ghost use Rattle.netset_commands.specs.Arguments.{asks_help, choice_by, choice_in, chosen_style, extent_by, extra_operand, free_request, fresh, full_name, help_request, is_equals, is_option, is_plain, is_topic, letter_parts, line_parts, lists_request, long_parts, made_request, match_by, match_request, missing_operand, misuse_text, named_format, named_verb, no_option, no_parts, operand_or, part_request, parts_from, short_option, short_parts, some_style, split_request, style_in_values, style_of, taken_value, takes, target_in, topic_parts, value_of, verb_of, verb_request, word_parts};
 ghost use Rattle.netset_commands.specs.Command.{AddsParts, IsUsageError, choice_of, extent_of, given, misuse_line, given_parts, request_of};
 ghost use Rattle.netset_commands.specs.Matching.{is_word};
 ghost use Rattle.netset_commands.specs.Table.{name_of, takes_value, texts};
 ghost use Rattle.netset_commands.specs.declared.errors.Misfit.TheVariants.{NotPlain};
 ghost use Rattle.cidr_lists.specs.Formats.{style_in};
-ghost use Rattle.netset_commands.specs.declared.commands.table.Verb.TheVariants.{Free as AsFree};
 
 use crate::commands::Command;
 use crate::commands::free::Extent;
@@ -585,18 +584,34 @@ fn extent_by<'a>(all: bool, count: Option<&'a str>) -> Result<Extent<'a>, Misuse
 
 /// The command `free`.
 fn free_command<'a>(parts: &'a Parts<'a>) -> Result<Command<'a>, Misuse<'a>>
-    ensures { MatchResult result (λ command. verb_request AsFree (given_parts parts.now) ≡ Ok (request_of command))
-        (λ misuse. verb_request AsFree (given_parts parts.now) ≡ Err (misuse_line misuse)) }
+    ensures { MatchResult result (λ command. free_request (given_parts parts.now) ≡ Ok (request_of command))
+        (λ misuse. free_request (given_parts parts.now) ≡ Err (misuse_line misuse)) }
 {
     let operands = parts.operands.as_slice();
     let all = has(parts.options.as_slice(), "--all");
     let count = value_of(Verb::Free, "--count", parts.values.as_slice())?;
     let extent = extent_by(all, count)?;
+    let style = style_in_values(Verb::Free, parts.values.as_slice())?;
     Ok(Command::Free(
+        style,
         extent,
         operand_or(operands, 0, ""),
         operand_or(operands, 1, ""),
         operands_from(operands, 2),
+    ))
+}
+
+/// The command `split`.
+fn split_command<'a>(parts: &'a Parts<'a>) -> Result<Command<'a>, Misuse<'a>>
+    ensures { MatchResult result (λ command. split_request (given_parts parts.now) ≡ Ok (request_of command))
+        (λ misuse. split_request (given_parts parts.now) ≡ Err (misuse_line misuse)) }
+{
+    let operands = parts.operands.as_slice();
+    let style = style_in_values(Verb::Split, parts.values.as_slice())?;
+    Ok(Command::Split(
+        style,
+        operand_or(operands, 0, ""),
+        operand_or(operands, 1, ""),
     ))
 }
 
@@ -705,9 +720,7 @@ fn verb_command<'a>(verb: Verb, parts: &'a Parts<'a>) -> Result<Command<'a>, Mis
         Verb::Describe(what) => Ok(Command::Describe(what, operand_or(operands, 0, ""))),
         Verb::Class => Ok(Command::Class(operand_or(operands, 0, ""))),
         Verb::Show => Ok(Command::Single(Single::Show(operand_or(operands, 0, "")))),
-        Verb::Split => {
-            Ok(Command::Split(operand_or(operands, 0, ""), operand_or(operands, 1, "")))
-        }
+        Verb::Split => split_command(parts),
         Verb::Nth => Ok(Command::Single(Single::Nth(
             operand_or(operands, 0, ""),
             operand_or(operands, 1, ""),

@@ -1,15 +1,17 @@
 //! The networks of a prefix length that are free in a pool, or inside the networks of a list.
-ghost use Rattle.std.specs.Prelude.{◌≡◌, ◌∷◌, ℕ, ◌≤◌, ◌<◌, ◌^◌, None, Some, map, length, IfErr, MatchOption, MatchResult, Option};
+ghost use Rattle.std.specs.Prelude.{◌≡◌, ◌∷◌, ◌++◌, ℕ, ◌≤◌, ◌<◌, ◌^◌, None, Some, map, option_map, length, IfErr, MatchOption, MatchResult, Option};
 ghost use Rattle.std.specs.Bool.{Decides};
 ghost use Rattle.std.specs.List.{flat_map};
+ghost use Rattle.cidr.specs.declared.cidr.combined.IpCidr.TheVariants.{V4, V6};
+ghost use Rattle.cidr_lists.specs.Formats.{before_next, layout_in, printed_walk, style_in};
 ghost use Rattle.cidr_lists.specs.Sets.{networks_of};
 ghost use Rattle.netset_commands.specs.Answering.{ReadsPool, TellsFree};
 ghost use Rattle.netset_commands.specs.Causes.{Cause, FileMayFail};
 ghost use Rattle.netset_commands.specs.Command.{extent_of};
 ghost use Rattle.netset_commands.specs.Commands.{Free};
-ghost use Rattle.netset_commands.specs.Free.{IsBadCount, IsMost, inside_of, all_inside, less, taken, TakesLines};
+ghost use Rattle.netset_commands.specs.Free.{IsBadCount, IsMost, inside_of, less, taken, TakesLayout, TakesRows};
 ghost use Rattle.netset_commands.specs.Program.{AnswersRequest, IsBadArgument};
-ghost use Rattle.netset_commands.specs.Single.{IsNumber, subnet_line};
+ghost use Rattle.netset_commands.specs.Single.{IsNumber};
 ghost use Rattle.cidr_io.specs.Writing.{Answered};
 
 use crate::commands::combine::combination;
@@ -19,12 +21,13 @@ use crate::input::files::Sources;
 use crate::input::operands::read_pool;
 use crate::output::answers::{Verdict, by_output};
 use crate::output::families::OneFamily;
-use cidr::IpCidr;
+use crate::output::walks::{push_last, push_next};
+use cidr::{Family, IpCidr, Ipv4Cidr, Ipv6Cidr};
 use cidr_ext::{CidrExt, Subnets};
 use cidr_io::block::Block;
 use cidr_io::memory::Memory;
 use cidr_io::sink::{OutputFailed, Sink};
-use cidr_io::writing::write_text;
+use cidr_lists::formats::{Layout, Style, walk_layout};
 use cidr_lists::sets::Sets;
 
 /// The longest prefix length.
@@ -85,94 +88,139 @@ fn one_less(left: Option<u64>) -> Option<u64>
     }
 }
 
-/// Appends networks to a block, one a line, up to a number; tells how many more may be written.
+/// Appends what stands in front of each of some networks to a block, up to a number; tells how many more may be written,
+/// and the last one, which is held.
 fn push_taken<S: Sink>(
     block: &mut Block,
     out: &mut S,
+    layout: Layout<'_>,
     mut subnets: Subnets<IpCidr>,
     most: Option<u64>,
-) -> Result<Option<u64>, OutputFailed>
-    ensures { TakesLines most subnets (S.state out.old) (S.state out.new) block.old block.new result }
+    first: Option<IpCidr>,
+) -> Result<(Option<u64>, Option<IpCidr>), OutputFailed>
+    ensures { TakesRows (before_next (layout_in layout.entry)) most first subnets (S.state out.old) (S.state out.new)
+        block.old block.new result }
 {
     let mut left = most;
+    let mut last = first;
     while let Some(subnet) = subnets.next() {
         if is_done(left) {
-            return Ok(left);
+            return Ok((left, last));
         }
-        block.push_line(out, &[subnet.to_text().as_str().as_bytes(), b"\n"])?;
+        push_next(block, out, layout, last)?;
         left = one_less(left);
+        last = Some(subnet);
     }
-    Ok(left)
+    Ok((left, last))
 }
 
-/// Appends the networks of a prefix length inside a network to a block, one a line, up to a number; tells how many more
-/// may be written.
+/// The same of the networks of a prefix length inside a network.
 fn push_subnets<S: Sink>(
     block: &mut Block,
     out: &mut S,
+    layout: Layout<'_>,
     network: &IpCidr,
     len: u8,
     most: Option<u64>,
-) -> Result<Option<u64>, OutputFailed>
-    ensures { TakesLines most (inside_of len network.now) (S.state out.old) (S.state out.new) block.old block.new result }
+    first: Option<IpCidr>,
+) -> Result<(Option<u64>, Option<IpCidr>), OutputFailed>
+    ensures { TakesRows (before_next (layout_in layout.entry)) most first (inside_of len network.now)
+        (S.state out.old) (S.state out.new) block.old block.new result }
 {
     match network.subnets(len) {
-        Some(subnets) => push_taken(block, out, subnets, most),
-        None => Ok(most),
+        Some(subnets) => push_taken(block, out, layout, subnets, most, first),
+        None => Ok((most, first)),
     }
 }
 
-/// Appends the networks of a prefix length inside each of some networks to a block, one a line, up to a number; tells how
-/// many more may be written.
+/// The same of those inside each of some networks.
 fn push_inside<C: OneFamily, S: Sink>(
     block: &mut Block,
     out: &mut S,
+    layout: Layout<'_>,
+    networks: &[C],
+    len: u8,
+    most: Option<u64>,
+) -> Result<(Option<u64>, Option<IpCidr>), OutputFailed>
+    ensures { TakesRows (before_next (layout_in layout.entry)) most None
+        (flat_map (λ network. inside_of len (C.network network)) networks.now)
+        (S.state out.old) (S.state out.new) block.old block.new result }
+{
+    let mut left = most;
+    let mut last = None;
+    for network in networks {
+        let (more, one) = push_subnets(block, out, layout, &network.to_network(), len, left, last)?;
+        left = more;
+        last = one;
+    }
+    Ok((left, last))
+}
+
+/// Appends the networks of a prefix length inside each of some networks to a block as a layout has them, up to a number;
+/// tells how many more may be written.
+fn push_layout<C: OneFamily, S: Sink>(
+    block: &mut Block,
+    out: &mut S,
+    layout: Layout<'_>,
     networks: &[C],
     len: u8,
     most: Option<u64>,
 ) -> Result<Option<u64>, OutputFailed>
-    ensures { TakesLines most (flat_map (λ network. inside_of len (C.network network)) networks.now)
+    ensures { TakesLayout (layout_in layout.entry) most (flat_map (λ network. inside_of len (C.network network)) networks.now)
         (S.state out.old) (S.state out.new) block.old block.new result }
 {
-    let mut left = most;
-    for network in networks {
-        left = push_subnets(block, out, &network.to_network(), len, left)?;
-    }
+    let (left, last) = push_inside(block, out, layout, networks, len, most)?;
+    push_last(block, out, layout, last)?;
     Ok(left)
 }
 
-/// Writes the networks of a prefix length inside those of sets, one a line, up to a number, and flushes. An output that
-/// has failed before gets nothing.
-fn write_inside<S: Sink>(
+/// Writes the networks of a prefix length inside some of IPv4 and some of IPv6, each as it is found, up to a number, and
+/// flushes: in a style, or one a line. An output that has failed before gets nothing.
+pub fn write_inside<S: Sink>(
     out: &mut S,
-    sets: &Sets,
+    style: Option<Style<'_>>,
+    v4: &[Ipv4Cidr],
+    v6: &[Ipv6Cidr],
     len: u8,
     most: Option<u64>,
 ) -> Result<(), OutputFailed>
-    ensures { Answered (S.state out.old) (S.state out.new)
-        (flat_map subnet_line (taken most (all_inside len (networks_of sets.now)))) result }
+    ensures { Answered (S.state out.old) (S.state out.new) (printed_walk (option_map (λ s. style_in s) style.entry)
+        (taken most (flat_map (λ p. inside_of len (V4 p)) v4.now ++ flat_map (λ p. inside_of len (V6 p)) v6.now))) result }
 {
     if out.failed() {
         return Err(OutputFailed);
     }
     let mut block = Block::new();
-    let left = push_inside(&mut block, out, sets.v4.as_slice(), len, most)?;
-    push_inside(&mut block, out, sets.v6.as_slice(), len, left)?;
+    let ipv4 = walk_layout(style, Family::Ipv4);
+    let left = push_layout(&mut block, out, ipv4, v4, len, most)?;
+    let ipv6 = walk_layout(style, Family::Ipv6);
+    push_layout(&mut block, out, ipv6, v6, len, left)?;
     block.flush(out)
 }
 
 /// Tells the networks of a prefix length that have only addresses of sets, up to a number.
 pub fn tell_free<'a, S: Sink>(
+    style: Option<Style<'_>>,
     sets: &Sets,
     len: u8,
     most: Option<u64>,
     out: &mut S,
 ) -> Result<Verdict, CommandError<'a>>
-    ensures { TellsFree (networks_of sets.now) len most (S.state out.old) (S.state out.new) result }
+    ensures { TellsFree (option_map (λ s. style_in s) style.entry) (networks_of sets.now) len most (S.state out.old) (S.state out.new) result }
 {
     match sets.first_free(len) {
-        Some(_) => by_output(Verdict::Yes, write_inside(out, sets, len, most)),
-        None => by_output(Verdict::No, write_text(out, "")),
+        Some(_) => by_output(
+            Verdict::Yes,
+            write_inside(
+                out,
+                style,
+                sets.v4.as_slice(),
+                sets.v6.as_slice(),
+                len,
+                most,
+            ),
+        ),
+        None => by_output(Verdict::No, write_inside(out, style, &[], &[], len, most)),
     }
 }
 
@@ -180,6 +228,7 @@ pub fn tell_free<'a, S: Sink>(
 pub fn free<'a, M: Memory, F: Sources, O: Sink>(
     memory: &mut M,
     sources: &F,
+    style: Option<Style<'_>>,
     extent: Extent<'a>,
     pool: &'a str,
     len: &'a str,
@@ -187,7 +236,7 @@ pub fn free<'a, M: Memory, F: Sources, O: Sink>(
     out: &mut O,
 ) -> Result<Verdict, CommandError<'a>>
     ensures answers { AnswersRequest (F.contents sources.now)
-        (Free (extent_of extent.entry) pool.now len.now (map (λ file. file.now) used.now))
+        (Free (option_map (λ s. style_in s) style.entry) (extent_of extent.entry) pool.now len.now (map (λ file. file.now) used.now))
         (O.state out.old) (O.state out.new) result }
     ensures cause { IfErr result (Cause (FileMayFail (F.contents sources.now)) (M.refused memory.new)) }
 {
@@ -198,5 +247,5 @@ pub fn free<'a, M: Memory, F: Sources, O: Sink>(
     let several = read_pool(memory, sources, pool, used)?;
     let rest = combination(Operation::Minus, several);
     let rest = memory.watch(rest)?;
-    tell_free(&rest, bits, most, out)
+    tell_free(style, &rest, bits, most, out)
 }

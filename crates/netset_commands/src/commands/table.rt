@@ -130,7 +130,7 @@ pub const OPTIONS: &str =
     "\nOptions stand anywhere behind the command; those of one letter may be joined, as -vc:\n";
 
 pub const LISTS: &str =
-    "-h, --help              what this page says of the command\n--                      what is behind it are no options\n--host-bits and --masks are for commands that read lists, but check and which, -k for all that read\nlists, and --format, --prefix and --suffix are for merge, nets, minus, and and not, and -o is for\nthese, ranges, count, diff, free, reverse, mask and split.\n\nA line of a list is a network, an address or a range FIRST-LAST, and may end in a comment\nfrom # or ; on. The file - is the standard input, which is also read where no file is named.\nStatus: 0 done, 1 none, a difference or findings, 2 usage, a wrong argument, a file that\ncannot be read or a line in error, 3 output or memory.\n";
+    "-h, --help              what this page says of the command\n--                      what is behind it are no options\n--host-bits and --masks are for commands that read lists, but check and which, -k for all that read\nlists, and --format, --prefix and --suffix are for merge, nets, minus, and, not, free and split, and\n-o is for these, ranges, count, diff, reverse and mask.\n\nA line of a list is a network, an address or a range FIRST-LAST, and may end in a comment\nfrom # or ; on. The file - is the standard input, which is also read where no file is named.\nStatus: 0 done, 1 none, a difference or findings, 2 usage, a wrong argument, a file that\ncannot be read or a line in error, 3 output or memory.\n";
 
 /// The commands, in their order on the page.
 pub fn commands() -> &'static [Verb]
@@ -207,10 +207,9 @@ fn values_of(command: Verb) -> &'static [&'static str]
         Verb::Lists(Operation::Ranges)
         | Verb::Lists(Operation::Count)
         | Verb::Diff
-        | Verb::Split
         | Verb::Describe(_) => &["-o"],
-        Verb::Lists(_) => &["--format", "--prefix", "--suffix", "-o"],
-        Verb::Free => &["--count", "-o"],
+        Verb::Lists(_) | Verb::Split => &["--format", "--prefix", "--suffix", "-o"],
+        Verb::Free => &["--count", "--format", "--prefix", "--suffix", "-o"],
         Verb::Match => &["--field", "--separator"],
         _ => &[],
     }

@@ -1,9 +1,8 @@
-use Rattle.std.proofs.Common.{None}
 use Rattle.cidr_lists.specs.Printing.{line}
 use Rattle.netset_commands.proofs.Described.{zone_names}
-use Rattle.netset_commands.proofs.Taken.{Taking}
+use Rattle.netset_commands.proofs.Lined.{Lined}
 use Rattle.netset_commands.proofs.commands.describe.push_zones.Given as goal
 
 abbrev pub invariant-loop-name : goal.invariant-loop-name
 invariant-loop-name g l =
-    Taking line None None (zone_names l.fn.network) l.zones (g.S.Sink.state l.fn.out) (g.S.Sink.state l.out) l.fn.block l.block
+    Lined line (zone_names l.fn.network) l.zones (g.S.Sink.state l.fn.out) (g.S.Sink.state l.out) l.fn.block l.block

@@ -1,5 +1,6 @@
-use Rattle.std.proofs.Common.{refl, sym, inl, inr, map}
+use Rattle.std.proofs.Common.{refl, sym, inl, inr, map, option_map}
 use Rattle.std.proofs.lemmas.Result.{err_from_is_err_and}
+use Rattle.cidr_lists.specs.Formats.{style_in}
 use Rattle.cidr_lists.specs.Sets.{networks_of}
 use Rattle.netset_commands.specs.Causes.{FileMayFail}
 use Rattle.netset_commands.specs.Command.{extent_of}
@@ -9,14 +10,14 @@ use Rattle.netset_commands.proofs.commands.free.free.Goals as goal
 
 pub returns-clause-answers : goal.returns-clause-answers
 returns-clause-answers g c =
-    free_written (g.F.Sources.contents c.args.sources.now) (extent_of c.args.extent) c.args.pool.now c.args.len.now (map (λ file. file.now) c.args.used.now)
+    free_written (g.F.Sources.contents c.args.sources.now) (option_map (λ s. style_in s) c.args.style) (extent_of c.args.extent) c.args.pool.now c.args.len.now (map (λ file. file.now) c.args.used.now)
     c.in-Some.bits c.in_ok-most.most c.in_ok-several.several.first c.in_ok-several.several.others.items c.in_ok-rest.rest (g.O.Sink.state c.args.out.now)
     (g.O.Sink.state c.tell_free.new.out) c.tell_free.result c.in-Some.ensures c.in_ok-most.ensures c.in_ok-several.ensures.reads.0 c.in_ok-several.ensures.reads.1
     (rw (sym c.in_ok-rest.ensures.made) at c.combination-rest.ensures) c.tell_free.ensures
 
 pub returns-clause-cause : goal.returns-clause-cause
 returns-clause-cause g c =
-    free_cause (FileMayFail (g.F.Sources.contents c.args.sources.now)) _ (networks_of c.in_ok-rest.rest) c.in-Some.bits c.in_ok-most.most _ _ c.tell_free.result c.tell_free.ensures
+    free_cause (FileMayFail (g.F.Sources.contents c.args.sources.now)) _ (option_map (λ s. style_in s) c.args.style) (networks_of c.in_ok-rest.rest) c.in-Some.bits c.in_ok-most.most _ _ c.tell_free.result c.tell_free.ensures
 
 pub returns-in_err-most-clause-answers : goal.returns-in_err-most-clause-answers
 returns-in_err-most-clause-answers g c =

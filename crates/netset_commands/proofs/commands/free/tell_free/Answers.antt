@@ -1,20 +1,30 @@
-use Rattle.std.proofs.Common.{refl, []}
-use Rattle.std.specs.List.{flat_map}
+use Rattle.std.proofs.Common.{refl, subst, [], List, Bool, option_map}
+use Rattle.cidr.specs.declared.family.Family.{Family}
+use Rattle.cidr_io.specs.Writing.{Answered}
+use Rattle.cidr_lists.specs.Formats.{printed_walk, style_in}
 use Rattle.cidr_lists.specs.Sets.{networks_of}
 use Rattle.netset_commands.specs.Free.{all_inside, taken}
-use Rattle.netset_commands.specs.Single.{subnet_line}
 use Rattle.netset_commands.specs.declared.output.answers.Verdict.TheVariants.{Yes, No}
+use Rattle.netset_commands.proofs.Taken.{Walk, taken_none}
 use Rattle.netset_commands.proofs.commands.free.tell_free.Goals as goal
 
 pub returns-in-Some : goal.returns-in-Some
 returns-in-Some g c = (
-  flat_map subnet_line (taken c.args.most (all_inside c.args.len (networks_of c.args.sets.now))),
+  printed_walk (option_map (λ s. style_in s) c.args.style) (taken c.args.most (all_inside c.args.len (networks_of c.args.sets.now))),
   Yes,
   c.write_inside.result,
   (c.in-Some.field-0, c.in-Some.ensures, refl),
-  c.write_inside.ensures,
+  rw (c.as_slice.ensures.networks, c.as_slice-in-Some.ensures.networks) at c.write_inside.ensures,
   c.by_output.ensures,
 )
 
 pub returns-in-None : goal.returns-in-None
-returns-in-None g c = ([], No, c.write_text.result, (c.in-None.ensures, refl), c.write_text.ensures, c.by_output-in-None.ensures)
+returns-in-None g c = (
+  printed_walk (option_map (λ s. style_in s) c.args.style) [],
+  No,
+  c.write_inside-in-None.result,
+  (c.in-None.ensures, refl),
+  subst (λ (k : Walk). Answered (g.S.Sink.state c.args.out.now) (g.S.Sink.state c.write_inside-in-None.new.out)
+      (printed_walk (option_map (λ s. style_in s) c.args.style) k) c.write_inside-in-None.result) (taken_none c.args.most) c.write_inside-in-None.ensures,
+  c.by_output-in-None.ensures,
+)

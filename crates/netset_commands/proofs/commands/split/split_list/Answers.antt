@@ -1,5 +1,6 @@
-use Rattle.std.proofs.Common.{inl, inr, refl, None}
+use Rattle.std.proofs.Common.{inl, inr, refl, None, option_map}
 use Rattle.std.proofs.lemmas.Result.{err_from_is_err_and}
+use Rattle.cidr_lists.specs.Formats.{style_in}
 use Rattle.cidr_lists.specs.Sets.{networks_of}
 use Rattle.netset_commands.specs.Causes.{FileMayFail}
 use Rattle.netset_commands.proofs.Pools.{free_cause, list_split}
@@ -7,12 +8,12 @@ use Rattle.netset_commands.proofs.commands.split.split_list.Goals as goal
 
 pub returns-clause-splits : goal.returns-clause-splits
 returns-clause-splits g c =
-    list_split (g.F.Sources.contents c.args.sources.now) c.args.file.now c.args.len.now c.in-Some.bits c.in_ok-sets.sets (g.O.Sink.state c.args.out.now)
+    list_split (g.F.Sources.contents c.args.sources.now) (option_map (λ s. style_in s) c.args.style) c.args.file.now c.args.len.now c.in-Some.bits c.in_ok-sets.sets (g.O.Sink.state c.args.out.now)
     (g.O.Sink.state c.tell_free.new.out) c.tell_free.result c.in-Some.ensures c.in_ok-sets.ensures.reads c.tell_free.ensures
 
 pub returns-clause-cause : goal.returns-clause-cause
 returns-clause-cause g c =
-    free_cause (FileMayFail (g.F.Sources.contents c.args.sources.now)) _ (networks_of c.in_ok-sets.sets) c.in-Some.bits None _ _ c.tell_free.result c.tell_free.ensures
+    free_cause (FileMayFail (g.F.Sources.contents c.args.sources.now)) _ (option_map (λ s. style_in s) c.args.style) (networks_of c.in_ok-sets.sets) c.in-Some.bits None _ _ c.tell_free.result c.tell_free.ensures
 
 pub returns-in_err-sets-clause-splits : goal.returns-in_err-sets-clause-splits
 returns-in_err-sets-clause-splits g c =

@@ -1,20 +1,17 @@
-use Rattle.std.proofs.Common.{inl, inr, refl, subst, List, Bool}
-use Rattle.std.specs.List.{flat_map}
-use Rattle.cidr.specs.declared.family.Family.{Family}
-use Rattle.cidr_io.specs.Writing.{Answered}
-use Rattle.netset_commands.specs.Single.{subnet_line}
+use Rattle.std.proofs.Common.{inl, inr, refl, option_map}
+use Rattle.cidr_lists.specs.Formats.{style_in}
+use Rattle.netset_commands.proofs.Pools.{subnets_written}
 use Rattle.netset_commands.proofs.commands.split.split_network.Goals as goal
 
 pub returns-in-Some : goal.returns-in-Some
 returns-in-Some g c =
-    let (n, number, some, is) = c.in-Some.ensures in
     inr (
-      n,
-      number,
-      some,
-      c.answer_subnets.result,
-      subst (λ (k : List (Family × List Bool)). Answered (g.S.Sink.state c.args.out.now) (g.S.Sink.state c.answer_subnets.new.out) (flat_map subnet_line k) c.answer_subnets.result)
-          is c.answer_subnets.ensures,
+      c.in-Some.bits,
+      c.in-Some.ensures.0,
+      c.in-Some.ensures.1,
+      c.write_subnets.result,
+      subnets_written (option_map (λ s. style_in s) c.args.style) c.args.network.now c.in-Some.bits (g.S.Sink.state c.args.out.now)
+          (g.S.Sink.state c.write_subnets.new.out) c.write_subnets.result c.in-Some.ensures.1 c.write_subnets.ensures,
       c.by_output.ensures,
     )
 

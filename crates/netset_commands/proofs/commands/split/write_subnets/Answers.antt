@@ -1,22 +1,19 @@
-use Rattle.std.proofs.lemmas.Result.{err_from_is_err_and}
-use Rattle.netset_commands.specs.Single.{subnet_line}
-use Rattle.netset_commands.proofs.Walked.{subnet_text, walked_on, walk_lost, walk_ended}
+use Rattle.std.proofs.Common.{◌∙◌, [], ◌++◌, append-nil, subst, option_map}
+use Rattle.cidr_io.specs.Writing.{Answered}
+use Rattle.cidr.specs.declared.cidr.combined.IpCidr.TheVariants.{V4, V6}
+use Rattle.cidr_lists.specs.Formats.{printed_walk, style_in}
+use Rattle.netset_commands.specs.Free.{inside_of}
+use Rattle.netset_commands.proofs.Taken.{Walk}
 use Rattle.netset_commands.proofs.commands.split.write_subnets.Goals as goal
 
-pub loop-subnet-preserved : goal.loop-subnet-preserved
-loop-subnet-preserved g c =
-    walked_on subnet_line c.args.subnets c.loop-subnet.subnets c.next.new.self (g.S.Sink.state c.args.out.now) (g.S.Sink.state c.loop-subnet.out)
-    (g.S.Sink.state c.push_line.new.out) c.loop-subnet.block c.push_line.new.self _ _ c.in-Some.ensures.steps (subnet_text c.in-Some.subnet) c.loop-subnet.invariant
-    (rw (c.as_bytes.ensures.value, c.as_str.ensures.value, c.to_text.ensures.text) at c.in_ok-push_line.ensures)
+pub returns-in-V4 : goal.returns-in-V4
+returns-in-V4 g c =
+    let all : Walk = inside_of c.args.len (V4 c.in-V4.network) in
+    rw c.in-V4.is (subst (λ (k : Walk). Answered (g.S.Sink.state c.args.out.now) (g.S.Sink.state c.write_inside.new.out)
+    (printed_walk (option_map (λ s. style_in s) c.args.style) k) c.write_inside.result) (append-nil (all ++ []) ∙ append-nil all) c.write_inside.ensures)
 
-pub returns-in_err-push_line : goal.returns-in_err-push_line
-returns-in_err-push_line g c =
-    let (y, is, same) = err_from_is_err_and c.from_residual.result c.from_residual.ensures.1 in
-    walk_lost subnet_line c.args.subnets c.loop-subnet.subnets c.next.new.self (g.S.Sink.state c.args.out.now) (g.S.Sink.state c.loop-subnet.out)
-    (g.S.Sink.state c.push_line.new.out) c.loop-subnet.block _ _ c.from_residual.result y is c.in-Some.ensures.steps (subnet_text c.in-Some.subnet) c.loop-subnet.invariant
-    (rw (c.as_bytes.ensures.value, c.as_str.ensures.value, c.to_text.ensures.text) at c.in_err-push_line.ensures)
-
-pub returns : goal.returns
-returns g c =
-    walk_ended subnet_line c.args.subnets c.loop-subnet.subnets (g.S.Sink.state c.args.out.now) (g.S.Sink.state c.loop-subnet.out) (g.S.Sink.state c.write.new.out)
-    c.loop-subnet.block c.write.result c.in_default.ensures.steps.0 c.loop-subnet.invariant c.write.ensures.writes
+pub returns-in-V6 : goal.returns-in-V6
+returns-in-V6 g c =
+    let all : Walk = inside_of c.args.len (V6 c.in-V6.network) in
+    rw c.in-V6.is (subst (λ (k : Walk). Answered (g.S.Sink.state c.args.out.now) (g.S.Sink.state c.write_inside-in-V6.new.out)
+    (printed_walk (option_map (λ s. style_in s) c.args.style) k) c.write_inside-in-V6.result) (append-nil all) c.write_inside-in-V6.ensures)
