@@ -100,6 +100,19 @@ contains_one : (x w : List ℕ) → Contains (x ∷ []) w → x ≡ w
 contains_one x w (zero, within, is) = is
 contains_one x w (suc k, within, is) = absurd (omega (arith, within))
 
+-- its words, from the first one on
+module _ (family : Family) where
+  pub words_first : (line : List ℕ) (n : ℕ) → n ≡ position_or_len (ends_word family) line → n < length line
+      → words_of family line ≡ take n line ∷ words_of family (drop (n + 1) line)
+  words_first line n is within =
+      slice_split_first (ends_word family) line 0 (omega (arith, is, within))
+      ∙ ap (λ (k : ℕ). take k line ∷ words_of family (drop (k + 1) line)) (sym is)
+
+  pub words_last : (line : List ℕ) (n : ℕ) → n ≡ position_or_len (ends_word family) line → n ≡ length line → words_of family line ≡ take n line ∷ []
+  words_last line n is all =
+      slice_split_none (ends_word family) line (λ k d within. fails_before_first (ends_word family) line k d (omega (arith, is, all, within)))
+      ∙ ap (λ (k : List ℕ). k ∷ []) (sym (take_all n line (omega (arith, all))))
+
 module _ (IsIn : Family → List Bool → Type 0) (family : Family) where
   -- by the words of a line
   abbrev Has : List (List ℕ) → Type 0
@@ -117,29 +130,18 @@ module _ (IsIn : Family → List Bool → Type 0) (family : Family) where
     | inr behind ↦ inr (found, behind, one)
   ]
 
-  words_first : (line : List ℕ) (n : ℕ) → n ≡ position_or_len (ends_word family) line → n < length line
-      → words_of family line ≡ take n line ∷ words_of family (drop (n + 1) line)
-  words_first line n is within =
-      slice_split_first (ends_word family) line 0 (omega (arith, is, within))
-      ∙ ap (λ (k : ℕ). take k line ∷ words_of family (drop (k + 1) line)) (sym is)
-
-  words_last : (line : List ℕ) (n : ℕ) → n ≡ position_or_len (ends_word family) line → n ≡ length line → words_of family line ≡ take n line ∷ []
-  words_last line n is all =
-      slice_split_none (ends_word family) line (λ k d within. fails_before_first (ends_word family) line k d (omega (arith, is, all, within)))
-      ∙ ap (λ (k : List ℕ). k ∷ []) (sym (take_all n line (omega (arith, all))))
-
   pub line_by_word : (line : List ℕ) (n : ℕ) → n ≡ position_or_len (ends_word family) line → n ≤ length line
       → WordIsOneIn IsIn family (take n line) → LineHasOneIn IsIn family line
   line_by_word line n is within one = elim (cases_eq n (length line)) [
-    | inl e ↦ subst Has (sym (words_last line n is e)) (has_first (take n line) [] one)
-    | inr e ↦ subst Has (sym (words_first line n is (omega (arith, e, within))))
+    | inl e ↦ subst Has (sym (words_last family line n is e)) (has_first (take n line) [] one)
+    | inr e ↦ subst Has (sym (words_first family line n is (omega (arith, e, within))))
         (has_first (take n line) (words_of family (drop (n + 1) line)) one)
   ]
 
   pub line_behind : (line : List ℕ) (n : ℕ) → n ≡ position_or_len (ends_word family) line → n < length line
       → LineHasOneIn IsIn family (drop (n + 1) line) → LineHasOneIn IsIn family line
   line_behind line n is within h =
-      subst Has (sym (words_first line n is within)) (has_behind (take n line) (words_of family (drop (n + 1) line)) h)
+      subst Has (sym (words_first family line n is within)) (has_behind (take n line) (words_of family (drop (n + 1) line)) h)
 
   not_first : (word : List ℕ) (words : List (List ℕ)) → ¬ (WordIsOneIn IsIn family word) → Has (word ∷ words) → Has words
   not_first word words misses h = elim (has_either word words h) [ inl one ↦ absurd (misses one) | inr others ↦ others ]
@@ -147,12 +149,12 @@ module _ (IsIn : Family → List Bool → Type 0) (family : Family) where
   pub line_on : (line : List ℕ) (n : ℕ) → n ≡ position_or_len (ends_word family) line → n < length line
       → ¬ (WordIsOneIn IsIn family (take n line)) → LineHasOneIn IsIn family line → LineHasOneIn IsIn family (drop (n + 1) line)
   line_on line n is within misses h =
-      not_first (take n line) (words_of family (drop (n + 1) line)) misses (subst Has (words_first line n is within) h)
+      not_first (take n line) (words_of family (drop (n + 1) line)) misses (subst Has (words_first family line n is within) h)
 
   pub line_last : (line : List ℕ) (n : ℕ) → n ≡ position_or_len (ends_word family) line → n ≡ length line
       → ¬ (WordIsOneIn IsIn family (take n line)) → ¬ (LineHasOneIn IsIn family line)
   line_last line n is all misses h =
-      let (word, (k, within, _), one) = not_first (take n line) [] misses (subst Has (words_last line n is all) h) in
+      let (word, (k, within, _), one) = not_first (take n line) [] misses (subst Has (words_last family line n is all) h) in
       absurd (omega (arith, within))
 
 pub next_is : (line next : List ℕ) (n byte : ℕ) → n ≤ length line → drop n line ≡ byte ∷ next → (n < length line) × (drop (n + 1) line ≡ next)

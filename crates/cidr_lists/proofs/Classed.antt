@@ -36,7 +36,7 @@ pub no_class_found : (address : IpAddr) (text : List ℕ) → HasNoEntry (addres
 no_class_found address text none is = (None, no_entry_found (address_family address) (plain_bits address) none, is, refl)
 
 -- ---- the line of an address
-gap_there : (value : List ℕ) → 0 < length value → gap value ≡ codes " "
+gap_there : (value : List ℕ) → 0 < length value → gap 32 value ≡ codes " "
 gap_there [] some = absurd (omega (arith, some))
 gap_there (byte ∷ bytes) some = refl
 

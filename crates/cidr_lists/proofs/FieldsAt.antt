@@ -8,7 +8,7 @@ use Rattle.std.proofs.Math.Seq.{take-length}
 use Rattle.std.proofs.lemmas.List.{drop_all, get_or-take, length-take}
 use Rattle.std.proofs.lemmas.List.Splits.{slice_split_first, slice_split_none}
 use Rattle.std.proofs.lemmas.List.Sums.{fails_before_first, prefix_len-le-length}
-use Rattle.cidr_lists.specs.Fields.{HasFields, IsBadField, IsFieldOf, IsNoNetworkField, behind_field, field_at}
+use Rattle.cidr_lists.specs.Fields.{HasFields, IsBadAddress, IsBadField, IsFieldOf, IsNoAddressField, IsNoNetworkField, behind_field, field_at}
 use Rattle.cidr_lists.specs.declared.columns.Column.{Column}
 use Rattle.cidr_lists.specs.declared.columns.Separator.{Separator}
 use Rattle.cidr_lists.specs.declared.columns.Separator.TheVariants.{WhiteSpace, Byte}
@@ -105,3 +105,14 @@ bad_field column line field (error.NoAddress text e) says is some bad = absurd b
 bad_field column line field (error.NoAction text) says is some bad = absurd bad
 bad_field column line field (error.TwoFamilies text) says is some bad = absurd bad
 bad_field column line field (error.Reversed text) says is some bad = absurd bad
+
+pub bad_address : (column : Column) (line field : List ℕ) (e : LineError) → HasFields column.separator line → IsFieldOf column line field → field ≢ []
+    → IsNoAddressField field e → IsBadAddress column line e
+bad_address column line field error.TooLong says is some bad = absurd bad
+bad_address column line field error.NoField says is some bad = absurd bad
+bad_address column line field (error.NotUtf8 text) says is some bad = (says, field, is, some, bad)
+bad_address column line field (error.NoNetwork text e) says is some bad = absurd bad
+bad_address column line field (error.NoAddress text e) says is some bad = (says, field, is, some, bad)
+bad_address column line field (error.NoAction text) says is some bad = absurd bad
+bad_address column line field (error.TwoFamilies text) says is some bad = absurd bad
+bad_address column line field (error.Reversed text) says is some bad = absurd bad

@@ -3,6 +3,7 @@ pub mod Classed
 pub mod Contents
 pub mod Described
 pub mod FieldsAt
+pub mod FirstWords
 pub mod Found
 pub mod Hosts
 pub mod KeptNear

@@ -121,3 +121,14 @@ IsBadField column line e =
 abbrev pub ReadsColumn : Column → List ℕ → Result (Option IpCidr) LineError → Type 0
 ReadsColumn column line (Ok said) = FieldSays column line said
 ReadsColumn column line (Err e) = IsBadField column line e
+
+-- the line has no fields, or the field of the column is this address
+abbrev pub FieldIsAddress : Column → List ℕ → Option IpAddr → Type 0
+FieldIsAddress column line None = HasNoFields column.separator line
+FieldIsAddress column line (Some address) = HasFields column.separator line × (field : List ℕ) × IsFieldOf column line field × IsIpText field address
+
+-- the field of the column is missing or empty, or it is no address, and this is the error
+abbrev pub IsBadAddress : Column → List ℕ → LineError → Type 0
+IsBadAddress column line NoField = HasFields column.separator line × IsFieldOf column line []
+IsBadAddress column line e =
+    HasFields column.separator line × (field : List ℕ) × IsFieldOf column line field × (field ≢ []) × IsNoAddressField field e

@@ -1,38 +1,69 @@
 -- The longest network of a table that an address is in, and the value of that, as they are printed.
-use Rattle.std.specs.Prelude.{ℕ, Bool, false, List, [], ◌∷◌, ◌++◌, codes, is_some, Option, Some, None, option_map}
-use Rattle.cidr.specs.either.IpAddress.{IsIpText, address_family, plain_bits}
+use Rattle.std.specs.Prelude.{ℕ, ◌-◌, ◌==◌, ◌≡◌, Bool, true, false, List, [], ◌∷◌, ◌++◌, codes, drop, is_some, length, take, Option, Some, None, option_map, MatchResult, Result}
+use Rattle.std.specs.List.{AllZip, flat_map, list_any, suffix_len}
+use Rattle.cidr.specs.either.IpAddress.{address_family, plain_bits}
 use Rattle.cidr.specs.texts.Printed.{plain_text}
 use Rattle.cidr.specs.texts.PrintedAddress.{ip_text}
 use Rattle.cidr.specs.declared.addr.ip.IpAddr.{IpAddr}
 use Rattle.cidr.specs.declared.family.Family.{Family}
 use Rattle.cidr_table.specs.model.Prefixes.{IsLookedUp}
-use Rattle.cidr_lists.specs.Lists.{IsField, IsTooLong}
-use Rattle.cidr_lists.specs.Fields.{IsSplit}
+use Rattle.cidr_lists.specs.Lists.{IsBadLineBy, IsTooLong, lines_of}
+use Rattle.cidr_lists.specs.Lines.{lines_in}
+use Rattle.cidr_lists.specs.Fields.{AddressSays, FieldIsAddress, HasBadAddress, IsBadAddress}
+use Rattle.cidr_lists.specs.Words.{IsFirstAddress}
+use Rattle.cidr_lists.specs.declared.columns.Separator.{Separator}
+use Rattle.cidr_lists.specs.declared.columns.Separator.TheVariants.{WhiteSpace, Byte}
+use Rattle.cidr_lists.specs.declared.errors.LineError.{LineError}
+use Rattle.cidr_lists.specs.declared.fields.Asked.{Asked}
+use Rattle.cidr_lists.specs.declared.fields.Asked.TheVariants.{First, Field, Anywhere}
 
 -- an address, and the longest network of a table that has it, with its value, if there is one
 pub record LookUp : Type 0 where
   pub address : IpAddr
   pub found : Option (List Bool × List ℕ)
 
--- the line says nothing, or an address, which was looked up in the table
-abbrev pub FieldLooks : (Family → List (List Bool × List ℕ)) → List ℕ → Option LookUp → Type 0
-FieldLooks table line None = IsField line []
-FieldLooks table line (Some look) = (first : List ℕ) × (rest : List ℕ) × IsSplit line first rest × IsIpText first look.address
+-- ---- the address of a line
+-- the line has no address, or this one: that of its first field, before a comment, that of a field by its place, or the first
+-- anywhere
+abbrev pub SaysAsked : Asked → List ℕ → Option IpAddr → Type 0
+SaysAsked First line said = AddressSays line said
+SaysAsked (Field column) line said = FieldIsAddress column line said
+SaysAsked Anywhere line said = IsFirstAddress line said
+
+-- that field is no address, and this is the error; anywhere in a line nothing has to be an address
+abbrev pub HasBadAsked : Asked → List ℕ → LineError → Type 0
+HasBadAsked First line e = HasBadAddress line e
+HasBadAsked (Field column) line e = IsBadAddress column line e
+HasBadAsked Anywhere line e = ⊥
+
+-- the same of a line that may be too long
+abbrev pub IsBadAsked : Asked → List ℕ → LineError → Type 0
+IsBadAsked asked line e = IsBadLineBy (HasBadAsked asked) line e
+
+-- the address, if there is one, or the error
+abbrev pub ReadsAsked : Asked → List ℕ → Result (Option IpAddr) LineError → Type 0
+ReadsAsked asked line r = MatchResult r (SaysAsked asked line) (HasBadAsked asked line)
+
+-- the line has no address, or one, which was looked up in the table
+abbrev pub FieldLooks : Asked → (Family → List (List Bool × List ℕ)) → List ℕ → Option LookUp → Type 0
+FieldLooks asked table line None = SaysAsked asked line None
+FieldLooks asked table line (Some look) = SaysAsked asked line (Some look.address)
     × IsLookedUp (λ (p : List Bool). p) (plain_bits look.address) (table (address_family look.address)) look.found
 
 -- the same of a line that is not too long
-abbrev pub LineLooks : (Family → List (List Bool × List ℕ)) → List ℕ → Option LookUp → Type 0
-LineLooks table line look = ¬ (IsTooLong line) × FieldLooks table line look
+abbrev pub LineLooks : Asked → (Family → List (List Bool × List ℕ)) → List ℕ → Option LookUp → Type 0
+LineLooks asked table line look = ¬ (IsTooLong line) × FieldLooks asked table line look
 
--- a space in front of a value, if there is one
-abbrev pub gap : List ℕ → List ℕ
-gap [] = []
-gap (b ∷ bs) = codes " "
+-- ---- what is written of it
+-- what stands in front of a value, if there is one
+abbrev pub gap : ℕ → List ℕ → List ℕ
+gap joint [] = []
+gap joint (b ∷ bs) = joint ∷ []
 
 -- an address, its network and the value of that; or - where it has no network
 abbrev pub found_line : List ℕ → Option (List ℕ × List ℕ) → List ℕ
 found_line address None = address ++ codes " -\n"
-found_line address (Some (network, value)) = address ++ (codes " " ++ (network ++ (gap value ++ (value ++ codes "\n"))))
+found_line address (Some (network, value)) = address ++ (codes " " ++ (network ++ (gap 32 value ++ (value ++ codes "\n"))))
 
 -- the network as it is printed
 abbrev pub printed_row : Family → List Bool × List ℕ → List ℕ × List ℕ
@@ -47,3 +78,57 @@ look_line (Some look) = found_line (ip_text look.address) (option_map (printed_r
 abbrev pub is_found : Option LookUp → Bool
 is_found None = false
 is_found (Some look) = is_some look.found
+
+-- ---- lines that are kept
+-- what is written between the fields of a line
+abbrev pub joint_by : Separator → ℕ
+joint_by WhiteSpace = 32
+joint_by (Byte separator) = separator
+
+abbrev pub joint_of : Asked → ℕ
+joint_of First = 32
+joint_of (Field column) = joint_by column.separator
+joint_of Anywhere = 32
+
+-- a line without the carriage returns at its end, which CRLF leaves there
+abbrev pub is_return : ℕ → Bool
+is_return byte = byte == 13
+
+abbrev pub without_returns : List ℕ → List ℕ
+without_returns line = take (length line - suffix_len is_return line) line
+
+-- and these
+abbrev pub returns_of : List ℕ → List ℕ
+returns_of line = drop (length (without_returns line)) line
+
+-- the line, and behind its fields the network and the value of that; or the line alone where there is none
+abbrev pub kept_line : ℕ → List ℕ → Option (List ℕ × List ℕ) → List ℕ
+kept_line joint line None = line ++ codes "\n"
+kept_line joint line (Some (network, value)) =
+    without_returns line ++ (joint ∷ (network ++ (gap joint value ++ (value ++ (returns_of line ++ codes "\n")))))
+
+-- ---- lines one behind the other
+-- the network that was found, as it is printed, with its value
+abbrev pub printed_found : Option LookUp → Option (List ℕ × List ℕ)
+printed_found None = None
+printed_found (Some look) = option_map (printed_row (address_family look.address)) look.found
+
+-- what is written of a line: with --keep the line, with the network of its address, and else a line for its address
+abbrev pub told_line : Bool → Asked → List ℕ → Option LookUp → List ℕ
+told_line true asked line look = kept_line (joint_of asked) line (printed_found look)
+told_line false asked line look = look_line look
+
+-- a line has this written of it, and its address has a network or not
+abbrev pub LineTells : Bool → Asked → (Family → List (List Bool × List ℕ)) → List ℕ → List ℕ × Bool → Type 0
+LineTells keeps asked table line told = (look : Option LookUp) × LineLooks asked table line look
+    × (told.0 ≡ told_line keeps asked line look) × (told.1 ≡ is_found look)
+
+-- the same of lines, and whether the address of one of them has
+abbrev pub LinesTell : Bool → Asked → (Family → List (List Bool × List ℕ)) → List (List ℕ) → List ℕ × Bool → Type 0
+LinesTell keeps asked table lines told = (each : List (List ℕ × Bool)) × AllZip (LineTells keeps asked table) lines each
+    × (told.0 ≡ flat_map (λ (one : List ℕ × Bool). one.0) each) × (told.1 ≡ list_any (λ (one : List ℕ × Bool). one.1) each)
+
+-- the lines of a text: those that are kept, and else also an empty part behind the last line feed, of which nothing is written
+abbrev pub lines_by : Bool → List ℕ → List (List ℕ)
+lines_by true text = lines_in text
+lines_by false text = lines_of text

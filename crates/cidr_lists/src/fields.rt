@@ -1,13 +1,15 @@
-//! What a field of a line says.
-ghost use Rattle.std.specs.Prelude.{◌≡◌, [], IfSome, Some};
+//! What a field of a line says, and which address of it is looked up.
+ghost use Rattle.std.specs.Prelude.{◌≡◌, ◌≤◌, [], IfSome, MatchResult, Some, length};
 ghost use Rattle.std.specs.Bool.{Decides};
 ghost use Rattle.std.specs.List.{before_first};
-ghost use Rattle.cidr_lists.specs.Fields.{FieldSays, ReadsColumn, begins_comment};
+ghost use Rattle.cidr_lists.specs.Fields.{FieldIsAddress, FieldSays, IsBadAddress, ReadsColumn, begins_comment};
+ghost use Rattle.cidr_lists.specs.LookUps.{ReadsAsked, joint_by, joint_of, without_returns};
 
-use crate::columns::{Column, Separator, field_at, network_in, separates};
+use crate::columns::{Column, Separator, address_in, address_of, field_at, network_in, separates};
 use crate::errors::LineError;
 use crate::lines::{HostBits, is_comment_sign, whole_network};
-use cidr::IpCidr;
+use crate::words::first_address;
+use cidr::{IpAddr, IpCidr};
 
 /// Whether a byte begins a comment: `#` or `;`, unless it parts fields.
 fn begins_comment(separator: Separator, byte: u8) -> bool
@@ -65,4 +67,80 @@ pub fn network_at(column: Column, line: &[u8]) -> Result<Option<IpCidr>, LineErr
         Ok(network) => Ok(Some(network)),
         Err(e) => Err(e),
     }
+}
+
+/// The address that the field of a column says; `None` for a line that is blank or a comment, as `network_at` has it.
+///
+/// The errors are `NoField` where the line has fewer fields or this one is empty; `NotUtf8` of the field; and then
+/// `NoAddress`.
+pub fn address_at(column: Column, line: &[u8]) -> Result<Option<IpAddr>, LineError>
+    ensures { MatchResult result (FieldIsAddress column line.now) (IsBadAddress column line.now) }
+{
+    if is_no_row(column.separator, line.trim_ascii()) {
+        return Ok(None);
+    }
+    let field = field_at(column, line);
+    if field.is_empty() {
+        Err(LineError::NoField)
+    } else {
+        match address_in(field) {
+            Ok(address) => Ok(Some(address)),
+            Err(e) => Err(e),
+        }
+    }
+}
+
+/// Which address of a line is looked up.
+#[derive(Clone, Copy, Debug, Drop, PartialEq)]
+pub enum Asked {
+    /// That of its first field, in front of a comment.
+    First,
+    /// That of the field of a column.
+    Field(Column),
+    /// The first one anywhere in it, as in a line of a log.
+    Anywhere,
+}
+
+/// The address of a line that is looked up, if it has one: what `address_of`, `address_at` or `first_address` finds, which
+/// has no error. A line of more than 1 MiB is for the caller to find.
+pub fn asked_in(asked: Asked, line: &[u8]) -> Result<Option<IpAddr>, LineError>
+    ensures { ReadsAsked asked line.now result }
+{
+    match asked {
+        Asked::First => address_of(line),
+        Asked::Field(column) => address_at(column, line),
+        Asked::Anywhere => Ok(first_address(line)),
+    }
+}
+
+/// What is written between the fields of a line: the byte that parts them, or a space.
+fn joint_by(separator: Separator) -> u8
+    ensures { result ≡ joint_by separator }
+{
+    match separator {
+        Separator::WhiteSpace => b' ',
+        Separator::Byte(separator) => separator,
+    }
+}
+
+/// What is written between a line and what is added to it.
+pub fn joint_of(asked: Asked) -> u8
+    ensures { result ≡ joint_of asked }
+{
+    match asked {
+        Asked::First | Asked::Anywhere => b' ',
+        Asked::Field(column) => joint_by(column.separator),
+    }
+}
+
+/// A line without the carriage returns at its end.
+pub fn without_returns(line: &[u8]) -> &[u8]
+    ensures line { result.now ≡ without_returns line.now }
+    ensures within { length result.now ≤ length line.now }
+{
+    let mut rest = line;
+    while let Some((b'\r', front)) = rest.split_last() {
+        rest = front;
+    }
+    rest
 }

@@ -10,8 +10,9 @@
 //!   them.
 //! - `columns::split_row`: a row of a table is a network and its value. `rows::Rows` collects them, and `table::Table`
 //!   is ready for look-ups.
-//! - `columns::split_line` and `fields::network_at`: the fields of a line that is looked up or picked, and
-//!   `Sets::have_one` an address anywhere in a line, as in a log.
+//! - `columns::split_line`, `fields::network_at` and `address_at`: the fields of a line that is looked up or picked, and
+//!   `Sets::have_one` and `words::first_address` an address anywhere in a line, as in a log. `fields::asked_in` takes the one
+//!   or the other by its `Asked`.
 //!
 //! A line in error is an `errors::LineError`, whose `message` is the text that follows `FILE:LINE: `: the string that is
 //! wrong, and what is wrong with it. `changes` puts what a second list adds and lacks in order, `printing` has the texts

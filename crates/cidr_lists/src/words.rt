@@ -1,16 +1,19 @@
-//! Addresses anywhere in a line, as in a log: `Sets::have_one` finds them.
-ghost use Rattle.std.specs.Prelude.{◌≡◌, ◌↔◌, ◌≤◌, true, length, ℕ, List, Bool, [], ◌∷◌, ◌++◌, IsTrue};
+//! Addresses anywhere in a line, as in a log: `Sets::have_one` finds them, and `first_address` the first one.
+ghost use Rattle.std.specs.Prelude.{◌≡◌, ◌↔◌, ◌≤◌, true, length, ℕ, List, Bool, [], ◌∷◌, ◌++◌, IsTrue, MatchOption};
 ghost use Rattle.std.specs.Bool.{Decides};
 ghost use Rattle.std.specs.List.{position_or_len};
 ghost use Rattle.std.specs.Str.{IsAscii};
+ghost use Rattle.cidr.specs.either.IpAddress.{IsIpText, address_family};
+ghost use Rattle.cidr.specs.declared.addr.ip.IpAddr.{IpAddr as Address};
 ghost use Rattle.cidr.specs.texts.AddressText.{IsAddressText};
 ghost use Rattle.cidr.specs.texts.Ipv6Text.{colon};
 ghost use Rattle.cidr_lists.specs.Within.{HasOneIn, IsOneIn, LineHasOneIn, WordIsOneIn};
 ghost use Rattle.cidr_lists.specs.Sets.{IsInSets, networks_of};
-ghost use Rattle.cidr_lists.specs.Words.{IsBare, ends_word, joins, without_dots};
+ghost use Rattle.cidr.specs.declared.family.Family.TheVariants.{Ipv4};
+ghost use Rattle.cidr_lists.specs.Words.{IsBare, IsFirstAddress, IsOfFirst, WordIs, WordSays, ends_word, joins, without_dots, words_of};
 
 use crate::sets::Sets;
-use cidr::{Family, Ipv4Addr, Ipv4Cidr, Ipv6Addr, Ipv6Cidr};
+use cidr::{Family, IpAddr, Ipv4Addr, Ipv4Cidr, Ipv6Addr, Ipv6Cidr};
 
 /// The bytes of the shortest IPv4 address, 0.0.0.0.
 const LEAST_IPV4: usize = 7;
@@ -152,5 +155,98 @@ impl Sets {
         ensures { Decides result (HasOneIn (IsInSets self.now) line.now) }
     {
         self.have_one_of(Family::Ipv4, line) || self.have_one_of(Family::Ipv6, line)
+    }
+}
+
+/// The address of this family that a string is.
+fn address_in(family: Family, text: &[u8]) -> Option<IpAddr>
+    requires { IsAscii text.now }
+    ensures { MatchOption result ((address : Address) → address_family address ≡ family → ¬ (IsIpText text.now address))
+        (λ address. (address_family address ≡ family) × IsIpText text.now address) }
+{
+    let Ok(text) = str::from_utf8(text) else {
+        return None;
+    };
+    match family {
+        Family::Ipv4 => match text.parse::<Ipv4Addr>() {
+            Ok(address) => Some(IpAddr::V4(address)),
+            Err(_) => None,
+        },
+        Family::Ipv6 => match text.parse::<Ipv6Addr>() {
+            Ok(address) => Some(IpAddr::V6(address)),
+            Err(_) => None,
+        },
+    }
+}
+
+/// The address of this family that a word is without one colon behind it.
+fn address_before_colon(family: Family, word: &[u8]) -> Option<IpAddr>
+    requires { IsAscii word.now }
+    ensures { MatchOption result ((text : List ℕ) → word.now ≡ text ++ colon ∷ [] → (address : Address) → address_family address ≡ family → ¬ (IsIpText text address))
+        (λ address. (text : List ℕ) × (word.now ≡ text ++ colon ∷ []) × (address_family address ≡ family) × IsIpText text address) }
+{
+    match word.split_last() {
+        Some((b':', front)) => address_in(family, front),
+        _ => None,
+    }
+}
+
+/// The address of this family that a word is, with or without punctuation behind it.
+fn word_address(family: Family, word: &[u8]) -> Option<IpAddr>
+    requires { IsAscii word.now }
+    ensures { MatchOption result ((address : Address) → ¬ (WordIs family word.now address)) (WordIs family word.now) }
+{
+    if is_plain(family, word) {
+        return None;
+    }
+    if let Some(address) = address_in(family, without_dots(word)) {
+        return Some(address);
+    }
+    address_before_colon(family, word)
+}
+
+/// The first address of IPv4 in a word that may have colons.
+fn first_ipv4(word: &[u8]) -> Option<IpAddr>
+    ensures { IsOfFirst (WordIs Ipv4) (words_of Ipv4 word.now) result }
+{
+    let mut rest = word;
+    loop {
+        let (part, behind) = rest.split_at(word_len(Family::Ipv4, rest));
+        if let Some(address) = word_address(Family::Ipv4, part) {
+            return Some(address);
+        }
+        let Some((_, next)) = behind.split_first() else {
+            return None;
+        };
+        rest = next;
+    }
+}
+
+/// The address that a word says which may have colons: that of IPv6 which it is, or the first of IPv4 in it.
+fn address_said(word: &[u8]) -> Option<IpAddr>
+    requires { IsAscii word.now }
+    ensures { MatchOption result ((address : Address) → ¬ (WordSays word.now address)) (WordSays word.now) }
+{
+    if let Some(address) = word_address(Family::Ipv6, word) {
+        return Some(address);
+    }
+    first_ipv4(word)
+}
+
+/// The first address anywhere in a line, as in a line of a log, by where it begins. What is an address is said at
+/// [`Sets::have_one`].
+pub fn first_address(line: &[u8]) -> Option<IpAddr>
+    ensures { IsFirstAddress line.now result }
+{
+    let mut rest = line;
+    loop {
+        let (word, behind) = rest.split_at(word_len(Family::Ipv6, rest));
+        if let Some(address) = address_said(word) {
+            return Some(address);
+        }
+        let Some((_, next)) = behind.split_first() else {
+            return None;
+        };
+        rest = next;
     }
 }

@@ -645,7 +645,6 @@ rows_of_fields() {
     run 2 '' $'--field: not with --any, see: netset help match\n' '' match --any --field 2 ten
     run 2 '' $'VALUE is missing, see: netset help match\n' '' match ten --field
     run 2 '' $'3: one argument too many, see: netset help match\n' '' match --field 2 --field 3 ten
-    run 2 '' $'--field: no such option, see: netset help look\n' '' look --field 2 owners
 }
 
 # The longest networks of addresses.
@@ -678,6 +677,52 @@ rows_of_look_ups() {
     run 2 '' $'-: one argument too many, see: netset help look\n' '' look owners - -
     run 2 '' $'-x: no such option, see: netset help look\n' '' look -x
     run 1 '' '' '' look owners -k
+}
+
+# The same of a field, of the first address of a line, and behind the lines.
+rows_of_kept_lines() {
+    local none=': the field is missing or empty' lab='192.0.2.64/26 lab'
+    # a field
+    run 0 $'10.2.0.1 10.0.0.0/8 ten\n192.0.2.8 -\n' '' 'a 10.2.0.1 b\n\n# x 10.0.0.1\n \t;\nb\t192.0.2.8' look --field 2 owners
+    run 0 $'10.2.0.1 10.0.0.0/8 ten\n' '' '10.2.0.1 # 11.0.0.1' look --field 1 owners
+    run 2 '' $'-:1: 10.2.0.1#: invalid IP address syntax\n' '10.2.0.1# x' look --field 1 owners
+    run 0 $'10.2.0.1 10.0.0.0/8 ten\n' '' '10.2.0.1# x' look owners
+    run 0 $'10.2.0.1 10.0.0.0/8 ten\n::1 ::/0 all\n' '' 'a,,\t10.2.0.1 ,x\r\n,,::1\r\n' look --field=3 --separator=, owners
+    run 0 $'10.2.0.1 10.0.0.0/8 ten\n' '' '##10.2.0.1#' look --field 3 --separator '#' owners
+    run 2 $'10.2.0.1 10.0.0.0/8 ten\n' "-:2$none"$'\n' 'a 10.2.0.1\na\na 10.2.0.1' look --field 2 owners
+    run 2 '' "-:1$none"$'\n' 'a,, 10.2.0.1' look --field 2 --separator , owners
+    run 2 $'10.2.0.1 10.0.0.0/8 ten\n' $'-:2: x: invalid IP address syntax\n' 'a 10.2.0.1\na x' look --field 2 owners
+    run 2 '' $'-:1: 10.0.0.0/8: invalid IP address syntax\n' 'a 10.0.0.0/8' look --field 2 owners
+    run 2 '' $'-:1: \\xff: not UTF-8\n' 'a,\xff' look --field 2 --separator , owners
+    # lines that are kept
+    run 0 $'2026-11-26,192.0.2.70,GET /,192.0.2.64/26,lab\n' '' "$lab" look --keep --field 2 --separator , - kept_csv
+    run 0 $'2026-11-26 192.0.2.70 GET / 192.0.2.64/26 lab\n' '' "$lab" look --keep --field 2 - kept_log
+    run 0 $'# a,b\n\n10.2.0.1,x ,10.0.0.0/8,ten\n192.0.2.8,\n192.0.2.7,,192.0.2.7\n' '' \
+        '# a,b\n\n10.2.0.1,x \n192.0.2.8,\n192.0.2.7,' look --keep --field 1 --separator , owners
+    run 0 $'10.2.0.1 # x 10.0.0.0/8 ten\n\t::1 ::/0 all\n' '' '10.2.0.1 # x\n\t::1' look --keep owners
+    run 0 $'10.2.0.1 a 10.0.0.0/8 ten\r\n\r\n192.0.2.8\r\n10.2.0.1\r  10.0.0.0/8 ten\n' '' \
+        '10.2.0.1 a\r\n\r\n192.0.2.8\r\n10.2.0.1\r \n' look --keep owners
+    run 1 $'192.0.2.8\n' '' '192.0.2.8' look --keep owners
+    run 1 '' '' '' look --keep owners
+    run 1 $'\n\n' '' '\n\n' look --keep owners
+    run 2 $'10.2.0.1 10.0.0.0/8 ten\n\n' $'-:3: x: invalid IP address syntax\n' '10.2.0.1\n\nx\n10.2.0.1' look --keep owners
+    run 2 $'10.2.0.1 10.0.0.0/8 ten\n' $'-:2: x: invalid IP address syntax\n' '10.2.0.1\nx' look --keep owners
+    run 2 $'a 10.2.0.1 10.0.0.0/8 ten\n' "-:2$none"$'\n' 'a 10.2.0.1\na' look --keep --field 2 owners
+    run 0 $'::1 x ::/0 all\n' '' '::1 x' look -k --keep owners
+    # the first address of a line
+    run 0 $'10.2.0.1 10.0.0.0/8 ten\n2001:db8::1 2001:db8::/32 \xff#\n192.0.2.8 -\n::1 ::/0 all\n::ffff:10.2.0.1 ::/0 all\n10.2.0.1 10.0.0.0/8 ten\n10.2.0.1 10.0.0.0/8 ten\n' '' \
+        'src=10.2.0.1:80 dst=192.0.2.8\nno [2001:db8::1]:22, 10.2.0.1\n# 192.0.2.8.\nx10.2.0.1 1.10.2.0.1 ::1/64\n::ffff:10.2.0.1\n1:10.2.0.1: 192.0.2.8\nip:10.2.0.1...\nnone\n' look --any owners
+    run 0 $'src=10.2.0.1:80 dst=192.0.2.8 10.0.0.0/8 ten\nnone\n\n192.0.2.8, 10.2.0.1\nfrom ::1 ::/0 all\r\n' '' \
+        'src=10.2.0.1:80 dst=192.0.2.8\nnone\n\n192.0.2.8, 10.2.0.1\nfrom ::1\r\n' look --any --keep owners
+    run 1 '' '' 'none\n10.2.0\n' look --any owners
+    # the arguments
+    run 2 '' $'0: no number of a field, from 1 on\n' '' look --field 0 missing missing
+    run 2 '' $'x: no number of a field, from 1 on\n' '' look -k --field x missing
+    run 2 '' $',,: more or less than one byte\n' '' look --field 1 --separator ,, missing
+    run 2 '' $'--separator: only with --field, see: netset help look\n' '' look --keep --separator , owners
+    run 2 '' $'--field: not with --any, see: netset help look\n' '' look --any --field 2 owners
+    run 2 '' $'-v: no such option, see: netset help look\n' '' look -v owners
+    run 2 '' $'--keep: no such option, see: netset help match\n' '' match --keep ten
 }
 
 # The lines of a file with an address of a list anywhere.
@@ -950,6 +995,10 @@ rows_where_a_stream_fails() {
     run 3 '' $'output failed\n' '10.2.0.1\nx' look owners
     run 2 '' $'-:1: x: invalid IP address syntax\n' 'x' look owners
     run 1 '' '' '' look owners
+    run 3 '' $'output failed\n' '10.2.0.1' look --keep owners
+    run 3 '' $'output failed\n' '11.0.0.1\nx' look --keep owners
+    run 2 '' $'-:1: x: invalid IP address syntax\n' 'x' look --keep owners
+    run 1 '' '' '' look --keep owners
     run 3 '' $'output failed\n' '' not --in ::/0 ten
     run 3 '' $'output failed\n' '' not --in ::/0 ten --format nft
     run 0 '' '' '' not --in 10.0.0.0/8 ten --format json
@@ -1186,6 +1235,7 @@ rows_of_stored_tables() {
     run 0 "$found" '' "$addresses" look owners
     run 0 "$found" '' "$addresses" look compiled
     run 0 "$found" '' "$addresses" look --host-bits compiled -
+    run 0 $'a,10.0.0.1,10.0.0.0/8,ten\nb,192.0.2.8\n' '' 'a,10.0.0.1\nb,192.0.2.8\n' look --keep --field 2 --separator , compiled
     run 1 $'192.0.2.8 -\n' '' '192.0.2.8\n' look compiled -
     run 1 '' '' '\n;' look compiled
     run 0 $'10.0.0.1 10.0.0.0/8 ten\n' '' "$(printed compiled)" look - address
@@ -1365,6 +1415,8 @@ rows_without_memory() {
     refuse '10.0.0.1\n11.0.0.1\n2001:db8::1' look owners
     refuse '10.0.0.0/8 x\n10.0.0.0/7\n2001:db8::/32 y' compile - compiled
     refuse '10.0.0.1\n11.0.0.1\n2001:db8::1' look one
+    refuse 'a,10.0.0.1\n\nb,::1' look --keep --field 2 --separator , owners
+    refuse 'at 10.0.0.1\nat 11.0.0.1' look --keep --any one
     refuse '10.0.0.1\n11.0.0.1' match one
     refuse 'a,10.0.0.1\nb,11.0.0.1' match --field 2 --separator , one
 }
@@ -1387,6 +1439,8 @@ printf '10.0.0.1\n' >"$room/address"
 printf '10.0.0.0\n' >"$room/zero"
 printf '10.0.0.1 a\n11.0.0.1 b\n10.2.0.0/16 c\n' >"$room/seen"
 printf ' a b 10.0.0.1\nc\td  11.0.0.1 e\nf g 10.2.0.0/16 h\n' >"$room/spaced"
+printf '2026-11-26,192.0.2.70,GET /\n' >"$room/kept_csv"
+printf '2026-11-26 192.0.2.70 GET /\n' >"$room/kept_log"
 printf 'a,10.0.0.1,b\nc,11.0.0.1\nd,10.2.0.0/16,\n' >"$room/commas"
 printf '12.0.0.0/8\n\n10.0.0.9\n# 10.0.0.1\n10.0.0.8' >"$room/again"
 printf '10.0.0.1/8\n' >"$room/"$'two\nlines'
@@ -1413,6 +1467,7 @@ for build in netset netset.by-rattle; do
     rows_of_several_files
     rows_of_fields
     rows_of_look_ups
+    rows_of_kept_lines
     rows_of_compiled_tables
     rows_of_outputs
     rows_of_a_full_disk

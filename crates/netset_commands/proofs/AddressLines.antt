@@ -14,7 +14,7 @@ use Rattle.cidr_io.proofs.Collected.{none_collected}
 use Rattle.cidr_lists.specs.Lists.{Text}
 use Rattle.cidr_lists.specs.declared.entries.Entry.{Entry}
 use Rattle.netset_commands.specs.Commands.{Which, read_files}
-use Rattle.netset_commands.specs.LookUps.{verdict_of}
+use Rattle.netset_commands.specs.Look.{verdict_of}
 use Rattle.netset_commands.specs.Program.{AnswersRequest, IsBadArgument, by_output}
 use Rattle.netset_commands.specs.Unchecked.{AreToldEntries}
 use Rattle.netset_commands.specs.Which.{IsAnyTold, IsNoAddressArgument, has_address, which_line, which_text}

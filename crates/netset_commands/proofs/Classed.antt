@@ -6,24 +6,21 @@ use Rattle.cidr.specs.declared.addr.ip.IpAddr.{IpAddr}
 use Rattle.cidr_io.specs.Collecting.{Collects}
 use Rattle.cidr_io.specs.Writing.{State, Answered, Part}
 use Rattle.cidr_io.specs.declared.sink.OutputFailed.{OutputFailed}
-use Rattle.cidr_lists.specs.Fields.{IsBadLine}
 use Rattle.cidr_lists.specs.Lists.{Text, lines_of}
-use Rattle.cidr_lists.specs.LookUps.{LineLooks, LookUp, is_found, look_line}
+use Rattle.cidr_lists.specs.LookUps.{LineLooks, is_found, look_line}
+use Rattle.cidr_lists.specs.declared.fields.Asked.TheVariants.{First}
 use Rattle.cidr_lists.specs.Classes.{IsClassLine, registry}
 use Rattle.netset_commands.specs.Class.{IsClass, IsNoAddressText}
 use Rattle.netset_commands.specs.Commands.{Class}
-use Rattle.netset_commands.specs.Look.{TellsFound}
-use Rattle.netset_commands.specs.LookUps.{AreFirstSaid, EndsReading, LooksAll, LooksUp, unread, verdict_of}
+use Rattle.netset_commands.specs.Look.{verdict_of}
+use Rattle.netset_commands.specs.LookUps.{AreFirstSaid, EndsReading, LooksAll, LooksUp, unread}
 use Rattle.netset_commands.specs.Program.{AnswersRequest, by_output}
-use Rattle.netset_commands.specs.Streaming.{IsCut, IsOfFile, IsWritten}
 use Rattle.netset_commands.specs.declared.commands.look.LookError.TheVariants.{Reading, Output}
 use Rattle.netset_commands.specs.declared.errors.CommandError.{CommandError}
 use Rattle.netset_commands.specs.declared.errors.CommandError.TheVariants as error
 use Rattle.netset_commands.specs.declared.errors.ReadError.{ReadError}
-use Rattle.netset_commands.specs.declared.errors.ReadError.TheVariants.{Line, Input, NoMemory}
-use Rattle.netset_commands.specs.declared.errors.Reason.TheVariants.{Unknown}
 use Rattle.netset_commands.specs.declared.output.answers.Verdict.{Verdict}
-use Rattle.netset_commands.proofs.Passed.{cut_before, cut_behind}
+use Rattle.netset_commands.proofs.Looked.{all_as, ends_as, gone, lost_as, of_file}
 use Rattle.netset_commands.proofs.ReadBy.{bytes_read}
 
 -- ---- as a look-up
@@ -54,11 +51,7 @@ class_told contents operand address line found s t w r reads is written by =
 
 module _ (contents : List ℕ → Option Text) (file : Bor (List ℕ)) (left : Option (List ℕ)) (s t : State) (none : IsNoAddressText file.now)
     (opens : (text : Text) → contents file.now ≡ Some text → left ≡ Some text.bytes) where
-  tells : (looks : List (Option LookUp)) (found : Bool) → found ≡ list_any is_found looks → TellsFound looks (verdict_of found)
-  tells looks true e = sym e
-  tells looks false e = sym e
-
-  pub classes_told : (found : Bool) → LooksAll registry left s t (Ok found) → AnswersRequest contents (Class file.now) s t (Ok (verdict_of found))
+  pub classes_told : (found : Bool) → LooksAll First registry left s t (Ok found) → AnswersRequest contents (Class file.now) s t (Ok (verdict_of found))
   classes_told found (looks, written, hit, says) = inl (inr (
     flat_map look_line looks,
     verdict_of found,
@@ -66,45 +59,29 @@ module _ (contents : List ℕ → Option Text) (file : Bor (List ℕ)) (left : O
     inr (
       none,
       λ text at.
-          let each = bytes_read (λ bytes. AllZip (LineLooks registry) (lines_of bytes) looks) left text.bytes (opens text at) says in
-          (looks, each, refl, tells looks found hit),
+          let each = bytes_read (λ bytes. AllZip (LineLooks First registry) (lines_of bytes) looks) left text.bytes (opens text at) says in
+          (found, rw hit (all_as First registry text.bytes looks each), refl),
     ),
     written,
     refl,
   ))
 
-  of_file : (e : ReadError) → IsOfFile file.now (unread file e)
-  of_file (Line number e) = refl
-  of_file Input = refl
-  of_file NoMemory = tt
-
-  ends_as : (text : List ℕ) (looks : List (Option LookUp)) (e : ReadError) → EndsReading registry text looks e
-      → IsCut (AllZip (LineLooks registry)) IsBadLine (lines_of text) looks (unread file e)
-  ends_as text looks (Line number e) h = cut_before (LineLooks registry) IsBadLine text looks number e file h
-  ends_as text looks Input h = cut_behind (LineLooks registry) IsBadLine text looks (error.Input file Unknown) (λ _ _. tt) h
-  ends_as text looks NoMemory h = cut_behind (LineLooks registry) IsBadLine text looks error.NoMemory (λ _ _. tt) h
-
-  gone : (e : ReadError) (text : List ℕ) → Answered s t text (Ok tt) → IsWritten s t text (unread file e)
-  gone (Line number e) text h = h
-  gone Input text h = h
-  gone NoMemory text h = h
-
-  pub classes_cut : (e : ReadError) → LooksAll registry left s t (Err (Reading e)) → AnswersRequest contents (Class file.now) s t (Err (unread file e))
+  pub classes_cut : (e : ReadError) → LooksAll First registry left s t (Err (Reading e)) → AnswersRequest contents (Class file.now) s t (Err (unread file e))
   classes_cut e (looks, written, ends) = inr (
     unread file e,
     refl,
-    of_file e,
+    of_file file e,
     flat_map look_line looks,
-    gone e (flat_map look_line looks) written,
+    gone file s t e (flat_map look_line looks) written,
     (
       none,
       λ text at.
-          let ends_here = bytes_read (λ bytes. EndsReading registry bytes looks e) left text.bytes (opens text at) ends in
-          (looks, ends_as text.bytes looks e ends_here, refl),
+          let ends_here = bytes_read (λ bytes. EndsReading First registry bytes looks e) left text.bytes (opens text at) ends in
+          (list_any is_found looks, ends_as First registry text.bytes looks file e ends_here),
     ),
   )
 
-  pub classes_lost : LooksAll registry left s t (Err Output) → AnswersRequest contents (Class file.now) s t (Err error.Output)
+  pub classes_lost : LooksAll First registry left s t (Err Output) → AnswersRequest contents (Class file.now) s t (Err error.Output)
   classes_lost (looks, f, written, ends) = inr (
     error.Output,
     refl,
@@ -114,7 +91,7 @@ module _ (contents : List ℕ → Option Text) (file : Bor (List ℕ)) (left : O
     (
       none,
       λ text at.
-          let first_lines = bytes_read (λ bytes. AreFirstSaid (LineLooks registry) bytes looks) left text.bytes (opens text at) ends in
-          (looks, cut_behind (LineLooks registry) IsBadLine text.bytes looks error.Output (λ _ _. tt) first_lines, refl),
+          let first_lines = bytes_read (λ bytes. AreFirstSaid (LineLooks First registry) bytes looks) left text.bytes (opens text at) ends in
+          (list_any is_found looks, lost_as First registry text.bytes looks first_lines),
     ),
   )

@@ -34,6 +34,7 @@ pub mod Given
 pub mod Listed
 pub mod Asked
 pub mod Looked
+pub mod Kept
 pub mod Classed
 pub mod Telling
 pub mod Loading

@@ -20,16 +20,24 @@ use Rattle.cidr_table.specs.model.Prefixes.{IsLookedUp}
 use Rattle.cidr_io.specs.Collecting.{Collects}
 use Rattle.netset_commands.specs.Commands.{Look}
 use Rattle.cidr_lists.specs.Lists.{Text, lines_of}
-use Rattle.cidr_lists.specs.Fields.{IsBadLine}
-use Rattle.cidr_lists.specs.LookUps.{LineLooks, LookUp, found_line, is_found, look_line, printed_row}
-use Rattle.netset_commands.specs.Look.{TellsFound}
-use Rattle.netset_commands.specs.LookUps.{AreFirstSaid, AllFound, AskLooks, AsksLines, EndsReading, IsFoundOf, LooksAll, LooksEach, LooksLines, LooksOne, LooksUp, PushesFound, answer_of, answer_row, unread, verdict_of}
+use Rattle.cidr_lists.specs.LookUps.{IsBadAsked, LineLooks, LinesTell, LookUp, found_line, is_found, lines_by, look_line, printed_row}
+use Rattle.cidr_lists.specs.Lines.{lines_in}
+use Rattle.cidr_lists.specs.declared.fields.Asked.{Asked}
+use Rattle.netset_commands.specs.Gathering.{IsNotReadFurther}
+use Rattle.netset_commands.specs.KeptLines.{IsNetworkOf, KeepsText, TellsFile}
+use Rattle.netset_commands.specs.Look.{IsLook, IsLookCut, verdict_of}
+use Rattle.netset_commands.specs.Matching.{has}
+use Rattle.netset_commands.specs.Picking.{Choice, IsAsked}
+use Rattle.netset_commands.specs.LookUps.{AreFirstSaid, AllFound, AskLooks, AsksLines, EndsReading, IsFoundOf, LooksAll, LooksEach, LooksLines, LooksOne, LooksUp, PushesFound, answer_of, answer_row, unread}
 use Rattle.cidr_lists.specs.Tables.{resolved, value_at}
 use Rattle.netset_commands.specs.Compiled.{SaysTable}
-use Rattle.netset_commands.specs.Program.{AnswersRequest}
+use Rattle.netset_commands.specs.Program.{AnswersRequest, IsInputError}
+use Rattle.netset_commands.specs.Stored.{IsNoTable}
 use Rattle.netset_commands.specs.Reading.{IsStopped}
 use Rattle.netset_commands.specs.Streaming.{IsCut, IsOfFile, IsWritten}
+use Rattle.netset_commands.specs.declared.errors.CommandError.{CommandError}
 use Rattle.netset_commands.specs.declared.errors.CommandError.TheVariants as error
+use Rattle.netset_commands.specs.declared.output.answers.Verdict.{Verdict}
 use Rattle.netset_commands.specs.declared.errors.Reason.TheVariants.{Unknown}
 use Rattle.netset_commands.specs.declared.errors.ReadError.{ReadError}
 use Rattle.netset_commands.specs.declared.input.table.Answer.{Answer}
@@ -51,7 +59,7 @@ abbrev unwritten : OutputFailed → Result Bool OutputFailed
 unwritten e = Err e
 
 -- ---- one address
-same_some : {X Y : Type 0} (f : X → Y) (o : Option X) → is_some (option_map f o) ≡ is_some o
+pub same_some : {X Y : Type 0} (f : X → Y) (o : Option X) → is_some (option_map f o) ≡ is_some o
 same_some f None = refl
 same_some f (Some x) = refl
 
@@ -111,6 +119,17 @@ looks_up_row table address family asked found text s t block rest r of bits look
     ∙ printed_found (address_family address) found)
     (subst (λ (k : List ℕ). PushesFound k (option_map (λ (row : List Bool × Bor (List ℕ)). (plain_text family row.0, row.1.now)) found) s t block rest r) shows pushed)
 
+pub network_of_row : (table : Family → List (List Bool × List ℕ)) (address : IpAddr) (family : Family) (asked : List Bool) (found : Option (List Bool × Bor (List ℕ)))
+    → address_family address ≡ family → asked ≡ plain_bits address → IsLookedUp (λ (p : List Bool). p) asked (table family) (option_map found_row found)
+    → IsNetworkOf table address (option_map (λ (row : List Bool × Bor (List ℕ)). (plain_text family row.0, row.1.now)) found)
+network_of_row table address family asked found of bits looked = (
+  option_map found_row found,
+  subst (λ (k : List Bool). IsLookedUp (λ (p : List Bool). p) k (table (address_family address)) (option_map found_row found)) bits
+      (subst (λ (k : Family). IsLookedUp (λ (p : List Bool). p) asked (table k) (option_map found_row found)) (sym of) looked),
+  ap (λ (k : Family). option_map (λ (row : List Bool × Bor (List ℕ)). (plain_text k row.0, row.1.now)) found) (sym of)
+      ∙ printed_found (address_family address) found,
+)
+
 -- ---- the line of an address
 pub row_short : (a n v : List ℕ) (test : Bool) → test ≡ (length v == 0) → test ≡ true → found_line a (Some (n, v)) ≡ a ++ (codes " " ++ (n ++ codes "\n"))
 row_short a n [] test is holds = refl
@@ -123,23 +142,23 @@ row_long a n (b ∷ v) test is fails = refl
 
 -- ---- one line after the other
 -- so far
-pub record Looking (table : Family → List (List Bool × List ℕ)) (contents left : Option (List ℕ)) (s t : State) (block rest : List ℕ) (found : Bool) (number : ℕ) : Type 0 where
+pub record Looking (place : Asked) (table : Family → List (List Bool × List ℕ)) (contents left : Option (List ℕ)) (s t : State) (block rest : List ℕ) (found : Bool) (number : ℕ) : Type 0 where
   pub looks : List (Option LookUp)
   pub collected : Collects s t block rest (flat_map look_line looks) (Ok tt)
   pub hit : found ≡ list_any is_found looks
-  pub passed : IfSome contents (λ text. Passed (LineLooks table) text left looks number)
+  pub passed : IfSome contents (λ text. Passed (LineLooks place table) text left looks number)
 
-none_read : (table : Family → List (List Bool × List ℕ)) (contents : Option (List ℕ)) → IfSome contents (λ text. Passed (LineLooks table) text contents [] 1)
-none_read table None = tt
-none_read table (Some text) = none_passed (LineLooks table) text
+none_read : (place : Asked) (table : Family → List (List Bool × List ℕ)) (contents : Option (List ℕ)) → IfSome contents (λ text. Passed (LineLooks place table) text contents [] 1)
+none_read place table None = tt
+none_read place table (Some text) = none_passed (LineLooks place table) text
 
-pub looking_started : (table : Family → List (List Bool × List ℕ)) (contents : Option (List ℕ)) (s : State) (block : List ℕ) → Looking table contents contents s s block block false 1
-looking_started table contents s block = record { looks = []; collected = none_collected s block; hit = refl; passed = none_read table contents }
+pub looking_started : (place : Asked) (table : Family → List (List Bool × List ℕ)) (contents : Option (List ℕ)) (s : State) (block : List ℕ) → Looking place table contents contents s s block block false 1
+looking_started place table contents s block = record { looks = []; collected = none_collected s block; hit = refl; passed = none_read place table contents }
 
 -- what was collected is written before more is read
-pub caught_up : (table : Family → List (List Bool × List ℕ)) (contents left : Option (List ℕ)) (s t u : State) (b c d : List ℕ) (found : Bool) (number : ℕ)
-    → Looking table contents left s t b c found number → Collects t u c d [] (Ok tt) → Looking table contents left s u b d found number
-caught_up table contents left s t u b c d found number l more = record {
+pub caught_up : (place : Asked) (table : Family → List (List Bool × List ℕ)) (contents left : Option (List ℕ)) (s t u : State) (b c d : List ℕ) (found : Bool) (number : ℕ)
+    → Looking place table contents left s t b c found number → Collects t u c d [] (Ok tt) → Looking place table contents left s u b d found number
+caught_up place table contents left s t u b c d found number l more = record {
   looks = l.looks;
   collected = subst (λ (k : List ℕ). Collects s u b d k (Ok tt)) (append-nil (flat_map look_line l.looks))
       (collected_more s t u b c d (flat_map look_line l.looks) [] (Ok tt) l.collected more);
@@ -259,75 +278,75 @@ module _ (table : Family → List (List Bool × List ℕ)) (found : List (Option
   )
 
 -- ---- lines
-pub looked_on : (table : Family → List (List Bool × List ℕ)) (contents left next : Option (List ℕ)) (s t u : State) (b c d : List ℕ) (found hit any : Bool) (number after : ℕ)
-    (asked : List (Option IpAddr)) → Looking table contents left s t b c found number → AsksLines number left next asked (Ok (Some after))
-    → LooksEach table asked t u c d (Ok hit) → any ≡ (found || hit) → Looking table contents next s u b d any after
-looked_on table contents left next s t u b c d found hit any number after asked l asks (looks, looked, collects, tells) is = record {
+pub looked_on : (place : Asked) (table : Family → List (List Bool × List ℕ)) (contents left next : Option (List ℕ)) (s t u : State) (b c d : List ℕ) (found hit any : Bool) (number after : ℕ)
+    (asked : List (Option IpAddr)) → Looking place table contents left s t b c found number → AsksLines place number left next asked (Ok (Some after))
+    → LooksEach table asked t u c d (Ok hit) → any ≡ (found || hit) → Looking place table contents next s u b d any after
+looked_on place table contents left next s t u b c d found hit any number after asked l asks (looks, looked, collects, tells) is = record {
   looks = l.looks ++ looks;
   collected = group_collected s t u b c d l.looks looks (Ok tt) l.collected collects;
   hit = hits_more l.looks looks hit found any l.hit tells is;
-  passed = group_passed table contents left next l.looks looks asked number after asks.0 l.passed asks.1 looked;
+  passed = group_passed place table contents left next l.looks looks asked number after asks.0 l.passed asks.1 looked;
 }
 
-pub looked_at_all : (table : Family → List (List Bool × List ℕ)) (contents left next : Option (List ℕ)) (s t u : State) (b c d : List ℕ) (found hit any : Bool) (number : ℕ)
-    (asked : List (Option IpAddr)) → Looking table contents left s t b c found number → AsksLines number left next asked (Ok None)
-    → LooksEach table asked t u c d (Ok hit) → any ≡ (found || hit) → LooksLines table contents s u b d (Ok any)
-looked_at_all table contents left next s t u b c d found hit any number asked l asks (looks, looked, collects, tells) is = (
+pub looked_at_all : (place : Asked) (table : Family → List (List Bool × List ℕ)) (contents left next : Option (List ℕ)) (s t u : State) (b c d : List ℕ) (found hit any : Bool) (number : ℕ)
+    (asked : List (Option IpAddr)) → Looking place table contents left s t b c found number → AsksLines place number left next asked (Ok None)
+    → LooksEach table asked t u c d (Ok hit) → any ≡ (found || hit) → LooksLines place table contents s u b d (Ok any)
+looked_at_all place table contents left next s t u b c d found hit any number asked l asks (looks, looked, collects, tells) is = (
   l.looks ++ looks,
   group_collected s t u b c d l.looks looks (Ok tt) l.collected collects,
   hits_more l.looks looks hit found any l.hit tells is,
-  group_all table contents left l.looks looks asked number l.passed asks looked,
+  group_all place table contents left l.looks looks asked number l.passed asks looked,
 )
 
-pub looking_ended : (table : Family → List (List Bool × List ℕ)) (contents left next : Option (List ℕ)) (s t u : State) (b c d : List ℕ) (found hit : Bool) (number : ℕ)
-    (asked : List (Option IpAddr)) (e : ReadError) → Looking table contents left s t b c found number → AsksLines number left next asked (Err e)
-    → LooksEach table asked t u c d (Ok hit) → LooksLines table contents s u b d (Err (Reading e))
-looking_ended table contents left next s t u b c d found hit number asked e l asks (looks, looked, collects, tells) = (
+pub looking_ended : (place : Asked) (table : Family → List (List Bool × List ℕ)) (contents left next : Option (List ℕ)) (s t u : State) (b c d : List ℕ) (found hit : Bool) (number : ℕ)
+    (asked : List (Option IpAddr)) (e : ReadError) → Looking place table contents left s t b c found number → AsksLines place number left next asked (Err e)
+    → LooksEach table asked t u c d (Ok hit) → LooksLines place table contents s u b d (Err (Reading e))
+looking_ended place table contents left next s t u b c d found hit number asked e l asks (looks, looked, collects, tells) = (
   l.looks ++ looks,
   group_collected s t u b c d l.looks looks (Ok tt) l.collected collects,
-  group_ended table contents left l.looks looks asked number e l.passed asks.0 asks.1 looked,
+  group_ended place table contents left l.looks looks asked number e l.passed asks.0 asks.1 looked,
 )
 
 -- a line of a group was lost
-pub looking_lost : (table : Family → List (List Bool × List ℕ)) (contents left next : Option (List ℕ)) (s t u : State) (b c d : List ℕ) (found : Bool) (number : ℕ)
+pub looking_lost : (place : Asked) (table : Family → List (List Bool × List ℕ)) (contents left next : Option (List ℕ)) (s t u : State) (b c d : List ℕ) (found : Bool) (number : ℕ)
     (asked : List (Option IpAddr)) (read : Result (Option ℕ) ReadError) (f : OutputFailed) (r : Result Bool LookError) → r ≡ Err Output
-    → Looking table contents left s t b c found number → AsksLines number left next asked read → LooksEach table asked t u c d (Err f) → LooksLines table contents s u b d r
-looking_lost table contents left next s t u b c d found number asked read f r is l asks (first, behind, cut, looks, looked, part) =
-    subst (LooksLines table contents s u b d) (sym is) (
+    → Looking place table contents left s t b c found number → AsksLines place number left next asked read → LooksEach table asked t u c d (Err f) → LooksLines place table contents s u b d r
+looking_lost place table contents left next s t u b c d found number asked read f r is l asks (first, behind, cut, looks, looked, part) =
+    subst (LooksLines place table contents s u b d) (sym is) (
       l.looks ++ looks,
       group_collected s t u b c d l.looks looks (Err f) l.collected part,
-      group_first table contents left l.looks looks asked first behind number l.passed (first_asked number left next asked read asks) cut looked,
+      group_first place table contents left l.looks looks asked first behind number l.passed (first_asked place number left next asked read asks) cut looked,
     )
 
 -- ---- where the lines end early
-first_read : (table : Family → List (List Bool × List ℕ)) (contents left : Option (List ℕ)) (looks : List (Option LookUp)) (number : ℕ)
-    → IfSome contents (λ text. Passed (LineLooks table) text left looks number) → IfSome contents (λ text. AreFirstSaid (LineLooks table) text looks)
-first_read table None left looks number p = tt
-first_read table (Some text) left looks number p = first_passed (LineLooks table) text left looks number p
+first_read : (place : Asked) (table : Family → List (List Bool × List ℕ)) (contents left : Option (List ℕ)) (looks : List (Option LookUp)) (number : ℕ)
+    → IfSome contents (λ text. Passed (LineLooks place table) text left looks number) → IfSome contents (λ text. AreFirstSaid (LineLooks place table) text looks)
+first_read place table None left looks number p = tt
+first_read place table (Some text) left looks number p = first_passed (LineLooks place table) text left looks number p
 
-stopped_read : (table : Family → List (List Bool × List ℕ)) (contents : Option (List ℕ)) (looks : List (Option LookUp)) (e : ReadError) → IsStopped e
-    → IfSome contents (λ text. AreFirstSaid (LineLooks table) text looks) → IfSome contents (λ text. EndsReading table text looks e)
-stopped_read table None looks e stopped p = tt
-stopped_read table (Some text) looks (Line number e) stopped p = absurd stopped
-stopped_read table (Some text) looks Input stopped p = p
-stopped_read table (Some text) looks NoMemory stopped p = p
+stopped_read : (place : Asked) (table : Family → List (List Bool × List ℕ)) (contents : Option (List ℕ)) (looks : List (Option LookUp)) (e : ReadError) → IsStopped e
+    → IfSome contents (λ text. AreFirstSaid (LineLooks place table) text looks) → IfSome contents (λ text. EndsReading place table text looks e)
+stopped_read place table None looks e stopped p = tt
+stopped_read place table (Some text) looks (Line number e) stopped p = absurd stopped
+stopped_read place table (Some text) looks Input stopped p = p
+stopped_read place table (Some text) looks NoMemory stopped p = p
 
 -- what was collected is not all written before more is read
-pub looking_unwritten : (table : Family → List (List Bool × List ℕ)) (contents left : Option (List ℕ)) (s t u : State) (b c d : List ℕ) (found : Bool) (number : ℕ)
-    (r : Result Bool LookError) → r ≡ Err Output → Looking table contents left s t b c found number → Part t u (c ++ []) → LooksLines table contents s u b d r
-looking_unwritten table contents left s t u b c d found number r is l part =
-    subst (LooksLines table contents s u b d) (sym is) (
+pub looking_unwritten : (place : Asked) (table : Family → List (List Bool × List ℕ)) (contents left : Option (List ℕ)) (s t u : State) (b c d : List ℕ) (found : Bool) (number : ℕ)
+    (r : Result Bool LookError) → r ≡ Err Output → Looking place table contents left s t b c found number → Part t u (c ++ []) → LooksLines place table contents s u b d r
+looking_unwritten place table contents left s t u b c d found number r is l part =
+    subst (LooksLines place table contents s u b d) (sym is) (
       l.looks,
       subst (λ (k : List ℕ). Part s u (b ++ k)) (append-nil (flat_map look_line l.looks))
           (collected_more s t u b c d (flat_map look_line l.looks) [] (Err (record {})) l.collected part),
-      first_read table contents left l.looks number l.passed,
+      first_read place table contents left l.looks number l.passed,
     )
 
-pub looking_stopped : (table : Family → List (List Bool × List ℕ)) (contents left : Option (List ℕ)) (s t : State) (b c : List ℕ) (found : Bool) (number : ℕ)
-    (r : Result Bool LookError) (e : ReadError) → r ≡ Err (Reading e) → IsStopped e → Looking table contents left s t b c found number → LooksLines table contents s t b c r
-looking_stopped table contents left s t b c found number r e is stopped l =
-    subst (LooksLines table contents s t b c) (sym is)
-    (l.looks, l.collected, stopped_read table contents l.looks e stopped (first_read table contents left l.looks number l.passed))
+pub looking_stopped : (place : Asked) (table : Family → List (List Bool × List ℕ)) (contents left : Option (List ℕ)) (s t : State) (b c : List ℕ) (found : Bool) (number : ℕ)
+    (r : Result Bool LookError) (e : ReadError) → r ≡ Err (Reading e) → IsStopped e → Looking place table contents left s t b c found number → LooksLines place table contents s t b c r
+looking_stopped place table contents left s t b c found number r e is stopped l =
+    subst (LooksLines place table contents s t b c) (sym is)
+    (l.looks, l.collected, stopped_read place table contents l.looks e stopped (first_read place table contents left l.looks number l.passed))
 
 -- ---- all lines written
 -- what was collected behind nothing, and then written
@@ -337,115 +356,208 @@ written_rest s t u block rest text r fine none (written, whole, split) wrote =
     let all : text ≡ written ++ rest = ap (λ (k : List ℕ). k ++ text) (sym none) ∙ split in
     answered s u text r fine (subst (λ (k : List ℕ). Writes s u k r) (sym all) (then_writes s t u written rest r whole wrote))
 
-pub looked_all : (table : Family → List (List Bool × List ℕ)) (contents : Option (List ℕ)) (s t u : State) (block rest : List ℕ) (found : Bool) → s.failed ≡ false → block ≡ []
-    → LooksLines table contents s t block rest (Ok found) → Writes t u rest (Ok tt) → LooksAll table contents s u (Ok found)
-looked_all table contents s t u block rest found fine none (looks, collected, hit, says) wrote =
+pub looked_all : (place : Asked) (table : Family → List (List Bool × List ℕ)) (contents : Option (List ℕ)) (s t u : State) (block rest : List ℕ) (found : Bool) → s.failed ≡ false → block ≡ []
+    → LooksLines place table contents s t block rest (Ok found) → Writes t u rest (Ok tt) → LooksAll place table contents s u (Ok found)
+looked_all place table contents s t u block rest found fine none (looks, collected, hit, says) wrote =
     (looks, written_rest s t u block rest (flat_map look_line looks) (Ok tt) fine none collected wrote, hit, says)
 
-pub looked_part : (table : Family → List (List Bool × List ℕ)) (contents : Option (List ℕ)) (s t u : State) (block rest : List ℕ) (e : ReadError) → s.failed ≡ false → block ≡ []
-    → LooksLines table contents s t block rest (Err (Reading e)) → Writes t u rest (Ok tt) → LooksAll table contents s u (Err (Reading e))
-looked_part table contents s t u block rest e fine none (looks, collected, ends) wrote =
+pub looked_part : (place : Asked) (table : Family → List (List Bool × List ℕ)) (contents : Option (List ℕ)) (s t u : State) (block rest : List ℕ) (e : ReadError) → s.failed ≡ false → block ≡ []
+    → LooksLines place table contents s t block rest (Err (Reading e)) → Writes t u rest (Ok tt) → LooksAll place table contents s u (Err (Reading e))
+looked_part place table contents s t u block rest e fine none (looks, collected, ends) wrote =
     (looks, written_rest s t u block rest (flat_map look_line looks) (Ok tt) fine none collected wrote, ends)
 
-pub looked_lost : (table : Family → List (List Bool × List ℕ)) (contents : Option (List ℕ)) (s t : State) (block rest : List ℕ) → s.failed ≡ false → block ≡ []
-    → LooksLines table contents s t block rest (Err Output) → LooksAll table contents s t (Err Output)
-looked_lost table contents s t block rest fine none (looks, part, ends) = (
+pub looked_lost : (place : Asked) (table : Family → List (List Bool × List ℕ)) (contents : Option (List ℕ)) (s t : State) (block rest : List ℕ) → s.failed ≡ false → block ≡ []
+    → LooksLines place table contents s t block rest (Err Output) → LooksAll place table contents s t (Err Output)
+looked_lost place table contents s t block rest fine none (looks, part, ends) = (
   looks,
   record {},
   answered s t (flat_map look_line looks) (Err (record {})) fine (subst (λ (k : List ℕ). Part s t (k ++ flat_map look_line looks)) none part),
   ends,
 )
 
-all_told : (table : Family → List (List Bool × List ℕ)) (contents : Option (List ℕ)) (looks : List (Option LookUp)) → IfSome contents (λ text. AllZip (LineLooks table) (lines_of text) looks)
-    → IfSome contents (λ text. AreFirstSaid (LineLooks table) text looks)
-all_told table None looks h = tt
-all_told table (Some text) looks h = all_first (LineLooks table) text looks h
+all_told : (place : Asked) (table : Family → List (List Bool × List ℕ)) (contents : Option (List ℕ)) (looks : List (Option LookUp)) → IfSome contents (λ text. AllZip (LineLooks place table) (lines_of text) looks)
+    → IfSome contents (λ text. AreFirstSaid (LineLooks place table) text looks)
+all_told place table None looks h = tt
+all_told place table (Some text) looks h = all_first (LineLooks place table) text looks h
 
-part_told : (table : Family → List (List Bool × List ℕ)) (contents : Option (List ℕ)) (looks : List (Option LookUp)) (e : ReadError) → IfSome contents (λ text. EndsReading table text looks e)
-    → IfSome contents (λ text. AreFirstSaid (LineLooks table) text looks)
-part_told table None looks e h = tt
-part_told table (Some text) looks (Line number e) h = record { before = h.before; after = h.line ∷ h.after; lines = h.lines; fine = h.fine }
-part_told table (Some text) looks Input h = h
-part_told table (Some text) looks NoMemory h = h
+part_told : (place : Asked) (table : Family → List (List Bool × List ℕ)) (contents : Option (List ℕ)) (looks : List (Option LookUp)) (e : ReadError) → IfSome contents (λ text. EndsReading place table text looks e)
+    → IfSome contents (λ text. AreFirstSaid (LineLooks place table) text looks)
+part_told place table None looks e h = tt
+part_told place table (Some text) looks (Line number e) h = record { before = h.before; after = h.line ∷ h.after; lines = h.lines; fine = h.fine }
+part_told place table (Some text) looks Input h = h
+part_told place table (Some text) looks NoMemory h = h
 
 -- the rest was not written
-pub all_unwritten : (table : Family → List (List Bool × List ℕ)) (contents : Option (List ℕ)) (s t u : State) (block rest : List ℕ) (found : Bool) (f : OutputFailed)
+pub all_unwritten : (place : Asked) (table : Family → List (List Bool × List ℕ)) (contents : Option (List ℕ)) (s t u : State) (block rest : List ℕ) (found : Bool) (f : OutputFailed)
     (r : Result Bool LookError) → r ≡ Err Output → s.failed ≡ false → block ≡ []
-    → LooksLines table contents s t block rest (Ok found) → Writes t u rest (Err f) → LooksAll table contents s u r
-all_unwritten table contents s t u block rest found f r is fine none (looks, collected, hit, says) wrote =
-    subst (LooksAll table contents s u) (sym is)
-    (looks, f, written_rest s t u block rest (flat_map look_line looks) (Err f) fine none collected wrote, all_told table contents looks says)
+    → LooksLines place table contents s t block rest (Ok found) → Writes t u rest (Err f) → LooksAll place table contents s u r
+all_unwritten place table contents s t u block rest found f r is fine none (looks, collected, hit, says) wrote =
+    subst (LooksAll place table contents s u) (sym is)
+    (looks, f, written_rest s t u block rest (flat_map look_line looks) (Err f) fine none collected wrote, all_told place table contents looks says)
 
-pub part_unwritten : (table : Family → List (List Bool × List ℕ)) (contents : Option (List ℕ)) (s t u : State) (block rest : List ℕ) (e : ReadError) (f : OutputFailed)
+pub part_unwritten : (place : Asked) (table : Family → List (List Bool × List ℕ)) (contents : Option (List ℕ)) (s t u : State) (block rest : List ℕ) (e : ReadError) (f : OutputFailed)
     (r : Result Bool LookError) → r ≡ Err Output → s.failed ≡ false → block ≡ []
-    → LooksLines table contents s t block rest (Err (Reading e)) → Writes t u rest (Err f) → LooksAll table contents s u r
-part_unwritten table contents s t u block rest e f r is fine none (looks, collected, ends) wrote =
-    subst (LooksAll table contents s u) (sym is)
-    (looks, f, written_rest s t u block rest (flat_map look_line looks) (Err f) fine none collected wrote, part_told table contents looks e ends)
+    → LooksLines place table contents s t block rest (Err (Reading e)) → Writes t u rest (Err f) → LooksAll place table contents s u r
+part_unwritten place table contents s t u block rest e f r is fine none (looks, collected, ends) wrote =
+    subst (LooksAll place table contents s u) (sym is)
+    (looks, f, written_rest s t u block rest (flat_map look_line looks) (Err f) fine none collected wrote, part_told place table contents looks e ends)
 
-nothing_told : (table : Family → List (List Bool × List ℕ)) (contents : Option (List ℕ)) → IfSome contents (λ text. AreFirstSaid (LineLooks table) text [])
-nothing_told table None = tt
-nothing_told table (Some text) = record { before = []; after = lines_of text; lines = refl; fine = tt }
+nothing_told : (place : Asked) (table : Family → List (List Bool × List ℕ)) (contents : Option (List ℕ)) → IfSome contents (λ text. AreFirstSaid (LineLooks place table) text [])
+nothing_told place table None = tt
+nothing_told place table (Some text) = record { before = []; after = lines_of text; lines = refl; fine = tt }
 
 -- the output had failed before
-pub nothing_looked : (table : Family → List (List Bool × List ℕ)) (contents : Option (List ℕ)) (s : State) → s.failed ≡ true → LooksAll table contents s s (Err Output)
-nothing_looked table contents s failed = ([], record {}, (part_none s [] failed, λ _. refl), nothing_told table contents)
+pub nothing_looked : (place : Asked) (table : Family → List (List Bool × List ℕ)) (contents : Option (List ℕ)) (s : State) → s.failed ≡ true → LooksAll place table contents s s (Err Output)
+nothing_looked place table contents s failed = ([], record {}, (part_none s [] failed, λ _. refl), nothing_told place table contents)
 
--- ---- the command
-module _ (contents : List ℕ → Option Text) (rows : List ℕ) (file : Bor (List ℕ)) (left : Option (List ℕ)) (table : Family → List (List Bool × List ℕ)) (s t : State)
-    (reads : (text : Text) → contents rows ≡ Some text → SaysTable text table) (opens : (text : Text) → contents file.now ≡ Some text → left ≡ Some text.bytes) where
-  tells : (looks : List (Option LookUp)) (found : Bool) → found ≡ list_any is_found looks → TellsFound looks (verdict_of found)
-  tells looks true e = sym e
-  tells looks false e = sym e
+-- ---- what is told of them
+-- a line for each address
+plain_told : (place : Asked) (table : Family → List (List Bool × List ℕ)) (lines : List (List ℕ)) (looks : List (Option LookUp)) → AllZip (LineLooks place table) lines looks
+    → LinesTell false place table lines (flat_map look_line looks, list_any is_found looks)
+plain_told place table [] [] h = ([], tt, refl, refl)
+plain_told place table [] (look ∷ looks) h = absurd h
+plain_told place table (line ∷ lines) [] h = absurd h
+plain_told place table (line ∷ lines) (look ∷ looks) (here, others) =
+    let (each, tell, texts, found) = plain_told place table lines looks others in (
+      (look_line look, is_found look) ∷ each,
+      ((look, here, refl, refl), tell),
+      ap (λ (k : List ℕ). look_line look ++ k) texts,
+      ap (λ (k : Bool). is_found look || k) found,
+    )
 
-  pub looked_whole : (found : Bool) → LooksAll table left s t (Ok found) → AnswersRequest contents (Look rows file.now) s t (Ok (verdict_of found))
-  looked_whole found (looks, written, hit, says) = inl (inr (
+-- up to where reading ended
+plain_cut : (place : Asked) (table : Family → List (List Bool × List ℕ)) (lines : List (List ℕ)) (looks : List (Option LookUp)) (e : CommandError)
+    → IsCut (AllZip (LineLooks place table)) (IsBadAsked place) lines looks e
+    → IsCut (LinesTell false place table) (IsBadAsked place) lines (flat_map look_line looks, list_any is_found looks) e
+plain_cut place table lines looks e (read, left, to, stops) =
+    (read, left, record { lines = to.lines; are = plain_told place table read looks to.are }, stops)
+
+module _ (place : Asked) (table : Family → List (List Bool × List ℕ)) (text : List ℕ) (looks : List (Option LookUp)) where
+  pub ends_as : (file : Bor (List ℕ)) (e : ReadError) → EndsReading place table text looks e
+      → IsCut (LinesTell false place table) (IsBadAsked place) (lines_of text) (flat_map look_line looks, list_any is_found looks) (unread file e)
+  ends_as file (Line number e) h =
+      plain_cut place table (lines_of text) looks (error.Line file number e) (cut_before (LineLooks place table) (IsBadAsked place) text looks number e file h)
+  ends_as file Input h =
+      plain_cut place table (lines_of text) looks (error.Input file Unknown) (cut_behind (LineLooks place table) (IsBadAsked place) text looks (error.Input file Unknown) (λ _ _. tt) h)
+  ends_as file NoMemory h =
+      plain_cut place table (lines_of text) looks error.NoMemory (cut_behind (LineLooks place table) (IsBadAsked place) text looks error.NoMemory (λ _ _. tt) h)
+
+  pub lost_as : AreFirstSaid (LineLooks place table) text looks
+      → IsCut (LinesTell false place table) (IsBadAsked place) (lines_of text) (flat_map look_line looks, list_any is_found looks) error.Output
+  lost_as h = plain_cut place table (lines_of text) looks error.Output (cut_behind (LineLooks place table) (IsBadAsked place) text looks error.Output (λ _ _. tt) h)
+
+  pub all_as : AllZip (LineLooks place table) (lines_of text) looks → LinesTell false place table (lines_of text) (flat_map look_line looks, list_any is_found looks)
+  all_as h = plain_told place table (lines_of text) looks h
+
+-- ---- a file
+pub of_file : (file : Bor (List ℕ)) (e : ReadError) → IsOfFile file.now (unread file e)
+of_file file (Line number e) = refl
+of_file file Input = refl
+of_file file NoMemory = tt
+
+pub gone : (file : Bor (List ℕ)) (s t : State) (e : ReadError) (text : List ℕ) → Answered s t text (Ok tt) → IsWritten s t text (unread file e)
+gone file s t (Line number e) text h = h
+gone file s t Input text h = h
+gone file s t NoMemory text h = h
+
+module _ (place : Asked) (table : Family → List (List Bool × List ℕ)) (contents : Option Text) (file : Bor (List ℕ)) (left : Option (List ℕ)) (s t : State)
+    (opens : (text : Text) → contents ≡ Some text → left ≡ Some text.bytes) where
+  pub looked_whole : (found : Bool) → LooksAll place table left s t (Ok found) → TellsFile false place table contents file.now s t (Ok (verdict_of found))
+  looked_whole found (looks, written, hit, says) = inr (inl (
     flat_map look_line looks,
-    verdict_of found,
+    found,
     Ok tt,
-    λ first second is at.
-        let each = bytes_read (λ text. AllZip (LineLooks table) (lines_of text) looks) left second.bytes (opens second at) says in
-        (table, reads first is, looks, each, refl, tells looks found hit),
-    written,
     refl,
+    written,
+    λ text at.
+        rw hit (all_as place table text.bytes looks (bytes_read (λ bytes. AllZip (LineLooks place table) (lines_of bytes) looks) left text.bytes (opens text at) says)),
   ))
 
-  of_file : (e : ReadError) → IsOfFile file.now (unread file e)
-  of_file (Line number e) = refl
-  of_file Input = refl
-  of_file NoMemory = tt
-
-  ends_as : (text : List ℕ) (looks : List (Option LookUp)) (e : ReadError) → EndsReading table text looks e
-      → IsCut (AllZip (LineLooks table)) IsBadLine (lines_of text) looks (unread file e)
-  ends_as text looks (Line number e) h = cut_before (LineLooks table) IsBadLine text looks number e file h
-  ends_as text looks Input h = cut_behind (LineLooks table) IsBadLine text looks (error.Input file Unknown) (λ _ _. tt) h
-  ends_as text looks NoMemory h = cut_behind (LineLooks table) IsBadLine text looks error.NoMemory (λ _ _. tt) h
-
-  gone : (e : ReadError) (text : List ℕ) → Answered s t text (Ok tt) → IsWritten s t text (unread file e)
-  gone (Line number e) text h = h
-  gone Input text h = h
-  gone NoMemory text h = h
-
-  pub ended_early : (e : ReadError) → LooksAll table left s t (Err (Reading e)) → AnswersRequest contents (Look rows file.now) s t (Err (unread file e))
-  ended_early e (looks, written, ends) = inr (
+  pub ended_early : (e : ReadError) → LooksAll place table left s t (Err (Reading e)) → TellsFile false place table contents file.now s t (Err (unread file e))
+  ended_early e (looks, written, ends) = inr (inr (
     unread file e,
     refl,
-    of_file e,
+    of_file file e,
     flat_map look_line looks,
-    gone e (flat_map look_line looks) written,
-    λ first second is at.
-        let ends_here = bytes_read (λ text. EndsReading table text looks e) left second.bytes (opens second at) ends in
-        (table, reads first is, looks, ends_as second.bytes looks e ends_here, refl),
-  )
+    gone file s t e (flat_map look_line looks) written,
+    λ text at. (
+      list_any is_found looks,
+      ends_as place table text.bytes looks file e (bytes_read (λ bytes. EndsReading place table bytes looks e) left text.bytes (opens text at) ends),
+    ),
+  ))
 
-  pub output_failed : LooksAll table left s t (Err Output) → AnswersRequest contents (Look rows file.now) s t (Err error.Output)
-  output_failed (looks, f, written, ends) = inr (
+  pub output_failed : LooksAll place table left s t (Err Output) → TellsFile false place table contents file.now s t (Err error.Output)
+  output_failed (looks, f, written, ends) = inr (inr (
     error.Output,
     refl,
     tt,
     flat_map look_line looks,
     written,
-    λ first second is at.
-        let first_lines = bytes_read (λ text. AreFirstSaid (LineLooks table) text looks) left second.bytes (opens second at) ends in
-        (table, reads first is, looks, cut_behind (LineLooks table) IsBadLine second.bytes looks error.Output (λ _ _. tt) first_lines, refl),
+    λ text at. (
+      list_any is_found looks,
+      lost_as place table text.bytes looks (bytes_read (λ bytes. AreFirstSaid (LineLooks place table) bytes looks) left text.bytes (opens text at) ends),
+    ),
+  ))
+
+-- lines that are kept
+module _ (keeps : Bool) (place : Asked) (table : Family → List (List Bool × List ℕ)) (contents : Option Text) (file : List ℕ) (left : Option (List ℕ)) (s t : State)
+    (opens : (text : Text) → contents ≡ Some text → left ≡ Some text.bytes) (is : keeps ≡ true) where
+  pub kept_file : (r : Result Verdict CommandError) → KeepsText place table left file s t r → TellsFile keeps place table contents file s t r
+  kept_file r (inl (answer, found, w, by, written, tells)) = inr (inl (
+    answer,
+    found,
+    w,
+    by,
+    written,
+    λ text at. subst (λ (k : Bool). LinesTell k place table (lines_by k text.bytes) (answer, found)) (sym is)
+        (bytes_read (λ bytes. LinesTell true place table (lines_in bytes) (answer, found)) left text.bytes (opens text at) tells),
+  ))
+  kept_file r (inr (e, same, of, answer, written, belongs)) = inr (inr (
+    e,
+    same,
+    of,
+    answer,
+    written,
+    λ text at. subst (λ (k : Bool). (found : Bool) × IsCut (LinesTell k place table) (IsBadAsked place) (lines_by k text.bytes) (answer, found) e) (sym is)
+        (bytes_read (λ bytes. (found : Bool) × IsCut (LinesTell true place table) (IsBadAsked place) (lines_in bytes) (answer, found) e) left text.bytes (opens text at) belongs),
+  ))
+
+-- ---- the command
+module _ (contents : List ℕ → Option Text) (choice : Choice) (options : List (List ℕ)) (rows file : List ℕ) (place : Asked) (keeps : Bool)
+    (table : Family → List (List Bool × List ℕ)) (s t : State) (asks : IsAsked choice (has (codes "--any") options) place)
+    (is : keeps ≡ has (codes "--keep") options) (reads : (text : Text) → contents rows ≡ Some text → SaysTable text table) where
+  not_read : (e : CommandError) → IsNotReadFurther file e → IsNoTable (contents rows) rows e ⊎ IsInputError file e
+  not_read (error.Argument text e) h = absurd h
+  not_read (error.Line name number e) h = absurd h
+  not_read (error.Input name why) h = inr h
+  not_read error.NoMemory h = inl tt
+  not_read error.Output h = absurd h
+  not_read (error.File name e) h = absurd h
+
+  pub told_file : (r : Result Verdict CommandError) → TellsFile keeps place table (contents file) file s t r → AnswersRequest contents (Look choice options rows file) s t r
+  told_file r (inl (none, e, same, why)) = rw same (inl (inl (none, inr (place, asks, not_read e why))))
+  told_file r (inr (inl (answer, found, w, by, written, tells))) = inl (inr (
+    answer,
+    verdict_of found,
+    w,
+    (
+      place,
+      asks,
+      λ first second one two. subst (λ (k : Bool). IsLook k place first second.bytes answer (verdict_of found)) is (table, reads first one, found, tells second two, refl),
+    ),
+    written,
+    by,
+  ))
+  told_file r (inr (inr (e, same, of, answer, written, belongs))) = inr (
+    e,
+    same,
+    of,
+    answer,
+    written,
+    (
+      place,
+      asks,
+      λ first second one two. subst (λ (k : Bool). IsLookCut k place first second.bytes answer e) is
+          (table, reads first one, (belongs second two).0, (belongs second two).1),
+    ),
   )

@@ -53,7 +53,7 @@ among_shorter ([] ∷ []) = omega arith
 among_shorter ((byte ∷ part) ∷ []) = omega arith
 among_shorter (part ∷ next ∷ parts) = omega (arith, among_shorter (next ∷ parts))
 
-more_parts : (most : ℕ) (text : List ℕ) → most ≤ length (lines_in text) → most ≤ length (lines_of text)
+pub more_parts : (most : ℕ) (text : List ℕ) → most ≤ length (lines_in text) → most ≤ length (lines_of text)
 more_parts most text h = omega (arith, h, among_shorter (lines_of text))
 
 among_more : (part : List ℕ) (parts : List (List ℕ)) → 0 < length parts → lines_among (part ∷ parts) ≡ part ∷ lines_among parts
@@ -61,7 +61,7 @@ among_more part [] h = absurd (omega (arith, h))
 among_more part (next ∷ parts) h = refl
 
 -- the lines of the next part, and those behind it
-part_read : (text part : List ℕ) (more : Bool) (next : Option (List ℕ)) → IsNextLine text part more next
+pub part_read : (text part : List ℕ) (more : Bool) (next : Option (List ℕ)) → IsNextLine text part more next
     → (after : List (List ℕ)) × (lines_in text ≡ lines_of_part part more ++ after) × (more ≡ false → after ≡ [])
     × (more ≡ true → (rest : List ℕ) × (next ≡ Some rest) × (after ≡ lines_in rest) × (length rest < length text))
 part_read text part true next n = (

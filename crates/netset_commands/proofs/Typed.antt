@@ -3,7 +3,7 @@ use Rattle.std.proofs.Common.{◌≡◌, refl, sym, ◌∙◌, ap, subst, inl, i
 use Rattle.std.specs.List.{list_all, list_any}
 use Rattle.std.proofs.lemmas.Bool.{true≢false}
 use Rattle.cidr_lists.specs.Formats.{IsBare, Style, format_name}
-use Rattle.netset_commands.specs.Arguments.{Parts, and_then, asks_help, choice_by, choice_in, counted_request, extent_by, extra_operand, is_option, joined_arguments, line_request, lists_request, match_by, named_verb, only_operand, only_options, only_value, part_request, parts_from, read_request, style_in_values, takes, value_of, verb_request, word_parts}
+use Rattle.netset_commands.specs.Arguments.{Parts, and_then, asks_help, choice_by, choice_in, counted_request, extent_by, extra_operand, is_option, joined_arguments, line_request, lists_request, look_by, match_by, named_verb, only_operand, only_options, only_value, part_request, parts_from, read_request, style_in_values, takes, value_of, verb_request, word_parts}
 use Rattle.netset_commands.specs.Commands.{Request, Lists, Styled, NotIn, Diff, Free, Split, Check, Which, Match, MatchEach, Look, Compile, Describe, Class, Single, Help, Version, input_name, reading_of}
 use Rattle.netset_commands.specs.Free.{Extent, First, Count, All}
 use Rattle.netset_commands.specs.Matching.{has, is_word}
@@ -77,14 +77,18 @@ behind_style : (command : Verb) (style : Option Style) (operands : List (List �
 behind_style command None operands is none = operands_alone command operands none
 behind_style command (Some style) operands is none = behind_value command (codes "--format") (format_name style.format) operands is none
 
--- the options that tell a field before them
-behind_choice : (choice : Choice) (operands : List (List ℕ)) → list_any is_option operands ≡ false
-    → parts_from verb.Match (choice_words choice ++ operands) Any ≡ Ok (parts_with [] (choice_words choice) operands)
-behind_choice FirstField operands none = operands_alone verb.Match operands none
-behind_choice (FieldOf number None) operands none = behind_value verb.Match (codes "--field") number operands refl none
-behind_choice (FieldOf number (Some separator)) operands none =
-    behind_values verb.Match (codes "--field") number (codes "--separator" ∷ separator ∷ []) operands refl
-    (behind_value verb.Match (codes "--separator") separator operands refl none)
+-- the options that tell a field before them, of a command that has them
+abbrev HasFields : Verb → Type 0
+HasFields command = (word_parts command Any (codes "--field") ≡ Ok (only_value (codes "--field"), Value))
+    × (word_parts command Any (codes "--separator") ≡ Ok (only_value (codes "--separator"), Value))
+
+behind_choice : (command : Verb) (choice : Choice) (operands : List (List ℕ)) → HasFields command → list_any is_option operands ≡ false
+    → parts_from command (choice_words choice ++ operands) Any ≡ Ok (parts_with [] (choice_words choice) operands)
+behind_choice command FirstField operands has none = operands_alone command operands none
+behind_choice command (FieldOf number None) operands has none = behind_value command (codes "--field") number operands has.0 none
+behind_choice command (FieldOf number (Some separator)) operands has none =
+    behind_values command (codes "--field") number (codes "--separator" ∷ separator ∷ []) operands has.0
+    (behind_value command (codes "--separator") separator operands has.1 none)
 
 -- ---- options
 -- the word is an option of the command
@@ -118,7 +122,7 @@ its_options verb.Free = (refl, (refl, (refl, (refl, (refl, (refl, tt))))))
 its_options verb.Check = (refl, (refl, (refl, tt)))
 its_options verb.Which = (refl, (refl, (refl, tt)))
 its_options verb.Match = (refl, (refl, (refl, (refl, (refl, (refl, (refl, (refl, (refl, tt)))))))))
-its_options verb.Look = (refl, (refl, (refl, (refl, (refl, tt)))))
+its_options verb.Look = (refl, (refl, (refl, (refl, (refl, (refl, (refl, tt)))))))
 its_options verb.Compile = (refl, (refl, (refl, (refl, (refl, tt)))))
 its_options (verb.Describe what) = (refl, (refl, (refl, (refl, (refl, tt)))))
 its_options verb.Class = (refl, (refl, tt))
@@ -212,17 +216,17 @@ extent_asks every values found extent style options pool len used is given by to
     ∙ (ap (λ (r : Result Extent (List ℕ)). and_then r behind) (ap (λ (b : Bool). extent_by b found) is ∙ by)
     ∙ ap (λ (r : Result (Option Style) (List ℕ)). and_then r (λ s. Ok (Free s extent pool len used))) told)
 
--- the field by which match picks lines
-no_output : (choice : Choice) → value_of verb.Match (codes "-o") (choice_words choice) ≡ Ok None
-no_output FirstField = refl
-no_output (FieldOf number None) = refl
-no_output (FieldOf number (Some separator)) = refl
+-- the field that match and look read
+no_output : (command : Verb) (choice : Choice) → value_of command (codes "-o") (choice_words choice) ≡ Ok None
+no_output command FirstField = refl
+no_output command (FieldOf number None) = refl
+no_output command (FieldOf number (Some separator)) = refl
 
-choice_asks : (choice : Choice) (options operands : List (List ℕ)) → GoesWith choice options
-    → choice_in (parts_with options (choice_words choice) operands) ≡ Ok choice
-choice_asks FirstField options operands goes = refl
-choice_asks (FieldOf number None) options operands goes = ap (λ (b : Bool). choice_by (Some number) b None) goes
-choice_asks (FieldOf number (Some separator)) options operands goes = ap (λ (b : Bool). choice_by (Some number) b (Some separator)) goes
+choice_asks : (command : Verb) (choice : Choice) (options operands : List (List ℕ)) → GoesWith choice options
+    → choice_in command (parts_with options (choice_words choice) operands) ≡ Ok choice
+choice_asks command FirstField options operands goes = refl
+choice_asks command (FieldOf number None) options operands goes = ap (λ (b : Bool). choice_by command (Some number) b None) goes
+choice_asks command (FieldOf number (Some separator)) options operands goes = ap (λ (b : Bool). choice_by command (Some number) b (Some separator)) goes
 
 -- ---- a command line
 -- a command with the parts of its words
@@ -261,9 +265,18 @@ module _ (words options : List (List ℕ)) where
       → AreTyped verb.Match options (choice_words choice) operands words
       → match_by choice (parts_with options (choice_words choice) operands) (slice_get operands 2) ≡ request → Asks request
   match_asks choice operands request goes (is, all, no_page, none, enough) made =
-      line_asks verb.Match (choice_words choice) (choice_words choice) operands (is, all, no_page, none, enough) (behind_choice choice operands none) refl (no_output choice) request
+      line_asks verb.Match (choice_words choice) (choice_words choice) operands (is, all, no_page, none, enough) (behind_choice verb.Match choice operands (refl, refl) none) refl (no_output verb.Match choice) request
       (ap (λ (r : Result Choice (List ℕ)). and_then r (λ one. Ok (match_by one (parts_with options (choice_words choice) operands) (slice_get operands 2))))
-      (choice_asks choice options operands goes)
+      (choice_asks verb.Match choice options operands goes)
+      ∙ ap (λ (k : Request). Ok k) made)
+
+  look_asks : (choice : Choice) (operands : List (List ℕ)) (request : Request) → GoesWith choice options
+      → AreTyped verb.Look options (choice_words choice) operands words → extra_operand verb.Look operands ≡ None
+      → look_by choice (parts_with options (choice_words choice) operands) ≡ request → Asks request
+  look_asks choice operands request goes (is, all, no_page, none, enough) fits made =
+      line_asks verb.Look (choice_words choice) (choice_words choice) operands (is, all, no_page, none, enough) (behind_choice verb.Look choice operands (refl, refl) none) fits
+      (no_output verb.Look choice) request
+      (ap (λ (r : Result Choice (List ℕ)). and_then r (λ one. Ok (look_by one (parts_with options (choice_words choice) operands)))) (choice_asks verb.Look choice options operands goes)
       ∙ ap (λ (k : Request). Ok k) made)
 
   pub typed_asks : (request : Request) → IsTyped words options request → Asks request
@@ -313,9 +326,11 @@ module _ (words options : List (List ℕ)) where
   typed_asks (MatchEach choice given list (first ∷ second ∷ files)) (same, goes, typed) =
       match_asks choice (list ∷ first ∷ second ∷ files) (MatchEach choice given list (first ∷ second ∷ files)) goes typed
       (ap (λ (k : List (List ℕ)). MatchEach choice k list (first ∷ second ∷ files)) (sym same))
-  typed_asks (Look table file) (inl typed) = plain_asks verb.Look (table ∷ file ∷ []) (Look table file) typed refl refl
-  typed_asks (Look table file) (inr (input, typed)) =
-      plain_asks verb.Look (table ∷ []) (Look table input_name) typed refl refl ∙ ap (λ (k : List ℕ). Ok (reading_of options, (None, Look table k))) (sym input)
+  typed_asks (Look choice given table file) (same, goes, inl typed) =
+      look_asks choice (table ∷ file ∷ []) (Look choice given table file) goes typed refl (ap (λ (k : List (List ℕ)). Look choice k table file) (sym same))
+  typed_asks (Look choice given table file) (same, goes, inr (input, typed)) =
+      look_asks choice (table ∷ []) (Look choice given table file) goes typed refl
+      (ap (λ (k : List (List ℕ)). Look choice k table input_name) (sym same) ∙ ap (λ (k : List ℕ). Look choice given table k) (sym input))
   typed_asks (Compile table name) typed = plain_asks verb.Compile (table ∷ name ∷ []) (Compile table name) typed refl refl
   typed_asks (Describe what operand) typed = plain_asks (verb.Describe what) (operand ∷ []) (Describe what operand) typed refl refl
   typed_asks (Class operand) typed = plain_asks verb.Class (operand ∷ []) (Class operand) typed refl refl

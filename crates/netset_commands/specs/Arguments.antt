@@ -246,19 +246,26 @@ abbrev pub match_by : Choice → Parts → Option (List ℕ) → Request
 match_by choice parts None = Match choice parts.options (operand_or parts.operands 0 []) (operand_or parts.operands 1 input_name)
 match_by choice parts (Some third) = MatchEach choice parts.options (operand_or parts.operands 0 []) (drop 1 parts.operands)
 
--- the field by which it picks lines, by the value of --field, whether --any is given, and the value of --separator
-abbrev pub choice_by : Option (List ℕ) → Bool → Option (List ℕ) → Result Choice (List ℕ)
-choice_by None any None = Ok FirstField
-choice_by None any (Some separator) = Err (misuse_text (codes "--separator") NoField (codes "match"))
-choice_by (Some number) false separator = Ok (FieldOf number separator)
-choice_by (Some number) true separator = Err (misuse_text (codes "--field") Anywhere (codes "match"))
+-- the field that match and look read, by the value of --field, whether --any is given, and the value of --separator
+abbrev pub choice_by : Verb → Option (List ℕ) → Bool → Option (List ℕ) → Result Choice (List ℕ)
+choice_by command None any None = Ok FirstField
+choice_by command None any (Some separator) = Err (misuse_text (codes "--separator") NoField (name_of command))
+choice_by command (Some number) false separator = Ok (FieldOf number separator)
+choice_by command (Some number) true separator = Err (misuse_text (codes "--field") Anywhere (name_of command))
 
-abbrev pub choice_in : Parts → Result Choice (List ℕ)
-choice_in parts = and_then (value_of verb.Match (codes "--field") parts.values) (λ number. and_then (value_of verb.Match (codes "--separator") parts.values)
-    (λ separator. choice_by number (has (codes "--any") parts.options) separator))
+abbrev pub choice_in : Verb → Parts → Result Choice (List ℕ)
+choice_in command parts = and_then (value_of command (codes "--field") parts.values) (λ number. and_then (value_of command (codes "--separator") parts.values)
+    (λ separator. choice_by command number (has (codes "--any") parts.options) separator))
 
 abbrev pub match_request : Parts → Result Request (List ℕ)
-match_request parts = and_then (choice_in parts) (λ choice. Ok (match_by choice parts (slice_get parts.operands 2)))
+match_request parts = and_then (choice_in verb.Match parts) (λ choice. Ok (match_by choice parts (slice_get parts.operands 2)))
+
+-- the command look, of a table and a file or the standard input
+abbrev pub look_by : Choice → Parts → Request
+look_by choice parts = Look choice parts.options (operand_or parts.operands 0 []) (operand_or parts.operands 1 input_name)
+
+abbrev pub look_request : Parts → Result Request (List ℕ)
+look_request parts = and_then (choice_in verb.Look parts) (λ choice. Ok (look_by choice parts))
 
 -- a command with as many operands as it takes
 abbrev pub verb_request : Verb → Parts → Result Request (List ℕ)
@@ -268,7 +275,7 @@ verb_request verb.Free parts = free_request parts
 verb_request verb.Check parts = Ok (Check parts.operands)
 verb_request verb.Which parts = Ok (Which (operand_or parts.operands 0 []) (drop 1 parts.operands))
 verb_request verb.Match parts = match_request parts
-verb_request verb.Look parts = Ok (Look (operand_or parts.operands 0 []) (operand_or parts.operands 1 input_name))
+verb_request verb.Look parts = look_request parts
 verb_request verb.Compile parts = Ok (Compile (operand_or parts.operands 0 []) (operand_or parts.operands 1 []))
 verb_request (verb.Describe what) parts = Ok (Describe what (operand_or parts.operands 0 []))
 verb_request verb.Class parts = Ok (Class (operand_or parts.operands 0 []))

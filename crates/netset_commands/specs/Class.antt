@@ -1,14 +1,13 @@
 -- What addresses are for, by the registries of IANA.
-use Rattle.std.specs.Prelude.{◌≡◌, ◌⊎◌, ℕ, true, false, List, Option, Some}
-use Rattle.std.specs.List.{AllZip, flat_map}
+use Rattle.std.specs.Prelude.{◌≡◌, ◌⊎◌, ℕ, Bool, true, false, List, Option, Some}
 use Rattle.cidr.specs.either.IpAddress.{IsIpText}
 use Rattle.cidr.specs.declared.addr.ip.IpAddr.{IpAddr}
 use Rattle.cidr_lists.specs.Classes.{IsClassLine, registry}
-use Rattle.cidr_lists.specs.Fields.{IsBadLine}
 use Rattle.cidr_lists.specs.Lists.{Text, lines_of}
-use Rattle.cidr_lists.specs.LookUps.{LineLooks, LookUp, look_line}
+use Rattle.cidr_lists.specs.LookUps.{IsBadAsked, LinesTell}
+use Rattle.cidr_lists.specs.declared.fields.Asked.TheVariants.{First}
 use Rattle.netset_commands.specs.Causes.{FileMayFail}
-use Rattle.netset_commands.specs.Look.{TellsFound}
+use Rattle.netset_commands.specs.Look.{verdict_of}
 use Rattle.netset_commands.specs.Streaming.{IsCut}
 use Rattle.netset_commands.specs.declared.errors.ArgumentError.TheVariants as bad
 use Rattle.netset_commands.specs.declared.errors.CommandError.{CommandError}
@@ -23,13 +22,11 @@ IsClass address answer No = IsClassLine address answer false
 
 -- the lines of the addresses of a text, and whether one of them has an entry
 abbrev pub AreClasses : List ℕ → List ℕ → Verdict → Type 0
-AreClasses text answer verdict = (looks : List (Option LookUp)) × AllZip (LineLooks registry) (lines_of text) looks
-    × (answer ≡ flat_map look_line looks) × TellsFound looks verdict
+AreClasses text answer verdict = (found : Bool) × LinesTell false First registry (lines_of text) (answer, found) × (verdict ≡ verdict_of found)
 
 -- the same of the lines that were read, where the text was not read to its end, for this reason
 abbrev pub AreClassesCut : List ℕ → List ℕ → CommandError → Type 0
-AreClassesCut text answer e = (looks : List (Option LookUp))
-    × IsCut (AllZip (LineLooks registry)) IsBadLine (lines_of text) looks e × (answer ≡ flat_map look_line looks)
+AreClassesCut text answer e = (found : Bool) × IsCut (LinesTell false First registry) (IsBadAsked First) (lines_of text) (answer, found) e
 
 -- the string is no address of either family
 abbrev pub IsNoAddressText : List ℕ → Type 0

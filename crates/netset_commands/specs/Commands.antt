@@ -1,5 +1,5 @@
 -- The requests and what each is answered with.
-use Rattle.std.specs.Prelude.{◌≡◌, ◌⊎◌, ℕ, ◌<◌, ◌≤◌, Bool, if◌then◌else◌, List, [], ◌∷◌, ◌++◌, count_by, codes, drop, Option, Some, None}
+use Rattle.std.specs.Prelude.{◌≡◌, ◌⊎◌, ℕ, ◌<◌, ◌≤◌, Bool, List, [], ◌∷◌, ◌++◌, count_by, codes, drop, Option, Some, None}
 use Rattle.std.specs.List.{AllZip}
 use Rattle.std.specs.Map.{keys_of}
 use Rattle.cidr.specs.either.IpText.{IsIpNetworkText}
@@ -20,7 +20,7 @@ use Rattle.netset_commands.specs.Changes.{AreSame}
 use Rattle.netset_commands.specs.Combining.{form_of, IsMade}
 use Rattle.netset_commands.specs.Operands.{IsNoNetworkText, OfList, OfOperand, ReadsAsNetwork}
 use Rattle.netset_commands.specs.Matching.{has, is_word, written_of, IsMatch, IsMatchOfEach, Picks}
-use Rattle.netset_commands.specs.Picking.{Choice, IsChosen}
+use Rattle.netset_commands.specs.Picking.{Choice, IsAsked, IsChosen}
 use Rattle.netset_commands.specs.Table.{help_text}
 use Rattle.netset_commands.specs.Which.{IsWhich}
 use Rattle.cidr.specs.either.IpAddress.{IsIpText}
@@ -30,6 +30,7 @@ use Rattle.netset_commands.specs.declared.commands.describe.Description.TheVaria
 use Rattle.netset_commands.specs.declared.commands.table.Verb.{Verb}
 use Rattle.netset_commands.specs.declared.commands.Reading.{Reading}
 use Rattle.cidr_lists.specs.declared.columns.Column.{Column}
+use Rattle.cidr_lists.specs.declared.fields.Asked.{Asked}
 use Rattle.cidr_lists.specs.declared.sets.Form.{Form}
 use Rattle.netset_commands.specs.declared.commands.operations.Operation.{Operation}
 use Rattle.netset_commands.specs.declared.commands.operations.Operation.TheVariants.{Minus, Not}
@@ -52,7 +53,7 @@ pub data Request : Type 0 where
   Which : List ℕ → List (List ℕ) → Request
   Match : Choice → List (List ℕ) → List ℕ → List ℕ → Request
   MatchEach : Choice → List (List ℕ) → List ℕ → List (List ℕ) → Request
-  Look : List ℕ → List ℕ → Request
+  Look : Choice → List (List ℕ) → List ℕ → List ℕ → Request
   Compile : List ℕ → List ℕ → Request
   Describe : Description → List ℕ → Request
   Class : List ℕ → Request
@@ -82,7 +83,7 @@ lists_of (Check files) = read_files files
 lists_of (Which address files) = read_files files
 lists_of (Match choice options list file) = list ∷ []
 lists_of (MatchEach choice options list files) = list ∷ []
-lists_of (Look table file) = table ∷ []
+lists_of (Look choice options table file) = table ∷ []
 lists_of (Compile table name) = table ∷ []
 lists_of (Describe what operand) = operand ∷ []
 lists_of request = []
@@ -91,7 +92,7 @@ lists_of request = []
 abbrev pub others_of : Request → List (List ℕ)
 others_of (Match choice options list file) = file ∷ []
 others_of (MatchEach choice options list files) = files
-others_of (Look table file) = file ∷ []
+others_of (Look choice options table file) = file ∷ []
 others_of (Class operand) = operand ∷ []
 others_of request = []
 
@@ -222,8 +223,8 @@ IsAnswer contents (Match choice options list file) answer verdict =
 IsAnswer contents (MatchEach choice options list files) answer verdict = (column : Column) × IsChosen choice column
     × ((networks : Text) → contents list ≡ Some networks → HoldsOf networks
     (λ IsIn. IsMatchOfEach contents (Picks (has (codes "--any") options) column IsIn (has (codes "-v") options)) (written_of options) files answer verdict))
-IsAnswer contents (Look table file) answer verdict =
-    (rows text : Text) → contents table ≡ Some rows → contents file ≡ Some text → IsLook rows text.bytes answer verdict
+IsAnswer contents (Look choice options table file) answer verdict = (asked : Asked) × IsAsked choice (has (codes "--any") options) asked
+    × ((rows text : Text) → contents table ≡ Some rows → contents file ≡ Some text → IsLook (has (codes "--keep") options) asked rows text.bytes answer verdict)
 IsAnswer contents (Compile table name) answer verdict = (answer ≡ []) × (verdict ≡ Yes)
 IsAnswer contents (Describe what operand) answer verdict = IsDescription contents what operand answer × (verdict ≡ Yes)
 IsAnswer contents (Class operand) answer verdict = IsClassOf contents operand answer verdict

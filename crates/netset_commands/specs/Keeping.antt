@@ -33,7 +33,7 @@ use Rattle.cidr_lists.specs.Faults.{IsFaulty, AreErrors, AreTellings, IsPartTold
 abbrev pub kind_of : Request → Kind
 kind_of (Check files) = kind.Hosts
 kind_of (Which address files) = kind.Hosts
-kind_of (Look table file) = kind.Rows
+kind_of (Look choice options table file) = kind.Rows
 kind_of (Compile table name) = kind.Rows
 kind_of request = kind.Networks
 
@@ -41,7 +41,7 @@ kind_of request = kind.Networks
 abbrev pub takes_file : Request → Bool
 takes_file (Match choice options list file) = true
 takes_file (MatchEach choice options list files) = true
-takes_file (Look table file) = true
+takes_file (Look choice options table file) = true
 takes_file request = false
 
 -- a list by its lines: a file of look-ups has none

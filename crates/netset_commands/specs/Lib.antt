@@ -1,5 +1,5 @@
 -- What has to be believed: what lists say, what commands answer, and a run of the program. `Reading`, `Columns`, `Command`,
--- `Gathering`, `Loading`, `Answering`, `LookUps` and `Nearness` are what private functions promise.
+-- `Gathering`, `Loading`, `Answering`, `LookUps` and `KeptLines` are what private functions promise.
 pub mod Causes
 pub mod Reading
 pub mod Single
@@ -35,4 +35,5 @@ pub mod Loading
 pub mod Gathering
 pub mod Answering
 pub mod LookUps
+pub mod KeptLines
 pub mod Columns

@@ -11,13 +11,12 @@ use Rattle.cidr_io.specs.declared.sink.OutputFailed.{OutputFailed}
 use Rattle.cidr_table.specs.model.Prefixes.{IsLookedUp}
 use Rattle.cidr_io.specs.Collecting.{Collects}
 use Rattle.cidr_lists.specs.Lists.{IsTooLong, Text, lines_of}
-use Rattle.cidr_lists.specs.Fields.{AddressSays, IsBadLine, IsBadRow}
+use Rattle.cidr_lists.specs.Fields.{IsBadRow}
 use Rattle.cidr_lists.specs.Tables.{IsTable, RowSays, Stores, Pushes, kept, value_at}
 use Rattle.netset_commands.specs.Look.{IsUnreadTable}
 use Rattle.netset_commands.specs.Stored.{AreFileBytes, IsNoTable}
-use Rattle.cidr_lists.specs.LookUps.{LineLooks, LookUp, found_line, is_found, look_line}
-use Rattle.netset_commands.specs.declared.output.answers.Verdict.{Verdict}
-use Rattle.netset_commands.specs.declared.output.answers.Verdict.TheVariants.{Yes, No}
+use Rattle.cidr_lists.specs.LookUps.{IsBadAsked, LineLooks, LookUp, SaysAsked, found_line, is_found, look_line}
+use Rattle.cidr_lists.specs.declared.fields.Asked.{Asked}
 use Rattle.netset_commands.specs.declared.errors.CommandError.{CommandError}
 use Rattle.netset_commands.specs.declared.errors.CommandError.TheVariants as error
 use Rattle.cidr_lists.specs.declared.errors.LineError.{LineError}
@@ -106,11 +105,6 @@ unread file (Line number e) = error.Line file number e
 unread file Input = error.Input file Unknown
 unread file NoMemory = error.NoMemory
 
--- yes where an address was found
-abbrev pub verdict_of : Bool → Verdict
-verdict_of true = Yes
-verdict_of false = No
-
 -- an address was looked up, and its line was collected, or a beginning of what is collected was written
 abbrev pub LooksUp : (Family → List (List Bool × List ℕ)) → IpAddr → State → State → List ℕ → List ℕ → Result Bool OutputFailed → Type 0
 LooksUp table address old new block rest (Ok found) = (row : Option (List Bool × List ℕ))
@@ -137,19 +131,19 @@ abbrev pub HasAnswer : Table → IpAddr → Option Answer → Type 0
 HasAnswer table address found = IsLookedUp (λ (p : List Bool). p) (plain_bits address) (kept table (address_family address))
     (option_map (answer_row table.values.items address) found)
 
--- a line that is not too long has this address, or says nothing
-abbrev pub LineAsks : List ℕ → Option IpAddr → Type 0
-LineAsks line asked = ¬ (IsTooLong line) × AddressSays line asked
+-- a line that is not too long has this address, or none
+abbrev pub LineAsks : Asked → List ℕ → Option IpAddr → Type 0
+LineAsks place line asked = ¬ (IsTooLong line) × SaysAsked place line asked
 
 -- the same, or its error
-abbrev pub AsksAddress : List ℕ → Result (Option IpAddr) LineError → Type 0
-AsksAddress line (Ok asked) = LineAsks line asked
-AsksAddress line (Err e) = IsBadLine line e
+abbrev pub AsksAddress : Asked → List ℕ → Result (Option IpAddr) LineError → Type 0
+AsksAddress place line (Ok asked) = LineAsks place line asked
+AsksAddress place line (Err e) = IsBadAsked place line e
 
 -- it comes behind those of other lines; or the line is in error
-abbrev pub AsksLine : List ℕ → List (Option IpAddr) → List (Option IpAddr) → Result (Unit {0}) LineError → Type 0
-AsksLine line old new (Ok _) = (asked : Option IpAddr) × LineAsks line asked × (new ≡ old ++ asked ∷ [])
-AsksLine line old new (Err e) = IsBadLine line e × (new ≡ old)
+abbrev pub AsksLine : Asked → List ℕ → List (Option IpAddr) → List (Option IpAddr) → Result (Unit {0}) LineError → Type 0
+AsksLine place line old new (Ok _) = (asked : Option IpAddr) × LineAsks place line asked × (new ≡ old ++ asked ∷ [])
+AsksLine place line old new (Err e) = IsBadAsked place line e × (new ≡ old)
 
 -- the first lines of a text say this, and this is left of it
 pub record AreReadBefore {S : Type 0} (Says : List ℕ → S → Type 0) (text : List ℕ) (left : Option (List ℕ)) (said : List S) : Type 0 where
@@ -161,10 +155,10 @@ pub record AreReadBefore {S : Type 0} (Says : List ℕ → S → Type 0) (text :
   pub fine : AllZip Says before said
 
 -- why a text is not read further behind the lines that have these
-abbrev pub EndsAsking : List ℕ → List (Option IpAddr) → ReadError → Type 0
-EndsAsking text asked (Line number e) = AreBeforeError LineAsks IsBadLine text asked (length asked + 1) e
-EndsAsking text asked Input = AreFirstSaid LineAsks text asked
-EndsAsking text asked NoMemory = AreFirstSaid LineAsks text asked
+abbrev pub EndsAsking : Asked → List ℕ → List (Option IpAddr) → ReadError → Type 0
+EndsAsking place text asked (Line number e) = AreBeforeError (LineAsks place) (IsBadAsked place) text asked (length asked + 1) e
+EndsAsking place text asked Input = AreFirstSaid (LineAsks place) text asked
+EndsAsking place text asked NoMemory = AreFirstSaid (LineAsks place) text asked
 
 -- the line in error is the one behind these, the first of which has this number
 abbrev pub IsErrorBehind : ℕ → List (Option IpAddr) → ReadError → Type 0
@@ -173,10 +167,11 @@ IsErrorBehind first asked Input = Unit {0}
 IsErrorBehind first asked NoMemory = Unit {0}
 
 -- lines from the one of a number on have these addresses, up to the line of another number, to the end, or to an error
-abbrev pub AsksLines : ℕ → Option (List ℕ) → Option (List ℕ) → List (Option IpAddr) → Result (Option ℕ) ReadError → Type 0
-AsksLines first old new asked (Ok (Some number)) = (number ≡ first + length asked) × IfSome old (λ text. AreReadBefore LineAsks text new asked)
-AsksLines first old new asked (Ok None) = IfSome old (λ text. AllZip LineAsks (lines_of text) asked)
-AsksLines first old new asked (Err e) = IsErrorBehind first asked e × IfSome old (λ text. EndsAsking text asked e)
+abbrev pub AsksLines : Asked → ℕ → Option (List ℕ) → Option (List ℕ) → List (Option IpAddr) → Result (Option ℕ) ReadError → Type 0
+AsksLines place first old new asked (Ok (Some number)) =
+    (number ≡ first + length asked) × IfSome old (λ text. AreReadBefore (LineAsks place) text new asked)
+AsksLines place first old new asked (Ok None) = IfSome old (λ text. AllZip (LineAsks place) (lines_of text) asked)
+AsksLines place first old new asked (Err e) = IsErrorBehind first asked e × IfSome old (λ text. EndsAsking place text asked e)
 
 -- what was found of the address that a line has
 abbrev pub IsFoundOf : (IpAddr → Option Answer → Type 0) → Option IpAddr → Option (IpAddr × Option Answer) → Type 0
@@ -211,27 +206,27 @@ LooksEach table asked old new block rest (Err e) = (first : List (Option IpAddr)
     × (looks : List (Option LookUp)) × AllZip (AskLooks table) first looks × Part old new (block ++ flat_map look_line looks)
 
 -- why no more lines are read
-abbrev pub EndsReading : (Family → List (List Bool × List ℕ)) → List ℕ → List (Option LookUp) → ReadError → Type 0
-EndsReading table text looks (Line number e) = AreBeforeError (LineLooks table) IsBadLine text looks number e
-EndsReading table text looks Input = AreFirstSaid (LineLooks table) text looks
-EndsReading table text looks NoMemory = AreFirstSaid (LineLooks table) text looks
+abbrev pub EndsReading : Asked → (Family → List (List Bool × List ℕ)) → List ℕ → List (Option LookUp) → ReadError → Type 0
+EndsReading place table text looks (Line number e) = AreBeforeError (LineLooks place table) (IsBadAsked place) text looks number e
+EndsReading place table text looks Input = AreFirstSaid (LineLooks place table) text looks
+EndsReading place table text looks NoMemory = AreFirstSaid (LineLooks place table) text looks
 
 -- the addresses of a text were looked up, and their lines collected, to the end or to an error
-abbrev pub LooksLines : (Family → List (List Bool × List ℕ)) → Option (List ℕ) → State → State → List ℕ → List ℕ → Result Bool LookError → Type 0
-LooksLines table contents old new block rest (Ok found) = (looks : List (Option LookUp))
+abbrev pub LooksLines : Asked → (Family → List (List Bool × List ℕ)) → Option (List ℕ) → State → State → List ℕ → List ℕ → Result Bool LookError → Type 0
+LooksLines place table contents old new block rest (Ok found) = (looks : List (Option LookUp))
     × Collects old new block rest (flat_map look_line looks) (Ok tt) × (found ≡ list_any is_found looks)
-    × IfSome contents (λ text. AllZip (LineLooks table) (lines_of text) looks)
-LooksLines table contents old new block rest (Err (Reading e)) = (looks : List (Option LookUp))
-    × Collects old new block rest (flat_map look_line looks) (Ok tt) × IfSome contents (λ text. EndsReading table text looks e)
-LooksLines table contents old new block rest (Err Output) = (looks : List (Option LookUp))
-    × Part old new (block ++ flat_map look_line looks) × IfSome contents (λ text. AreFirstSaid (LineLooks table) text looks)
+    × IfSome contents (λ text. AllZip (LineLooks place table) (lines_of text) looks)
+LooksLines place table contents old new block rest (Err (Reading e)) = (looks : List (Option LookUp))
+    × Collects old new block rest (flat_map look_line looks) (Ok tt) × IfSome contents (λ text. EndsReading place table text looks e)
+LooksLines place table contents old new block rest (Err Output) = (looks : List (Option LookUp))
+    × Part old new (block ++ flat_map look_line looks) × IfSome contents (λ text. AreFirstSaid (LineLooks place table) text looks)
 
 -- the same, and the lines were written
-abbrev pub LooksAll : (Family → List (List Bool × List ℕ)) → Option (List ℕ) → State → State → Result Bool LookError → Type 0
-LooksAll table contents old new (Ok found) = (looks : List (Option LookUp))
+abbrev pub LooksAll : Asked → (Family → List (List Bool × List ℕ)) → Option (List ℕ) → State → State → Result Bool LookError → Type 0
+LooksAll place table contents old new (Ok found) = (looks : List (Option LookUp))
     × Answered old new (flat_map look_line looks) (Ok tt) × (found ≡ list_any is_found looks)
-    × IfSome contents (λ text. AllZip (LineLooks table) (lines_of text) looks)
-LooksAll table contents old new (Err (Reading e)) = (looks : List (Option LookUp))
-    × Answered old new (flat_map look_line looks) (Ok tt) × IfSome contents (λ text. EndsReading table text looks e)
-LooksAll table contents old new (Err Output) = (looks : List (Option LookUp)) × (failed : OutputFailed)
-    × Answered old new (flat_map look_line looks) (Err failed) × IfSome contents (λ text. AreFirstSaid (LineLooks table) text looks)
+    × IfSome contents (λ text. AllZip (LineLooks place table) (lines_of text) looks)
+LooksAll place table contents old new (Err (Reading e)) = (looks : List (Option LookUp))
+    × Answered old new (flat_map look_line looks) (Ok tt) × IfSome contents (λ text. EndsReading place table text looks e)
+LooksAll place table contents old new (Err Output) = (looks : List (Option LookUp)) × (failed : OutputFailed)
+    × Answered old new (flat_map look_line looks) (Err failed) × IfSome contents (λ text. AreFirstSaid (LineLooks place table) text looks)

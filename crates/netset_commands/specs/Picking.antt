@@ -1,8 +1,10 @@
--- The field by which `match` picks lines, as the options name it.
-use Rattle.std.specs.Prelude.{◌≡◌, ◌≢◌, ◌⊎◌, ℕ, ◌+◌, ◌^◌, ◌<◌, ◌≤◌, List, [], ◌∷◌, length, Option, Some, None}
+-- The field by which `match` picks lines and `look` has an address, as the options name it.
+use Rattle.std.specs.Prelude.{◌≡◌, ◌≢◌, ◌⊎◌, ℕ, ◌+◌, ◌^◌, ◌<◌, ◌≤◌, Bool, if◌then◌else◌, List, [], ◌∷◌, length, Option, Some, None}
 use Rattle.cidr_lists.specs.declared.columns.Column.{Column}
 use Rattle.cidr_lists.specs.declared.columns.Separator.{Separator}
 use Rattle.cidr_lists.specs.declared.columns.Separator.TheVariants.{WhiteSpace, Byte}
+use Rattle.cidr_lists.specs.declared.fields.Asked.{Asked}
+use Rattle.cidr_lists.specs.declared.fields.Asked.TheVariants.{First, Field, Anywhere}
 use Rattle.netset_commands.specs.Single.{IsNumber}
 use Rattle.netset_commands.specs.declared.errors.ArgumentError.{ArgumentError}
 use Rattle.netset_commands.specs.declared.errors.ArgumentError.TheVariants as bad
@@ -25,6 +27,11 @@ IsFieldPlace number place = IsNumber number (place + 1) × (place + 1 < 2 ^ 64)
 abbrev pub IsChosen : Choice → Column → Type 0
 IsChosen FirstField column = (column.place ≡ 0) × (column.separator ≡ WhiteSpace)
 IsChosen (FieldOf number separator) column = IsFieldPlace number column.place × IsSeparator separator column.separator
+
+-- the address that `look` takes of each line: with --any the first anywhere, and else that of the first field, or of this one
+abbrev pub IsAsked : Choice → Bool → Asked → Type 0
+IsAsked FirstField any asked = asked ≡ (if any then Anywhere else First)
+IsAsked (FieldOf number separator) any asked = (column : Column) × IsChosen (FieldOf number separator) column × (asked ≡ Field column)
 
 -- the number is none from 1 on
 abbrev pub IsBadNumber : List ℕ → List ℕ → ArgumentError → Type 0

@@ -26,7 +26,7 @@ use Rattle.netset_commands.specs.Look.{IsLookCut, IsUnreadTable}
 use Rattle.netset_commands.specs.Stored.{IsNoTable, IsNotGiven}
 use Rattle.netset_commands.specs.Matching.{has, written_of, IsEndedBy, IsEndedIn, Picks}
 use Rattle.netset_commands.specs.Streaming.{IsCutShort}
-use Rattle.netset_commands.specs.Picking.{Choice, IsBadChoice, IsChosen}
+use Rattle.netset_commands.specs.Picking.{Choice, IsAsked, IsBadChoice, IsChosen}
 use Rattle.netset_commands.specs.Single.{HasNone, IsBadSingle, IsNoNetwork, IsNumber}
 use Rattle.netset_commands.specs.Unchecked.{IsUnchecked}
 use Rattle.netset_commands.specs.Which.{IsNoAddressArgument}
@@ -38,6 +38,7 @@ use Rattle.netset_commands.specs.declared.errors.FileError.{FileError}
 use Rattle.netset_commands.specs.declared.errors.FileError.TheVariants.{TooLarge, NotSaved, Unlike, Version, Short, Long, Changed}
 use Rattle.netset_commands.specs.declared.commands.Reading.{Reading}
 use Rattle.cidr_lists.specs.declared.columns.Column.{Column}
+use Rattle.cidr_lists.specs.declared.fields.Asked.{Asked}
 use Rattle.cidr_lists.specs.declared.lines.HostBits.{HostBits}
 use Rattle.netset_commands.specs.declared.output.answers.Verdict.{Verdict}
 use Rattle.netset_commands.specs.declared.output.answers.Verdict.TheVariants.{Yes, No}
@@ -75,6 +76,7 @@ IsWrong (Free style extent pool len used) e = IsBadArgument (IsBadFree extent le
 IsWrong (Which text files) e = IsBadArgument (IsNoAddressArgument text) e
 IsWrong (Match choice options list file) e = IsBadArgument (IsBadChoice choice) e
 IsWrong (MatchEach choice options list files) e = IsBadArgument (IsBadChoice choice) e
+IsWrong (Look choice options table file) e = IsBadArgument (IsBadChoice choice) e
 IsWrong (Compile table name) e = IsSameFile table name e
 IsWrong request e = ⊥
 
@@ -112,7 +114,8 @@ IsRequestRefused contents (Match choice options list file) (Err e) = IsBadArgume
     ⊎ ((column : Column) × IsChosen choice column × (IsNotGiven (IsUnread contents (list ∷ [])) (contents list) list e ⊎ IsInputError file e))
 IsRequestRefused contents (MatchEach choice options list files) (Err e) = IsBadArgument (IsBadChoice choice) e
     ⊎ ((column : Column) × IsChosen choice column × IsNotGiven (IsUnread contents (list ∷ [])) (contents list) list e)
-IsRequestRefused contents (Look table file) (Err e) = IsNoTable (contents table) table e ⊎ IsInputError file e
+IsRequestRefused contents (Look choice options table file) (Err e) = IsBadArgument (IsBadChoice choice) e
+    ⊎ ((asked : Asked) × IsAsked choice (has (codes "--any") options) asked × (IsNoTable (contents table) table e ⊎ IsInputError file e))
 IsRequestRefused contents (Describe what operand) (Err e) = IsNoLength what operand × IsUnreadOperand contents operand e
 IsRequestRefused contents (Class operand) (Err e) = IsUnclassed contents operand e
 IsRequestRefused contents (Single request) (Err e) = IsBadArgument (IsBadSingle request) e
@@ -143,9 +146,9 @@ IsMatchEachUntil contents choice options list before file answer e = (column : C
     (λ IsIn. IsEndedIn contents (Picks (has (codes "--any") options) column IsIn (has (codes "-v") options)) (written_of options) before file answer e))
 
 -- the same of `look`
-abbrev pub IsLookUntil : (List ℕ → Option Text) → List ℕ → List ℕ → List ℕ → CommandError → Type 0
-IsLookUntil contents table file answer e =
-    (rows text : Text) → contents table ≡ Some rows → contents file ≡ Some text → IsLookCut rows text.bytes answer e
+abbrev pub IsLookUntil : (List ℕ → Option Text) → Choice → List (List ℕ) → List ℕ → List ℕ → List ℕ → CommandError → Type 0
+IsLookUntil contents choice options table file answer e = (asked : Asked) × IsAsked choice (has (codes "--any") options) asked
+    × ((rows text : Text) → contents table ≡ Some rows → contents file ≡ Some text → IsLookCut (has (codes "--keep") options) asked rows text.bytes answer e)
 
 -- the error is that the table that a text says is too large for a file, or that the file can't be written
 abbrev pub IsNoFile : Option Text → List ℕ → List ℕ → CommandError → Type 0
@@ -167,8 +170,8 @@ AnswersRequest contents (Match choice options list file) old new r =
 AnswersRequest contents (MatchEach choice options list files) old new r = AnswersWhole contents (MatchEach choice options list files) old new r
     ⊎ ((before after : List (List ℕ)) × (file : List ℕ) × (files ≡ before ++ file ∷ after)
     × IsCutShort (IsMatchEachUntil contents choice options list before file) file old new r)
-AnswersRequest contents (Look table file) old new r =
-    AnswersWhole contents (Look table file) old new r ⊎ IsCutShort (IsLookUntil contents table file) file old new r
+AnswersRequest contents (Look choice options table file) old new r =
+    AnswersWhole contents (Look choice options table file) old new r ⊎ IsCutShort (IsLookUntil contents choice options table file) file old new r
 AnswersRequest contents (Compile table name) old new r = (new ≡ old) × IsCompiled contents table name r
 AnswersRequest contents (Class operand) old new r =
     AnswersWhole contents (Class operand) old new r ⊎ IsCutShort (IsClassUntil contents operand) operand old new r

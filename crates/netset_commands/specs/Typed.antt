@@ -30,7 +30,7 @@ abbrev pub AreTypedFor : Verb → List (List ℕ) → List (List ℕ) → List �
 AreTypedFor command options valued list file words =
     AreTyped command options valued (list ∷ file ∷ []) words ⊎ ((file ≡ input_name) × AreTyped command options valued (list ∷ []) words)
 
--- the options of `match` that tell the field, with their values; --any goes with none of them
+-- the options of `match` and `look` that tell the field, with their values; --any goes with none of them
 abbrev pub choice_words : Choice → List (List ℕ)
 choice_words FirstField = []
 choice_words (FieldOf number None) = codes "--field" ∷ number ∷ []
@@ -65,7 +65,8 @@ IsTyped words options (Match choice given list file) =
 IsTyped words options (MatchEach choice given list (first ∷ second ∷ files)) = (given ≡ options) × GoesWith choice options
     × AreTyped verb.Match options (choice_words choice) (list ∷ first ∷ second ∷ files) words
 IsTyped words options (MatchEach choice given list files) = ⊥
-IsTyped words options (Look table file) = AreTypedFor verb.Look options [] table file words
+IsTyped words options (Look choice given table file) =
+    (given ≡ options) × GoesWith choice options × AreTypedFor verb.Look options (choice_words choice) table file words
 IsTyped words options (Compile table name) = AreTyped verb.Compile options [] (table ∷ name ∷ []) words
 IsTyped words options (Describe what operand) = AreTyped (verb.Describe what) options [] (operand ∷ []) words
 IsTyped words options (Class operand) = AreTyped verb.Class options [] (operand ∷ []) words

@@ -18,6 +18,7 @@ pub mod describe;
 pub mod free;
 pub mod help;
 pub mod inside;
+pub mod kept;
 pub mod look;
 pub mod matching;
 pub mod operations;
@@ -64,8 +65,8 @@ pub enum Command<'a> {
     Match(Choice<'a>, &'a [&'a str], &'a str, &'a str),
     /// The field, the options, the list, and the files of which lines are picked.
     MatchEach(Choice<'a>, &'a [&'a str], &'a str, &'a [&'a str]),
-    /// The longest networks of the first file that have the addresses of the second one.
-    Look(&'a str, &'a str),
+    /// The field, the options, and the longest networks of the first file that have the addresses of the second one.
+    Look(Choice<'a>, &'a [&'a str], &'a str, &'a str),
     /// The table that is compiled, and the file that is written.
     Compile(&'a str, &'a str),
     /// What is told of a network, an address or the networks of a list.
@@ -165,7 +166,7 @@ impl<'a> Command<'a> {
             }
             Command::Match(_, _, list, _)
             | Command::MatchEach(_, _, list, _)
-            | Command::Look(list, _)
+            | Command::Look(_, _, list, _)
             | Command::Compile(list, _)
             | Command::Split(_, list, _)
             | Command::Describe(_, list) => names.push(*list)?,
@@ -190,7 +191,7 @@ impl<'a> Command<'a> {
             | Command::Which(_, _)
             | Command::Match(_, _, _, _)
             | Command::MatchEach(_, _, _, _)
-            | Command::Look(_, _)
+            | Command::Look(_, _, _, _)
             | Command::Compile(_, _)
             | Command::Class(_)
             | Command::Single(_)
@@ -218,7 +219,7 @@ impl<'a> Command<'a> {
     {
         let mut names = self.lists(memory)?;
         match self {
-            Command::Match(_, _, _, file) | Command::Look(_, file) | Command::Class(file) => {
+            Command::Match(_, _, _, file) | Command::Look(_, _, _, file) | Command::Class(file) => {
                 memory.push(&mut names, *file)?;
             }
             Command::MatchEach(_, _, _, files) => {
@@ -246,7 +247,7 @@ impl<'a> Command<'a> {
     {
         match self {
             Command::Check(_) | Command::Which(_, _) => Kind::Hosts,
-            Command::Look(_, _) | Command::Compile(_, _) => Kind::Rows,
+            Command::Look(_, _, _, _) | Command::Compile(_, _) => Kind::Rows,
             _ => Kind::Networks,
         }
     }

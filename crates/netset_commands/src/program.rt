@@ -134,7 +134,9 @@ fn answer<'a, M: Memory, F: Sources, D: Folder, O: Sink>(
         Command::MatchEach(choice, options, list, files) => {
             match_each(memory, sources, choice, options, list, files, out)
         }
-        Command::Look(table, file) => look(memory, sources, table, file, out),
+        Command::Look(choice, options, table, file) => {
+            look(memory, sources, choice, options, table, file, out)
+        }
         Command::Compile(table, name) => compile(memory, sources, table, name, folder),
         Command::Describe(what, operand) => describe(memory, sources, what, operand, out),
         Command::Class(operand) => class(memory, sources, operand, out),
@@ -165,7 +167,9 @@ fn wrong_argument<'a>(command: Command<'a>) -> Option<CommandError<'a>>
             },
             None => Some(CommandError::Argument(len, ArgumentError::Length)),
         },
-        Command::Match(choice, _, _, _) | Command::MatchEach(choice, _, _, _) => {
+        Command::Match(choice, _, _, _)
+        | Command::MatchEach(choice, _, _, _)
+        | Command::Look(choice, _, _, _) => {
             match column_of(choice) {
                 Ok(_) => None,
                 Err(e) => Some(e),
@@ -176,7 +180,6 @@ fn wrong_argument<'a>(command: Command<'a>) -> Option<CommandError<'a>>
         | Command::Styled(_, _, _)
         | Command::Diff(_, _)
         | Command::Check(_)
-        | Command::Look(_, _)
         | Command::Split(_, _, _)
         | Command::Describe(_, _)
         | Command::Class(_)

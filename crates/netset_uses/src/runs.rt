@@ -1,5 +1,6 @@
 //! Runs of `netset`: what they print, and what they tell of an error.
-ghost use Rattle.std.specs.Prelude.{◌≡◌, [], ◌∷◌, codes, map, IfSome};
+ghost use Rattle.std.specs.Prelude.{◌≡◌, [], ◌∷◌, codes, false, map, IfSome};
+ghost use Rattle.cidr_lists.specs.declared.fields.Asked.TheVariants.{First};
 ghost use Rattle.cidr_lists.specs.Lists.{text_by};
 ghost use Rattle.cidr_lists.specs.declared.lines.HostBits.TheVariants.{Refused};
 ghost use Rattle.netset_commands.specs.Commands.{IsMadeOf};
@@ -71,7 +72,7 @@ pub fn merge(alloc: Global, list: &[u8]) -> Option<Finished>
 /// network of the table that has it, and the value of that.
 pub fn look(alloc: Global, table: &[u8], file: &[u8]) -> Option<Finished>
     ensures { IfSome result (λ run. run.status ≡ 0
-        → HasPrinted (λ answer. IsLook (text_by Refused table.now) file.now answer Yes) run) }
+        → HasPrinted (λ answer. IsLook false First (text_by Refused table.now) file.now answer Yes) run) }
 {
     let files = [
         TextFile {

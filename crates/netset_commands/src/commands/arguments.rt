@@ -1,7 +1,7 @@
 //! The words of a command line as options and operands, and the command that they are.
 ghost use Rattle.std.specs.Prelude.{◌≡◌, ◌<◌, [], Ok, Err, Bool, true, false, length, drop, MatchOption, MatchResult, option_map, slice_get, unwrap_or};
 ghost use Rattle.std.specs.List.{after_first, before_first};
-ghost use Rattle.netset_commands.specs.Arguments.{asks_help, choice_by, choice_in, chosen_style, extent_by, extra_operand, free_request, fresh, full_name, help_request, is_equals, is_option, is_plain, is_topic, letter_parts, line_parts, lists_request, long_parts, made_request, match_by, match_request, missing_operand, misuse_text, named_format, named_verb, no_option, no_parts, operand_or, part_request, parts_from, short_option, short_parts, some_style, split_request, style_in_values, style_of, taken_value, takes, target_in, topic_parts, value_of, verb_of, verb_request, word_parts};
+ghost use Rattle.netset_commands.specs.Arguments.{asks_help, choice_by, choice_in, chosen_style, extent_by, extra_operand, free_request, fresh, full_name, help_request, is_equals, is_option, is_plain, is_topic, letter_parts, line_parts, lists_request, long_parts, look_by, look_request, made_request, match_by, match_request, missing_operand, misuse_text, named_format, named_verb, no_option, no_parts, operand_or, part_request, parts_from, short_option, short_parts, some_style, split_request, style_in_values, style_of, taken_value, takes, target_in, topic_parts, value_of, verb_of, verb_request, word_parts};
 ghost use Rattle.netset_commands.specs.Command.{AddsParts, IsUsageError, choice_of, extent_of, given, misuse_line, given_parts, request_of};
 ghost use Rattle.netset_commands.specs.Matching.{is_word};
 ghost use Rattle.netset_commands.specs.Table.{name_of, takes_value, texts};
@@ -629,41 +629,47 @@ fn help_command<'a>(operands: &[&'a str]) -> Result<Command<'a>, Misuse<'a>>
     }
 }
 
-/// The field by which lines are picked, by the value of `--field`, whether `--any` is given, and the value of
+/// The field that is read of each line, by the value of `--field`, whether `--any` is given, and the value of
 /// `--separator`.
 fn choice_by<'a>(
+    command: Verb,
     number: Option<&'a str>,
     any: bool,
     separator: Option<&'a str>,
 ) -> Result<Choice<'a>, Misuse<'a>>
-    ensures { MatchResult result (λ choice. choice_by (given number.entry) any (given separator.entry) ≡ Ok (choice_of choice))
-        (λ misuse. choice_by (given number.entry) any (given separator.entry) ≡ Err (misuse_line misuse)) }
+    ensures { MatchResult result (λ choice. choice_by command (given number.entry) any (given separator.entry) ≡ Ok (choice_of choice))
+        (λ misuse. choice_by command (given number.entry) any (given separator.entry) ≡ Err (misuse_line misuse)) }
 {
     match (number, any, separator) {
         (None, _, None) => Ok(Choice::First),
         (None, _, Some(_)) => Err(Misuse {
             word: "--separator",
             why: Misfit::NoField,
-            command: "match",
+            command: name_of(command),
         }),
         (Some(number), false, separator) => Ok(Choice::Field(number, separator)),
         (Some(_), true, _) => Err(Misuse {
             word: "--field",
             why: Misfit::Anywhere,
-            command: "match",
+            command: name_of(command),
         }),
     }
 }
 
 /// The same by the parts of a line.
-fn choice_in<'a>(parts: &'a Parts<'a>) -> Result<Choice<'a>, Misuse<'a>>
-    ensures { MatchResult result (λ choice. choice_in (given_parts parts.now) ≡ Ok (choice_of choice))
-        (λ misuse. choice_in (given_parts parts.now) ≡ Err (misuse_line misuse)) }
+fn choice_in<'a>(command: Verb, parts: &'a Parts<'a>) -> Result<Choice<'a>, Misuse<'a>>
+    ensures { MatchResult result (λ choice. choice_in command (given_parts parts.now) ≡ Ok (choice_of choice))
+        (λ misuse. choice_in command (given_parts parts.now) ≡ Err (misuse_line misuse)) }
 {
     let values = parts.values.as_slice();
-    let number = value_of(Verb::Match, "--field", values)?;
-    let separator = value_of(Verb::Match, "--separator", values)?;
-    choice_by(number, has(parts.options.as_slice(), "--any"), separator)
+    let number = value_of(command, "--field", values)?;
+    let separator = value_of(command, "--separator", values)?;
+    choice_by(
+        command,
+        number,
+        has(parts.options.as_slice(), "--any"),
+        separator,
+    )
 }
 
 /// The command `match`, of several files where there is a third operand, and else of one or of the standard input.
@@ -693,8 +699,30 @@ fn match_command<'a>(parts: &'a Parts<'a>) -> Result<Command<'a>, Misuse<'a>>
     ensures { MatchResult result (λ command. match_request (given_parts parts.now) ≡ Ok (request_of command))
         (λ misuse. match_request (given_parts parts.now) ≡ Err (misuse_line misuse)) }
 {
-    let choice = choice_in(parts)?;
+    let choice = choice_in(Verb::Match, parts)?;
     Ok(match_by(choice, parts))
+}
+
+/// The command `look`, of a table and a file or the standard input.
+fn look_by<'a>(choice: Choice<'a>, parts: &'a Parts<'a>) -> Command<'a>
+    ensures { request_of result ≡ look_by (choice_of choice.entry) (given_parts parts.now) }
+{
+    let operands = parts.operands.as_slice();
+    Command::Look(
+        choice,
+        parts.options.as_slice(),
+        operand_or(operands, 0, ""),
+        operand_or(operands, 1, "-"),
+    )
+}
+
+/// The command `look` with the field that it looks up.
+fn look_command<'a>(parts: &'a Parts<'a>) -> Result<Command<'a>, Misuse<'a>>
+    ensures { MatchResult result (λ command. look_request (given_parts parts.now) ≡ Ok (request_of command))
+        (λ misuse. look_request (given_parts parts.now) ≡ Err (misuse_line misuse)) }
+{
+    let choice = choice_in(Verb::Look, parts)?;
+    Ok(look_by(choice, parts))
 }
 
 /// The command with as many operands as it takes.
@@ -712,7 +740,7 @@ fn verb_command<'a>(verb: Verb, parts: &'a Parts<'a>) -> Result<Command<'a>, Mis
             Ok(Command::Which(operand_or(operands, 0, ""), operands_from(operands, 1)))
         }
         Verb::Match => match_command(parts),
-        Verb::Look => Ok(Command::Look(operand_or(operands, 0, ""), operand_or(operands, 1, "-"))),
+        Verb::Look => look_command(parts),
         Verb::Compile => Ok(Command::Compile(
             operand_or(operands, 0, ""),
             operand_or(operands, 1, ""),

@@ -17,6 +17,7 @@ use cidr_io::memory::Memory;
 use cidr_io::sink::{OutputFailed, Sink};
 use cidr_io::writing::write_text;
 use cidr_lists::classes::class_line;
+use cidr_lists::fields::Asked;
 
 /// The registries, in which addresses are looked up.
 #[derive(Clone, Copy)]
@@ -63,7 +64,7 @@ fn tell_classes<'a, M: Memory, F: Sources, O: Sink>(
     let Ok(mut reader) = LineReader::new(memory, reader) else {
         return Err(CommandError::NoMemory);
     };
-    match look_all(memory, &Registries, &mut reader, out) {
+    match look_all(memory, &Registries, Asked::First, &mut reader, out) {
         Ok(found) => Ok(verdict_of(found)),
         Err(LookError::Reading(e)) => Err(unread(file, e)),
         Err(LookError::Output) => Err(CommandError::Output),

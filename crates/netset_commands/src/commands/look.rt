@@ -1,19 +1,23 @@
 //! The longest networks of addresses.
-ghost use Rattle.std.specs.Prelude.{◌≡◌, ◌<◌, ◌≤◌, ◌⊎◌, List, [], ℕ, length, map, IfErr, IfOk, IfSome, Some, false, option_map};
+ghost use Rattle.std.specs.Prelude.{◌≡◌, ◌<◌, ◌≤◌, ◌⊎◌, [], length, map, IfErr, IfOk, IfSome, option_map};
 ghost use Rattle.std.specs.List.{AllZip};
 ghost use Rattle.cidr_io.specs.Lines.{MayFail as NoLineFails};
 ghost use Rattle.netset_commands.specs.Causes.{Cause, LookCause, FileMayFail, ReadCause, TextFails};
+ghost use Rattle.netset_commands.specs.Command.{choice_of};
 ghost use Rattle.netset_commands.specs.Commands.{Look};
-ghost use Rattle.netset_commands.specs.LookUps.{AllFound, AsksAddress, AsksLine, AsksLines, IsFoundOf, LooksAll, LooksEach, LooksLines, LooksOne, verdict_of};
-ghost use Rattle.cidr_lists.specs.Lists.{Text};
-ghost use Rattle.netset_commands.specs.Compiled.{SaysTable};
+ghost use Rattle.netset_commands.specs.KeptLines.{TellsFile};
+ghost use Rattle.netset_commands.specs.Look.{verdict_of};
+ghost use Rattle.netset_commands.specs.LookUps.{AllFound, AsksAddress, AsksLine, AsksLines, IsFoundOf, LooksAll, LooksEach, LooksLines, LooksOne};
 ghost use Rattle.netset_commands.specs.Program.{AnswersRequest};
 
+use crate::commands::kept::keep_lines;
+use crate::commands::matching::has;
+use crate::commands::picking::{Choice, asked_of};
 use crate::errors::{CommandError, ReadError};
 use crate::input::begun::Given;
 use crate::input::files::Sources;
 use crate::input::stored::Stored;
-use crate::input::table::{Answer, LookUps, give_table, unread};
+use crate::input::table::{Answer, LookUps, Networks, give_table, unread};
 use crate::output::answers::Verdict;
 use crate::output::printing::catch_up;
 use arrayvec::ArrayVec;
@@ -23,8 +27,8 @@ use cidr_io::lines::{LineReader, is_too_long};
 use cidr_io::memory::Memory;
 use cidr_io::sink::{OutputFailed, Sink};
 use cidr_io::source::Source;
-use cidr_lists::columns::address_of;
 use cidr_lists::errors::LineError;
+use cidr_lists::fields::{Asked, asked_in};
 
 /// Why look-ups end early.
 #[derive(Debug, Drop)]
@@ -50,21 +54,25 @@ impl From<OutputFailed> for LookError {
 const GROUP: usize = 64;
 
 /// The address of a line; a line that is too long is in error.
-fn address_asked(line: &[u8]) -> Result<Option<IpAddr>, LineError>
-    ensures { AsksAddress line.now result }
+pub fn address_asked(place: Asked, line: &[u8]) -> Result<Option<IpAddr>, LineError>
+    ensures { AsksAddress place line.now result }
 {
     if is_too_long(line) {
         return Err(LineError::TooLong);
     }
-    address_of(line)
+    asked_in(place, line)
 }
 
 /// Adds the address of a line to those of others, or that it has none.
-fn ask_line(line: &[u8], asked: &mut ArrayVec<Option<IpAddr>, GROUP>) -> Result<(), LineError>
+fn ask_line(
+    place: Asked,
+    line: &[u8],
+    asked: &mut ArrayVec<Option<IpAddr>, GROUP>,
+) -> Result<(), LineError>
     requires { length asked.old.items < 64 }
-    ensures { AsksLine line.now asked.old.items asked.new.items result }
+    ensures { AsksLine place line.now asked.old.items asked.new.items result }
 {
-    match address_asked(line) {
+    match address_asked(place, line) {
         Ok(address) => {
             asked.push(address);
             Ok(())
@@ -77,12 +85,13 @@ fn ask_line(line: &[u8], asked: &mut ArrayVec<Option<IpAddr>, GROUP>) -> Result<
 /// of lines that are read already behind the first. Returns the number of the next line, if there is one.
 fn read_group<M: Memory, R: Source + Drop>(
     memory: &mut M,
+    place: Asked,
     first: u64,
     reader: &mut LineReader<R>,
     asked: &mut ArrayVec<Option<IpAddr>, GROUP>,
 ) -> Result<Option<u64>, ReadError>
     requires { asked.old.items ≡ [] }
-    ensures asks { AsksLines first reader.old.left reader.new.left asked.new.items result }
+    ensures asks { AsksLines place first reader.old.left reader.new.left asked.new.items result }
     ensures onward { IfOk result (λ next. IfSome next (λ number. (number ≡ 18446744073709551615) ⊎ (first < number))) }
     ensures cause { IfErr result (ReadCause (NoLineFails reader.old.left) (M.refused memory.new)) }
 {
@@ -91,7 +100,7 @@ fn read_group<M: Memory, R: Source + Drop>(
             return Ok(Some(number));
         }
         let has_more = reader.read_line(memory)?;
-        if let Err(e) = ask_line(reader.line(), asked) {
+        if let Err(e) = ask_line(place, reader.line(), asked) {
             return Err(ReadError::Line(number, e));
         }
         if !has_more {
@@ -181,11 +190,12 @@ fn look_each<T: LookUps, S: Sink>(
 fn look_lines<T: LookUps, M: Memory, R: Source + Drop, S: Sink>(
     memory: &mut M,
     table: &T,
+    place: Asked,
     reader: &mut LineReader<R>,
     block: &mut Block,
     out: &mut S,
 ) -> Result<bool, LookError>
-    ensures looks { LooksLines (T.rows table.now) reader.old.left (S.state out.old) (S.state out.new)
+    ensures looks { LooksLines place (T.rows table.now) reader.old.left (S.state out.old) (S.state out.new)
         block.old block.new result }
     ensures cause { IfErr result (LookCause (TextFails reader.old.left) (M.refused memory.new)) }
 {
@@ -194,7 +204,7 @@ fn look_lines<T: LookUps, M: Memory, R: Source + Drop, S: Sink>(
     while number < u64::MAX {
         catch_up(reader, block, out)?;
         let mut asked = ArrayVec::new();
-        let read = read_group(memory, number, reader, &mut asked);
+        let read = read_group(memory, place, number, reader, &mut asked);
         let hit = look_each(table, asked.as_slice(), block, out)?;
         found = found || hit;
         match read {
@@ -213,17 +223,18 @@ fn look_lines<T: LookUps, M: Memory, R: Source + Drop, S: Sink>(
 pub fn look_all<T: LookUps, M: Memory, R: Source + Drop, S: Sink>(
     memory: &mut M,
     table: &T,
+    place: Asked,
     reader: &mut LineReader<R>,
     out: &mut S,
 ) -> Result<bool, LookError>
-    ensures looks { LooksAll (T.rows table.now) reader.old.left (S.state out.old) (S.state out.new) result }
+    ensures looks { LooksAll place (T.rows table.now) reader.old.left (S.state out.old) (S.state out.new) result }
     ensures cause { IfErr result (LookCause (TextFails reader.old.left) (M.refused memory.new)) }
 {
     if out.failed() {
         return Err(LookError::Output);
     }
     let mut block = Block::new();
-    match look_lines(memory, table, reader, &mut block, out) {
+    match look_lines(memory, table, place, reader, &mut block, out) {
         Ok(found) => {
             block.flush(out)?;
             Ok(found)
@@ -243,17 +254,17 @@ pub fn verdict_of(found: bool) -> Verdict
     if found { Verdict::Yes } else { Verdict::No }
 }
 
-/// Looks up the addresses of a file in a table.
-fn look_in<'a, T: LookUps, M: Memory, F: Sources, O: Sink>(
+/// Looks up the addresses of a file in a table, and tells them, by themselves or with their lines.
+fn look_in<'a, T: Networks, M: Memory, F: Sources, O: Sink>(
     memory: &mut M,
     sources: &F,
     table: &T,
+    keeps: bool,
+    place: Asked,
     file: &'a str,
     out: &mut O,
 ) -> Result<Verdict, CommandError<'a>>
-    ensures answers { (name : List ℕ)
-        → ((text : Text) → F.contents sources.now name ≡ Some text → SaysTable text (T.rows table.now))
-        → AnswersRequest (F.contents sources.now) (Look name file.now) (O.state out.old) (O.state out.new) result }
+    ensures tells { TellsFile keeps place (T.LookUps.rows table.now) (F.contents sources.now file.now) file.now (O.state out.old) (O.state out.new) result }
     ensures cause { IfErr result (Cause (FileMayFail (F.contents sources.now)) (M.refused memory.new)) }
 {
     let reader = match sources.open(file) {
@@ -263,7 +274,10 @@ fn look_in<'a, T: LookUps, M: Memory, F: Sources, O: Sink>(
     let Ok(mut reader) = LineReader::new(memory, reader) else {
         return Err(CommandError::NoMemory);
     };
-    match look_all(memory, table, &mut reader, out) {
+    if keeps {
+        return keep_lines(memory, table, place, file, &mut reader, out);
+    }
+    match look_all(memory, table, place, &mut reader, out) {
         Ok(found) => Ok(verdict_of(found)),
         Err(LookError::Reading(e)) => Err(unread(file, e)),
         Err(LookError::Output) => Err(CommandError::Output),
@@ -274,18 +288,23 @@ fn look_in<'a, T: LookUps, M: Memory, F: Sources, O: Sink>(
 pub fn look<'a, M: Memory, F: Sources, O: Sink>(
     memory: &mut M,
     sources: &F,
+    choice: Choice<'a>,
+    options: &[&str],
     table: &'a str,
     file: &'a str,
     out: &mut O,
 ) -> Result<Verdict, CommandError<'a>>
-    ensures answers { AnswersRequest (F.contents sources.now) (Look table.now file.now) (O.state out.old) (O.state out.new) result }
+    ensures answers { AnswersRequest (F.contents sources.now) (Look (choice_of choice.entry) (map (λ w. w.now) options.now) table.now file.now)
+        (O.state out.old) (O.state out.new) result }
     ensures cause { IfErr result (Cause (FileMayFail (F.contents sources.now)) (M.refused memory.new)) }
 {
+    let place = asked_of(choice, has(options, "--any"))?;
+    let keeps = has(options, "--keep");
     match give_table(memory, sources, table)? {
-        Given::Lines(rows) => look_in(memory, sources, &rows, file, out),
+        Given::Lines(rows) => look_in(memory, sources, &rows, keeps, place, file, out),
         Given::Stored(bytes) => {
             let stored = Stored::check(memory, table, bytes.as_slice())?;
-            look_in(memory, sources, &stored, file, out)
+            look_in(memory, sources, &stored, keeps, place, file, out)
         }
     }
 }

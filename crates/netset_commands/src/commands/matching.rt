@@ -168,7 +168,7 @@ fn is_picked(inverted: bool, lies: bool) -> bool
 }
 
 /// Whether a part up to a line feed or to the end is a line.
-fn is_line(part: &[u8], has_more: bool) -> bool
+pub fn is_line(part: &[u8], has_more: bool) -> bool
     ensures line { result ≡ true → lines_of_part part.now has_more ≡ part.now ∷ [] }
     ensures none { result ≡ false → lines_of_part part.now has_more ≡ [] }
 {
@@ -351,7 +351,7 @@ impl Gathered {
 }
 
 /// Reads the next part of a file up to a line feed, without it, and tells whether there was one.
-fn next_part<'a, M: Memory, R: Source + Drop>(
+pub fn next_part<'a, M: Memory, R: Source + Drop>(
     memory: &mut M,
     file: &'a str,
     reader: &mut LineReader<R>,

@@ -1,14 +1,15 @@
-//! The field by which `match` picks lines, as the options name it.
+//! The field by which `match` picks lines and `look` has an address, as the options name it.
 ghost use Rattle.std.specs.Prelude.{◌≡◌, ◌≢◌, ◌⊎◌, ℕ, ◌+◌, ◌^◌, ◌≤◌, length, List, IfSome, MatchOption, MatchResult, Some};
 ghost use Rattle.netset_commands.specs.Command.{choice_of, given};
-ghost use Rattle.netset_commands.specs.Picking.{FieldOf, IsBadChoice, IsChosen, IsFieldPlace, IsSeparator};
+ghost use Rattle.netset_commands.specs.Picking.{FieldOf, IsAsked, IsBadChoice, IsChosen, IsFieldPlace, IsSeparator};
 ghost use Rattle.netset_commands.specs.Program.{IsBadArgument};
 ghost use Rattle.netset_commands.specs.Single.{IsNumber};
 
 use crate::errors::{ArgumentError, CommandError};
 use cidr_lists::columns::{Column, Separator};
+use cidr_lists::fields::Asked;
 
-/// The field by which lines are picked.
+/// The field by which lines are picked, or that is looked up.
 #[derive(Clone, Copy)]
 pub enum Choice<'a> {
     /// The first one.
@@ -67,5 +68,18 @@ pub fn column_of<'a>(choice: Choice<'a>) -> Result<Column, CommandError<'a>>
             separator: Separator::WhiteSpace,
         }),
         Choice::Field(number, separator) => field_of(number, separator),
+    }
+}
+
+/// The address that is looked up of each line: the first anywhere, or that of the field.
+pub fn asked_of<'a>(choice: Choice<'a>, any: bool) -> Result<Asked, CommandError<'a>>
+    ensures { MatchResult result (IsAsked (choice_of choice.entry) any) (IsBadArgument (IsBadChoice (choice_of choice.entry))) }
+{
+    match choice {
+        Choice::First => Ok(if any { Asked::Anywhere } else { Asked::First }),
+        Choice::Field(number, separator) => match field_of(number, separator) {
+            Ok(column) => Ok(Asked::Field(column)),
+            Err(e) => Err(e),
+        },
     }
 }

@@ -86,7 +86,7 @@ const MATCH: &str =
     "netset match [--any] [--field N] [--separator C] [-v] [-c] [-q] LIST [FILE..]\n                        the lines of FILE whose first field lies in LIST, --field N whose\n                        field N does, --separator C of fields with byte C between them and\n                        not white space; --any the lines that have an address of LIST\n                        anywhere; -v all the other lines, -c only their number, -q only the\n                        status; of more than one file each line behind its name and a colon\n";
 
 const LOOK: &str =
-    "netset look TABLE [FILE]\n                        the longest network of each address of FILE in the lines\n                        NET VALUE of TABLE, and its value\n";
+    "netset look [--any] [--field N] [--separator C] [--keep] TABLE [FILE]\n                        the longest network of the first field of each line of FILE in the\n                        lines NET VALUE of TABLE, and its value; --field N of field N,\n                        --separator C of fields with byte C between them, --any of the first\n                        address anywhere; --keep writes the lines of FILE, each with the\n                        network and value behind it\n";
 
 const COMPILE: &str =
     "netset compile TABLE OUT\n                        writes the table into the file OUT, which look and match take in the\n                        place of TABLE and LIST, and read none of its lines\n";
@@ -176,12 +176,12 @@ pub fn options_of(command: Verb) -> &'static [&'static str]
     match command {
         Verb::Lists(_)
         | Verb::Diff
-        | Verb::Look
         | Verb::Compile
         | Verb::Describe(_)
         | Verb::Split => { &["--host-bits", "--masks", "-k", "-h", "--help"] }
         Verb::Free => &["--all", "--host-bits", "--masks", "-k", "-h", "--help"],
         Verb::Check | Verb::Which => &["-k", "-h", "--help"],
+        Verb::Look => &["--any", "--keep", "--host-bits", "--masks", "-k", "-h", "--help"],
         Verb::Match => &[
             "--any",
             "-v",
@@ -198,7 +198,7 @@ pub fn options_of(command: Verb) -> &'static [&'static str]
 }
 
 /// The options of a command that have a value: the network of `not --in`, how networks are written, how many networks
-/// `free --count` tells, the field by which `match` picks, and where the answer is written.
+/// `free --count` tells, the field that `match` and `look` read, and where the answer is written.
 fn values_of(command: Verb) -> &'static [&'static str]
     ensures { texts result.now ≡ values_of command }
 {
@@ -210,7 +210,7 @@ fn values_of(command: Verb) -> &'static [&'static str]
         | Verb::Describe(_) => &["-o"],
         Verb::Lists(_) | Verb::Split => &["--format", "--prefix", "--suffix", "-o"],
         Verb::Free => &["--count", "--format", "--prefix", "--suffix", "-o"],
-        Verb::Match => &["--field", "--separator"],
+        Verb::Match | Verb::Look => &["--field", "--separator"],
         _ => &[],
     }
 }

@@ -15,7 +15,8 @@ ghost use Rattle.netset_commands.specs.LookUps.{LooksUp};
 ghost use Rattle.netset_commands.specs.Stored.{ChecksFile, IsFaultTold, by_family, stored_rows, table_error_of, file_error_of};
 
 use crate::errors::{CommandError, FileError};
-use crate::input::table::{Answer, LookUps, push_match, push_none};
+use crate::input::table::{Answer, LookUps, Networks, push_match, push_none};
+use arrayvec::ArrayString;
 use cidr::{BitString, IpAddr, Ipv4Addr, Ipv4Cidr, Ipv6Addr, Ipv6Cidr};
 use cidr_arrays::Word;
 use cidr_files::{Family, Fault, Ipv4Bytes, Ipv6Bytes, Part, Table, TableFault, checked, lookup};
@@ -189,6 +190,27 @@ impl LookUps for Stored<'_> {
                 match found_in::<Ipv6Bytes, Ipv6Cidr>(&self.tables.ipv6, bytes) {
                     Some(found) => push_match(block, out, text, found.0.to_text(), found.1),
                     None => push_none(block, out, text),
+                }
+            }
+        }
+    }
+}
+
+impl Networks for Stored<'_> {
+    fn network(&self, address: &IpAddr) -> Option<(ArrayString<43>, &[u8])> {
+        match address {
+            IpAddr::V4(address) => {
+                let bytes = Ipv4Bytes::of(u128::from(address.to_bits()));
+                match found_in::<Ipv4Bytes, Ipv4Cidr>(&self.tables.ipv4, bytes) {
+                    Some(found) => Some((found.0.to_text(), found.1)),
+                    None => None,
+                }
+            }
+            IpAddr::V6(address) => {
+                let bytes = Ipv6Bytes::of(address.to_bits());
+                match found_in::<Ipv6Bytes, Ipv6Cidr>(&self.tables.ipv6, bytes) {
+                    Some(found) => Some((found.0.to_text(), found.1)),
+                    None => None,
                 }
             }
         }

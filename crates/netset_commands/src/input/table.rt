@@ -5,6 +5,7 @@ ghost use Rattle.cidr.specs.declared.family.Family.{Family};
 ghost use Rattle.cidr_io.specs.Collecting.{Collects};
 ghost use Rattle.netset_commands.specs.Causes.{Cause, FileMayFail};
 ghost use Rattle.cidr_lists.specs.LookUps.{found_line};
+ghost use Rattle.netset_commands.specs.KeptLines.{IsNetworkOf};
 ghost use Rattle.netset_commands.specs.LookUps.{GivesRows, GivesTable, HasAnswer, LooksUp, PushesFound, ReadsFileRows, answer_of, ReadsTable, unread};
 ghost use Rattle.cidr_lists.specs.Tables.{kept};
 ghost use Rattle.netset_commands.specs.declared.input.table.Answer.{Answer};
@@ -55,6 +56,13 @@ pub trait LookUps {
         ensures { LooksUp (rows self.now) address.now (S.state out.old) (S.state out.new) block.old block.new result };
 }
 
+/// A table whose networks are printed.
+pub trait Networks: LookUps {
+    /// The longest network that an address is in, as it is printed, and its value.
+    fn network(&self, address: &IpAddr) -> Option<(ArrayString<43>, &[u8])>
+        ensures { IsNetworkOf (Self.LookUps.rows self.now) address.now (option_map (λ found. (found.0.bytes, found.1.now)) result) };
+}
+
 /// The answer that is a row.
 fn answer_of<C: BitString>(found: Option<&(C, Span)>) -> Option<Answer>
     ensures { result ≡ option_map (λ row. answer_of (length (C.bits row.0)) row.1) (option_copied found.entry) }
@@ -97,6 +105,18 @@ impl LookUps for Table {
                 )
             }
             None => push_none(block, out, address.to_text()),
+        }
+    }
+}
+
+impl Networks for Table {
+    fn network(&self, address: &IpAddr) -> Option<(ArrayString<43>, &[u8])> {
+        match self.find(address) {
+            Some(answer) => Some((
+                block_text(address, answer.len),
+                value_of(self.values.as_slice(), answer.value),
+            )),
+            None => None,
         }
     }
 }

@@ -1,28 +1,56 @@
-use Rattle.std.proofs.Common.{inl, refl, sym, subst}
+use Rattle.std.proofs.Common.{inl, inr, map, refl, sym, subst, codes}
 use Rattle.std.proofs.lemmas.Result.{err_from_is_err_and}
+use Rattle.netset_commands.specs.Causes.{FileMayFail}
+use Rattle.netset_commands.specs.Command.{choice_of}
 use Rattle.netset_commands.specs.Look.{IsUnreadTable}
+use Rattle.netset_commands.specs.Picking.{IsAsked}
 use Rattle.netset_commands.specs.Stored.{AreFileBytes, by_family}
+use Rattle.netset_commands.proofs.Causes.{argument_cause}
 use Rattle.netset_commands.proofs.Given.{no_file, says_table}
+use Rattle.netset_commands.proofs.Looked.{told_file}
 use Rattle.netset_commands.proofs.commands.look.look.Goals as goal
+
+pub returns-in_err-place-clause-answers : goal.returns-in_err-place-clause-answers
+returns-in_err-place-clause-answers g c =
+    let (y, is, same) = err_from_is_err_and c.from_residual.result c.from_residual.ensures.1 in
+    rw (is, same) (inl (inl (refl, inl c.in_err-place.ensures)))
+
+pub returns-in_err-place-clause-cause : goal.returns-in_err-place-clause-cause
+returns-in_err-place-clause-cause g c =
+    let (y, is, same) = err_from_is_err_and c.from_residual.result c.from_residual.ensures.1 in
+    rw (is, same) (argument_cause (FileMayFail (g.F.Sources.contents c.args.sources.now)) (g.M.Memory.refused c.args.memory.now) _ _ c.in_err-place.ensures)
+
+pub returns-in_err-rows-clause-answers : goal.returns-in_err-rows-clause-answers
+returns-in_err-rows-clause-answers g c =
+    let (y, is, same) = err_from_is_err_and c.from_residual-in_err-rows.result c.from_residual-in_err-rows.ensures.1 in
+    rw (is, same) (inl (inl (refl, inr (c.in_ok-place.place, rw c.has.ensures at c.in_ok-place.ensures, inl c.in_err-rows.ensures.gives))))
 
 pub returns-in_err-stored-in-Stored-clause-answers : goal.returns-in_err-stored-in-Stored-clause-answers
 returns-in_err-stored-in-Stored-clause-answers g c =
     let (y, is, same) = err_from_is_err_and c.from_residual-in_err-stored-in-Stored.result c.from_residual-in_err-stored-in-Stored.ensures.1 in
     rw (is, same) (inl (inl (
       refl,
-      inl (no_file (IsUnreadTable (g.F.Sources.contents c.args.sources.now c.args.table.now) c.args.table.now)
-          (g.F.Sources.contents c.args.sources.now c.args.table.now) c.args.table.now c.as_slice.result.now _ tt
-          (subst (AreFileBytes (g.F.Sources.contents c.args.sources.now c.args.table.now)) (sym c.as_slice.ensures.value) (rw c.in-Stored.is at c.in_ok-rows.ensures.gives))
-          c.in_err-stored-in-Stored.ensures.checks),
+      inr (
+        c.in_ok-place.place,
+        rw c.has.ensures at c.in_ok-place.ensures,
+        inl (no_file (IsUnreadTable (g.F.Sources.contents c.args.sources.now c.args.table.now) c.args.table.now)
+            (g.F.Sources.contents c.args.sources.now c.args.table.now) c.args.table.now c.as_slice.result.now _ tt
+            (subst (AreFileBytes (g.F.Sources.contents c.args.sources.now c.args.table.now)) (sym c.as_slice.ensures.value) (rw c.in-Stored.is at c.in_ok-rows.ensures.gives))
+            c.in_err-stored-in-Stored.ensures.checks),
+      ),
     )))
 
 pub returns-in-Lines-clause-answers : goal.returns-in-Lines-clause-answers
 returns-in-Lines-clause-answers g c =
     let gives = rw c.in-Lines.is at c.in_ok-rows.ensures.gives in
-    c.look_in.ensures.answers c.args.table.now (λ text is. inl (gives text is))
+    told_file (g.F.Sources.contents c.args.sources.now) (choice_of c.args.choice) (map (λ w. w.now) c.args.options.now) c.args.table.now c.args.file.now c.in_ok-place.place c.has-keeps.result
+    _ (g.O.Sink.state c.args.out.now) (g.O.Sink.state c.look_in.new.out) (rw c.has.ensures at c.in_ok-place.ensures) c.has-keeps.ensures
+    (λ text is. inl (gives text is)) c.look_in.result c.look_in.ensures.tells
 
 pub returns-in_ok-stored-in-Stored-clause-answers : goal.returns-in_ok-stored-in-Stored-clause-answers
 returns-in_ok-stored-in-Stored-clause-answers g c =
-    c.look_in-in-Stored.ensures.answers c.args.table.now (says_table (g.F.Sources.contents c.args.sources.now c.args.table.now) c.in-Stored.bytes.items
+    told_file (g.F.Sources.contents c.args.sources.now) (choice_of c.args.choice) (map (λ w. w.now) c.args.options.now) c.args.table.now c.args.file.now c.in_ok-place.place c.has-keeps.result
+    _ (g.O.Sink.state c.args.out.now) (g.O.Sink.state c.look_in-in-Stored.new.out) (rw c.has.ensures at c.in_ok-place.ensures) c.has-keeps.ensures
+    (says_table (g.F.Sources.contents c.args.sources.now c.args.table.now) c.in-Stored.bytes.items
     (by_family c.in_ok-stored-in-Stored.stored) (rw c.in-Stored.is at c.in_ok-rows.ensures.gives)
-    (rw c.as_slice.ensures.value at c.in_ok-stored-in-Stored.ensures.checks))
+    (rw c.as_slice.ensures.value at c.in_ok-stored-in-Stored.ensures.checks)) c.look_in-in-Stored.result c.look_in-in-Stored.ensures.tells
