@@ -229,29 +229,6 @@ formats = FORMATS
 abbrev pub format_of : List ℕ → Option Format
 format_of name = find (λ (format : Format). bytes_eq (format_name format) name) formats
 
--- ---- what private functions promise
--- a network of either family
-abbrev pub either_by : Notation → Family × List Bool → List ℕ
-either_by notation network = network_by notation network.0 network.1
-
--- how the networks of a family are printed where they come one after the other
-abbrev pub lines_alone : Layout
-lines_alone = record { none = []; head = []; before = []; notation = Plain; behind = codes "\n"; between = []; tail = [] }
-
-abbrev pub walk_layout : Option Style → Family → Layout
-walk_layout None family = lines_alone
-walk_layout (Some style) family = layout_of style family
-
--- what stands in front of the next network: the one before it and what is between, or the head
-abbrev pub before_next : Layout → Option (Family × List Bool) → List ℕ
-before_next layout None = layout.head
-before_next layout (Some network) = row either_by layout network ++ layout.between
-
--- the last one and the tail, or what stands for no network
-abbrev pub last_row : Layout → Option (Family × List Bool) → List ℕ
-last_row layout None = layout.none
-last_row layout (Some network) = row either_by layout network ++ layout.tail
-
 -- the texts of a style
 abbrev pub style_in : GivenStyle → Style
 style_in style = record { format = style.format; prefix = style.prefix.now; suffix = style.suffix.now }
@@ -267,3 +244,26 @@ layout_in layout = record {
   between = layout.between.now;
   tail = layout.tail.now;
 }
+
+-- how the networks of a family are printed where they come one after the other
+abbrev pub lines_alone : Layout
+lines_alone = record { none = []; head = []; before = []; notation = Plain; behind = codes "\n"; between = []; tail = [] }
+
+abbrev pub walk_layout : Option Style → Family → Layout
+walk_layout None family = lines_alone
+walk_layout (Some style) family = layout_of style family
+
+-- ---- what private functions promise
+-- a network of either family
+abbrev pub either_by : Notation → Family × List Bool → List ℕ
+either_by notation network = network_by notation network.0 network.1
+
+-- what stands in front of the next network: the one before it and what is between, or the head
+abbrev pub before_next : Layout → Option (Family × List Bool) → List ℕ
+before_next layout None = layout.head
+before_next layout (Some network) = row either_by layout network ++ layout.between
+
+-- the last one and the tail, or what stands for no network
+abbrev pub last_row : Layout → Option (Family × List Bool) → List ℕ
+last_row layout None = layout.none
+last_row layout (Some network) = row either_by layout network ++ layout.tail
