@@ -118,23 +118,23 @@ AreShadowLines file rules text = (shadows : List (ℕ × List ℕ)) × AreShadow
 -- ---- what is told of access lists
 -- what is asked: the addresses that are permitted, the rules that no address reaches, or what a list permits and the one of
 -- this name does not, and the other way round
-pub data Asked : Type 0 where
-  Permitted : Asked
-  Shadowed : Asked
-  Compared : List ℕ → Asked
+pub data Question : Type 0 where
+  Permitted : Question
+  Shadowed : Question
+  Compared : List ℕ → Question
 
 -- the list that it is compared with
-abbrev pub compared_with : Asked → List (List ℕ)
+abbrev pub compared_with : Question → List (List ℕ)
 compared_with (Compared old) = old ∷ []
 compared_with asked = []
 
 -- rules that no address reaches are asked for
-abbrev pub is_shadowed : Asked → Bool
+abbrev pub is_shadowed : Question → Bool
 is_shadowed Shadowed = true
 is_shadowed asked = false
 
 -- what there is to change: nothing is, of what is permitted
-abbrev pub faults_in : Asked → List ℕ → List ℕ
+abbrev pub faults_in : Question → List ℕ → List ℕ
 faults_in Permitted answer = []
 faults_in asked answer = answer
 
@@ -157,7 +157,7 @@ AreRuleChanges old new answer = (before after : List (Option (IpCidr × Action))
     × (answer ≡ printed_changes changes)
 
 -- the answer about the list of this name, where the lists are told
-abbrev pub IsRulesAnswer : (List ℕ → Option Text) → Asked → List ℕ → List ℕ → Type 0
+abbrev pub IsRulesAnswer : (List ℕ → Option Text) → Question → List ℕ → List ℕ → Type 0
 IsRulesAnswer contents Permitted file answer = (text : Text) → contents file ≡ Some text → ArePermittedLines text answer
 IsRulesAnswer contents Shadowed file answer = (text : Text) → contents file ≡ Some text → AreAllShadowLines file text answer
 IsRulesAnswer contents (Compared old) file answer =

@@ -378,6 +378,52 @@ rows_of_changes() {
     run 2 '' $'-x: no such option, see: netset help diff\n' '' diff -x ten
 }
 
+# Access lists. What is permitted and which rules are shadowed is worked out by hand.
+rows_of_access_lists() {
+    run 0 $'10.0.0.0/9\n10.129.0.0/16\n::1\n' '' '' acl rules
+    run 0 '' '' '' acl nothing
+    run 0 '' '' '# permit ::/0\r\n\r\n ; \n' acl -
+    run 0 $'10.0.0.0/8\n' '' '\tpermit \t 10.0.0.0/8\r\ndeny 0.0.0.0/0#x\ndeny 10.0.0.0/8 ; y' acl -
+    run 0 $'10.0.0.0/8\n' '' 'deny 11.0.0.0/8\npermit 10.0.0.0/7' acl -
+    run 0 $'0.0.0.0/0\n::/0\n' '' 'permit 0.0.0.0/0\npermit ::/0\n' acl -
+    run 0 $'10.0.0.0/8\n' '' 'permit 10.0.0.7/8' acl --host-bits -
+    run 2 '' $'-:1: 10.0.0.7/8: host bits set; the network is 10.0.0.0/8\n' 'permit 10.0.0.7/8' acl -
+    run 2 '' $'-:2: allow: neither permit nor deny\n' 'permit ::/0\nallow ::/0\nx' acl -
+    run 2 '' $'-:1: Permit: neither permit nor deny\n' 'Permit 10.0.0.0/8' acl -
+    run 2 '' $'-:1: 10.0.0.0/8: neither permit nor deny\n' '10.0.0.0/8' acl -
+    run 2 '' $'-:1: \\xff: neither permit nor deny\n' '\xff ::/0' acl -
+    run 2 '' $'-:1: the field is missing or empty\n' 'deny # ::/0' acl -
+    run 2 '' $'-:1: 010.0.0.0/8: a leading zero in an octet\n' 'deny 010.0.0.0/8' acl -
+    run 2 '' $'-:1: \\xff: not UTF-8\n' 'deny \xff' acl -
+    run 2 '' $'-:1: 10.0.0.1-10.0.0.2: couldn\'t parse address in network: invalid IP address syntax\n' 'permit 10.0.0.1-10.0.0.2' acl -
+    run 2 '' $'missing: no such file\n' '' acl missing
+    run 2 '' $'.: is a directory\n' '' acl .
+    run 2 '' $'RULES is missing, see: netset help acl\n' '' acl
+    run 2 '' $'ten: one argument too many, see: netset help acl\n' '' acl rules ten
+    run 2 '' $'-k: no such option, see: netset help acl\n' '' acl -k rules
+    run 2 '' $'--format: no such option, see: netset help acl\n' '' acl --format json rules
+    # rules that no address reaches, each with the earlier ones that cover it
+    run 0 '' '' '' acl --shadowed rules
+    run 0 '' '' '' acl --shadowed nothing
+    run 1 $'-:3: shadowed by -:1\n-:7: shadowed by -:1 -:6\n-:5: shadowed by -:4\n' '' \
+        'permit 10.0.0.0/9\n# x\npermit 10.1.0.0/16\ndeny ::/1\npermit ::1\ndeny 10.128.0.0/9\npermit 10.0.0.0/8' acl - --shadowed
+    run 1 $'two\\x0arules:2: shadowed by two\\x0arules:1\n' '' '' acl --shadowed $'two\nrules'
+    run 2 '' $'-:1: x: neither permit nor deny\n' 'x' acl --shadowed -
+    # what a list permits more than another, and what less
+    run 0 '' '' 'permit 10.129.0.0/16\npermit 10.0.0.0/9\ndeny ::\npermit ::/127' acl --diff rules -
+    run 1 $'-10.0.0.0/9\n-10.129.0.0/16\n-::1\n' '' '' acl --diff rules nothing
+    run 1 $'+10.0.0.0/9\n+10.129.0.0/16\n+::1\n' '' '' acl --diff=nothing rules
+    run 1 $'-10.0.0.0/9\n+10.128.0.0/16\n-::1\n' '' 'permit 10.128.0.0/15' acl --diff rules -
+    run 2 '' $'-:1: x: neither permit nor deny\n' 'x' acl --diff - missing
+    run 2 '' $'missing: no such file\n' 'x' acl --diff missing -
+    run 2 '' $'-:1: x: neither permit nor deny\n' 'x' acl --diff rules -
+    run 2 '' $'-: standard input can be read only once\n' 'permit ::/0' acl --diff - -
+    run 2 '' $'RULES is missing, see: netset help acl\n' '' acl --diff rules
+    run 2 '' $'VALUE is missing, see: netset help acl\n' '' acl rules --diff
+    run 2 '' $'--shadowed: one argument too many, see: netset help acl\n' '' acl --shadowed --diff rules rules
+    run 2 '' $'nothing: one argument too many, see: netset help acl\n' '' acl --diff rules --diff nothing rules
+}
+
 # The first free network of a pool.
 rows_of_pools() {
     run 0 $'10.0.0.0/26\n' '' '' free ten 26 -
@@ -979,6 +1025,10 @@ rows_where_a_stream_fails() {
     run 3 '' $'output failed\n' '' --help
     run 3 '' $'output failed\n' '' diff - ten
     run 3 '' $'output failed\n' '' free ten 9 eight
+    run 3 '' $'output failed\n' '' acl rules
+    run 3 '' $'output failed\n' 'permit ::/0\npermit ::/0' acl --shadowed -
+    run 3 '' $'output failed\n' '' acl --diff nothing rules
+    run 0 '' '' '' acl nothing
     run 3 '' $'output failed\n' '' split ten 9
     run 3 '' $'output failed\n' '' reverse ten
     run 3 '' $'output failed\n' '' mask 24
@@ -1146,6 +1196,10 @@ rows_of_outputs() {
     saved made 'IPv4 16777216\nIPv6 0\n'
     run 1 '' '' '' diff ten both -o made
     saved made '+::/0\n'
+    run 1 '' '' '' acl --diff nothing rules -o made
+    saved made '+10.0.0.0/9\n+10.129.0.0/16\n+::1\n'
+    run 0 '' '' '' acl rules -o made
+    saved made '10.0.0.0/9\n10.129.0.0/16\n::1\n'
     run 0 '' '' '' free ten 9 -o made
     saved made '10.0.0.0/9\n'
     run 1 '' '' '' free ten 7 -o made
@@ -1400,6 +1454,9 @@ rows_without_memory() {
     refuse '10.0.0.0/9\n' diff both - -o made
     refuse '' split -o made 10.0.0.0/8 20
     refuse '10.0.0.0/9\n' free both 9 -
+    refuse 'deny 10.0.0.0/9\npermit 10.0.0.0/8\npermit ::1\n' acl -
+    refuse 'permit 10.0.0.0/8\npermit ::1\ndeny 10.0.0.0/9\ndeny ::1\n' acl --shadowed -
+    refuse 'deny 10.0.0.0/9\npermit 10.0.0.0/8\npermit ::1\n' acl --diff rules -
     refuse '10.0.0.0/9\n' free --all 10.0.0.0/8 9 -
     refuse '10.0.0.0/9\n' split - 10
     refuse '10.0.0.0/9\n' split - 10 --format juniper
@@ -1430,6 +1487,8 @@ printf '::/1\n' >"$room/seven"
 printf '10.0.0.0/8\n8000::/1\n' >"$room/ten_and_eight"
 printf '10.0.0.0/29\n' >"$room/eight_addresses"
 printf '10.0.0.0/x\n' >"$room/bad"
+printf '# two blocks\npermit 10.0.0.0/9\npermit\t10.129.0.0/16 ; one\r\n\ndeny 10.128.0.0/9\npermit ::1' >"$room/rules"
+printf 'deny ::/0\npermit ::1\n' >"$room/"$'two\nrules'
 printf '10.0.0.0/8 ten\n10.1.0.0/16\tfirst\r\n\n# 10.2.0.0/16 x\n10.1.0.0/16  x  y \t; z\n192.0.2.7\n2001:db8::/32 \xff#\n::/0 all' \
     >"$room/owners"
 : >"$room/nothing"
@@ -1460,6 +1519,7 @@ for build in netset netset.by-rattle; do
     rows_of_ranges
     rows_of_input_twice
     rows_of_changes
+    rows_of_access_lists
     rows_of_pools
     rows_of_walks
     rows_of_findings

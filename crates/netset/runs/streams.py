@@ -73,6 +73,8 @@ def one_call_a_line():
         (["free", "ten", "9", "-"], b"10.0.0.0/9\n"), (["diff", "ten", "-"], b"10.0.0.0/9\n"), (["check"], b"10.0.0.1/8\n"),
         (["match", "ten"], b"10.0.0.1 a\n"), (["match", "-c", "ten"], b"10.0.0.1 a\n"), (["look", "owners"], b"10.0.0.1\n"),
         (["split", "192.0.2.0/24", "26"], b""), (["class", "10.0.0.1"], b""), (["class", "-"], b"10.0.0.1\n"),
+        (["acl", "-"], b"permit ::1\n"), (["acl", "--shadowed", "-"], b"permit ::1\ndeny ::1\n"),
+        (["acl", "--diff", "nothing", "-"], b"permit ::1\n"),
     ):
         found, _ = packets(words, "stdout", given)
         wanted(f"{words}: calls of `write`", len(found) == 1 and found[0].endswith(b"\n"), found)
@@ -252,7 +254,8 @@ def little_stack():
         (["free", "both", "64", "-"], b"::1\n"), (["check", "-", "both"], b"10.0.0.1/8\n::1\n"), (["match", "--any", "both"], b"(10.0.0.1)\n"),
         (["match", "-v", "both"], b"10.0.0.1\n"), (["look", "owners"], b"10.0.0.1\n::1\n"), (["merge", "-k"], b"x\n"),
         (["show", "::1"], b""), (["split", "::/120", "128"], b""), (["nth", "::/0", "1"], b""), (["--help"], b""), (["merged"], b""),
-        (["class", "-"], b"10.0.0.1\n::1\n"), (["merge", "-o", "link", "-"], b"10.0.0.0/9\n"), (["compile", "owners", "link"], b""),
+        (["class", "-"], b"10.0.0.1\n::1\n"), (["acl", "-"], b"permit ::1\n"),
+        (["acl", "--shadowed", "-"], b"permit ::1\ndeny ::1\n"), (["acl", "--diff", "nothing", "-"], b"permit ::1\n"), (["merge", "-o", "link", "-"], b"10.0.0.0/9\n"), (["compile", "owners", "link"], b""),
     ):
         run = subprocess.run([PROGRAM, *words], input=given, capture_output=True, check=False)
         small = subprocess.run([PROGRAM, *words], input=given, capture_output=True, check=False, preexec_fn=limit)

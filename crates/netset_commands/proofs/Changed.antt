@@ -99,7 +99,7 @@ merged_by : (p q : List Bool) (added lacking : List (List Bool)) → merged (λ 
     ≡ (if is_lt (bit_cmp p q) then (Plus, p) ∷ merged (λ p. p) added (q ∷ lacking) else (Minus, q) ∷ merged (λ p. p) (p ∷ added) lacking)
 merged_by p q added lacking = unfold merged in refl
 
-are_merged : (added lacking : List (List Bool)) → IsStrictlySortedBy bit_cmp added → IsStrictlySortedBy bit_cmp lacking
+pub are_merged : (added lacking : List (List Bool)) → IsStrictlySortedBy bit_cmp added → IsStrictlySortedBy bit_cmp lacking
     → ((p : List Bool) → Contains added p → ¬ (Contains lacking p)) → AreMerged added lacking (merged (λ p. p) added lacking)
 unfolding IsStrictlySortedBy
 are_merged [] lacking h k apart = unfold merged in all_minus lacking k
@@ -114,7 +114,7 @@ are_merged (p ∷ added) (q ∷ lacking) h k apart =
     (λ e. apart p (contains_first p added) (subst (Contains (q ∷ lacking)) (sym e) (contains_first q lacking))) h.0 k.0 more less)
 
 -- no network is in both differences
-differ : (old new added lacking : List (List Bool)) → IsDifference 129 new old added → IsDifference 129 old new lacking → (p : List Bool)
+pub differ : (old new added lacking : List (List Bool)) → IsDifference 129 new old added → IsDifference 129 old new lacking → (p : List Bool)
     → Contains added p → ¬ (Contains lacking p)
 differ old new added lacking h k p c d =
     let (a, wide, begins) = some_address p (((h.reduced.members p).0 c).within) in

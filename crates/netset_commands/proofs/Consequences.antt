@@ -6,7 +6,7 @@ use Rattle.cidr_io.specs.declared.sink.OutputFailed.{OutputFailed}
 use Rattle.cidr_lists.specs.Lists.{Text}
 use Rattle.netset_commands.specs.Arguments.{Line, line_request}
 use Rattle.netset_commands.specs.Causes.{Refusals}
-use Rattle.netset_commands.specs.Commands.{Request, Lists, Styled, NotIn, Diff, Free, Split, Check, Which, Match, MatchEach, Look, Compile, Describe, Class, Single, Help, Version, IsAnswer, reading_of}
+use Rattle.netset_commands.specs.Commands.{Request, Lists, Styled, NotIn, Diff, Free, Acl, Split, Check, Which, Match, MatchEach, Look, Compile, Describe, Class, Single, Help, Version, IsAnswer, reading_of}
 use Rattle.netset_commands.specs.Program.{AnswersRequest, AnswersWhole, IsRequestRefused, KeepsGoing, Reports, Runs, RunsFound, RunsLine, RunsOnce, RunsRequest, answer_status, by_output, status_of, contents_by}
 use Rattle.netset_commands.specs.Typed.{HasAnswered, AnswersTyped}
 use Rattle.netset_commands.specs.declared.output.answers.Verdict.{Verdict}
@@ -89,6 +89,7 @@ answer_done contents (Styled style operation files) verdict out new h = whole_do
 answer_done contents (NotIn style net files) verdict out new h = whole_done contents (NotIn style net files) verdict out new h
 answer_done contents (Diff old lists) verdict out new h = whole_done contents (Diff old lists) verdict out new h
 answer_done contents (Free style extent pool len used) verdict out new h = whole_done contents (Free style extent pool len used) verdict out new h
+answer_done contents (Acl asked file) verdict out new h = whole_done contents (Acl asked file) verdict out new h
 answer_done contents (Split style operand len) verdict out new h = whole_done contents (Split style operand len) verdict out new h
 answer_done contents (Check files) verdict out new h = whole_done contents (Check files) verdict out new h
 answer_done contents (Which address files) verdict out new h = whole_done contents (Which address files) verdict out new h

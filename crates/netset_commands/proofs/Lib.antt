@@ -24,6 +24,7 @@ pub mod EntriesRead
 pub mod Noted
 pub mod Completed
 pub mod Checked
+pub mod AccessLists
 pub mod AddressLines
 pub mod Passed
 pub mod ReadBy

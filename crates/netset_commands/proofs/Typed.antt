@@ -3,8 +3,9 @@ use Rattle.std.proofs.Common.{◌≡◌, refl, sym, ◌∙◌, ap, subst, inl, i
 use Rattle.std.specs.List.{list_all, list_any}
 use Rattle.std.proofs.lemmas.Bool.{true≢false}
 use Rattle.cidr_lists.specs.Formats.{IsBare, Style, format_name}
-use Rattle.netset_commands.specs.Arguments.{Parts, and_then, asks_help, choice_by, choice_in, counted_request, extent_by, extra_operand, is_option, joined_arguments, line_request, lists_request, look_by, match_by, named_verb, only_operand, only_options, only_value, part_request, parts_from, read_request, style_in_values, takes, value_of, verb_request, word_parts}
-use Rattle.netset_commands.specs.Commands.{Request, Lists, Styled, NotIn, Diff, Free, Split, Check, Which, Match, MatchEach, Look, Compile, Describe, Class, Single, Help, Version, input_name, reading_of}
+use Rattle.cidr_lists.specs.Rules.{Permitted, Shadowed, Compared}
+use Rattle.netset_commands.specs.Arguments.{Parts, and_then, question_by, asks_help, choice_by, choice_in, counted_request, extent_by, extra_operand, is_option, joined_arguments, line_request, lists_request, look_by, match_by, named_verb, only_operand, only_options, only_value, part_request, parts_from, read_request, style_in_values, takes, value_of, verb_request, word_parts}
+use Rattle.netset_commands.specs.Commands.{Request, Lists, Styled, NotIn, Diff, Free, Acl, Split, Check, Which, Match, MatchEach, Look, Compile, Describe, Class, Single, Help, Version, input_name, reading_of}
 use Rattle.netset_commands.specs.Free.{Extent, First, Count, All}
 use Rattle.netset_commands.specs.Matching.{has, is_word}
 use Rattle.netset_commands.specs.Picking.{Choice, FirstField, FieldOf}
@@ -119,6 +120,7 @@ its_options (verb.Lists Ranges) = (refl, (refl, (refl, (refl, (refl, tt)))))
 its_options (verb.Lists of_lists.Count) = (refl, (refl, (refl, (refl, (refl, tt)))))
 its_options verb.Diff = (refl, (refl, (refl, (refl, (refl, tt)))))
 its_options verb.Free = (refl, (refl, (refl, (refl, (refl, (refl, tt))))))
+its_options verb.Acl = (refl, (refl, (refl, (refl, (refl, tt)))))
 its_options verb.Check = (refl, (refl, (refl, tt)))
 its_options verb.Which = (refl, (refl, (refl, tt)))
 its_options verb.Match = (refl, (refl, (refl, (refl, (refl, (refl, (refl, (refl, (refl, tt)))))))))
@@ -152,6 +154,7 @@ named (verb.Lists Ranges) = refl
 named (verb.Lists of_lists.Count) = refl
 named verb.Diff = refl
 named verb.Free = refl
+named verb.Acl = refl
 named verb.Check = refl
 named verb.Which = refl
 named verb.Match = refl
@@ -310,6 +313,16 @@ module _ (words options : List (List ℕ)) where
       line_asks verb.Free (style_words style) (style_words style) (pool ∷ len ∷ used) (is, all, no_page, none, enough)
       (behind_style verb.Free style (pool ∷ len ∷ used) refl none) refl (no_file_told verb.Free style) (Free style All pool len used)
       (extent_asks true (style_words style) None All style options pool len used every (no_count_told style) refl (style_told verb.Free style plain))
+  typed_asks (Acl Permitted file) (of_these, typed) =
+      plain_asks verb.Acl (file ∷ []) (Acl Permitted file) typed refl
+      (ap (λ (b : Bool). and_then (question_by b None) (λ asked. Ok (Acl asked file))) of_these)
+  typed_asks (Acl Shadowed file) (of_these, typed) =
+      plain_asks verb.Acl (file ∷ []) (Acl Shadowed file) typed refl
+      (ap (λ (b : Bool). and_then (question_by b None) (λ asked. Ok (Acl asked file))) of_these)
+  typed_asks (Acl (Compared old) file) (of_these, (is, all, no_page, none, enough)) =
+      line_asks verb.Acl (codes "--diff" ∷ old ∷ []) (codes "--diff" ∷ old ∷ []) (file ∷ []) (is, all, no_page, none, enough)
+      (behind_value verb.Acl (codes "--diff") old (file ∷ []) refl none) refl refl (Acl (Compared old) file)
+      (ap (λ (b : Bool). and_then (question_by b (Some old)) (λ asked. Ok (Acl asked file))) of_these)
   typed_asks (Split style operand len) (plain, (is, all, no_page, none, enough)) =
       line_asks verb.Split (style_words style) (style_words style) (operand ∷ len ∷ []) (is, all, no_page, none, enough)
       (behind_style verb.Split style (operand ∷ len ∷ []) refl none) refl (no_file_told verb.Split style) (Split style operand len)

@@ -4,9 +4,10 @@ use Rattle.std.specs.Prelude.{ℕ, ◌==◌, nat_eq, nat_lt, Bool, true, false, 
 use Rattle.std.specs.List.{after_first, before_first, find, list_all, starts_with}
 use Rattle.cidr_io.specs.Shown.{excerpt}
 use Rattle.cidr_lists.specs.Formats.{Style, bare, format_of}
+use Rattle.cidr_lists.specs.Rules.{Question, Permitted, Shadowed, Compared}
 use Rattle.cidr_lists.specs.declared.formats.Format.{Format}
 use Rattle.cidr_lists.specs.declared.formats.Format.TheVariants as format
-use Rattle.netset_commands.specs.Commands.{Request, Lists, Styled, NotIn, Diff, Free, Split, Check, Which, Match, MatchEach, Look, Compile, Describe, Class, Single, Help, Version, input_name, reading_of}
+use Rattle.netset_commands.specs.Commands.{Request, Lists, Styled, NotIn, Diff, Free, Acl, Split, Check, Which, Match, MatchEach, Look, Compile, Describe, Class, Single, Help, Version, input_name, reading_of}
 use Rattle.netset_commands.specs.Free.{Extent, First, Count, All}
 use Rattle.netset_commands.specs.Matching.{has, is_word}
 use Rattle.netset_commands.specs.Picking.{Choice, FirstField, FieldOf}
@@ -236,6 +237,16 @@ abbrev pub split_request : Parts → Result Request (List ℕ)
 split_request parts = and_then (style_in_values verb.Split parts.values)
     (λ style. Ok (Split style (operand_or parts.operands 0 []) (operand_or parts.operands 1 [])))
 
+-- what is asked of an access list, by whether --shadowed is given and by the value of --diff
+abbrev pub question_by : Bool → Option (List ℕ) → Result Question (List ℕ)
+question_by false None = Ok Permitted
+question_by true None = Ok Shadowed
+question_by false (Some old) = Ok (Compared old)
+question_by true (Some old) = Err (misuse_text (codes "--shadowed") Extra (codes "acl"))
+
+abbrev pub question_in : Parts → Result Question (List ℕ)
+question_in parts = and_then (value_of verb.Acl (codes "--diff") parts.values) (λ old. question_by (has (codes "--shadowed") parts.options) old)
+
 -- the command help, of a command or of all
 abbrev pub help_request : List (List ℕ) → Result Request (List ℕ)
 help_request [] = Ok (Help None)
@@ -272,6 +283,7 @@ abbrev pub verb_request : Verb → Parts → Result Request (List ℕ)
 verb_request (verb.Lists operation) parts = lists_request operation parts.values parts.operands
 verb_request verb.Diff parts = Ok (Diff (operand_or parts.operands 0 []) (operand_or parts.operands 1 []))
 verb_request verb.Free parts = free_request parts
+verb_request verb.Acl parts = and_then (question_in parts) (λ asked. Ok (Acl asked (operand_or parts.operands 0 [])))
 verb_request verb.Check parts = Ok (Check parts.operands)
 verb_request verb.Which parts = Ok (Which (operand_or parts.operands 0 []) (drop 1 parts.operands))
 verb_request verb.Match parts = match_request parts

@@ -1,11 +1,14 @@
 -- The request that a command of the program is.
 use Rattle.std.specs.Prelude.{◌≡◌, ℕ, Bool, true, List, map, Option, option_map, Result, Ok, Err}
 use Rattle.cidr_lists.specs.Formats.{style_in}
+use Rattle.cidr_lists.specs.Rules.{Question, Permitted, Shadowed, Compared}
 use Rattle.netset_commands.specs.Arguments.{Parts, joined_arguments, misuse_text}
-use Rattle.netset_commands.specs.Commands.{Request, Lists, Styled, NotIn, Diff, Free, Split, Check, Which, Match, MatchEach, Look, Compile, Describe, Class, Single as ASingle, Help, Version}
+use Rattle.netset_commands.specs.Commands.{Request, Lists, Styled, NotIn, Diff, Free, Acl, Split, Check, Which, Match, MatchEach, Look, Compile, Describe, Class, Single as ASingle, Help, Version}
 use Rattle.netset_commands.specs.Free.{Extent, First, Count, All}
 use Rattle.netset_commands.specs.Picking.{Choice, FirstField, FieldOf}
 use Rattle.netset_commands.specs.Table.{texts}
+use Rattle.netset_commands.specs.declared.commands.acl.Question.{Question as GivenQuestion}
+use Rattle.netset_commands.specs.declared.commands.acl.Question.TheVariants as question
 use Rattle.netset_commands.specs.declared.commands.free.Extent.{Extent as GivenExtent}
 use Rattle.netset_commands.specs.declared.commands.free.Extent.TheVariants as extent
 use Rattle.netset_commands.specs.declared.commands.picking.Choice.{Choice as GivenChoice}
@@ -42,6 +45,12 @@ abbrev pub choice_of : GivenChoice → Choice
 choice_of choice.First = FirstField
 choice_of (choice.Field number separator) = FieldOf number.now (given separator)
 
+-- what is asked of an access list, with the bytes of the argument
+abbrev pub question_of : GivenQuestion → Question
+question_of question.Permitted = Permitted
+question_of question.Shadowed = Shadowed
+question_of (question.Compared old) = Compared old.now
+
 -- the same command with the bytes of its arguments
 abbrev pub request_of : Command → Request
 request_of (command.Lists operation files) = Lists operation (map (λ file. file.now) files.now)
@@ -49,6 +58,7 @@ request_of (command.Styled style operation files) = Styled (style_in style) oper
 request_of (command.NotIn style net files) = NotIn (option_map (λ s. style_in s) style) net.now (map (λ file. file.now) files.now)
 request_of (command.Diff old new) = Diff old.now new.now
 request_of (command.Free style extent pool len used) = Free (option_map (λ s. style_in s) style) (extent_of extent) pool.now len.now (map (λ file. file.now) used.now)
+request_of (command.Acl asked file) = Acl (question_of asked) file.now
 request_of (command.Split style operand len) = Split (option_map (λ s. style_in s) style) operand.now len.now
 request_of (command.Check files) = Check (map (λ file. file.now) files.now)
 request_of (command.Which address files) = Which address.now (map (λ file. file.now) files.now)

@@ -10,11 +10,12 @@ use Rattle.cidr_sets.specs.model.Sets.{IsSetOf}
 use Rattle.netset_commands.specs.Class.{IsClassOf}
 use Rattle.netset_commands.specs.Compiled.{HasTable}
 use Rattle.netset_commands.specs.Describing.{IsNoLength, IsOfLength, all_told, told_of}
-use Rattle.netset_commands.specs.Findings.{IsCheck}
+use Rattle.netset_commands.specs.Findings.{IsCheck, IsClean}
 use Rattle.netset_commands.specs.Free.{Extent, IsFreeText, IsMost}
 use Rattle.netset_commands.specs.Look.{IsLook}
 use Rattle.cidr_lists.specs.Lists.{Text, ListSays, line_networks, networks_in, way_of}
 use Rattle.cidr_lists.specs.Formats.{Style, IsPrintBy}
+use Rattle.cidr_lists.specs.Rules.{Question, IsRulesAnswer, compared_with, faults_in}
 use Rattle.cidr_lists.specs.Changes.{AreChanges, printed_changes}
 use Rattle.netset_commands.specs.Changes.{AreSame}
 use Rattle.netset_commands.specs.Combining.{form_of, IsMade}
@@ -48,6 +49,7 @@ pub data Request : Type 0 where
   NotIn : Option Style → List ℕ → List (List ℕ) → Request
   Diff : List ℕ → List ℕ → Request
   Free : Option Style → Extent → List ℕ → List ℕ → List (List ℕ) → Request
+  Acl : Question → List ℕ → Request
   Split : Option Style → List ℕ → List ℕ → Request
   Check : List (List ℕ) → Request
   Which : List ℕ → List (List ℕ) → Request
@@ -93,6 +95,7 @@ abbrev pub others_of : Request → List (List ℕ)
 others_of (Match choice options list file) = file ∷ []
 others_of (MatchEach choice options list files) = files
 others_of (Look choice options table file) = file ∷ []
+others_of (Acl asked file) = compared_with asked ++ file ∷ []
 others_of (Class operand) = operand ∷ []
 others_of request = []
 
@@ -212,6 +215,7 @@ IsAnswer contents (Diff old new) answer verdict =
     (before after : Text) → contents old ≡ Some before → contents new ≡ Some after → IsDiff before after answer verdict
 IsAnswer contents (Free style extent pool len used) answer verdict = (n : ℕ) × IsNumber len n × (n ≤ 128) × (most : Option ℕ) × IsMost extent most
     × OfOperand contents pool (IsFreeOfUsed contents style n most used answer verdict)
+IsAnswer contents (Acl asked file) answer verdict = IsRulesAnswer contents asked file answer × IsClean (faults_in asked answer) verdict
 IsAnswer contents (Split style operand len) answer verdict = (n : ℕ) × IsNumber len n × IsSplitInto contents style operand n answer verdict
 IsAnswer contents (Check files) answer verdict =
     (texts : List Text) → AreTold contents (read_files files) texts → IsCheck (read_files files) texts answer verdict

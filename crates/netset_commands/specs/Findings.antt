@@ -14,9 +14,9 @@ use Rattle.cidr_lists.specs.declared.findings.Note.{Note}
 use Rattle.cidr_lists.specs.Findings.{order, IsNote, AreNotes, note_line}
 
 -- yes where nothing is found
-abbrev pub IsClean : List Note → Verdict → Type 0
-IsClean notes Yes = notes ≡ []
-IsClean notes No = notes ≢ []
+abbrev pub IsClean : {X : Type 0} → List X → Verdict → Type 0
+IsClean found Yes = found ≡ []
+IsClean found No = found ≢ []
 
 -- all findings in the lists of these names and texts, one a line
 abbrev pub IsCheck : List (List ℕ) → List Text → List ℕ → Verdict → Type 0

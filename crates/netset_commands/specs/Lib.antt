@@ -1,5 +1,6 @@
 -- What has to be believed: what lists say, what commands answer, and a run of the program. `Reading`, `Columns`, `Command`,
 -- `Gathering`, `Loading`, `Answering`, `LookUps` and `KeptLines` are what private functions promise.
+pub mod Acl
 pub mod Causes
 pub mod Reading
 pub mod Single

@@ -11,7 +11,9 @@ use Rattle.cidr_io.specs.Writing.{State, Answered, Tells}
 use Rattle.cidr_io.specs.declared.sink.OutputFailed.{OutputFailed}
 use Rattle.cidr_lists.specs.Lists.{Text, text_by, ListSays, IsFirstError}
 use Rattle.netset_commands.specs.Arguments.{Line, line_request}
-use Rattle.netset_commands.specs.Commands.{Request, Lists, Styled, NotIn, Diff, Free, Split, Check, Which, Match, MatchEach, Look, Compile, Describe, Class, Single, ReadsInputTwice, input_name, read_files, AreLists, AreTold, HoldsOf, IsAnswer}
+use Rattle.netset_commands.specs.Commands.{Request, Lists, Styled, NotIn, Diff, Free, Acl, Split, Check, Which, Match, MatchEach, Look, Compile, Describe, Class, Single, ReadsInputTwice, input_name, read_files, AreLists, AreTold, HoldsOf, IsAnswer}
+use Rattle.cidr_lists.specs.Rules.{compared_with}
+use Rattle.netset_commands.specs.Acl.{IsUnreadAcl}
 use Rattle.netset_commands.specs.Causes.{Cause, FileMayFail, Refusals}
 use Rattle.netset_commands.specs.Class.{IsClassUntil, IsUnclassed}
 use Rattle.netset_commands.specs.Compiled.{IsTooLarge}
@@ -104,6 +106,7 @@ IsRequestRefused contents (NotIn style net files) (Err e) = IsWrong (NotIn style
 IsRequestRefused contents (Diff old new) (Err e) = IsUnread contents (old ∷ new ∷ []) e
 IsRequestRefused contents (Free style extent pool len used) (Err e) = IsBadArgument (IsBadFree extent len) e
     ⊎ ((n : ℕ) × IsNumber len n × (n ≤ 128) × (most : Option ℕ) × IsMost extent most × IsUnreadPool contents pool used e)
+IsRequestRefused contents (Acl asked file) (Err e) = IsUnreadAcl contents (compared_with asked ++ file ∷ []) e
 IsRequestRefused contents (Split style operand len) (Err e) =
     ((network : IpCidr) × IsIpNetworkText operand network × IsBadArgument (HasNoSubnets network len) e)
     ⊎ (IsNoNetworkText operand × (IsBadArgument (IsBadLength len) e ⊎ ((n : ℕ) × IsNumber len n × (n ≤ 128) × IsUnlisted contents operand e)))

@@ -6,9 +6,9 @@ use Rattle.netset_commands.specs.declared.commands.describe.Description.{Descrip
 use Rattle.netset_commands.specs.declared.commands.describe.Description.TheVariants.{Zones, Masks}
 use Rattle.netset_commands.specs.declared.commands.operations.Operation.{Operation}
 use Rattle.netset_commands.specs.declared.commands.operations.Operation.TheVariants.{Merge, Nets, Minus, And, Not, Ranges, Count}
-use Rattle.netset_commands.specs.declared.commands.table.TheConstants.{COMMANDS, MERGE, NETS, MINUS, AND, NOT, RANGES, COUNT, DIFF, FREE, CHECK, WHICH, MATCH, LOOK, COMPILE, REVERSE, MASK, CLASS, SHOW, SPLIT, NTH, HELP, VERSION, OPTIONS, HOST_BITS, KEEP_GOING, FORMAT, OUTPUT, LISTS}
+use Rattle.netset_commands.specs.declared.commands.table.TheConstants.{COMMANDS, MERGE, NETS, MINUS, AND, NOT, RANGES, COUNT, DIFF, FREE, ACL, CHECK, WHICH, MATCH, LOOK, COMPILE, REVERSE, MASK, CLASS, SHOW, SPLIT, NTH, HELP, VERSION, OPTIONS, HOST_BITS, KEEP_GOING, FORMAT, OUTPUT, LISTS}
 use Rattle.netset_commands.specs.declared.commands.table.Verb.{Verb}
-use Rattle.netset_commands.specs.declared.commands.table.Verb.TheVariants.{Lists, Diff, Free, Check, Which, Match, Look, Compile, Describe, Class, Show, Split, Nth, Help, Version}
+use Rattle.netset_commands.specs.declared.commands.table.Verb.TheVariants.{Lists, Diff, Free, Acl, Check, Which, Match, Look, Compile, Describe, Class, Show, Split, Nth, Help, Version}
 use denote.Ref.{Bor}
 
 -- the bytes of some words
@@ -78,6 +78,7 @@ row_of (Lists op) = row (lists_row op).0 list_options (lists_row op).1.0 (lists_
 row_of (Describe what) = row (told_row what).0 list_options output_values (told_row what).1.0 (Some 1) (told_row what).1.1
 row_of Diff = row (codes "diff") list_options output_values two_lists (Some 2) DIFF.now
 row_of Free = row (codes "free") (codes "--all" ∷ list_options) (codes "--count" ∷ style_values) (codes "POOL" ∷ codes "LEN" ∷ []) None FREE.now
+row_of Acl = row (codes "acl") (codes "--shadowed" ∷ codes "--host-bits" ∷ codes "--masks" ∷ help_options) (codes "--diff" ∷ output_values) (codes "RULES" ∷ []) (Some 1) ACL.now
 row_of Check = row (codes "check") keep_options [] [] None CHECK.now
 row_of Which = row (codes "which") keep_options [] (codes "ADDR" ∷ []) None WHICH.now
 row_of Match = row (codes "match") match_options (codes "--field" ∷ codes "--separator" ∷ []) (codes "LIST" ∷ []) None MATCH.now

@@ -1,12 +1,13 @@
 -- Requests as they are mostly typed, and what a run of one has written that ends with status 0 or 1: its answer, and nothing
 -- else.
 use Rattle.std.specs.Prelude.{◌≡◌, ◌⊎◌, ℕ, true, false, List, [], ◌∷◌, ◌++◌, codes, Option, Some, None}
-use Rattle.std.specs.List.{list_all, list_any}
+use Rattle.std.specs.List.{flat_map, list_all, list_any}
 use Rattle.cidr_io.specs.Writing.{State, Whole, Tells}
 use Rattle.cidr_lists.specs.Lists.{Text}
-use Rattle.cidr_lists.specs.Formats.{IsBare, Style, bare, format_name}
+use Rattle.cidr_lists.specs.Formats.{IsBare, Style, format_name}
+use Rattle.cidr_lists.specs.Rules.{compared_with, is_shadowed}
 use Rattle.netset_commands.specs.Arguments.{asks_help, is_option, missing_operand, takes}
-use Rattle.netset_commands.specs.Commands.{Request, Lists, Styled, NotIn, Diff, Free, Split, Check, Which, Match, MatchEach, Look, Compile, Describe, Class, Single, Help, Version, IsAnswer, input_name, reading_of}
+use Rattle.netset_commands.specs.Commands.{Request, Lists, Styled, NotIn, Diff, Free, Acl, Split, Check, Which, Match, MatchEach, Look, Compile, Describe, Class, Single, Help, Version, IsAnswer, input_name, reading_of}
 use Rattle.netset_commands.specs.Free.{First, Count, All}
 use Rattle.netset_commands.specs.Matching.{has}
 use Rattle.netset_commands.specs.Picking.{Choice, FirstField, FieldOf}
@@ -48,15 +49,15 @@ style_words (Some style) = codes "--format" ∷ format_name style.format ∷ []
 -- these words, with these options, are a request
 abbrev pub IsTyped : List (List ℕ) → List (List ℕ) → Request → Type 0
 IsTyped words options (Lists operation files) = AreTyped (verb.Lists operation) options [] files words
-IsTyped words options (Styled style operation files) = (style ≡ bare style.format)
-    × (takes_value (verb.Lists operation) (codes "--format") ≡ true)
-    × AreTyped (verb.Lists operation) options (codes "--format" ∷ format_name style.format ∷ []) files words
+IsTyped words options (Styled style operation files) = IsBare (Some style) × (takes_value (verb.Lists operation) (codes "--format") ≡ true)
+    × AreTyped (verb.Lists operation) options (style_words (Some style)) files words
 IsTyped words options (NotIn style net files) = IsBare style × AreTyped (verb.Lists Not) options (codes "--in" ∷ net ∷ style_words style) files words
 IsTyped words options (Diff old new) = AreTyped verb.Diff options [] (old ∷ new ∷ []) words
 IsTyped words options (Free style First pool len used) = IsBare style × (has (codes "--all") options ≡ false) × AreTyped verb.Free options (style_words style) (pool ∷ len ∷ used) words
 IsTyped words options (Free style (Count count) pool len used) = IsBare style
     × (has (codes "--all") options ≡ false) × AreTyped verb.Free options (codes "--count" ∷ count ∷ style_words style) (pool ∷ len ∷ used) words
 IsTyped words options (Free style All pool len used) = IsBare style × (has (codes "--all") options ≡ true) × AreTyped verb.Free options (style_words style) (pool ∷ len ∷ used) words
+IsTyped words options (Acl asked file) = (has (codes "--shadowed") options ≡ is_shadowed asked) × AreTyped verb.Acl options (flat_map (λ old. codes "--diff" ∷ old ∷ []) (compared_with asked)) (file ∷ []) words
 IsTyped words options (Split style operand len) = IsBare style × AreTyped verb.Split options (style_words style) (operand ∷ len ∷ []) words
 IsTyped words options (Check files) = AreTyped verb.Check options [] files words
 IsTyped words options (Which address files) = AreTyped verb.Which options [] (address ∷ files) words

@@ -8,6 +8,7 @@ ghost use Rattle.netset_commands.specs.Matching.{is_word};
 ghost use Rattle.netset_commands.specs.Operands.{ReadsAsNetwork};
 ghost use Rattle.netset_commands.specs.Table.{texts};
 
+pub mod acl;
 pub mod arguments;
 pub mod changes;
 pub mod check;
@@ -28,6 +29,7 @@ pub mod split;
 pub mod table;
 pub mod which;
 
+use crate::commands::acl::Question;
 use crate::commands::arguments::operands_from;
 use crate::commands::describe::Description;
 use crate::commands::free::{Extent, length_of};
@@ -55,6 +57,8 @@ pub enum Command<'a> {
     Diff(&'a str, &'a str),
     /// The free networks of a prefix length in a pool, of whose addresses others are used.
     Free(Option<Style<'a>>, Extent<'a>, &'a str, &'a str, &'a [&'a str]),
+    /// What is asked of an access list.
+    Acl(Question<'a>, &'a str),
     /// The networks of a prefix length inside a network, or inside the networks of a list.
     Split(Option<Style<'a>>, &'a str, &'a str),
     /// What is found in the lists of these files.
@@ -170,7 +174,11 @@ impl<'a> Command<'a> {
             | Command::Compile(list, _)
             | Command::Split(_, list, _)
             | Command::Describe(_, list) => names.push(*list)?,
-            Command::Class(_) | Command::Single(_) | Command::Help(_) | Command::Version => {}
+            Command::Acl(_, _)
+            | Command::Class(_)
+            | Command::Single(_)
+            | Command::Help(_)
+            | Command::Version => {}
         }
         Ok(names)
     }
@@ -187,6 +195,7 @@ impl<'a> Command<'a> {
             | Command::Styled(_, _, _)
             | Command::NotIn(_, _, _)
             | Command::Diff(_, _)
+            | Command::Acl(_, _)
             | Command::Check(_)
             | Command::Which(_, _)
             | Command::Match(_, _, _, _)
@@ -219,7 +228,15 @@ impl<'a> Command<'a> {
     {
         let mut names = self.lists(memory)?;
         match self {
-            Command::Match(_, _, _, file) | Command::Look(_, _, _, file) | Command::Class(file) => {
+            Command::Acl(Question::Compared(old), file) => {
+                memory.push(&mut names, *old)?;
+                memory.push(&mut names, *file)?;
+            }
+            Command::Match(_, _, _, file)
+            | Command::Look(_, _, _, file)
+            | Command::Acl(Question::Permitted, file)
+            | Command::Acl(Question::Shadowed, file)
+            | Command::Class(file) => {
                 memory.push(&mut names, *file)?;
             }
             Command::MatchEach(_, _, _, files) => {

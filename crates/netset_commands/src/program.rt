@@ -15,6 +15,7 @@ ghost use Rattle.netset_commands.specs.declared.errors.CommandError.{CommandErro
 ghost use Rattle.netset_commands.specs.Program.{AnswersRequest, IntoFound, IsCaused, IsNotSaved, IsReadTwice, IsWrong, KeepsGoing, Runs, RunsFound, contents_by};
 ghost use Rattle.netset_commands.specs.Typed.{AnswersTyped};
 
+use crate::commands::acl::acl;
 use crate::commands::arguments::{Parts, command_of, line_parts, target_of};
 use crate::commands::changes::diff;
 use crate::commands::check::check;
@@ -126,6 +127,7 @@ fn answer<'a, M: Memory, F: Sources, D: Folder, O: Sink>(
             free(memory, sources, style, extent, pool, len, used, out)
         }
         Command::Split(style, operand, len) => split(memory, sources, style, operand, len, out),
+        Command::Acl(asked, file) => acl(memory, sources, asked, file, out),
         Command::Check(files) => check(memory, sources, files, out),
         Command::Which(address, files) => which(memory, sources, address, files, out),
         Command::Match(choice, options, list, file) => {
@@ -179,6 +181,7 @@ fn wrong_argument<'a>(command: Command<'a>) -> Option<CommandError<'a>>
         Command::Lists(_, _)
         | Command::Styled(_, _, _)
         | Command::Diff(_, _)
+        | Command::Acl(_, _)
         | Command::Check(_)
         | Command::Split(_, _, _)
         | Command::Describe(_, _)

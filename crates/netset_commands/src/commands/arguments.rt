@@ -1,14 +1,16 @@
 //! The words of a command line as options and operands, and the command that they are.
 ghost use Rattle.std.specs.Prelude.{◌≡◌, ◌<◌, [], Ok, Err, Bool, true, false, length, drop, MatchOption, MatchResult, option_map, slice_get, unwrap_or};
 ghost use Rattle.std.specs.List.{after_first, before_first};
-ghost use Rattle.netset_commands.specs.Arguments.{asks_help, choice_by, choice_in, chosen_style, extent_by, extra_operand, free_request, fresh, full_name, help_request, is_equals, is_option, is_plain, is_topic, letter_parts, line_parts, lists_request, long_parts, look_by, look_request, made_request, match_by, match_request, missing_operand, misuse_text, named_format, named_verb, no_option, no_parts, operand_or, part_request, parts_from, short_option, short_parts, some_style, split_request, style_in_values, style_of, taken_value, takes, target_in, topic_parts, value_of, verb_of, verb_request, word_parts};
-ghost use Rattle.netset_commands.specs.Command.{AddsParts, IsUsageError, choice_of, extent_of, given, misuse_line, given_parts, request_of};
+ghost use Rattle.netset_commands.specs.Arguments.{asks_help, choice_by, choice_in, chosen_style, extent_by, extra_operand, free_request, fresh, full_name, help_request, is_equals, is_option, is_plain, is_topic, letter_parts, line_parts, lists_request, long_parts, look_by, look_request, made_request, match_by, match_request, missing_operand, misuse_text, named_format, named_verb, no_option, no_parts, operand_or, part_request, parts_from, question_by, short_option, short_parts, some_style, split_request, style_in_values, style_of, taken_value, takes, target_in, topic_parts, value_of, verb_of, verb_request, word_parts};
+ghost use Rattle.netset_commands.specs.Command.{AddsParts, IsUsageError, choice_of, extent_of, given, misuse_line, given_parts, question_of, request_of};
 ghost use Rattle.netset_commands.specs.Matching.{is_word};
 ghost use Rattle.netset_commands.specs.Table.{name_of, takes_value, texts};
 ghost use Rattle.netset_commands.specs.declared.errors.Misfit.TheVariants.{NotPlain};
 ghost use Rattle.cidr_lists.specs.Formats.{style_in};
+ghost use Rattle.netset_commands.specs.declared.commands.table.Verb.TheVariants.{Acl as AsAcl};
 
 use crate::commands::Command;
+use crate::commands::acl::Question;
 use crate::commands::free::Extent;
 use crate::commands::matching::has;
 use crate::commands::operations::Operation;
@@ -615,6 +617,35 @@ fn split_command<'a>(parts: &'a Parts<'a>) -> Result<Command<'a>, Misuse<'a>>
     ))
 }
 
+/// What is asked of an access list, by whether `--shadowed` is given and by the value of `--diff`.
+fn question_by<'a>(shadowed: bool, old: Option<&'a str>) -> Result<Question<'a>, Misuse<'a>>
+    ensures { MatchResult result (λ question. question_by shadowed (given old.entry) ≡ Ok (question_of question))
+        (λ misuse. question_by shadowed (given old.entry) ≡ Err (misuse_line misuse)) }
+{
+    match (shadowed, old) {
+        (false, None) => Ok(Question::Permitted),
+        (true, None) => Ok(Question::Shadowed),
+        (false, Some(old)) => Ok(Question::Compared(old)),
+        (true, Some(_)) => Err(Misuse {
+            word: "--shadowed",
+            why: Misfit::Extra,
+            command: "acl",
+        }),
+    }
+}
+
+/// The command `acl`.
+fn acl_command<'a>(parts: &'a Parts<'a>) -> Result<Command<'a>, Misuse<'a>>
+    ensures { MatchResult result (λ command. verb_request AsAcl (given_parts parts.now) ≡ Ok (request_of command))
+        (λ misuse. verb_request AsAcl (given_parts parts.now) ≡ Err (misuse_line misuse)) }
+{
+    let operands = parts.operands.as_slice();
+    let shadowed = has(parts.options.as_slice(), "--shadowed");
+    let old = value_of(Verb::Acl, "--diff", parts.values.as_slice())?;
+    let question = question_by(shadowed, old)?;
+    Ok(Command::Acl(question, operand_or(operands, 0, "")))
+}
+
 /// The command `help`, of the command that an operand names, or of all.
 fn help_command<'a>(operands: &[&'a str]) -> Result<Command<'a>, Misuse<'a>>
     ensures { MatchResult result (λ command. help_request (texts operands.now) ≡ Ok (request_of command))
@@ -735,6 +766,7 @@ fn verb_command<'a>(verb: Verb, parts: &'a Parts<'a>) -> Result<Command<'a>, Mis
         Verb::Lists(operation) => lists_command(operation, parts.values.as_slice(), operands),
         Verb::Diff => Ok(Command::Diff(operand_or(operands, 0, ""), operand_or(operands, 1, ""))),
         Verb::Free => free_command(parts),
+        Verb::Acl => acl_command(parts),
         Verb::Check => Ok(Command::Check(operands)),
         Verb::Which => {
             Ok(Command::Which(operand_or(operands, 0, ""), operands_from(operands, 1)))

@@ -59,7 +59,11 @@ fn write_changes<C: Printed, S: Sink>(
 }
 
 /// Writes what is added and what is lacking, one a line. An output that has failed before gets nothing.
-fn write_both<S: Sink>(out: &mut S, added: &Sets, lacking: &Sets) -> Result<(), OutputFailed>
+pub(crate) fn write_both<S: Sink>(
+    out: &mut S,
+    added: &Sets,
+    lacking: &Sets,
+) -> Result<(), OutputFailed>
     ensures { Answered (S.state out.old) (S.state out.new) (printed_changes (changed added.now lacking.now)) result }
 {
     if out.failed() {
@@ -71,7 +75,7 @@ fn write_both<S: Sink>(out: &mut S, added: &Sets, lacking: &Sets) -> Result<(), 
 }
 
 /// Yes where nothing is added and nothing lacking.
-fn verdict_of(added: &Sets, lacking: &Sets) -> Verdict
+pub(crate) fn verdict_of(added: &Sets, lacking: &Sets) -> Verdict
     ensures { AreSame (changed added.now lacking.now) result }
 {
     if added.is_empty() && lacking.is_empty() {

@@ -12,6 +12,7 @@ pub enum Verb {
     Lists(Operation),
     Diff,
     Free,
+    Acl,
     Check,
     Which,
     Match,
@@ -27,7 +28,7 @@ pub enum Verb {
 }
 
 /// The commands, in their order on the page.
-pub static COMMANDS: [Verb; 22] = [
+pub static COMMANDS: [Verb; 23] = [
     Verb::Lists(Operation::Merge),
     Verb::Lists(Operation::Nets),
     Verb::Lists(Operation::Minus),
@@ -37,6 +38,7 @@ pub static COMMANDS: [Verb; 22] = [
     Verb::Lists(Operation::Count),
     Verb::Diff,
     Verb::Free,
+    Verb::Acl,
     Verb::Check,
     Verb::Which,
     Verb::Match,
@@ -75,6 +77,9 @@ const DIFF: &str =
 
 const FREE: &str =
     "netset free [--all] [--count N] POOL LEN [USED..]\n                        the first network of this prefix length in the addresses of a\n                        network or of a list that no list of USED has, --all all of\n                        them, --count the first N\n";
+
+const ACL: &str =
+    "netset acl [--shadowed] [--diff OLD] RULES\n                        the addresses that an access list permits, whose lines are permit NET\n                        and deny NET, and the first that has an address decides; --shadowed\n                        the rules that no address reaches, each with the earlier ones that\n                        cover it; --diff what is permitted more than by OLD, as +NET, and\n                        what less, as -NET\n";
 
 const CHECK: &str =
     "netset check [FILE..]   what is found in the lists, whose lines may be hosts too: set host\n                        bits, other forms than the printed one, repeats, networks inside\n                        others, and halves of one network\n";
@@ -130,7 +135,7 @@ pub const OPTIONS: &str =
     "\nOptions stand anywhere behind the command; those of one letter may be joined, as -vc:\n";
 
 pub const LISTS: &str =
-    "-h, --help              what this page says of the command\n--                      what is behind it are no options\n--host-bits and --masks are for commands that read lists, but check and which, -k for all that read\nlists, and --format, --prefix and --suffix are for merge, nets, minus, and, not, free and split, and\n-o is for these, ranges, count, diff, reverse and mask.\n\nA line of a list is a network, an address or a range FIRST-LAST, and may end in a comment\nfrom # or ; on. The file - is the standard input, which is also read where no file is named.\nStatus: 0 done, 1 none, a difference or findings, 2 usage, a wrong argument, a file that\ncannot be read or a line in error, 3 output or memory.\n";
+    "-h, --help              what this page says of the command\n--                      what is behind it are no options\n--host-bits and --masks are for commands that read lists, but check and which, -k for all that read\nlists but acl, --format, --prefix and --suffix are for merge, nets, minus, and, not, free and split,\nand -o is for these, ranges, count, diff, acl, reverse and mask.\n\nA line of a list is a network, an address or a range FIRST-LAST, and may end in a comment\nfrom # or ; on. The file - is the standard input, which is also read where no file is named.\nStatus: 0 done, 1 none, a difference or findings, 2 usage, a wrong argument, a file that\ncannot be read or a line in error, 3 output or memory.\n";
 
 /// The commands, in their order on the page.
 pub fn commands() -> &'static [Verb]
@@ -153,6 +158,7 @@ pub fn name_of(command: Verb) -> &'static str
         Verb::Lists(Operation::Count) => "count",
         Verb::Diff => "diff",
         Verb::Free => "free",
+        Verb::Acl => "acl",
         Verb::Check => "check",
         Verb::Which => "which",
         Verb::Match => "match",
@@ -174,14 +180,21 @@ pub fn options_of(command: Verb) -> &'static [&'static str]
     ensures { texts result.now ≡ options_of command }
 {
     match command {
-        Verb::Lists(_)
-        | Verb::Diff
-        | Verb::Compile
-        | Verb::Describe(_)
-        | Verb::Split => { &["--host-bits", "--masks", "-k", "-h", "--help"] }
+        Verb::Lists(_) | Verb::Diff | Verb::Compile | Verb::Describe(_) | Verb::Split => {
+            &["--host-bits", "--masks", "-k", "-h", "--help"]
+        }
         Verb::Free => &["--all", "--host-bits", "--masks", "-k", "-h", "--help"],
+        Verb::Acl => &["--shadowed", "--host-bits", "--masks", "-h", "--help"],
         Verb::Check | Verb::Which => &["-k", "-h", "--help"],
-        Verb::Look => &["--any", "--keep", "--host-bits", "--masks", "-k", "-h", "--help"],
+        Verb::Look => &[
+            "--any",
+            "--keep",
+            "--host-bits",
+            "--masks",
+            "-k",
+            "-h",
+            "--help",
+        ],
         Verb::Match => &[
             "--any",
             "-v",
@@ -198,7 +211,8 @@ pub fn options_of(command: Verb) -> &'static [&'static str]
 }
 
 /// The options of a command that have a value: the network of `not --in`, how networks are written, how many networks
-/// `free --count` tells, the field that `match` and `look` read, and where the answer is written.
+/// `free --count` tells, the access list of `acl --diff`, the field that `match` and `look` read, and where the answer is
+/// written.
 fn values_of(command: Verb) -> &'static [&'static str]
     ensures { texts result.now ≡ values_of command }
 {
@@ -210,6 +224,7 @@ fn values_of(command: Verb) -> &'static [&'static str]
         | Verb::Describe(_) => &["-o"],
         Verb::Lists(_) | Verb::Split => &["--format", "--prefix", "--suffix", "-o"],
         Verb::Free => &["--count", "--format", "--prefix", "--suffix", "-o"],
+        Verb::Acl => &["--diff", "-o"],
         Verb::Match | Verb::Look => &["--field", "--separator"],
         _ => &[],
     }
@@ -229,6 +244,7 @@ pub fn needed_of(command: Verb) -> &'static [&'static str]
     match command {
         Verb::Lists(Operation::Minus) | Verb::Lists(Operation::And) | Verb::Diff => &["A", "B"],
         Verb::Free => &["POOL", "LEN"],
+        Verb::Acl => &["RULES"],
         Verb::Which => &["ADDR"],
         Verb::Match => &["LIST"],
         Verb::Look => &["TABLE"],
@@ -250,7 +266,7 @@ pub fn most_of(command: Verb) -> Option<usize>
     match command {
         Verb::Lists(_) | Verb::Free | Verb::Check | Verb::Which | Verb::Match => None,
         Verb::Diff | Verb::Look | Verb::Compile | Verb::Split | Verb::Nth => Some(2),
-        Verb::Describe(_) | Verb::Class | Verb::Show | Verb::Help => Some(1),
+        Verb::Acl | Verb::Describe(_) | Verb::Class | Verb::Show | Verb::Help => Some(1),
         Verb::Version => Some(0),
     }
 }
@@ -269,6 +285,7 @@ pub fn about_of(command: Verb) -> &'static str
         Verb::Lists(Operation::Count) => COUNT,
         Verb::Diff => DIFF,
         Verb::Free => FREE,
+        Verb::Acl => ACL,
         Verb::Check => CHECK,
         Verb::Which => WHICH,
         Verb::Match => MATCH,

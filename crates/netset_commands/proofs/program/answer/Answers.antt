@@ -22,6 +22,9 @@ returns-in-Diff-clause-answers g c = rw c.in-Diff.is c.diff.ensures.answers
 pub returns-in-Free-clause-answers : goal.returns-in-Free-clause-answers
 returns-in-Free-clause-answers g c = rw c.in-Free.is c.free.ensures.answers
 
+pub returns-in-Acl-clause-answers : goal.returns-in-Acl-clause-answers
+returns-in-Acl-clause-answers g c = rw c.in-Acl.is c.acl.ensures.answers
+
 pub returns-in-Split-clause-answers : goal.returns-in-Split-clause-answers
 returns-in-Split-clause-answers g c = rw c.in-Split.is c.split.ensures.answers
 
@@ -74,6 +77,9 @@ returns-in-Diff-clause-cause g c = rw c.in-Diff.is c.diff.ensures.cause
 
 pub returns-in-Free-clause-cause : goal.returns-in-Free-clause-cause
 returns-in-Free-clause-cause g c = rw c.in-Free.is c.free.ensures.cause
+
+pub returns-in-Acl-clause-cause : goal.returns-in-Acl-clause-cause
+returns-in-Acl-clause-cause g c = rw c.in-Acl.is c.acl.ensures.cause
 
 pub returns-in-Split-clause-cause : goal.returns-in-Split-clause-cause
 returns-in-Split-clause-cause g c = rw c.in-Split.is c.split.ensures.cause
@@ -130,6 +136,9 @@ returns-in-Diff-clause-leaves g c = rw c.in-Diff.is refl
 
 pub returns-in-Free-clause-leaves : goal.returns-in-Free-clause-leaves
 returns-in-Free-clause-leaves g c = rw c.in-Free.is refl
+
+pub returns-in-Acl-clause-leaves : goal.returns-in-Acl-clause-leaves
+returns-in-Acl-clause-leaves g c = rw c.in-Acl.is refl
 
 pub returns-in-Split-clause-leaves : goal.returns-in-Split-clause-leaves
 returns-in-Split-clause-leaves g c = rw c.in-Split.is refl

@@ -1,0 +1,180 @@
+-- Access lists that are read, and what is told of them.
+use Rattle.std.proofs.Common.{◌≡◌, ◌≢◌, refl, sym, ◌∙◌, ap, subst, inl, inr, ℕ, Bool, true, false, List, [], ◌∷◌, ◌++◌, Bor, Option, Some, None, Result, Ok, Err}
+use Rattle.std.specs.List.{AllZip, flat_map}
+use Rattle.std.specs.Option.{IfSome}
+use Rattle.cidr.specs.texts.Printed.{plain_text}
+use Rattle.cidr.specs.declared.cidr.combined.IpCidr.{IpCidr}
+use Rattle.cidr.specs.declared.family.Family.{Family}
+use Rattle.cidr.specs.declared.family.Family.TheVariants.{Ipv4, Ipv6}
+use Rattle.cidr_io.specs.Writing.{State, Answered}
+use Rattle.cidr_io.specs.declared.sink.OutputFailed.{OutputFailed}
+use Rattle.cidr_sets.specs.model.Sets.{IsDifference, IsSetOf}
+use Rattle.cidr_sets.specs.declared.access.Action.{Action}
+use Rattle.cidr_lists.specs.Changes.{change_line, printed_changes}
+use Rattle.cidr_lists.specs.Lists.{Text, text_by}
+use Rattle.cidr_lists.specs.Rules.{Question, Permitted, Shadowed, Compared, ArePermittedLines, ArePermitting, AreShadowLines, HaveRules, IsFirstBadRule, IsRulesError, RulesSay, rules_of}
+use Rattle.cidr_lists.specs.Printing.{line}
+use Rattle.cidr_lists.specs.Sets.{IsInSets, Steps, networks_of, printed_sets}
+use Rattle.cidr_lists.specs.declared.changes.Sign.{Sign}
+use Rattle.cidr_lists.specs.declared.changes.Sign.TheVariants.{Plus, Minus}
+use Rattle.cidr_lists.specs.declared.errors.ListError.{ListError}
+use Rattle.cidr_lists.specs.declared.errors.ListError.TheVariants.{Line, NoMemory}
+use Rattle.cidr_lists.specs.declared.lines.HostBits.{HostBits}
+use Rattle.cidr_lists.specs.declared.rules.Rules.{Rules}
+use Rattle.cidr_lists.specs.declared.rules.Ruling.{Ruling}
+use Rattle.cidr_lists.specs.declared.sets.Sets.{Sets}
+use Rattle.cidr_lists.specs.declared.sets.Step.TheVariants.{Difference}
+use Rattle.netset_commands.specs.Acl.{IsUnreadAcl, IsUnreadRules, ReadsPermitted, ReadsRules, rules_error}
+use Rattle.netset_commands.specs.Answering.{changed}
+use Rattle.netset_commands.specs.Changes.{AreSame}
+use Rattle.netset_commands.specs.Commands.{Acl, AreTold}
+use Rattle.netset_commands.specs.Findings.{IsClean}
+use Rattle.netset_commands.specs.Gathering.{IsNotReadFurther}
+use Rattle.netset_commands.specs.Program.{AnswersRequest, by_output}
+use Rattle.netset_commands.specs.declared.errors.CommandError.{CommandError}
+use Rattle.netset_commands.specs.declared.errors.CommandError.TheVariants as error
+use Rattle.netset_commands.specs.declared.output.answers.Verdict.{Verdict}
+use Rattle.netset_commands.specs.declared.output.answers.Verdict.TheVariants.{Yes, No}
+use Rattle.netset_commands.proofs.Causes.{whole_read}
+use Rattle.netset_commands.proofs.Changed.{are_merged, differ}
+
+-- ---- the rules of a file
+pub no_rules_read : (contents : Option Text) (name : List ℕ) (e : CommandError) → IsNotReadFurther name e → IsUnreadRules contents name e
+no_rules_read contents name (error.Argument text e) h = absurd h
+no_rules_read contents name (error.Line file number e) h = absurd h
+no_rules_read contents name (error.Input file why) h = h
+no_rules_read contents name error.NoMemory h = tt
+no_rules_read contents name error.Output h = absurd h
+no_rules_read contents name (error.File file why) h = absurd h
+
+-- the bytes that were read are the text
+module _ (contents : Option Text) (known : Option (List ℕ)) (bytes : List ℕ) (bits : HostBits) (opens : (text : Text) → contents ≡ Some text → known ≡ Some text.bytes)
+    (read : IfSome known (λ text. bytes ≡ text)) (by : (text : Text) → contents ≡ Some text → text.host_bits ≡ bits) where
+  told_of_text : (P : Text → Type 0) → P (text_by bits bytes) → (text : Text) → contents ≡ Some text → P text
+  told_of_text P h text at =
+      subst (λ (b : HostBits). P (text_by b text.bytes)) (sym (by text at))
+      (subst (λ (b : List ℕ). P (text_by bits b)) (whole_read known text.bytes bytes (opens text at) read) h)
+
+  pub rules_told : (rules : Rules) → HaveRules (text_by bits bytes) rules → (text : Text) → contents ≡ Some text → HaveRules text rules
+  rules_told rules h = told_of_text (λ text. HaveRules text rules) h
+
+  pub rules_untold : (file : Bor (List ℕ)) (e : ListError) → IsRulesError (text_by bits bytes) e → IsUnreadRules contents file.now (rules_error file e)
+  rules_untold file (Line number e) h = (refl, told_of_text (λ text. IsFirstBadRule text number e) h)
+  rules_untold file NoMemory h = tt
+
+-- what they permit
+pub permitted_read : (contents : Option Text) (name : List ℕ) (rules : Rules) (sets : Sets) → ReadsRules contents name (Ok rules)
+    → ((family : Family) → IsSetOf 129 (ArePermitting (rules_of rules family)) (networks_of sets family)) → ReadsPermitted contents name (Ok sets)
+permitted_read contents name rules sets read are = λ text at.
+    let (said, says, have) = read text at in
+    (said, says, λ family. subst (λ (k : List (List Bool × Ruling)). IsSetOf 129 (ArePermitting k) (networks_of sets family)) (have family) (are family))
+
+-- ---- why an access list is not read
+none_before : (contents : List ℕ → Option Text) (texts : List Text) → AreTold contents [] texts
+    → (said : List (List (Option (IpCidr × Action)))) × AllZip RulesSay texts said
+none_before contents [] told = ([], tt)
+none_before contents (text ∷ texts) told = absurd told
+
+one_before : (contents : List ℕ → Option Text) (name : List ℕ) (sets : Sets) → ReadsPermitted (contents name) name (Ok sets) → (texts : List Text)
+    → AreTold contents (name ∷ []) texts → (said : List (List (Option (IpCidr × Action)))) × AllZip RulesSay texts said
+one_before contents name sets read [] told = absurd told
+one_before contents name sets read (text ∷ []) told = let (said, says, are) = read text told.0 in (said ∷ [], (says, tt))
+one_before contents name sets read (text ∷ other ∷ texts) told = absurd told.1
+
+pub first_unread : (contents : List ℕ → Option Text) (name : List ℕ) (after : List (List ℕ)) (e : CommandError) → IsUnreadRules (contents name) name e
+    → IsUnreadAcl contents (name ∷ after) e
+first_unread contents name after e h = ([], after, name, refl, none_before contents, h)
+
+pub second_unread : (contents : List ℕ → Option Text) (old name : List ℕ) (sets : Sets) (e : CommandError) → ReadsPermitted (contents old) old (Ok sets)
+    → IsUnreadRules (contents name) name e → IsUnreadAcl contents (old ∷ name ∷ []) e
+second_unread contents old name sets e read h = (old ∷ [], [], name, refl, one_before contents old sets read, h)
+
+-- ---- what is told
+pub permitted_told : (contents : List ℕ → Option Text) (file : List ℕ) (sets : Sets) (s t : State) (w : Result (Unit {0}) OutputFailed) (r : Result Verdict CommandError)
+    → ReadsPermitted (contents file) file (Ok sets) → Answered s t (printed_sets (networks_of sets)) w → r ≡ by_output Yes w
+    → AnswersRequest contents (Acl Permitted file) s t r
+permitted_told contents file sets s t w r read written is =
+    let answer : (text : Text) → contents file ≡ Some text → ArePermittedLines text (printed_sets (networks_of sets)) = λ text at.
+    let (said, says, are) = read text at in (said, says, networks_of sets, are, refl) in
+    inr (printed_sets (networks_of sets), Yes, w, (answer, refl), written, is)
+
+pub shadows_told : (contents : List ℕ → Option Text) (file : List ℕ) (rules : Rules) (text : List ℕ) (s t : State) (verdict : Verdict) (w : Result (Unit {0}) OutputFailed)
+    (r : Result Verdict CommandError) → ReadsRules (contents file) file (Ok rules)
+    → ((lines : Family → List ℕ) × ((family : Family) → AreShadowLines file (rules_of rules family) (lines family)) × (text ≡ lines Ipv4 ++ lines Ipv6))
+    → IsClean text verdict → Answered s t text w → r ≡ by_output verdict w → AnswersRequest contents (Acl Shadowed file) s t r
+shadows_told contents file rules text s t verdict w r read (lines, are, all) clean written is =
+    inr (
+      text,
+      verdict,
+      w,
+      (
+        λ list at. let (said, says, have) = read list at in
+            (said, says, lines, λ family. subst (λ (k : List (List Bool × Ruling)). AreShadowLines file k (lines family)) (have family) (are family), all),
+        clean,
+      ),
+      written,
+      is,
+    )
+
+-- something is printed of each change
+some_byte : (b : ℕ) (bytes : List ℕ) → b ∷ bytes ≢ []
+some_byte b bytes e = cc
+
+no_change : (text : List Bool → List ℕ) (changes : List (Sign × List Bool)) → flat_map (change_line text) changes ≡ [] → changes ≡ []
+no_change text [] e = refl
+no_change text ((Plus, network) ∷ changes) e = absurd (some_byte 43 (line (text network) ++ flat_map (change_line text) changes) e)
+no_change text ((Minus, network) ∷ changes) e = absurd (some_byte 45 (line (text network) ++ flat_map (change_line text) changes) e)
+
+both_empty : (front back : List ℕ) → front ++ back ≡ [] → (front ≡ []) × (back ≡ [])
+both_empty [] back e = (refl, e)
+both_empty (b ∷ front) back e = cc
+
+pub changes_clean : (changes : Family → List (Sign × List Bool)) (verdict : Verdict) → AreSame changes verdict → IsClean (printed_changes changes) verdict
+changes_clean changes Yes none =
+    ap (λ (k : List (Sign × List Bool)). flat_map (change_line (plain_text Ipv4)) k ++ flat_map (change_line (plain_text Ipv6)) (changes Ipv6)) (none Ipv4)
+    ∙ ap (λ (k : List (Sign × List Bool)). flat_map (change_line (plain_text Ipv6)) k) (none Ipv6)
+changes_clean changes No (Ipv4, some) = λ e. some (no_change (plain_text Ipv4) (changes Ipv4) (both_empty (flat_map (change_line (plain_text Ipv4)) (changes Ipv4))
+    (flat_map (change_line (plain_text Ipv6)) (changes Ipv6)) e).0)
+changes_clean changes No (Ipv6, some) = λ e.
+    some (no_change (plain_text Ipv6) (changes Ipv6) (both_empty (flat_map (change_line (plain_text Ipv4)) (changes Ipv4))
+    (flat_map (change_line (plain_text Ipv6)) (changes Ipv6)) e).1)
+
+pub changes_told : (contents : List ℕ → Option Text) (a b : List ℕ) (old new added lacking : Sets) (s t : State) (verdict : Verdict)
+    (w : Result (Unit {0}) OutputFailed) (r : Result Verdict CommandError) → ReadsPermitted (contents a) a (Ok old) → ReadsPermitted (contents b) b (Ok new)
+    → ((family : Family) → IsSetOf 129 (λ p. Steps Difference (IsInSets new family p) (IsInSets old family p)) (networks_of added family))
+    → ((family : Family) → IsSetOf 129 (λ p. Steps Difference (IsInSets old family p) (IsInSets new family p)) (networks_of lacking family))
+    → AreSame (changed added lacking) verdict → Answered s t (printed_changes (changed added lacking)) w → r ≡ by_output verdict w
+    → AnswersRequest contents (Acl (Compared a) b) s t r
+changes_told contents a b old new added lacking s t verdict w r first second plus minus same written is =
+    inr (
+      printed_changes (changed added lacking),
+      verdict,
+      w,
+      (
+        λ x y p q.
+            let (before, says, has) = first x p in
+            let (after, says_too, has_too) = second y q in (
+              before,
+              after,
+              says,
+              says_too,
+              networks_of old,
+              networks_of new,
+              has,
+              has_too,
+              changed added lacking,
+              λ family. (
+                networks_of added family,
+                networks_of lacking family,
+                plus family,
+                minus family,
+                are_merged (networks_of added family) (networks_of lacking family) (plus family).reduced.ascending (minus family).reduced.ascending
+                    (differ (networks_of old family) (networks_of new family) (networks_of added family) (networks_of lacking family) (plus family) (minus family)),
+              ),
+              refl,
+            ),
+        changes_clean (changed added lacking) verdict same,
+      ),
+      written,
+      is,
+    )
