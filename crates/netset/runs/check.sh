@@ -387,6 +387,7 @@ rows_of_access_lists() {
     run 0 $'10.0.0.0/8\n' '' 'deny 11.0.0.0/8\npermit 10.0.0.0/7' acl -
     run 0 $'0.0.0.0/0\n::/0\n' '' 'permit 0.0.0.0/0\npermit ::/0\n' acl -
     run 0 $'10.0.0.0/8\n' '' 'permit 10.0.0.7/8' acl --host-bits -
+    run 0 $'10.0.0.0/9\n' '' 'deny 10.128.0.0 0.127.255.255\npermit 10.0.0.0 0.255.255.255' acl --masks -
     run 2 '' $'-:1: 10.0.0.7/8: host bits set; the network is 10.0.0.0/8\n' 'permit 10.0.0.7/8' acl -
     run 2 '' $'-:2: allow: neither permit nor deny\n' 'permit ::/0\nallow ::/0\nx' acl -
     run 2 '' $'-:1: Permit: neither permit nor deny\n' 'Permit 10.0.0.0/8' acl -
