@@ -12,6 +12,7 @@ use Rattle.cidr_lists.specs.Lists.{ListSays, Text, text_by}
 use Rattle.cidr_lists.specs.Lines.{lines_in}
 use Rattle.cidr_lists.specs.Messages.{fault_line}
 use Rattle.cidr_lists.specs.Printing.{line}
+use Rattle.cidr_lists.specs.Rules.{AreAllShadowLines, ArePermittedLines, Permitted, Shadowed, Compared}
 use Rattle.cidr_lists.specs.ReadBack.{AreUnions}
 use Rattle.cidr_lists.specs.Sets.{printed_sets}
 use Rattle.cidr_lists.specs.declared.columns.Column.{Column}
@@ -23,7 +24,7 @@ use Rattle.cidr_lists.specs.declared.fields.Asked.TheVariants.{First}
 use Rattle.cidr_lists.specs.declared.lines.HostBits.{HostBits}
 use Rattle.cidr_lists.specs.declared.lines.HostBits.TheVariants.{Refused}
 use Rattle.netset_commands.specs.Causes.{Refusals}
-use Rattle.netset_commands.specs.Commands.{HoldsOf, IsMadeOf, Lists, Look, Match, ReadsInputTwice, reading_of}
+use Rattle.netset_commands.specs.Commands.{Acl, HoldsOf, IsMadeOf, Lists, Look, Match, ReadsInputTwice, reading_of}
 use Rattle.netset_commands.specs.Look.{IsLook}
 use Rattle.netset_commands.specs.Matching.{ArePicked, IsMatch, Picks}
 use Rattle.netset_commands.specs.Picking.{FieldOf, FirstField, IsChosen}
@@ -33,11 +34,11 @@ use Rattle.netset_commands.specs.declared.commands.operations.Operation.TheVaria
 use Rattle.netset_commands.specs.declared.errors.CommandError.TheVariants as error
 use Rattle.netset_commands.specs.declared.commands.matching.Written.TheVariants as written
 use Rattle.netset_commands.specs.declared.output.answers.Verdict.{Verdict}
-use Rattle.netset_commands.specs.declared.output.answers.Verdict.TheVariants.{Yes}
+use Rattle.netset_commands.specs.declared.output.answers.Verdict.TheVariants.{Yes, No}
 use Rattle.netset_commands.proofs.Failures.{Failed, lists_fail}
 use Rattle.netset_commands.proofs.Matched.{of_list}
 use Rattle.netset_commands.proofs.Typed.{typed_asks}
-use Rattle.netset_uses.specs.Runs.{AreLinesBySecond, HasPrinted, HasRun, HasToldLine, holding, second_field}
+use Rattle.netset_uses.specs.Runs.{AreLinesBySecond, ArePermittedTheSame, HasPrinted, HasRun, HasToldLine, holding, second_field}
 use Rattle.netset_uses.specs.declared.runs.Finished.{Finished}
 
 -- ---- outputs
@@ -183,6 +184,47 @@ pub looks_printed : (words : List (List ℕ)) (contents : List ℕ → Option (L
 looks_printed words contents table file None same first second h = tt
 looks_printed words contents table file (Some run) same first second h =
     look_printed contents table file run first second (subst (λ (k : List (List ℕ)). HasRun k contents run) same h)
+
+-- ---- acl
+abbrev pub acl_words : List (List ℕ)
+acl_words = codes "acl" ∷ codes "rules" ∷ []
+
+pub acl_printed : (words : List (List ℕ)) (contents : List ℕ → Option (List ℕ)) (rules : List ℕ) (r : Option Finished) → words ≡ acl_words
+    → contents (codes "rules") ≡ Some rules → IfSome r (HasRun words contents)
+    → IfSome r (λ run. run.status ≡ 0 → HasPrinted (ArePermittedLines (text_by Refused rules)) run)
+acl_printed words contents rules None same told h = tt
+acl_printed words contents rules (Some run) same told h = λ ended.
+    let (answered, runs) = subst (λ (k : List (List ℕ)). HasRun k contents run) same h in
+    let (answer, (is, clean), whole, quiet) = answered acl_words [] (Acl Permitted (codes "rules")) Yes refl (refl, (refl, refl, refl, refl, refl)) ended in
+    printed_by (ArePermittedLines (text_by Refused rules)) run answer (is (text_by Refused rules) (told_text contents (codes "rules") rules told)) whole quiet
+
+abbrev pub shadowed_words : List (List ℕ)
+shadowed_words = codes "acl" ∷ codes "--shadowed" ∷ codes "rules" ∷ []
+
+pub shadows_printed : (words : List (List ℕ)) (contents : List ℕ → Option (List ℕ)) (rules : List ℕ) (r : Option Finished) → words ≡ shadowed_words
+    → contents (codes "rules") ≡ Some rules → IfSome r (HasRun words contents)
+    → IfSome r (λ run. run.status ≡ 1 → HasPrinted (AreAllShadowLines (codes "rules") (text_by Refused rules)) run)
+shadows_printed words contents rules None same told h = tt
+shadows_printed words contents rules (Some run) same told h = λ ended.
+    let (answered, runs) = subst (λ (k : List (List ℕ)). HasRun k contents run) same h in
+    let (answer, (is, clean), whole, quiet) = answered shadowed_words (codes "--shadowed" ∷ []) (Acl Shadowed (codes "rules")) No refl
+    (refl, (refl, refl, refl, refl, refl)) ended in
+    printed_by (AreAllShadowLines (codes "rules") (text_by Refused rules)) run answer
+    (is (text_by Refused rules) (told_text contents (codes "rules") rules told)) whole quiet
+
+abbrev pub compared_words : List (List ℕ)
+compared_words = codes "acl" ∷ codes "--diff" ∷ codes "old" ∷ codes "rules" ∷ []
+
+pub changes_printed : (words : List (List ℕ)) (contents : List ℕ → Option (List ℕ)) (old rules : List ℕ) (r : Option Finished) → words ≡ compared_words
+    → contents (codes "old") ≡ Some old → contents (codes "rules") ≡ Some rules → IfSome r (HasRun words contents)
+    → IfSome r (λ run. run.status ≡ 0 → HasPrinted (ArePermittedTheSame (text_by Refused old) (text_by Refused rules)) run)
+changes_printed words contents old rules None same first second h = tt
+changes_printed words contents old rules (Some run) same first second h = λ ended.
+    let (answered, runs) = subst (λ (k : List (List ℕ)). HasRun k contents run) same h in
+    let (answer, (is, clean), whole, quiet) = answered compared_words [] (Acl (Compared (codes "old")) (codes "rules")) Yes refl
+    (refl, (refl, refl, refl, refl, refl)) ended in
+    printed_by (ArePermittedTheSame (text_by Refused old) (text_by Refused rules)) run answer
+    (is (text_by Refused old) (text_by Refused rules) (told_text contents (codes "old") old first) (told_text contents (codes "rules") rules second), clean) whole quiet
 
 -- ---- match
 abbrev pub match_words : List (List ℕ)

@@ -6,6 +6,7 @@ use Rattle.cidr_lists.specs.Lists.{IsFirstError, Text}
 use Rattle.cidr_lists.specs.Lines.{lines_in}
 use Rattle.cidr_lists.specs.Messages.{fault_line}
 use Rattle.cidr_lists.specs.Printing.{line}
+use Rattle.cidr_lists.specs.Rules.{AreRuleChanges}
 use Rattle.cidr_lists.specs.declared.columns.Column.{Column}
 use Rattle.cidr_lists.specs.declared.columns.Separator.TheVariants.{Byte}
 use Rattle.cidr_lists.specs.declared.errors.LineError.{LineError}
@@ -43,3 +44,7 @@ second_field = record { place = 1; separator = Byte 44 }
 abbrev pub AreLinesBySecond : Text → List ℕ → List ℕ → Type 0
 AreLinesBySecond networks text answer = HoldsOf networks (λ IsIn. (picked : List (List ℕ))
     × ArePicked (Picks false second_field IsIn false) (lines_in text) picked × (answer ≡ flat_map line picked))
+
+-- nothing is told of what the rules of one list permit and those of the other do not
+abbrev pub ArePermittedTheSame : Text → Text → List ℕ → Type 0
+ArePermittedTheSame old new answer = AreRuleChanges old new answer × (answer ≡ [])

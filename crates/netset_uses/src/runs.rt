@@ -3,11 +3,12 @@ ghost use Rattle.std.specs.Prelude.{◌≡◌, [], ◌∷◌, codes, false, map,
 ghost use Rattle.cidr_lists.specs.declared.fields.Asked.TheVariants.{First};
 ghost use Rattle.cidr_lists.specs.Lists.{text_by};
 ghost use Rattle.cidr_lists.specs.declared.lines.HostBits.TheVariants.{Refused};
+ghost use Rattle.cidr_lists.specs.Rules.{AreAllShadowLines, ArePermittedLines};
 ghost use Rattle.netset_commands.specs.Commands.{IsMadeOf};
 ghost use Rattle.netset_commands.specs.Look.{IsLook};
 ghost use Rattle.netset_commands.specs.declared.commands.operations.Operation.TheVariants.{Merge};
 ghost use Rattle.netset_commands.specs.declared.output.answers.Verdict.TheVariants.{Yes};
-ghost use Rattle.netset_uses.specs.Runs.{AreLinesBySecond, HasPrinted, HasRun, HasToldLine};
+ghost use Rattle.netset_uses.specs.Runs.{AreLinesBySecond, ArePermittedTheSame, HasPrinted, HasRun, HasToldLine};
 ghost use Rattle.netset_uses.specs.Texts.{contents_of};
 
 use crate::texts::{TextFile, TextFiles, Words};
@@ -85,6 +86,48 @@ pub fn look(alloc: Global, table: &[u8], file: &[u8]) -> Option<Finished>
         },
     ];
     run(alloc, &["look", "table", "file"], &files)
+}
+
+/// A run of `netset acl rules`. With status 0 it has printed the networks that the access list permits.
+pub fn acl(alloc: Global, rules: &[u8]) -> Option<Finished>
+    ensures { IfSome result (λ run. run.status ≡ 0 → HasPrinted (ArePermittedLines (text_by Refused rules.now)) run) }
+{
+    let file = TextFile {
+        name: "rules",
+        bytes: rules,
+    };
+    run(alloc, &["acl", "rules"], &[file])
+}
+
+/// A run of `netset acl --shadowed rules`. With status 1 it has told the rules that no address reaches, each with the earlier
+/// ones that decide the addresses of its network.
+pub fn shadowed(alloc: Global, rules: &[u8]) -> Option<Finished>
+    ensures { IfSome result (λ run. run.status ≡ 1
+        → HasPrinted (AreAllShadowLines (codes "rules") (text_by Refused rules.now)) run) }
+{
+    let file = TextFile {
+        name: "rules",
+        bytes: rules,
+    };
+    run(alloc, &["acl", "--shadowed", "rules"], &[file])
+}
+
+/// A run of `netset acl --diff old rules`. With status 0 both lists permit the same addresses, and it has printed nothing.
+pub fn compared(alloc: Global, old: &[u8], rules: &[u8]) -> Option<Finished>
+    ensures { IfSome result (λ run. run.status ≡ 0
+        → HasPrinted (ArePermittedTheSame (text_by Refused old.now) (text_by Refused rules.now)) run) }
+{
+    let files = [
+        TextFile {
+            name: "old",
+            bytes: old,
+        },
+        TextFile {
+            name: "rules",
+            bytes: rules,
+        },
+    ];
+    run(alloc, &["acl", "--diff", "old", "rules"], &files)
 }
 
 /// A run of `netset match --field 2 --separator , list file`. With status 0 it has printed the lines of the file whose

@@ -1,5 +1,5 @@
 //! Lists in memory: read, printed, and given to runs.
-use crate::runs::{look, match_second, merge, merge_twice};
+use crate::runs::{acl, compared, look, match_second, merge, merge_twice, shadowed};
 use cidr_lists::errors::{LineError, ListError};
 use cidr_lists::lines::HostBits;
 use cidr_lists::sets::{Form, Sets};
@@ -59,6 +59,25 @@ fn look_prints_the_longest_networks(rt: HostRuntime) -> Result<(), Fail> {
         b"192.0.2.70 192.0.2.64/26 room #5\n192.0.2.7 192.0.2.0/24 the office\n198.51.100.1 -\n".as_slice()
     );
     assert_eq!(rt; run.err.len(), 0);
+    Ok(())
+}
+
+#[test]
+fn acl_tells_what_rules_permit(rt: HostRuntime) -> Result<(), Fail> {
+    let rules =
+        b"# office\r\ndeny 10.1.0.0/16\npermit 10.0.0.0/15 ; all\npermit 10.1.2.0/24\npermit ::1";
+    let run = acl(rt.alloc(), rules).ok_or("no memory")?;
+    assert_eq!(rt; run.status, 0);
+    assert_eq!(rt; run.out.as_slice(), b"10.0.0.0/16\n::1\n".as_slice());
+    let run = shadowed(rt.alloc(), rules).ok_or("no memory")?;
+    assert_eq!(rt; run.status, 1);
+    assert_eq!(rt;
+        run.out.as_slice(),
+        b"rules:4: shadowed by rules:2\n".as_slice()
+    );
+    let run = compared(rt.alloc(), rules, b"permit 10.0.0.0/16\npermit ::1\n").ok_or("no memory")?;
+    assert_eq!(rt; run.status, 0);
+    assert_eq!(rt; run.out.len(), 0);
     Ok(())
 }
 
