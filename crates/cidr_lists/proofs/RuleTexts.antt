@@ -7,7 +7,6 @@ use Rattle.std.proofs.lemmas.Bool.{ne_eqb, true≢false}
 use Rattle.std.proofs.lemmas.Simd.{map-map}
 use Rattle.cidr.specs.declared.cidr.combined.IpCidr.{IpCidr}
 use Rattle.cidr.specs.declared.family.Family.{Family}
-use Rattle.cidr_io.specs.Shown.{byte_excerpt}
 use Rattle.cidr_sets.specs.model.FirstRules.{IsPermitted}
 use Rattle.cidr_sets.specs.model.Sets.{IsSetOf}
 use Rattle.cidr_sets.specs.declared.access.Action.{Action}

@@ -1,5 +1,5 @@
 -- Access lists that are read, and what is told of them.
-use Rattle.std.proofs.Common.{◌≡◌, ◌≢◌, refl, sym, ◌∙◌, ap, subst, inl, inr, ℕ, Bool, true, false, List, [], ◌∷◌, ◌++◌, Bor, Option, Some, None, Result, Ok, Err}
+use Rattle.std.proofs.Common.{◌≡◌, ◌≢◌, refl, sym, ◌∙◌, ap, subst, inr, ℕ, Bool, List, [], ◌∷◌, ◌++◌, Bor, Option, Some, Result, Ok}
 use Rattle.std.specs.List.{AllZip, flat_map}
 use Rattle.std.specs.Option.{IfSome}
 use Rattle.cidr.specs.texts.Printed.{plain_text}
@@ -8,11 +8,11 @@ use Rattle.cidr.specs.declared.family.Family.{Family}
 use Rattle.cidr.specs.declared.family.Family.TheVariants.{Ipv4, Ipv6}
 use Rattle.cidr_io.specs.Writing.{State, Answered}
 use Rattle.cidr_io.specs.declared.sink.OutputFailed.{OutputFailed}
-use Rattle.cidr_sets.specs.model.Sets.{IsDifference, IsSetOf}
+use Rattle.cidr_sets.specs.model.Sets.{IsSetOf}
 use Rattle.cidr_sets.specs.declared.access.Action.{Action}
 use Rattle.cidr_lists.specs.Changes.{change_line, printed_changes}
 use Rattle.cidr_lists.specs.Lists.{Text, text_by}
-use Rattle.cidr_lists.specs.Rules.{Question, Permitted, Shadowed, Compared, ArePermittedLines, ArePermitting, AreShadowLines, HaveRules, IsFirstBadRule, IsRulesError, RulesSay, rules_of}
+use Rattle.cidr_lists.specs.Rules.{Permitted, Shadowed, Compared, ArePermittedLines, ArePermitting, AreShadowLines, HaveRules, IsFirstBadRule, IsRulesError, RulesSay, rules_of}
 use Rattle.cidr_lists.specs.Printing.{line}
 use Rattle.cidr_lists.specs.Sets.{IsInSets, Steps, networks_of, printed_sets}
 use Rattle.cidr_lists.specs.declared.changes.Sign.{Sign}

@@ -1,5 +1,5 @@
 -- Lines that are kept, with the networks of their addresses.
-use Rattle.std.proofs.Common.{◌≡◌, refl, sym, ◌∙◌, ap, subst, inl, inr, ℕ, ◌+◌, ◌<◌, ◌≤◌, Bool, true, false, ◌||◌, List, [], ◌∷◌, ◌++◌, length, arith, codes, is_some, ◌==◌, option_map, Option, Some, None, Result, Ok, Err, Bor, append_assoc, length-append}
+use Rattle.std.proofs.Common.{◌≡◌, refl, sym, ◌∙◌, ap, subst, inl, inr, ℕ, ◌+◌, ◌≤◌, Bool, true, false, ◌||◌, List, [], ◌∷◌, ◌++◌, length, arith, codes, is_some, ◌==◌, Option, Some, None, Result, Ok, Err, append_assoc, length-append}
 use Rattle.std.specs.Option.{IfSome}
 use Rattle.std.specs.List.{AllZip, flat_map, list_any}
 use Rattle.std.proofs.lemmas.Bool.{true≢false}
@@ -16,13 +16,13 @@ use Rattle.cidr_io.specs.declared.sink.OutputFailed.{OutputFailed}
 use Rattle.cidr_io.proofs.Chains.{answered, part_none}
 use Rattle.cidr_io.proofs.Collected.{held_lost, held_then, none_collected}
 use Rattle.cidr_lists.specs.Lines.{lines_in}
-use Rattle.cidr_lists.specs.LookUps.{IsBadAsked, LineLooks, LineTells, LinesTell, LookUp, is_found, joint_of, kept_line, printed_found, printed_row, returns_of, told_line, without_returns}
+use Rattle.cidr_lists.specs.LookUps.{IsBadAsked, LineTells, LinesTell, LookUp, is_found, joint_of, kept_line, printed_found, printed_row, returns_of, told_line, without_returns}
 use Rattle.cidr_lists.specs.declared.fields.Asked.{Asked}
 use Rattle.netset_commands.specs.Causes.{Cause, TextFails}
 use Rattle.netset_commands.specs.Gathering.{IsNotReadFurther, Stops, ended_by, lines_of_part}
 use Rattle.netset_commands.specs.KeptLines.{HasNetwork, IsNetworkOf, KeepsLine, KeepsPart, KeepsText}
 use Rattle.netset_commands.specs.Look.{verdict_of}
-use Rattle.netset_commands.specs.LookUps.{AskLooks, LineAsks}
+use Rattle.netset_commands.specs.LookUps.{LineAsks}
 use Rattle.netset_commands.specs.Program.{by_output}
 use Rattle.netset_commands.specs.Reading.{IsNextLine}
 use Rattle.netset_commands.specs.Streaming.{IsCut, IsOfFile, IsStop, IsWritten, ReadTo}

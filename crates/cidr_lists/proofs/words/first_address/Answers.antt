@@ -1,5 +1,4 @@
-use Rattle.std.proofs.Common.{Some, None, sym, subst, Option}
-use Rattle.cidr.specs.declared.addr.ip.IpAddr.{IpAddr}
+use Rattle.std.proofs.Common.{Some, None, sym, subst}
 use Rattle.cidr.specs.declared.family.Family.TheVariants.{Ipv6}
 use Rattle.cidr_lists.specs.Words.{WordSays}
 use Rattle.cidr_lists.proofs.Anywhere.{all_of, next_is, word_ascii}

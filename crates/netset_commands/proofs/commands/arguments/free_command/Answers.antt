@@ -1,7 +1,7 @@
 use Rattle.std.proofs.Common.{◌≡◌, ap, sym, codes, drop, ℕ, List, [], Option, option_map, Result, Ok, ◌∙◌}
 use Rattle.std.proofs.lemmas.Result.{err_from_is_err_and}
 use Rattle.cidr_lists.specs.Formats.{Style, style_in}
-use Rattle.netset_commands.specs.Arguments.{Parts, and_then, extent_by, extent_in, free_request, operand_or, style_in_values, value_of}
+use Rattle.netset_commands.specs.Arguments.{Parts, and_then, extent_by, free_request, operand_or, style_in_values, value_of}
 use Rattle.netset_commands.specs.Command.{extent_of, given_parts}
 use Rattle.netset_commands.specs.Commands.{Free, Request}
 use Rattle.netset_commands.specs.Free.{Extent}

@@ -1,4 +1,4 @@
-use Rattle.std.proofs.Common.{ap, ℕ, List, [], Option, option_map, Result, Ok}
+use Rattle.std.proofs.Common.{ap, ℕ, List, [], Option, Result, Ok}
 use Rattle.std.proofs.lemmas.Result.{err_from_is_err_and}
 use Rattle.cidr_lists.specs.Formats.{Style}
 use Rattle.netset_commands.specs.Arguments.{and_then, operand_or}

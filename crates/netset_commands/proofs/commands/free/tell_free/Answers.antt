@@ -1,5 +1,4 @@
-use Rattle.std.proofs.Common.{refl, subst, [], List, Bool, option_map}
-use Rattle.cidr.specs.declared.family.Family.{Family}
+use Rattle.std.proofs.Common.{refl, subst, [], option_map}
 use Rattle.cidr_io.specs.Writing.{Answered}
 use Rattle.cidr_lists.specs.Formats.{printed_walk, style_in}
 use Rattle.cidr_lists.specs.Sets.{networks_of}

@@ -1,9 +1,8 @@
-use Rattle.std.proofs.Common.{inl, inr, map, refl, sym, subst, codes}
+use Rattle.std.proofs.Common.{inl, inr, map, refl, sym, subst}
 use Rattle.std.proofs.lemmas.Result.{err_from_is_err_and}
 use Rattle.netset_commands.specs.Causes.{FileMayFail}
 use Rattle.netset_commands.specs.Command.{choice_of}
 use Rattle.netset_commands.specs.Look.{IsUnreadTable}
-use Rattle.netset_commands.specs.Picking.{IsAsked}
 use Rattle.netset_commands.specs.Stored.{AreFileBytes, by_family}
 use Rattle.netset_commands.proofs.Causes.{argument_cause}
 use Rattle.netset_commands.proofs.Given.{no_file, says_table}

@@ -1,4 +1,4 @@
-use Rattle.std.proofs.Common.{◌∙◌, inl, inr, refl}
+use Rattle.std.proofs.Common.{◌∙◌, inl, refl}
 use Rattle.netset_commands.specs.declared.errors.CommandError.TheVariants as error
 use Rattle.netset_commands.proofs.Causes.{file_cause, file_causes, not_opened}
 use Rattle.netset_commands.proofs.Looked.{ended_early, kept_file, looked_whole, output_failed}
