@@ -133,8 +133,11 @@ fn have_same_rows(table: &Table<'_>, other: &Table<'_>) -> bool {
             0x2001, 0xdb8, 0xffff, 0xffff, 0xffff, 0xffff, 0xffff, 0xffff,
         ),
     ];
-    ipv4.iter().all(|&end| have_same_ipv4_rows(table, other, end))
-        && ipv6.iter().all(|&end| have_same_ipv6_rows(table, other, end))
+    ipv4.iter()
+        .all(|&end| have_same_ipv4_rows(table, other, end))
+        && ipv6
+            .iter()
+            .all(|&end| have_same_ipv6_rows(table, other, end))
 }
 
 /// Whether the rows of an IPv4 address and of those around it are the same.
