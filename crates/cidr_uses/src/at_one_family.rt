@@ -1,4 +1,5 @@
-//! 24 calls of the IPv4 types promise, at their types, what the types of both families promise in general.
+//! What calls of the types promise at one family, from what the types of both families promise in general: 11 calls of
+//! networks at IPv4, and 13 of hosts and pairs at IPv6.
 ghost use Rattle.std.specs.Prelude.{◌≡◌, ◌≤◌, ◌↔◌, length, IsTrue};
 ghost use Rattle.cidr.specs.model.Host.{next_of, previous_of, stepped_up, stepped_down, WrapsUp, WrapsDown, network_of, host_from, lone_host};
 ghost use Rattle.cidr.specs.model.Network.{network_from, HoldsAll, HasWidth, BeginsWith, first_of, last_of, mask_of};
@@ -8,11 +9,13 @@ ghost use Rattle.cidr.specs.texts.NetworkText.{IsNetworkText};
 ghost use Rattle.cidr.specs.texts.HostText.{IsHostText, ReadsHost};
 ghost use Rattle.cidr.specs.texts.Printed.{plain_text, forced_text, plain_host_text, pair_text};
 ghost use Rattle.cidr.specs.texts.Refusal.{ReadsNetwork};
-ghost use Rattle.cidr.specs.declared.family.Family.TheVariants.{Ipv4};
+ghost use Rattle.cidr.specs.declared.family.Family.TheVariants.{Ipv4, Ipv6};
 
 use arrayvec::ArrayString;
 use cidr::errors::{InetTupleError, NetworkLengthTooLongError, NetworkParseError};
-use cidr::{InetIterator, Ipv4Addr, Ipv4Cidr, Ipv4Inet, Ipv4InetPair, WithLength};
+use cidr::{
+    InetIterator, Ipv4Addr, Ipv4Cidr, Ipv6Addr, Ipv6Cidr, Ipv6Inet, Ipv6InetPair, WithLength,
+};
 
 /// The network of an address and a length.
 pub fn network(address: Ipv4Addr, len: u8) -> Result<Ipv4Cidr, NetworkParseError>
@@ -98,101 +101,101 @@ pub fn walk(network: &Ipv4Cidr) -> InetIterator<Ipv4Addr>
 }
 
 /// The host of an address and a length.
-pub fn host(address: Ipv4Addr, len: u8) -> Result<Ipv4Inet, NetworkLengthTooLongError>
-    ensures { result ≡ host_from Ipv4 address len }
+pub fn host(address: Ipv6Addr, len: u8) -> Result<Ipv6Inet, NetworkLengthTooLongError>
+    ensures { result ≡ host_from Ipv6 address len }
 {
-    Ipv4Inet::new(address, len)
+    Ipv6Inet::new(address, len)
 }
 
 /// The host of one address.
-pub fn lone_host_of(address: Ipv4Addr) -> Ipv4Inet
-    ensures { result ≡ lone_host 32 address }
+pub fn lone_host_of(address: Ipv6Addr) -> Ipv6Inet
+    ensures { result ≡ lone_host 128 address }
 {
-    Ipv4Inet::new_host(address)
+    Ipv6Inet::new_host(address)
 }
 
 /// The host that a string is parsed as.
-pub fn read_host(text: &str) -> Result<Ipv4Inet, NetworkParseError>
-    ensures { ReadsHost Ipv4 text.now result }
+pub fn read_host(text: &str) -> Result<Ipv6Inet, NetworkParseError>
+    ensures { ReadsHost Ipv6 text.now result }
 {
-    text.parse::<Ipv4Inet>()
+    text.parse::<Ipv6Inet>()
 }
 
 /// The printed string of a host, which is parsed as it.
-pub fn host_text(host: &Ipv4Inet) -> ArrayString<43>
-    ensures text { result.bytes ≡ plain_host_text Ipv4 host.now }
-    ensures len { length result.bytes ≤ 18 }
-    ensures spells { IsHostText Ipv4 result.bytes host.now }
+pub fn host_text(host: &Ipv6Inet) -> ArrayString<43>
+    ensures text { result.bytes ≡ plain_host_text Ipv6 host.now }
+    ensures len { length result.bytes ≤ 43 }
+    ensures spells { IsHostText Ipv6 result.bytes host.now }
 {
     host.to_text()
 }
 
 /// The network of a host.
-pub fn network_of_host(host: &Ipv4Inet) -> Ipv4Cidr
+pub fn network_of_host(host: &Ipv6Inet) -> Ipv6Cidr
     ensures { result ≡ network_of host.now }
 {
     host.network()
 }
 
 /// The next host.
-pub fn next(host: Ipv4Inet) -> Option<Ipv4Inet>
-    ensures { result ≡ next_of 32 host }
+pub fn next(host: Ipv6Inet) -> Option<Ipv6Inet>
+    ensures { result ≡ next_of 128 host }
 {
     host.next()
 }
 
 /// The host before.
-pub fn previous(host: Ipv4Inet) -> Option<Ipv4Inet>
-    ensures { result ≡ previous_of 32 host }
+pub fn previous(host: Ipv6Inet) -> Option<Ipv6Inet>
+    ensures { result ≡ previous_of 128 host }
 {
     host.previous()
 }
 
 /// Steps of any size, and whether they wrapped.
-pub fn step_up(host: Ipv4Inet, step: u128) -> (Ipv4Inet, bool)
-    ensures stepped { result.0 ≡ stepped_up 32 host step }
-    ensures wraps { IsTrue result.1 ↔ WrapsUp 32 host step }
+pub fn step_up(host: Ipv6Inet, step: u128) -> (Ipv6Inet, bool)
+    ensures stepped { result.0 ≡ stepped_up 128 host step }
+    ensures wraps { IsTrue result.1 ↔ WrapsUp 128 host step }
 {
     host.overflowing_add(step)
 }
 
 /// The same in the other direction.
-pub fn step_down(host: Ipv4Inet, step: u128) -> (Ipv4Inet, bool)
-    ensures stepped { result.0 ≡ stepped_down 32 host step }
+pub fn step_down(host: Ipv6Inet, step: u128) -> (Ipv6Inet, bool)
+    ensures stepped { result.0 ≡ stepped_down 128 host step }
     ensures wraps { IsTrue result.1 ↔ WrapsDown host step }
 {
     host.overflowing_sub(step)
 }
 
 /// The pair of two hosts.
-pub fn pair(first: Ipv4Inet, second: Ipv4Inet) -> Result<Ipv4InetPair, InetTupleError>
+pub fn pair(first: Ipv6Inet, second: Ipv6Inet) -> Result<Ipv6InetPair, InetTupleError>
     ensures { result ≡ pair_of first second }
 {
-    Ipv4InetPair::new(first, second)
+    Ipv6InetPair::new(first, second)
 }
 
 /// The pair of two addresses and a length.
 pub fn pair_of_addresses(
-    first: Ipv4Addr,
-    second: Ipv4Addr,
+    first: Ipv6Addr,
+    second: Ipv6Addr,
     len: u8,
-) -> Result<Ipv4InetPair, InetTupleError>
-    ensures { result ≡ pair_from Ipv4 first second len }
+) -> Result<Ipv6InetPair, InetTupleError>
+    ensures { result ≡ pair_from Ipv6 first second len }
 {
-    Ipv4InetPair::new_from_addresses(first, second, len)
+    Ipv6InetPair::new_from_addresses(first, second, len)
 }
 
 /// The network of a pair.
-pub fn network_of_both(pair: &Ipv4InetPair) -> Ipv4Cidr
+pub fn network_of_both(pair: &Ipv6InetPair) -> Ipv6Cidr
     ensures { result ≡ network_of_pair pair.now }
 {
     pair.network()
 }
 
 /// The printed string of a pair.
-pub fn text_of_pair(pair: &Ipv4InetPair) -> ArrayString<90>
-    ensures text { result.bytes ≡ pair_text (plain_host_text Ipv4) pair.now }
-    ensures len { length result.bytes ≤ 40 }
+pub fn text_of_pair(pair: &Ipv6InetPair) -> ArrayString<90>
+    ensures text { result.bytes ≡ pair_text (plain_host_text Ipv6) pair.now }
+    ensures len { length result.bytes ≤ 90 }
 {
     pair.to_text()
 }
