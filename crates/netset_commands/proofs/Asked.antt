@@ -14,7 +14,7 @@ use Rattle.netset_commands.specs.Reading.{IsNextLine, IsStopped}
 use Rattle.cidr_lists.specs.declared.errors.LineError.{LineError}
 use Rattle.netset_commands.specs.declared.errors.ReadError.{ReadError}
 use Rattle.netset_commands.specs.declared.errors.ReadError.TheVariants.{Line, Input, NoMemory}
-use Rattle.netset_commands.proofs.Passed.{Passed, none_passed, one_passed, all_passed, error_passed, first_passed}
+use Rattle.netset_commands.proofs.TextProgress.{Passed, none_passed, one_passed, all_passed, error_passed, first_passed}
 use Rattle.netset_commands.proofs.Zips.{zip_length}
 
 -- by the address that is taken of a line

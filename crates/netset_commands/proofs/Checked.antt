@@ -24,7 +24,7 @@ use Rattle.cidr_lists.specs.declared.findings.Note.{Note}
 use Rattle.cidr_lists.specs.declared.near.Near.{Near}
 use Rattle.netset_commands.proofs.Blocks.{last_block, nothing_held}
 use Rattle.netset_commands.proofs.Completed.{completed}
-use Rattle.netset_commands.proofs.Noted.{all_noted, no_notes, none_noted, one_noted}
+use Rattle.netset_commands.proofs.LineFindings.{all_noted, no_notes, none_noted, one_noted}
 
 -- ---- one finding after another
 -- a beginning of the findings was written

@@ -9,7 +9,7 @@ use Rattle.cidr_lists.specs.declared.entries.Entry.{Entry}
 use Rattle.cidr_lists.specs.declared.findings.Note.{Note}
 use Rattle.cidr_lists.specs.declared.near.Near.{Near}
 use Rattle.cidr_lists.proofs.Found.{network_of, some_found}
-use Rattle.netset_commands.proofs.Noted.{all_noted, kind_at, none_noted, one_noted}
+use Rattle.netset_commands.proofs.LineFindings.{all_noted, kind_at, none_noted, one_noted}
 use Rattle.cidr_lists.proofs.NumberedRows.{element, first_within, near_line}
 
 module _ (entries : List Entry) (near : List Near) (are : AreNear (map entry_network entries) near) where

@@ -4,7 +4,7 @@ pub mod Progress
 pub mod Blocks
 pub mod EachFile
 pub mod Combining
-pub mod Walked
+pub mod WrittenLines
 pub mod Changed
 pub mod Spans
 pub mod Taken
@@ -21,12 +21,12 @@ pub mod Values
 pub mod Pages
 pub mod LinesRead
 pub mod EntriesRead
-pub mod Noted
+pub mod LineFindings
 pub mod Completed
 pub mod Checked
 pub mod AccessLists
 pub mod AddressLines
-pub mod Passed
+pub mod TextProgress
 pub mod ReadBy
 pub mod Begun
 pub mod Stored

@@ -50,7 +50,7 @@ use Rattle.netset_commands.proofs.ReadBy.{bytes_read}
 use Rattle.cidr_lists.proofs.Resolved.{looked_up_mapped}
 use Rattle.netset_commands.proofs.Asked.{first_asked, group_all, group_ended, group_first, group_passed}
 use Rattle.netset_commands.proofs.Zips.{zip_behind, zip_length}
-use Rattle.netset_commands.proofs.Passed.{Passed, none_passed, first_passed, all_first, cut_before, cut_behind}
+use Rattle.netset_commands.proofs.TextProgress.{Passed, none_passed, first_passed, all_first, cut_before, cut_behind}
 
 abbrev pub failing : LookError → Result Bool LookError
 failing e = Err e

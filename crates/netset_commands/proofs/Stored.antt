@@ -26,7 +26,7 @@ use Rattle.cidr_lists.specs.declared.rows.Span.{Span}
 use Rattle.cidr_lists.specs.declared.table.Table.{Table}
 use Rattle.netset_commands.proofs.Causes.{KnownOf, too_many}
 use Rattle.netset_commands.proofs.ReadBy.{bytes_read, text_same}
-use Rattle.netset_commands.proofs.Passed.{Passed, none_passed, one_passed, all_passed, error_passed}
+use Rattle.netset_commands.proofs.TextProgress.{Passed, none_passed, one_passed, all_passed, error_passed}
 
 -- ---- values
 value_kept : (values more : List ℕ) (span : Span) → span.start + span.len ≤ length values → value_at (values ++ more) span ≡ value_at values span

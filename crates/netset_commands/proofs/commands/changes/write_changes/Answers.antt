@@ -1,7 +1,7 @@
 use Rattle.std.proofs.Common.{refl}
 use Rattle.std.proofs.lemmas.Result.{err_from_is_err_and}
 use Rattle.cidr_lists.specs.Changes.{change_line, merged}
-use Rattle.netset_commands.proofs.Walked.{walk_started, walked_on, walk_lost, walk_ended}
+use Rattle.netset_commands.proofs.WrittenLines.{walk_started, walked_on, walk_lost, walk_ended}
 use Rattle.netset_commands.proofs.commands.changes.write_changes.Goals as goal
 
 pub loop-change-init : goal.loop-change-init

@@ -1,5 +1,5 @@
 use Rattle.cidr_lists.specs.Changes.{change_line, merged}
-use Rattle.netset_commands.proofs.Walked.{Walked}
+use Rattle.netset_commands.proofs.WrittenLines.{Walked}
 use Rattle.netset_commands.proofs.commands.changes.write_changes.Given as goal
 
 abbrev pub invariant-loop-change : goal.invariant-loop-change

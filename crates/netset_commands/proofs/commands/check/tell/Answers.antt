@@ -1,7 +1,7 @@
 use Rattle.cidr_lists.specs.Findings.{entry_network, kind_rank}
 use Rattle.netset_commands.proofs.Checked.{note_told, nothing_told}
 use Rattle.cidr_lists.proofs.Found.{network_of}
-use Rattle.netset_commands.proofs.Noted.{kind_below}
+use Rattle.netset_commands.proofs.LineFindings.{kind_below}
 use Rattle.netset_commands.proofs.commands.check.tell.Goals as goal
 
 pub find-requires : goal.find-requires

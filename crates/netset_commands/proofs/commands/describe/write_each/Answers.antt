@@ -1,6 +1,6 @@
 use Rattle.std.proofs.lemmas.Result.{err_from_is_err_and}
 use Rattle.netset_commands.specs.Describing.{told_of}
-use Rattle.netset_commands.proofs.Walked.{walk_started, walked_at, walk_lost_at, walk_ended_at}
+use Rattle.netset_commands.proofs.WrittenLines.{walk_started, walked_at, walk_lost_at, walk_ended_at}
 use Rattle.netset_commands.proofs.commands.describe.write_each.Goals as goal
 
 pub loop-network-init : goal.loop-network-init

@@ -1,6 +1,6 @@
 use Rattle.std.proofs.Common.{drop}
 use Rattle.netset_commands.specs.Describing.{told_of}
-use Rattle.netset_commands.proofs.Walked.{Walked}
+use Rattle.netset_commands.proofs.WrittenLines.{Walked}
 use Rattle.netset_commands.proofs.commands.describe.write_each.Given as goal
 
 abbrev pub invariant-loop-network : goal.invariant-loop-network

@@ -1,6 +1,6 @@
 use Rattle.std.proofs.lemmas.Result.{err_from_is_err_and}
 use Rattle.cidr_lists.specs.Printing.{line}
-use Rattle.netset_commands.proofs.Walked.{walk_started, walked_at, walk_lost_at, walk_ended_at}
+use Rattle.netset_commands.proofs.WrittenLines.{walk_started, walked_at, walk_lost_at, walk_ended_at}
 use Rattle.netset_commands.proofs.output.printing.write_networks.Goals as goal
 
 pub loop-network-init : goal.loop-network-init

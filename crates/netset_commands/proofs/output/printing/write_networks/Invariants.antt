@@ -1,6 +1,6 @@
 use Rattle.std.proofs.Common.{drop}
 use Rattle.cidr_lists.specs.Printing.{line}
-use Rattle.netset_commands.proofs.Walked.{Walked}
+use Rattle.netset_commands.proofs.WrittenLines.{Walked}
 use Rattle.netset_commands.proofs.output.printing.write_networks.Given as goal
 
 abbrev pub invariant-loop-network : goal.invariant-loop-network

@@ -1,7 +1,7 @@
 use Rattle.std.proofs.Common.{refl}
 use Rattle.std.proofs.lemmas.Result.{err_from_is_err_and}
 use Rattle.cidr_lists.specs.Sets.{range_line}
-use Rattle.netset_commands.proofs.Walked.{walk_started, walked_on, walk_lost, walk_ended}
+use Rattle.netset_commands.proofs.WrittenLines.{walk_started, walked_on, walk_lost, walk_ended}
 use Rattle.netset_commands.proofs.output.ranges.write_each.Goals as goal
 
 pub loop-range-init : goal.loop-range-init

@@ -1,5 +1,5 @@
 use Rattle.cidr_lists.specs.Sets.{range_line}
-use Rattle.netset_commands.proofs.Walked.{Walked}
+use Rattle.netset_commands.proofs.WrittenLines.{Walked}
 use Rattle.netset_commands.proofs.output.ranges.write_each.Given as goal
 
 abbrev pub invariant-loop-range : goal.invariant-loop-range
