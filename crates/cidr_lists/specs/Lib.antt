@@ -1,25 +1,26 @@
--- What lists say, and what is printed of them.
-pub mod Changes
-pub mod Classes
-pub mod Combining
-pub mod Descriptions
-pub mod Entries
-pub mod Faults
-pub mod Fields
-pub mod Findings
-pub mod Formats
-pub mod Lines
-pub mod Lists
-pub mod LookUps
+-- What has to be believed: what a line, a list and a table say, what is made of them, and what is printed. `Nearness` is
+-- what private functions promise.
+pub mod Printing
 pub mod Masks
 pub mod Messages
-pub mod Nearness
-pub mod Printing
-pub mod ReadBack
+pub mod Lists
 pub mod Reading
-pub mod Rules
-pub mod Sets
-pub mod Tables
-pub mod Texts
-pub mod Within
+pub mod Lines
+pub mod Fields
 pub mod Words
+pub mod Within
+pub mod Tables
+pub mod LookUps
+pub mod Sets
+pub mod Combining
+pub mod Texts
+pub mod Changes
+pub mod Formats
+pub mod ReadBack
+pub mod Rules
+pub mod Classes
+pub mod Descriptions
+pub mod Entries
+pub mod Findings
+pub mod Faults
+pub mod Nearness
