@@ -225,7 +225,10 @@ static uint32_t longest_match_each(uint32_t sum) {
 }
 
 static uint32_t look_up_in_arrays(uint32_t sum) {
-    for (size_t i = 0; i < ASKED; i++) sum = mixed(sum, pcidr_table_lookup(&tables[asked[i].tag > 32], &asked[i]));
+    for (size_t i = 0; i < ASKED; i++) {
+        int is_ipv4 = asked[i].tag == 32; /* told once, as it is in Rattle */
+        sum = mixed(sum, is_ipv4 ? pcidr_table_lookup(&tables[0], &asked[i]) : pcidr_table_lookup(&tables[1], &asked[i]));
+    }
     return sum;
 }
 

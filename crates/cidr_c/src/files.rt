@@ -1,9 +1,9 @@
 //! Look-up tables in files.
-ghost use Rattle.std.specs.Prelude.{◌≡◌, ◌≢◌, ◌⊎◌, ℕ, ◌+◌, ◌*◌, ◌^◌, ◌<◌, ◌≤◌, None, length, slice_index_or, IfSome, MatchOption};
+ghost use Rattle.std.specs.Prelude.{◌≡◌, ◌≢◌, ◌⊎◌, ℕ, ◌+◌, ◌-◌, ◌*◌, ◌^◌, ◌<◌, ◌≤◌, None, length, slice_index_or, IfSome, MatchOption};
 ghost use Rattle.std.specs.Int.{from_le_bytes, w32};
 ghost use Rattle.cidr.specs.model.Bits.{bits};
 ghost use Rattle.cidr_table.specs.model.Prefixes.{IsLongestMatch};
-ghost use Rattle.cidr_arrays.specs.Arrays.{prefix_bits};
+ghost use Rattle.cidr_arrays.specs.Arrays.{prefix_bits, row_of};
 ghost use Rattle.cidr_files.specs.Layout.{padded, padded_room, sizes_of, wide_word, words};
 ghost use Rattle.cidr_files.specs.Tables.{AreArrays, AreOffsets, offsets_in, stored_networks, value_in};
 ghost use Rattle.cidr_c.specs.calls.Calls.{IsYesOrNo};
@@ -113,7 +113,7 @@ pub extern "C" fn pcidr_file_lookup(
     ensures answer { IsYesOrNo result (found.new.row ≢ no_row) }
 {
     *found = found_in(bytes, file, address);
-    if found.row == NO_ROW { 0 } else { 1 }
+    u32::from(found.row != NO_ROW)
 }
 
 /// The same of each of many, at its index of `out`: 0, or the number of too little room.
@@ -248,26 +248,62 @@ fn found_in(bytes: &[u8], file: &CFile, asked: &CValue) -> CFound
     nothing()
 }
 
-/// What is found in a table.
+/// What is found in a table. No branch hangs on whether there is a row, which a processor can't foresee: where there is
+/// none, the offsets of the first row are read.
 #[inline(always)]
 fn found_at<W: Family>(bytes: &[u8], table: &CFileTable, size: usize, address: W) -> CFound
     requires { size ≤ 16 }
     ensures { IsFoundInParts W.width W.numbers size table.now bytes.now (W.value address) result }
 {
-    let Some(row) = row_at(bytes, table, size, address) else {
+    let end = end_at(bytes, table, size, address);
+    if table.rows == 0 {
         return nothing();
-    };
-    match value_at(bytes, table, row) {
-        Some((value, value_len)) => CFound {
-            value,
-            value_len,
-            row: row as u32,
-        },
-        None => CFound {
-            value: 0,
-            value_len: 0,
-            row: row as u32,
-        },
+    }
+    found_of(end, place_at(bytes, table, end))
+}
+
+/// How many rows there are up to that of the longest match, or 0 where there is none.
+#[inline(always)]
+fn end_at<W: Family>(bytes: &[u8], table: &CFileTable, size: usize, address: W) -> u32
+    requires { size ≤ 16 }
+    ensures within { result ≤ table.now.rows }
+    ensures longest { LieInBytes size table.now bytes.now → AreArrays W.width W.numbers (parts_at size table.now bytes.now) table.now.shift
+        → IsLongestMatch (prefix_bits W.width) (bits W.width (W.value address))
+        (stored_networks W.numbers (parts_at size table.now bytes.now)) (row_of result) }
+{
+    match row_at(bytes, table, size, address) {
+        Some(row) => row as u32 + 1,
+        None => 0,
+    }
+}
+
+/// Where the value of the last of so many rows, or of the first one, begins and how many bytes it has, or twice 0 if what
+/// tells it or the value does not lie inside of the bytes.
+#[inline(always)]
+fn place_at(bytes: &[u8], table: &CFileTable, end: u32) -> (usize, u32)
+    requires some { 0 < table.now.rows }
+    requires end { end ≤ table.now.rows }
+    ensures inside { result.0 + result.1 ≤ length bytes.now }
+    ensures value { 0 < end → (size : ℕ) → LieInBytes size table.now bytes.now → (rows : ℕ) → end - 1 < rows
+        → AreOffsets (offsets_in (parts_at size table.now bytes.now)) rows (length (bytes_at bytes.now table.now.values table.now.values_len))
+        → bytes_at bytes.now result.0 result.1 ≡ value_in (parts_at size table.now bytes.now) (end - 1) }
+{
+    match value_at(bytes, table, end.saturating_sub(1) as usize) {
+        Some(place) => place,
+        None => (0, 0),
+    }
+}
+
+/// The last of so many rows and its value, or nothing where there are none.
+#[inline(always)]
+fn found_of(end: u32, place: (usize, u32)) -> CFound
+    ensures none { end ≡ 0 → result ≡ record { value = 0; value_len = 0; row = no_row } }
+    ensures some { 0 < end → result ≡ record { value = place.0; value_len = place.1; row = end - 1 } }
+{
+    CFound {
+        value: if end > 0 { place.0 } else { 0 },
+        value_len: if end > 0 { place.1 } else { 0 },
+        row: end.wrapping_sub(1),
     }
 }
 

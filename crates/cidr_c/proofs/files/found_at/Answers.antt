@@ -1,27 +1,44 @@
-use Rattle.std.proofs.Common.{arith, length, refl}
+use Rattle.std.proofs.Common.{◌≡◌, sym, subst, arith, inl, inr, ℕ, ◌-◌, length}
+use Rattle.std.proofs.lemmas.Bool.{cases_lt}
+use Rattle.cidr.specs.model.Bits.{bits}
+use Rattle.cidr_table.specs.model.Prefixes.{IsLongestMatch}
+use Rattle.cidr_arrays.specs.Arrays.{prefix_bits}
+use Rattle.cidr_arrays.proofs.Longest.{row_of_none, row_of_some}
 use Rattle.cidr_files.specs.Tables.{stored_networks}
-use Rattle.cidr_c.specs.model.Files.{parts_at}
+use Rattle.cidr_c.specs.model.Files.{IsFoundInParts, parts_at}
+use Rattle.cidr_c.specs.declared.files.CFound.{CFound}
 use Rattle.cidr_c.proofs.Founds.{nothing_there, row_there}
 use Rattle.cidr_c.proofs.files.found_at.Goals as goal
 
-pub returns-in_default : goal.returns-in_default
-returns-in_default g c =
-    nothing_there g.W.Word.width g.W.Family.numbers c.args.size c.args.table.now c.args.bytes.now (g.W.Word.value c.args.address) c.nothing.result
-    c.nothing.ensures c.in_default.ensures.longest
+pub returns-then-table-eq0 : goal.returns-then-table-eq0
+returns-then-table-eq0 g c =
+    let w = g.W.Word.width in
+    let networks = stored_networks g.W.Family.numbers (parts_at c.args.size c.args.table.now c.args.bytes.now) in
+    nothing_there w g.W.Family.numbers c.args.size c.args.table.now c.args.bytes.now (g.W.Word.value c.args.address) c.nothing.result c.nothing.ensures
+    (λ inside good. subst (λ r. IsLongestMatch (prefix_bits w) (bits w (g.W.Word.value c.args.address)) networks r)
+    (sym (row_of_none c.end_at-end.result (omega (arith, c.end_at-end.ensures.within)))) (c.end_at-end.ensures.longest inside good))
 
-pub returns-in-Some-value_at : goal.returns-in-Some-value_at
-returns-in-Some-value_at g c =
-    let row = c.in-Some.ensures in
-    let value = c.in-Some-value_at.ensures in
-    row_there g.W.Word.width g.W.Family.numbers c.args.size c.args.table.now c.args.bytes.now (g.W.Word.value c.args.address) c.in-Some.row
-    c.in-Some-value_at.value c.in-Some-value_at.value_len row.within row.fits value.inside row.longest (λ _ _ _. value.value c.args.size)
-
-pub returns-in-None : goal.returns-in-None
-returns-in-None g c =
-    let row = c.in-Some.ensures in
+pub returns : goal.returns
+returns g c =
+    let w = g.W.Word.width in
+    let numbers = g.W.Family.numbers in
+    let size = c.args.size in
     let table = c.args.table.now in
     let bytes = c.args.bytes.now in
-    row_there g.W.Word.width g.W.Family.numbers c.args.size table bytes (g.W.Word.value c.args.address) c.in-Some.row 0 0 row.within row.fits
-    (omega arith) row.longest
-    (λ inside good within. absurd (c.in-None.ensures.none refl c.args.size inside (length (stored_networks g.W.Family.numbers (parts_at c.args.size table bytes)))
-    within good))
+    let address = g.W.Word.value c.args.address in
+    let end = c.end_at-end.result in
+    let networks = stored_networks numbers (parts_at size table bytes) in
+    let place = c.place_at.result in
+    let longest = c.end_at-end.ensures.longest in
+    elim (cases_lt 0 end) [
+      | inl some ↦
+          subst (λ (f : CFound). IsFoundInParts w numbers size table bytes address f) (sym (c.found_of.ensures.some some))
+          (row_there w numbers size table bytes address (end - 1) place.0 place.1 (omega (arith, c.end_at-end.ensures.within)) (omega (arith, c.end_at-end.ensures.within))
+          c.place_at.ensures.inside
+          (λ inside good. subst (λ r. IsLongestMatch (prefix_bits w) (bits w address) networks r) (sym (row_of_some end some)) (longest inside good))
+          (λ inside good within. c.place_at.ensures.value some size inside (length networks) within good))
+      | inr none ↦
+          let zero : end ≡ 0 = omega arith in
+          nothing_there w numbers size table bytes address c.found_of.result (c.found_of.ensures.none zero)
+          (λ inside good. subst (λ r. IsLongestMatch (prefix_bits w) (bits w address) networks r) (sym (row_of_none end zero)) (longest inside good))
+    ]
