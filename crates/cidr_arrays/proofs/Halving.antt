@@ -3,7 +3,7 @@ use Rattle.std.proofs.Common.{◌≡◌, arith, inl, inr, ℕ, ◌+◌, ◌*◌,
 use Rattle.std.proofs.Math.Nat.{div-mul-le_self}
 use Rattle.std.proofs.lemmas.Bool.{cases_eq}
 use Rattle.std.proofs.lemmas.Nat.{pow_pos, div-add-mod', mod_below}
-use Rattle.cidr_arrays.specs.Arrays.{IsRangeOf}
+use Rattle.cidr_arrays.specs.Arrays.{AreStarts, IsRangeOf}
 
 -- the range of the number is among `reach` ranges from `at` on
 pub record IsNear (starts : List ℕ) (number at reach : ℕ) : Type 0 where
@@ -60,6 +60,16 @@ wider starts number at reach reach' near le = record { upto = near.upto; behind 
 -- one is left
 pub found : (starts : List ℕ) (number at : ℕ) → at < length starts → IsNear starts number at 1 → IsRangeOf starts number at
 found starts number at l near = record { within = l; from = near.upto; last = λ i lt h. near.behind i (omega arith) h }
+
+-- a range is told by its start and the next one
+pub told : (starts : List ℕ) (number range : ℕ) → AreStarts starts → range < length starts → get_or starts range 0 ≤ number
+    → (range + 1 ≡ length starts) ⊎ (number < get_or starts (range + 1) 0) → IsRangeOf starts number range
+told starts number range s l from (inl end) = record { within = l; from = from; last = λ i lt h. absurd (omega arith) }
+told starts number range s l from (inr next) = record {
+  within = l;
+  from = from;
+  last = λ i lt h. above starts number (range + 1) i s.ascending next (omega arith) h;
+}
 
 -- a number is in the part that its first bits choose
 pub part_upto : (n k : ℕ) → n / 2 ^ k * 2 ^ k ≤ n

@@ -6,7 +6,7 @@ ghost use Rattle.cidr_arrays.specs.Passing.{HasRange};
 
 use crate::building::first_refused;
 use crate::key::Key;
-use crate::level::entry_of;
+use crate::level::is_entry;
 use crate::pass::{goes_on, started};
 use crate::word::Word;
 
@@ -34,8 +34,7 @@ pub enum Fault {
 /// and [`fill_level`](crate::fill_level) wrote are accepted, and the error is the first that [`Fault`] names, in its
 /// order. A first level may have any number of entries, also none.
 ///
-/// It takes O(n), two passes over n keys and one over the ranges, and O(log n) for each entry of the first level. It
-/// allocates nothing.
+/// It takes O(n), two passes over n keys and one over the ranges, and one over the first level. It allocates nothing.
 ///
 /// ```
 /// check(keys, starts, answers, &[], 0)?;
@@ -139,9 +138,7 @@ fn first_wrong<W: Word>(starts: &[W], level: &[u32], shift: u32) -> Option<usize
     ensures { IsFirstWrong (map W.value starts.now) level.now shift result }
 {
     for i in 0..level.len() {
-        let entry = level[i] as usize;
-        let range = entry_of(starts, shift, i);
-        if entry != range {
+        if !is_entry(starts, shift, i, level[i] as usize) {
             return Some(i);
         }
     }

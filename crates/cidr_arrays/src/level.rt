@@ -1,9 +1,9 @@
 //! The first level: between which ranges to search.
-ghost use Rattle.std.specs.Prelude.{◌≡◌, ℕ, ◌+◌, ◌*◌, ◌^◌, ◌<◌, ◌≤◌, length, map, None, IfSome};
+ghost use Rattle.std.specs.Prelude.{◌≡◌, ◌↔◌, ℕ, ◌+◌, ◌*◌, ◌^◌, ◌<◌, ◌≤◌, length, map, None, IfSome, IsTrue};
 ghost use Rattle.cidr_arrays.specs.Arrays.{AreStarts, IsFirstLevel, IsRangeOf};
 
 use crate::key::ones;
-use crate::search::range_of;
+use crate::search::{is_range_of, range_of};
 use crate::word::Word;
 
 /// Writes a first level: entry i, counted from 0, is the index of the last range that begins at the number i * 2^shift
@@ -37,6 +37,19 @@ pub(crate) fn entry_of<W: Word>(starts: &[W], shift: u32, i: usize) -> usize
     match number_upto(i, shift, most) {
         Some(number) => range_of::<W, u32>(starts, &[], 0, W::of(number)),
         None => last_range(starts),
+    }
+}
+
+/// Whether a range is the last one that begins at most with the number i * 2^shift.
+pub(crate) fn is_entry<W: Word>(starts: &[W], shift: u32, i: usize, range: usize) -> bool
+    requires ordered { AreStarts (map W.value starts.now) }
+    requires shift { shift < W.width }
+    ensures { IsTrue result ↔ IsRangeOf (map W.value starts.now) (i * 2 ^ shift) range }
+{
+    let most = ones(W::width());
+    match number_upto(i, shift, most) {
+        Some(number) => is_range_of(starts, range, W::of(number)),
+        None => range == last_range(starts),
     }
 }
 

@@ -1,8 +1,8 @@
 //! The longest match of an address, by arrays.
-ghost use Rattle.std.specs.Prelude.{◌≡◌, ℕ, ◌+◌, ◌-◌, ◌<◌, ◌≤◌, ◌⊎◌, List, length, map, slice_index_or, IfSome};
+ghost use Rattle.std.specs.Prelude.{◌≡◌, ℕ, ◌+◌, ◌-◌, ◌<◌, ◌≤◌, ◌⊎◌, ◌↔◌, List, length, map, slice_index_or, IfSome, IsTrue};
 ghost use Rattle.cidr.specs.model.Bits.{bits};
 ghost use Rattle.cidr_table.specs.model.Prefixes.{IsLongestMatch};
-ghost use Rattle.cidr_arrays.specs.Arrays.{IsRangeOf, Represents, prefix_bits, row_of};
+ghost use Rattle.cidr_arrays.specs.Arrays.{AreStarts, IsRangeOf, Represents, prefix_bits, row_of};
 ghost use Rattle.cidr_arrays.specs.Passing.{IsSearchable};
 
 use crate::word::{Index, Word};
@@ -101,6 +101,18 @@ pub(crate) fn range_of<W: Word, I: Index>(starts: &[W], level: &[I], shift: u32,
     at = later(starts, at, ahead(at, to, 4), number);
     at = later(starts, at, ahead(at, to, 2), number);
     later(starts, at, ahead(at, to, 1), number)
+}
+
+/// Whether a range is the last one that begins at most with a number.
+#[inline(always)]
+pub(crate) fn is_range_of<W: Word>(starts: &[W], range: usize, number: W) -> bool
+    requires { AreStarts (map W.value starts.now) }
+    ensures { IsTrue result ↔ IsRangeOf (map W.value starts.now) (W.value number) range }
+{
+    if range >= starts.len() || !starts[range].is_upto(number) {
+        return false;
+    }
+    range + 1 == starts.len() || !starts[range + 1].is_upto(number)
 }
 
 /// Between which ranges it is, the two included.

@@ -762,9 +762,9 @@ static inline uint32_t pcidr_table_build(pcidr_table *table, const pcidr_value *
     return code;
 }
 
-/* PCIDR_OK where the arrays, as from a file, are the table of the networks: two passes over these, one over the arrays,
- * and O(log n) for each entry of the level. Errors: NO_TABLE where `table->rows` is another number; NO_MEMORY;
- * TOO_MANY; SHIFT; NO_VALUE for a network; NO_TABLE for the arrays. Allocates, as above. */
+/* PCIDR_OK where the arrays, as from a file, are the table of the networks: two passes over these, and one over the arrays
+ * and the level. Errors: NO_TABLE where `table->rows` is another number; NO_MEMORY; TOO_MANY; SHIFT; NO_VALUE for a
+ * network; NO_TABLE for the arrays. Allocates, as above. */
 static inline uint32_t pcidr_table_check(const pcidr_table *table, const pcidr_value *networks, size_t networks_len) {
     if (table->rows != networks_len) return PCIDR_NO_TABLE;
     return table->ipv6_starts

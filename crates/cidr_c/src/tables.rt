@@ -323,7 +323,7 @@ pub extern "C" fn pcidr_ipv6_table_build(
 
 /// 0 where arrays are those that a table of the IPv4 networks has, else the number of the first error: no memory; too
 /// many networks; other counts of starts and answers; the shift; a network; a range; an entry of the level. It
-/// allocates 8 bytes a network, and takes O(n), and O(log n) for each entry.
+/// allocates 8 bytes a network, and takes O(n), and O(1) for each entry.
 #[unsafe(no_mangle)]
 pub extern "C" fn pcidr_ipv4_table_check(
     alloc: Global,

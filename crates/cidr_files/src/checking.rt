@@ -39,8 +39,8 @@ pub fn checked(alloc: Global, bytes: &[u8]) -> Result<Table<'_>, Fault>
 /// Whether the parts are a table: the arrays are those of the keys, and the values lie one behind the other. The error
 /// is the first of those that [`TableFault`] names, in its order, but that `NoMemory` may come before any.
 ///
-/// It takes O(n) for n rows, and O(log n) for each entry of the first level. It allocates the keys, the answers and the
-/// first level, and frees them.
+/// It takes O(n) for n rows, and O(1) for each entry of the first level. It allocates the keys, the answers and the first
+/// level, and frees them.
 pub fn check<W: Family>(alloc: Global, part: &Part<'_>) -> Result<(), TableFault>
     ensures table { IfOk result (λ _. IsStoredTable W.width W.numbers (parts_in part.now) part.now.shift) }
     ensures refused { IfErr result (IsTableFault W.width W.numbers (parts_in part.now) part.now.shift) }
