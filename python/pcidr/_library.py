@@ -14,7 +14,9 @@ from typing import TYPE_CHECKING, Any, TypeVar
 from pcidr._calls import (
     CALLS,
     HOST_BITS_CLEARED,
+    HOST_BITS_CLEARED_WITH_MASKS,
     HOST_BITS_REFUSED,
+    HOST_BITS_REFUSED_WITH_MASKS,
     LINE_ROOM,
     MESSAGE_ROOM,
     TEXT_ROOM,
@@ -320,10 +322,13 @@ def filled(kind: type[T], room: int, call: Call, *given: object) -> ctypes.Array
         room = count.value
 
 
-def read_list(text: str | Buffer, strict: bool) -> Values:
+def read_list(text: str | Buffer, strict: bool, masks: bool) -> Values:
     """The networks that a list says; the first line in error raises `ValueError`."""
     given = text.encode("utf-8", "surrogatepass") if isinstance(text, str) else bytes(memoryview(text))
-    host_bits = HOST_BITS_REFUSED if strict else HOST_BITS_CLEARED
+    if masks:
+        host_bits = HOST_BITS_REFUSED_WITH_MASKS if strict else HOST_BITS_CLEARED_WITH_MASKS
+    else:
+        host_bits = HOST_BITS_REFUSED if strict else HOST_BITS_CLEARED
     line, told = ctypes.c_uint64(), ctypes.create_string_buffer(LINE_ROOM)
 
     def call(out: Any, room: int, count: Any) -> int:

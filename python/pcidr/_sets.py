@@ -206,12 +206,14 @@ class NetworkSet:
         return self._of(combined(call, self._values, other._values), None)
 
     @classmethod
-    def from_text(cls: type[S], text: str | Buffer, *, strict: bool = True) -> S:
+    def from_text(cls: type[S], text: str | Buffer, *, strict: bool = True, masks: bool = False) -> S:
         """The set of the addresses that a list says, a string or bytes, as `netset` reads it: a network, an address or a
         range such as ``192.0.2.0-192.0.2.9`` a line, with white space around it and a comment behind it from ``#`` or
-        ``;`` on. A bit set after a prefix is an error, and with ``strict=False`` taken as unset. The first line in error
-        raises `ValueError`, with its number and what is wrong."""
-        return cls._of(_covered(read_list(text, strict)), None)
+        ``;`` on. A bit set after a prefix is an error, and with ``strict=False`` taken as unset. With ``masks=True`` a
+        network may also have a network mask or a host mask, behind a slash or white space, as ``192.0.2.0 0.0.0.255``; what
+        could be either, as 0.0.0.0, is a network mask. The first line in error raises `ValueError`, with its number and
+        what is wrong."""
+        return cls._of(_covered(read_list(text, strict, masks)), None)
 
     @classmethod
     def open(cls: type[S], path: Path, *, check: bool = True) -> S:

@@ -375,6 +375,13 @@ class OfIpaddress(unittest.TestCase):
 
     def test_lists_of_random_ranges(self):
         for _ in range(200):
+        for masked in ("192.0.2.0/255.255.255.0", "192.0.2.0 255.255.255.0", "192.0.2.0\t0.0.0.255 # ours", "192.0.2.0/24"):
+            self.assertEqual(NetworkSet.from_text(masked, masks=True), NetworkSet(["192.0.2.0/24"]))
+            self.assertEqual(NetworkSet.from_text(masked.replace(".0/", ".9/"), strict=False, masks=True), NetworkSet(["192.0.2.0/24"]))
+            if masked != "192.0.2.0/24":
+                for strict in (True, False):
+                    with self.assertRaises(ValueError):
+                        NetworkSet.from_text(masked, strict=strict)
             lines, networks = [], []
             for _ in range(RANDOM.randrange(20)):
                 first, last = sorted((any_address(), any_address()), key=int)
@@ -386,6 +393,14 @@ class OfIpaddress(unittest.TestCase):
                     lines.append(str(networks[-1]))
                 lines[-1] = RANDOM.choice(("", " ", "\t")) + lines[-1] + RANDOM.choice(("", " ", "#x", "\r", " ; 10.0.0.0/8\r"))
             self.assertEqual(NetworkSet.from_text("\n".join(lines)), NetworkSet(networks))
+        masked = {
+            "192.0.2.7 255.255.255.0": "line 1: 192.0.2.7 255.255.255.0: host bits set; the network is 192.0.2.0/24",
+            "::1\n192.0.2.0/255.0.255.0": "line 2: 192.0.2.0/255.0.255.0: couldn't parse length in network: invalid length text",
+        }
+        for given, message in masked.items():
+            with self.assertRaises(ValueError) as raised:
+                NetworkSet.from_text(given, masks=True)
+            self.assertEqual(str(raised.exception), message)
 
     def test_exclusion(self):
         for _ in range(1000):
@@ -404,6 +419,20 @@ class OfIpaddress(unittest.TestCase):
             one, other = (ipaddress.ip_network(near_text().replace("any", "::/0")) for _ in range(2))
             ours = Network(one)
             self.assertEqual(ours.overlaps(other), one.version == other.version and one.overlaps(other))
+    def test_lists_of_random_masks(self):
+        for _ in range(200):
+            hosts = [any_host() for _ in range(RANDOM.randrange(20))]
+            lines = []
+            for host in hosts:
+                masks = [host.netmask, host.hostmask]
+                # the mask of no bits and that of all are those of both kinds, and then network masks
+                mask = RANDOM.choice(masks[: 1 + (0 < host.network.prefixlen < host.max_prefixlen)])
+                lines.append(f"{host.ip}{RANDOM.choice('/ ')}{mask}")
+            networks = [host.network for host in hosts]
+            self.assertEqual(NetworkSet.from_text("\n".join(lines), strict=False, masks=True), NetworkSet(networks))
+            lines = [line.replace(str(host.ip), str(host.network[0]), 1) for line, host in zip(lines, hosts)]
+            self.assertEqual(NetworkSet.from_text("\n".join(lines), masks=True), NetworkSet(networks))
+
             self.assertEqual(ours.subnet_of(other), one.version == other.version and one.subnet_of(other))
             self.assertEqual(ours.supernet_of(other), one.version == other.version and one.supernet_of(other))
             self.assertEqual(ours == Network(other), one == other)

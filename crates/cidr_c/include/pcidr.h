@@ -155,25 +155,30 @@ uint32_t pcidr_read_reverse_name(const char *text, size_t text_len, pcidr_value 
  * the error of line `count`, counted from 0. What `out` has behind `count` values stays. */
 uint32_t pcidr_read_lines(const char *text, size_t text_len, pcidr_value *out, size_t out_len, size_t *count);
 
-/* What is done with a set bit after the prefix of a network of a list: it is an error, or it is taken as unset. */
+/* What is done with a set bit after the prefix of a network of a list: it is an error, or it is taken as unset. With masks a
+ * network may also have a network mask or a host mask in place of the prefix length, behind a slash or white space, as
+ * 192.0.2.0/255.255.255.0 and 192.0.2.0 0.0.0.255; a mask that could be either is a network mask. */
 #define PCIDR_HOST_BITS_REFUSED 0
 #define PCIDR_HOST_BITS_CLEARED 1
+#define PCIDR_HOST_BITS_REFUSED_WITH_MASKS 2
+#define PCIDR_HOST_BITS_CLEARED_WITH_MASKS 3
 
 /* Reads a list as the program `netset` does: a network, an address or a range, as 192.0.2.0-192.0.2.9, a line, with white
  * space around it and around the hyphen, and a comment behind it from # or ; on. A line may say nothing. Lines end
- * in a line feed, or in CR and line feed, which the last one may lack. `host_bits` is one of the two above; any other
- * number refuses set bits, too.
+ * in a line feed, or in CR and line feed, which the last one may lack. `host_bits` is one of the four above; any other
+ * number is like 0.
  *
  * PCIDR_OK, and `count` networks in `out`: those of IPv4 in the order of their lines, then those of IPv6; of a range the
  * fewest that have its addresses, ascending, at most 62 in IPv4 and 254 in IPv6. What is behind them stays. `pcidr_cover`
  * makes a set of them.
  *
  * Else the first error: of the first line that has one, LINE_TOO_LONG; NOT_UTF8; without a hyphen ADDRESS, LENGTH,
- * LENGTH_TOO_LONG, HOST_PART; of a range NOT_ADDRESS, TWO_FAMILIES, REVERSED. Then `line` is the number of that line, from
- * 1 on, and `message` the string that is wrong and what is wrong with it, as in `192.0.2.7/24: host bits set; the network
- * is 192.0.2.0/24`, with a 0 behind, where `message_len` is above its length. Of a list without an error NO_ROOM where
- * `out_len` is too small, and `count` is how many networks there are. NO_MEMORY may come before all of these. What an
- * error does not set is as it was. Allocates. */
+ * LENGTH_TOO_LONG, HOST_PART; of a range NOT_ADDRESS, TWO_FAMILIES, REVERSED. One with a mask that is wrong, or with a bit
+ * set behind it, has the error that it has where masks are not read: LENGTH behind a slash, else ADDRESS. Then `line` is
+ * the number of that line, from 1 on, and `message` the string that is wrong and what is wrong with it, as in
+ * `192.0.2.7/24: host bits set; the network is 192.0.2.0/24`, with a 0 behind, where `message_len` is above its length. Of a
+ * list without an error NO_ROOM where `out_len` is too small, and `count` is how many networks there are. NO_MEMORY may
+ * come before all of these. What an error does not set is as it was. Allocates. */
 uint32_t pcidr_read_list(const char *text, size_t text_len, uint32_t host_bits, pcidr_value *out, size_t out_len,
                          size_t *count, uint64_t *line, char *message, size_t message_len);
 

@@ -20,7 +20,8 @@ use std::alloc::Global;
 /// family in the order of the lines, and `count` becomes how many; where there is too little room, it becomes how many
 /// are needed. Else the number of the error of the first line in error, whose number, from 1 on, and message are told.
 ///
-/// Where `host_bits` is 1, a host says its network; else a set bit after a prefix is an error.
+/// Where `host_bits` is 1 or 3, a host says its network; else a set bit after a prefix is an error. Where it is 2 or 3, a
+/// network mask or a host mask may stand in the place of a prefix length, behind a slash or white space.
 #[unsafe(no_mangle)]
 pub extern "C" fn pcidr_read_list(
     alloc: Global,
@@ -45,14 +46,15 @@ pub extern "C" fn pcidr_read_list(
     }
 }
 
-/// What is done with set bits after a prefix.
+/// What is done with set bits after a prefix, and whether masks are read.
 fn host_bits_by(number: u32) -> HostBits
     ensures { result ≡ host_bits_by number }
 {
-    if number == 1 {
-        HostBits::Cleared
-    } else {
-        HostBits::Refused
+    match number {
+        1 => HostBits::Cleared,
+        2 => HostBits::RefusedWithMasks,
+        3 => HostBits::ClearedWithMasks,
+        _ => HostBits::Refused,
     }
 }
 

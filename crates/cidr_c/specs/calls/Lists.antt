@@ -10,16 +10,19 @@ use Rattle.cidr_lists.specs.Lists.{Text, IsFirstError, ListSays, networks_in, te
 use Rattle.cidr_lists.specs.Messages.{line_message}
 use Rattle.cidr_lists.specs.declared.errors.LineError.{LineError}
 use Rattle.cidr_lists.specs.declared.lines.HostBits.{HostBits}
-use Rattle.cidr_lists.specs.declared.lines.HostBits.TheVariants.{Refused, Cleared}
+use Rattle.cidr_lists.specs.declared.lines.HostBits.TheVariants.{Refused, Cleared, RefusedWithMasks, ClearedWithMasks}
 use Rattle.cidr_c.specs.calls.Batches.{IsListInRoom}
 use Rattle.cidr_c.specs.calls.Calls.{IsPrintedInto}
 use Rattle.cidr_c.specs.model.Codes.{line_code}
 use Rattle.cidr_c.specs.model.Values.{IsNetworkValue, network_in}
 use Rattle.cidr_c.specs.declared.values.CValue.{CValue}
 
--- 1 takes set bits after a prefix as unset, and with any other number they are an error
+-- 1 and 3 take set bits after a prefix as unset, and with any other number they are an error; 2 and 3 read masks, too
 abbrev pub host_bits_by : ℕ → HostBits
-host_bits_by number = if number == 1 then Cleared else Refused
+host_bits_by number =
+    if number == 1 then Cleared
+    else (if number == 2 then RefusedWithMasks
+    else (if number == 3 then ClearedWithMasks else Refused))
 
 -- a list as C gives it
 abbrev pub list_by : ℕ → List ℕ → Text
