@@ -110,7 +110,7 @@ enum {
 /* Room that is enough for any string of a value, and for any message, with the 0 behind it. */
 #define PCIDR_TEXT_ROOM 44
 #define PCIDR_MESSAGE_ROOM 100
-/* Room for a network with its mask, and for a name in reverse DNS, with the 0 behind it. */
+/* Room for a network or a host with its mask, and for a name in reverse DNS, with the 0 behind it. */
 #define PCIDR_MASK_ROOM 80
 #define PCIDR_NAME_ROOM 73
 /* Room for what is wrong with a string, with the 0 behind it. */
@@ -202,9 +202,18 @@ size_t pcidr_print_network(const pcidr_value *network, char *out, size_t out_len
 /* A network, always with its prefix length: 10.0.0.5/32. */
 size_t pcidr_print_network_with_length(const pcidr_value *network, char *out, size_t out_len);
 
+/* An address, and a host with its prefix length, of which in IPv6 no digit is left out, 2001:0db8:0000:0000:0000:0000:0000:0001,
+ * also of an IPv4-mapped one. */
+size_t pcidr_print_exploded_address(const pcidr_value *address, char *out, size_t out_len);
+size_t pcidr_print_exploded_host(const pcidr_value *host, char *out, size_t out_len);
+
 /* The network of a host with its network mask, 192.0.2.0/255.255.255.0, or with its host mask, 192.0.2.0/0.0.0.255. */
 size_t pcidr_print_with_mask(const pcidr_value *host, char *out, size_t out_len);
 size_t pcidr_print_with_host_mask(const pcidr_value *host, char *out, size_t out_len);
+
+/* The same of the host itself, 192.0.2.1/255.255.255.0 and 192.0.2.1/0.0.0.255. */
+size_t pcidr_print_host_with_mask(const pcidr_value *host, char *out, size_t out_len);
+size_t pcidr_print_host_with_host_mask(const pcidr_value *host, char *out, size_t out_len);
 
 /* The name in reverse DNS of the network of a host, 2.0.192.in-addr.arpa, or of an address, whose PTR record is there.
  * 0 also where the prefix length doesn't end at a label, as it does at a multiple of 8 in IPv4 and of 4 in IPv6. */
@@ -333,7 +342,7 @@ uint32_t pcidr_position(const pcidr_value *host, const pcidr_value *address, pci
 /* ---- networks around that of a host: PCIDR_OK; PCIDR_NO_VALUE for what is no host, and then PCIDR_NONE; `out` is as
  * it was with both */
 
-/* The network of prefix length `len` that contains it. PCIDR_NONE where `len` is above its own. */
+/* The network of prefix length `len` that contains it, of one bit less the parent. PCIDR_NONE where `len` is above its own. */
 static inline uint32_t pcidr_supernet(const pcidr_value *host, uint8_t len, pcidr_value *out) {
     return pcidr_supernet_by_value(*host, len, out);
 }
@@ -462,15 +471,18 @@ enum {
 uint32_t pcidr_special_entry(const pcidr_value *address, pcidr_special *out);
 
 /* 1 for yes and 0 for no; 0 also where the value is no address, so that where 0 is what permits, check it first.
- * Globally reachable is an address without an entry, also a multicast address, or one whose entry says so. Private are
- * 10.0.0.0/8, 172.16.0.0/12, 192.168.0.0/16 and fc00::/7; multicast addresses 224.0.0.0/4 and ff00::/8. */
+ * Globally reachable is an address without an entry, also a multicast address, or one whose entry says so. */
 uint32_t pcidr_is_global(const pcidr_value *address);
-uint32_t pcidr_is_private(const pcidr_value *address);
-uint32_t pcidr_is_loopback(const pcidr_value *address);
-uint32_t pcidr_is_link_local(const pcidr_value *address);
-uint32_t pcidr_is_documentation(const pcidr_value *address);
-uint32_t pcidr_is_unspecified(const pcidr_value *address);
-uint32_t pcidr_is_multicast(const pcidr_value *address);
+
+/* The same of a network, as each address is one: whether it lies in such a block, and so all of its addresses. 0 also where the
+ * value is no network, and of `any`. Private are 10.0.0.0/8, 172.16.0.0/12, 192.168.0.0/16 and fc00::/7; multicast addresses
+ * 224.0.0.0/4 and ff00::/8. */
+uint32_t pcidr_is_private(const pcidr_value *network);
+uint32_t pcidr_is_loopback(const pcidr_value *network);
+uint32_t pcidr_is_link_local(const pcidr_value *network);
+uint32_t pcidr_is_documentation(const pcidr_value *network);
+uint32_t pcidr_is_unspecified(const pcidr_value *network);
+uint32_t pcidr_is_multicast(const pcidr_value *network);
 
 /* ---- networks beside one another */
 

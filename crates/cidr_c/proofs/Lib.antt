@@ -7,12 +7,15 @@ pub mod Counted
 pub mod Forwarded
 pub mod Founds
 pub mod Free
+pub mod GroupDigits
 pub mod Hosts
 pub mod Indexes
+pub mod LabelPairs
 pub mod LineSteps
 pub mod Listed
 pub mod ListsRead
 pub mod Named
+pub mod NetworkBlocks
 pub mod NetworkLists
 pub mod Networks
 pub mod Orders

@@ -11,7 +11,8 @@ use Rattle.cidr_c.specs.calls.Calls.{IsYesOrNo}
 use Rattle.cidr.specs.declared.family.Family.{Family}
 use Rattle.cidr.specs.declared.errors.NetworkParseError.{NetworkParseError}
 use Rattle.cidr.specs.declared.cidr.any.AnyIpCidr.TheVariants.{V4, V6}
-use Rattle.cidr_c.specs.model.Values.{number_in, IsLow, IsNetworkValue, network_in}
+use Rattle.cidr.specs.declared.cidr.combined.IpCidr.TheVariants as family
+use Rattle.cidr_c.specs.model.Values.{number_in, IsHostValue, IsIpNetworkValue, IsLow, IsNetworkValue, ip_network_in, network_in}
 use Rattle.cidr_c.specs.declared.values.CValue.{CValue}
 
 -- no bit of the address after the prefix is set
@@ -57,6 +58,36 @@ no_ipv6 v a any h e none (inr (inl low)) = omega (arith, low.0.0)
 no_ipv6 v a any h e none (inr (inr high)) =
     let fits : v.tag - 64 ≤ 128 = omega (arith, high.0.1) in
     none (fits, rw e high.1)
+
+-- ---- networks of one family
+host_value : (v : CValue) → v.tag ≢ 255 → IsNetworkValue v → IsHostValue v
+host_value v other (inl any) = absurd (other any.0)
+host_value v other (inr (inl low)) = inl low.0
+host_value v other (inr (inr high)) = inr high.0
+
+one_in_value4 : (v : CValue) → v.tag < 64 → ip_network_in v ≡ family.V4 (take v.tag (bits 32 v.low))
+one_in_value4 v h = grind (arith, nat_tests)
+
+one_in_value6 : (v : CValue) → 64 ≤ v.tag → ip_network_in v ≡ family.V6 (take (v.tag - 64) (bits 128 (number_in v)))
+one_in_value6 v h = grind (arith, nat_tests)
+
+pub one_ipv4 : (v : CValue) (p : List Bool) → v.tag < 64 → IsNetworkValue v × (V4 p ≡ network_in v)
+    → IsIpNetworkValue v × (family.V4 p ≡ ip_network_in v)
+one_ipv4 v p h (is, same) =
+    let bits_are : p ≡ take v.tag (bits 32 v.low) = (let e = ipv4_in_value v h in cc) in
+    ((host_value v (λ any. omega (arith, any, h)) is, is), rw (one_in_value4 v h) (ap family.V4 bits_are))
+
+pub one_ipv6 : (v : CValue) (p : List Bool) → 64 ≤ v.tag → v.tag < 255 → IsNetworkValue v × (V6 p ≡ network_in v)
+    → IsIpNetworkValue v × (family.V6 p ≡ ip_network_in v)
+one_ipv6 v p h any (is, same) =
+    let bits_are : p ≡ take (v.tag - 64) (bits 128 (number_in v)) = (let e = ipv6_in_value v any h in cc) in
+    ((host_value v (λ e. omega (arith, any, e)) is, is), rw (one_in_value6 v h) (ap family.V6 bits_are))
+
+pub no_family : (v : CValue) → 255 ≤ v.tag → ¬ (IsIpNetworkValue v)
+no_family v h (inl low, is) = omega (arith, low.0)
+no_family v h (inr high, is) = omega (arith, high.1)
+
+pub ruleset family_laws = (one_ipv4, one_ipv6, no_family)
 
 pub contained : (v w : CValue) (n m : AnyIpCidr) (code : ℕ) → IsNetworkValue v × (n ≡ network_in v) → IsNetworkValue w × (m ≡ network_in w)
     → IsYesOrNo code (BeginsWith (any_bits m) (any_bits n))

@@ -121,6 +121,22 @@ static void masks_and_names(void) {
     WANT(pcidr_print_with_host_mask(&four, text, sizeof text) == 19 && strcmp(text, "192.0.2.0/0.0.0.255") == 0);
     WANT(pcidr_print_with_mask(&six, text, sizeof text) == 22 && strcmp(text, "2001:db8::/ffff:ffff::") == 0);
     WANT(pcidr_print_with_mask(&any, text, sizeof text) == 0 && pcidr_print_with_mask(&four, NULL, 0) == 23);
+    pcidr_value six_host = value("2001:db8::5/48"), mapped = value("::ffff:192.0.2.1"), lone = value("::1");
+    WANT(pcidr_print_host_with_mask(&four, text, sizeof text) == 23 && strcmp(text, "192.0.2.1/255.255.255.0") == 0);
+    WANT(pcidr_print_host_with_host_mask(&four, text, sizeof text) == 19 && strcmp(text, "192.0.2.1/0.0.0.255") == 0);
+    WANT(pcidr_print_host_with_mask(&six_host, text, sizeof text) == 28 && strcmp(text, "2001:db8::5/ffff:ffff:ffff::") == 0);
+    WANT(pcidr_print_host_with_mask(&any, text, sizeof text) == 0 && pcidr_print_host_with_host_mask(&any, text, sizeof text) == 0);
+    WANT(pcidr_print_host_with_mask(&four, NULL, 0) == 23 && pcidr_print_host_with_host_mask(&four, text, 19) == 19);
+    /* as Python 3.11 writes `exploded` */
+    WANT(pcidr_print_exploded_host(&four, text, sizeof text) == 12 && strcmp(text, "192.0.2.1/24") == 0);
+    WANT(pcidr_print_exploded_host(&six_host, text, sizeof text) == 42 &&
+         strcmp(text, "2001:0db8:0000:0000:0000:0000:0000:0005/48") == 0);
+    WANT(pcidr_print_exploded_host(&lone, text, sizeof text) == 43 &&
+         strcmp(text, "0000:0000:0000:0000:0000:0000:0000:0001/128") == 0);
+    WANT(pcidr_print_exploded_address(&mapped, text, sizeof text) == 39 &&
+         strcmp(text, "0000:0000:0000:0000:0000:ffff:c000:0201") == 0);
+    WANT(pcidr_print_exploded_address(&six_host, text, sizeof text) == 0 && pcidr_print_exploded_host(&any, text, 1) == 0);
+    WANT(pcidr_print_exploded_address(&lone, NULL, 0) == 39 && pcidr_print_exploded_host(&lone, text, 43) == 43);
     WANT(masked("192.0.2.0/255.255.255.0") == PCIDR_OK && is("192.0.2.0/24"));
     WANT(masked("192.0.2.0/0.0.0.255") == PCIDR_OK && is("192.0.2.0/24"));
     WANT(masked("0.0.0.0/0.0.0.0") == PCIDR_OK && is("0.0.0.0/0"));
@@ -290,7 +306,13 @@ static void purposes(void) {
     WANT(pcidr_special_entry(&local, &entry) == PCIDR_OK && entry.purpose == PCIDR_PURPOSE_LINK_LOCAL && entry.len == 10);
     WANT(entry.high == (uint64_t)0xfe80 << 48 && entry.low == 0 && entry.forwardable == 0 && entry.reserved_by_protocol == 1);
     WANT(pcidr_is_global(&free_one) == 1 && pcidr_is_global(&shared) == 0 && pcidr_is_global(&network) == 0);
-    WANT(pcidr_is_private(&unique) == 1 && pcidr_is_private(&shared) == 0 && pcidr_is_private(&network) == 0);
+    WANT(pcidr_is_private(&unique) == 1 && pcidr_is_private(&shared) == 0 && pcidr_is_private(&none) == 0);
+    pcidr_value part = value("10.1.0.0/16"), wider = value("10.0.0.0/7"), host = value("10.0.0.1/8"), any = value("any");
+    pcidr_value groups = value("ff00::/8"), beside = value("fe00::/7"), all = value("0.0.0.0/0"), books = value("192.0.2.0/24");
+    WANT(pcidr_is_private(&network) == 1 && pcidr_is_private(&part) == 1 && pcidr_is_private(&wider) == 0);
+    WANT(pcidr_is_private(&host) == 0 && pcidr_is_private(&any) == 0 && pcidr_is_private(&all) == 0);
+    WANT(pcidr_is_multicast(&groups) == 1 && pcidr_is_multicast(&beside) == 0 && pcidr_is_multicast(&any) == 0);
+    WANT(pcidr_is_documentation(&books) == 1 && pcidr_is_unspecified(&all) == 0 && pcidr_is_loopback(&any) == 0);
     WANT(pcidr_is_loopback(&loop) == 1 && pcidr_is_loopback(&zero) == 0 && pcidr_is_loopback(&none) == 0);
     WANT(pcidr_is_link_local(&local) == 1 && pcidr_is_link_local(&loop) == 0);
     WANT(pcidr_is_documentation(&book) == 1 && pcidr_is_documentation(&loop) == 0);

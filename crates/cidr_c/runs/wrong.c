@@ -36,7 +36,8 @@ static uint32_t no_address(size_t reader) { return reader < 2 ? PCIDR_NOT_ADDRES
 
 static size_t (*const printers[])(const pcidr_value *, char *, size_t) = {
     pcidr_print_address, pcidr_print_host, pcidr_print_host_with_length, pcidr_print_network,
-    pcidr_print_network_with_length, pcidr_print_with_mask, pcidr_print_with_host_mask};
+    pcidr_print_network_with_length, pcidr_print_with_mask, pcidr_print_with_host_mask, pcidr_print_host_with_mask,
+    pcidr_print_host_with_host_mask, pcidr_print_exploded_address, pcidr_print_exploded_host};
 static size_t (*const writers[])(const pcidr_value *, uint8_t *, size_t) = {pcidr_network_to_bytes,
                                                                            pcidr_host_to_bytes};
 static uint32_t (*const byte_readers[])(const uint8_t *, size_t, pcidr_value *, size_t *) = {pcidr_network_from_bytes,

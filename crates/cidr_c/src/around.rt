@@ -98,7 +98,7 @@ pub extern "C" fn pcidr_host_mask_by_value(host: CValue, out: &mut CValue) -> u3
 
 /// The host mask of a network.
 #[tactic(auto, using(crate::proofs::Hosts::mask_address))]
-fn host_mask(network: &IpCidr) -> IpAddr
+pub fn host_mask(network: &IpCidr) -> IpAddr
     ensures { result ≡ address_by host_mask_of network.now }
 {
     network.host_mask()

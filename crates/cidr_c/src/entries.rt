@@ -1,13 +1,15 @@
-//! The entries of addresses in the registries of IANA. `cidr_ext` shifts numbers of 128 bits; here the first bits that an
-//! entry and an address share are counted by halves, in a third of the time.
-ghost use Rattle.std.specs.Prelude.{◌≡◌, ◌↔◌, ◌⊎◌, ℕ, ◌+◌, ◌-◌, ◌/◌, ◌%◌, ◌^◌, ◌<◌, ◌≤◌, IsTrue, MatchOption, true};
-ghost use Rattle.cidr.specs.either.IpAddress.{address_family, plain_bits};
+//! The entries of networks in the registries of IANA. `cidr_ext` shifts numbers of 128 bits, and knows those of addresses
+//! alone; here the first bits that an entry and an address share are counted by halves, in a third of the time.
+ghost use Rattle.std.specs.Prelude.{◌≡◌, ◌↔◌, ◌⊎◌, ℕ, ◌+◌, ◌-◌, ◌/◌, ◌%◌, ◌^◌, ◌<◌, ◌≤◌, IsTrue, MatchOption, length, true};
+ghost use Rattle.cidr.specs.either.IpNetwork.{network_family, network_prefix};
+ghost use Rattle.cidr.specs.model.Network.{BeginsWith};
 ghost use Rattle.cidr_ext.specs.declared.registry.Purpose.TheVariants as purpose;
 ghost use Rattle.cidr_ext.specs.internal.Entries.{IsOneLongest, are_entries, has_block};
-ghost use Rattle.cidr_ext.specs.model.Special.{HasNoEntry, HasPurpose, IsEntryOf, IsGlobal};
+ghost use Rattle.cidr_ext.specs.model.Special.{HasNoEntry, HasPurpose, IsEntryOf, IsGlobal, multicast_of};
+ghost use Rattle.cidr_c.specs.model.Special.{has_network};
 
-use cidr::IpAddr;
-use cidr_ext::{IPV4_ENTRIES, IPV6_ENTRIES, Purpose, SpecialEntry};
+use cidr::{Family, IpCidr};
+use cidr_ext::{IPV4_ENTRIES, IPV6_ENTRIES, Purpose, SpecialAddress, SpecialEntry};
 
 /// The number of an address, beside the entries of its family.
 trait Number: Copy {
@@ -114,51 +116,70 @@ fn is_longer(entry: &SpecialEntry, other: Option<&SpecialEntry>) -> bool
     }
 }
 
-/// The entry with the longest block that has the address with this number.
+/// Whether the network of an address and a prefix length lies in the block of an entry.
+#[inline(always)]
+#[tactic(auto, unfolding(crate::specs::model::Special::has_network))]
+fn lies_in<N: Number>(number: N, len: u8, entry: &SpecialEntry) -> bool
+    requires first { entry.now.first < 2 ^ N.width }
+    requires len { entry.now.len ≤ N.width }
+    ensures { result ≡ has_network N.width (N.value number) len entry.now }
+{
+    number.is_in(entry) && entry.len <= len
+}
+
+/// The entry with the longest block that the network of an address and a prefix length lies in.
 #[inline(always)]
 fn longest_of<N: Number>(
     entries: &'static [SpecialEntry],
     number: N,
+    len: u8,
 ) -> Option<&'static SpecialEntry>
     requires { are_entries N.width entries.now ≡ true }
-    ensures { IsOneLongest (has_block N.width (N.value number)) entries.now result }
+    ensures { IsOneLongest (has_network N.width (N.value number) len) entries.now result }
 {
     let mut longest: Option<&'static SpecialEntry> = None;
     for entry in entries {
-        if number.is_in(entry) && is_longer(entry, longest) {
+        if lies_in(number, len, entry) && is_longer(entry, longest) {
             longest = Some(entry);
         }
     }
     longest
 }
 
-/// The entry of an address, that with the longest block that contains it, or `None` where no block does.
-pub fn entry_of(address: IpAddr) -> Option<&'static SpecialEntry>
-    ensures { MatchOption result (HasNoEntry (address_family address) (plain_bits address))
-        (λ entry. IsEntryOf (address_family address) (plain_bits address) entry.now) }
+/// The entry of a network, that with the longest block that it lies in, or `None` where it lies in none. Of an address it is
+/// the entry of the registry.
+pub fn entry_of(network: &IpCidr) -> Option<&'static SpecialEntry>
+    ensures { MatchOption result (HasNoEntry (network_family network.now) (network_prefix network.now))
+        (λ entry. IsEntryOf (network_family network.now) (network_prefix network.now) entry.now) }
 {
-    match address {
-        IpAddr::V4(address) => longest_of(&IPV4_ENTRIES, address.to_bits()),
-        IpAddr::V6(address) => longest_of(&IPV6_ENTRIES, address.to_bits()),
+    match network {
+        IpCidr::V4(network) => {
+            let number = network.first_address().to_bits();
+            longest_of(&IPV4_ENTRIES, number, network.network_length())
+        }
+        IpCidr::V6(network) => {
+            let number = network.first_address().to_bits();
+            longest_of(&IPV6_ENTRIES, number, network.network_length())
+        }
     }
 }
 
-/// Whether the entry of an address has this purpose.
-pub fn has_purpose(address: IpAddr, purpose: Purpose) -> bool
-    ensures { IsTrue result ↔ HasPurpose purpose (address_family address) (plain_bits address) }
+/// Whether the entry of a network has this purpose.
+pub fn has_purpose(network: &IpCidr, purpose: Purpose) -> bool
+    ensures { IsTrue result ↔ HasPurpose purpose (network_family network.now) (network_prefix network.now) }
 {
-    match entry_of(address) {
+    match entry_of(network) {
         Some(entry) => entry.purpose == purpose,
         None => false,
     }
 }
 
-/// Whether an address is private (RFC 1918) or unique-local (RFC 4193).
-pub fn is_private(address: IpAddr) -> bool
-    ensures { IsTrue result ↔ (HasPurpose purpose.PrivateUse (address_family address) (plain_bits address)
-        ⊎ HasPurpose purpose.UniqueLocal (address_family address) (plain_bits address)) }
+/// Whether a network is private (RFC 1918) or unique-local (RFC 4193).
+pub fn is_private(network: &IpCidr) -> bool
+    ensures { IsTrue result ↔ (HasPurpose purpose.PrivateUse (network_family network.now) (network_prefix network.now)
+        ⊎ HasPurpose purpose.UniqueLocal (network_family network.now) (network_prefix network.now)) }
 {
-    match entry_of(address) {
+    match entry_of(network) {
         Some(entry) => {
             entry.purpose == Purpose::PrivateUse || entry.purpose == Purpose::UniqueLocal
         }
@@ -166,12 +187,30 @@ pub fn is_private(address: IpAddr) -> bool
     }
 }
 
-/// Whether an address is globally reachable: it has no entry, or one that says so.
-pub fn is_global(address: IpAddr) -> bool
-    ensures { IsTrue result ↔ IsGlobal (address_family address) (plain_bits address) }
+/// Whether a network is globally reachable by its entry: it has none, or one that says so.
+pub fn is_global(network: &IpCidr) -> bool
+    ensures { IsTrue result ↔ IsGlobal (network_family network.now) (network_prefix network.now) }
 {
-    match entry_of(address) {
+    match entry_of(network) {
         Some(entry) => entry.globally_reachable.unwrap_or(false),
         None => true,
+    }
+}
+
+/// Whether a network has multicast addresses alone: it lies in 224.0.0.0/4 or ff00::/8.
+pub fn is_multicast(network: &IpCidr) -> bool
+    ensures { IsTrue result ↔ BeginsWith (network_prefix network.now) (multicast_of (network_family network.now)) }
+{
+    network.network_length() >= multicast_len(network.family())
+        && network.first_address().is_multicast()
+}
+
+/// The prefix length of the block of multicast addresses.
+fn multicast_len(family: Family) -> u8
+    ensures { result ≡ length (multicast_of family) }
+{
+    match family {
+        Family::Ipv4 => 4,
+        Family::Ipv6 => 8,
     }
 }

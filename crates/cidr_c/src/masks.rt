@@ -1,19 +1,25 @@
 //! Masks of networks, as addresses and in strings.
-ghost use Rattle.std.specs.Prelude.{◌≡◌, ℕ};
+ghost use Rattle.std.specs.Prelude.{◌≡◌, ◌∷◌, ◌++◌, ℕ};
 ghost use Rattle.cidr.specs.either.IpAddress.{address_family, plain_bits};
 ghost use Rattle.cidr.specs.either.IpNetwork.{network_family, network_prefix};
-ghost use Rattle.cidr_ext.specs.model.Inside.{IsHostMaskOf, IsMaskOf};
+ghost use Rattle.cidr.specs.model.Network.{mask_of};
+ghost use Rattle.cidr.specs.texts.NetworkText.{slash};
+ghost use Rattle.cidr.specs.texts.PrintedAddress.{ip_text};
+ghost use Rattle.cidr_ext.specs.model.Inside.{IsHostMaskOf, IsMaskOf, host_mask_of};
 ghost use Rattle.cidr_ext.specs.texts.MaskText.{ReadsMaskText, host_mask_text, mask_text};
 ghost use Rattle.cidr_c.specs.calls.Calls.{IsPrintedInto, IsRead, IsUnprinted};
 ghost use Rattle.cidr_c.specs.model.Codes.{mask_code};
 ghost use Rattle.cidr_c.specs.model.Networks.{IsLengthSought, address_bits_in, address_width_in};
-ghost use Rattle.cidr_c.specs.model.Values.{IsAddressValue, IsHostValue, IsIpNetworkValue, family_in, ip_network_in, prefix_in};
+ghost use Rattle.cidr_c.specs.model.Texts.{masked_host_text};
+ghost use Rattle.cidr_c.specs.model.Values.{IsAddressValue, IsHostValue, IsIpNetworkValue, family_in, host_in, ip_network_in, prefix_in};
 
+use crate::around::host_mask;
 use crate::codes::{NO_VALUE, NOT_UTF8, OK, mask_code};
 use crate::finding::put_plain;
 use crate::printing::print;
-use crate::values::{CValue, address_of, ip_network_of, put_ip_network};
-use cidr::IpCidr;
+use crate::values::{CValue, address_of, host_of, ip_network_of, put_ip_network};
+use arrayvec::ArrayString;
+use cidr::{IpAddr, IpCidr};
 use cidr_ext::{AddressExt, CidrMaskText};
 
 /// The prefix length of a network mask, or none where a set bit of the address follows an unset one.
@@ -66,6 +72,43 @@ pub extern "C" fn pcidr_print_with_host_mask(host: &CValue, out: &mut [u8]) -> u
         Some(network) => print(network.to_host_mask_text().as_str(), out),
         None => 0,
     }
+}
+
+/// Writes a host with the network mask of its network, and returns the length, at most 79; 0 where the value is no host.
+#[unsafe(no_mangle)]
+pub extern "C" fn pcidr_print_host_with_mask(host: &CValue, out: &mut [u8]) -> usize
+    ensures host { IsHostValue host.now →
+        IsPrintedInto (masked_host_text mask_of (host_in host.now)) out.old out.new result }
+    ensures other { ¬ (IsHostValue host.now) → IsUnprinted out.old out.new result }
+{
+    match host_of(host) {
+        Some(host) => print_masked(&host.address(), &host.mask(), out),
+        None => 0,
+    }
+}
+
+/// Writes a host with the host mask of its network, and returns the length, at most 79; 0 where the value is no host.
+#[unsafe(no_mangle)]
+pub extern "C" fn pcidr_print_host_with_host_mask(host: &CValue, out: &mut [u8]) -> usize
+    ensures host { IsHostValue host.now →
+        IsPrintedInto (masked_host_text host_mask_of (host_in host.now)) out.old out.new result }
+    ensures other { ¬ (IsHostValue host.now) → IsUnprinted out.old out.new result }
+{
+    match host_of(host) {
+        Some(host) => print_masked(&host.address(), &host_mask(&host.network()), out),
+        None => 0,
+    }
+}
+
+/// Writes an address, a slash and a mask, and returns the length.
+fn print_masked(address: &IpAddr, mask: &IpAddr, out: &mut [u8]) -> usize
+    ensures { IsPrintedInto (ip_text address.now ++ slash ∷ ip_text mask.now) out.old out.new result }
+{
+    let mut text = ArrayString::<79>::new();
+    text.push_str(address.to_text().as_str());
+    text.push('/');
+    text.push_str(mask.to_text().as_str());
+    print(text.as_str(), out)
 }
 
 /// Reads a network with a network mask or a host mask in place of the prefix length: 0 and the network in `out`, or the

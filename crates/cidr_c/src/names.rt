@@ -9,6 +9,7 @@ ghost use Rattle.cidr_c.specs.model.Values.{IsHostValue, family_in, prefix_in};
 
 use crate::codes::NOT_UTF8;
 use crate::finding::put_found_network;
+use crate::labels::name_of;
 use crate::printing::print;
 use crate::values::{CValue, ip_network_of};
 use arrayvec::ArrayString;
@@ -27,7 +28,7 @@ pub extern "C" fn pcidr_print_reverse_name(host: &CValue, out: &mut [u8]) -> usi
     let Some(network) = ip_network_of(host) else {
         return 0;
     };
-    match network.reverse_name() {
+    match name_of(&network) {
         Some(name) => print(name.as_str(), out),
         None => 0,
     }

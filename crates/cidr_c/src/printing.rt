@@ -15,7 +15,13 @@ use crate::values::{CValue, address_of, host_of, network_of};
 pub fn print(text: &str, out: &mut [u8]) -> usize
     ensures { IsPrintedInto text.now out.old out.new result }
 {
-    let bytes = text.as_bytes();
+    print_bytes(text.as_bytes(), out)
+}
+
+/// Writes the bytes of a string with a 0 behind, if there is room for both, and returns how many they are.
+pub fn print_bytes(bytes: &[u8], out: &mut [u8]) -> usize
+    ensures { IsPrintedInto bytes.now out.old out.new result }
+{
     if bytes.len() < out.len() {
         out[..bytes.len()].copy_from_slice(bytes);
         out[bytes.len()] = 0;

@@ -1,4 +1,4 @@
-//! What addresses are for, by the registries of IANA.
+//! What addresses and networks are for, by the registries of IANA.
 ghost use Rattle.std.specs.Prelude.{◌≡◌, ◌⊎◌};
 ghost use Rattle.cidr.specs.model.Network.{BeginsWith};
 ghost use Rattle.cidr_ext.specs.model.Special.{HasNoEntry, HasPurpose, IsEntryOf, IsGlobal, multicast_of};
@@ -7,13 +7,14 @@ ghost use Rattle.cidr_ext.specs.declared.registry.Purpose.TheVariants as purpose
 ghost use Rattle.cidr_c.specs.calls.Calls.{IsAnyValue, IsSought, IsYesOrNo};
 ghost use Rattle.cidr_c.specs.model.Networks.{address_bits_in, address_family_in};
 ghost use Rattle.cidr_c.specs.model.Special.{column_code, purpose_code, special_of};
-ghost use Rattle.cidr_c.specs.model.Values.{IsAddressValue};
+ghost use Rattle.cidr_c.specs.model.Values.{IsAddressValue, IsIpNetworkValue, family_in, prefix_in};
 
 use crate::codes::{NO_VALUE, NONE, OK};
-use crate::entries::{entry_of, has_purpose, is_global, is_private};
+use crate::entries::{entry_of, has_purpose, is_global, is_multicast, is_private};
 use crate::finding::yes_or_no;
-use crate::values::{CValue, address_of};
-use cidr_ext::{Purpose, SpecialAddress, SpecialEntry};
+use crate::values::{CValue, address_of, one_family_of};
+use cidr::IpCidr;
+use cidr_ext::{Purpose, SpecialEntry};
 
 /// An entry of the registries of addresses for special purposes. The columns are 0 for no, 1 for yes, and 2 where they do
 /// not apply.
@@ -53,7 +54,7 @@ pub extern "C" fn pcidr_special_entry(address: &CValue, out: &mut CSpecial) -> u
     let Some(address) = address_of(address) else {
         return NO_VALUE;
     };
-    let Some(entry) = entry_of(address) else {
+    let Some(entry) = entry_of(&IpCidr::new_host(address)) else {
         return NONE;
     };
     put_entry(entry, out);
@@ -134,80 +135,82 @@ pub extern "C" fn pcidr_is_global(address: &CValue) -> u32
         × IsGlobal (address_family_in address.now) (address_bits_in address.now)) }
 {
     match address_of(address) {
-        Some(address) => yes_or_no(is_global(address)),
+        Some(address) => yes_or_no(is_global(&IpCidr::new_host(address))),
         None => 0,
     }
 }
 
-/// 1 where the value is an address that is private (RFC 1918) or unique-local (RFC 4193), and 0 where not.
+// A network, as an address is one, is for what the longest block is for that it lies in.
+
+/// 1 where the value is a network that is private (RFC 1918) or unique-local (RFC 4193), and 0 where not.
 #[unsafe(no_mangle)]
-pub extern "C" fn pcidr_is_private(address: &CValue) -> u32
-    ensures { IsYesOrNo result (IsAddressValue address.now
-        × (HasPurpose purpose.PrivateUse (address_family_in address.now) (address_bits_in address.now)
-        ⊎ HasPurpose purpose.UniqueLocal (address_family_in address.now) (address_bits_in address.now))) }
+pub extern "C" fn pcidr_is_private(network: &CValue) -> u32
+    ensures { IsYesOrNo result (IsIpNetworkValue network.now
+        × (HasPurpose purpose.PrivateUse (family_in network.now) (prefix_in network.now)
+        ⊎ HasPurpose purpose.UniqueLocal (family_in network.now) (prefix_in network.now))) }
 {
-    match address_of(address) {
-        Some(address) => yes_or_no(is_private(address)),
+    match one_family_of(network) {
+        Some(network) => yes_or_no(is_private(&network)),
         None => 0,
     }
 }
 
-/// 1 where the value is an address that is for loopback, and 0 where not.
+/// 1 where the value is a network that is for loopback, and 0 where not.
 #[unsafe(no_mangle)]
-pub extern "C" fn pcidr_is_loopback(address: &CValue) -> u32
-    ensures { IsYesOrNo result (IsAddressValue address.now
-        × HasPurpose purpose.Loopback (address_family_in address.now) (address_bits_in address.now)) }
+pub extern "C" fn pcidr_is_loopback(network: &CValue) -> u32
+    ensures { IsYesOrNo result (IsIpNetworkValue network.now
+        × HasPurpose purpose.Loopback (family_in network.now) (prefix_in network.now)) }
 {
-    match address_of(address) {
-        Some(address) => yes_or_no(has_purpose(address, Purpose::Loopback)),
+    match one_family_of(network) {
+        Some(network) => yes_or_no(has_purpose(&network, Purpose::Loopback)),
         None => 0,
     }
 }
 
-/// 1 where the value is an address that is a unicast address of one link, and 0 where not.
+/// 1 where the value is a network that is of unicast addresses of one link, and 0 where not.
 #[unsafe(no_mangle)]
-pub extern "C" fn pcidr_is_link_local(address: &CValue) -> u32
-    ensures { IsYesOrNo result (IsAddressValue address.now
-        × HasPurpose purpose.LinkLocal (address_family_in address.now) (address_bits_in address.now)) }
+pub extern "C" fn pcidr_is_link_local(network: &CValue) -> u32
+    ensures { IsYesOrNo result (IsIpNetworkValue network.now
+        × HasPurpose purpose.LinkLocal (family_in network.now) (prefix_in network.now)) }
 {
-    match address_of(address) {
-        Some(address) => yes_or_no(has_purpose(address, Purpose::LinkLocal)),
+    match one_family_of(network) {
+        Some(network) => yes_or_no(has_purpose(&network, Purpose::LinkLocal)),
         None => 0,
     }
 }
 
-/// 1 where the value is an address that is for documentation, and 0 where not.
+/// 1 where the value is a network that is for documentation, and 0 where not.
 #[unsafe(no_mangle)]
-pub extern "C" fn pcidr_is_documentation(address: &CValue) -> u32
-    ensures { IsYesOrNo result (IsAddressValue address.now
-        × HasPurpose purpose.Documentation (address_family_in address.now) (address_bits_in address.now)) }
+pub extern "C" fn pcidr_is_documentation(network: &CValue) -> u32
+    ensures { IsYesOrNo result (IsIpNetworkValue network.now
+        × HasPurpose purpose.Documentation (family_in network.now) (prefix_in network.now)) }
 {
-    match address_of(address) {
-        Some(address) => yes_or_no(has_purpose(address, Purpose::Documentation)),
+    match one_family_of(network) {
+        Some(network) => yes_or_no(has_purpose(&network, Purpose::Documentation)),
         None => 0,
     }
 }
 
-/// 1 where the value is an address that is 0.0.0.0 or ::, and 0 where not.
+/// 1 where the value is a network that is 0.0.0.0 or :: alone, and 0 where not.
 #[unsafe(no_mangle)]
-pub extern "C" fn pcidr_is_unspecified(address: &CValue) -> u32
-    ensures { IsYesOrNo result (IsAddressValue address.now
-        × HasPurpose purpose.Unspecified (address_family_in address.now) (address_bits_in address.now)) }
+pub extern "C" fn pcidr_is_unspecified(network: &CValue) -> u32
+    ensures { IsYesOrNo result (IsIpNetworkValue network.now
+        × HasPurpose purpose.Unspecified (family_in network.now) (prefix_in network.now)) }
 {
-    match address_of(address) {
-        Some(address) => yes_or_no(has_purpose(address, Purpose::Unspecified)),
+    match one_family_of(network) {
+        Some(network) => yes_or_no(has_purpose(&network, Purpose::Unspecified)),
         None => 0,
     }
 }
 
-/// 1 where the value is an address that is a multicast address, and 0 where not.
+/// 1 where the value is a network of multicast addresses, and 0 where not.
 #[unsafe(no_mangle)]
-pub extern "C" fn pcidr_is_multicast(address: &CValue) -> u32
-    ensures { IsYesOrNo result (IsAddressValue address.now
-        × BeginsWith (address_bits_in address.now) (multicast_of (address_family_in address.now))) }
+pub extern "C" fn pcidr_is_multicast(network: &CValue) -> u32
+    ensures { IsYesOrNo result (IsIpNetworkValue network.now
+        × BeginsWith (prefix_in network.now) (multicast_of (family_in network.now))) }
 {
-    match address_of(address) {
-        Some(address) => yes_or_no(address.is_multicast()),
+    match one_family_of(network) {
+        Some(network) => yes_or_no(is_multicast(&network)),
         None => 0,
     }
 }

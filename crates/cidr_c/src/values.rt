@@ -147,6 +147,24 @@ pub fn ip_network_of(value: &CValue) -> Option<IpCidr>
     Some(host.network())
 }
 
+/// The network of one family that a value is, if it is one, as all networks but `any` are.
+#[inline(always)]
+#[tactic(auto, using(crate::proofs::Networks::family_laws))]
+pub fn one_family_of(value: &CValue) -> Option<IpCidr>
+    ensures { MatchOption result (¬ (IsIpNetworkValue value.now))
+        (λ network. IsIpNetworkValue value.now × (network ≡ ip_network_in value.now)) }
+{
+    if is_ipv4(value) {
+        let network = ipv4_network(value)?;
+        return Some(IpCidr::V4(network));
+    }
+    if is_ipv6(value) {
+        let network = ipv6_network(value)?;
+        return Some(IpCidr::V6(network));
+    }
+    None
+}
+
 /// The address that a value is, if it is one.
 pub fn address_of(value: &CValue) -> Option<IpAddr>
     ensures { MatchOption result (¬ (IsAddressValue value.now))

@@ -1,5 +1,6 @@
 -- Entries of the registries of addresses for special purposes, as C has them.
-use Rattle.std.specs.Prelude.{ℕ, ◌/◌, ◌%◌, ◌^◌, Bool, true, false, Option, Some, None}
+use Rattle.std.specs.Prelude.{ℕ, ◌/◌, ◌%◌, ◌^◌, Bool, true, false, ◌&&◌, nat_le, Option, Some, None}
+use Rattle.cidr_ext.specs.internal.Entries.{has_block}
 use Rattle.cidr_ext.specs.declared.registry.Purpose.{Purpose}
 use Rattle.cidr_ext.specs.declared.registry.Purpose.TheVariants as purpose
 use Rattle.cidr_ext.specs.declared.registry.SpecialEntry.{SpecialEntry}
@@ -60,3 +61,8 @@ special_of entry = record {
   globally_reachable = column_code entry.globally_reachable;
   reserved_by_protocol = column_code entry.reserved_by_protocol;
 }
+
+-- ---- what private functions promise each other
+-- the network of the first len bits of an address of w bits, whose number is n, lies in the block
+unfoldable pub has_network : ℕ → ℕ → ℕ → SpecialEntry → Bool
+has_network w n len entry = has_block w n entry && nat_le entry.len len

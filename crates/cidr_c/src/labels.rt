@@ -1,0 +1,94 @@
+//! The names of networks in reverse DNS. `cidr_ext` writes the labels of IPv6 one by one; here two at a time are in a table.
+ghost use Rattle.std.specs.Prelude.{◌≡◌, ◌+◌, ◌*◌, ◌/◌, ◌%◌, ◌^◌, ◌<◌, ◌≤◌, [], ◌∷◌, ◌++◌, Bool, List, length, reverse, MatchOption};
+ghost use Rattle.std.specs.Char.{digit_char};
+ghost use Rattle.cidr.specs.either.IpNetwork.{network_family, network_prefix};
+ghost use Rattle.cidr.specs.model.Address.{parts_of};
+ghost use Rattle.cidr.specs.model.Bits.{number};
+ghost use Rattle.cidr.specs.texts.Ipv4Text.{dot};
+ghost use Rattle.cidr.specs.declared.family.Family.TheVariants.{Ipv6};
+ghost use Rattle.cidr_ext.specs.texts.Reverse.{EndsAtLabel, labels_text, reverse_text};
+
+use crate::exploded::hex_digit;
+use arrayvec::ArrayString;
+use cidr::{IpCidr, Ipv6Cidr};
+use cidr_ext::CidrReverseName;
+
+/// The two labels of each octet, the last one first, with a dot behind each.
+const LABELS: &str = "\
+    0.0.1.0.2.0.3.0.4.0.5.0.6.0.7.0.8.0.9.0.a.0.b.0.c.0.d.0.e.0.f.0.\
+    0.1.1.1.2.1.3.1.4.1.5.1.6.1.7.1.8.1.9.1.a.1.b.1.c.1.d.1.e.1.f.1.\
+    0.2.1.2.2.2.3.2.4.2.5.2.6.2.7.2.8.2.9.2.a.2.b.2.c.2.d.2.e.2.f.2.\
+    0.3.1.3.2.3.3.3.4.3.5.3.6.3.7.3.8.3.9.3.a.3.b.3.c.3.d.3.e.3.f.3.\
+    0.4.1.4.2.4.3.4.4.4.5.4.6.4.7.4.8.4.9.4.a.4.b.4.c.4.d.4.e.4.f.4.\
+    0.5.1.5.2.5.3.5.4.5.5.5.6.5.7.5.8.5.9.5.a.5.b.5.c.5.d.5.e.5.f.5.\
+    0.6.1.6.2.6.3.6.4.6.5.6.6.6.7.6.8.6.9.6.a.6.b.6.c.6.d.6.e.6.f.6.\
+    0.7.1.7.2.7.3.7.4.7.5.7.6.7.7.7.8.7.9.7.a.7.b.7.c.7.d.7.e.7.f.7.\
+    0.8.1.8.2.8.3.8.4.8.5.8.6.8.7.8.8.8.9.8.a.8.b.8.c.8.d.8.e.8.f.8.\
+    0.9.1.9.2.9.3.9.4.9.5.9.6.9.7.9.8.9.9.9.a.9.b.9.c.9.d.9.e.9.f.9.\
+    0.a.1.a.2.a.3.a.4.a.5.a.6.a.7.a.8.a.9.a.a.a.b.a.c.a.d.a.e.a.f.a.\
+    0.b.1.b.2.b.3.b.4.b.5.b.6.b.7.b.8.b.9.b.a.b.b.b.c.b.d.b.e.b.f.b.\
+    0.c.1.c.2.c.3.c.4.c.5.c.6.c.7.c.8.c.9.c.a.c.b.c.c.c.d.c.e.c.f.c.\
+    0.d.1.d.2.d.3.d.4.d.5.d.6.d.7.d.8.d.9.d.a.d.b.d.c.d.d.d.e.d.f.d.\
+    0.e.1.e.2.e.3.e.4.e.5.e.6.e.7.e.8.e.9.e.a.e.b.e.c.e.d.e.e.e.f.e.\
+    0.f.1.f.2.f.3.f.4.f.5.f.6.f.7.f.8.f.9.f.a.f.b.f.c.f.d.f.e.f.f.f.";
+
+/// The name of a network, or `None` where its prefix length doesn't end at a label.
+pub fn name_of(network: &IpCidr) -> Option<ArrayString<72>>
+    ensures { MatchOption result (¬ (EndsAtLabel (network_family network.now) (network_prefix network.now)))
+        (λ name. (name.bytes ≡ reverse_text (network_family network.now) (network_prefix network.now))
+        × EndsAtLabel (network_family network.now) (network_prefix network.now)) }
+{
+    match network {
+        IpCidr::V4(network) => network.reverse_name(),
+        IpCidr::V6(network) => ipv6_name(network),
+    }
+}
+
+/// The same of an IPv6 network.
+fn ipv6_name(network: &Ipv6Cidr) -> Option<ArrayString<72>>
+    ensures { MatchOption result (¬ (EndsAtLabel Ipv6 network.now))
+        (λ name. (name.bytes ≡ reverse_text Ipv6 network.now) × EndsAtLabel Ipv6 network.now) }
+{
+    let len = network.network_length();
+    if len % 4 != 0 {
+        return None;
+    }
+    let value = shifted_out(network.first_address().to_bits(), 128 - len);
+    let mut name = ArrayString::new();
+    push_labels(&mut name, value, len / 4);
+    name.push_str("ip6.arpa");
+    Some(name)
+}
+
+/// The number without so many of its last bits.
+fn shifted_out(value: u128, count: u8) -> u128
+    ensures { result ≡ value / 2 ^ count }
+{
+    if count < 128 { value >> count } else { 0 }
+}
+
+/// Appends the last `count` labels of the number, the last one first, with a dot behind each.
+fn push_labels(name: &mut ArrayString<72>, value: u128, count: u8)
+    requires { length name.old.bytes + 2 * count ≤ 72 }
+    ensures bytes { (network : List Bool) → length network ≡ 4 * count → value ≡ number network →
+        name.new.bytes ≡ name.old.bytes ++ labels_text Ipv6 (reverse (parts_of 4 count network)) }
+    ensures len { length name.new.bytes ≤ length name.old.bytes + 2 * count }
+{
+    if count > 1 {
+        name.push_str(two_labels((value % 256) as u8));
+        push_labels(name, value / 256, count - 2);
+    } else if count == 1 {
+        name.push(char::from(hex_digit((value % 16) as u16)));
+        name.push('.');
+    }
+}
+
+/// The two labels of an octet, the last one first, with a dot behind each.
+#[inline(always)]
+fn two_labels(octet: u8) -> &'static str
+    ensures value { result.now ≡ digit_char (octet % 16) ∷ dot ∷ digit_char (octet / 16) ∷ dot ∷ [] }
+    ensures len { length result.now ≡ 4 }
+{
+    let start = usize::from(octet) * 4;
+    &LABELS[start..start + 4]
+}
