@@ -58,8 +58,14 @@ if [[ -f $sanitizer && -f $room/others/pcidr/_fast.abi3.so ]]; then
     LD_PRELOAD=$sanitizer ASAN_OPTIONS=detect_leaks=0 PYTHONMALLOC=malloc PYTHONPATH=$room/others \
         python3 -m unittest discover -q -s "$python/tests" -p "test_[op]*.py" || status=1
 fi
-if python3 -m mypy --version >"$room/log" 2>&1; then
-    MYPYPATH=$python python3 -m mypy --strict "$python/pcidr" "$python"/examples/*.py || status=1
+typed=
+for each in python3 /usr/bin/python3; do
+    if [[ -z $typed ]] && "$each" -m mypy --version >"$room/log" 2>&1; then typed=$each; fi
+done
+if [[ -n $typed ]]; then
+    MYPYPATH=$python "$typed" -m mypy --strict "$python/pcidr" "$python"/examples/*.py || status=1
+    "$interpreter" -c 'import doctest, sys; print(doctest.script_from_examples(sys.stdin.read()))' <"$python/README.md" >"$room/page.py"
+    MYPYPATH=$python "$typed" -m mypy --strict --allow-redefinition "$room/page.py" || status=1
 else
     echo "pcidr: there is no mypy: the types were not checked"
 fi

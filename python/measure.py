@@ -1,7 +1,10 @@
 """measure.py: times calls of one value by the extension, by `ctypes` and of `ipaddress`, or where they are there of `radix`
 and `netaddr`, by turns, and then merges, look-ups of many addresses and files by the module. Prints of each a line with its
 name and the least time of some turns: nanoseconds of a call, or seconds of processor time. `measure.py calls` prints the
-nanoseconds of the former here alone, one a line."""
+nanoseconds of the former here alone, one a line.
+
+`measure.py attributes` times each public attribute and each method without arguments of `Address`, `Host` and `Network`. It
+prints of each the nanoseconds of a call, and of the first call of an object, of IPv4 and then the same of IPv6."""
 import ipaddress
 import os
 import random
@@ -10,10 +13,13 @@ import sys
 import tempfile
 import time
 import timeit
+import warnings
 from array import array
+from collections import deque
 from itertools import zip_longest
+from operator import attrgetter, methodcaller
 
-from pcidr import Address, Network, NetworkSet, Table, merge
+from pcidr import Address, Host, Network, NetworkSet, Table, merge
 
 try:
     import netaddr
@@ -74,18 +80,23 @@ CALLS = {
     "address.packed": "their_address.packed",
     "address.is_private": "their_address.is_private",
     "address.reverse_pointer": "their_address.reverse_pointer",
+    "network.is_private": "their_network.is_private",
+    "host.with_netmask": "their_host.with_netmask",
+    "wide.exploded": "their_wide.exploded",
     "address + 1": "their_address + 1",
     "str(address)": "str(their_address)",
     'table.lookup("10.1.2.3")': radix and 'their_table.search_best("10.1.2.3")',
     '"10.1.2.3" in held': netaddr and '"10.1.2.3" in their_set',
+    "address.special_entry": None,
 }
 
 
 def timed(calls):
     """How many nanoseconds each of some calls takes: the least of some turns."""
     names = {"Address": Address, "Network": Network, "ipaddress": ipaddress}
-    names |= {"address": Address("10.1.2.3"), "other": Address("10.1.2.4"), "network": Network("10.0.0.0/8")}
-    names |= {f"their_{name}": names[name].to_ipaddress() for name in ("address", "other", "network")}
+    own = {"address": Address("10.1.2.3"), "other": Address("10.1.2.4"), "network": Network("10.0.0.0/8")}
+    own |= {"host": Host("10.1.2.3/8"), "wide": Network("2001:db8::/32")}
+    names |= own | {f"their_{name}": value.to_ipaddress() for name, value in own.items()}
     names |= {"table": Table({"10.0.0.0/8": 1}), "held": NetworkSet(["10.0.0.0/8"])}
     names["table"].lookup_each(["10.1.2.3"])
     if radix:
@@ -110,9 +121,56 @@ def measure_calls():
         print("\t".join([call, *(f"{each:.0f}" for each in taken if each)]))
 
 
+# A value of each kind and family, whose attributes are timed.
+VALUES = {Address: ("10.1.2.3", "2001:db8::1"), Host: ("10.1.2.3/8", "2001:db8::1/32"), Network: ("10.0.0.0/8", "2001:db8::/32")}
+
+
+def called(value, name):
+    """How an attribute of a value is written, with parentheses where it is a method, or None where that takes arguments."""
+    try:
+        found = getattr(value, name)
+        if not callable(found):
+            return f"value.{name}"
+        found()
+    except TypeError:
+        return None
+    return f"value.{name}()"
+
+
+def first_call(kind, text, name):
+    """How many nanoseconds an attribute takes of objects that were asked nothing before: the least of some turns."""
+    least = float("inf")
+    call = methodcaller(name[6:-2]) if name.endswith("()") else attrgetter(name[6:])
+    for _ in range(TURNS):
+        values = [kind(text) for _ in range(2_000)]
+        start = time.perf_counter()
+        deque(map(call, values), maxlen=0)
+        least = min(least, time.perf_counter() - start)
+    return least / 2_000 * 1e9
+
+
+def measure_attributes():
+    """Prints how long each attribute takes, of those that are not named as before."""
+    for kind, texts in VALUES.items():
+        for name in sorted(name for name in dir(kind) if not name.startswith("_")):
+            with warnings.catch_warnings(record=True) as warned:
+                warnings.simplefilter("always")
+                names = [called(kind(text), name) for text in texts]
+            if warned or not all(names):
+                continue
+            taken = []
+            for text, shown in zip(texts, names):
+                again = min(timeit.repeat(shown, globals={"value": kind(text)}, number=20_000, repeat=TURNS)) / 20_000 * 1e9
+                taken += [again, first_call(kind, text, shown)]
+            print("\t".join([names[0].replace("value", kind.__name__), *(f"{each:.0f}" for each in taken)]))
+
+
 def main():
     if sys.argv[1:] == ["calls"]:
         print("\n".join(map(str, timed(CALLS))))
+        return
+    if sys.argv[1:] == ["attributes"]:
+        measure_attributes()
         return
     measure_calls()
     many = [text(*network()) for _ in range(900_000)]

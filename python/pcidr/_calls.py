@@ -237,8 +237,12 @@ CALLS: dict[str, tuple[Any, list[Any]]] = {
     "print_host_with_length": (c_size_t, [POINTER(Value), c_char_p, c_size_t]),
     "print_network": (c_size_t, [POINTER(Value), c_char_p, c_size_t]),
     "print_network_with_length": (c_size_t, [POINTER(Value), c_char_p, c_size_t]),
+    "print_exploded_address": (c_size_t, [POINTER(Value), c_char_p, c_size_t]),
+    "print_exploded_host": (c_size_t, [POINTER(Value), c_char_p, c_size_t]),
     "print_with_mask": (c_size_t, [POINTER(Value), c_char_p, c_size_t]),
     "print_with_host_mask": (c_size_t, [POINTER(Value), c_char_p, c_size_t]),
+    "print_host_with_mask": (c_size_t, [POINTER(Value), c_char_p, c_size_t]),
+    "print_host_with_host_mask": (c_size_t, [POINTER(Value), c_char_p, c_size_t]),
     "print_reverse_name": (c_size_t, [POINTER(Value), c_char_p, c_size_t]),
     "print_reverse_zone": (c_size_t, [POINTER(Value), c_size_t, c_char_p, c_size_t]),
     "print_lines": (c_uint32, [c_void_p, c_size_t, c_char_p, c_size_t, POINTER(c_size_t)]),
@@ -454,8 +458,12 @@ class Calls:
     print_host_with_length: Callable[[Any, Any, int], int]
     print_network: Callable[[Any, Any, int], int]
     print_network_with_length: Callable[[Any, Any, int], int]
+    print_exploded_address: Callable[[Any, Any, int], int]
+    print_exploded_host: Callable[[Any, Any, int], int]
     print_with_mask: Callable[[Any, Any, int], int]
     print_with_host_mask: Callable[[Any, Any, int], int]
+    print_host_with_mask: Callable[[Any, Any, int], int]
+    print_host_with_host_mask: Callable[[Any, Any, int], int]
     print_reverse_name: Callable[[Any, Any, int], int]
     print_reverse_zone: Callable[[Any, int, Any, int], int]
     print_lines: Callable[[Any, int, Any, int, Any], int]

@@ -27,15 +27,17 @@ typedef struct {
 
 static kind addresses, hosts, networks;
 static comparer contains;
-static part first_part, last_part, mask_part, host_mask_part, address_part, network_part;
-static part ipv6_mapped, ipv4_mapped, ipv4_6to4, ipv4_nat64;
+static part first_part, last_part, mask_part, host_mask_part, address_part, network_part, first_usable, last_usable;
+static part next_network, previous_network, sibling, ipv6_mapped, ipv4_mapped, ipv4_6to4, ipv4_nat64;
 static question is_private, is_loopback, is_link_local, is_multicast, is_unspecified, is_documentation, is_global;
-static printer host_with_length, network_with_length, with_mask, with_host_mask, reverse_name;
+static printer host_with_length, network_with_length, with_mask, with_host_mask, host_with_mask, host_with_host_mask;
+static printer exploded_address, exploded_host, reverse_name;
+static uint32_t (*special_entry)(const pcidr_value *, pcidr_special *);
 static uint32_t (*step_up)(pcidr_value, uint64_t, uint64_t, pcidr_value *);
 static uint32_t (*step_down)(pcidr_value, uint64_t, uint64_t, pcidr_value *);
 
 /* Of the module: the classes, `Value` of `ctypes`, and what is called where there is no quick way. */
-static PyObject *address_class, *network_class, *value_class, *check_code, *network_value, *counts;
+static PyObject *address_class, *network_class, *value_class, *check_code, *network_value, *entry_made, *counts;
 
 typedef struct {
     PyObject_HEAD
@@ -198,30 +200,48 @@ static PyObject *string_by(PyObject *self, void *print) {
     return PyErr_Format(PyExc_ValueError, "any has addresses of two families");
 }
 
-static PyObject *name_by(PyObject *self, void *print) {
+/* The name in reverse DNS of a value, which is that of an object or a part of it. */
+static PyObject *name_of(PyObject *self, const pcidr_value *value) {
     char room[PCIDR_NAME_ROOM];
-    size_t length = (*(printer *)print)(value_in(self), room, sizeof room);
+    size_t length = reverse_name(value, room, sizeof room);
     if (length) return PyUnicode_FromStringAndSize(room, (Py_ssize_t)length);
     return PyErr_Format(PyExc_ValueError, "%S has no name in reverse DNS", self);
 }
 
-/* The address that a call of the module makes of the value. */
-static PyObject *shown_part(PyObject *self, PyObject *call) {
-    PyObject *given = shown_value(self, NULL), *out = given ? PyObject_CallNoArgs(value_class) : NULL;
-    PyObject *code = out ? PyObject_CallFunctionObjArgs(call, given, out, NULL) : NULL;
-    PyObject *none = code ? PyObject_CallFunctionObjArgs(check_code, code, self, NULL) : NULL;
-    PyObject *made = none ? shown_of(address_class, out) : NULL;
-    Py_XDECREF(given);
-    Py_XDECREF(out);
-    Py_XDECREF(code);
-    Py_XDECREF(none);
-    return made;
+static PyObject *shown_name(PyObject *self, void *unused) {
+    (void)unused;
+    return name_of(self, value_in(self));
+}
+
+/* The bytes of an address, the highest first, and how many they are. */
+static Py_ssize_t packed_into(const pcidr_value *address, unsigned char *out) {
+    Py_ssize_t width = address->tag < 64 ? 4 : 16;
+    for (Py_ssize_t place = 0; place < width; place++) {
+        Py_ssize_t above = width - 1 - place;
+        out[place] = (unsigned char)((above < 8 ? address->low : address->high) >> 8 * (above % 8));
+    }
+    return width;
+}
+
+/* Those of an address, or of the address of a host, and its number. */
+static PyObject *shown_packed(PyObject *self, void *unused) {
+    (void)unused;
+    unsigned char packed[16];
+    return PyBytes_FromStringAndSize((char *)packed, packed_into(value_in(self), packed));
+}
+
+static PyObject *shown_int(PyObject *self) {
+    pcidr_value *value = value_in(self);
+    if (!value->high) return PyLong_FromUnsignedLongLong(value->low);
+    PyObject *packed = shown_packed(self, NULL);
+    PyObject *number = packed ? PyObject_CallMethod((PyObject *)&PyLong_Type, "from_bytes", "Os", packed, "big") : NULL;
+    Py_XDECREF(packed);
+    return number;
 }
 
 static PyMethodDef shown_methods[] = {
     {"_of", shown_of, METH_O | METH_CLASS, NULL},
     {"_become", shown_become, METH_O, NULL},
-    {"_part", shown_part, METH_O, NULL},
     {NULL, NULL, 0, NULL},
 };
 
@@ -296,15 +316,19 @@ static PyObject *compared(PyObject *self, PyObject *other, int operation, const 
 #define MAPPED                                                                                                         \
     {"ipv6_mapped", same_by, NULL, "That of the IPv4-mapped addresses; None of one of IPv6.", &ipv6_mapped},           \
     {"ipv4_mapped", same_by, NULL, "The inverse; None of one that isn't in ::ffff:0:0/96.", &ipv4_mapped},             \
-    {"reverse_pointer", name_by, NULL, "Its domain name in reverse DNS.", &reverse_name}
+    {"reverse_pointer", shown_name, NULL, "Its domain name in reverse DNS.", NULL}
 
-/* Whether a call says yes of an address. */
-static int says(void *call, const pcidr_value *address) {
-    return (*(question *)call)(address) == 1;
-}
+/* What addresses and hosts have alike. */
+#define PACKED {"packed", shown_packed, NULL, "The bytes of the address, the highest first: 4 or 16.", NULL}
 
-static PyObject *address_answer(PyObject *self, void *call) {
-    return PyBool_FromLong(says(call, value_in(self)));
+/* What all have alike, by other calls. */
+#define SHOWN_BY(plain, whole)                                                                                         \
+    {"compressed", string_by, NULL, "The string, with the prefix length of one also where that is full.", &plain},     \
+    {"exploded", string_by, NULL, "The same with all digits of IPv6, eight groups of four.", &whole}
+
+/* What a call says of an address or a network. */
+static PyObject *shown_answer(PyObject *self, void *call) {
+    return PyBool_FromLong((*(question *)call)(value_in(self)) == 1);
 }
 
 static int address_init(PyObject *self, PyObject *arguments, PyObject *named) {
@@ -319,29 +343,44 @@ static PyObject *address_compare(PyObject *self, PyObject *other, int operation)
     return compared(self, other, operation, &addresses);
 }
 
-/* The bytes of an address, the highest first, and how many they are. */
-static Py_ssize_t packed_into(const pcidr_value *address, unsigned char *out) {
-    Py_ssize_t width = address->tag < 64 ? 4 : 16;
-    for (Py_ssize_t place = 0; place < width; place++) {
-        Py_ssize_t above = width - 1 - place;
-        out[place] = (unsigned char)((above < 8 ? address->low : address->high) >> 8 * (above % 8));
-    }
-    return width;
+/* The entries of the registries of IANA that addresses were asked for, each where its block puts it: which one an address has
+ * the library says at each call, and what Python has of it is made once. There are 51, of which no two have one place by this
+ * number; if two had, each would be made anew behind the other. */
+static struct kept {
+    pcidr_special said;
+    uint8_t tag; /* of the block */
+    PyObject *entry;
+} kept_entries[256];
+
+static struct kept *kept_at(const pcidr_special *said) {
+    uint64_t mixed = (said->high ^ said->low << 17 ^ said->len) * 0xed2f89d94a2f20ab;
+    return &kept_entries[mixed >> 56];
 }
 
-static PyObject *address_packed(PyObject *self, void *unused) {
+static PyObject *address_special_entry(PyObject *self, void *unused) {
     (void)unused;
-    unsigned char packed[16];
-    return PyBytes_FromStringAndSize((char *)packed, packed_into(value_in(self), packed));
-}
-
-static PyObject *address_int(PyObject *self) {
-    pcidr_value *value = value_in(self);
-    if (!value->high) return PyLong_FromUnsignedLongLong(value->low);
-    PyObject *packed = address_packed(self, NULL);
-    PyObject *number = packed ? PyObject_CallMethod((PyObject *)&PyLong_Type, "from_bytes", "Os", packed, "big") : NULL;
-    Py_XDECREF(packed);
-    return number;
+    pcidr_special said;
+    memset(&said, 0, sizeof said); /* also what lies between its fields, since all is compared */
+    uint32_t code = special_entry(value_in(self), &said);
+    if (code == PCIDR_NONE) return Py_NewRef(Py_None);
+    if (code) {
+        raised(code, self);
+        return NULL;
+    }
+    uint8_t tag = (uint8_t)((value_in(self)->tag < 64 ? 0 : 64) + said.len);
+    struct kept *kept = kept_at(&said);
+    if (kept->entry && kept->tag == tag && !memcmp(&kept->said, &said, sizeof said)) return Py_NewRef(kept->entry);
+    PyObject *made = PyObject_CallFunction(entry_made, "KKBBHBBBBB", (unsigned long long)said.high,
+                                           (unsigned long long)said.low, tag, said.purpose, said.rfc, said.source,
+                                           said.destination, said.forwardable, said.globally_reachable,
+                                           said.reserved_by_protocol);
+    if (!made) return NULL;
+    PyObject *before = kept->entry; /* perhaps what another thread has put there meanwhile */
+    memcpy(&kept->said, &said, sizeof said);
+    kept->tag = tag;
+    kept->entry = Py_NewRef(made);
+    Py_XDECREF(before);
+    return made;
 }
 
 /* The address so many further in its family, by a step of the library in the network of all its addresses. */
@@ -388,18 +427,20 @@ static PyObject *address_subtract(PyObject *self, PyObject *count) {
 }
 
 static PyGetSetDef address_attributes[] = {
-    QUESTIONS(address_answer),
-    {"is_global", address_answer, NULL, "Whether it is globally reachable by the registries of IANA.", &is_global},
+    QUESTIONS(shown_answer),
+    {"is_global", shown_answer, NULL, "Whether it is globally reachable by the registries of IANA.", &is_global},
     MAPPED,
     {"sixtofour", address_by, NULL, "The IPv4 address of the site of a 6to4 address, or None.", &ipv4_6to4},
     {"nat64", address_by, NULL, "The IPv4 address in an address of translation, or None.", &ipv4_nat64},
-    {"packed", address_packed, NULL, "The bytes of the address, the highest first: 4 or 16.", NULL},
+    {"special_entry", address_special_entry, NULL, "The entry of the longest block that it is in, or None.", NULL},
+    SHOWN_BY(addresses.print, exploded_address),
+    PACKED,
     {NULL, NULL, NULL, NULL, NULL},
 };
 
 static PyType_Slot address_slots[] = {
     {Py_tp_getset, address_attributes},
-    {Py_nb_int, address_int},
+    {Py_nb_int, shown_int},
     {Py_nb_add, address_add},
     {Py_nb_subtract, address_subtract},
     {Py_tp_init, address_init},
@@ -430,14 +471,28 @@ static PyObject *host_network(PyObject *self, void *unused) {
 static PyObject *host_answer(PyObject *self, void *call) {
     pcidr_value address;
     uint32_t code = address_part(*value_in(self), &address);
-    if (!code) return PyBool_FromLong(says(call, &address));
+    if (!code) return PyBool_FromLong((*(question *)call)(&address) == 1);
+    raised(code, self);
+    return NULL;
+}
+
+static PyObject *host_name(PyObject *self, void *unused) {
+    (void)unused;
+    pcidr_value address;
+    uint32_t code = address_part(*value_in(self), &address);
+    if (!code) return name_of(self, &address);
     raised(code, self);
     return NULL;
 }
 
 static PyGetSetDef host_attributes[] = {
     QUESTIONS(host_answer),
+    SHOWN_BY(host_with_length, exploded_host),
+    PACKED,
+    {"reverse_pointer", host_name, NULL, "The domain name of the address in reverse DNS.", NULL},
     {"with_prefixlen", string_by, NULL, "The string with its prefix length, also a full one.", &host_with_length},
+    {"with_netmask", string_by, NULL, "The string with the mask in place of the prefix length.", &host_with_mask},
+    {"with_hostmask", string_by, NULL, "The string with the inverse of the mask in its place.", &host_with_host_mask},
     {"ip", address_by, NULL, "The address.", &address_part},
     {"network", host_network, NULL, "The network.", NULL},
     {NULL, NULL, NULL, NULL, NULL},
@@ -448,6 +503,7 @@ static PyType_Slot host_slots[] = {
     {Py_tp_str, host_str},
     {Py_tp_richcompare, host_compare},
     {Py_tp_hash, shown_hash},
+    {Py_nb_int, shown_int},
     {Py_tp_getset, host_attributes},
     {0, NULL},
 };
@@ -487,26 +543,50 @@ static PyObject *network_num_addresses(PyObject *self, void *unused) {
     return PySequence_GetItem(counts, value_in(self)->tag);
 }
 
-/* Of a network its first and its last address are: such blocks are networks, and no network has the begin of one and the
- * end of another. */
-static PyObject *network_answer(PyObject *self, void *call) {
-    pcidr_value first, last;
-    uint32_t code = first_part(*value_in(self), &first);
-    if (!code) code = last_part(*value_in(self), &last);
-    if (!code) return PyBool_FromLong(says(call, &first) && says(call, &last));
+/* The network that a call finds beside it. */
+static PyObject *beside(PyObject *self, part call) {
+    pcidr_value out;
+    uint32_t code = call(*value_in(self), &out);
+    if (!code) return made_of(network_class, &out);
+    if (code == PCIDR_NONE) return PyErr_Format(PyExc_ValueError, "there is no such network beside %S", self);
     raised(code, self);
     return NULL;
 }
 
+static PyObject *network_next(PyObject *self, PyObject *unused) {
+    (void)unused;
+    return beside(self, next_network);
+}
+
+static PyObject *network_previous(PyObject *self, PyObject *unused) {
+    (void)unused;
+    return beside(self, previous_network);
+}
+
+static PyObject *network_sibling(PyObject *self, PyObject *unused) {
+    (void)unused;
+    return beside(self, sibling);
+}
+
+static PyMethodDef network_methods[] = {
+    {"next", network_next, METH_NOARGS, "The network of the same length behind it; the last one raises `ValueError`."},
+    {"previous", network_previous, METH_NOARGS, "The network of the same length before it."},
+    {"sibling", network_sibling, METH_NOARGS, "The other half of the network that is twice as large."},
+    {NULL, NULL, 0, NULL},
+};
+
 static PyGetSetDef network_attributes[] = {
-    QUESTIONS(network_answer),
+    QUESTIONS(shown_answer),
     MAPPED,
+    SHOWN_BY(host_with_length, exploded_host),
     {"with_prefixlen", string_by, NULL, "The string with its prefix length, also a full one.", &network_with_length},
     {"with_netmask", string_by, NULL, "The string with the mask in place of the prefix length.", &with_mask},
     {"with_hostmask", string_by, NULL, "The string with the inverse of the mask in its place.", &with_host_mask},
     {"num_addresses", network_num_addresses, NULL, "The number of addresses; `len` stops at 2^63.", NULL},
     {"network_address", address_by, NULL, "The first address.", &first_part},
     {"broadcast_address", address_by, NULL, "The last address, which is that of broadcasts in IPv4.", &last_part},
+    {"_first_usable", address_by, NULL, "The first address that a host may have.", &first_usable},
+    {"_last_usable", address_by, NULL, "The last address that a host may have.", &last_usable},
     {NULL, NULL, NULL, NULL, NULL},
 };
 
@@ -516,6 +596,7 @@ static PyType_Slot network_slots[] = {
     {Py_tp_richcompare, network_compare},
     {Py_tp_hash, shown_hash},
     {Py_sq_contains, network_contains},
+    {Py_tp_methods, network_methods},
     {Py_tp_getset, network_attributes},
     {0, NULL},
 };
@@ -758,7 +839,12 @@ static PyObject *connect(PyObject *module, PyObject *arguments) {
         {"pcidr_print_with_mask", &with_mask},       {"pcidr_print_with_host_mask", &with_host_mask},
         {"pcidr_print_reverse_name", &reverse_name}, {"pcidr_ipv6_mapped_by_value", &ipv6_mapped},
         {"pcidr_ipv4_mapped_by_value", &ipv4_mapped}, {"pcidr_ipv4_6to4_by_value", &ipv4_6to4},
-        {"pcidr_ipv4_nat64_by_value", &ipv4_nat64},
+        {"pcidr_ipv4_nat64_by_value", &ipv4_nat64},   {"pcidr_next_network_by_value", &next_network},
+        {"pcidr_previous_network_by_value", &previous_network}, {"pcidr_sibling_by_value", &sibling},
+        {"pcidr_first_usable_by_value", &first_usable}, {"pcidr_last_usable_by_value", &last_usable},
+        {"pcidr_print_exploded_address", &exploded_address}, {"pcidr_print_exploded_host", &exploded_host},
+        {"pcidr_print_host_with_mask", &host_with_mask}, {"pcidr_special_entry", &special_entry},
+        {"pcidr_print_host_with_host_mask", &host_with_host_mask},
     };
     for (size_t place = 0; place < sizeof calls / sizeof *calls; place++) {
         void *found = dlsym(library, calls[place].name);
@@ -771,12 +857,13 @@ static PyObject *connect(PyObject *module, PyObject *arguments) {
 /* Takes the classes and functions of the module. */
 static PyObject *take(PyObject *module, PyObject *arguments) {
     (void)module;
-    PyObject *given[6];
-    if (!PyArg_ParseTuple(arguments, "OOOOOO!", &given[0], &given[1], &given[2], &given[3], &given[4], &PyTuple_Type,
-                          &given[5]))
+    PyObject *given[7];
+    if (!PyArg_ParseTuple(arguments, "OOOOOOO!", &given[0], &given[1], &given[2], &given[3], &given[4], &given[5],
+                          &PyTuple_Type, &given[6]))
         return NULL;
-    PyObject **places[6] = {&address_class, &network_class, &value_class, &check_code, &network_value, &counts};
-    for (size_t place = 0; place < 6; place++) {
+    PyObject **places[7] = {&address_class, &network_class, &value_class, &check_code,
+                            &network_value, &entry_made,    &counts};
+    for (size_t place = 0; place < 7; place++) {
         Py_INCREF(given[place]);
         Py_XDECREF(*places[place]);
         *places[place] = given[place];
@@ -811,7 +898,8 @@ PyMODINIT_FUNC PyInit__fast(void) {
     PyObject *module = is_owned() ? PyModule_Create(&definition) : NULL;
     if (!module) return NULL;
     /* what an interpreter that has ended left here */
-    address_class = network_class = value_class = check_code = network_value = counts = NULL;
+    address_class = network_class = value_class = check_code = network_value = entry_made = counts = NULL;
+    memset(kept_entries, 0, sizeof kept_entries);
     shown_type = added(module, "pcidr._fast.Shown", shown_slots, NULL);
     unsigned flags = Py_TPFLAGS_DEFAULT | Py_TPFLAGS_HAVE_GC | Py_TPFLAGS_DISALLOW_INSTANTIATION;
     PyType_Spec spec = {"pcidr._fast.Finder", sizeof(finder), 0, flags, finder_slots};

@@ -5,7 +5,7 @@ from collections.abc import Callable, Sequence
 from operator import index
 from typing import Any, ClassVar, TypeVar
 
-from pcidr._calls import MASK_ROOM, NAME_ROOM, Code, Value
+from pcidr._calls import MASK_ROOM, NAME_ROOM, Code, Special, Value
 from pcidr._library import Call, Values, array, calls, check, printed, read, sought
 
 S = TypeVar("S", bound="Shown")
@@ -22,6 +22,8 @@ class Shown:
     _read: ClassVar[Call]
     _print: ClassVar[Call]
     _order: ClassVar[Call]
+    _whole: ClassVar[Call]
+    _exploded: ClassVar[Call]
 
     def __init__(self, given: Any) -> None:
         self._value = read(type(self)._read, given) if isinstance(given, str) else self._read_other(given)
@@ -81,6 +83,23 @@ class Shown:
         check(call(self._value, out), self)
         return _classes[0]._of(out)
 
+    def _by(self, call: Call) -> str:
+        """The string that a call prints; `any` has some that are none."""
+        shown = printed(call, self._value, MASK_ROOM)
+        if not shown:
+            raise ValueError("any has addresses of two families")
+        return shown
+
+    @property
+    def compressed(self) -> str:
+        """The string, with the prefix length of a network or a host also where that is full. `any` raises `ValueError`."""
+        return self._by(type(self)._whole)
+
+    @property
+    def exploded(self) -> str:
+        """The same with all digits of IPv6, eight groups of four."""
+        return self._by(type(self)._exploded)
+
     @property
     def version(self) -> int | None:
         """4 or 6, or None for the network `any`."""
@@ -119,40 +138,40 @@ class Shown:
         """The inverse of the mask, as an address: 0.0.0.255 of a /24. `any` has none, and raises `ValueError`."""
         return self._part(calls.host_mask)
 
-    def _has_all(self, call: Call) -> bool:
-        """Whether a call says yes of all of its addresses."""
-        raise NotImplementedError
+    def _is(self, call: Call) -> bool:
+        """What a call says of an address or a network."""
+        return call(self._value) == 1
 
     @property
     def is_private(self) -> bool:
         """Whether it is private: in 10.0.0.0/8, 172.16.0.0/12, 192.168.0.0/16 or fc00::/7. `ipaddress` calls private
         what is not globally reachable."""
-        return self._has_all(calls.is_private)
+        return self._is(calls.is_private)
 
     @property
     def is_loopback(self) -> bool:
         """Whether it is in 127.0.0.0/8, or is ::1."""
-        return self._has_all(calls.is_loopback)
+        return self._is(calls.is_loopback)
 
     @property
     def is_link_local(self) -> bool:
         """Whether it is in 169.254.0.0/16 or fe80::/10."""
-        return self._has_all(calls.is_link_local)
+        return self._is(calls.is_link_local)
 
     @property
     def is_multicast(self) -> bool:
         """Whether it is in 224.0.0.0/4 or ff00::/8."""
-        return self._has_all(calls.is_multicast)
+        return self._is(calls.is_multicast)
 
     @property
     def is_unspecified(self) -> bool:
         """Whether it is 0.0.0.0 or ::."""
-        return self._has_all(calls.is_unspecified)
+        return self._is(calls.is_unspecified)
 
     @property
     def is_documentation(self) -> bool:
         """Whether it is in a block for documentation, as 192.0.2.0/24 and 2001:db8::/32 are."""
-        return self._has_all(calls.is_documentation)
+        return self._is(calls.is_documentation)
 
 
 class _Mapped(Shown):
@@ -174,20 +193,29 @@ class _Mapped(Shown):
     def reverse_pointer(self) -> str:
         """Its domain name in reverse DNS: ``1.2.0.192.in-addr.arpa``. A network whose prefix doesn't end at a label of
         such a name, 8 bits or 4 in IPv6, raises `ValueError`."""
-        name = printed(calls.print_reverse_name, self._value, NAME_ROOM)
-        if not name:
-            raise ValueError(f"{self} has no name in reverse DNS")
-        return name
+        return _name(self, self._value)
 
 
-class OfAddress(_Mapped):
+class _Addressed(Shown):
+    """What addresses and hosts have alike."""
+
+    __slots__ = ()
+
+    def __int__(self) -> int:
+        return self._value.high << 64 | self._value.low
+
+    @property
+    def packed(self) -> bytes:
+        """The bytes of the address, the highest first: 4 or 16."""
+        return int(self).to_bytes(4 if self._value.tag < 64 else 16, "big")
+
+
+class OfAddress(_Mapped, _Addressed):
     """What addresses have."""
 
     __slots__ = ()
     _read, _print, _order = calls.read_address, calls.print_address, calls.compare
-
-    def __int__(self) -> int:
-        return self._value.high << 64 | self._value.low
+    _whole, _exploded = calls.print_address, calls.print_exploded_address
 
     def __add__(self, count: int) -> Any:
         return self._moved(index(count)) if isinstance(count, int) else NotImplemented
@@ -205,18 +233,22 @@ class OfAddress(_Mapped):
         return type(self)._of(Value(out.high, out.low, value.tag))
 
     @property
-    def packed(self) -> bytes:
-        """The bytes of the address, the highest first: 4 or 16."""
-        return int(self).to_bytes(4 if self._value.tag < 64 else 16, "big")
-
-    def _has_all(self, call: Call) -> bool:
-        return call(self._value) == 1
+    def special_entry(self) -> Any:
+        """The entry of the longest block for special purposes that it is in, or None."""
+        out = Special()
+        code = calls.special_entry(self._value, out)
+        if code == Code.NONE:
+            return None
+        check(code, self)
+        columns = out.source, out.destination, out.forwardable, out.globally_reachable, out.reserved_by_protocol
+        tag = (0 if self._value.tag < 64 else 64) + out.len
+        return _functions[2](out.high, out.low, tag, out.purpose, out.rfc, *columns)
 
     @property
     def is_global(self) -> bool:
         """Whether it is globally reachable by the registries of IANA: where it is in none of their blocks, or in one
         that they say so of."""
-        return self._has_all(calls.is_global)
+        return self._is(calls.is_global)
 
     @property
     def sixtofour(self) -> Any:
@@ -229,11 +261,12 @@ class OfAddress(_Mapped):
         return sought(_classes[0]._of, calls.ipv4_nat64, self._value)
 
 
-class OfHost(Shown):
+class OfHost(_Addressed):
     """What hosts have."""
 
     __slots__ = ()
     _read, _print, _order = calls.read_host, calls.print_host, calls.compare_hosts
+    _whole, _exploded = calls.print_host_with_length, calls.print_exploded_host
 
     @property
     def ip(self) -> Any:
@@ -247,13 +280,28 @@ class OfHost(Shown):
         check(calls.network(self._value, out))
         return _classes[1]._of(out)
 
-    def _has_all(self, call: Call) -> bool:
+    def _is(self, call: Call) -> bool:
         return call(self.ip._value) == 1
+
+    @property
+    def reverse_pointer(self) -> str:
+        """The domain name of the address in reverse DNS: ``1.2.0.192.in-addr.arpa``."""
+        return _name(self, self.ip._value)
 
     @property
     def with_prefixlen(self) -> str:
         """The string with its prefix length also where that is full: ``192.0.2.1/32``."""
         return printed(calls.print_host_with_length, self._value)
+
+    @property
+    def with_netmask(self) -> str:
+        """The string with the mask in place of the prefix length: ``192.0.2.1/255.255.255.0``."""
+        return self._by(calls.print_host_with_mask)
+
+    @property
+    def with_hostmask(self) -> str:
+        """The string with the inverse of the mask in place of the prefix length: ``192.0.2.1/0.0.0.255``."""
+        return self._by(calls.print_host_with_host_mask)
 
 
 class OfNetwork(_Mapped):
@@ -261,6 +309,7 @@ class OfNetwork(_Mapped):
 
     __slots__ = ()
     _read, _print, _order = calls.read_network, calls.print_network, calls.compare
+    _whole, _exploded = calls.print_host_with_length, calls.print_exploded_host
 
     def __contains__(self, inner: Any) -> bool:
         return calls.contains(self._value, _functions[1](inner)) == 1
@@ -280,9 +329,33 @@ class OfNetwork(_Mapped):
         """The last address, which is that of broadcasts in IPv4."""
         return self._part(calls.last)
 
-    def _has_all(self, call: Call) -> bool:
-        """Such blocks are networks, and no network has the begin of one and the end of another."""
-        return call(self.first._value) == call(self.last._value) == 1
+    @property
+    def _first_usable(self) -> Any:
+        """The first address that a host may have."""
+        return self._part(calls.first_usable)
+
+    @property
+    def _last_usable(self) -> Any:
+        """The last address that a host may have."""
+        return self._part(calls.last_usable)
+
+    def _beside(self, call: Call) -> Any:
+        made = sought(_classes[1]._of, call, self._value)
+        if made is None:
+            raise ValueError(f"there is no such network beside {self}")
+        return made
+
+    def next(self) -> Any:
+        """The network of the same length behind it; the last one raises `ValueError`."""
+        return self._beside(calls.next_network)
+
+    def previous(self) -> Any:
+        """The network of the same length before it; the first one raises `ValueError`."""
+        return self._beside(calls.previous_network)
+
+    def sibling(self) -> Any:
+        """The other half of the network that is twice as large; 0.0.0.0/0 and ::/0 raise `ValueError`."""
+        return self._beside(calls.sibling)
 
     @property
     def with_prefixlen(self) -> str:
@@ -292,22 +365,24 @@ class OfNetwork(_Mapped):
     @property
     def with_netmask(self) -> str:
         """The string with the mask in place of the prefix length: ``192.0.2.0/255.255.255.0``."""
-        return self._with(calls.print_with_mask)
+        return self._by(calls.print_with_mask)
 
     @property
     def with_hostmask(self) -> str:
         """The string with the inverse of the mask in place of the prefix length: ``192.0.2.0/0.0.0.255``."""
-        return self._with(calls.print_with_host_mask)
-
-    def _with(self, call: Call) -> str:
-        shown = printed(call, self._value, MASK_ROOM)
-        if not shown:
-            raise ValueError("any has addresses of two families")
-        return shown
+        return self._by(calls.print_with_host_mask)
 
 
-# The classes of addresses and of networks; functions: `check`, and the value of what stands for a network; and by the
-# tags the numbers of addresses.
+def _name(shown: Shown, value: Value) -> str:
+    """The name in reverse DNS of a value, which is that of an object or a part of it."""
+    name = printed(calls.print_reverse_name, value, NAME_ROOM)
+    if not name:
+        raise ValueError(f"{shown} has no name in reverse DNS")
+    return name
+
+
+# The classes of addresses and of networks; functions: `check`, the value of what stands for a network, and the entry of a
+# registry; and by the tags the numbers of addresses.
 _classes: list[type[Shown]] = []
 _functions: list[Callable[..., Any]] = []
 _counts: list[int] = []
@@ -318,10 +393,11 @@ def register(
     network: type[Shown],
     checked: Callable[..., Any],
     value_of: Callable[..., Any],
+    entry_made: Callable[..., Any],
     counts: Sequence[int],
 ) -> None:
     """Takes the classes and functions of the module."""
-    _classes[:], _functions[:], _counts[:] = (address, network), (checked, value_of), counts
+    _classes[:], _functions[:], _counts[:] = (address, network), (checked, value_of, entry_made), counts
 
 
 def values_of(shown: Sequence[Shown]) -> Values:

@@ -11,9 +11,9 @@ from itertools import count, takewhile
 from operator import index as integer
 from typing import TYPE_CHECKING, Any, NamedTuple, Union
 
-from pcidr._calls import FAULT_ROOM, NAME_ROOM, Code, Halves, Purpose, Special, Value
+from pcidr._calls import FAULT_ROOM, NAME_ROOM, Code, Halves, Purpose, Value
 from pcidr._kinds import OfAddress, OfHost, OfNetwork, Shown, each_of, register
-from pcidr._library import Call, array, calls, check, combined, printed, read, sought, tried
+from pcidr._library import array, calls, check, combined, printed, read, tried
 
 OfIpaddress = Union[ipaddress.IPv4Address, ipaddress.IPv6Address, ipaddress.IPv4Network, ipaddress.IPv6Network]
 Packed = Union[bytes, bytearray]
@@ -147,16 +147,6 @@ class _Common(Shown):
         """The same of the module `ipaddress`."""
         raise NotImplementedError
 
-    @property
-    def exploded(self) -> str:
-        """The string with all zeros of IPv6, as `ipaddress` writes it."""
-        return str(self.to_ipaddress().exploded)
-
-    @property
-    def compressed(self) -> str:
-        """The string as `ipaddress` writes it, which has the prefix length also where that is full."""
-        return str(self.to_ipaddress())
-
     family = renamed("family", "version")
     length = renamed("length", "prefixlen")
     mask = renamed("mask", "netmask")
@@ -174,6 +164,12 @@ class SpecialEntry(NamedTuple):
     forwardable: bool | None
     globally_reachable: bool | None
     reserved_by_protocol: bool | None
+
+
+def _entry(high: int, low: int, tag: int, purpose: int, rfc: int, *columns: int) -> SpecialEntry:
+    """The entry that the library has in numbers."""
+    shown = ((False, True, None)[column] for column in columns)
+    return SpecialEntry(Network._of(Value(high, low, tag)), Purpose(purpose), rfc, *shown)
 
 
 class Address(_Common, OfAddress):
@@ -195,6 +191,10 @@ class Address(_Common, OfAddress):
             ...
 
         @property
+        def special_entry(self) -> SpecialEntry | None:
+            ...
+
+        @property
         def sixtofour(self) -> Address | None:
             ...
 
@@ -209,18 +209,6 @@ class Address(_Common, OfAddress):
         if version not in _WIDTHS or not 0 <= exact < 1 << _WIDTHS[version]:
             raise ValueError(f"no address of IPv{version}: {number}")
         return cls._of(_numbered(exact, _ADDRESS_TAGS[version]))
-
-    @property
-    def special_entry(self) -> SpecialEntry | None:
-        """The entry of the longest block for special purposes that it is in, or None."""
-        out = Special()
-        code = calls.special_entry(self._value, out)
-        if code == Code.NONE:
-            return None
-        check(code, self)
-        block = Network._of(Value(out.high, out.low, (0 if self.version == 4 else 64) + out.len))
-        columns = out.source, out.destination, out.forwardable, out.globally_reachable, out.reserved_by_protocol
-        return SpecialEntry(block, Purpose(out.purpose), out.rfc, *((False, True, None)[column] for column in columns))
 
     def __bytes__(self) -> bytes:
         return self.packed
@@ -262,32 +250,10 @@ class Host(_Common, OfHost):
             raise wrong
         self._become(masked)
 
-    @property
-    def reverse_pointer(self) -> str:
-        """The domain name of the address in reverse DNS: ``1.2.0.192.in-addr.arpa``."""
-        return self.ip.reverse_pointer
-
-    @property
-    def with_netmask(self) -> str:
-        """The string with the mask in place of the prefix length: ``192.0.2.1/255.255.255.0``."""
-        return f"{self.ip}/{self.netmask}"
-
-    @property
-    def with_hostmask(self) -> str:
-        """The string with the inverse of the mask in place of the prefix length: ``192.0.2.1/0.0.0.255``."""
-        return f"{self.ip}/{self.hostmask}"
-
-    @property
-    def packed(self) -> bytes:
-        """The bytes of the address, the highest first: 4 or 16."""
-        return self.ip.packed
-
-    def __int__(self) -> int:
-        return int(self.ip)
-
     def to_ipaddress(self) -> ipaddress.IPv4Interface | ipaddress.IPv6Interface:
         """The same host of the module `ipaddress`, which calls it an interface."""
-        return ipaddress.ip_interface(self.with_prefixlen)
+        parts = int(self), self.prefixlen
+        return ipaddress.IPv4Interface(parts) if self.version == 4 else ipaddress.IPv6Interface(parts)
 
     address = renamed("address", "ip")
     with_length = renamed("with_length", "with_prefixlen")
@@ -315,6 +281,15 @@ class Network(_Common, OfNetwork):
             ...
 
         def __contains__(self, inner: AnyNetwork) -> bool:
+            ...
+
+        def next(self) -> Network:
+            ...
+
+        def previous(self) -> Network:
+            ...
+
+        def sibling(self) -> Network:
             ...
 
     def __init__(self, given: AnyHost, strict: bool = True) -> None:
@@ -387,30 +362,11 @@ class Network(_Common, OfNetwork):
             yield from each_of(Network, room, count.value)
             place += _SUBNETS
 
-    def _beside(self, call: Call) -> Network:
-        self._own_length()
-        made = sought(Network._of, call, self._value)
-        if made is None:
-            raise ValueError(f"there is no such network beside {self}")
-        return made
-
-    def next(self) -> Network:
-        """The network of the same length behind it; the last one raises `ValueError`."""
-        return self._beside(calls.next_network)
-
-    def previous(self) -> Network:
-        """The network of the same length before it; the first one raises `ValueError`."""
-        return self._beside(calls.previous_network)
-
-    def sibling(self) -> Network:
-        """The other half of the network that is twice as large; 0.0.0.0/0 and ::/0 raise `ValueError`."""
-        return self._beside(calls.sibling)
-
     def hosts(self) -> Iterator[Address]:
         """The addresses that hosts may have: in IPv4 all but the first and the last one, and of a network of one or two
         addresses these; in IPv6 all, of which `ipaddress` leaves the first one out."""
         self._own_length()
-        first, last = self._part(calls.first_usable), self._part(calls.last_usable)
+        first, last = self._first_usable, self._last_usable
         return (Address.from_int(number, first.version) for number in range(int(first), int(last) + 1))
 
     @classmethod
@@ -435,8 +391,8 @@ class Network(_Common, OfNetwork):
 
     def to_ipaddress(self) -> ipaddress.IPv4Network | ipaddress.IPv6Network:
         """The same network of the module `ipaddress`, which has none that is like `any`."""
-        self._own_length()
-        return ipaddress.ip_network(self.with_prefixlen)
+        parts = int(self.first), self.prefixlen
+        return ipaddress.IPv4Network(parts) if self.version == 4 else ipaddress.IPv6Network(parts)
 
     def __bool__(self) -> bool:
         return True  # each network has an address; `len`, which `bool` would ask, stops at 2^63
@@ -473,6 +429,6 @@ class Network(_Common, OfNetwork):
 
 # By the tags, how many addresses a network has.
 _COUNTS = tuple(1 << (32 if tag < 33 else 192) - tag if tag < 33 or 64 <= tag < 193 else 0 for tag in range(255))
-register(Address, Network, check, network_value, (*_COUNTS, 2**32 + 2**128))
+register(Address, Network, check, network_value, _entry, (*_COUNTS, 2**32 + 2**128))
 for _kind in (Address, Host, Network, SpecialEntry, Purpose):
     _kind.__module__ = "pcidr"

@@ -108,6 +108,21 @@ class OfIpaddress(unittest.TestCase):
                     if name in ("with_netmask", "with_hostmask"):  # Python 3.13 writes ::ffff:0:0/96 with dots
                         found, wanted = (list(map(ipaddress.ip_address, text.split("/"))) for text in (found, wanted))
                     self.assertEqual(found, wanted, (theirs, name))
+                if kind is not Network:
+                    self.assertEqual(int(ours), int(theirs))
+
+    def test_strings_with_all_digits(self):
+        wanted = {
+            Address("::ffff:192.0.2.1"): ("::ffff:192.0.2.1", "0000:0000:0000:0000:0000:ffff:c000:0201"),
+            Host("::ffff:192.0.2.1/100"): ("::ffff:192.0.2.1/100", "0000:0000:0000:0000:0000:ffff:c000:0201/100"),
+            Network("2001:db8::/32"): ("2001:db8::/32", "2001:0db8:0000:0000:0000:0000:0000:0000/32"),
+            Network("10.0.0.0"): ("10.0.0.0/32", "10.0.0.0/32"),
+        }
+        for value, both in wanted.items():
+            self.assertEqual((value.compressed, value.exploded), both)
+        for name in ("compressed", "exploded"):
+            with self.assertRaises(ValueError):
+                getattr(Network("any"), name)
 
     def test_special_purposes(self):
         names = ("is_multicast", "is_loopback", "is_link_local", "is_unspecified")
@@ -128,6 +143,8 @@ class OfIpaddress(unittest.TestCase):
                 self.assertEqual(getattr(Address(address), name), any(address in block for block in same), address)
             if Address(address).is_private:
                 self.assertTrue(address.is_private)
+        names += ("is_private", "is_documentation")
+        self.assertEqual({getattr(Network(text), name) for text in ("any", "0.0.0.0/0", "::/0") for name in names}, {False})
         shown = [Address(text).is_global for text in ("8.8.8.8", "10.1.2.3", "100.64.0.1", "2600::1", "fe80::1")]
         self.assertEqual(shown, [True, False, False, True, False])
 
@@ -358,6 +375,13 @@ class OfIpaddress(unittest.TestCase):
         self.assertEqual(list(NetworkSet.from_text("")), [])
         self.assertEqual(NetworkSet.from_text("0.0.0.0/0\n::/0").to_strings(), ["0.0.0.0/0", "::/0"])
         self.assertEqual(NetworkSet.from_text("192.0.2.7/24", strict=False), NetworkSet(["192.0.2.0/24"]))
+        for masked in ("192.0.2.0/255.255.255.0", "192.0.2.0 255.255.255.0", "192.0.2.0\t0.0.0.255 # ours", "192.0.2.0/24"):
+            self.assertEqual(NetworkSet.from_text(masked, masks=True), NetworkSet(["192.0.2.0/24"]))
+            self.assertEqual(NetworkSet.from_text(masked.replace(".0/", ".9/"), strict=False, masks=True), NetworkSet(["192.0.2.0/24"]))
+            if masked != "192.0.2.0/24":
+                for strict in (True, False):
+                    with self.assertRaises(ValueError):
+                        NetworkSet.from_text(masked, strict=strict)
         faults = {
             "::1\n192.0.2.7/24": "line 2: 192.0.2.7/24: host bits set; the network is 192.0.2.0/24",
             "::1\n\n10.0.0.9-10.0.0.1\nx": "line 3: 10.0.0.9-10.0.0.1: the first address of the range is above the last one",
@@ -369,19 +393,20 @@ class OfIpaddress(unittest.TestCase):
             with self.assertRaises(ValueError) as raised:
                 NetworkSet.from_text(given)
             self.assertEqual(str(raised.exception), message)
+        masked = {
+            "192.0.2.7 255.255.255.0": "line 1: 192.0.2.7 255.255.255.0: host bits set; the network is 192.0.2.0/24",
+            "::1\n192.0.2.0/255.0.255.0": "line 2: 192.0.2.0/255.0.255.0: couldn't parse length in network: invalid length text",
+        }
+        for given, message in masked.items():
+            with self.assertRaises(ValueError) as raised:
+                NetworkSet.from_text(given, masks=True)
+            self.assertEqual(str(raised.exception), message)
         for given in (None, 5, ["10.0.0.0/8"]):
             with self.assertRaises(TypeError):
                 NetworkSet.from_text(given)
 
     def test_lists_of_random_ranges(self):
         for _ in range(200):
-        for masked in ("192.0.2.0/255.255.255.0", "192.0.2.0 255.255.255.0", "192.0.2.0\t0.0.0.255 # ours", "192.0.2.0/24"):
-            self.assertEqual(NetworkSet.from_text(masked, masks=True), NetworkSet(["192.0.2.0/24"]))
-            self.assertEqual(NetworkSet.from_text(masked.replace(".0/", ".9/"), strict=False, masks=True), NetworkSet(["192.0.2.0/24"]))
-            if masked != "192.0.2.0/24":
-                for strict in (True, False):
-                    with self.assertRaises(ValueError):
-                        NetworkSet.from_text(masked, strict=strict)
             lines, networks = [], []
             for _ in range(RANDOM.randrange(20)):
                 first, last = sorted((any_address(), any_address()), key=int)
@@ -393,14 +418,20 @@ class OfIpaddress(unittest.TestCase):
                     lines.append(str(networks[-1]))
                 lines[-1] = RANDOM.choice(("", " ", "\t")) + lines[-1] + RANDOM.choice(("", " ", "#x", "\r", " ; 10.0.0.0/8\r"))
             self.assertEqual(NetworkSet.from_text("\n".join(lines)), NetworkSet(networks))
-        masked = {
-            "192.0.2.7 255.255.255.0": "line 1: 192.0.2.7 255.255.255.0: host bits set; the network is 192.0.2.0/24",
-            "::1\n192.0.2.0/255.0.255.0": "line 2: 192.0.2.0/255.0.255.0: couldn't parse length in network: invalid length text",
-        }
-        for given, message in masked.items():
-            with self.assertRaises(ValueError) as raised:
-                NetworkSet.from_text(given, masks=True)
-            self.assertEqual(str(raised.exception), message)
+
+    def test_lists_of_random_masks(self):
+        for _ in range(200):
+            hosts = [any_host() for _ in range(RANDOM.randrange(20))]
+            lines = []
+            for host in hosts:
+                masks = [host.netmask, host.hostmask]
+                # the mask of no bits and that of all are those of both kinds, and then network masks
+                mask = RANDOM.choice(masks[: 1 + (0 < host.network.prefixlen < host.max_prefixlen)])
+                lines.append(f"{host.ip}{RANDOM.choice('/ ')}{mask}")
+            networks = [host.network for host in hosts]
+            self.assertEqual(NetworkSet.from_text("\n".join(lines), strict=False, masks=True), NetworkSet(networks))
+            lines = [line.replace(str(host.ip), str(host.network[0]), 1) for line, host in zip(lines, hosts)]
+            self.assertEqual(NetworkSet.from_text("\n".join(lines), masks=True), NetworkSet(networks))
 
     def test_exclusion(self):
         for _ in range(1000):
@@ -419,20 +450,6 @@ class OfIpaddress(unittest.TestCase):
             one, other = (ipaddress.ip_network(near_text().replace("any", "::/0")) for _ in range(2))
             ours = Network(one)
             self.assertEqual(ours.overlaps(other), one.version == other.version and one.overlaps(other))
-    def test_lists_of_random_masks(self):
-        for _ in range(200):
-            hosts = [any_host() for _ in range(RANDOM.randrange(20))]
-            lines = []
-            for host in hosts:
-                masks = [host.netmask, host.hostmask]
-                # the mask of no bits and that of all are those of both kinds, and then network masks
-                mask = RANDOM.choice(masks[: 1 + (0 < host.network.prefixlen < host.max_prefixlen)])
-                lines.append(f"{host.ip}{RANDOM.choice('/ ')}{mask}")
-            networks = [host.network for host in hosts]
-            self.assertEqual(NetworkSet.from_text("\n".join(lines), strict=False, masks=True), NetworkSet(networks))
-            lines = [line.replace(str(host.ip), str(host.network[0]), 1) for line, host in zip(lines, hosts)]
-            self.assertEqual(NetworkSet.from_text("\n".join(lines), masks=True), NetworkSet(networks))
-
             self.assertEqual(ours.subnet_of(other), one.version == other.version and one.subnet_of(other))
             self.assertEqual(ours.supernet_of(other), one.version == other.version and one.supernet_of(other))
             self.assertEqual(ours == Network(other), one == other)
@@ -975,13 +992,16 @@ class Memory(unittest.TestCase):
             lambda: (Address("2001:db8::1"), Address(b"four"), Network("10.0.0.0/8"), Host("::5/64"), str(host)),
             lambda: (network.first, network.last, network.netmask, network.version, host.ip, host.network),
             lambda: (address in network, network < network, address == address, hash(address), int(address)),
-            lambda: (address.packed, address + 1, repr(network), network.prefixlen),
+            lambda: (address.packed, address + 1, repr(network), network.prefixlen, host.packed, host.reverse_pointer),
+            lambda: (address.exploded, network.exploded, host.exploded, host.compressed, host.with_netmask, host.with_hostmask),
+            lambda: (address.special_entry, Address("8.8.8.8").special_entry, network.next(), network.sibling(), int(host)),
             lambda: (table.lookup("10.1.2.3"), table.lookup(address), table.lookup("::1"), table.lookup("10.0.0.0/9")),
             lambda: ("10.1.2.3" in held, address in held, network in held, "::/65" in held),
             lambda: (pcidr.parse_networks(["10.0.0.0/8"] * 5), pcidr.print_networks([network] * 5), list(held)),
             lambda: table.lookup_packed(b"tens" * 10)[3],
         )
         wrong = (lambda: Address("x"), lambda: Address("\ud800"), lambda: address - 2**40, lambda: Network("any").first,
+                 lambda: Network("any").exploded, lambda: Network("::/0").next(), lambda: Network("any").sibling(),
                  lambda: "x" in network, lambda: table.lookup("x"), lambda: address + 2**200, lambda: 5 in network)
 
         def turn(count):
@@ -1012,11 +1032,12 @@ class Memory(unittest.TestCase):
         table.lookup_each(["::"])
 
         def turn(count):
-            for _ in range(count):  # of 25 calls
+            for _ in range(count):  # of 31 calls
                 Address("10.1.2.3"), Address("2001:db8::1"), Network("10.0.0.0/8"), Host("::5/64"), address.packed
                 network.first, network.last, network.netmask, network.prefixlen, host.ip, host.network, str(address)
                 "10.1.2.3" in network, address in network, address < address, network == network, hash(network)
                 address + 1, int(address), address.is_private, "::1" in held, address in held
+                address.exploded, host.with_netmask, network.is_private, network.next(), host.packed, address.special_entry
                 table.lookup("10.1.2.3"), table.lookup(address)
                 with contextlib.suppress(ValueError):
                     Address("x")

@@ -1,4 +1,4 @@
-"""The module in a process: in more than one interpreter, and in folders with any name."""
+"""The module in a process: in more than one interpreter, in folders with any name, and what it makes once."""
 import os
 import shutil
 import subprocess
@@ -35,6 +35,62 @@ check()
 print("first")
 """
 
+# Of each entry of the registries an address. The entries of a process that has asked for none are made once, whoever asks for
+# them: threads at once, and somebody before each opcode of the call that makes one.
+ENTRIES = """
+import random, sys, threading
+from pcidr import Address, _kinds, _values
+texts = '''
+0.255.255.255 0.0.0.0 10.0.0.0 100.64.0.0 127.0.0.0 169.254.0.0 172.16.0.0 192.0.0.255 192.0.0.0 192.0.0.8 192.0.0.9
+192.0.0.10 192.0.0.170 192.0.0.171 192.0.2.0 192.31.196.0 192.52.193.0 192.88.99.0 192.88.99.2 192.168.0.0 192.175.48.0
+198.18.0.0 198.51.100.0 203.0.113.0 240.0.0.0 255.255.255.255 ::1 :: ::ffff:0:0 64:ff9b:: 64:ff9b:1:: 100:: 100:0:0:1::
+2001:1ff:ffff:ffff:ffff:ffff:ffff:ffff 2001:: 2001:1::1 2001:1::2 2001:1::3 2001:2:: 2001:3:: 2001:4:112:: 2001:10::
+2001:20:: 2001:30:: 2001:db8:: 2002:: 2620:4f:8000:: 3fff:: 5f00:: fc00:: fe80::
+'''.split()
+seen = {}
+def by_threads():
+    sys.setswitchinterval(1e-6)
+    start, found = threading.Barrier(8), [None] * 8
+    def ask(place):
+        order = random.Random(place).sample(texts, len(texts))
+        start.wait()
+        found[place] = {text: [Address(text).special_entry for _ in range(3)] for text in order}
+    threads = [threading.Thread(target=ask, args=(place,)) for place in range(8)]
+    for each in threads:
+        each.start()
+    for each in threads:
+        each.join()
+    assert all(each[text] == [found[0][text][0]] * 3 for each in found for text in texts)
+    seen.update({text: found[0][text][0] for text in texts})
+def by_opcodes():
+    for place, text in enumerate(texts):
+        left = [place]
+        def hook(frame, event, argument):
+            if frame.f_code is not _values._entry.__code__:
+                return None
+            frame.f_trace_opcodes = True
+            if event == "opcode":
+                left[0] -= 1
+                if left[0] == -1:
+                    sys.settrace(None)
+                    inner.append((Address(text).special_entry, Address(texts[place - 1]).special_entry))
+            return hook
+        inner = []
+        sys._getframe().f_trace_opcodes = True
+        sys.settrace(hook)
+        made = Address(text).special_entry
+        sys.settrace(None)
+        assert all(each == (made, Address(texts[place - 1]).special_entry) for each in inner)
+        seen[text] = made
+WAY()
+for text, entry in seen.items():
+    address = Address(text)
+    assert address in entry.network and address.special_entry == entry
+    assert not _kinds.IS_FAST or address.special_entry is address.special_entry
+assert len(set(seen.values())) == 51
+print("as wanted")
+"""
+
 
 def output(program: str, **environment: str) -> str:
     """What a program in another process prints."""
@@ -46,6 +102,10 @@ class Process(unittest.TestCase):
     @unittest.skipIf(sys.version_info < (3, 11), "there is no extension")
     def test_two_interpreters(self):
         self.assertEqual(sorted(output(TWO_INTERPRETERS).split()), ["first", "second"])
+
+    def test_entries_of_the_registries(self):
+        for way in ("by_threads", "by_opcodes"):
+            self.assertEqual(output(ENTRIES.replace("WAY", way)), "as wanted\n")
 
     def test_a_folder_whose_name_is_not_utf8(self):
         with tempfile.TemporaryDirectory() as room:
