@@ -22,6 +22,7 @@ pub mod Orders
 pub mod Places
 pub mod Readings
 pub mod Related
+pub mod PrintedBoth
 pub mod RuleLists
 pub mod Sought
 pub mod SubnetLists

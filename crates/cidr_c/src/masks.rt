@@ -16,9 +16,7 @@ ghost use Rattle.cidr_c.specs.model.Values.{IsAddressValue, IsHostValue, IsIpNet
 use crate::around::host_mask;
 use crate::codes::{NO_VALUE, NOT_UTF8, OK, mask_code};
 use crate::finding::put_plain;
-use crate::printing::print;
 use crate::values::{CValue, address_of, host_of, ip_network_of, put_ip_network};
-use arrayvec::ArrayString;
 use cidr::{IpAddr, IpCidr};
 use cidr_ext::{AddressExt, CidrMaskText};
 
@@ -56,7 +54,7 @@ pub extern "C" fn pcidr_print_with_mask(host: &CValue, out: &mut [u8]) -> usize
     ensures other { ¬ (IsHostValue host.now) → IsUnprinted out.old out.new result }
 {
     match ip_network_of(host) {
-        Some(network) => print(network.to_mask_text().as_str(), out),
+        Some(network) => print_masked(&network.first_address(), &network.mask(), out),
         None => 0,
     }
 }
@@ -69,7 +67,7 @@ pub extern "C" fn pcidr_print_with_host_mask(host: &CValue, out: &mut [u8]) -> u
     ensures other { ¬ (IsHostValue host.now) → IsUnprinted out.old out.new result }
 {
     match ip_network_of(host) {
-        Some(network) => print(network.to_host_mask_text().as_str(), out),
+        Some(network) => print_masked(&network.first_address(), &host_mask(&network), out),
         None => 0,
     }
 }
@@ -104,11 +102,17 @@ pub extern "C" fn pcidr_print_host_with_host_mask(host: &CValue, out: &mut [u8])
 fn print_masked(address: &IpAddr, mask: &IpAddr, out: &mut [u8]) -> usize
     ensures { IsPrintedInto (ip_text address.now ++ slash ∷ ip_text mask.now) out.old out.new result }
 {
-    let mut text = ArrayString::<79>::new();
-    text.push_str(address.to_text().as_str());
-    text.push('/');
-    text.push_str(mask.to_text().as_str());
-    print(text.as_str(), out)
+    let address = address.to_text();
+    let mask = mask.to_text();
+    let slash = address.len();
+    let end = slash + 1 + mask.len();
+    if end < out.len() {
+        out[..slash].copy_from_slice(address.as_str().as_bytes());
+        out[slash] = b'/';
+        out[slash + 1..end].copy_from_slice(mask.as_str().as_bytes());
+        out[end] = 0;
+    }
+    end
 }
 
 /// Reads a network with a network mask or a host mask in place of the prefix length: 0 and the network in `out`, or the
