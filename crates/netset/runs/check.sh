@@ -136,6 +136,8 @@ rows_of_arguments() {
 --masks                 a network in a list may have a mask in place of its prefix length, as
                         192.0.2.0/255.255.255.0 and 192.0.2.0 0.0.0.255
 -k                      each line of a list in error is told, and not only the first
+--skip-bad              each line of a list in error is told, and the answer is that of the other
+                        lines; the status is 2 then, or 3; it goes neither with -k nor with -o
 --format NAME           how the networks are written: plain, json, nft, ipset, iptables,
                         cisco, juniper or bird
 --prefix TEXT, --suffix TEXT
@@ -951,6 +953,50 @@ rows_of_all_errors() {
     run 2 '' $'--host-bits: no such option, see: netset help check\n' '' check -k --host-bits
 }
 
+# The answer without the lines in error.
+rows_of_skipped_lines() {
+    local host=$'host bits set; the network is 10.0.0.0/8\n' none=$'couldn\'t parse address in network: invalid IP address syntax\n'
+    run 0 $'10.0.0.0/8\n' '' '10.128.0.0/9\n10.0.0.0/9' merge --skip-bad
+    run 2 $'10.0.0.1\n' "-:1: 10.0.0.1/8: $host-:3: x: $none-:4: \xff: not UTF-8"$'\n' '10.0.0.1/8\n10.0.0.1\nx\n\xff\n' merge --skip-bad
+    run 2 $'10.0.0.0/8\n' "-:3: x: $none-:4: \xff: not UTF-8"$'\n' '10.0.0.1/8\n10.0.0.1\nx\n\xff' merge --host-bits --skip-bad
+    run 2 '' "-:1: x: $none" 'x' merge --skip-bad
+    run 2 '' "-:1: x: $none" 'x\r\n' nets --skip-bad -
+    run 2 $'11.0.0.0/8\n' "-:1: x: $none" 'x\n11.0.0.0/8\n10.0.0.0/8' minus --skip-bad - ten
+    run 2 $'10.0.0.0/8\n' "-:2: x: ${none}hosts:1: 10.0.0.7/8: ${host}-:2: x: $none" '10.0.0.0/8\nx' minus --skip-bad ten hosts
+    run 2 '' "-:2: x: $none" '10.0.0.0/9\nx\n10.128.0.0/9' minus --skip-bad ten -
+    run 2 $'10.0.0.0/9\n' "-:2: x: $none" '10.0.0.0/9\nx' and --skip-bad ten -
+    run 2 $'10.128.0.0/9\n' "-:1: x: $none" 'x\n10.0.0.0/9' not --skip-bad --in 10.0.0.0/8
+    run 2 '{"network":"10.0.0.0/8","first":"10.0.0.0","last":"10.255.255.255","length":8,"family":"IPv4"}'$'\n' "-:2: x: $none" '10.0.0.0/8\nx' merge --skip-bad --format json
+    run 2 $'10.0.0.0-10.255.255.255\n' "-:1: x: $none" 'x\n10.0.0.0/8' ranges --skip-bad
+    run 2 $'IPv4 1\nIPv6 0\n' "-:1: x: $none" 'x\n::1 x\n10.0.0.1' count --skip-bad
+    run 2 $'-10.0.0.0/8\n' "hosts:1: 10.0.0.7/8: $host" '' diff --skip-bad ten hosts
+    run 2 '' "-:1: x: $none" 'x\n10.0.0.0/8' diff --skip-bad ten -
+    run 2 $'10.0.0.0/9\n' "-:2: x: $none" '10.128.0.0/9\nx' free --skip-bad 10.0.0.0/8 9 -
+    run 2 '' "-:2: x: $none" '10.0.0.0/8\nx' free --skip-bad ten 8 -
+    run 2 $'-:1: inside 10.0.0.0/8 at ten:1\n-:3: repeats ten:1\n' "-:2: x: $none" '10.1.0.0/16\nx\n10.0.0.0/8' check --skip-bad ten -
+    run 2 '' "-:1: x: $none" 'x\n10.0.0.1' check --skip-bad
+    run 2 $'-:3: 10.0.0.0/8\n' "-:1: x: $none" 'x\n\n10.0.0.0/8' which --skip-bad 10.0.0.1
+    run 2 $'10.0.0.1 a\n10.2.0.0/16 c\n' "-:1: x: $none" 'x\n10.0.0.0/8' match --skip-bad - seen
+    run 2 $'seen:10.0.0.1 a\nseen:10.2.0.0/16 c\nten:10.0.0.0/8\n' "-:1: x: $none" 'x\n10.0.0.0/8' match --skip-bad - seen ten
+    run 2 '' "hosts:1: 10.0.0.7/8: ${host}-:1: x: $none" 'x\ny' match --skip-bad hosts
+    run 2 $'10.0.0.1 10.0.0.0/8 west\n' "-:2: x: $none" '10.0.0.0/8 west\nx east' look --skip-bad - address
+    run 2 $'10.0.0.1 -\n' "hosts:1: 10.0.0.7/8: $host" '10.0.0.1' look --skip-bad hosts
+    run 2 $'10.0.0.0/9\n10.128.0.0/9\n' "-:2: x: $none" '10.0.0.0/8\nx' split --skip-bad - 9
+    run 2 $'10.in-addr.arpa\n' "-:2: x: $none" '10.0.0.0/8\nx' reverse --skip-bad -
+    run 2 $'10.0.0.0 255.0.0.0 0.255.255.255\n' "-:1: x: $none" 'x\n10.0.0.0/8' mask --skip-bad -
+    run 2 '' "hosts:1: 10.0.0.7/8: ${host}missing: no such file"$'\n' '' and --skip-bad hosts missing hosts
+    run 2 '' "10.0.0.1/8: $host" '' not --skip-bad --in 10.0.0.1/8 hosts
+    run 2 '' $'-: standard input can be read only once\n' 'x' diff --skip-bad - -
+    run 2 '' $'-k: not with --skip-bad, see: netset help merge\n' '' merge --skip-bad -k missing
+    run 2 '' $'-k: not with --skip-bad, see: netset help check\n' '' check -k --skip-bad
+    run 2 '' $'-o: not with --skip-bad, see: netset help merge\n' '' merge -o answer --skip-bad missing
+    run 2 '' $'-k: not with --skip-bad, see: netset help not\n' '' not -o answer -k --skip-bad
+    run 2 '' $'--skip-bad: no such option, see: netset help compile\n' '' compile --skip-bad ten compiled
+    run 2 '' $'--skip-bad: no such option, see: netset help acl\n' '' acl --skip-bad rules
+    run 2 '' $'--skip-bad: no such option, see: netset help show\n' '' show --skip-bad ::1
+    run 2 '' $'--skip-bad=1: no such option, see: netset help merge\n' '' merge --skip-bad=1
+}
+
 # More than one block of 8192 bytes, in order.
 long_list() {
     local input output
@@ -977,6 +1023,7 @@ rows_of_long_lines() {
     run 2 '' "-:1: $told" "$long" merge
     run 2 '' "-:2: $told" "10.0.0.0\n$long\nx" merge
     run 2 '' "-:1: $told-:3: x: couldn't parse address in network: invalid IP address syntax"$'\n' "$long$fits$long\n::1\nx" merge -k
+    run 2 $'::1\n' "-:1: $told-:3: x: couldn't parse address in network: invalid IP address syntax"$'\n' "$long$fits$long\n::1\nx" merge --skip-bad
     run 2 '' "-:2: $told" "#\n# $fits\n" check
     run 0 '' '' "$fits\n" check
     run 2 $'10.0.0.2 10.0.0.0/8 ten\n' "-:2: $told" "10.0.0.2\n$long\n10.0.0.1" look owners
@@ -1041,6 +1088,8 @@ rows_where_a_stream_fails() {
     run 1 '' '' '' free ten 7 eight
     run 3 '' $'output failed\n' '' check ten ten
     run 0 '' '' '' check ten
+    run 3 '' $'-:1: 10.0.0.1/8: host bits set; the network is 10.0.0.0/8\noutput failed\n' '10.0.0.1/8' merge --skip-bad - ten
+    run 2 '' $'-:1: 10.0.0.1/8: host bits set; the network is 10.0.0.0/8\n' '10.0.0.1/8' merge --skip-bad
     run 3 '' $'output failed\n' '' ranges ten
     run 3 '' $'output failed\n' '10.2.0.1' look owners
     run 3 '' $'output failed\n' '10.2.0.1\nx' look owners
@@ -1074,6 +1123,7 @@ rows_where_a_stream_fails() {
     output_file=$room/output
     run 0 $'10.0.0.0/8\n' '' '10.0.0.0/8' merge
     run 2 '' '' 'x' merge
+    run 2 $'10.0.0.0/8\n' '' 'x\n10.0.0.0/8' merge --skip-bad
 }
 
 # refuse INPUT ARGUMENT..: runs the program with its first allocation refused, with its second one, and so on until there
@@ -1091,7 +1141,7 @@ refuse() {
         ((n == 1 || status != end)) || return 0
         begun=0
         [[ $1 != match && $1 != look && $1 != class ]] || begun=$(wc -c <"$room/output")
-        if ((status != 3)) || ! has "$room/error" $'no memory\n' || ! has "$room/made" old || ! head -c "$begun" "$room/whole" | cmp -s - "$room/output"; then
+        if ((status != 3)) || ! { has "$room/error" $'no memory\n' || has "$room/error" "${told-}"$'no memory\n'; } || ! has "$room/made" old || ! head -c "$begun" "$room/whole" | cmp -s - "$room/output"; then
             break
         fi
     done
@@ -1451,6 +1501,10 @@ rows_without_memory() {
     refuse '10.0.0.0/9\n' merge --host-bits -
     refuse '10.0.0.0 255.128.0.0\n' merge --masks -
     refuse '10.0.0.0/9\n' merge -k both -
+    refuse '10.0.0.0/9\n' merge --skip-bad both -
+    told=$'-:1: x: couldn\'t parse address in network: invalid IP address syntax\n' refuse 'x\n10.0.0.0/9\n' check --skip-bad both -
+    told=$'-:2: x: couldn\'t parse address in network: invalid IP address syntax\n' refuse '10.0.0.0/9\nx\n' merge --skip-bad both -
+    told=$'-:1: x: couldn\'t parse address in network: invalid IP address syntax\n' refuse 'x 1\n10.0.0.0/8 2\n' look --skip-bad - address
     refuse '10.0.0.0/9\n' merge both - -o made
     refuse '10.0.0.0/9\n' diff both - -o made
     refuse '' split -o made 10.0.0.0/8 20
@@ -1541,6 +1595,7 @@ for build in netset netset.by-rattle; do
     rows_of_host_bits
     rows_of_masks
     rows_of_all_errors
+    rows_of_skipped_lines
     rows_of_long_lines
     rows_of_messages
     long_list

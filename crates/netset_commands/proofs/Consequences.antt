@@ -1,5 +1,5 @@
 -- What follows from the contract of a run for a run that ends with the status of an answer, 0 or 1.
-use Rattle.std.proofs.Common.{◌≡◌, refl, sym, ◌∙◌, ap, subst, arith, inl, inr, ℕ, zero, suc, ◌≤◌, Bool, List, [], Option, Some, None, Result, Ok, Err}
+use Rattle.std.proofs.Common.{◌≡◌, refl, sym, ◌∙◌, ap, subst, arith, inl, inr, max, ℕ, zero, suc, ◌≤◌, Bool, true, false, List, [], Option, Some, None, Result, Ok, Err}
 use Rattle.std.specs.Result.{result_unwrap_or}
 use Rattle.cidr_io.specs.Writing.{State, Whole, Answered, Tells}
 use Rattle.cidr_io.specs.declared.sink.OutputFailed.{OutputFailed}
@@ -11,6 +11,8 @@ use Rattle.netset_commands.specs.Program.{AnswersRequest, AnswersWhole, IsReques
 use Rattle.netset_commands.specs.Typed.{HasAnswered, AnswersTyped}
 use Rattle.netset_commands.specs.declared.output.answers.Verdict.{Verdict}
 use Rattle.netset_commands.specs.declared.output.answers.Verdict.TheVariants.{Yes, No}
+use Rattle.netset_commands.specs.declared.commands.AtFault.{AtFault}
+use Rattle.netset_commands.specs.declared.commands.AtFault.TheVariants.{Stop, Tell, Skip}
 use Rattle.netset_commands.specs.declared.commands.Reading.{Reading}
 use Rattle.netset_commands.specs.declared.errors.CommandError.{CommandError}
 use Rattle.netset_commands.specs.declared.errors.CommandError.TheVariants as error
@@ -45,6 +47,9 @@ verdict_by (suc (suc n)) few = absurd (omega (arith, few))
 
 never_two : (verdict : Verdict) → answer_status verdict ≡ 2 → ⊥
 never_two verdict two = omega (arith, at_most_one verdict, two)
+
+never_above : (verdict : Verdict) (status : ℕ) → answer_status verdict ≡ max status 2 → ⊥
+never_above verdict status is = omega (arith, at_most_one verdict, is)
 
 never_error : (verdict : Verdict) (e : CommandError) → answer_status verdict ≡ status_of (Err e) → ⊥
 never_error verdict e ends = omega (arith, at_most_one verdict, above_one e, ends)
@@ -123,25 +128,27 @@ module _ (verdict : Verdict) (refused : Refusals) (closed : Bool) (out new err n
         let same : new_err ≡ mid = (rw yes at says) in
         (answer, is, whole, subst (λ (k : State). Tells err k []) (sym same) told_nothing)
 
-    keeps_done : KeepsGoing contents refused request closed out new err new_err (answer_status verdict)
+    keeps_done : (skips : Bool) → KeepsGoing skips contents refused request closed out new err new_err (answer_status verdict)
         → HasAnswered contents request verdict out new err new_err
-    keeps_done (inl (e, wrong, (same, says, ends))) = absurd (never_error verdict e ends)
-    keeps_done (inr (inl (right, (names, are, lines, mid, tells, inl (fine, inl (any, same, quiet, two)))))) = absurd (never_two verdict two)
-    keeps_done (inr (inl (right, (names, are, lines, mid, tells, inl (fine, inr (none, (r, answers, caused, says, ends))))))) =
+    keeps_done skips (inl (e, wrong, (same, says, ends))) = absurd (never_error verdict e ends)
+    keeps_done false (inr (inl (right, (names, are, lines, mid, tells, inl (fine, inl (any, (same, quiet, two))))))) = absurd (never_two verdict two)
+    keeps_done true (inr (inl (right, (names, are, lines, mid, tells, inl (fine, inl (any, (read, answered, files, runs, above))))))) = absurd (never_above verdict answered above)
+    keeps_done skips (inr (inl (right, (names, are, lines, mid, tells, inl (fine, inr (none, (r, answers, caused, says, ends))))))) =
         request_done mid r ends answers says (subst (λ (k : List ℕ). Tells err mid k) none tells)
-    keeps_done (inr (inl (right, (names, are, lines, mid, tells, inr (before, after, split, front, rest, is, fine, begun, e, why, cause, (same, says, ends)))))) =
+    keeps_done skips (inr (inl (right, (names, are, lines, mid, tells, inr (before, after, split, front, rest, is, fine, begun, e, why, cause, (same, says, ends)))))) =
         absurd (never_error verdict e ends)
-    keeps_done (inr (inr (left, (same, says, ends)))) = absurd (never_error verdict error.NoMemory ends)
+    keeps_done skips (inr (inr (left, (same, says, ends)))) = absurd (never_error verdict error.NoMemory ends)
 
-    run_done : (reading : Reading) → RunsRequest reading contents refused request closed out new err new_err (answer_status verdict)
+    run_done : (way : AtFault) → RunsRequest way contents refused request closed out new err new_err (answer_status verdict)
         → HasAnswered contents request verdict out new err new_err
-    run_done reading (inl (keeps, goes)) = keeps_done goes
-    run_done reading (inr (plain, (r, answers, caused, says, ends))) = request_done err r ends answers says (tells_nothing err)
+    run_done Stop (r, answers, caused, says, ends) = request_done err r ends answers says (tells_nothing err)
+    run_done Tell goes = keeps_done false goes
+    run_done Skip goes = keeps_done true goes
 
   once_done : (reading : Reading) (request : Request) (contents : List ℕ → Option (List ℕ))
       → RunsOnce reading contents refused request closed out new err new_err (answer_status verdict) → HasAnswered (contents_by reading.host_bits contents) request verdict out new err new_err
   once_done reading request contents (inl (twice, e, why, (same, says, ends))) = absurd (never_error verdict e ends)
-  once_done reading request contents (inr (once, h)) = run_done (contents_by reading.host_bits contents) request reading h
+  once_done reading request contents (inr (once, h)) = run_done (contents_by reading.host_bits contents) request reading.at_fault h
 
   pub found_answered : (reading : Reading) (request : Request) (contents : List ℕ → Option (List ℕ))
       → RunsFound (Ok (reading, (None, request))) contents refused closed out new err new_err (answer_status verdict)

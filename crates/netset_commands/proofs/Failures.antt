@@ -1,6 +1,5 @@
--- What follows from the contract of a run that ends with status 2, of an operation on lists without -k.
-use Rattle.std.proofs.Common.{◌≡◌, sym, ◌∙◌, ap, subst, inl, inr, ℕ, Bool, false, List, ◌∷◌, Contains, IsUtf8, Option, Some, None, Result, Ok, Err}
-use Rattle.std.proofs.lemmas.Bool.{true≢false}
+-- What follows from the contract of a run that ends with status 2, of an operation on lists without -k and --skip-bad.
+use Rattle.std.proofs.Common.{◌≡◌, sym, ◌∙◌, ap, subst, inl, inr, ℕ, Bool, List, ◌∷◌, Contains, IsUtf8, Option, Some, None, Result, Ok, Err}
 use Rattle.std.proofs.lemmas.List.Elements.{Contains-append_right}
 use Rattle.cidr_table.proofs.MapLaws.{contains_first}
 use Rattle.cidr_io.specs.Writing.{State, Tells}
@@ -9,7 +8,9 @@ use Rattle.cidr_lists.specs.Lists.{Text}
 use Rattle.netset_commands.specs.Arguments.{Line, line_request}
 use Rattle.netset_commands.specs.Causes.{Cause, FileMayFail, Refusals}
 use Rattle.netset_commands.specs.Commands.{Lists, ReadsInputTwice, read_files}
-use Rattle.netset_commands.specs.Program.{AnswersRequest, IsCaused, IsUnread, Reports, Runs, RunsLine, RunsOnce, by_output, contents_by, error_line, status_of}
+use Rattle.netset_commands.specs.Program.{AnswersRequest, IsCaused, IsUnread, Reports, Runs, RunsLine, RunsOnce, RunsRequest, by_output, contents_by, error_line, status_of}
+use Rattle.netset_commands.specs.declared.commands.AtFault.{AtFault}
+use Rattle.netset_commands.specs.declared.commands.AtFault.TheVariants.{Stop}
 use Rattle.netset_commands.specs.declared.commands.Reading.{Reading}
 use Rattle.netset_commands.specs.declared.commands.operations.Operation.{Operation}
 use Rattle.netset_commands.specs.declared.errors.CommandError.{CommandError}
@@ -48,17 +49,18 @@ answer_failed contents op files refused closed out new err new_err (Err e) two (
 answer_failed contents op files refused closed out new err new_err (Err e) two (inr (answer, verdict, w, is, written, by)) caused says =
     absurd (never_written verdict w e by two)
 
--- ---- a run of arguments that are an operation on lists, without -k
+-- ---- a run of arguments that are an operation on lists, without -k and --skip-bad
 module _ (words : List (List ℕ)) (contents : List ℕ → Option (List ℕ)) (refused : Refusals) (closed : Bool) (out new err new_err : State) (reading : Reading)
     (op : Operation) (files : List (List ℕ)) (asks : line_request words ≡ Ok (reading, (None, Lists op files))) (once : ¬ (ReadsInputTwice (Lists op files)))
-    (first : reading.keeps_going ≡ false) (text : (word : List ℕ) → Contains words word → IsUtf8 word) where
+    (first : reading.at_fault ≡ Stop) (text : (word : List ℕ) → Contains words word → IsUtf8 word) where
   abbrev HasFailed : Type 0
   HasFailed = Failed (contents_by reading.host_bits contents) refused.memory (read_files files) out new err new_err
 
   once_failed : RunsOnce reading contents refused (Lists op files) closed out new err new_err 2 → HasFailed
   once_failed (inl (twice, e, why, ends)) = absurd (once twice)
-  once_failed (inr (single, inl (keeps, goes))) = absurd (true≢false (sym keeps ∙ first))
-  once_failed (inr (single, inr (stops, (r, answers, caused, says, two)))) =
+  once_failed (inr (single, runs)) =
+      let (r, answers, caused, says, two) =
+      subst (λ (k : AtFault). RunsRequest k (contents_by reading.host_bits contents) refused (Lists op files) closed out new err new_err 2) first runs in
       answer_failed (contents_by reading.host_bits contents) op files refused closed out new err new_err r two answers caused says
 
   pub lists_fail : Runs (Some words) contents refused closed out new err new_err 2 → HasFailed

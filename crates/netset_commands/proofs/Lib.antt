@@ -29,6 +29,7 @@ pub mod AddressLines
 pub mod TextProgress
 pub mod ReadBy
 pub mod Begun
+pub mod Good
 pub mod Stored
 pub mod StoredFiles
 pub mod Given
@@ -43,6 +44,7 @@ pub mod Running
 pub mod Typed
 pub mod Consequences
 pub mod Failures
+pub mod Skipped
 pub mod Compiling
 pub mod Large
 pub mod Left

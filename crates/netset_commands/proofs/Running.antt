@@ -1,5 +1,5 @@
 -- Runs with options of reading.
-use Rattle.std.proofs.Common.{◌≡◌, refl, sym, ◌∙◌, ap, subst, arith, inl, inr, ℕ, ◌<◌, ◌≤◌, ◌++◌, codes, Bool, true, false, List, Option, Some, None, Result, Ok, Err}
+use Rattle.std.proofs.Common.{◌≡◌, refl, sym, ◌∙◌, ap, subst, arith, inl, inr, cond, ℕ, ◌<◌, ◌≤◌, ◌++◌, ◌&&◌, ◌||◌, codes, Bool, true, false, List, [], ◌∷◌, Option, Some, None, Result, Ok, Err}
 use Rattle.std.proofs.lemmas.Bool.{true≢false}
 use Rattle.std.specs.Bool.{Decides}
 use Rattle.std.specs.List.{count_by}
@@ -8,27 +8,64 @@ use Rattle.cidr_io.specs.Writing.{State, Tells}
 use Rattle.netset_commands.specs.Causes.{Cause, FileMayFail, Refusals}
 use Rattle.netset_commands.specs.Arguments.{Line, Parts, and_then, line_parts, line_request, part_request, read_request, target_in}
 use Rattle.netset_commands.specs.Commands.{AreLists, Request, input_name, lists_of, others_of, reading_of}
-use Rattle.netset_commands.specs.Keeping.{kind_of, lined, takes_file}
-use Rattle.cidr_lists.specs.Lists.{Text}
-use Rattle.netset_commands.specs.Matching.{is_word}
+use Rattle.netset_commands.specs.Compiled.{begins_file}
+use Rattle.netset_commands.specs.Keeping.{AreGoodBytes, AreGoodKept, IsGoodFile, IsGoodText, good_bytes, good_file, good_files, kind_of, lined, list_named, takes_file}
+use Rattle.cidr_lists.specs.Lists.{Text, text_by}
+use Rattle.netset_commands.specs.Matching.{has, is_word}
 use Rattle.netset_commands.specs.Loading.{AreListsLoaded, IsUnloaded}
-use Rattle.netset_commands.specs.Program.{AnswersRequest, IntoFound, IsCaused, IsNotSaved, IsReadTwice, IsWrong, KeepsGoing, Reports, Runs, RunsFound, RunsOnce, RunsRequest, TellsFaults, empty, status_of, contents_by}
+use Rattle.netset_commands.specs.Program.{AnswersRequest, IntoFound, IsCaused, IsNotSaved, IsReadTwice, IsWrong, KeepsGoing, Reports, Runs, RunsFound, RunsGood, RunsOnce, RunsRequest, TellsFaults, empty, status_of, contents_by}
 use Rattle.netset_commands.specs.declared.output.answers.Verdict.{Verdict}
 use Rattle.netset_commands.specs.declared.commands.Reading.{Reading}
 use Rattle.netset_commands.specs.declared.commands.table.Verb.{Verb}
 use Rattle.netset_commands.specs.declared.errors.CommandError.{CommandError}
 use Rattle.netset_commands.specs.declared.errors.CommandError.TheVariants as error
 use Rattle.netset_commands.specs.declared.input.keeping.Kept.{Kept}
+use Rattle.cidr_lists.specs.declared.lines.HostBits.{HostBits}
 use Rattle.cidr_lists.specs.declared.lines.Kind.{Kind}
+use Rattle.netset_commands.proofs.Arguments.{same_text}
+use Rattle.netset_commands.proofs.ReadBy.{text_same}
+
+-- ---- what is read without the lines in error
+module _ (contents : List ℕ → Option Text) (request : Request) (bits : HostBits) (by : (name : List ℕ) (text : Text) → contents name ≡ Some text → text.host_bits ≡ bits) where
+  as_it_is : (found : Option Text) → ((text : Text) → found ≡ Some text → text.host_bits ≡ bits) → good_file bits None found ≡ found
+  as_it_is None same = refl
+  as_it_is (Some text) same = ap (λ (k : Text). Some k) (text_same bits text (same text refl))
+
+  module _ (name : List ℕ) where
+    abbrev IsRead : Bool → Option Kept → Type 0
+    IsRead listed found = IsGoodFile listed request (contents name) (good_file bits found (contents name))
+
+    held_first : (first : List ℕ) (list : Kept) → AreGoodBytes (takes_file request) (kind_of request) (contents first) (good_bytes list) → first ≡ name → IsRead true (Some list)
+    held_first first list good same text at =
+        let bytes : List ℕ = good_bytes list in (
+          text_by bits bytes,
+          refl,
+          subst (λ (k : HostBits). IsGoodText (takes_file request && begins_file text.bytes) (kind_of request) text (text_by k bytes)) (by name text at)
+              (good text (ap contents same ∙ at)),
+        )
+
+    first_or_later : (here listed : Bool) (list : Kept) (later : Option Kept) → (here ≡ true → IsRead true (Some list)) → IsRead listed later
+        → IsRead (here || listed) (cond here (Some list) later)
+    first_or_later true listed list later this others = this refl
+    first_or_later false listed list later this others = others
+
+    good_named : (names : List (List ℕ)) (lists : List Kept) → AreGoodKept (takes_file request) contents (kind_of request) names lists → IsRead (has name names) (list_named name lists)
+    good_named [] [] zip = as_it_is (contents name) (by name)
+    good_named [] (list ∷ lists) zip = absurd zip
+    good_named (first ∷ names) [] zip = absurd zip
+    good_named (first ∷ names) (list ∷ lists) ((named, good), zip) =
+        subst (λ (k : List ℕ). IsRead (is_word name first || has name names) (cond (is_word name k) (Some list) (list_named name lists))) (sym named)
+        (first_or_later (is_word name first) (has name names) list (list_named name lists)
+        (λ is. held_first first list good (same_text first name (sym is))) (good_named names lists zip))
 
 -- ---- with lists whose lines in error are told
-module _ (contents : List ℕ → Option Text) (request : Request) (kind : Kind) (takes : Bool) (names : List (List ℕ)) (refused : Refusals) (closed : Bool) (out s t : State)
+module _ (contents : List ℕ → Option Text) (request : Request) (kind : Kind) (takes : Bool) (names : List (List ℕ)) (skips : Bool) (refused : Refusals) (closed : Bool) (out s t : State)
     (is_kind : kind ≡ kind_of request) (is_taken : takes ≡ takes_file request) (are : AreLists request names) where
-  loaded_of : (lists : List Kept) (found : Bool) → AreListsLoaded takes contents kind names s t lists found
-      → AreListsLoaded (takes_file request) contents (kind_of request) names s t lists found
+  loaded_of : (lists : List Kept) (found : Bool) → AreListsLoaded takes skips contents kind names s t lists found
+      → AreListsLoaded (takes_file request) skips contents (kind_of request) names s t lists found
   loaded_of lists found h =
-      subst (λ (k : Kind). AreListsLoaded (takes_file request) contents k names s t lists found) is_kind
-      (subst (λ (k : Bool). AreListsLoaded k contents kind names s t lists found) is_taken h)
+      subst (λ (k : Kind). AreListsLoaded (takes_file request) skips contents k names s t lists found) is_kind
+      (subst (λ (k : Bool). AreListsLoaded k skips contents kind names s t lists found) is_taken h)
 
   unloaded_of : (e : CommandError) → IsUnloaded (lined takes contents) kind names s t e
       → IsUnloaded (lined (takes_file request) contents) (kind_of request) names s t e
@@ -36,27 +73,37 @@ module _ (contents : List ℕ → Option Text) (request : Request) (kind : Kind)
       subst (λ (k : Kind). IsUnloaded (lined (takes_file request) contents) k names s t e) is_kind
       (subst (λ (k : Bool). IsUnloaded (lined k contents) kind names s t e) is_taken h)
 
-  pub lines_in_error : (lists : List Kept) → AreListsLoaded takes contents kind names s t lists true → TellsFaults contents refused request closed out out s t 2
-  lines_in_error lists h =
-      let (lines, (tells, fine), any, kept) = loaded_of lists true h in
-      (names, are, lines, t, tells, inl (fine, inl (any, refl, refl, refl)))
+  pub lines_in_error : (lists : List Kept) → skips ≡ false → AreListsLoaded takes skips contents kind names s t lists true
+      → TellsFaults skips contents refused request closed out out s t 2
+  lines_in_error lists told h =
+      let (lines, (tells, fine), any, kept, good) = loaded_of lists true h in
+      (names, are, lines, t, tells, inl (fine, inl (any, rw told (refl, refl, refl))))
 
-  pub no_line_in_error : (lists : List Kept) (new u : State) (r : Result Verdict CommandError) (status : ℕ) → AreListsLoaded takes contents kind names s t lists false
-      → AnswersRequest contents request out new r → IsCaused contents refused request r → Reports closed r t u → status ≡ status_of r → TellsFaults contents refused request closed out new s u status
+  pub lines_skipped : (lists : List Kept) (new u : State) (status : ℕ) → skips ≡ true → AreListsLoaded takes skips contents kind names s t lists true
+      → RunsGood lists contents refused request closed out new t u status → TellsFaults skips contents refused request closed out new s u status
+  lines_skipped lists new u status skip h (bits, answered, by, runs, is) =
+      let (lines, (tells, fine), any, kept, good) = loaded_of lists true h in
+      let read : (name : List ℕ) → IsGoodFile (has name names) request (contents name) (good_files bits lists contents name) =
+      λ name. good_named contents request bits by name names lists (good skip) in
+      (names, are, lines, t, tells, inl (fine, inl (any, rw skip (good_files bits lists contents, answered, read, runs, is))))
+
+  pub no_line_in_error : (lists : List Kept) (new u : State) (r : Result Verdict CommandError) (status : ℕ) → AreListsLoaded takes skips contents kind names s t lists false
+      → AnswersRequest contents request out new r → IsCaused contents refused request r → Reports closed r t u → status ≡ status_of r
+      → TellsFaults skips contents refused request closed out new s u status
   no_line_in_error lists new u r status h answers caused says is =
-      let (lines, (tells, fine), any, kept) = loaded_of lists false h in
+      let (lines, (tells, fine), any, kept, good) = loaded_of lists false h in
       (names, are, lines, t, tells, inl (fine, inr (any, (r, answers, caused, says, is))))
 
   pub not_loaded : (u : State) (e : CommandError) (status : ℕ) → IsUnloaded (lined takes contents) kind names s t e → Cause (FileMayFail contents) refused.memory e → Reports closed (Err e) t u → status ≡ status_of (Err e)
-      → TellsFaults contents refused request closed out out s u status
+      → TellsFaults skips contents refused request closed out out s u status
   not_loaded u e status h cause says is =
       let (before, after, split, why, front, rest, tells, fine, begun) = unloaded_of e h in
       (names, are, front ++ rest, t, tells, inr (before, after, split, front, rest, refl, fine, begun, e, why, cause, (refl, says, is)))
 
 -- the first argument that is wrong
-pub argument_first : (contents : List ℕ → Option Text) (request : Request) (refused : Refusals) (closed : Bool) (out s u : State) (e : CommandError) (status : ℕ) → IsWrong request e
-    → Reports closed (Err e) s u → status ≡ status_of (Err e) → KeepsGoing contents refused request closed out out s u status
-argument_first contents request refused closed out s u e status wrong says is = inl (e, wrong, (refl, says, is))
+pub argument_first : (skips : Bool) (contents : List ℕ → Option Text) (request : Request) (refused : Refusals) (closed : Bool) (out s u : State) (e : CommandError) (status : ℕ)
+    → IsWrong request e → Reports closed (Err e) s u → status ≡ status_of (Err e) → KeepsGoing skips contents refused request closed out out s u status
+argument_first skips contents request refused closed out s u e status wrong says is = inl (e, wrong, (refl, says, is))
 
 -- ---- arguments
 -- what was found in the parts of a line was found in the line
@@ -93,7 +140,7 @@ run_misused found line contents refused closed out s t status is says ends =
     run_found found (Err line) contents refused closed out out s t status is (inl (refl, says, ends))
 
 pub run_once : (reading : Reading) (contents : List ℕ → Option (List ℕ)) (refused : Refusals) (request : Request) (closed : Bool) (out new s t : State) (status : ℕ) (twice : Bool) (names : List (List ℕ))
-    → names ≡ lists_of request ++ others_of request → Decides twice (1 < count_by (is_word input_name) names) → twice ≡ false → RunsRequest reading (contents_by reading.host_bits contents) refused request closed out new s t status
+    → names ≡ lists_of request ++ others_of request → Decides twice (1 < count_by (is_word input_name) names) → twice ≡ false → RunsRequest reading.at_fault (contents_by reading.host_bits contents) refused request closed out new s t status
     → RunsOnce reading contents refused request closed out new s t status
 run_once reading contents refused request closed out new s t status twice names are decides once h = inr (
   λ twice_read. true≢false (sym (decides.1 (subst (λ (k : List (List ℕ)). 1 < count_by (is_word input_name) k) (sym are) twice_read)) ∙ once),

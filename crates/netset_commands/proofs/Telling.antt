@@ -1,10 +1,11 @@
 -- Lines in error that are told, one after another.
-use Rattle.std.proofs.Common.{◌≡◌, ◌≢◌, refl, sym, ◌∙◌, ap, subst, arith, inl, inr, ℕ, ◌+◌, Bor, Bool, true, false, if◌then◌else◌, List, [], ◌∷◌, ◌++◌, length, Option, Some, None, Result, Ok, Err, append_assoc, ◌||◌, Vec, Global}
+use Rattle.std.proofs.Common.{◌≡◌, ◌≢◌, refl, sym, ◌∙◌, ap, subst, arith, inl, inr, ℕ, ◌+◌, Bor, Bool, true, false, if◌then◌else◌, ◌&&◌, List, [], ◌∷◌, ◌++◌, length, length-append, take, drop, Option, Some, None, Result, Ok, Err, append_assoc, ◌||◌, Vec, Global}
 use Rattle.std.specs.Option.{IfSome}
 use Rattle.std.specs.List.{flat_map}
 use Rattle.std.specs.Str.{IsTrimAscii}
 use Rattle.std.proofs.lemmas.Bool.{true≢false}
 use Rattle.std.proofs.lemmas.List.{append-nil, flat_map_more}
+use Rattle.std.proofs.Math.Seq.{take-append_seam}
 use Rattle.cidr_io.specs.Collecting.{HasSaid}
 use Rattle.cidr_io.specs.Shown.{shown}
 use Rattle.cidr_io.specs.Writing.{State, Part, Tells}
@@ -12,7 +13,7 @@ use Rattle.cidr_io.proofs.Collected.{nothing_said}
 use Rattle.cidr_io.proofs.Chains.{part_more, part_none, whole_none, whole_part, whole_whole}
 use Rattle.cidr_lists.specs.Entries.{AreEntries}
 use Rattle.netset_commands.specs.Compiled.{begins_file}
-use Rattle.netset_commands.specs.Keeping.{AddsBy, AllSaid, IsAny, IsKept, AreErrorsTold, IsLoadError, IsNothingSaid, KeepsLine, KeepsListLines, KeepsList, SaysMore, kind_in, lined_in, only_lines}
+use Rattle.netset_commands.specs.Keeping.{AddsBy, AllSaid, AreGoodLines, IsAny, IsGoodLine, IsGoodText, IsKept, AreErrorsTold, IsLoadError, IsNothingSaid, KeepsLine, KeepsListLines, KeepsList, SaysMore, kind_in, lined_in, only_lines}
 use Rattle.cidr_lists.specs.Faults.{AreErrors, AreTellings, IsFaulty, IsPartTold, IsSound}
 use Rattle.cidr_lists.specs.Messages.{fault_line}
 use Rattle.cidr_lists.specs.Lists.{IsTooLong, LineSays, Text, lines_of, line_networks, text_by}
@@ -35,6 +36,7 @@ use Rattle.netset_commands.specs.declared.errors.ReadError.TheVariants.{Line, In
 use Rattle.cidr_lists.specs.declared.lines.Kind.{Kind}
 use Rattle.cidr_lists.specs.declared.lines.Kind.TheVariants as kinds
 use Rattle.netset_commands.specs.declared.input.begun.Given.TheVariants.{Lines, Stored}
+use Rattle.netset_commands.specs.declared.input.keeping.Heard.{Heard}
 use Rattle.netset_commands.specs.declared.input.keeping.Said.{Said}
 use Rattle.netset_commands.specs.declared.input.keeping.Said.TheVariants.{Networks, Hosts, Rows}
 use Rattle.cidr_lists.specs.declared.lines.HostBits.{HostBits}
@@ -153,103 +155,141 @@ some_text [] [] ys b is = cc
 some_text [] (c ∷ file) ys b is = cc
 some_text (x ∷ xs) file ys b is = cc
 
+-- ---- what is read of a line
+-- a line that was added to a text, with a line feed in front, and taken away again if it is in error
+module _ (old mid new line : List ℕ) (len : ℕ) (added : mid ≡ old ++ 10 ∷ line) (at : len ≡ length old + 1) where
+  feed_alone : take len mid ≡ old ++ 10 ∷ []
+  feed_alone =
+      let front : List ℕ = old ++ 10 ∷ [] in
+      ap (take len) (added ∙ sym (append_assoc old (10 ∷ []) line))
+      ∙ (ap (λ (n : ℕ). take n (front ++ line)) (omega (arith, at, length-append old (10 ∷ []))) ∙ take-append_seam front line)
+
+  good_line : (kind : Kind) (bits : HostBits) (before : List (List ℕ)) → IsSound kind bits line → new ≡ mid → AreGoodLines kind bits before old
+      → AreGoodLines kind bits (before ++ line ∷ []) new
+  good_line kind bits before sound whole (goods, zip, all) = (
+    goods ++ line ∷ [],
+    zip_behind (IsGoodLine kind bits) before goods line line zip (inl (sound, refl)),
+    whole ∙ (added ∙ (ap (λ (k : List ℕ). k ++ 10 ∷ line) all ∙ flat_map_more (λ (l : List ℕ). 10 ∷ l) [] goods line)),
+  )
+
+  left_empty : (kind : Kind) (bits : HostBits) (before : List (List ℕ)) (e : LineError) → IsFaulty kind bits line e → new ≡ take len mid
+      → AreGoodLines kind bits before old → AreGoodLines kind bits (before ++ line ∷ []) new
+  left_empty kind bits before e bad cut (goods, zip, all) = (
+    goods ++ [] ∷ [],
+    zip_behind (IsGoodLine kind bits) before goods line [] zip (inr (e, bad, refl)),
+    cut ∙ (feed_alone ∙ (ap (λ (k : List ℕ). k ++ 10 ∷ []) all ∙ flat_map_more (λ (l : List ℕ). 10 ∷ l) [] goods [])),
+  )
+
+-- the same if lines are to be skipped
+abbrev pub IsAdded : Bool → List ℕ → List ℕ → ℕ → List ℕ → Type 0
+IsAdded skips old line len mid = skips ≡ true → (mid ≡ old ++ 10 ∷ line) × (len ≡ length old + 1)
+
+abbrev pub IsEnded : Bool → ℕ → List ℕ → List ℕ → Type 0
+IsEnded bad len mid new = (bad ≡ true → new ≡ take len mid) × (bad ≡ false → new ≡ mid)
+
 -- ---- one line after another
 same_says : (old t u : State) (block now rest lines : List ℕ) → u ≡ t → rest ≡ now → SaysMore old block t now lines → SaysMore old block u rest lines
 same_says old t u block now rest lines same kept says start text h =
     subst (λ (k : State). HasSaid start k rest (text ++ lines)) (sym same)
     (subst (λ (k : List ℕ). HasSaid start t k (text ++ lines)) (sym kept) (says start text h))
 
-module _ (kind : Kind) (bits : HostBits) (file : List ℕ) (s : State) (b : List ℕ) where
+module _ (kind : Kind) (bits : HostBits) (file : List ℕ) (skips : Bool) (s : State) (b : List ℕ) where
   -- how far the lines of a list were told and kept
-  abbrev pub IsKeeping : Option (List ℕ) → Option (List ℕ) → State → List ℕ → Bool → Said → ℕ → Type 0
-  IsKeeping contents left t block found said number = (lines : List ℕ) × SaysMore s b t block lines × IsAny found lines × (kind_in said ≡ kind)
-      × IfSome contents (λ text. LinesRead (IsKept kind bits file) text left (lines, found, said) number)
+  abbrev pub IsKeeping : Option (List ℕ) → Option (List ℕ) → State → List ℕ → Bool → Said → List ℕ → ℕ → Type 0
+  IsKeeping contents left t block found said good number = (lines : List ℕ) × SaysMore s b t block lines × IsAny found lines × (kind_in said ≡ kind)
+      × IfSome contents (λ text. LinesRead (IsKept kind bits file skips) text left (lines, found, said, good) number)
 
-  pub keeping_started : (contents : Option (List ℕ)) (said : Said) → IsNothingSaid kind said → IsKeeping contents contents s b false said 1
-  keeping_started contents said none = (
+  pub keeping_started : (contents : Option (List ℕ)) (said : Said) (good : List ℕ) → IsNothingSaid kind said → good ≡ [] → IsKeeping contents contents s b false said good 1
+  keeping_started contents said good none empty = (
     [],
     λ start text h. subst (HasSaid start s b) (sym (append-nil text)) h,
     refl,
     none.0,
-    none_read (IsKept kind bits file) contents ([], false, said) ([], refl, refl, λ _. none.1 bits),
+    none_read (IsKept kind bits file skips) contents ([], false, said, good) ([], refl, refl, λ _. none.1 bits, λ _. ([], tt, empty)),
   )
 
   -- what a further line adds
-  abbrev Adds : List ℕ → ℕ → State → List ℕ → Bool → Said → List ℕ × Bool × Said → Type 0
-  Adds line number u rest found now kept = (more : List ℕ) × SaysMore s b u rest more × IsAny found more × (kind_in now ≡ kind)
-      × ((before : List (List ℕ)) → number ≡ length before + 1 → IsKept kind bits file before kept → IsKept kind bits file (before ++ line ∷ []) (more, found, now))
+  abbrev Adds : List ℕ → ℕ → State → List ℕ → Bool → Said → List ℕ → List ℕ × Bool × Said × List ℕ → Type 0
+  Adds line number u rest found now good kept = (more : List ℕ) × SaysMore s b u rest more × IsAny found more × (kind_in now ≡ kind)
+      × ((before : List (List ℕ)) → number ≡ length before + 1 → IsKept kind bits file skips before kept → IsKept kind bits file skips (before ++ line ∷ []) (more, found, now, good))
 
-  line_kept : (was now : Said) (t u : State) (block rest : List ℕ) (found bad : Bool) (number : ℕ) (line lines : List ℕ) → SaysMore s b t block lines
-      → IsAny found lines → kind_in was ≡ kind → KeepsLine bits file number line was now t block u rest (Ok bad)
-      → Adds line number u rest (found || bad) now (lines, found, was)
-  line_kept was now t u block rest found false number line lines says any is (adds, same, kept) = (
-    lines,
-    same_says s t u b block rest lines same kept says,
-    any_same found lines any,
-    same_kind bits line number was now (Ok tt) adds ∙ is,
-    λ before at (errors, are, contents, fine). (
-      errors,
-      sound_behind kind bits 1 before line errors are (subst (λ (k : Kind). IsSound k bits line) is (line_sound bits line number was now adds)),
-      contents,
-      λ none. said_behind bits line number was now adds before at (fine (none_of found false none).0),
-    ),
-  )
-  line_kept was now t u block rest found true number line lines says any is (e, same, bad, more) =
-      let fault : ℕ × LineError = (number, e) in (
+  line_kept : (was now : Said) (t u : State) (block rest : List ℕ) (found bad : Bool) (number : ℕ) (line lines old mid new : List ℕ) (len : ℕ) → IsAdded skips old line len mid
+      → IsEnded bad len mid new → SaysMore s b t block lines → IsAny found lines → kind_in was ≡ kind → KeepsLine bits file number line was now t block u rest (Ok bad)
+      → Adds line number u rest (found || bad) now new (lines, found, was, old)
+  line_kept was now t u block rest found false number line lines old mid new len added ended says any is (adds, same, kept) =
+      let sound : IsSound kind bits line = subst (λ (k : Kind). IsSound k bits line) is (line_sound bits line number was now adds) in (
+        lines,
+        same_says s t u b block rest lines same kept says,
+        any_same found lines any,
+        same_kind bits line number was now (Ok tt) adds ∙ is,
+        λ before at (errors, are, contents, fine, good). (
+          errors,
+          sound_behind kind bits 1 before line errors are sound,
+          contents,
+          λ none. said_behind bits line number was now adds before at (fine (none_of found false none).0),
+          λ skip. good_line old mid new line len (added skip).0 (added skip).1 kind bits before sound (ended.1 refl) (good skip),
+        ),
+      )
+  line_kept was now t u block rest found true number line lines old mid new len added ended says any is (e, same, bad, more) =
+      let fault : ℕ × LineError = (number, e) in
+      let faulty : IsFaulty kind bits line e = subst (λ (k : Kind). IsFaulty k bits line e) is bad in (
         lines ++ fault_line file fault,
         λ start text h. subst (HasSaid start u rest) (append_assoc text lines (fault_line file fault)) (more start (text ++ lines) (says start text h)),
         any_true found (lines ++ fault_line file fault) (some_text lines (shown file) _ 58),
         same ∙ is,
-        λ before at (errors, are, contents, fine). (
+        λ before at (errors, are, contents, fine, good). (
           errors ++ fault ∷ [],
-          faulty_behind kind bits 1 number before line errors e (omega (arith, at)) are (subst (λ (k : Kind). IsFaulty k bits line e) is bad),
+          faulty_behind kind bits 1 number before line errors e (omega (arith, at)) are faulty,
           ap (λ (k : List ℕ). k ++ fault_line file fault) contents ∙ flat_map_more (fault_line file) [] errors fault,
           λ none. absurd (true≢false (none_of found true none).1),
+          λ skip. left_empty old mid new line len (added skip).0 (added skip).1 kind bits before e faulty (ended.0 refl) (good skip),
         ),
       )
 
-  module _ (contents left next : Option (List ℕ)) (t u : State) (block rest : List ℕ) (found bad : Bool) (was now : Said) (number : ℕ) (line given : List ℕ) (more : Bool)
-      (h : IsKeeping contents left t block found was number) (n : IfSome left (λ text. IsNextLine text line more next)) (same : given ≡ line)
-      (keeps : KeepsLine bits file number given was now t block u rest (Ok bad)) where
-    added : Adds line number u rest (found || bad) now (h.0, found, was)
+  module _ (contents left next : Option (List ℕ)) (t u : State) (block rest : List ℕ) (found bad : Bool) (was now : Said) (number : ℕ) (line given old mid new : List ℕ) (len : ℕ) (more : Bool)
+      (h : IsKeeping contents left t block found was old number) (n : IfSome left (λ text. IsNextLine text line more next)) (same : given ≡ line)
+      (keeps : KeepsLine bits file number given was now t block u rest (Ok bad)) (is_added : IsAdded skips old given len mid) (is_ended : IsEnded bad len mid new) where
+    added : Adds line number u rest (found || bad) now new (h.0, found, was, old)
     added =
-        line_kept was now t u block rest found bad number line h.0 h.1 h.2 h.3
+        line_kept was now t u block rest found bad number line h.0 old mid new len (subst (λ (k : List ℕ). IsAdded skips old k len mid) same is_added) is_ended h.1 h.2 h.3
         (subst (λ (k : List ℕ). KeepsLine bits file number k was now t block u rest (Ok bad)) same keeps)
 
-    pub keeping_more : more ≡ true → IsKeeping contents next u rest (found || bad) now (number + 1)
+    pub keeping_more : more ≡ true → IsKeeping contents next u rest (found || bad) now new (number + 1)
     keeping_more is = (
       added.0,
       added.1,
       added.2,
       added.3,
-      line_read (IsKept kind bits file) contents left next (h.0, found, was) (added.0, found || bad, now) number line more is h.4 n added.4,
+      line_read (IsKept kind bits file skips) contents left next (h.0, found, was, old) (added.0, found || bad, now, new) number line more is h.4 n added.4,
     )
 
-    pub keeping_done : more ≡ false → KeepsListLines kind bits file contents s b u rest (Ok (now, found || bad))
-    keeping_done is = (
+    pub keeping_done : (good : Vec ℕ Global) → good.items ≡ new → more ≡ false
+        → KeepsListLines kind bits file skips contents s b u rest (Ok (record { said = now; text = good; is_bad = found || bad }))
+    keeping_done good read is = (
       added.0,
       added.1,
       added.2,
-      last_read (IsKept kind bits file) contents left next (h.0, found, was) (added.0, found || bad, now) number line more is h.4 n added.4,
+      subst (λ (k : List ℕ). IfSome contents (λ text. IsKept kind bits file skips (lines_of text) (added.0, found || bad, now, k))) (sym read)
+          (last_read (IsKept kind bits file skips) contents left next (h.0, found, was, old) (added.0, found || bad, now, new) number line more is h.4 n added.4),
     )
 
-  part_told : (contents left : Option (List ℕ)) (lines : List ℕ) (found : Bool) (said : Said) (number : ℕ)
-      → IfSome contents (λ text. LinesRead (IsKept kind bits file) text left (lines, found, said) number)
+  part_told : (contents left : Option (List ℕ)) (lines : List ℕ) (found : Bool) (said : Said) (good : List ℕ) (number : ℕ)
+      → IfSome contents (λ text. LinesRead (IsKept kind bits file skips) text left (lines, found, said, good) number)
       → IfSome contents (λ text. IsPartTold kind file (text_by bits text) lines)
-  part_told None left lines found said number p = tt
-  part_told (Some text) left lines found said number p =
-      let (errors, are, is, fine) = p.done in
+  part_told None left lines found said good number p = tt
+  part_told (Some text) left lines found said good number p =
+      let (errors, are, is, fine, read) = p.done in
       (p.before, lines_of p.rest, p.lines, errors, are, is)
 
-  pub keeping_stopped : (contents left : Option (List ℕ)) (t u : State) (block rest : List ℕ) (found : Bool) (said : Said) (number : ℕ) (e : ReadError)
-      → IsKeeping contents left t block found said number → IsStopped e → u ≡ t → rest ≡ block → KeepsListLines kind bits file contents s b u rest (Err e)
-  keeping_stopped contents left t u block rest found said number e (lines, says, any, is, p) stopped same kept =
-      (lines, same_says s t u b block rest lines same kept says, stopped, part_told contents left lines found said number p)
+  pub keeping_stopped : (contents left : Option (List ℕ)) (t u : State) (block rest : List ℕ) (found : Bool) (said : Said) (good : List ℕ) (number : ℕ) (e : ReadError)
+      → IsKeeping contents left t block found said good number → IsStopped e → u ≡ t → rest ≡ block → KeepsListLines kind bits file skips contents s b u rest (Err e)
+  keeping_stopped contents left t u block rest found said good number e (lines, says, any, is, p) stopped same kept =
+      (lines, same_says s t u b block rest lines same kept says, stopped, part_told contents left lines found said good number p)
 
 -- ---- the list of a file
-pub nothing_kept : (takes : Bool) (contents : Option Text) (kind : Kind) (file : List ℕ) (s : State) (e : CommandError) → IsLoadError (file ∷ []) e
-    → KeepsList takes contents kind file s s (Err e)
-nothing_kept takes contents kind file s e why = ([], tells_nothing s, why, λ text is. ([], lines_of text.bytes, refl, [], refl, refl))
+pub nothing_kept : (takes : Bool) (contents : Option Text) (kind : Kind) (file : List ℕ) (skips : Bool) (s : State) (e : CommandError) → IsLoadError (file ∷ []) e
+    → KeepsList takes contents kind file skips s s (Err e)
+nothing_kept takes contents kind file skips s e why = ([], tells_nothing s, why, λ text is. ([], lines_of text.bytes, refl, [], refl, refl))
 
 -- a file that is not read further is not read
 pub not_begun : (file : List ℕ) (e : CommandError) → IsNotReadFurther file e → IsLoadError (file ∷ []) e
@@ -274,26 +314,39 @@ lined_same true None lines text is = cc
 lined_same true (Some known) lines text is =
     sym (ap (λ (b : Bool). Some (if b then text_by known.host_bits [] else known)) (lines known refl refl)) ∙ is
 
-module _ (takes : Bool) (contents : Option Text) (left : Option (List ℕ)) (kind : Kind) (bits : HostBits) (s t u : State) (block rest : List ℕ)
+-- so that its good lines are read
+no_file : (takes stored : Bool) → (takes ≡ true → stored ≡ false) → (takes && stored) ≡ false
+no_file false stored h = refl
+no_file true stored h = h refl
+
+module _ (takes : Bool) (contents : Option Text) (left : Option (List ℕ)) (kind : Kind) (bits : HostBits) (skips : Bool) (s t u : State) (block rest : List ℕ)
     (lines_are : (text : Text) → contents ≡ Some text → takes ≡ true → begins_file text.bytes ≡ false)
     (opens : (text : Text) → contents ≡ Some text → left ≡ Some text.bytes) (by : (text : Text) → contents ≡ Some text → text.host_bits ≡ bits)
     (none : block ≡ []) (ends : EndsSaying t rest u) where
-  kept_by : (file lines : List ℕ) (kept : Said × Bool) → IfSome left (λ bytes. IsKept kind bits file (lines_of bytes) (lines, kept.1, kept.0))
-      → (text : Text) → contents ≡ Some text → IsKept kind text.host_bits file (lines_of text.bytes) (lines, kept.1, kept.0)
-  kept_by file lines kept is text at =
-      subst (λ (k : HostBits). IsKept kind k file (lines_of text.bytes) (lines, kept.1, kept.0)) (sym (by text at))
-      (bytes_read (λ bytes. IsKept kind bits file (lines_of bytes) (lines, kept.1, kept.0)) left text.bytes (opens text at) is)
+  abbrev kept_of : List ℕ → Heard → List ℕ × Bool × Said × List ℕ
+  kept_of lines heard = (lines, heard.is_bad, heard.said, heard.text.items)
 
-  pub list_kept : (file : List ℕ) (said : Said) (found : Bool) → KeepsListLines kind bits file left s block t rest (Ok (said, found))
-      → KeepsList takes contents kind file s u (Ok (Lines said, found))
-  list_kept file said found (lines, says, any, is) = (
+  kept_by : (file lines : List ℕ) (heard : Heard) → IfSome left (λ bytes. IsKept kind bits file skips (lines_of bytes) (kept_of lines heard))
+      → (text : Text) → contents ≡ Some text → IsKept kind text.host_bits file skips (lines_of text.bytes) (kept_of lines heard)
+  kept_by file lines heard is text at =
+      subst (λ (k : HostBits). IsKept kind k file skips (lines_of text.bytes) (kept_of lines heard)) (sym (by text at))
+      (bytes_read (λ bytes. IsKept kind bits file skips (lines_of bytes) (kept_of lines heard)) left text.bytes (opens text at) is)
+
+  pub list_kept : (file : Bor (List ℕ)) (heard : Heard) → KeepsListLines kind bits file.now skips left s block t rest (Ok heard)
+      → KeepsList takes contents kind file.now skips s u (Ok (record { name = file; given = Lines heard.said; text = heard.text }, heard.is_bad))
+  list_kept file heard (lines, says, any, is) = (
     lines,
     all_told s t u block rest lines none says ends,
     any,
     λ text at.
-        let (errors, are, same, fine) = kept_by file lines (said, found) is text (lined_same takes contents lines_are text at) in
+        let (errors, are, same, fine, good) = kept_by file.now lines heard is text (lined_same takes contents lines_are text at) in
         (errors, are, same),
-    λ sound text at. (kept_by file lines (said, found) is text at).3 sound,
+    λ sound text at. (kept_by file.now lines heard is text at).3 sound,
+    λ skip text at.
+        let bytes : List ℕ = drop 1 heard.text.items in
+        subst (λ (b : Bool). IsGoodText b kind text (text_by text.host_bits bytes)) (sym (no_file takes (begins_file text.bytes) (lines_are text at)))
+        (refl, heard.text.items, (kept_by file.now lines heard is text at).4 skip, refl),
+    refl,
   )
 
   load_error : (file : Bor (List ℕ)) (e : ReadError) → IsStopped e → IsLoadError (file.now ∷ []) (unread file e)
@@ -301,8 +354,8 @@ module _ (takes : Bool) (contents : Option Text) (left : Option (List ℕ)) (kin
   load_error file Input h = ([], refl)
   load_error file NoMemory h = tt
 
-  pub list_cut : (file : Bor (List ℕ)) (e : ReadError) → KeepsListLines kind bits file.now left s block t rest (Err e)
-      → KeepsList takes contents kind file.now s u (Err (unread file e))
+  pub list_cut : (file : Bor (List ℕ)) (e : ReadError) → KeepsListLines kind bits file.now skips left s block t rest (Err e)
+      → KeepsList takes contents kind file.now skips s u (Err (unread file e))
   list_cut file e (lines, says, stopped, is) = (
     lines,
     all_told s t u block rest lines none says ends,
@@ -337,14 +390,18 @@ file_lined (Some known) is text at =
     let bare : text_by known.host_bits [] ≡ text = sym none ∙ same in
     ap (λ (b : HostBits). text_by b []) (sym (ap (λ (t : Text). t.host_bits) bare)) ∙ bare
 
-pub file_kept : (contents : Option Text) (kind : Kind) (file : List ℕ) (s : State) (bytes : Vec ℕ Global) → AreFileBytes contents bytes.items
-    → KeepsList true contents kind file s s (Ok (Stored bytes, false))
-file_kept contents kind file s bytes are = (
+pub file_kept : (contents : Option Text) (kind : Kind) (file : Bor (List ℕ)) (skips : Bool) (s : State) (bytes text : Vec ℕ Global) → AreFileBytes contents bytes.items
+    → KeepsList true contents kind file.now skips s s (Ok (record { name = file; given = Stored bytes; text = text }, false))
+file_kept contents kind file skips s bytes lines are = (
   [],
   tells_nothing s,
   refl,
-  λ text at. subst (λ (k : Text). AreErrorsTold kind file k []) (file_lined contents (λ text is. (are text is).0) text at) (blank_told kind file text.host_bits),
+  λ text at. subst (λ (k : Text). AreErrorsTold kind file.now k []) (file_lined contents (λ text is. (are text is).0) text at) (blank_told kind file.now text.host_bits),
   λ _ text is. are text is,
+  λ _ text at.
+      subst (λ (b : Bool). IsGoodText b kind text (text_by text.host_bits bytes.items)) (sym (are text at).0)
+      (ap (text_by text.host_bits) (are text at).1 ∙ text_same text.host_bits text refl),
+  refl,
 )
 
 -- ---- one list after another

@@ -1,10 +1,10 @@
 -- Requests as they are typed are read as these requests.
-use Rattle.std.proofs.Common.{◌≡◌, refl, sym, ◌∙◌, ap, subst, inl, inr, ℕ, Bool, true, false, ◌||◌, List, [], ◌∷◌, ◌++◌, codes, slice_get, Option, Some, None, Result, Ok}
+use Rattle.std.proofs.Common.{◌≡◌, refl, sym, ◌∙◌, ap, subst, inl, inr, ℕ, Bool, true, false, ◌||◌, ◌&&◌, List, [], ◌∷◌, ◌++◌, codes, slice_get, Option, Some, None, Result, Ok}
 use Rattle.std.specs.List.{list_all, list_any}
 use Rattle.std.proofs.lemmas.Bool.{true≢false}
 use Rattle.cidr_lists.specs.Formats.{IsBare, Style, format_name}
 use Rattle.cidr_lists.specs.Rules.{Permitted, Shadowed, Compared}
-use Rattle.netset_commands.specs.Arguments.{Parts, and_then, question_by, asks_help, choice_by, choice_in, counted_request, extent_by, extra_operand, is_option, joined_arguments, line_request, lists_request, look_by, match_by, named_verb, only_operand, only_options, only_value, part_request, parts_from, read_request, style_in_values, takes, value_of, verb_request, word_parts}
+use Rattle.netset_commands.specs.Arguments.{Parts, and_then, question_by, asks_help, choice_by, choice_in, counted_request, extent_by, extra_operand, is_option, joined_arguments, line_request, lists_request, look_by, match_by, named_verb, only_operand, only_options, only_value, part_request, parts_from, read_request, style_in_values, takes, target_by, tells_two_ways, value_of, verb_request, word_parts}
 use Rattle.netset_commands.specs.Commands.{Request, Lists, Styled, NotIn, Diff, Free, Acl, Split, Check, Which, Match, MatchEach, Look, Compile, Describe, Class, Single, Help, Version, input_name, reading_of}
 use Rattle.netset_commands.specs.Free.{Extent, First, Count, All}
 use Rattle.netset_commands.specs.Matching.{has, is_word}
@@ -111,25 +111,25 @@ among command (name ∷ names) word (first, each) is =
     here_or_later command name word (is_word word name) (has word names) refl first (λ later. among command names word each later) is
 
 its_options : (command : Verb) → HasEach command (options_of command)
-its_options (verb.Lists Merge) = (refl, (refl, (refl, (refl, (refl, tt)))))
-its_options (verb.Lists Nets) = (refl, (refl, (refl, (refl, (refl, tt)))))
-its_options (verb.Lists Minus) = (refl, (refl, (refl, (refl, (refl, tt)))))
-its_options (verb.Lists And) = (refl, (refl, (refl, (refl, (refl, tt)))))
-its_options (verb.Lists Not) = (refl, (refl, (refl, (refl, (refl, tt)))))
-its_options (verb.Lists Ranges) = (refl, (refl, (refl, (refl, (refl, tt)))))
-its_options (verb.Lists of_lists.Count) = (refl, (refl, (refl, (refl, (refl, tt)))))
-its_options verb.Diff = (refl, (refl, (refl, (refl, (refl, tt)))))
-its_options verb.Free = (refl, (refl, (refl, (refl, (refl, (refl, tt))))))
+its_options (verb.Lists Merge) = (refl, (refl, (refl, (refl, (refl, (refl, tt))))))
+its_options (verb.Lists Nets) = (refl, (refl, (refl, (refl, (refl, (refl, tt))))))
+its_options (verb.Lists Minus) = (refl, (refl, (refl, (refl, (refl, (refl, tt))))))
+its_options (verb.Lists And) = (refl, (refl, (refl, (refl, (refl, (refl, tt))))))
+its_options (verb.Lists Not) = (refl, (refl, (refl, (refl, (refl, (refl, tt))))))
+its_options (verb.Lists Ranges) = (refl, (refl, (refl, (refl, (refl, (refl, tt))))))
+its_options (verb.Lists of_lists.Count) = (refl, (refl, (refl, (refl, (refl, (refl, tt))))))
+its_options verb.Diff = (refl, (refl, (refl, (refl, (refl, (refl, tt))))))
+its_options verb.Free = (refl, (refl, (refl, (refl, (refl, (refl, (refl, tt)))))))
 its_options verb.Acl = (refl, (refl, (refl, (refl, (refl, tt)))))
-its_options verb.Check = (refl, (refl, (refl, tt)))
-its_options verb.Which = (refl, (refl, (refl, tt)))
-its_options verb.Match = (refl, (refl, (refl, (refl, (refl, (refl, (refl, (refl, (refl, tt)))))))))
-its_options verb.Look = (refl, (refl, (refl, (refl, (refl, (refl, (refl, tt)))))))
+its_options verb.Check = (refl, (refl, (refl, (refl, tt))))
+its_options verb.Which = (refl, (refl, (refl, (refl, tt))))
+its_options verb.Match = (refl, (refl, (refl, (refl, (refl, (refl, (refl, (refl, (refl, (refl, tt))))))))))
+its_options verb.Look = (refl, (refl, (refl, (refl, (refl, (refl, (refl, (refl, tt))))))))
 its_options verb.Compile = (refl, (refl, (refl, (refl, (refl, tt)))))
-its_options (verb.Describe what) = (refl, (refl, (refl, (refl, (refl, tt)))))
+its_options (verb.Describe what) = (refl, (refl, (refl, (refl, (refl, (refl, tt))))))
 its_options verb.Class = (refl, (refl, tt))
 its_options verb.Show = (refl, (refl, tt))
-its_options verb.Split = (refl, (refl, (refl, (refl, (refl, tt)))))
+its_options verb.Split = (refl, (refl, (refl, (refl, (refl, (refl, tt))))))
 its_options verb.Nth = (refl, (refl, tt))
 its_options verb.Help = (refl, (refl, tt))
 its_options verb.Version = (refl, (refl, tt))
@@ -231,6 +231,18 @@ choice_asks command FirstField options operands goes = refl
 choice_asks command (FieldOf number None) options operands goes = ap (λ (b : Bool). choice_by command (Some number) b None) goes
 choice_asks command (FieldOf number (Some separator)) options operands goes = ap (λ (b : Bool). choice_by command (Some number) b (Some separator)) goes
 
+-- no file, where -k and --skip-bad are not both given
+none_by : (command : Verb) (keeps skips : Bool) → (keeps && skips) ≡ false → target_by command keeps skips None ≡ Ok None
+none_by command keeps false fine = refl
+none_by command false true fine = refl
+none_by command true true fine = absurd (true≢false fine)
+
+no_target : (command : Verb) (options values : List (List ℕ)) → tells_two_ways options ≡ false → value_of command (codes "-o") values ≡ Ok None
+    → and_then (value_of command (codes "-o") values) (target_by command (has (codes "-k") options) (has (codes "--skip-bad") options)) ≡ Ok None
+no_target command options values fine none =
+    ap (λ (r : Result (Option (List ℕ)) (List ℕ)). and_then r (target_by command (has (codes "-k") options) (has (codes "--skip-bad") options))) none
+    ∙ none_by command (has (codes "-k") options) (has (codes "--skip-bad") options) fine
+
 -- ---- a command line
 -- a command with the parts of its words
 abbrev with_parts : Verb → Result Parts (List ℕ) → Result (Verb × Parts) (List ℕ)
@@ -248,7 +260,8 @@ module _ (words options : List (List ℕ)) where
 
     line_asks : (request : Request) → verb_request command all_parts ≡ Ok request → Asks request
     line_asks request made =
-        let (is, all, no_page, none, enough) = typed in
+        let (is, all, fine, none, enough) = typed in
+        let (no_page, one_way) = none_of (asks_help options) (tells_two_ways options) fine in
         let asked : part_request command all_parts ≡ Ok request =
         if_false (asks_help options) _ _ no_page
         ∙ (ap (λ (k : Option (List ℕ)). counted_request command all_parts k (extra_operand command operands)) enough
@@ -257,7 +270,7 @@ module _ (words options : List (List ℕ)) where
         ∙ (ap (λ (r : Result Verb (List ℕ)). and_then (and_then r (λ one. with_parts one (parts_from one (options ++ (valued ++ operands)) Any))) (λ line. read_request line.0 line.1)) (named command)
         ∙ (ap (λ (r : Result Parts (List ℕ)). and_then (with_parts command r) (λ line. read_request line.0 line.1))
         (options_first command options (valued ++ operands) values operands all parts)
-        ∙ read_one command all_parts (reading_of options) None request asked (if_false (asks_help options) _ _ no_page ∙ no_file) refl))
+        ∙ read_one command all_parts (reading_of options) None request asked (if_false (asks_help options) _ _ no_page ∙ no_target command options values one_way no_file) refl))
 
   plain_asks : (command : Verb) (operands : List (List ℕ)) (request : Request) → AreTyped command options [] operands words → extra_operand command operands ≡ None
       → verb_request command (parts_with options [] operands) ≡ Ok request → Asks request

@@ -20,7 +20,7 @@ use Rattle.netset_commands.specs.declared.commands.operations.Operation.{Operati
 use Rattle.netset_commands.specs.declared.commands.table.Verb.{Verb}
 use Rattle.netset_commands.specs.declared.commands.table.Verb.TheVariants as verb
 use Rattle.netset_commands.specs.declared.errors.Misfit.{Misfit}
-use Rattle.netset_commands.specs.declared.errors.Misfit.TheVariants.{Unnamed, NoCommand, NoOption, Missing, Extra, NoFormat, NotPlain, NoField, Anywhere}
+use Rattle.netset_commands.specs.declared.errors.Misfit.TheVariants.{Unnamed, NoCommand, NoOption, Missing, Extra, NoFormat, NotPlain, NoField, Anywhere, Skipping}
 
 -- ---- the line of a word that is wrong
 abbrev pub misfit_text : Misfit → List ℕ
@@ -33,6 +33,7 @@ misfit_text NoFormat = codes ": no such format, but plain, json, nft, ipset, ipt
 misfit_text NotPlain = codes ": for the format plain alone, see: netset help "
 misfit_text NoField = codes ": only with --field, see: netset help "
 misfit_text Anywhere = codes ": not with --any, see: netset help "
+misfit_text Skipping = codes ": not with --skip-bad, see: netset help "
 
 -- the word or what is missing, what is wrong with it, and the command whose page is to be seen
 abbrev pub misuse_text : List ℕ → Misfit → List ℕ → List ℕ
@@ -319,9 +320,21 @@ abbrev pub part_request : Verb → Parts → Result Request (List ℕ)
 part_request command parts = if asks_help parts.options then Ok (Help (Some command))
     else counted_request command parts (missing_operand command parts.operands) (extra_operand command parts.operands)
 
--- the file that the answer is written to, if one is named; a page is written to standard output
+-- -k and --skip-bad are given
+abbrev pub tells_two_ways : List (List ℕ) → Bool
+tells_two_ways options = has (codes "-k") options && has (codes "--skip-bad") options
+
+-- the file that the answer is written to, by whether -k and --skip-bad are given: the latter goes with none
+abbrev pub target_by : Verb → Bool → Bool → Option (List ℕ) → Result (Option (List ℕ)) (List ℕ)
+target_by command keeps false target = Ok target
+target_by command true true target = Err (misuse_text (codes "-k") Skipping (name_of command))
+target_by command false true (Some name) = Err (misuse_text (codes "-o") Skipping (name_of command))
+target_by command false true None = Ok None
+
+-- the same of these options; a page is written to standard output
 abbrev pub target_in : Verb → Parts → Result (Option (List ℕ)) (List ℕ)
-target_in command parts = if asks_help parts.options then Ok None else value_of command (codes "-o") parts.values
+target_in command parts = if asks_help parts.options then Ok None else and_then (value_of command (codes "-o") parts.values)
+    (λ target. target_by command (has (codes "-k") parts.options) (has (codes "--skip-bad") parts.options) target)
 
 -- how lists are read, the file that the answer is written to, if one is named, and the request
 abbrev pub Line : Type 0

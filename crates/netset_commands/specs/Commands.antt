@@ -1,5 +1,5 @@
 -- The requests and what each is answered with.
-use Rattle.std.specs.Prelude.{◌≡◌, ◌⊎◌, ℕ, ◌<◌, ◌≤◌, Bool, List, [], ◌∷◌, ◌++◌, count_by, codes, drop, Option, Some, None}
+use Rattle.std.specs.Prelude.{◌≡◌, ◌⊎◌, ℕ, ◌<◌, ◌≤◌, Bool, true, false, List, [], ◌∷◌, ◌++◌, count_by, codes, drop, Option, Some, None}
 use Rattle.std.specs.List.{AllZip}
 use Rattle.std.specs.Map.{keys_of}
 use Rattle.cidr.specs.either.IpText.{IsIpNetworkText}
@@ -29,9 +29,12 @@ use Rattle.cidr.specs.declared.addr.ip.IpAddr.{IpAddr}
 use Rattle.netset_commands.specs.declared.commands.describe.Description.{Description}
 use Rattle.netset_commands.specs.declared.commands.describe.Description.TheVariants.{Zones, Masks}
 use Rattle.netset_commands.specs.declared.commands.table.Verb.{Verb}
+use Rattle.netset_commands.specs.declared.commands.AtFault.{AtFault}
+use Rattle.netset_commands.specs.declared.commands.AtFault.TheVariants.{Stop, Tell, Skip}
 use Rattle.netset_commands.specs.declared.commands.Reading.{Reading}
 use Rattle.cidr_lists.specs.declared.columns.Column.{Column}
 use Rattle.cidr_lists.specs.declared.fields.Asked.{Asked}
+use Rattle.cidr_lists.specs.declared.lines.HostBits.{HostBits}
 use Rattle.cidr_lists.specs.declared.sets.Form.{Form}
 use Rattle.netset_commands.specs.declared.commands.operations.Operation.{Operation}
 use Rattle.netset_commands.specs.declared.commands.operations.Operation.TheVariants.{Minus, Not}
@@ -119,12 +122,19 @@ AreLists request names = (HasNoFirstList request × (names ≡ drop 1 (lists_of 
 abbrev pub ReadsInputTwice : Request → Type 0
 ReadsInputTwice request = 1 < count_by (is_word input_name) (lists_of request ++ others_of request)
 
+-- how networks are read by these options
+abbrev pub bits_of : List (List ℕ) → HostBits
+bits_of options = way_of (has (codes "--host-bits") options) (has (codes "--masks") options)
+
+-- what is done at a line in error, by whether -k and --skip-bad are given
+abbrev pub fault_way : Bool → Bool → AtFault
+fault_way false false = Stop
+fault_way true false = Tell
+fault_way keeps true = Skip
+
 -- how lists are read by these options
 abbrev pub reading_of : List (List ℕ) → Reading
-reading_of options = record {
-  host_bits = way_of (has (codes "--host-bits") options) (has (codes "--masks") options);
-  keeps_going = has (codes "-k") options;
-}
+reading_of options = record { host_bits = bits_of options; at_fault = fault_way (has (codes "-k") options) (has (codes "--skip-bad") options) }
 
 -- these are the lists of the files of these names
 abbrev pub AreTold : (List ℕ → Option Text) → List (List ℕ) → List Text → Type 0

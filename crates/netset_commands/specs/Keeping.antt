@@ -1,6 +1,6 @@
--- Every line in error of the lists of a request, as `-k` tells them.
-use Rattle.std.specs.Prelude.{◌≡◌, ◌≢◌, ℕ, Bool, true, false, if◌then◌else◌, List, [], ◌∷◌, ◌++◌, Option, Some, IfSome, option_map, Result, Ok, Err}
-use Rattle.std.specs.List.{AllZip, flat_map}
+-- Every line in error of the lists of a request, as `-k` tells them, and what is read without these, as `--skip-bad` does.
+use Rattle.std.specs.Prelude.{◌≡◌, ◌≢◌, ◌⊎◌, ◌&&◌, ℕ, Bool, true, false, if◌then◌else◌, List, [], ◌∷◌, ◌++◌, drop, Option, None, Some, IfSome, option_map, Result, Ok, Err}
+use Rattle.std.specs.List.{AllZip, find, flat_map}
 use Rattle.cidr.specs.declared.cidr.combined.IpCidr.{IpCidr}
 use Rattle.cidr.specs.declared.family.Family.{Family}
 use Rattle.cidr_io.specs.Collecting.{HasSaid}
@@ -12,6 +12,7 @@ use Rattle.cidr_lists.specs.Entries.{AreEntries}
 use Rattle.cidr_lists.specs.Lists.{Text, LineSays, lines_of, networks_in, text_by}
 use Rattle.cidr_lists.specs.Tables.{RowSays, Stores}
 use Rattle.netset_commands.specs.LookUps.{AddsRow}
+use Rattle.netset_commands.specs.Matching.{is_word}
 use Rattle.netset_commands.specs.Reading.{AddsLine, IsStopped}
 use Rattle.cidr_lists.specs.Reading.{listed}
 use Rattle.netset_commands.specs.declared.errors.CommandError.{CommandError}
@@ -20,6 +21,7 @@ use Rattle.cidr_lists.specs.declared.errors.LineError.{LineError}
 use Rattle.netset_commands.specs.declared.errors.ReadError.{ReadError}
 use Rattle.netset_commands.specs.declared.input.begun.Given.{Given}
 use Rattle.netset_commands.specs.declared.input.begun.Given.TheVariants.{Lines, Stored}
+use Rattle.netset_commands.specs.declared.input.keeping.Heard.{Heard}
 use Rattle.netset_commands.specs.declared.input.keeping.Kept.{Kept}
 use Rattle.cidr_lists.specs.declared.lines.Kind.{Kind}
 use Rattle.cidr_lists.specs.declared.lines.Kind.TheVariants as kind
@@ -27,7 +29,7 @@ use Rattle.netset_commands.specs.declared.input.keeping.Said.{Said}
 use Rattle.netset_commands.specs.declared.input.keeping.Said.TheVariants.{Networks, Hosts, Rows}
 use Rattle.cidr_lists.specs.declared.lines.HostBits.{HostBits}
 use Rattle.cidr_lists.specs.Messages.{fault_line}
-use Rattle.cidr_lists.specs.Faults.{IsFaulty, AreErrors, AreTellings, IsPartTold}
+use Rattle.cidr_lists.specs.Faults.{IsFaulty, AreErrors, AreTellings, IsPartTold, IsSound}
 
 -- what the lines of the lists of a request are
 abbrev pub kind_of : Request → Kind
@@ -72,6 +74,28 @@ abbrev pub IsBegun : (List ℕ → Option Text) → Kind → List (List ℕ) →
 IsBegun contents kind [] lines = lines ≡ []
 IsBegun contents kind (name ∷ names) lines = (text : Text) → contents name ≡ Some text → IsPartTold kind name text lines
 
+-- ---- without the lines in error
+-- what is read of a line: nothing of a line in error
+abbrev pub IsGoodLine : Kind → HostBits → List ℕ → List ℕ → Type 0
+IsGoodLine kind bits line good = (IsSound kind bits line × (good ≡ line)) ⊎ ((e : LineError) × IsFaulty kind bits line e × (good ≡ []))
+
+-- of some lines, each with a line feed in front
+abbrev pub AreGoodLines : Kind → HostBits → List (List ℕ) → List ℕ → Type 0
+AreGoodLines kind bits lines bytes =
+    (goods : List (List ℕ)) × AllZip (IsGoodLine kind bits) lines goods × (bytes ≡ flat_map (λ line. 10 ∷ line) goods)
+
+-- of a list: its lines, each of those in error left empty; a file of look-ups has none
+abbrev pub IsGoodText : Bool → Kind → Text → Text → Type 0
+IsGoodText true kind text good = good ≡ text
+IsGoodText false kind text good = (good.host_bits ≡ text.host_bits)
+    × (bytes : List ℕ) × AreGoodLines kind text.host_bits (lines_of text.bytes) bytes × (good.bytes ≡ drop 1 bytes)
+
+-- of a file, which is a list of the request or not
+abbrev pub IsGoodFile : Bool → Request → Option Text → Option Text → Type 0
+IsGoodFile true request contents good = (text : Text) → contents ≡ Some text
+    → (read : Text) × (good ≡ Some read) × IsGoodText (takes_file request && begins_file text.bytes) (kind_of request) text read
+IsGoodFile false request contents good = good ≡ contents
+
 -- ---- what private functions promise
 -- what the lines are
 abbrev pub kind_in : Said → Kind
@@ -113,16 +137,17 @@ KeepsLine bits file number line was now old block new rest (Ok true) = (e : Line
     × IsFaulty (kind_in was) bits line e × SaysMore old block new rest (fault_line file (number, e))
 KeepsLine bits file number line was now old block new rest (Err e) = IsStopped e × (new ≡ old) × (rest ≡ block)
 
--- what was told of lines, whether one is in error, and else what they say
-abbrev pub IsKept : Kind → HostBits → List ℕ → List (List ℕ) → List ℕ × Bool × Said → Type 0
-IsKept kind bits file lines kept = (errors : List (ℕ × LineError)) × AreErrors kind bits 1 lines errors
+-- what was told of lines, whether one is in error, and else what they say; and, if that is wanted, what is read of them
+abbrev pub IsKept : Kind → HostBits → List ℕ → Bool → List (List ℕ) → List ℕ × Bool × Said × List ℕ → Type 0
+IsKept kind bits file skips lines kept = (errors : List (ℕ × LineError)) × AreErrors kind bits 1 lines errors
     × (kept.0 ≡ flat_map (fault_line file) errors) × (kept.1 ≡ false → AllSaid bits lines kept.2)
+    × (skips ≡ true → AreGoodLines kind bits lines kept.3)
 
 -- the lines of a list were read, and those in error told
-abbrev pub KeepsListLines : Kind → HostBits → List ℕ → Option (List ℕ) → State → List ℕ → State → List ℕ → Result (Said × Bool) ReadError → Type 0
-KeepsListLines kind bits file left old block new rest (Ok kept) = (lines : List ℕ) × SaysMore old block new rest lines
-    × IsAny kept.1 lines × IfSome left (λ text. IsKept kind bits file (lines_of text) (lines, kept.1, kept.0))
-KeepsListLines kind bits file left old block new rest (Err e) = (lines : List ℕ) × SaysMore old block new rest lines × IsStopped e
+abbrev pub KeepsListLines : Kind → HostBits → List ℕ → Bool → Option (List ℕ) → State → List ℕ → State → List ℕ → Result Heard ReadError → Type 0
+KeepsListLines kind bits file skips left old block new rest (Ok heard) = (lines : List ℕ) × SaysMore old block new rest lines
+    × IsAny heard.is_bad lines × IfSome left (λ text. IsKept kind bits file skips (lines_of text) (lines, heard.is_bad, heard.said, heard.text.items))
+KeepsListLines kind bits file skips left old block new rest (Err e) = (lines : List ℕ) × SaysMore old block new rest lines × IsStopped e
     × IfSome left (λ text. IsPartTold kind file (text_by bits text) lines)
 
 -- this is kept of a list: what its lines say, or the bytes of a file of look-ups
@@ -135,12 +160,26 @@ abbrev pub AreErrorsTold : Kind → List ℕ → Text → List ℕ → Type 0
 AreErrorsTold kind file text lines = (errors : List (ℕ × LineError)) × AreErrors kind text.host_bits 1 (lines_of text.bytes) errors
     × (lines ≡ flat_map (fault_line file) errors)
 
--- the same of the list of a file, which may be a file of look-ups, or not
-abbrev pub KeepsList : Bool → Option Text → Kind → List ℕ → State → State → Result (Given Said × Bool) CommandError → Type 0
-KeepsList takes contents kind file old new (Ok kept) = (lines : List ℕ) × Tells old new lines × IsAny kept.1 lines
+-- the bytes that are read of what is kept of a list without its lines in error
+abbrev pub given_bytes : Given Said → List ℕ → List ℕ
+given_bytes (Lines said) text = drop 1 text
+given_bytes (Stored bytes) text = bytes.items
+
+abbrev pub good_bytes : Kept → List ℕ
+good_bytes list = given_bytes list.given list.text.items
+
+-- these are those of a text
+abbrev pub AreGoodBytes : Bool → Kind → Option Text → List ℕ → Type 0
+AreGoodBytes takes kind contents bytes = (text : Text) → contents ≡ Some text
+    → IsGoodText (takes && begins_file text.bytes) kind text (text_by text.host_bits bytes)
+
+-- the same of the list of a file, which may be a file of look-ups, or not, and, if that is wanted, what is read of it
+abbrev pub KeepsList : Bool → Option Text → Kind → List ℕ → Bool → State → State → Result (Kept × Bool) CommandError → Type 0
+KeepsList takes contents kind file skips old new (Ok kept) = (lines : List ℕ) × Tells old new lines × IsAny kept.1 lines
     × ((text : Text) → lined_in takes contents ≡ Some text → AreErrorsTold kind file text lines)
-    × (kept.1 ≡ false → (text : Text) → contents ≡ Some text → IsGivenBy text kept.0)
-KeepsList takes contents kind file old new (Err e) = (lines : List ℕ) × Tells old new lines × IsLoadError (file ∷ []) e
+    × (kept.1 ≡ false → (text : Text) → contents ≡ Some text → IsGivenBy text kept.0.given)
+    × (skips ≡ true → AreGoodBytes takes kind contents (good_bytes kept.0)) × (kept.0.name.now ≡ file)
+KeepsList takes contents kind file skips old new (Err e) = (lines : List ℕ) × Tells old new lines × IsLoadError (file ∷ []) e
     × ((text : Text) → lined_in takes contents ≡ Some text → IsPartTold kind file text lines)
 
 -- the lists say what is kept of them
@@ -148,6 +187,23 @@ abbrev pub AreKept : (List ℕ → Option Text) → List Kept → Type 0
 AreKept contents [] = Unit {0}
 AreKept contents (list ∷ lists) =
     ((text : Text) → contents list.name.now ≡ Some text → IsGivenBy text list.given) × AreKept contents lists
+
+-- the same without their lines in error
+abbrev pub AreGoodKept : Bool → (List ℕ → Option Text) → Kind → List (List ℕ) → List Kept → Type 0
+AreGoodKept takes contents kind names lists =
+    AllZip (λ name list. (list.name.now ≡ name) × AreGoodBytes takes kind (contents name) (good_bytes list)) names lists
+
+-- the first list of a name
+abbrev pub list_named : List ℕ → List Kept → Option Kept
+list_named name lists = find (λ list. is_word name list.name.now) lists
+
+-- what is read of a file, of which this is kept, or which is read from elsewhere
+abbrev pub good_file : HostBits → Option Kept → Option Text → Option Text
+good_file bits (Some list) contents = Some (text_by bits (good_bytes list))
+good_file bits None contents = option_map (λ text. text_by bits text.bytes) contents
+
+abbrev pub good_files : HostBits → List Kept → (List ℕ → Option Text) → List ℕ → Option Text
+good_files bits lists contents name = good_file bits (list_named name lists) (contents name)
 
 -- what was told of lists, if their bytes are told
 abbrev pub HasTold : (List ℕ → Option Text) → Kind → List (List ℕ) → State → State → List ℕ → Type 0

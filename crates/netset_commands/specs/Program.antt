@@ -1,5 +1,5 @@
 -- What a run of the program does with its arguments, the files, standard output and standard error.
-use Rattle.std.specs.Prelude.{◌≡◌, ◌≢◌, ℕ, ◌≤◌, Bool, true, false, List, [], ◌∷◌, ◌++◌, ◌⊎◌, codes, Option, Some, None, option_map, Result, Ok, Err, IfErr}
+use Rattle.std.specs.Prelude.{◌≡◌, ◌≢◌, ℕ, ◌≤◌, max, Bool, true, false, List, [], ◌∷◌, ◌++◌, ◌⊎◌, codes, Option, Some, None, option_map, Result, Ok, Err, IfErr}
 use Rattle.std.specs.List.{AllZip}
 use Rattle.cidr.specs.texts.Messages.{parse_message}
 use Rattle.cidr.specs.either.IpText.{IsIpNetworkText}
@@ -21,7 +21,7 @@ use Rattle.netset_commands.specs.Describing.{IsNoLength}
 use Rattle.netset_commands.specs.Free.{IsBadFree, IsBadLength, IsMost}
 use Rattle.netset_commands.specs.Operands.{IsNoNetworkText, IsUnlisted, IsUnreadOperand, OfOperand}
 use Rattle.cidr_lists.specs.Faults.{AreTellings}
-use Rattle.netset_commands.specs.Keeping.{IsBegun, IsLoadError, kind_of, lined, takes_file}
+use Rattle.netset_commands.specs.Keeping.{IsBegun, IsGoodFile, IsLoadError, good_files, kind_of, lined, takes_file}
 use Rattle.cidr_lists.specs.Messages.{fault_line, fault_words}
 use Rattle.cidr_lists.specs.Tables.{IsTable}
 use Rattle.netset_commands.specs.Look.{IsLookCut, IsUnreadTable}
@@ -38,12 +38,15 @@ use Rattle.netset_commands.specs.declared.errors.ArgumentError.{ArgumentError}
 use Rattle.netset_commands.specs.declared.errors.ArgumentError.TheVariants as bad
 use Rattle.netset_commands.specs.declared.errors.FileError.{FileError}
 use Rattle.netset_commands.specs.declared.errors.FileError.TheVariants.{TooLarge, NotSaved, Unlike, Version, Short, Long, Changed}
+use Rattle.netset_commands.specs.declared.commands.AtFault.{AtFault}
+use Rattle.netset_commands.specs.declared.commands.AtFault.TheVariants.{Stop, Tell, Skip}
 use Rattle.netset_commands.specs.declared.commands.Reading.{Reading}
 use Rattle.cidr_lists.specs.declared.columns.Column.{Column}
 use Rattle.cidr_lists.specs.declared.fields.Asked.{Asked}
 use Rattle.cidr_lists.specs.declared.lines.HostBits.{HostBits}
 use Rattle.netset_commands.specs.declared.output.answers.Verdict.{Verdict}
 use Rattle.netset_commands.specs.declared.output.answers.Verdict.TheVariants.{Yes, No}
+use Rattle.netset_commands.specs.declared.input.keeping.Kept.{Kept}
 use Rattle.netset_commands.specs.declared.errors.Reason.{Reason}
 use Rattle.netset_commands.specs.declared.errors.Reason.TheVariants.{NotFound, Denied, Directory, Unknown}
 use Rattle.netset_commands.specs.declared.errors.CommandError.{CommandError}
@@ -266,12 +269,20 @@ abbrev pub RunsAnswer : (List ℕ → Option Text) → Refusals → Request → 
 RunsAnswer contents refused request closed out new_out err new_err status = (r : Result Verdict CommandError)
     × AnswersRequest contents request out new_out r × IsCaused contents refused request r × Reports closed r err new_err × (status ≡ status_of r)
 
+-- a request, in whose lists of these names are lines in error, that were told: nothing is written, or it is answered by the
+-- other lines where the former are skipped, and no file is written; the status is at least 2
+abbrev pub RunsFaulty : Bool → List (List ℕ) → (List ℕ → Option Text) → Refusals → Request → Bool → State → State → State → State → ℕ → Type 0
+RunsFaulty false names contents refused request closed out new_out err new_err status = (new_out ≡ out) × (new_err ≡ err) × (status ≡ 2)
+RunsFaulty true names contents refused request closed out new_out err new_err status = (read : List ℕ → Option Text) × (answered : ℕ)
+    × ((name : List ℕ) → IsGoodFile (has name names) request (contents name) (read name))
+    × RunsAnswer read (record { memory = refused.memory; folder = true }) request closed out new_out err new_err answered × (status ≡ max answered 2)
+
 -- a request of whose lists each line in error is told, up to a list that can't be read, and then nothing is written; where
 -- there is none, the request is answered
-abbrev pub TellsFaults : (List ℕ → Option Text) → Refusals → Request → Bool → State → State → State → State → ℕ → Type 0
-TellsFaults contents refused request closed out new_out err new_err status = (names : List (List ℕ)) × AreLists request names × (lines : List ℕ) × (mid : State) × Tells err mid lines
+abbrev pub TellsFaults : Bool → (List ℕ → Option Text) → Refusals → Request → Bool → State → State → State → State → ℕ → Type 0
+TellsFaults skips contents refused request closed out new_out err new_err status = (names : List (List ℕ)) × AreLists request names × (lines : List ℕ) × (mid : State) × Tells err mid lines
     × ((((texts : List Text) → AreTold (lined (takes_file request) contents) names texts → AreTellings (kind_of request) names texts lines)
-    × (((lines ≢ []) × (new_out ≡ out) × (new_err ≡ mid) × (status ≡ 2))
+    × (((lines ≢ []) × RunsFaulty skips names contents refused request closed out new_out mid new_err status)
     ⊎ ((lines ≡ []) × RunsAnswer contents refused request closed out new_out mid new_err status)))
     ⊎ ((before after : List (List ℕ)) × (names ≡ before ++ after) × (front rest : List ℕ) × (lines ≡ front ++ rest)
     × ((texts : List Text) → AreTold (lined (takes_file request) contents) before texts → AreTellings (kind_of request) before texts front)
@@ -279,17 +290,17 @@ TellsFaults contents refused request closed out new_out err new_err status = (na
     × EndsWith e closed out new_out mid new_err status))
 
 -- the same, where no argument is wrong, and there is memory for the names of the lists
-abbrev pub KeepsGoing : (List ℕ → Option Text) → Refusals → Request → Bool → State → State → State → State → ℕ → Type 0
-KeepsGoing contents refused request closed out new_out err new_err status =
+abbrev pub KeepsGoing : Bool → (List ℕ → Option Text) → Refusals → Request → Bool → State → State → State → State → ℕ → Type 0
+KeepsGoing skips contents refused request closed out new_out err new_err status =
     ((e : CommandError) × IsWrong request e × EndsWith e closed out new_out err new_err status)
-    ⊎ ((((e : CommandError) → ¬ (IsWrong request e)) × TellsFaults contents refused request closed out new_out err new_err status)
+    ⊎ ((((e : CommandError) → ¬ (IsWrong request e)) × TellsFaults skips contents refused request closed out new_out err new_err status)
     ⊎ ((refused.memory ≡ true) × EndsWith error.NoMemory closed out new_out err new_err status))
 
--- what becomes of a request, its lists read this way
-abbrev pub RunsRequest : Reading → (List ℕ → Option Text) → Refusals → Request → Bool → State → State → State → State → ℕ → Type 0
-RunsRequest reading contents refused request closed out new_out err new_err status =
-    ((reading.keeps_going ≡ true) × KeepsGoing contents refused request closed out new_out err new_err status)
-    ⊎ ((reading.keeps_going ≡ false) × RunsAnswer contents refused request closed out new_out err new_err status)
+-- what becomes of a request, by what is done at a line in error
+abbrev pub RunsRequest : AtFault → (List ℕ → Option Text) → Refusals → Request → Bool → State → State → State → State → ℕ → Type 0
+RunsRequest Stop contents refused request closed out new_out err new_err status = RunsAnswer contents refused request closed out new_out err new_err status
+RunsRequest Tell contents refused request closed out new_out err new_err status = KeepsGoing false contents refused request closed out new_out err new_err status
+RunsRequest Skip contents refused request closed out new_out err new_err status = KeepsGoing true contents refused request closed out new_out err new_err status
 
 -- the error is that the standard input is read already
 abbrev pub IsReadTwice : CommandError → Type 0
@@ -299,7 +310,7 @@ IsReadTwice e = IsBadArgument (λ text why. (text ≡ input_name) × (why ≡ ba
 abbrev pub RunsOnce : Reading → (List ℕ → Option (List ℕ)) → Refusals → Request → Bool → State → State → State → State → ℕ → Type 0
 RunsOnce reading contents refused request closed out new_out err new_err status =
     (ReadsInputTwice request × (e : CommandError) × IsReadTwice e × EndsWith e closed out new_out err new_err status)
-    ⊎ (¬ (ReadsInputTwice request) × RunsRequest reading (contents_by reading.host_bits contents) refused request closed out new_out err new_err status)
+    ⊎ (¬ (ReadsInputTwice request) × RunsRequest reading.at_fault (contents_by reading.host_bits contents) refused request closed out new_out err new_err status)
 
 -- an output that nothing was written to yet
 abbrev pub empty : State
@@ -362,3 +373,10 @@ RunsFound found contents refused closed out new_out err new_err status =
 abbrev pub IntoFound : List ℕ → Reading → (List ℕ → Option (List ℕ)) → Refusals → Request → State → State → ℕ → Type 0
 IntoFound name reading contents refused request err new_err status = (closed : Bool) (out : State)
     → RunsFound (Ok (reading, (Some name, request))) contents refused closed out out err new_err status
+
+-- of lists in which lines are in error this is kept, and a request was answered by the other lines
+abbrev pub RunsGood : List Kept → (List ℕ → Option Text) → Refusals → Request → Bool → State → State → State → State → ℕ → Type 0
+RunsGood lists contents refused request closed out new_out err new_err status = (bits : HostBits) × (answered : ℕ)
+    × ((name : List ℕ) (text : Text) → contents name ≡ Some text → text.host_bits ≡ bits)
+    × RunsAnswer (good_files bits lists contents) (record { memory = refused.memory; folder = true }) request closed out new_out err new_err answered
+    × (status ≡ max answered 2)

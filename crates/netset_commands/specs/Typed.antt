@@ -1,13 +1,13 @@
 -- Requests as they are mostly typed, and what a run of one has written that ends with status 0 or 1: its answer, and nothing
 -- else.
-use Rattle.std.specs.Prelude.{◌≡◌, ◌⊎◌, ℕ, true, false, List, [], ◌∷◌, ◌++◌, codes, Option, Some, None}
+use Rattle.std.specs.Prelude.{◌≡◌, ◌⊎◌, ◌||◌, ℕ, true, false, List, [], ◌∷◌, ◌++◌, codes, Option, Some, None}
 use Rattle.std.specs.List.{flat_map, list_all, list_any}
 use Rattle.cidr_io.specs.Writing.{State, Whole, Tells}
 use Rattle.cidr_lists.specs.Lists.{Text}
 use Rattle.cidr_lists.specs.Formats.{IsBare, Style, format_name}
 use Rattle.cidr_lists.specs.Rules.{compared_with, is_shadowed}
-use Rattle.netset_commands.specs.Arguments.{asks_help, is_option, missing_operand, takes}
-use Rattle.netset_commands.specs.Commands.{Request, Lists, Styled, NotIn, Diff, Free, Acl, Split, Check, Which, Match, MatchEach, Look, Compile, Describe, Class, Single, Help, Version, IsAnswer, input_name, reading_of}
+use Rattle.netset_commands.specs.Arguments.{asks_help, is_option, missing_operand, takes, tells_two_ways}
+use Rattle.netset_commands.specs.Commands.{Request, Lists, Styled, NotIn, Diff, Free, Acl, Split, Check, Which, Match, MatchEach, Look, Compile, Describe, Class, Single, Help, Version, IsAnswer, bits_of, input_name}
 use Rattle.netset_commands.specs.Free.{First, Count, All}
 use Rattle.netset_commands.specs.Matching.{has}
 use Rattle.netset_commands.specs.Picking.{Choice, FirstField, FieldOf}
@@ -19,11 +19,11 @@ use Rattle.netset_commands.specs.declared.commands.table.Verb.{Verb}
 use Rattle.netset_commands.specs.declared.commands.table.Verb.TheVariants as verb
 use Rattle.netset_commands.specs.declared.output.answers.Verdict.{Verdict}
 
--- the words are a command, options that it has, none of which asks for its page, an option with its value or none, and as many
--- operands as it needs: words that don't begin with -, or - itself
+-- the words are a command, options that it has, none of which asks for its page, and not both -k and --skip-bad, an option with
+-- its value or none, and as many operands as it needs: words that don't begin with -, or - itself
 abbrev pub AreTyped : Verb → List (List ℕ) → List (List ℕ) → List (List ℕ) → List (List ℕ) → Type 0
 AreTyped command options valued operands words = (words ≡ name_of command ∷ (options ++ (valued ++ operands)))
-    × (list_all (takes command) options ≡ true) × (asks_help options ≡ false)
+    × (list_all (takes command) options ≡ true) × ((asks_help options || tells_two_ways options) ≡ false)
     × (list_any is_option operands ≡ false) × (missing_operand command operands ≡ None)
 
 -- the same of a list and a file, or without the file of a list and the standard input
@@ -86,4 +86,4 @@ HasAnswered contents request verdict out new_out err new_err =
 abbrev pub AnswersTyped : Option (List (List ℕ)) → (List ℕ → Option (List ℕ)) → State → State → State → State → ℕ → Type 0
 AnswersTyped words contents out new_out err new_err status = (given options : List (List ℕ)) (request : Request) (verdict : Verdict)
     → words ≡ Some given → IsTyped given options request → status ≡ answer_status verdict
-    → HasAnswered (contents_by (reading_of options).host_bits contents) request verdict out new_out err new_err
+    → HasAnswered (contents_by (bits_of options) contents) request verdict out new_out err new_err

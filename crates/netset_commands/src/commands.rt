@@ -2,7 +2,7 @@
 ghost use Rattle.std.specs.Prelude.{◌≡◌, ◌<◌, ◌++◌, count_by, true, IfOk, OnErr};
 ghost use Rattle.std.specs.Bool.{Decides};
 ghost use Rattle.netset_commands.specs.Command.{request_of};
-ghost use Rattle.netset_commands.specs.Commands.{AreLists, HasNoFirstList, IsNoList, input_name, lists_of, others_of, reading_of};
+ghost use Rattle.netset_commands.specs.Commands.{AreLists, HasNoFirstList, IsNoList, fault_way, input_name, lists_of, others_of, reading_of};
 ghost use Rattle.netset_commands.specs.Keeping.{kind_of, takes_file};
 ghost use Rattle.netset_commands.specs.Matching.{is_word};
 ghost use Rattle.netset_commands.specs.Operands.{ReadsAsNetwork};
@@ -85,13 +85,24 @@ pub enum Command<'a> {
     Version,
 }
 
+/// What is done at a line in error.
+#[derive(Clone, Copy, Debug, Drop, PartialEq)]
+pub enum AtFault {
+    /// It is told, and no line behind it is read.
+    Stop,
+    /// Each is told, and there is no answer.
+    Tell,
+    /// Each is told, and the answer is that of the other lines.
+    Skip,
+}
+
 /// How lists are read.
 #[derive(Clone, Copy, Debug, Drop, PartialEq)]
 pub struct Reading {
     /// What is done with a set bit after the prefix of a network.
     pub host_bits: HostBits,
-    /// Whether reading goes on behind a line in error, to tell others too.
-    pub keeps_going: bool,
+    /// What is done at a line in error.
+    pub at_fault: AtFault,
 }
 
 /// Whether a file is the standard input.
@@ -280,12 +291,23 @@ fn is_network(operand: &str) -> bool
     }
 }
 
+/// What is done at a line in error, by whether `-k` and `--skip-bad` are given.
+fn fault_way(keeps: bool, skips: bool) -> AtFault
+    ensures { result ≡ fault_way keeps skips }
+{
+    match (keeps, skips) {
+        (false, false) => AtFault::Stop,
+        (true, false) => AtFault::Tell,
+        (_, true) => AtFault::Skip,
+    }
+}
+
 /// How lists are read by these options.
 pub fn reading_of(options: &[&str]) -> Reading
     ensures { result ≡ reading_of (texts options.now) }
 {
     Reading {
         host_bits: HostBits::by(has(options, "--host-bits"), has(options, "--masks")),
-        keeps_going: has(options, "-k"),
+        at_fault: fault_way(has(options, "-k"), has(options, "--skip-bad")),
     }
 }

@@ -51,6 +51,8 @@ pub enum Misfit {
     NoField,
     /// It is an option that does not go with `--any`.
     Anywhere,
+    /// It is an option that does not go with `--skip-bad`.
+    Skipping,
 }
 
 /// Why the arguments are no command.

@@ -3,6 +3,7 @@
 pub mod begun;
 pub mod entries;
 pub mod files;
+pub mod good;
 pub mod keeping;
 pub mod lists;
 pub mod operands;

@@ -1,5 +1,5 @@
 //! A run of the program, from its arguments to its exit status.
-ghost use Rattle.std.specs.Prelude.{◌≡◌, ℕ, Bool, true, List, Option, None, Some, map, IfErr, MatchOption, Ok};
+ghost use Rattle.std.specs.Prelude.{◌≡◌, ◌≤◌, ℕ, Bool, true, List, Option, None, Some, map, IfErr, MatchOption, Ok};
 ghost use Rattle.cidr_io.specs.Arguments.{AreUnread, IsNotText};
 ghost use Rattle.std.specs.String.{string_bytes};
 ghost use Rattle.netset_commands.specs.Causes.{Cause, FileMayFail};
@@ -12,7 +12,7 @@ ghost use Rattle.cidr_lists.specs.Formats.{style_in};
 ghost use Rattle.netset_commands.specs.Sets.{Prints};
 ghost use Rattle.cidr_lists.specs.Sets.{networks_of};
 ghost use Rattle.netset_commands.specs.declared.errors.CommandError.{CommandError};
-ghost use Rattle.netset_commands.specs.Program.{AnswersRequest, IntoFound, IsCaused, IsNotSaved, IsReadTwice, IsWrong, KeepsGoing, Runs, RunsFound, contents_by};
+ghost use Rattle.netset_commands.specs.Program.{AnswersRequest, IntoFound, IsCaused, IsNotSaved, IsReadTwice, IsWrong, KeepsGoing, Runs, RunsFound, RunsGood, contents_by};
 ghost use Rattle.netset_commands.specs.Typed.{AnswersTyped};
 
 use crate::commands::acl::acl;
@@ -34,10 +34,11 @@ use crate::commands::single::{answer_single, network_of};
 use crate::commands::split::split;
 use crate::commands::table::Verb;
 use crate::commands::which::{address_of, which};
-use crate::commands::{Command, Reading, name_input_twice, reading_of};
+use crate::commands::{AtFault, Command, Reading, name_input_twice, reading_of};
 use crate::errors::{ArgumentError, CommandError, FileError, UsageError};
 use crate::input::files::{Files, ReadBy, Sources};
-use crate::input::keeping::{Loaded, load};
+use crate::input::good::GoodLists;
+use crate::input::keeping::{Kept, Loaded, load};
 use crate::input::several::read_several;
 use crate::output::answers::{Verdict, by_output};
 use crate::output::folder::{Folder, Sealed};
@@ -192,17 +193,42 @@ fn wrong_argument<'a>(command: Command<'a>) -> Option<CommandError<'a>>
     }
 }
 
-/// Tells the lines in error of the lists of a command while they are read, and answers it if there are none, reports and
-/// returns the exit status.
-fn keep_going<'a, M: Memory, F: Sources, D: Folder, O: Output, E: Sink>(
+/// Answers a command by lists without their lines in error, which were told, reports and returns the exit status, which is at
+/// least 2. No file is written. Its commands take no room on the stack of others.
+#[inline(never)]
+fn answer_good<'a, M: Memory, F: Sources, O: Output, E: Sink>(
     memory: &mut M,
     sources: &F,
-    folder: &mut D,
+    lists: &[Kept<'_>],
     command: Command<'a>,
     out: &mut O,
     err: &mut E,
 ) -> u8
-    ensures goes { KeepsGoing (F.contents sources.now) (record { memory = M.refused memory.new; folder = D.refused folder.new }) (request_of command.entry)
+    ensures above { 2 ≤ result }
+    ensures runs { (folder : Bool) → RunsGood lists.now (F.contents sources.now) (record { memory = M.refused memory.new; folder = folder }) (request_of command.entry)
+        (O.closed out.new) (O.Sink.state out.old) (O.Sink.state out.new) (E.state err.old) (E.state err.new) result }
+{
+    let good = GoodLists {
+        lists,
+        sources,
+        host_bits: sources.host_bits(),
+    };
+    let answered = answer(memory, &good, &mut Sealed, command, out);
+    report(&answered, out.is_closed(), err).max(2)
+}
+
+/// Tells the lines in error of the lists of a command while they are read, and answers it if there are none or if these are
+/// skipped, reports and returns the exit status.
+fn keep_going<'a, M: Memory, F: Sources, D: Folder, O: Output, E: Sink>(
+    memory: &mut M,
+    sources: &F,
+    folder: &mut D,
+    skips: bool,
+    command: Command<'a>,
+    out: &mut O,
+    err: &mut E,
+) -> u8
+    ensures goes { KeepsGoing skips (F.contents sources.now) (record { memory = M.refused memory.new; folder = D.refused folder.new }) (request_of command.entry)
         (O.closed out.new) (O.Sink.state out.old) (O.Sink.state out.new) (E.state err.old) (E.state err.new) result }
     ensures leaves { LeavesBy (F.contents sources.now) (request_of command.entry) (D.saved folder.old) (D.saved folder.new) result }
 {
@@ -218,10 +244,17 @@ fn keep_going<'a, M: Memory, F: Sources, D: Folder, O: Output, E: Sink>(
         sources,
         command.kind(),
         command.takes_file(),
+        skips,
         names,
         err,
     ) {
-        Ok((_, true)) => 2,
+        Ok((lists, true)) => {
+            if skips {
+                answer_good(memory, sources, lists.as_slice(), command, out, err)
+            } else {
+                2
+            }
+        }
         Ok((lists, false)) => {
             let loaded = Loaded::new(sources, lists.as_slice());
             let answered = answer(memory, &loaded, folder, command, out);
@@ -262,11 +295,14 @@ fn answer_once<'a, M: Memory, F: Files, D: Folder, O: Output, E: Sink>(
         files,
         host_bits: reading.host_bits,
     };
-    if reading.keeps_going {
-        return keep_going(memory, &sources, folder, command, out, err);
+    match reading.at_fault {
+        AtFault::Stop => {
+            let answered = answer(memory, &sources, folder, command, out);
+            report(&answered, out.is_closed(), err)
+        }
+        AtFault::Tell => keep_going(memory, &sources, folder, false, command, out, err),
+        AtFault::Skip => keep_going(memory, &sources, folder, true, command, out, err),
     }
-    let answered = answer(memory, &sources, folder, command, out);
-    report(&answered, out.is_closed(), err)
 }
 
 /// The error of a file that can't be written.

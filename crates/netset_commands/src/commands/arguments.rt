@@ -1,11 +1,11 @@
 //! The words of a command line as options and operands, and the command that they are.
 ghost use Rattle.std.specs.Prelude.{◌≡◌, ◌<◌, [], Ok, Err, Bool, true, false, length, drop, MatchOption, MatchResult, option_map, slice_get, unwrap_or};
 ghost use Rattle.std.specs.List.{after_first, before_first};
-ghost use Rattle.netset_commands.specs.Arguments.{asks_help, choice_by, choice_in, chosen_style, extent_by, extra_operand, free_request, fresh, full_name, help_request, is_equals, is_option, is_plain, is_topic, letter_parts, line_parts, lists_request, long_parts, look_by, look_request, made_request, match_by, match_request, missing_operand, misuse_text, named_format, named_verb, no_option, no_parts, operand_or, part_request, parts_from, question_by, short_option, short_parts, some_style, split_request, style_in_values, style_of, taken_value, takes, target_in, topic_parts, value_of, verb_of, verb_request, word_parts};
+ghost use Rattle.netset_commands.specs.Arguments.{asks_help, choice_by, choice_in, chosen_style, extent_by, extra_operand, free_request, fresh, full_name, help_request, is_equals, is_option, is_plain, is_topic, letter_parts, line_parts, lists_request, long_parts, look_by, look_request, made_request, match_by, match_request, missing_operand, misuse_text, named_format, named_verb, no_option, no_parts, operand_or, part_request, parts_from, question_by, short_option, short_parts, some_style, split_request, style_in_values, style_of, taken_value, takes, target_by, target_in, topic_parts, value_of, verb_of, verb_request, word_parts};
 ghost use Rattle.netset_commands.specs.Command.{AddsParts, IsUsageError, choice_of, extent_of, given, misuse_line, given_parts, question_of, request_of};
 ghost use Rattle.netset_commands.specs.Matching.{is_word};
 ghost use Rattle.netset_commands.specs.Table.{name_of, takes_value, texts};
-ghost use Rattle.netset_commands.specs.declared.errors.Misfit.TheVariants.{NotPlain};
+ghost use Rattle.netset_commands.specs.declared.errors.Misfit.TheVariants.{NotPlain, Skipping};
 ghost use Rattle.cidr_lists.specs.Formats.{style_in};
 ghost use Rattle.netset_commands.specs.declared.commands.table.Verb.TheVariants.{Acl as AsAcl};
 
@@ -838,6 +838,35 @@ pub fn command_of<'a>(command: Verb, parts: &'a Parts<'a>) -> Result<Command<'a>
     verb_command(command, parts)
 }
 
+/// The error of an option that does not go with `--skip-bad`.
+fn not_skipping<'a>(command: Verb, option: &'static str) -> Misuse<'a>
+    ensures { misuse_line result ≡ misuse_text option.now Skipping (name_of command) }
+{
+    Misuse {
+        word: option,
+        why: Misfit::Skipping,
+        command: name_of(command),
+    }
+}
+
+/// The file that the answer is written to, by whether `-k` and `--skip-bad` are given: the latter goes with none.
+fn target_by<'a>(
+    command: Verb,
+    keeps: bool,
+    skips: bool,
+    target: Option<&'a str>,
+) -> Result<Option<&'a str>, Misuse<'a>>
+    ensures { MatchResult result (λ now. target_by command keeps skips (given target.entry) ≡ Ok (given now))
+        (λ misuse. target_by command keeps skips (given target.entry) ≡ Err (misuse_line misuse)) }
+{
+    match (keeps, skips, target) {
+        (_, false, _) => Ok(target),
+        (true, true, _) => Err(not_skipping(command, "-k")),
+        (false, true, Some(_)) => Err(not_skipping(command, "-o")),
+        (false, true, None) => Ok(None),
+    }
+}
+
 /// The file that the answer is written to, if one is named. The page of a command is written to the standard output.
 pub fn target_of<'a>(command: Verb, parts: &Parts<'a>) -> Result<Option<&'a str>, Misuse<'a>>
     ensures { MatchResult result (λ target. target_in command (given_parts parts.now) ≡ Ok (given target))
@@ -846,5 +875,12 @@ pub fn target_of<'a>(command: Verb, parts: &Parts<'a>) -> Result<Option<&'a str>
     if asks_help(parts.options.as_slice()) {
         return Ok(None);
     }
-    value_of(command, "-o", parts.values.as_slice())
+    let target = value_of(command, "-o", parts.values.as_slice())?;
+    let options = parts.options.as_slice();
+    target_by(
+        command,
+        has(options, "-k"),
+        has(options, "--skip-bad"),
+        target,
+    )
 }

@@ -124,6 +124,9 @@ pub const HOST_BITS: &str =
 pub const KEEP_GOING: &str =
     "-k                      each line of a list in error is told, and not only the first\n";
 
+pub const SKIP_BAD: &str =
+    "--skip-bad              each line of a list in error is told, and the answer is that of the other\n                        lines; the status is 2 then, or 3; it goes neither with -k nor with -o\n";
+
 pub const FORMAT: &str =
     "--format NAME           how the networks are written: plain, json, nft, ipset, iptables,\n                        cisco, juniper or bird\n--prefix TEXT, --suffix TEXT\n                        with the format plain, what stands in front of a network and behind\n";
 
@@ -135,7 +138,7 @@ pub const OPTIONS: &str =
     "\nOptions stand anywhere behind the command; those of one letter may be joined, as -vc:\n";
 
 pub const LISTS: &str =
-    "-h, --help              what this page says of the command\n--                      what is behind it are no options\n--host-bits and --masks are for commands that read lists, but check and which, -k for all that read\nlists but acl, --format, --prefix and --suffix are for merge, nets, minus, and, not, free and split,\nand -o is for these, ranges, count, diff, acl, reverse and mask.\n\nA line of a list is a network, an address or a range FIRST-LAST, and may end in a comment\nfrom # or ; on. The file - is the standard input, which is also read where no file is named.\nStatus: 0 done, 1 none, a difference or findings, 2 usage, a wrong argument, a file that\ncannot be read or a line in error, 3 output or memory.\n";
+    "-h, --help              what this page says of the command\n--                      what is behind it are no options\n--host-bits and --masks are for commands that read lists, but check and which, -k for all that read\nlists but acl, --skip-bad for these but compile; --format, --prefix and --suffix are for merge,\nnets, minus, and, not, free and split, -o for these, ranges, count, diff, acl, reverse and mask.\n\nA line of a list is a network, an address or a range FIRST-LAST, and may end in a comment\nfrom # or ; on. The file - is the standard input, which is also read where no file is named.\nStatus: 0 done, 1 none, a difference or findings, 2 usage, a wrong argument, a file that\ncannot be read or a line in error, 3 output or memory.\n";
 
 /// The commands, in their order on the page.
 pub fn commands() -> &'static [Verb]
@@ -180,18 +183,28 @@ pub fn options_of(command: Verb) -> &'static [&'static str]
     ensures { texts result.now ≡ options_of command }
 {
     match command {
-        Verb::Lists(_) | Verb::Diff | Verb::Compile | Verb::Describe(_) | Verb::Split => {
-            &["--host-bits", "--masks", "-k", "-h", "--help"]
+        Verb::Lists(_) | Verb::Diff | Verb::Describe(_) | Verb::Split => {
+            &["--host-bits", "--masks", "-k", "--skip-bad", "-h", "--help"]
         }
-        Verb::Free => &["--all", "--host-bits", "--masks", "-k", "-h", "--help"],
+        Verb::Compile => &["--host-bits", "--masks", "-k", "-h", "--help"],
+        Verb::Free => &[
+            "--all",
+            "--host-bits",
+            "--masks",
+            "-k",
+            "--skip-bad",
+            "-h",
+            "--help",
+        ],
         Verb::Acl => &["--shadowed", "--host-bits", "--masks", "-h", "--help"],
-        Verb::Check | Verb::Which => &["-k", "-h", "--help"],
+        Verb::Check | Verb::Which => &["-k", "--skip-bad", "-h", "--help"],
         Verb::Look => &[
             "--any",
             "--keep",
             "--host-bits",
             "--masks",
             "-k",
+            "--skip-bad",
             "-h",
             "--help",
         ],
@@ -203,6 +216,7 @@ pub fn options_of(command: Verb) -> &'static [&'static str]
             "--host-bits",
             "--masks",
             "-k",
+            "--skip-bad",
             "-h",
             "--help",
         ],

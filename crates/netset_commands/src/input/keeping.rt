@@ -1,8 +1,7 @@
-//! Telling every line in error of the lists of a command, in the pass that reads them.
-ghost use Rattle.std.specs.Prelude.{◌≡◌, ◌++◌, ℕ, List, Option, Some, map, MatchResult, IfErr, IfSome, true};
+//! Telling every line in error of the lists of a command, in the pass that reads them, and keeping what the others say.
+ghost use Rattle.std.specs.Prelude.{◌≡◌, ◌∷◌, ◌++◌, ◌+◌, drop, false, length, map, option_copied, take, true, MatchResult, IfErr, IfOk, OnErr};
 ghost use Rattle.netset_commands.specs.Causes.{Cause, FileMayFail, ReadCause, TextFails};
-ghost use Rattle.netset_commands.specs.Keeping.{AddsBy, AreKept, IsGivenBy, IsNothingSaid, KeepsLine, KeepsListLines, KeepsList, lined};
-ghost use Rattle.cidr_lists.specs.Lists.{Text};
+ghost use Rattle.netset_commands.specs.Keeping.{AddsBy, AreKept, IsNothingSaid, KeepsLine, KeepsListLines, KeepsList, good_bytes, lined, list_named};
 ghost use Rattle.netset_commands.specs.Loading.{AreListsLoaded, IsUnloaded};
 
 use crate::errors::{CommandError, ReadError, Reason};
@@ -20,7 +19,7 @@ use cidr_lists::entries::{Entry, Place};
 use cidr_lists::lines::{HostBits, Kind};
 use cidr_lists::lists::Lists;
 use cidr_lists::rows::Rows;
-use std::alloc::Global;
+use std::alloc::{AllocError, Global};
 use std::marker::Model;
 
 /// What the lines of a list say, those in error left out.
@@ -90,59 +89,143 @@ fn keep_line<M: Memory, E: Sink>(
     }
 }
 
-/// Reads the lines of a list to its end, and tells those in error: what the others say, and whether one is in error.
+/// Adds a line to a text, with a line feed in front, if lines are to be skipped: how long the text is without the bytes of the
+/// line.
+fn begin_line<M: Memory>(
+    memory: &mut M,
+    skips: bool,
+    line: &[u8],
+    text: &mut Vec<u8>,
+) -> Result<usize, AllocError>
+    ensures added { IfOk result (λ len. skips ≡ true
+        → (text.new.items ≡ text.old.items ++ 10 ∷ line.now) × (len ≡ length text.old.items + 1)) }
+    ensures refused { OnErr result (M.refused memory.new ≡ true) }
+{
+    if !skips {
+        return Ok(0);
+    }
+    memory.push(text, b'\n')?;
+    let len = text.len();
+    let added = text.extend_from_slice(line);
+    memory.watch(added)?;
+    Ok(len)
+}
+
+/// Takes the bytes of a line away that was added to a text last, if it is in error.
+fn end_line(is_bad: bool, len: usize, text: &mut Vec<u8>)
+    ensures bad { is_bad ≡ true → text.new.items ≡ take len text.old.items }
+    ensures good { is_bad ≡ false → text.new.items ≡ text.old.items }
+{
+    if is_bad {
+        text.truncate(len);
+    }
+}
+
+/// What was read of the lines of a list.
+#[derive(Drop)]
+pub struct Heard {
+    /// What those say that are not in error.
+    pub said: Said,
+    /// If lines are to be skipped, all of them, with a line feed in front of each, those in error left empty; else nothing.
+    pub text: Vec<u8>,
+    /// Whether one is in error.
+    pub is_bad: bool,
+}
+
+/// Reads the lines of a list to its end, and tells those in error.
 fn keep_lines<M: Memory, S: Source + Drop, E: Sink>(
     memory: &mut M,
     kind: Kind,
     host_bits: HostBits,
     file: &str,
+    skips: bool,
     reader: &mut LineReader<S>,
     block: &mut Block,
     err: &mut E,
-) -> Result<(Said, bool), ReadError>
-    ensures keeps { KeepsListLines kind host_bits file.now reader.old.left
+) -> Result<Heard, ReadError>
+    ensures keeps { KeepsListLines kind host_bits file.now skips reader.old.left
         (E.state err.old) block.old (E.state err.new) block.new result }
     ensures cause { IfErr result (ReadCause (TextFails reader.old.left) (M.refused memory.new)) }
 {
     let mut said = Said::new(memory.alloc(), kind);
+    let mut text = Vec::new(memory.alloc());
     let mut found = false;
     for number in 1..u64::MAX {
         let has_more = reader.read_line(memory)?;
+        let line = reader.line();
+        let len = begin_line(memory, skips, line, &mut text)?;
         let place = Place { file, number };
-        let is_bad = keep_line(
-            memory,
-            host_bits,
-            place,
-            reader.line(),
-            &mut said,
-            block,
-            err,
-        )?;
+        let is_bad = keep_line(memory, host_bits, place, line, &mut said, block, err)?;
+        end_line(is_bad, len, &mut text);
         found |= is_bad;
         if !has_more {
-            return Ok((said, found));
+            return Ok(Heard {
+                said,
+                text,
+                is_bad: found,
+            });
         }
     }
     Err(ReadError::Input)
 }
 
-/// Reads a list to its end, and tells its lines in error: what the others say, and whether one is in error. Where it may be
-/// a file of look-ups and begins as one, these are its bytes, and no line is in error.
+/// A list that was read whole.
+#[derive(Drop)]
+pub struct Kept<'a> {
+    pub name: &'a str,
+    /// What those of its lines say that are not in error, or the bytes of a file of look-ups.
+    pub given: Given<Said>,
+    /// The same lines, as [`Heard`] has them.
+    pub text: Vec<u8>,
+}
+
+impl Kept<'_> {
+    /// What is read of the list where lines in error are skipped.
+    pub fn good_bytes(&self) -> &[u8]
+        ensures { result.now ≡ good_bytes self.now }
+    {
+        match &self.given {
+            Given::Lines(_) => behind_first(self.text.as_slice()),
+            Given::Stored(bytes) => bytes.as_slice(),
+        }
+    }
+}
+
+/// The bytes behind the first one.
+fn behind_first(bytes: &[u8]) -> &[u8]
+    ensures { result.now ≡ drop 1 bytes.now }
+{
+    match bytes.split_first() {
+        Some((_, rest)) => rest,
+        None => &[],
+    }
+}
+
+/// Reads a list to its end, and tells its lines in error: what is kept of it, and whether a line is in error. Where it may be
+/// a file of look-ups and begins as one, none is.
 fn keep_list<'a, M: Memory, F: Sources, E: Sink>(
     memory: &mut M,
     sources: &F,
     kind: Kind,
     takes_file: bool,
+    skips: bool,
     file: &'a str,
     err: &mut E,
-) -> Result<(Given<Said>, bool), CommandError<'a>>
-    ensures keeps { KeepsList takes_file (F.contents sources.now file.now) kind file.now (E.state err.old) (E.state err.new) result }
+) -> Result<(Kept<'a>, bool), CommandError<'a>>
+    ensures keeps { KeepsList takes_file (F.contents sources.now file.now) kind file.now skips (E.state err.old) (E.state err.new) result }
     ensures cause { IfErr result (Cause (FileMayFail (F.contents sources.now)) (M.refused memory.new)) }
 {
     let begun = begin_file(sources, file)?;
     if takes_file && begun.is_stored() {
         let bytes = read_whole(memory, file, begun)?;
-        return Ok((Given::Stored(bytes), false));
+        return Ok((
+            Kept {
+                name: file,
+                given: Given::Stored(bytes),
+                text: Vec::new(memory.alloc()),
+            },
+            false,
+        ));
     }
     let Ok(mut reader) = LineReader::new(memory, begun) else {
         return Err(CommandError::NoMemory);
@@ -153,38 +236,38 @@ fn keep_list<'a, M: Memory, F: Sources, E: Sink>(
         kind,
         sources.host_bits(),
         file,
+        skips,
         &mut reader,
         &mut block,
         err,
     );
     block.end(err);
     match kept {
-        Ok((said, found)) => Ok((Given::Lines(said), found)),
+        Ok(heard) => Ok((
+            Kept {
+                name: file,
+                given: Given::Lines(heard.said),
+                text: heard.text,
+            },
+            heard.is_bad,
+        )),
         Err(e) => Err(unread(file, e)),
     }
 }
 
-/// A list that was read whole, and has no line in error.
-#[derive(Drop)]
-pub struct Kept<'a> {
-    pub name: &'a str,
-    pub given: Given<Said>,
-}
-
-/// What is kept of the first list of this name.
-fn given_of<'l>(lists: &'l [Kept<'_>], name: &str) -> Option<&'l Given<Said>>
-    ensures { IfSome result (λ given. (contents : List ℕ → Option Text) → AreKept contents lists.now → (text : Text)
-        → contents name.now ≡ Some text → IsGivenBy text given.now) }
+/// The first list of this name.
+pub fn list_named<'l>(lists: &'l [Kept<'l>], name: &str) -> Option<&'l Kept<'l>>
+    ensures { option_copied result ≡ list_named name.now lists.now }
 {
     for list in lists {
         if list.name == name {
-            return Some(&list.given);
+            return Some(list);
         }
     }
     None
 }
 
-/// Lists that were read whole, and where files are read from.
+/// Lists that were read whole, of which no line is in error, and where files are read from.
 #[derive(Drop)]
 pub struct Loaded<'a, F: Sources> {
     lists: &'a [Kept<'a>],
@@ -226,22 +309,26 @@ impl<F: Sources> Sources for Loaded<'_, F> {
 
     fn kept(&self, name: &str) -> Option<&Given<Said>> {
         let lists = self.lists;
-        given_of(lists, name)
+        match list_named(lists, name) {
+            Some(list) => Some(&list.given),
+            None => None,
+        }
     }
 }
 
 /// Reads lists whole, which may be files of look-ups or not, and tells their lines in error, up to the first list that can't be
-/// read.
+/// read: what is kept of them, and whether a line is in error.
 pub fn load<'a, M: Memory, F: Sources, E: Sink>(
     memory: &mut M,
     sources: &F,
     kind: Kind,
     takes_file: bool,
+    skips: bool,
     names: &[&'a str],
     err: &mut E,
 ) -> Result<(Vec<Kept<'a>>, bool), CommandError<'a>>
     ensures loads { MatchResult result
-        (λ loaded. AreListsLoaded takes_file (F.contents sources.now) kind (map (λ name. name.now) names.now)
+        (λ loaded. AreListsLoaded takes_file skips (F.contents sources.now) kind (map (λ name. name.now) names.now)
         (E.state err.old) (E.state err.new) loaded.0.items loaded.1)
         (IsUnloaded (lined takes_file (F.contents sources.now)) kind (map (λ name. name.now) names.now) (E.state err.old) (E.state err.new)) }
     ensures cause { IfErr result (Cause (FileMayFail (F.contents sources.now)) (M.refused memory.new)) }
@@ -249,9 +336,9 @@ pub fn load<'a, M: Memory, F: Sources, E: Sink>(
     let mut lists = Vec::new(memory.alloc());
     let mut found = false;
     for name in names {
-        let (given, has_fault) = keep_list(memory, sources, kind, takes_file, name, err)?;
-        found |= has_fault;
-        memory.push(&mut lists, Kept { name, given })?;
+        let (list, is_bad) = keep_list(memory, sources, kind, takes_file, skips, name, err)?;
+        found |= is_bad;
+        memory.push(&mut lists, list)?;
     }
     Ok((lists, found))
 }

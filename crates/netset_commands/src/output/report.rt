@@ -254,6 +254,7 @@ fn misfit_text(why: Misfit) -> ArrayString<128>
         Misfit::NotPlain => text.push_str(": for the format plain alone, see: netset help "),
         Misfit::NoField => text.push_str(": only with --field, see: netset help "),
         Misfit::Anywhere => text.push_str(": not with --any, see: netset help "),
+        Misfit::Skipping => text.push_str(": not with --skip-bad, see: netset help "),
     }
     text
 }

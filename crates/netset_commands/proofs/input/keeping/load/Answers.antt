@@ -1,43 +1,43 @@
-use Rattle.std.proofs.Common.{refl, ◌+◌}
+use Rattle.std.proofs.Common.{◌+◌}
 use Rattle.std.proofs.lemmas.Result.{err_from_is_err_and}
 use Rattle.netset_commands.proofs.Loading.{all_loaded, file_loaded, file_unread, none_loaded, not_kept}
 use Rattle.netset_commands.proofs.input.keeping.load.Goals as goal
 
 pub loop-name-init : goal.loop-name-init
 loop-name-init g c =
-    none_loaded c.args.takes_file (g.F.Sources.contents c.args.sources.now) c.args.kind (g.E.Sink.state c.args.err.now) c.new-lists.result.items c.new-lists.ensures.items
+    none_loaded c.args.takes_file c.args.skips (g.F.Sources.contents c.args.sources.now) c.args.kind (g.E.Sink.state c.args.err.now) c.new-lists.result.items c.new-lists.ensures.items
 
-pub returns-in_err-given-clause-loads : goal.returns-in_err-given-clause-loads
-returns-in_err-given-clause-loads g c =
+pub returns-in_err-list-clause-loads : goal.returns-in_err-list-clause-loads
+returns-in_err-list-clause-loads g c =
     let (y, is, same) = err_from_is_err_and c.from_residual.result c.from_residual.ensures.1 in
-    rw (is, same) (file_unread c.args.takes_file (g.F.Sources.contents c.args.sources.now) c.args.kind c.args.names.now c.loop-name.name-index _ (g.E.Sink.state c.args.err.now)
+    rw (is, same) (file_unread c.args.takes_file c.args.skips (g.F.Sources.contents c.args.sources.now) c.args.kind c.args.names.now c.loop-name.name-index _ (g.E.Sink.state c.args.err.now)
     (g.E.Sink.state c.loop-name.err) c.loop-name.lists.items c.loop-name.found c.loop-name-test.true c.loop-name.invariant (g.E.Sink.state c.keep_list.new.err) _
-    c.in_err-given.ensures.keeps)
+    c.in_err-list.ensures.keeps)
 
 pub returns-clause-loads : goal.returns-clause-loads
 returns-clause-loads g c =
-    all_loaded c.args.takes_file (g.F.Sources.contents c.args.sources.now) c.args.kind c.args.names.now c.loop-name.name-index (g.E.Sink.state c.args.err.now)
+    all_loaded c.args.takes_file c.args.skips (g.F.Sources.contents c.args.sources.now) c.args.kind c.args.names.now c.loop-name.name-index (g.E.Sink.state c.args.err.now)
     (g.E.Sink.state c.loop-name.err) c.loop-name.lists.items c.loop-name.found c.loop-name-test.false c.loop-name.invariant
 
 pub loop-name-preserved : goal.loop-name-preserved
 loop-name-preserved g c =
-    rw c.in_ok-push.ensures.pushed (file_loaded c.args.takes_file (g.F.Sources.contents c.args.sources.now) c.args.kind c.args.names.now c.loop-name.name-index _ (g.E.Sink.state c.args.err.now)
+    rw c.in_ok-push.ensures.pushed (file_loaded c.args.takes_file c.args.skips (g.F.Sources.contents c.args.sources.now) c.args.kind c.args.names.now c.loop-name.name-index _ (g.E.Sink.state c.args.err.now)
     (g.E.Sink.state c.loop-name.err) c.loop-name.lists.items c.loop-name.found c.loop-name-test.true c.loop-name.invariant (g.E.Sink.state c.keep_list.new.err)
-    c.in_ok-given.has_fault (record { name = _; given = c.in_ok-given.given }) refl c.in_ok-given.ensures.keeps)
+    c.in_ok-list.is_bad c.in_ok-list.list c.in_ok-list.ensures.keeps)
 
 pub returns-in_err-push-clause-loads : goal.returns-in_err-push-clause-loads
 returns-in_err-push-clause-loads g c =
     let (y, is, same) = err_from_is_err_and c.from_residual-in_err-push.result c.from_residual-in_err-push.ensures.1 in
-    rw (is, same) (not_kept c.args.takes_file (g.F.Sources.contents c.args.sources.now) c.args.kind c.args.names.now (c.loop-name.name-index + 1) (g.E.Sink.state c.args.err.now)
+    rw (is, same) (not_kept c.args.takes_file c.args.skips (g.F.Sources.contents c.args.sources.now) c.args.kind c.args.names.now (c.loop-name.name-index + 1) (g.E.Sink.state c.args.err.now)
     (g.E.Sink.state c.keep_list.new.err) _ _
-    (file_loaded c.args.takes_file (g.F.Sources.contents c.args.sources.now) c.args.kind c.args.names.now c.loop-name.name-index _ (g.E.Sink.state c.args.err.now)
+    (file_loaded c.args.takes_file c.args.skips (g.F.Sources.contents c.args.sources.now) c.args.kind c.args.names.now c.loop-name.name-index _ (g.E.Sink.state c.args.err.now)
     (g.E.Sink.state c.loop-name.err) c.loop-name.lists.items c.loop-name.found c.loop-name-test.true c.loop-name.invariant (g.E.Sink.state c.keep_list.new.err)
-    c.in_ok-given.has_fault (record { name = _; given = c.in_ok-given.given }) refl c.in_ok-given.ensures.keeps))
+    c.in_ok-list.is_bad c.in_ok-list.list c.in_ok-list.ensures.keeps))
 
-pub returns-in_err-given-clause-cause : goal.returns-in_err-given-clause-cause
-returns-in_err-given-clause-cause g c =
+pub returns-in_err-list-clause-cause : goal.returns-in_err-list-clause-cause
+returns-in_err-list-clause-cause g c =
     let (y, is, same) = err_from_is_err_and c.from_residual.result c.from_residual.ensures.1 in
-    rw (is, same) c.in_err-given.ensures.cause
+    rw (is, same) c.in_err-list.ensures.cause
 
 pub returns-in_err-push-clause-cause : goal.returns-in_err-push-clause-cause
 returns-in_err-push-clause-cause g c =
