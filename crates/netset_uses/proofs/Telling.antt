@@ -1,5 +1,5 @@
 -- What runs over texts in memory have printed and told.
-use Rattle.std.proofs.Common.{◌≡◌, refl, sym, ◌∙◌, ap, subst, arith, inl, inr, ℕ, zero, suc, ◌+◌, ◌<◌, ◌≤◌, Bool, false, List, [], ◌∷◌, ◌++◌, length, codes, slice_index, Contains, IsAscii, IsUtf8, Option, Some, None, option_map, Result, Ok, Err}
+use Rattle.std.proofs.Common.{◌≡◌, ◌≢◌, refl, sym, ◌∙◌, ap, subst, arith, inl, inr, ℕ, zero, suc, ◌+◌, ◌<◌, ◌≤◌, Bool, false, List, [], ◌∷◌, ◌++◌, length, codes, slice_index, Contains, IsAscii, IsUtf8, Option, Some, None, option_map, Result, Ok, Err}
 use Rattle.std.specs.List.{AllZip, flat_map}
 use Rattle.std.specs.Option.{IfSome}
 use Rattle.std.proofs.lemmas.Bool.{false≢true}
@@ -8,6 +8,7 @@ use Rattle.std.proofs.lemmas.Str.{IsUtf8-from_ascii}
 use Rattle.cidr.specs.declared.cidr.combined.IpCidr.{IpCidr}
 use Rattle.cidr.specs.declared.family.Family.{Family}
 use Rattle.cidr_io.specs.Writing.{State, Whole, Tells}
+use Rattle.cidr_lists.specs.Faults.{AreTellings}
 use Rattle.cidr_lists.specs.Lists.{ListSays, Text, text_by}
 use Rattle.cidr_lists.specs.Lines.{lines_in}
 use Rattle.cidr_lists.specs.Messages.{fault_line}
@@ -22,6 +23,7 @@ use Rattle.cidr_lists.specs.declared.errors.LineError.{LineError}
 use Rattle.cidr_lists.specs.declared.fields.Asked.{Asked}
 use Rattle.cidr_lists.specs.declared.fields.Asked.TheVariants.{First}
 use Rattle.cidr_lists.specs.declared.lines.HostBits.{HostBits}
+use Rattle.cidr_lists.specs.declared.lines.Kind.TheVariants.{Networks}
 use Rattle.cidr_lists.specs.declared.lines.HostBits.TheVariants.{Refused}
 use Rattle.netset_commands.specs.Causes.{Refusals}
 use Rattle.netset_commands.specs.Commands.{Acl, HoldsOf, IsMadeOf, Lists, Look, Match, ReadsInputTwice, reading_of}
@@ -37,8 +39,9 @@ use Rattle.netset_commands.specs.declared.output.answers.Verdict.{Verdict}
 use Rattle.netset_commands.specs.declared.output.answers.Verdict.TheVariants.{Yes, No}
 use Rattle.netset_commands.proofs.Failures.{Failed, lists_fail}
 use Rattle.netset_commands.proofs.Matched.{of_list}
+use Rattle.netset_commands.proofs.Skipped.{lists_skip}
 use Rattle.netset_commands.proofs.Typed.{typed_asks}
-use Rattle.netset_uses.specs.Runs.{AreLinesBySecond, ArePermittedTheSame, HasPrinted, HasRun, HasToldLine, holding, second_field}
+use Rattle.netset_uses.specs.Runs.{AreLinesBySecond, ArePermittedTheSame, HasPrinted, HasRun, HasSkipped, HasToldLine, holding, second_field}
 use Rattle.netset_uses.specs.declared.runs.Finished.{Finished}
 
 -- ---- outputs
@@ -164,6 +167,37 @@ pub merges_told : (words : List (List ℕ)) (contents : List ℕ → Option (Lis
 merges_told words contents list None same told short h = tt
 merges_told words contents list (Some run) same told short h =
     merge_told contents list run told short (subst (λ (k : List (List ℕ)). HasRun k contents run) same h)
+
+-- ---- merge --skip-bad
+abbrev pub good_words : List (List ℕ)
+good_words = codes "merge" ∷ codes "--skip-bad" ∷ codes "list" ∷ []
+
+printed_more : (out : List ℕ) → out ≢ [] → ¬ (holding out ≡ holding [])
+printed_more out some same =
+    let taken : Some out ≡ Some [] = ap (λ (k : State). k.taken) same in
+    some cc
+
+pub good_printed : (contents : List ℕ → Option (List ℕ)) (list : List ℕ) (run : Finished) → contents (codes "list") ≡ Some list
+    → HasRun good_words contents run → run.status ≡ 2 → run.out.items ≢ [] → HasSkipped (codes "list") (text_by Refused list) (IsMadeOf Merge) run
+good_printed contents list run told (answered, (refused, closed, runs)) two some =
+    let text : Text = text_by Refused list in
+    let known : contents_by Refused contents (codes "list") ≡ Some text = told_text contents (codes "list") list told in
+    let done = subst (λ (k : ℕ). Runs (Some good_words) contents refused closed (holding []) (holding run.out.items) (holding []) (holding run.err.items) k) two runs in
+    let (lines, answer, read, told_lines, good, made, whole, says) =
+    lists_skip Merge (codes "list" ∷ []) refused closed (holding []) (holding run.out.items) (holding []) (holding run.err.items) (printed_more run.out.items some)
+    good_words contents (reading_of (codes "--skip-bad" ∷ []))
+    (typed_asks good_words (codes "--skip-bad" ∷ []) (Lists Merge (codes "list" ∷ [])) (refl, refl, refl, refl, refl)) refl done in
+    let (only, is, fine) = good (codes "list") text known in (
+      subst (AreTellings Networks (codes "list" ∷ []) (text ∷ [])) (sym (all_told run.err.items lines says)) (told_lines (text ∷ []) (known, tt)),
+      (only, fine, subst (IsMadeOf Merge (only ∷ [])) (sym whole.taken) (made (only ∷ []) (is, tt))),
+    )
+
+pub goods_printed : (words : List (List ℕ)) (contents : List ℕ → Option (List ℕ)) (list : List ℕ) (r : Option Finished) → words ≡ good_words
+    → contents (codes "list") ≡ Some list → IfSome r (HasRun words contents)
+    → IfSome r (λ run. run.status ≡ 2 → run.out.items ≢ [] → HasSkipped (codes "list") (text_by Refused list) (IsMadeOf Merge) run)
+goods_printed words contents list None same told h = tt
+goods_printed words contents list (Some run) same told h =
+    good_printed contents list run told (subst (λ (k : List (List ℕ)). HasRun k contents run) same h)
 
 -- ---- look
 abbrev pub look_words : List (List ℕ)

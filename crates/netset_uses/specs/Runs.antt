@@ -1,7 +1,8 @@
 -- What a run of `netset` over texts in memory has done.
-use Rattle.std.specs.Prelude.{◌≡◌, ℕ, Bool, false, List, [], Option, Some}
+use Rattle.std.specs.Prelude.{◌≡◌, ℕ, Bool, false, List, [], ◌∷◌, Option, Some}
 use Rattle.std.specs.List.{flat_map}
 use Rattle.cidr_io.specs.Writing.{State}
+use Rattle.cidr_lists.specs.Faults.{AreTellings}
 use Rattle.cidr_lists.specs.Lists.{IsFirstError, Text}
 use Rattle.cidr_lists.specs.Lines.{lines_in}
 use Rattle.cidr_lists.specs.Messages.{fault_line}
@@ -10,8 +11,10 @@ use Rattle.cidr_lists.specs.Rules.{AreRuleChanges}
 use Rattle.cidr_lists.specs.declared.columns.Column.{Column}
 use Rattle.cidr_lists.specs.declared.columns.Separator.TheVariants.{Byte}
 use Rattle.cidr_lists.specs.declared.errors.LineError.{LineError}
+use Rattle.cidr_lists.specs.declared.lines.Kind.TheVariants.{Networks}
 use Rattle.netset_commands.specs.Causes.{Refusals}
 use Rattle.netset_commands.specs.Commands.{HoldsOf}
+use Rattle.netset_commands.specs.Keeping.{IsGoodText}
 use Rattle.netset_commands.specs.Matching.{ArePicked, Picks}
 use Rattle.netset_commands.specs.Program.{Runs}
 use Rattle.netset_commands.specs.Typed.{AnswersTyped}
@@ -35,6 +38,11 @@ HasPrinted IsAnswer run = IsAnswer run.out.items × (run.err.items ≡ [])
 abbrev pub HasToldLine : List ℕ → Text → Finished → Type 0
 HasToldLine file text run = (run.out.items ≡ [])
     × ((number : ℕ) × (e : LineError) × IsFirstError text number e × (run.err.items ≡ fault_line file (number, e)))
+
+-- it has told each line in error of this file, and printed what is made of its text without them
+abbrev pub HasSkipped : List ℕ → Text → (List Text → List ℕ → Type 0) → Finished → Type 0
+HasSkipped file text Made run = AreTellings Networks (file ∷ []) (text ∷ []) run.err.items
+    × ((good : Text) × IsGoodText false Networks text good × Made (good ∷ []) run.out.items)
 
 -- the second field of a line between commas
 abbrev pub second_field : Column

@@ -1,5 +1,5 @@
 //! Runs of `netset`: what they print, and what they tell of an error.
-ghost use Rattle.std.specs.Prelude.{◌≡◌, [], ◌∷◌, codes, false, map, IfSome};
+ghost use Rattle.std.specs.Prelude.{◌≡◌, ◌≢◌, [], ◌∷◌, codes, false, map, IfSome};
 ghost use Rattle.cidr_lists.specs.declared.fields.Asked.TheVariants.{First};
 ghost use Rattle.cidr_lists.specs.Lists.{text_by};
 ghost use Rattle.cidr_lists.specs.declared.lines.HostBits.TheVariants.{Refused};
@@ -8,7 +8,7 @@ ghost use Rattle.netset_commands.specs.Commands.{IsMadeOf};
 ghost use Rattle.netset_commands.specs.Look.{IsLook};
 ghost use Rattle.netset_commands.specs.declared.commands.operations.Operation.TheVariants.{Merge};
 ghost use Rattle.netset_commands.specs.declared.output.answers.Verdict.TheVariants.{Yes};
-ghost use Rattle.netset_uses.specs.Runs.{AreLinesBySecond, ArePermittedTheSame, HasPrinted, HasRun, HasToldLine};
+ghost use Rattle.netset_uses.specs.Runs.{AreLinesBySecond, ArePermittedTheSame, HasPrinted, HasRun, HasSkipped, HasToldLine};
 ghost use Rattle.netset_uses.specs.Texts.{contents_of};
 
 use crate::texts::{TextFile, TextFiles, Words};
@@ -67,6 +67,19 @@ pub fn merge(alloc: Global, list: &[u8]) -> Option<Finished>
         bytes: list,
     };
     run(alloc, &["merge", "list"], &[file])
+}
+
+/// A run of `netset merge --skip-bad list`. With status 2, if it has printed anything, it has told each line in error of the
+/// list, and printed the set of the addresses of the other lines.
+pub fn merge_good(alloc: Global, list: &[u8]) -> Option<Finished>
+    ensures { IfSome result (λ run. run.status ≡ 2 → run.out.items ≢ []
+        → HasSkipped (codes "list") (text_by Refused list.now) (IsMadeOf Merge) run) }
+{
+    let file = TextFile {
+        name: "list",
+        bytes: list,
+    };
+    run(alloc, &["merge", "--skip-bad", "list"], &[file])
 }
 
 /// A run of `netset look table file`. With status 0 it has printed a line for each address of the file, with the longest

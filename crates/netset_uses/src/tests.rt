@@ -1,5 +1,5 @@
 //! Lists in memory: read, printed, and given to runs.
-use crate::runs::{acl, compared, look, match_second, merge, merge_twice, shadowed};
+use crate::runs::{acl, compared, look, match_second, merge, merge_good, merge_twice, shadowed};
 use cidr_lists::errors::{LineError, ListError};
 use cidr_lists::lines::HostBits;
 use cidr_lists::sets::{Form, Sets};
@@ -46,6 +46,19 @@ fn merge_prints_a_set_or_tells_a_line_in_error(rt: HostRuntime) -> Result<(), Fa
     assert_eq!(rt; run.status, 2);
     assert_eq!(rt; run.out.len(), 0);
     assert!(rt; run.err.as_slice().starts_with(b"list:2: "));
+    Ok(())
+}
+
+#[test]
+fn merge_good_tells_lines_in_error_and_prints_the_others(rt: HostRuntime) -> Result<(), Fail> {
+    let list = b"10.128.0.0/9\n10.0.0.1/8\n\nx\n10.0.0.0/9\n::1";
+    let run = merge_good(rt.alloc(), list).ok_or("no memory")?;
+    assert_eq!(rt; run.status, 2);
+    assert_eq!(rt; run.out.as_slice(), b"10.0.0.0/8\n::1\n".as_slice());
+    assert_eq!(rt;
+        run.err.as_slice(),
+        b"list:2: 10.0.0.1/8: host bits set; the network is 10.0.0.0/8\nlist:4: x: couldn't parse address in network: invalid IP address syntax\n".as_slice()
+    );
     Ok(())
 }
 
