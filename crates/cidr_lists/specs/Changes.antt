@@ -1,16 +1,21 @@
--- What a second list adds to a first one, and what it lacks: a network a line, with a sign in front.
+-- What a second list adds to a first one, and what it lacks: a network a line, with its sign.
 use Rattle.std.specs.Prelude.{◌≡◌, ℕ, Bool, true, false, if◌then◌else◌, List, [], ◌∷◌, ◌++◌, map, codes}
 use Rattle.std.specs.List.{flat_map}
 use Rattle.std.specs.List.Sorted.{IsStrictlySortedBy}
 use Rattle.std.specs.Ordering.{is_lt}
 use Rattle.cidr.specs.model.Bits.{bit_cmp}
-use Rattle.cidr.specs.texts.Printed.{plain_text}
 use Rattle.cidr.specs.declared.family.Family.{Family}
 use Rattle.cidr.specs.declared.family.Family.TheVariants.{Ipv4, Ipv6}
 use Rattle.cidr_sets.specs.model.Sets.{IsDifference}
+use Rattle.cidr_lists.specs.Formats.{json, network_by}
 use Rattle.cidr_lists.specs.Printing.{line}
+use Rattle.cidr_lists.specs.declared.changes.ChangeLayout.{ChangeLayout as GivenLayout}
 use Rattle.cidr_lists.specs.declared.changes.Sign.{Sign}
 use Rattle.cidr_lists.specs.declared.changes.Sign.TheVariants.{Plus, Minus}
+use Rattle.cidr_lists.specs.declared.formats.LineFormat.{LineFormat}
+use Rattle.cidr_lists.specs.declared.formats.LineFormat.TheVariants as by_line
+use Rattle.cidr_lists.specs.declared.formats.Notation.{Notation}
+use Rattle.cidr_lists.specs.declared.formats.Notation.TheVariants.{Plain, Members}
 
 -- the network of a change, if it has this sign
 abbrev pub network_with : Sign → Sign × List Bool → List (List Bool)
@@ -35,14 +40,36 @@ abbrev pub sign_text : Sign → List ℕ
 sign_text Plus = codes "+"
 sign_text Minus = codes "-"
 
--- a change as a line, where the text of its network is told
-abbrev pub change_line : {X : Type 0} → (X → List ℕ) → Sign × X → List ℕ
-change_line text (sign, network) = sign_text sign ++ line (text network)
+-- a change as a line: what stands in front of its sign, between that and the network, how the network is written, and what
+-- stands behind it
+pub record ChangeLayout : Type 0 where
+  pub before : List ℕ
+  pub between : List ℕ
+  pub notation : Notation
+  pub behind : List ℕ
+
+-- the sign and the network; or an object of JSON (RFC 8259), whose first member is the sign, before those of a network
+abbrev pub change_layout : LineFormat → Family → ChangeLayout
+change_layout by_line.Plain family = record { before = []; between = []; notation = Plain; behind = [] }
+change_layout by_line.Json family =
+    record { before = codes "{\"change\":\""; between = codes "\",\"network\":\""; notation = Members; behind = (json family).behind }
+
+-- a change as a line; `text` tells what a network is in a notation
+abbrev pub change_line : {X : Type 0} → (Notation → X → List ℕ) → ChangeLayout → Sign × X → List ℕ
+change_line text layout (sign, network) =
+    layout.before ++ (sign_text sign ++ (layout.between ++ (text layout.notation network ++ line layout.behind)))
+
+-- the changes of a family
+abbrev pub family_changes : LineFormat → Family → List (Sign × List Bool) → List ℕ
+family_changes format family changes = flat_map (change_line (λ notation p. network_by notation family p) (change_layout format family)) changes
 
 -- IPv4 before IPv6
-abbrev pub printed_changes : (Family → List (Sign × List Bool)) → List ℕ
-printed_changes changes =
-    flat_map (change_line (plain_text Ipv4)) (changes Ipv4) ++ flat_map (change_line (plain_text Ipv6)) (changes Ipv6)
+abbrev pub printed_changes : LineFormat → (Family → List (Sign × List Bool)) → List ℕ
+printed_changes format changes = family_changes format Ipv4 (changes Ipv4) ++ family_changes format Ipv6 (changes Ipv6)
+
+-- the texts of a layout
+abbrev pub change_layout_in : GivenLayout → ChangeLayout
+change_layout_in layout = record { before = layout.before.now; between = layout.between.now; notation = layout.notation; behind = layout.behind.now }
 
 -- ---- what private functions promise
 -- networks with a sign

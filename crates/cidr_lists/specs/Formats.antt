@@ -1,6 +1,6 @@
 -- What is printed of sets for other tools: of each family a head, its networks, and a tail. The head makes the set of the
 -- tool anew, so that it then has these addresses and no others.
-use Rattle.std.specs.Prelude.{ℕ, Bool, true, false, if◌then◌else◌, ◌==◌, List, [], ◌∷◌, ◌++◌, length, bytes_eq, codes, decimal, ◌≡◌, Option, Some, None, option_map}
+use Rattle.std.specs.Prelude.{ℕ, Bool, true, false, if◌then◌else◌, ◌==◌, List, [], ◌∷◌, ◌++◌, length, bytes_eq, codes, decimal, ◌≡◌, Option, Some, None}
 use Rattle.std.specs.List.{find, flat_map}
 use Rattle.cidr.specs.model.Network.{width_of, first_of, last_of}
 use Rattle.cidr.specs.texts.Printed.{plain_text, forced_text}
@@ -13,6 +13,8 @@ use Rattle.cidr_lists.specs.Sets.{printed_sets}
 use Rattle.cidr_lists.specs.declared.formats.Format.{Format}
 use Rattle.cidr_lists.specs.declared.formats.Format.TheVariants as format
 use Rattle.cidr_lists.specs.declared.formats.Layout.{Layout as GivenLayout}
+use Rattle.cidr_lists.specs.declared.formats.LineFormat.{LineFormat}
+use Rattle.cidr_lists.specs.declared.formats.LineFormat.TheVariants as by_line
 use Rattle.cidr_lists.specs.declared.formats.Notation.{Notation}
 use Rattle.cidr_lists.specs.declared.formats.Notation.TheVariants.{Plain, WithLength, AndLonger, Halved, Members}
 use Rattle.cidr_lists.specs.declared.formats.Style.{Style as GivenStyle}
@@ -155,6 +157,11 @@ pub record Style : Type 0 where
 -- nothing in front of a network and nothing behind
 abbrev pub bare : Format → Style
 bare format = record { format = format; prefix = []; suffix = [] }
+
+-- the style of lines, but for those of text, which have none
+abbrev pub line_style : LineFormat → Option Style
+line_style by_line.Plain = None
+line_style by_line.Json = Some (bare format.Json)
 
 abbrev pub layout_by : Format → List ℕ → List ℕ → Family → Layout
 layout_by format.Plain prefix suffix family = plain_layout prefix suffix

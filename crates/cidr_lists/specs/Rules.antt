@@ -14,15 +14,16 @@ use Rattle.cidr_sets.specs.declared.access.Action.TheVariants.{Permit, Deny}
 use Rattle.cidr_sets.specs.declared.access.Rule.{Rule}
 use Rattle.cidr_lists.specs.Changes.{AreChanges, printed_changes}
 use Rattle.cidr_lists.specs.Fields.{IsNoNetworkField, IsSplit}
+use Rattle.cidr_lists.specs.Formats.{Style, line_style, printed_by}
 use Rattle.cidr_lists.specs.Lists.{Text, IsBadLineBy, IsField, IsFirstBad, IsNetworkBy, IsTooLong, lines_of}
 use Rattle.cidr_lists.specs.Printing.{line}
-use Rattle.cidr_lists.specs.Sets.{printed_sets}
 use Rattle.cidr_lists.specs.Tables.{row_in}
 use Rattle.cidr_lists.specs.declared.changes.Sign.{Sign}
 use Rattle.cidr_lists.specs.declared.errors.LineError.{LineError}
 use Rattle.cidr_lists.specs.declared.errors.LineError.TheVariants.{NoAction, NoField}
 use Rattle.cidr_lists.specs.declared.errors.ListError.{ListError}
 use Rattle.cidr_lists.specs.declared.errors.ListError.TheVariants.{Line, NoMemory}
+use Rattle.cidr_lists.specs.declared.formats.LineFormat.{LineFormat}
 use Rattle.cidr_lists.specs.declared.lines.HostBits.{HostBits}
 use Rattle.cidr_lists.specs.declared.rules.Rules.{Rules}
 use Rattle.cidr_lists.specs.declared.rules.Ruling.{Ruling}
@@ -117,16 +118,22 @@ AreShadowLines file rules text = (shadows : List (ℕ × List ℕ)) × AreShadow
 
 -- ---- what is told of access lists
 -- what is asked: the addresses that are permitted, the rules that no address reaches, or what a list permits and the one of
--- this name does not, and the other way round
+-- this name does not, and the other way round; and how that is written
 pub data Question : Type 0 where
-  Permitted : Question
+  Permitted : Option Style → Question
   Shadowed : Question
-  Compared : List ℕ → Question
+  Compared : LineFormat → List ℕ → Question
 
 -- the list that it is compared with
 abbrev pub compared_with : Question → List (List ℕ)
-compared_with (Compared old) = old ∷ []
+compared_with (Compared format old) = old ∷ []
 compared_with asked = []
+
+-- the style of the answer, if it has one
+abbrev pub style_asked : Question → Option Style
+style_asked (Permitted style) = style
+style_asked Shadowed = None
+style_asked (Compared format old) = line_style format
 
 -- rules that no address reaches are asked for
 abbrev pub is_shadowed : Question → Bool
@@ -135,13 +142,13 @@ is_shadowed asked = false
 
 -- what there is to change: nothing is, of what is permitted
 abbrev pub faults_in : Question → List ℕ → List ℕ
-faults_in Permitted answer = []
+faults_in (Permitted style) answer = []
 faults_in asked answer = answer
 
 -- the networks that are permitted
-abbrev pub ArePermittedLines : Text → List ℕ → Type 0
-ArePermittedLines text answer = (said : List (Option (IpCidr × Action))) × RulesSay text said
-    × (sets : Family → List (List Bool)) × ArePermittedSets said sets × (answer ≡ printed_sets sets)
+abbrev pub ArePermittedLines : Option Style → Text → List ℕ → Type 0
+ArePermittedLines style text answer = (said : List (Option (IpCidr × Action))) × RulesSay text said
+    × (sets : Family → List (List Bool)) × ArePermittedSets said sets × (answer ≡ printed_by style sets)
 
 -- the rules that no address reaches, IPv4 before IPv6
 abbrev pub AreAllShadowLines : List ℕ → Text → List ℕ → Type 0
@@ -150,18 +157,18 @@ AreAllShadowLines file text answer = (said : List (Option (IpCidr × Action))) �
     × (answer ≡ lines Ipv4 ++ lines Ipv6)
 
 -- the addresses that are permitted by one of the lists alone
-abbrev pub AreRuleChanges : Text → Text → List ℕ → Type 0
-AreRuleChanges old new answer = (before after : List (Option (IpCidr × Action))) × RulesSay old before × RulesSay new after
+abbrev pub AreRuleChanges : LineFormat → Text → Text → List ℕ → Type 0
+AreRuleChanges format old new answer = (before after : List (Option (IpCidr × Action))) × RulesSay old before × RulesSay new after
     × (was now : Family → List (List Bool)) × ArePermittedSets before was × ArePermittedSets after now
     × (changes : Family → List (Sign × List Bool)) × ((family : Family) → AreChanges (was family) (now family) (changes family))
-    × (answer ≡ printed_changes changes)
+    × (answer ≡ printed_changes format changes)
 
 -- the answer about the list of this name, where the lists are told
 abbrev pub IsRulesAnswer : (List ℕ → Option Text) → Question → List ℕ → List ℕ → Type 0
-IsRulesAnswer contents Permitted file answer = (text : Text) → contents file ≡ Some text → ArePermittedLines text answer
+IsRulesAnswer contents (Permitted style) file answer = (text : Text) → contents file ≡ Some text → ArePermittedLines style text answer
 IsRulesAnswer contents Shadowed file answer = (text : Text) → contents file ≡ Some text → AreAllShadowLines file text answer
-IsRulesAnswer contents (Compared old) file answer =
-    (before after : Text) → contents old ≡ Some before → contents file ≡ Some after → AreRuleChanges before after answer
+IsRulesAnswer contents (Compared format old) file answer =
+    (before after : Text) → contents old ≡ Some before → contents file ≡ Some after → AreRuleChanges format before after answer
 
 -- ---- what private functions promise
 -- what a line says, or its error

@@ -1,9 +1,11 @@
 //! The networks that a second list adds to a first one, and those that it lacks.
 ghost use Rattle.std.specs.Prelude.{◌≡◌};
 ghost use Rattle.std.specs.Iterator.{YieldsFirst, item_count};
-ghost use Rattle.cidr_lists.specs.Changes.{adds_first, merged, sign_text};
+ghost use Rattle.cidr_lists.specs.Changes.{adds_first, change_layout, change_layout_in, merged, sign_text};
+ghost use Rattle.cidr_lists.specs.declared.formats.LineFormat.TheVariants.{Json};
 
-use cidr::NetworkBits;
+use crate::formats::{LineFormat, Notation};
+use cidr::{Family, NetworkBits};
 use std::marker::Model;
 
 /// Whether a network is added or lacking.
@@ -22,6 +24,51 @@ pub fn sign_text(sign: Sign) -> &'static str
     match sign {
         Sign::Plus => "+",
         Sign::Minus => "-",
+    }
+}
+
+/// How a change is written as a line.
+#[derive(Clone, Copy, Debug)]
+pub struct ChangeLayout<'a> {
+    /// In front of its sign.
+    pub before: &'a str,
+    /// Between the sign and the network.
+    pub between: &'a str,
+    /// How the network is written.
+    pub notation: Notation,
+    /// Behind the network.
+    pub behind: &'a str,
+}
+
+/// An object of JSON.
+fn json(family: Family) -> ChangeLayout<'static>
+    ensures { change_layout_in result ≡ change_layout Json family }
+{
+    let behind: &'static str = match family {
+        Family::Ipv4 => ",\"family\":\"IPv4\"}",
+        Family::Ipv6 => ",\"family\":\"IPv6\"}",
+    };
+    ChangeLayout {
+        before: "{\"change\":\"",
+        between: "\",\"network\":\"",
+        notation: Notation::Members,
+        behind,
+    }
+}
+
+/// How a change of a network of a family is written as a line: `+192.0.2.0/24`, or
+/// `{"change":"+","network":"192.0.2.0/24","first":"192.0.2.0","last":"192.0.2.255","length":24,"family":"IPv4"}`.
+pub fn change_layout(format: LineFormat, family: Family) -> ChangeLayout<'static>
+    ensures { change_layout_in result ≡ change_layout format family }
+{
+    match format {
+        LineFormat::Plain => ChangeLayout {
+            before: "",
+            between: "",
+            notation: Notation::Plain,
+            behind: "",
+        },
+        LineFormat::Json => json(family),
     }
 }
 

@@ -43,6 +43,15 @@ pub enum Format {
     Bird,
 }
 
+/// How lines are written that have more than a network: changes, for instance.
+#[derive(Clone, Copy, Debug, Drop, PartialEq)]
+pub enum LineFormat {
+    /// As text.
+    Plain,
+    /// As an object of JSON.
+    Json,
+}
+
 /// A format, and two strings for [`Format::Plain`]; the others do without them.
 #[derive(Clone, Copy, Debug)]
 pub struct Style<'a> {

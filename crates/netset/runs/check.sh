@@ -298,7 +298,6 @@ ipv6 prefix-list netset6 deny ::/0 le 128\n' '' '10.0.0.0/9' not --in 10.0.0.0/8
     run 2 '' $'10.0.0.1/8: host bits set; the network is 10.0.0.0/8\n' '' not --in 10.0.0.1/8 --format json missing
     run 2 '' $'missing: no such file\n' '' not --in ::/0 --format json missing
     run 2 '' $'--format: no such option, see: netset help ranges\n' '' ranges --format json
-    run 2 '' $'--format: no such option, see: netset help diff\n' '' diff --format json ten both
     run 2 '' $'missing: no such file\n' '' merge --format nft missing
     run 2 '' $'-:1: x: couldn\'t parse address in network: invalid IP address syntax\n' 'x' merge --format json
     # The tools themselves, where the machine has them.
@@ -378,6 +377,24 @@ rows_of_changes() {
     run 2 '' $'-: one argument too many, see: netset help diff\n' '' diff ten both -
     run 2 '' $'B is missing, see: netset help diff\n' '' diff ten -k
     run 2 '' $'-x: no such option, see: netset help diff\n' '' diff -x ten
+    # the same as objects
+    run 0 '' '' '10.0.0.0/8' diff --format json ten -
+    run 1 $'{"change":"+","network":"9.0.0.0/8","first":"9.0.0.0","last":"9.255.255.255","length":8,"family":"IPv4"}
+{"change":"-","network":"10.0.0.0/9","first":"10.0.0.0","last":"10.127.255.255","length":9,"family":"IPv4"}
+{"change":"-","network":"8000::/1","first":"8000::","last":"ffff:ffff:ffff:ffff:ffff:ffff:ffff:ffff","length":1,"family":"IPv6"}\n' '' '10.128.0.0/9\n9.0.0.0/8' diff ten_and_eight - --format=json
+    run 1 $'+10.0.0.0/8\n' '' '' diff - ten --format plain
+    run 1 $'{"change":"+","network":"::1","first":"::1","last":"::1","length":128,"family":"IPv6"}\n' '' '::1' diff --format json -k nothing -
+    run 2 '' $'nft: no such format, but plain and json, see: netset help diff\n' '' diff ten ten --format nft
+    run 2 '' $': no such format, but plain and json, see: netset help diff\n' '' diff ten ten --format=
+    run 2 '' $'plain: one argument too many, see: netset help diff\n' '' diff --format json ten --format plain ten
+    run 2 '' $'--prefix: no such option, see: netset help diff\n' '' diff ten ten --prefix x
+    run 2 '' $'VALUE is missing, see: netset help diff\n' '' diff ten ten --format
+    run 2 '' $'missing: no such file\n' '' diff --format json ten missing
+    if command -v jq >/dev/null; then
+        local lists=("$room/ten_and_eight" "$room/eight_addresses")
+        [[ $("$program" diff --format json "${lists[@]}" | jq -r '.change + .network') == "$("$program" diff "${lists[@]}")" ]] ||
+            { differs=1; echo "$build: jq reads other changes" >&2; }
+    fi
 }
 
 # Access lists. What is permitted and which rules are shadowed is worked out by hand.
@@ -404,7 +421,27 @@ rows_of_access_lists() {
     run 2 '' $'RULES is missing, see: netset help acl\n' '' acl
     run 2 '' $'ten: one argument too many, see: netset help acl\n' '' acl rules ten
     run 2 '' $'-k: no such option, see: netset help acl\n' '' acl -k rules
-    run 2 '' $'--format: no such option, see: netset help acl\n' '' acl --format json rules
+    # in other formats
+    run 0 $'add table inet netset
+add set inet netset netset4 { type ipv4_addr; flags interval; }
+flush set inet netset netset4
+add element inet netset netset4 { 10.0.0.0/9 }
+add element inet netset netset4 { 10.129.0.0/16 }
+add table inet netset
+add set inet netset netset6 { type ipv6_addr; flags interval; }
+flush set inet netset netset6
+add element inet netset netset6 { ::1 }\n' '' '' acl --format nft rules
+    run 0 $'# netset4 has no network
+# netset6 has no network\n' '' '' acl --format bird nothing
+    run 0 '' '' '' acl --format json nothing
+    run 0 $'{"network":"::1","first":"::1","last":"::1","length":128,"family":"IPv6"}\n' '' 'permit ::1' acl - --format json
+    run 0 $'x10.0.0.0/9.\nx10.129.0.0/16.\nx::1.\n' '' '' acl --prefix x rules --suffix .
+    run 2 '' $'x: no such format, but plain, json, nft, ipset, iptables, cisco, juniper and bird, see: netset help acl\n' '' acl --format x rules
+    run 2 '' $'--prefix: for the format plain alone, see: netset help acl\n' '' acl --format json rules --prefix x
+    run 2 '' $'missing: no such file\n' '' acl --format json missing
+    run 2 '' $'--format: not with --shadowed, see: netset help acl\n' '' acl --shadowed rules --suffix x --format json
+    run 2 '' $'--prefix: not with --shadowed, see: netset help acl\n' '' acl --shadowed rules --suffix x --prefix=
+    run 2 '' $'--suffix: not with --shadowed, see: netset help acl\n' '' acl --shadowed rules --suffix x
     # rules that no address reaches, each with the earlier ones that cover it
     run 0 '' '' '' acl --shadowed rules
     run 0 '' '' '' acl --shadowed nothing
@@ -425,6 +462,12 @@ rows_of_access_lists() {
     run 2 '' $'VALUE is missing, see: netset help acl\n' '' acl rules --diff
     run 2 '' $'--shadowed: one argument too many, see: netset help acl\n' '' acl --shadowed --diff rules rules
     run 2 '' $'nothing: one argument too many, see: netset help acl\n' '' acl --diff rules --diff nothing rules
+    run 1 $'{"change":"+","network":"::1","first":"::1","last":"::1","length":128,"family":"IPv6"}\n' '' 'permit 10.0.0.0/9\npermit 10.129.0.0/16\n' acl --diff - rules --format json
+    run 1 $'+10.0.0.0/9\n+10.129.0.0/16\n+::1\n' '' '' acl --format plain --diff nothing rules
+    run 0 '' '' '' acl --format json --diff rules rules
+    run 2 '' $'bird: no such format, but plain and json, see: netset help acl\n' '' acl --format bird --diff rules rules
+    run 2 '' $'--prefix: not with --diff, see: netset help acl\n' '' acl --diff rules rules --suffix x --prefix x
+    run 2 '' $'--suffix: not with --diff, see: netset help acl\n' '' acl --diff rules rules --suffix x --format plain
 }
 
 # The first free network of a pool.
@@ -1072,10 +1115,13 @@ rows_where_a_stream_fails() {
     run 2 '' $'-:1: 10.0.0.1/8: host bits set; the network is 10.0.0.0/8\n' '10.0.0.1/8' merge
     run 3 '' $'output failed\n' '' --help
     run 3 '' $'output failed\n' '' diff - ten
+    run 3 '' $'output failed\n' '' diff - ten --format json
     run 3 '' $'output failed\n' '' free ten 9 eight
     run 3 '' $'output failed\n' '' acl rules
     run 3 '' $'output failed\n' 'permit ::/0\npermit ::/0' acl --shadowed -
     run 3 '' $'output failed\n' '' acl --diff nothing rules
+    run 3 '' $'output failed\n' '' acl --diff nothing rules --format json
+    run 3 '' $'output failed\n' '' acl nothing --format bird
     run 0 '' '' '' acl nothing
     run 3 '' $'output failed\n' '' split ten 9
     run 3 '' $'output failed\n' '' reverse ten
@@ -1251,6 +1297,8 @@ rows_of_outputs() {
     saved made '+10.0.0.0/9\n+10.129.0.0/16\n+::1\n'
     run 0 '' '' '' acl rules -o made
     saved made '10.0.0.0/9\n10.129.0.0/16\n::1\n'
+    run 0 '' '' '' acl rules -o made --format cisco
+    saved made 'no ip prefix-list netset4\nip prefix-list netset4 permit 10.0.0.0/9 le 32\nip prefix-list netset4 permit 10.129.0.0/16 le 32\nno ipv6 prefix-list netset6\nipv6 prefix-list netset6 permit ::1/128\n'
     run 0 '' '' '' free ten 9 -o made
     saved made '10.0.0.0/9\n'
     run 1 '' '' '' free ten 7 -o made
@@ -1507,9 +1555,11 @@ rows_without_memory() {
     told=$'-:1: x: couldn\'t parse address in network: invalid IP address syntax\n' refuse 'x 1\n10.0.0.0/8 2\n' look --skip-bad - address
     refuse '10.0.0.0/9\n' merge both - -o made
     refuse '10.0.0.0/9\n' diff both - -o made
+    refuse '10.0.0.0/9\n' diff both - --format json
     refuse '' split -o made 10.0.0.0/8 20
     refuse '10.0.0.0/9\n' free both 9 -
     refuse 'deny 10.0.0.0/9\npermit 10.0.0.0/8\npermit ::1\n' acl -
+    refuse 'deny 10.0.0.0/9\npermit 10.0.0.0/8\npermit ::1\n' acl - --format juniper
     refuse 'permit 10.0.0.0/8\npermit ::1\ndeny 10.0.0.0/9\ndeny ::1\n' acl --shadowed -
     refuse 'deny 10.0.0.0/9\npermit 10.0.0.0/8\npermit ::1\n' acl --diff rules -
     refuse '10.0.0.0/9\n' free --all 10.0.0.0/8 9 -

@@ -1,8 +1,7 @@
 -- Access lists that are read, and what is told of them.
-use Rattle.std.proofs.Common.{◌≡◌, ◌≢◌, refl, sym, ◌∙◌, ap, subst, inr, ℕ, Bool, List, [], ◌∷◌, ◌++◌, Bor, Option, Some, Result, Ok}
-use Rattle.std.specs.List.{AllZip, flat_map}
+use Rattle.std.proofs.Common.{◌≡◌, ◌≢◌, refl, sym, ◌∙◌, ap, subst, inl, inr, drop, ℕ, Bool, List, [], ◌∷◌, ◌++◌, Bor, Option, Some, Result, Ok}
+use Rattle.std.specs.List.{AllZip}
 use Rattle.std.specs.Option.{IfSome}
-use Rattle.cidr.specs.texts.Printed.{plain_text}
 use Rattle.cidr.specs.declared.cidr.combined.IpCidr.{IpCidr}
 use Rattle.cidr.specs.declared.family.Family.{Family}
 use Rattle.cidr.specs.declared.family.Family.TheVariants.{Ipv4, Ipv6}
@@ -10,22 +9,24 @@ use Rattle.cidr_io.specs.Writing.{State, Answered}
 use Rattle.cidr_io.specs.declared.sink.OutputFailed.{OutputFailed}
 use Rattle.cidr_sets.specs.model.Sets.{IsSetOf}
 use Rattle.cidr_sets.specs.declared.access.Action.{Action}
-use Rattle.cidr_lists.specs.Changes.{change_line, printed_changes}
+use Rattle.cidr_lists.specs.Changes.{family_changes, printed_changes}
+use Rattle.cidr_lists.specs.Formats.{Style, printed_by}
 use Rattle.cidr_lists.specs.Lists.{Text, text_by}
 use Rattle.cidr_lists.specs.Rules.{Permitted, Shadowed, Compared, ArePermittedLines, ArePermitting, AreShadowLines, HaveRules, IsFirstBadRule, IsRulesError, RulesSay, rules_of}
-use Rattle.cidr_lists.specs.Printing.{line}
-use Rattle.cidr_lists.specs.Sets.{IsInSets, Steps, networks_of, printed_sets}
+use Rattle.cidr_lists.specs.Sets.{IsInSets, Steps, networks_of}
 use Rattle.cidr_lists.specs.declared.changes.Sign.{Sign}
 use Rattle.cidr_lists.specs.declared.changes.Sign.TheVariants.{Plus, Minus}
 use Rattle.cidr_lists.specs.declared.errors.ListError.{ListError}
 use Rattle.cidr_lists.specs.declared.errors.ListError.TheVariants.{Line, NoMemory}
+use Rattle.cidr_lists.specs.declared.formats.LineFormat.{LineFormat}
+use Rattle.cidr_lists.specs.declared.formats.LineFormat.TheVariants as by_line
 use Rattle.cidr_lists.specs.declared.lines.HostBits.{HostBits}
 use Rattle.cidr_lists.specs.declared.rules.Rules.{Rules}
 use Rattle.cidr_lists.specs.declared.rules.Ruling.{Ruling}
 use Rattle.cidr_lists.specs.declared.sets.Sets.{Sets}
 use Rattle.cidr_lists.specs.declared.sets.Step.TheVariants.{Difference}
 use Rattle.netset_commands.specs.Acl.{IsUnreadAcl, IsUnreadRules, ReadsPermitted, ReadsRules, rules_error}
-use Rattle.netset_commands.specs.Answering.{changed}
+use Rattle.netset_commands.specs.Answering.{PrintsBy, changed}
 use Rattle.netset_commands.specs.Changes.{AreSame}
 use Rattle.netset_commands.specs.Commands.{Acl, AreTold}
 use Rattle.netset_commands.specs.Findings.{IsClean}
@@ -90,13 +91,14 @@ pub second_unread : (contents : List ℕ → Option Text) (old name : List ℕ) 
 second_unread contents old name sets e read h = (old ∷ [], [], name, refl, one_before contents old sets read, h)
 
 -- ---- what is told
-pub permitted_told : (contents : List ℕ → Option Text) (file : List ℕ) (sets : Sets) (s t : State) (w : Result (Unit {0}) OutputFailed) (r : Result Verdict CommandError)
-    → ReadsPermitted (contents file) file (Ok sets) → Answered s t (printed_sets (networks_of sets)) w → r ≡ by_output Yes w
-    → AnswersRequest contents (Acl Permitted file) s t r
-permitted_told contents file sets s t w r read written is =
-    let answer : (text : Text) → contents file ≡ Some text → ArePermittedLines text (printed_sets (networks_of sets)) = λ text at.
+pub permitted_told : (contents : List ℕ → Option Text) (style : Option Style) (file : List ℕ) (sets : Sets) (refused : Bool) (s t : State) (r : Result Verdict CommandError)
+    → ReadsPermitted (contents file) file (Ok sets) → PrintsBy style (networks_of sets) refused s t r → AnswersRequest contents (Acl (Permitted style) file) s t r
+permitted_told contents style file sets refused s t r read (inl (kept, lack, none)) =
+    subst (AnswersRequest contents (Acl (Permitted style) file) s t) (sym none) (inl (kept, first_unread contents file [] error.NoMemory tt))
+permitted_told contents style file sets refused s t r read (inr (w, written, is)) =
+    let answer : (text : Text) → contents file ≡ Some text → ArePermittedLines style text (printed_by style (networks_of sets)) = λ text at.
     let (said, says, are) = read text at in (said, says, networks_of sets, are, refl) in
-    inr (printed_sets (networks_of sets), Yes, w, (answer, refl), written, is)
+    inr (printed_by style (networks_of sets), Yes, w, (answer, refl), written, is)
 
 pub shadows_told : (contents : List ℕ → Option Text) (file : List ℕ) (rules : Rules) (text : List ℕ) (s t : State) (verdict : Verdict) (w : Result (Unit {0}) OutputFailed)
     (r : Result Verdict CommandError) → ReadsRules (contents file) file (Ok rules)
@@ -120,34 +122,35 @@ shadows_told contents file rules text s t verdict w r read (lines, are, all) cle
 some_byte : (b : ℕ) (bytes : List ℕ) → b ∷ bytes ≢ []
 some_byte b bytes e = cc
 
-no_change : (text : List Bool → List ℕ) (changes : List (Sign × List Bool)) → flat_map (change_line text) changes ≡ [] → changes ≡ []
-no_change text [] e = refl
-no_change text ((Plus, network) ∷ changes) e = absurd (some_byte 43 (line (text network) ++ flat_map (change_line text) changes) e)
-no_change text ((Minus, network) ∷ changes) e = absurd (some_byte 45 (line (text network) ++ flat_map (change_line text) changes) e)
+no_change : (format : LineFormat) (family : Family) (changes : List (Sign × List Bool)) → family_changes format family changes ≡ [] → changes ≡ []
+no_change format family [] e = refl
+no_change by_line.Plain family ((Plus, p) ∷ changes) e = absurd (some_byte 43 (drop 1 (family_changes by_line.Plain family ((Plus, p) ∷ changes))) e)
+no_change by_line.Plain family ((Minus, p) ∷ changes) e = absurd (some_byte 45 (drop 1 (family_changes by_line.Plain family ((Minus, p) ∷ changes))) e)
+no_change by_line.Json family ((sign, p) ∷ changes) e = absurd (some_byte 123 (drop 1 (family_changes by_line.Json family ((sign, p) ∷ changes))) e)
 
 both_empty : (front back : List ℕ) → front ++ back ≡ [] → (front ≡ []) × (back ≡ [])
 both_empty [] back e = (refl, e)
 both_empty (b ∷ front) back e = cc
 
-pub changes_clean : (changes : Family → List (Sign × List Bool)) (verdict : Verdict) → AreSame changes verdict → IsClean (printed_changes changes) verdict
-changes_clean changes Yes none =
-    ap (λ (k : List (Sign × List Bool)). flat_map (change_line (plain_text Ipv4)) k ++ flat_map (change_line (plain_text Ipv6)) (changes Ipv6)) (none Ipv4)
-    ∙ ap (λ (k : List (Sign × List Bool)). flat_map (change_line (plain_text Ipv6)) k) (none Ipv6)
-changes_clean changes No (Ipv4, some) = λ e. some (no_change (plain_text Ipv4) (changes Ipv4) (both_empty (flat_map (change_line (plain_text Ipv4)) (changes Ipv4))
-    (flat_map (change_line (plain_text Ipv6)) (changes Ipv6)) e).0)
-changes_clean changes No (Ipv6, some) = λ e.
-    some (no_change (plain_text Ipv6) (changes Ipv6) (both_empty (flat_map (change_line (plain_text Ipv4)) (changes Ipv4))
-    (flat_map (change_line (plain_text Ipv6)) (changes Ipv6)) e).1)
+pub changes_clean : (format : LineFormat) (changes : Family → List (Sign × List Bool)) (verdict : Verdict) → AreSame changes verdict
+    → IsClean (printed_changes format changes) verdict
+changes_clean format changes Yes none =
+    ap (λ (k : List (Sign × List Bool)). family_changes format Ipv4 k ++ family_changes format Ipv6 (changes Ipv6)) (none Ipv4)
+    ∙ ap (λ (k : List (Sign × List Bool)). family_changes format Ipv6 k) (none Ipv6)
+changes_clean format changes No (Ipv4, some) = λ e.
+    some (no_change format Ipv4 (changes Ipv4) (both_empty (family_changes format Ipv4 (changes Ipv4)) (family_changes format Ipv6 (changes Ipv6)) e).0)
+changes_clean format changes No (Ipv6, some) = λ e.
+    some (no_change format Ipv6 (changes Ipv6) (both_empty (family_changes format Ipv4 (changes Ipv4)) (family_changes format Ipv6 (changes Ipv6)) e).1)
 
-pub changes_told : (contents : List ℕ → Option Text) (a b : List ℕ) (old new added lacking : Sets) (s t : State) (verdict : Verdict)
+pub changes_told : (contents : List ℕ → Option Text) (format : LineFormat) (a b : List ℕ) (old new added lacking : Sets) (s t : State) (verdict : Verdict)
     (w : Result (Unit {0}) OutputFailed) (r : Result Verdict CommandError) → ReadsPermitted (contents a) a (Ok old) → ReadsPermitted (contents b) b (Ok new)
     → ((family : Family) → IsSetOf 129 (λ p. Steps Difference (IsInSets new family p) (IsInSets old family p)) (networks_of added family))
     → ((family : Family) → IsSetOf 129 (λ p. Steps Difference (IsInSets old family p) (IsInSets new family p)) (networks_of lacking family))
-    → AreSame (changed added lacking) verdict → Answered s t (printed_changes (changed added lacking)) w → r ≡ by_output verdict w
-    → AnswersRequest contents (Acl (Compared a) b) s t r
-changes_told contents a b old new added lacking s t verdict w r first second plus minus same written is =
+    → AreSame (changed added lacking) verdict → Answered s t (printed_changes format (changed added lacking)) w → r ≡ by_output verdict w
+    → AnswersRequest contents (Acl (Compared format a) b) s t r
+changes_told contents format a b old new added lacking s t verdict w r first second plus minus same written is =
     inr (
-      printed_changes (changed added lacking),
+      printed_changes format (changed added lacking),
       verdict,
       w,
       (
@@ -173,7 +176,7 @@ changes_told contents a b old new added lacking s t verdict w r first second plu
               ),
               refl,
             ),
-        changes_clean (changed added lacking) verdict same,
+        changes_clean format (changed added lacking) verdict same,
       ),
       written,
       is,

@@ -24,6 +24,7 @@ use Rattle.cidr_lists.specs.Lists.{Text, networks_in}
 use Rattle.netset_commands.specs.Program.{AnswersRequest, by_output}
 use Rattle.netset_commands.specs.declared.output.answers.Verdict.{Verdict}
 use Rattle.netset_commands.specs.declared.output.answers.Verdict.TheVariants.{Yes, No}
+use Rattle.cidr_lists.specs.declared.formats.LineFormat.{LineFormat}
 use Rattle.cidr_lists.specs.declared.changes.Sign.{Sign}
 use Rattle.cidr_lists.specs.declared.changes.Sign.TheVariants.{Plus, Minus}
 use Rattle.netset_commands.specs.declared.errors.CommandError.{CommandError}
@@ -159,15 +160,15 @@ something_changed added lacking h = elim (none_or_some (changed added lacking Ip
 ]
 
 -- ---- what is written is what has changed from one list to the other
-pub diff_written : (contents : List ℕ → Option Text) (a b : List ℕ) (old new added lacking : Sets) (s t : State) (verdict : Verdict)
+pub diff_written : (contents : List ℕ → Option Text) (format : LineFormat) (a b : List ℕ) (old new added lacking : Sets) (s t : State) (verdict : Verdict)
     (w : Result (Unit {0}) OutputFailed) (r : Result Verdict CommandError) → ReadsFile (contents a) a (Ok old) → ReadsFile (contents b) b (Ok new)
     → ((family : Family) → IsSetOf 129 (λ p. Steps Difference (IsInSets new family p) (IsInSets old family p)) (networks_of added family))
     → ((family : Family) → IsSetOf 129 (λ p. Steps Difference (IsInSets old family p) (IsInSets new family p)) (networks_of lacking family))
-    → AreSame (changed added lacking) verdict → Answered s t (printed_changes (changed added lacking)) w → r ≡ by_output verdict w
-    → AnswersRequest contents (Diff a b) s t r
-diff_written contents a b old new added lacking s t verdict w r first second more less same written is =
+    → AreSame (changed added lacking) verdict → Answered s t (printed_changes format (changed added lacking)) w → r ≡ by_output verdict w
+    → AnswersRequest contents (Diff format a b) s t r
+diff_written contents format a b old new added lacking s t verdict w r first second more less same written is =
     inr (
-      printed_changes (changed added lacking),
+      printed_changes format (changed added lacking),
       verdict,
       w,
       λ x y p q.

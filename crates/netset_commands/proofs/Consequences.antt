@@ -92,7 +92,7 @@ answer_done : (contents : List ℕ → Option Text) (request : Request) (verdict
 answer_done contents (Lists operation files) verdict out new h = whole_done contents (Lists operation files) verdict out new h
 answer_done contents (Styled style operation files) verdict out new h = whole_done contents (Styled style operation files) verdict out new h
 answer_done contents (NotIn style net files) verdict out new h = whole_done contents (NotIn style net files) verdict out new h
-answer_done contents (Diff old lists) verdict out new h = whole_done contents (Diff old lists) verdict out new h
+answer_done contents (Diff format old lists) verdict out new h = whole_done contents (Diff format old lists) verdict out new h
 answer_done contents (Free style extent pool len used) verdict out new h = whole_done contents (Free style extent pool len used) verdict out new h
 answer_done contents (Acl asked file) verdict out new h = whole_done contents (Acl asked file) verdict out new h
 answer_done contents (Split style operand len) verdict out new h = whole_done contents (Split style operand len) verdict out new h

@@ -3,7 +3,8 @@ use Rattle.std.proofs.Common.{◌≡◌, refl, sym, ◌∙◌, ap, subst, inl, i
 use Rattle.std.specs.List.{list_all, list_any}
 use Rattle.std.proofs.lemmas.Bool.{true≢false}
 use Rattle.cidr_lists.specs.Formats.{IsBare, Style, format_name}
-use Rattle.cidr_lists.specs.Rules.{Permitted, Shadowed, Compared}
+use Rattle.cidr_lists.specs.Rules.{Question, Permitted, Shadowed, Compared}
+use Rattle.cidr_lists.specs.declared.formats.LineFormat.TheVariants as by_line
 use Rattle.netset_commands.specs.Arguments.{Parts, and_then, question_by, asks_help, choice_by, choice_in, counted_request, extent_by, extra_operand, is_option, joined_arguments, line_request, lists_request, look_by, match_by, named_verb, only_operand, only_options, only_value, part_request, parts_from, read_request, style_in_values, takes, target_by, tells_two_ways, value_of, verb_request, word_parts}
 use Rattle.netset_commands.specs.Commands.{Request, Lists, Styled, NotIn, Diff, Free, Acl, Split, Check, Which, Match, MatchEach, Look, Compile, Describe, Class, Single, Help, Version, input_name, reading_of}
 use Rattle.netset_commands.specs.Free.{Extent, First, Count, All}
@@ -219,6 +220,22 @@ extent_asks every values found extent style options pool len used is given by to
     ∙ (ap (λ (r : Result Extent (List ℕ)). and_then r behind) (ap (λ (b : Bool). extent_by b found) is ∙ by)
     ∙ ap (λ (r : Result (Option Style) (List ℕ)). and_then r (λ s. Ok (Free s extent pool len used))) told)
 
+-- what is asked of an access list
+abbrev json_words : List (List ℕ)
+json_words = codes "--format" ∷ codes "json" ∷ []
+
+no_list_told : (style : Option Style) → value_of verb.Acl (codes "--diff") (style_words style) ≡ Ok None
+no_list_told None = refl
+no_list_told (Some style) = refl
+
+question_asks : (shadowed : Bool) (values : List (List ℕ)) (found : Option (List ℕ)) (asked : Question) (options : List (List ℕ)) (file : List ℕ)
+    → has (codes "--shadowed") options ≡ shadowed → value_of verb.Acl (codes "--diff") values ≡ Ok found → question_by shadowed found values ≡ Ok asked
+    → verb_request verb.Acl (parts_with options values (file ∷ [])) ≡ Ok (Acl asked file)
+question_asks shadowed values found asked options file is given by =
+    let behind : Question → Result Request (List ℕ) = λ one. Ok (Acl one file) in
+    ap (λ (r : Result (Option (List ℕ)) (List ℕ)). and_then r (λ old. and_then (question_by (has (codes "--shadowed") options) old values) behind)) given
+    ∙ ap (λ (r : Result Question (List ℕ)). and_then r behind) (ap (λ (b : Bool). question_by b found values) is ∙ by)
+
 -- the field that match and look read
 no_output : (command : Verb) (choice : Choice) → value_of command (codes "-o") (choice_words choice) ≡ Ok None
 no_output command FirstField = refl
@@ -312,7 +329,10 @@ module _ (words options : List (List ℕ)) where
       (behind_values (verb.Lists Not) (codes "--in") net format files refl
       (behind_value (verb.Lists Not) (codes "--format") (format_name style.format) files refl none)) refl refl
       (NotIn (Some style) net files) (inside_request style net files plain)
-  typed_asks (Diff old new) typed = plain_asks verb.Diff (old ∷ new ∷ []) (Diff old new) typed refl refl
+  typed_asks (Diff by_line.Plain old new) typed = plain_asks verb.Diff (old ∷ new ∷ []) (Diff by_line.Plain old new) typed refl refl
+  typed_asks (Diff by_line.Json old new) (is, all, no_page, none, enough) =
+      line_asks verb.Diff json_words json_words (old ∷ new ∷ []) (is, all, no_page, none, enough)
+      (behind_value verb.Diff (codes "--format") (codes "json") (old ∷ new ∷ []) refl none) refl refl (Diff by_line.Json old new) refl
   typed_asks (Free style First pool len used) (plain, one, (is, all, no_page, none, enough)) =
       line_asks verb.Free (style_words style) (style_words style) (pool ∷ len ∷ used) (is, all, no_page, none, enough)
       (behind_style verb.Free style (pool ∷ len ∷ used) refl none) refl (no_file_told verb.Free style) (Free style First pool len used)
@@ -326,16 +346,24 @@ module _ (words options : List (List ℕ)) where
       line_asks verb.Free (style_words style) (style_words style) (pool ∷ len ∷ used) (is, all, no_page, none, enough)
       (behind_style verb.Free style (pool ∷ len ∷ used) refl none) refl (no_file_told verb.Free style) (Free style All pool len used)
       (extent_asks true (style_words style) None All style options pool len used every (no_count_told style) refl (style_told verb.Free style plain))
-  typed_asks (Acl Permitted file) (of_these, typed) =
-      plain_asks verb.Acl (file ∷ []) (Acl Permitted file) typed refl
-      (ap (λ (b : Bool). and_then (question_by b None) (λ asked. Ok (Acl asked file))) of_these)
-  typed_asks (Acl Shadowed file) (of_these, typed) =
-      plain_asks verb.Acl (file ∷ []) (Acl Shadowed file) typed refl
-      (ap (λ (b : Bool). and_then (question_by b None) (λ asked. Ok (Acl asked file))) of_these)
-  typed_asks (Acl (Compared old) file) (of_these, (is, all, no_page, none, enough)) =
-      line_asks verb.Acl (codes "--diff" ∷ old ∷ []) (codes "--diff" ∷ old ∷ []) (file ∷ []) (is, all, no_page, none, enough)
-      (behind_value verb.Acl (codes "--diff") old (file ∷ []) refl none) refl refl (Acl (Compared old) file)
-      (ap (λ (b : Bool). and_then (question_by b (Some old)) (λ asked. Ok (Acl asked file))) of_these)
+  typed_asks (Acl (Permitted style) file) (of_these, plain, (is, all, no_page, none, enough)) =
+      line_asks verb.Acl (style_words style) (style_words style) (file ∷ []) (is, all, no_page, none, enough)
+      (behind_style verb.Acl style (file ∷ []) refl none) refl (no_file_told verb.Acl style) (Acl (Permitted style) file)
+      (question_asks false (style_words style) None (Permitted style) options file of_these (no_list_told style)
+      (ap (λ (r : Result (Option Style) (List ℕ)). and_then r (λ s. Ok (Permitted s))) (style_told verb.Acl style plain)))
+  typed_asks (Acl Shadowed file) (of_these, plain, typed) =
+      plain_asks verb.Acl (file ∷ []) (Acl Shadowed file) typed refl (question_asks true [] None Shadowed options file of_these refl refl)
+  typed_asks (Acl (Compared by_line.Plain old) file) (of_these, plain, (is, all, no_page, none, enough)) =
+      let values = codes "--diff" ∷ old ∷ [] in
+      line_asks verb.Acl values values (file ∷ []) (is, all, no_page, none, enough)
+      (behind_value verb.Acl (codes "--diff") old (file ∷ []) refl none) refl refl (Acl (Compared by_line.Plain old) file)
+      (question_asks false values (Some old) (Compared by_line.Plain old) options file of_these refl refl)
+  typed_asks (Acl (Compared by_line.Json old) file) (of_these, plain, (is, all, no_page, none, enough)) =
+      let values = codes "--diff" ∷ old ∷ json_words in
+      line_asks verb.Acl values values (file ∷ []) (is, all, no_page, none, enough)
+      (behind_values verb.Acl (codes "--diff") old json_words (file ∷ []) refl
+      (behind_value verb.Acl (codes "--format") (codes "json") (file ∷ []) refl none)) refl refl (Acl (Compared by_line.Json old) file)
+      (question_asks false values (Some old) (Compared by_line.Json old) options file of_these refl refl)
   typed_asks (Split style operand len) (plain, (is, all, no_page, none, enough)) =
       line_asks verb.Split (style_words style) (style_words style) (operand ∷ len ∷ []) (is, all, no_page, none, enough)
       (behind_style verb.Split style (operand ∷ len ∷ []) refl none) refl (no_file_told verb.Split style) (Split style operand len)

@@ -7,6 +7,8 @@ use Rattle.cidr_lists.specs.Formats.{Style, bare, format_of}
 use Rattle.cidr_lists.specs.Rules.{Question, Permitted, Shadowed, Compared}
 use Rattle.cidr_lists.specs.declared.formats.Format.{Format}
 use Rattle.cidr_lists.specs.declared.formats.Format.TheVariants as format
+use Rattle.cidr_lists.specs.declared.formats.LineFormat.{LineFormat}
+use Rattle.cidr_lists.specs.declared.formats.LineFormat.TheVariants as by_line
 use Rattle.netset_commands.specs.Commands.{Request, Lists, Styled, NotIn, Diff, Free, Acl, Split, Check, Which, Match, MatchEach, Look, Compile, Describe, Class, Single, Help, Version, input_name, reading_of}
 use Rattle.netset_commands.specs.Free.{Extent, First, Count, All}
 use Rattle.netset_commands.specs.Matching.{has, is_word}
@@ -20,7 +22,7 @@ use Rattle.netset_commands.specs.declared.commands.operations.Operation.{Operati
 use Rattle.netset_commands.specs.declared.commands.table.Verb.{Verb}
 use Rattle.netset_commands.specs.declared.commands.table.Verb.TheVariants as verb
 use Rattle.netset_commands.specs.declared.errors.Misfit.{Misfit}
-use Rattle.netset_commands.specs.declared.errors.Misfit.TheVariants.{Unnamed, NoCommand, NoOption, Missing, Extra, NoFormat, NotPlain, NoField, Anywhere, Skipping}
+use Rattle.netset_commands.specs.declared.errors.Misfit.TheVariants.{Unnamed, NoCommand, NoOption, Missing, Extra, NoFormat, NotPlain, NoField, Anywhere, Skipping, NoLineFormat, WithShadowed, WithDiff}
 
 -- ---- the line of a word that is wrong
 abbrev pub misfit_text : Misfit → List ℕ
@@ -30,10 +32,13 @@ misfit_text NoOption = codes ": no such option, see: netset help "
 misfit_text Missing = codes " is missing, see: netset help "
 misfit_text Extra = codes ": one argument too many, see: netset help "
 misfit_text NoFormat = codes ": no such format, but plain, json, nft, ipset, iptables, cisco, juniper and bird, see: netset help "
+misfit_text NoLineFormat = codes ": no such format, but plain and json, see: netset help "
 misfit_text NotPlain = codes ": for the format plain alone, see: netset help "
 misfit_text NoField = codes ": only with --field, see: netset help "
 misfit_text Anywhere = codes ": not with --any, see: netset help "
 misfit_text Skipping = codes ": not with --skip-bad, see: netset help "
+misfit_text WithShadowed = codes ": not with --shadowed, see: netset help "
+misfit_text WithDiff = codes ": not with --diff, see: netset help "
 
 -- the word or what is missing, what is wrong with it, and the command whose page is to be seen
 abbrev pub misuse_text : List ℕ → Misfit → List ℕ → List ℕ
@@ -210,6 +215,19 @@ style_in_values command values = and_then (value_of command (codes "--format") v
     (λ name. and_then (value_of command (codes "--prefix") values)
     (λ prefix. and_then (value_of command (codes "--suffix") values) (λ suffix. chosen_style command name prefix suffix)))
 
+-- how lines are written: as text, unless the option says otherwise
+abbrev pub named_line_format : Verb → List ℕ → Result LineFormat (List ℕ)
+named_line_format command name = if is_word (codes "plain") name then Ok by_line.Plain
+    else if is_word (codes "json") name then Ok by_line.Json
+    else Err (misuse_text name NoLineFormat (name_of command))
+
+abbrev pub chosen_line_format : Verb → Option (List ℕ) → Result LineFormat (List ℕ)
+chosen_line_format command None = Ok by_line.Plain
+chosen_line_format command (Some name) = named_line_format command name
+
+abbrev pub line_format_in : Verb → List (List ℕ) → Result LineFormat (List ℕ)
+line_format_in command values = and_then (value_of command (codes "--format") values) (λ name. chosen_line_format command name)
+
 -- an operation on lists; not may be inside a network
 abbrev pub made_request : Operation → Option (List ℕ) → Option Style → List (List ℕ) → Request
 made_request operation None None files = Lists operation files
@@ -238,15 +256,43 @@ abbrev pub split_request : Parts → Result Request (List ℕ)
 split_request parts = and_then (style_in_values verb.Split parts.values)
     (λ style. Ok (Split style (operand_or parts.operands 0 []) (operand_or parts.operands 1 [])))
 
--- what is asked of an access list, by whether --shadowed is given and by the value of --diff
-abbrev pub question_by : Bool → Option (List ℕ) → Result Question (List ℕ)
-question_by false None = Ok Permitted
-question_by true None = Ok Shadowed
-question_by false (Some old) = Ok (Compared old)
-question_by true (Some old) = Err (misuse_text (codes "--shadowed") Extra (codes "acl"))
+abbrev pub diff_request : Parts → Result Request (List ℕ)
+diff_request parts = and_then (line_format_in verb.Diff parts.values)
+    (λ format. Ok (Diff format (operand_or parts.operands 0 []) (operand_or parts.operands 1 [])))
 
-abbrev pub question_in : Parts → Result Question (List ℕ)
-question_in parts = and_then (value_of verb.Acl (codes "--diff") parts.values) (λ old. question_by (has (codes "--shadowed") parts.options) old)
+-- an option with a value that is not given; else it does not go with another one
+abbrev pub not_given : Verb → List ℕ → Misfit → Option (List ℕ) → Result (Unit {0}) (List ℕ)
+not_given command option why None = Ok tt
+not_given command option why (Some value) = Err (misuse_text option why (name_of command))
+
+abbrev pub without_value : Verb → List ℕ → Misfit → List (List ℕ) → Result (Unit {0}) (List ℕ)
+without_value command option why values = and_then (value_of command option values) (λ found. not_given command option why found)
+
+-- of an access list which addresses are permitted, in a style
+abbrev pub permitted_in : List (List ℕ) → Result Question (List ℕ)
+permitted_in values = and_then (style_in_values verb.Acl values) (λ style. Ok (Permitted style))
+
+-- the rules that no address reaches, which have no style
+abbrev pub shadowed_in : List (List ℕ) → Result Question (List ℕ)
+shadowed_in values = and_then (without_value verb.Acl (codes "--format") WithShadowed values)
+    (λ _. and_then (without_value verb.Acl (codes "--prefix") WithShadowed values)
+    (λ _. and_then (without_value verb.Acl (codes "--suffix") WithShadowed values) (λ _. Ok Shadowed)))
+
+-- what it permits and another one does not, whose lines have a format
+abbrev pub compared_in : List ℕ → List (List ℕ) → Result Question (List ℕ)
+compared_in old values = and_then (line_format_in verb.Acl values) (λ format. and_then (without_value verb.Acl (codes "--prefix") WithDiff values)
+    (λ _. and_then (without_value verb.Acl (codes "--suffix") WithDiff values) (λ _. Ok (Compared format old))))
+
+-- what is asked, by whether --shadowed is given and by the value of --diff
+abbrev pub question_by : Bool → Option (List ℕ) → List (List ℕ) → Result Question (List ℕ)
+question_by false None values = permitted_in values
+question_by true None values = shadowed_in values
+question_by false (Some old) values = compared_in old values
+question_by true (Some old) values = Err (misuse_text (codes "--shadowed") Extra (codes "acl"))
+
+abbrev pub acl_request : Parts → Result Request (List ℕ)
+acl_request parts = and_then (value_of verb.Acl (codes "--diff") parts.values) (λ old. and_then (question_by (has (codes "--shadowed") parts.options) old parts.values)
+    (λ asked. Ok (Acl asked (operand_or parts.operands 0 []))))
 
 -- the command help, of a command or of all
 abbrev pub help_request : List (List ℕ) → Result Request (List ℕ)
@@ -282,9 +328,9 @@ look_request parts = and_then (choice_in verb.Look parts) (λ choice. Ok (look_b
 -- a command with as many operands as it takes
 abbrev pub verb_request : Verb → Parts → Result Request (List ℕ)
 verb_request (verb.Lists operation) parts = lists_request operation parts.values parts.operands
-verb_request verb.Diff parts = Ok (Diff (operand_or parts.operands 0 []) (operand_or parts.operands 1 []))
+verb_request verb.Diff parts = diff_request parts
 verb_request verb.Free parts = free_request parts
-verb_request verb.Acl parts = and_then (question_in parts) (λ asked. Ok (Acl asked (operand_or parts.operands 0 [])))
+verb_request verb.Acl parts = acl_request parts
 verb_request verb.Check parts = Ok (Check parts.operands)
 verb_request verb.Which parts = Ok (Which (operand_or parts.operands 0 []) (drop 1 parts.operands))
 verb_request verb.Match parts = match_request parts

@@ -45,18 +45,18 @@ abbrev pub choice_of : GivenChoice → Choice
 choice_of choice.First = FirstField
 choice_of (choice.Field number separator) = FieldOf number.now (given separator)
 
--- what is asked of an access list, with the bytes of the argument
+-- what is asked of an access list, with the bytes of the arguments
 abbrev pub question_of : GivenQuestion → Question
-question_of question.Permitted = Permitted
+question_of (question.Permitted style) = Permitted (option_map (λ s. style_in s) style)
 question_of question.Shadowed = Shadowed
-question_of (question.Compared old) = Compared old.now
+question_of (question.Compared format old) = Compared format old.now
 
 -- the same command with the bytes of its arguments
 abbrev pub request_of : Command → Request
 request_of (command.Lists operation files) = Lists operation (map (λ file. file.now) files.now)
 request_of (command.Styled style operation files) = Styled (style_in style) operation (map (λ file. file.now) files.now)
 request_of (command.NotIn style net files) = NotIn (option_map (λ s. style_in s) style) net.now (map (λ file. file.now) files.now)
-request_of (command.Diff old new) = Diff old.now new.now
+request_of (command.Diff format old new) = Diff format old.now new.now
 request_of (command.Free style extent pool len used) = Free (option_map (λ s. style_in s) style) (extent_of extent) pool.now len.now (map (λ file. file.now) used.now)
 request_of (command.Acl asked file) = Acl (question_of asked) file.now
 request_of (command.Split style operand len) = Split (option_map (λ s. style_in s) style) operand.now len.now

@@ -35,6 +35,7 @@ use Rattle.netset_commands.specs.declared.commands.Reading.{Reading}
 use Rattle.cidr_lists.specs.declared.columns.Column.{Column}
 use Rattle.cidr_lists.specs.declared.fields.Asked.{Asked}
 use Rattle.cidr_lists.specs.declared.lines.HostBits.{HostBits}
+use Rattle.cidr_lists.specs.declared.formats.LineFormat.{LineFormat}
 use Rattle.cidr_lists.specs.declared.sets.Form.{Form}
 use Rattle.netset_commands.specs.declared.commands.operations.Operation.{Operation}
 use Rattle.netset_commands.specs.declared.commands.operations.Operation.TheVariants.{Minus, Not}
@@ -50,7 +51,7 @@ pub data Request : Type 0 where
   Lists : Operation → List (List ℕ) → Request
   Styled : Style → Operation → List (List ℕ) → Request
   NotIn : Option Style → List ℕ → List (List ℕ) → Request
-  Diff : List ℕ → List ℕ → Request
+  Diff : LineFormat → List ℕ → List ℕ → Request
   Free : Option Style → Extent → List ℕ → List ℕ → List (List ℕ) → Request
   Acl : Question → List ℕ → Request
   Split : Option Style → List ℕ → List ℕ → Request
@@ -81,7 +82,7 @@ abbrev pub lists_of : Request → List (List ℕ)
 lists_of (Lists operation files) = read_files files
 lists_of (Styled style operation files) = read_files files
 lists_of (NotIn style net files) = read_files files
-lists_of (Diff old new) = old ∷ new ∷ []
+lists_of (Diff format old new) = old ∷ new ∷ []
 lists_of (Free style extent pool len used) = pool ∷ used
 lists_of (Split style operand len) = operand ∷ []
 lists_of (Check files) = read_files files
@@ -162,12 +163,11 @@ IsNotIn style network texts answer = (said : List (List (List IpCidr))) × AllZi
     × IsPrintBy style (λ family a. Covers (line_networks family (network ∷ [])) a × IsMade SaysAddress Not said family a) answer
 
 -- what a list has and another has not, both ways
-abbrev pub IsDiff : Text → Text → List ℕ → Verdict → Type 0
-IsDiff old new answer verdict =
-    (before : List (List IpCidr)) × (after : List (List IpCidr)) × ListSays old before × ListSays new after
+abbrev pub IsDiff : LineFormat → Text → Text → List ℕ → Verdict → Type 0
+IsDiff format old new answer verdict = (before after : List (List IpCidr)) × ListSays old before × ListSays new after
     × (changes : Family → List (Sign × List Bool))
     × ((family : Family) → AreChanges (networks_in family before) (networks_in family after) (changes family))
-    × (answer ≡ printed_changes changes) × AreSame changes verdict
+    × (answer ≡ printed_changes format changes) × AreSame changes verdict
 
 -- the first networks of n bits that have only addresses of a first list that no other has, at most so many
 abbrev pub IsFree : Option Style → ℕ → Option ℕ → List (List (List IpCidr)) → List ℕ → Verdict → Type 0
@@ -221,8 +221,8 @@ IsAnswer contents (Styled style operation files) answer verdict =
     ((texts : List Text) → AreTold contents (read_files files) texts → IsStyledOf style operation texts answer) × (verdict ≡ Yes)
 IsAnswer contents (NotIn style net files) answer verdict = (network : IpCidr) × IsIpNetworkText net network
     × ((texts : List Text) → AreTold contents (read_files files) texts → IsNotIn style network texts answer) × (verdict ≡ Yes)
-IsAnswer contents (Diff old new) answer verdict =
-    (before after : Text) → contents old ≡ Some before → contents new ≡ Some after → IsDiff before after answer verdict
+IsAnswer contents (Diff format old new) answer verdict =
+    (before after : Text) → contents old ≡ Some before → contents new ≡ Some after → IsDiff format before after answer verdict
 IsAnswer contents (Free style extent pool len used) answer verdict = (n : ℕ) × IsNumber len n × (n ≤ 128) × (most : Option ℕ) × IsMost extent most
     × OfOperand contents pool (IsFreeOfUsed contents style n most used answer verdict)
 IsAnswer contents (Acl asked file) answer verdict = IsRulesAnswer contents asked file answer × IsClean (faults_in asked answer) verdict

@@ -106,7 +106,7 @@ IsRequestRefused contents (Lists operation files) (Err e) = IsUnread contents (r
 IsRequestRefused contents (Styled style operation files) (Err e) = IsUnread contents (read_files files) e
 IsRequestRefused contents (NotIn style net files) (Err e) = IsWrong (NotIn style net files) e
     ⊎ ((network : IpCidr) × IsIpNetworkText net network × IsUnread contents (read_files files) e)
-IsRequestRefused contents (Diff old new) (Err e) = IsUnread contents (old ∷ new ∷ []) e
+IsRequestRefused contents (Diff format old new) (Err e) = IsUnread contents (old ∷ new ∷ []) e
 IsRequestRefused contents (Free style extent pool len used) (Err e) = IsBadArgument (IsBadFree extent len) e
     ⊎ ((n : ℕ) × IsNumber len n × (n ≤ 128) × (most : Option ℕ) × IsMost extent most × IsUnreadPool contents pool used e)
 IsRequestRefused contents (Acl asked file) (Err e) = IsUnreadAcl contents (compared_with asked ++ file ∷ []) e

@@ -76,9 +76,9 @@ told_row Masks = (codes "mask", (codes "NET|LEN|FILE" ∷ [], MASK.now))
 abbrev pub row_of : Verb → Row
 row_of (Lists op) = row (lists_row op).0 list_options (lists_row op).1.0 (lists_row op).1.1.0 None (lists_row op).1.1.1
 row_of (Describe what) = row (told_row what).0 list_options output_values (told_row what).1.0 (Some 1) (told_row what).1.1
-row_of Diff = row (codes "diff") list_options output_values two_lists (Some 2) DIFF.now
+row_of Diff = row (codes "diff") list_options (codes "--format" ∷ output_values) two_lists (Some 2) DIFF.now
 row_of Free = row (codes "free") (codes "--all" ∷ list_options) (codes "--count" ∷ style_values) (codes "POOL" ∷ codes "LEN" ∷ []) None FREE.now
-row_of Acl = row (codes "acl") (codes "--shadowed" ∷ codes "--host-bits" ∷ codes "--masks" ∷ help_options) (codes "--diff" ∷ output_values) (codes "RULES" ∷ []) (Some 1) ACL.now
+row_of Acl = row (codes "acl") (codes "--shadowed" ∷ codes "--host-bits" ∷ codes "--masks" ∷ help_options) (codes "--diff" ∷ style_values) (codes "RULES" ∷ []) (Some 1) ACL.now
 row_of Check = row (codes "check") keep_options [] [] None CHECK.now
 row_of Which = row (codes "which") keep_options [] (codes "ADDR" ∷ []) None WHICH.now
 row_of Match = row (codes "match") match_options (codes "--field" ∷ codes "--separator" ∷ []) (codes "LIST" ∷ []) None MATCH.now
@@ -121,5 +121,5 @@ note_of command option note = if has option (options_of command) || takes_value 
 abbrev pub help_text : Option Verb → List ℕ
 help_text (Some command) =
     concat (about_of command ∷ note_of command (codes "--host-bits") HOST_BITS.now ∷ note_of command (codes "-k") KEEP_GOING.now
-    ∷ note_of command (codes "--skip-bad") SKIP_BAD.now ∷ note_of command (codes "--format") FORMAT.now ∷ note_of command (codes "-o") OUTPUT.now ∷ [])
+    ∷ note_of command (codes "--skip-bad") SKIP_BAD.now ∷ note_of command (codes "--prefix") FORMAT.now ∷ note_of command (codes "-o") OUTPUT.now ∷ [])
 help_text None = flat_map about_of commands ++ concat (OPTIONS.now ∷ HOST_BITS.now ∷ KEEP_GOING.now ∷ SKIP_BAD.now ∷ FORMAT.now ∷ OUTPUT.now ∷ LISTS.now ∷ [])

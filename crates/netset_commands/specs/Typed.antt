@@ -4,8 +4,8 @@ use Rattle.std.specs.Prelude.{◌≡◌, ◌⊎◌, ◌||◌, ℕ, true, false, 
 use Rattle.std.specs.List.{flat_map, list_all, list_any}
 use Rattle.cidr_io.specs.Writing.{State, Whole, Tells}
 use Rattle.cidr_lists.specs.Lists.{Text}
-use Rattle.cidr_lists.specs.Formats.{IsBare, Style, format_name}
-use Rattle.cidr_lists.specs.Rules.{compared_with, is_shadowed}
+use Rattle.cidr_lists.specs.Formats.{IsBare, Style, format_name, line_style}
+use Rattle.cidr_lists.specs.Rules.{compared_with, is_shadowed, style_asked}
 use Rattle.netset_commands.specs.Arguments.{asks_help, is_option, missing_operand, takes, tells_two_ways}
 use Rattle.netset_commands.specs.Commands.{Request, Lists, Styled, NotIn, Diff, Free, Acl, Split, Check, Which, Match, MatchEach, Look, Compile, Describe, Class, Single, Help, Version, IsAnswer, bits_of, input_name}
 use Rattle.netset_commands.specs.Free.{First, Count, All}
@@ -52,12 +52,13 @@ IsTyped words options (Lists operation files) = AreTyped (verb.Lists operation) 
 IsTyped words options (Styled style operation files) = IsBare (Some style) × (takes_value (verb.Lists operation) (codes "--format") ≡ true)
     × AreTyped (verb.Lists operation) options (style_words (Some style)) files words
 IsTyped words options (NotIn style net files) = IsBare style × AreTyped (verb.Lists Not) options (codes "--in" ∷ net ∷ style_words style) files words
-IsTyped words options (Diff old new) = AreTyped verb.Diff options [] (old ∷ new ∷ []) words
+IsTyped words options (Diff format old new) = AreTyped verb.Diff options (style_words (line_style format)) (old ∷ new ∷ []) words
 IsTyped words options (Free style First pool len used) = IsBare style × (has (codes "--all") options ≡ false) × AreTyped verb.Free options (style_words style) (pool ∷ len ∷ used) words
 IsTyped words options (Free style (Count count) pool len used) = IsBare style
     × (has (codes "--all") options ≡ false) × AreTyped verb.Free options (codes "--count" ∷ count ∷ style_words style) (pool ∷ len ∷ used) words
 IsTyped words options (Free style All pool len used) = IsBare style × (has (codes "--all") options ≡ true) × AreTyped verb.Free options (style_words style) (pool ∷ len ∷ used) words
-IsTyped words options (Acl asked file) = (has (codes "--shadowed") options ≡ is_shadowed asked) × AreTyped verb.Acl options (flat_map (λ old. codes "--diff" ∷ old ∷ []) (compared_with asked)) (file ∷ []) words
+IsTyped words options (Acl asked file) = (has (codes "--shadowed") options ≡ is_shadowed asked) × IsBare (style_asked asked)
+    × AreTyped verb.Acl options (flat_map (λ old. codes "--diff" ∷ old ∷ []) (compared_with asked) ++ style_words (style_asked asked)) (file ∷ []) words
 IsTyped words options (Split style operand len) = IsBare style × AreTyped verb.Split options (style_words style) (operand ∷ len ∷ []) words
 IsTyped words options (Check files) = AreTyped verb.Check options [] files words
 IsTyped words options (Which address files) = AreTyped verb.Which options [] (address ∷ files) words

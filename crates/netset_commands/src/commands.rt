@@ -40,7 +40,7 @@ use crate::commands::single::Single;
 use crate::commands::table::Verb;
 use cidr::IpCidr;
 use cidr_io::memory::Memory;
-use cidr_lists::formats::Style;
+use cidr_lists::formats::{LineFormat, Style};
 use cidr_lists::lines::{HostBits, Kind};
 use std::alloc::{AllocError, Global};
 
@@ -53,8 +53,8 @@ pub enum Command<'a> {
     Styled(Style<'a>, Operation, &'a [&'a str]),
     /// The addresses of a network that no list of these files has, and how they are written, if that is told.
     NotIn(Option<Style<'a>>, &'a str, &'a [&'a str]),
-    /// What the second file adds to the first one, and what it lacks.
-    Diff(&'a str, &'a str),
+    /// What the second file adds to the first one, and what it lacks, and how that is written.
+    Diff(LineFormat, &'a str, &'a str),
     /// The free networks of a prefix length in a pool, of whose addresses others are used.
     Free(Option<Style<'a>>, Extent<'a>, &'a str, &'a str, &'a [&'a str]),
     /// What is asked of an access list.
@@ -171,7 +171,7 @@ impl<'a> Command<'a> {
                 }
                 names.extend_from_slice(files)?;
             }
-            Command::Diff(old, new) => {
+            Command::Diff(_, old, new) => {
                 names.push(*old)?;
                 names.push(*new)?;
             }
@@ -205,7 +205,7 @@ impl<'a> Command<'a> {
             Command::Lists(_, _)
             | Command::Styled(_, _, _)
             | Command::NotIn(_, _, _)
-            | Command::Diff(_, _)
+            | Command::Diff(_, _, _)
             | Command::Acl(_, _)
             | Command::Check(_)
             | Command::Which(_, _)
@@ -239,13 +239,13 @@ impl<'a> Command<'a> {
     {
         let mut names = self.lists(memory)?;
         match self {
-            Command::Acl(Question::Compared(old), file) => {
+            Command::Acl(Question::Compared(_, old), file) => {
                 memory.push(&mut names, *old)?;
                 memory.push(&mut names, *file)?;
             }
             Command::Match(_, _, _, file)
             | Command::Look(_, _, _, file)
-            | Command::Acl(Question::Permitted, file)
+            | Command::Acl(Question::Permitted(_), file)
             | Command::Acl(Question::Shadowed, file)
             | Command::Class(file) => {
                 memory.push(&mut names, *file)?;

@@ -45,6 +45,8 @@ pub enum Misfit {
     Extra,
     /// There is no format of this name.
     NoFormat,
+    /// There is no format of lines of this name.
+    NoLineFormat,
     /// It is an option for the format `plain` alone.
     NotPlain,
     /// It is an option that only goes with `--field`.
@@ -53,6 +55,10 @@ pub enum Misfit {
     Anywhere,
     /// It is an option that does not go with `--skip-bad`.
     Skipping,
+    /// It is an option that does not go with `--shadowed`.
+    WithShadowed,
+    /// It is an option that does not go with `--diff`.
+    WithDiff,
 }
 
 /// Why the arguments are no command.

@@ -123,7 +123,7 @@ fn answer<'a, M: Memory, F: Sources, D: Folder, O: Sink>(
             styled_lists(memory, sources, &style, operation, files, out)
         }
         Command::NotIn(style, net, files) => not_in(memory, sources, style, net, files, out),
-        Command::Diff(old, new) => diff(memory, sources, old, new, out),
+        Command::Diff(format, old, new) => diff(memory, sources, format, old, new, out),
         Command::Free(style, extent, pool, len, used) => {
             free(memory, sources, style, extent, pool, len, used, out)
         }
@@ -181,7 +181,7 @@ fn wrong_argument<'a>(command: Command<'a>) -> Option<CommandError<'a>>
         Command::Compile(table, name) => same_file(table, name),
         Command::Lists(_, _)
         | Command::Styled(_, _, _)
-        | Command::Diff(_, _)
+        | Command::Diff(_, _, _)
         | Command::Acl(_, _)
         | Command::Check(_)
         | Command::Split(_, _, _)

@@ -10,6 +10,7 @@ use Rattle.cidr.specs.declared.family.Family.{Family}
 use Rattle.cidr_io.specs.Writing.{State, Whole, Tells}
 use Rattle.cidr_lists.specs.Faults.{AreTellings}
 use Rattle.cidr_lists.specs.Lists.{ListSays, Text, text_by}
+use Rattle.cidr_lists.specs.Formats.{bare}
 use Rattle.cidr_lists.specs.Lines.{lines_in}
 use Rattle.cidr_lists.specs.Messages.{fault_line}
 use Rattle.cidr_lists.specs.Printing.{line}
@@ -22,11 +23,13 @@ use Rattle.cidr_lists.specs.declared.columns.Separator.TheVariants.{Byte}
 use Rattle.cidr_lists.specs.declared.errors.LineError.{LineError}
 use Rattle.cidr_lists.specs.declared.fields.Asked.{Asked}
 use Rattle.cidr_lists.specs.declared.fields.Asked.TheVariants.{First}
+use Rattle.cidr_lists.specs.declared.formats.Format.TheVariants.{Nft}
+use Rattle.cidr_lists.specs.declared.formats.LineFormat.TheVariants.{Json, Plain}
 use Rattle.cidr_lists.specs.declared.lines.HostBits.{HostBits}
 use Rattle.cidr_lists.specs.declared.lines.Kind.TheVariants.{Networks}
 use Rattle.cidr_lists.specs.declared.lines.HostBits.TheVariants.{Refused}
 use Rattle.netset_commands.specs.Causes.{Refusals}
-use Rattle.netset_commands.specs.Commands.{Acl, HoldsOf, IsMadeOf, Lists, Look, Match, ReadsInputTwice, reading_of}
+use Rattle.netset_commands.specs.Commands.{Acl, Diff, HoldsOf, IsDiff, IsMadeOf, Lists, Look, Match, ReadsInputTwice, reading_of}
 use Rattle.netset_commands.specs.Look.{IsLook}
 use Rattle.netset_commands.specs.Matching.{ArePicked, IsMatch, Picks}
 use Rattle.netset_commands.specs.Picking.{FieldOf, FirstField, IsChosen}
@@ -219,18 +222,46 @@ looks_printed words contents table file None same first second h = tt
 looks_printed words contents table file (Some run) same first second h =
     look_printed contents table file run first second (subst (λ (k : List (List ℕ)). HasRun k contents run) same h)
 
+-- ---- diff
+abbrev pub diff_words : List (List ℕ)
+diff_words = codes "diff" ∷ codes "--format" ∷ codes "json" ∷ codes "old" ∷ codes "new" ∷ []
+
+pub diff_printed : (words : List (List ℕ)) (contents : List ℕ → Option (List ℕ)) (old new : List ℕ) (r : Option Finished) → words ≡ diff_words
+    → contents (codes "old") ≡ Some old → contents (codes "new") ≡ Some new → IfSome r (HasRun words contents)
+    → IfSome r (λ run. run.status ≡ 1 → HasPrinted (λ answer. IsDiff Json (text_by Refused old) (text_by Refused new) answer No) run)
+diff_printed words contents old new None same first second h = tt
+diff_printed words contents old new (Some run) same first second h = λ ended.
+    let (answered, runs) = subst (λ (k : List (List ℕ)). HasRun k contents run) same h in
+    let (answer, is, whole, quiet) = answered diff_words [] (Diff Json (codes "old") (codes "new")) No refl (refl, refl, refl, refl, refl) ended in
+    printed_by (λ answer. IsDiff Json (text_by Refused old) (text_by Refused new) answer No) run answer
+    (is (text_by Refused old) (text_by Refused new) (told_text contents (codes "old") old first) (told_text contents (codes "new") new second)) whole quiet
+
 -- ---- acl
 abbrev pub acl_words : List (List ℕ)
 acl_words = codes "acl" ∷ codes "rules" ∷ []
 
 pub acl_printed : (words : List (List ℕ)) (contents : List ℕ → Option (List ℕ)) (rules : List ℕ) (r : Option Finished) → words ≡ acl_words
     → contents (codes "rules") ≡ Some rules → IfSome r (HasRun words contents)
-    → IfSome r (λ run. run.status ≡ 0 → HasPrinted (ArePermittedLines (text_by Refused rules)) run)
+    → IfSome r (λ run. run.status ≡ 0 → HasPrinted (ArePermittedLines None (text_by Refused rules)) run)
 acl_printed words contents rules None same told h = tt
 acl_printed words contents rules (Some run) same told h = λ ended.
     let (answered, runs) = subst (λ (k : List (List ℕ)). HasRun k contents run) same h in
-    let (answer, (is, clean), whole, quiet) = answered acl_words [] (Acl Permitted (codes "rules")) Yes refl (refl, (refl, refl, refl, refl, refl)) ended in
-    printed_by (ArePermittedLines (text_by Refused rules)) run answer (is (text_by Refused rules) (told_text contents (codes "rules") rules told)) whole quiet
+    let (answer, (is, clean), whole, quiet) = answered acl_words [] (Acl (Permitted None) (codes "rules")) Yes refl (refl, tt, (refl, refl, refl, refl, refl)) ended in
+    printed_by (ArePermittedLines None (text_by Refused rules)) run answer (is (text_by Refused rules) (told_text contents (codes "rules") rules told)) whole quiet
+
+abbrev pub nft_words : List (List ℕ)
+nft_words = codes "acl" ∷ codes "--format" ∷ codes "nft" ∷ codes "rules" ∷ []
+
+pub nft_printed : (words : List (List ℕ)) (contents : List ℕ → Option (List ℕ)) (rules : List ℕ) (r : Option Finished) → words ≡ nft_words
+    → contents (codes "rules") ≡ Some rules → IfSome r (HasRun words contents)
+    → IfSome r (λ run. run.status ≡ 0 → HasPrinted (ArePermittedLines (Some (bare Nft)) (text_by Refused rules)) run)
+nft_printed words contents rules None same told h = tt
+nft_printed words contents rules (Some run) same told h = λ ended.
+    let (answered, runs) = subst (λ (k : List (List ℕ)). HasRun k contents run) same h in
+    let (answer, (is, clean), whole, quiet) = answered nft_words [] (Acl (Permitted (Some (bare Nft))) (codes "rules")) Yes refl
+    (refl, refl, (refl, refl, refl, refl, refl)) ended in
+    printed_by (ArePermittedLines (Some (bare Nft)) (text_by Refused rules)) run answer
+    (is (text_by Refused rules) (told_text contents (codes "rules") rules told)) whole quiet
 
 abbrev pub shadowed_words : List (List ℕ)
 shadowed_words = codes "acl" ∷ codes "--shadowed" ∷ codes "rules" ∷ []
@@ -242,7 +273,7 @@ shadows_printed words contents rules None same told h = tt
 shadows_printed words contents rules (Some run) same told h = λ ended.
     let (answered, runs) = subst (λ (k : List (List ℕ)). HasRun k contents run) same h in
     let (answer, (is, clean), whole, quiet) = answered shadowed_words (codes "--shadowed" ∷ []) (Acl Shadowed (codes "rules")) No refl
-    (refl, (refl, refl, refl, refl, refl)) ended in
+    (refl, tt, (refl, refl, refl, refl, refl)) ended in
     printed_by (AreAllShadowLines (codes "rules") (text_by Refused rules)) run answer
     (is (text_by Refused rules) (told_text contents (codes "rules") rules told)) whole quiet
 
@@ -255,8 +286,8 @@ pub changes_printed : (words : List (List ℕ)) (contents : List ℕ → Option 
 changes_printed words contents old rules None same first second h = tt
 changes_printed words contents old rules (Some run) same first second h = λ ended.
     let (answered, runs) = subst (λ (k : List (List ℕ)). HasRun k contents run) same h in
-    let (answer, (is, clean), whole, quiet) = answered compared_words [] (Acl (Compared (codes "old")) (codes "rules")) Yes refl
-    (refl, (refl, refl, refl, refl, refl)) ended in
+    let (answer, (is, clean), whole, quiet) = answered compared_words [] (Acl (Compared Plain (codes "old")) (codes "rules")) Yes refl
+    (refl, tt, (refl, refl, refl, refl, refl)) ended in
     printed_by (ArePermittedTheSame (text_by Refused old) (text_by Refused rules)) run answer
     (is (text_by Refused old) (text_by Refused rules) (told_text contents (codes "old") old first) (told_text contents (codes "rules") rules second), clean) whole quiet
 

@@ -12,6 +12,7 @@ use Rattle.cidr_lists.specs.declared.columns.Column.{Column}
 use Rattle.cidr_lists.specs.declared.columns.Separator.TheVariants.{Byte}
 use Rattle.cidr_lists.specs.declared.errors.LineError.{LineError}
 use Rattle.cidr_lists.specs.declared.lines.Kind.TheVariants.{Networks}
+use Rattle.cidr_lists.specs.declared.formats.LineFormat.TheVariants.{Plain}
 use Rattle.netset_commands.specs.Causes.{Refusals}
 use Rattle.netset_commands.specs.Commands.{HoldsOf}
 use Rattle.netset_commands.specs.Keeping.{IsGoodText}
@@ -55,4 +56,4 @@ AreLinesBySecond networks text answer = HoldsOf networks (λ IsIn. (picked : Lis
 
 -- nothing is told of what the rules of one list permit and those of the other do not
 abbrev pub ArePermittedTheSame : Text → Text → List ℕ → Type 0
-ArePermittedTheSame old new answer = AreRuleChanges old new answer × (answer ≡ [])
+ArePermittedTheSame old new answer = AreRuleChanges Plain old new answer × (answer ≡ [])

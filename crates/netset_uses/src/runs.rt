@@ -1,13 +1,16 @@
 //! Runs of `netset`: what they print, and what they tell of an error.
-ghost use Rattle.std.specs.Prelude.{◌≡◌, ◌≢◌, [], ◌∷◌, codes, false, map, IfSome};
+ghost use Rattle.std.specs.Prelude.{◌≡◌, ◌≢◌, [], ◌∷◌, codes, false, map, IfSome, None, Some};
 ghost use Rattle.cidr_lists.specs.declared.fields.Asked.TheVariants.{First};
 ghost use Rattle.cidr_lists.specs.Lists.{text_by};
 ghost use Rattle.cidr_lists.specs.declared.lines.HostBits.TheVariants.{Refused};
+ghost use Rattle.cidr_lists.specs.Formats.{bare};
 ghost use Rattle.cidr_lists.specs.Rules.{AreAllShadowLines, ArePermittedLines};
-ghost use Rattle.netset_commands.specs.Commands.{IsMadeOf};
+ghost use Rattle.cidr_lists.specs.declared.formats.Format.TheVariants.{Nft};
+ghost use Rattle.cidr_lists.specs.declared.formats.LineFormat.TheVariants.{Json};
+ghost use Rattle.netset_commands.specs.Commands.{IsDiff, IsMadeOf};
 ghost use Rattle.netset_commands.specs.Look.{IsLook};
 ghost use Rattle.netset_commands.specs.declared.commands.operations.Operation.TheVariants.{Merge};
-ghost use Rattle.netset_commands.specs.declared.output.answers.Verdict.TheVariants.{Yes};
+ghost use Rattle.netset_commands.specs.declared.output.answers.Verdict.TheVariants.{Yes, No};
 ghost use Rattle.netset_uses.specs.Runs.{AreLinesBySecond, ArePermittedTheSame, HasPrinted, HasRun, HasSkipped, HasToldLine};
 ghost use Rattle.netset_uses.specs.Texts.{contents_of};
 
@@ -103,13 +106,44 @@ pub fn look(alloc: Global, table: &[u8], file: &[u8]) -> Option<Finished>
 
 /// A run of `netset acl rules`. With status 0 it has printed the networks that the access list permits.
 pub fn acl(alloc: Global, rules: &[u8]) -> Option<Finished>
-    ensures { IfSome result (λ run. run.status ≡ 0 → HasPrinted (ArePermittedLines (text_by Refused rules.now)) run) }
+    ensures { IfSome result (λ run. run.status ≡ 0 → HasPrinted (ArePermittedLines None (text_by Refused rules.now)) run) }
 {
     let file = TextFile {
         name: "rules",
         bytes: rules,
     };
     run(alloc, &["acl", "rules"], &[file])
+}
+
+/// A run of `netset acl --format nft rules`. With status 0 it has printed these networks as commands for `nft -f`.
+pub fn acl_for_nft(alloc: Global, rules: &[u8]) -> Option<Finished>
+    ensures { IfSome result (λ run. run.status ≡ 0
+        → HasPrinted (ArePermittedLines (Some (bare Nft)) (text_by Refused rules.now)) run) }
+{
+    let file = TextFile {
+        name: "rules",
+        bytes: rules,
+    };
+    run(alloc, &["acl", "--format", "nft", "rules"], &[file])
+}
+
+/// A run of `netset diff --format json old new`. With status 1 it has printed an object for each network that one of the
+/// lists alone has.
+pub fn differences(alloc: Global, old: &[u8], new: &[u8]) -> Option<Finished>
+    ensures { IfSome result (λ run. run.status ≡ 1
+        → HasPrinted (λ answer. IsDiff Json (text_by Refused old.now) (text_by Refused new.now) answer No) run) }
+{
+    let files = [
+        TextFile {
+            name: "old",
+            bytes: old,
+        },
+        TextFile {
+            name: "new",
+            bytes: new,
+        },
+    ];
+    run(alloc, &["diff", "--format", "json", "old", "new"], &files)
 }
 
 /// A run of `netset acl --shadowed rules`. With status 1 it has told the rules that no address reaches, each with the earlier

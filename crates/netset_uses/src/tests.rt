@@ -1,5 +1,8 @@
 //! Lists in memory: read, printed, and given to runs.
-use crate::runs::{acl, compared, look, match_second, merge, merge_good, merge_twice, shadowed};
+use crate::runs::{
+    acl, acl_for_nft, compared, differences, look, match_second, merge, merge_good, merge_twice,
+    shadowed,
+};
 use cidr_lists::errors::{LineError, ListError};
 use cidr_lists::lines::HostBits;
 use cidr_lists::sets::{Form, Sets};
@@ -91,6 +94,25 @@ fn acl_tells_what_rules_permit(rt: HostRuntime) -> Result<(), Fail> {
     let run = compared(rt.alloc(), rules, b"permit 10.0.0.0/16\npermit ::1\n").ok_or("no memory")?;
     assert_eq!(rt; run.status, 0);
     assert_eq!(rt; run.out.len(), 0);
+    Ok(())
+}
+
+#[test]
+fn answers_are_in_other_formats(rt: HostRuntime) -> Result<(), Fail> {
+    let run = acl_for_nft(rt.alloc(), b"deny 10.1.0.0/16\npermit 10.0.0.0/15\n").ok_or(
+        "no memory",
+    )?;
+    assert_eq!(rt; run.status, 0);
+    assert_eq!(rt;
+        run.out.as_slice(),
+        b"add table inet netset\nadd set inet netset netset4 { type ipv4_addr; flags interval; }\nflush set inet netset netset4\nadd element inet netset netset4 { 10.0.0.0/16 }\nadd table inet netset\nadd set inet netset netset6 { type ipv6_addr; flags interval; }\nflush set inet netset netset6\n".as_slice()
+    );
+    let run = differences(rt.alloc(), b"10.0.0.1\n", b"::1\n").ok_or("no memory")?;
+    assert_eq!(rt; run.status, 1);
+    assert_eq!(rt;
+        run.out.as_slice(),
+        b"{\"change\":\"-\",\"network\":\"10.0.0.1\",\"first\":\"10.0.0.1\",\"last\":\"10.0.0.1\",\"length\":32,\"family\":\"IPv4\"}\n{\"change\":\"+\",\"network\":\"::1\",\"first\":\"::1\",\"last\":\"::1\",\"length\":128,\"family\":\"IPv6\"}\n".as_slice()
+    );
     Ok(())
 }
 

@@ -1,5 +1,5 @@
 //! What access lists permit, which of their rules no address reaches, and how two of them differ.
-ghost use Rattle.std.specs.Prelude.{◌≡◌, true, IfErr};
+ghost use Rattle.std.specs.Prelude.{◌≡◌, true, option_map, IfErr};
 ghost use Rattle.netset_commands.specs.Acl.{ReadsPermitted, ReadsRules, rules_error};
 ghost use Rattle.netset_commands.specs.Causes.{Cause, FileMayFail};
 ghost use Rattle.netset_commands.specs.Command.{question_of};
@@ -7,6 +7,7 @@ ghost use Rattle.netset_commands.specs.Commands.{Acl};
 ghost use Rattle.netset_commands.specs.Findings.{IsClean};
 ghost use Rattle.netset_commands.specs.Program.{AnswersRequest};
 ghost use Rattle.cidr_lists.specs.declared.errors.ListError.TheVariants.{NoMemory};
+ghost use Rattle.cidr_lists.specs.Formats.{style_in};
 ghost use Rattle.cidr_lists.specs.Rules.{Permitted as AsPermitted, Shadowed as AsShadowed, Compared as AsCompared};
 
 use crate::commands::changes::{verdict_of, write_both};
@@ -14,10 +15,11 @@ use crate::errors::CommandError;
 use crate::input::begun::{begin_file, read_whole};
 use crate::input::files::Sources;
 use crate::output::answers::{Verdict, by_output};
-use crate::output::sets::{write_bytes, write_sets};
+use crate::output::sets::{write_by, write_bytes};
 use cidr_io::memory::Memory;
 use cidr_io::sink::Sink;
 use cidr_lists::errors::ListError;
+use cidr_lists::formats::{LineFormat, Style};
 use cidr_lists::rules::Rules;
 use cidr_lists::sets::{Sets, Step};
 use std::alloc::AllocError;
@@ -25,12 +27,12 @@ use std::alloc::AllocError;
 /// What is asked of an access list.
 #[derive(Clone, Copy)]
 pub enum Question<'a> {
-    /// The addresses that it permits.
-    Permitted,
+    /// The addresses that it permits, and how they are written, if that is told.
+    Permitted(Option<Style<'a>>),
     /// The rules that no address reaches.
     Shadowed,
-    /// What it permits and the list of this file does not, and the other way round.
-    Compared(&'a str),
+    /// What it permits and the list of this file does not, and the other way round, and how that is written.
+    Compared(LineFormat, &'a str),
 }
 
 /// The error of reading the rules of a file.
@@ -83,14 +85,15 @@ fn read_permitted<'a, M: Memory, F: Sources>(
 fn permitted<'a, M: Memory, F: Sources, O: Sink>(
     memory: &mut M,
     sources: &F,
+    style: Option<Style<'_>>,
     file: &'a str,
     out: &mut O,
 ) -> Result<Verdict, CommandError<'a>>
-    ensures answers { AnswersRequest (F.contents sources.now) (Acl AsPermitted file.now) (O.state out.old) (O.state out.new) result }
+    ensures answers { AnswersRequest (F.contents sources.now) (Acl (AsPermitted (option_map (λ s. style_in s) style.entry)) file.now) (O.state out.old) (O.state out.new) result }
     ensures cause { IfErr result (Cause (FileMayFail (F.contents sources.now)) (M.refused memory.new)) }
 {
     let sets = read_permitted(memory, sources, file)?;
-    by_output(Verdict::Yes, write_sets(out, &sets))
+    write_by(memory, style, &sets, out)
 }
 
 /// Yes where nothing is told.
@@ -124,11 +127,12 @@ fn shadowed<'a, M: Memory, F: Sources, O: Sink>(
 fn compared<'a, M: Memory, F: Sources, O: Sink>(
     memory: &mut M,
     sources: &F,
+    format: LineFormat,
     old: &'a str,
     new: &'a str,
     out: &mut O,
 ) -> Result<Verdict, CommandError<'a>>
-    ensures answers { AnswersRequest (F.contents sources.now) (Acl (AsCompared old.now) new.now) (O.state out.old) (O.state out.new) result }
+    ensures answers { AnswersRequest (F.contents sources.now) (Acl (AsCompared format old.now) new.now) (O.state out.old) (O.state out.new) result }
     ensures cause { IfErr result (Cause (FileMayFail (F.contents sources.now)) (M.refused memory.new)) }
 {
     let before = read_permitted(memory, sources, old)?;
@@ -139,7 +143,7 @@ fn compared<'a, M: Memory, F: Sources, O: Sink>(
     let lacking = memory.watch(lacking)?;
     by_output(
         verdict_of(&added, &lacking),
-        write_both(out, &added, &lacking),
+        write_both(out, format, &added, &lacking),
     )
 }
 
@@ -155,8 +159,8 @@ pub fn acl<'a, M: Memory, F: Sources, O: Sink>(
     ensures cause { IfErr result (Cause (FileMayFail (F.contents sources.now)) (M.refused memory.new)) }
 {
     match question {
-        Question::Permitted => permitted(memory, sources, file, out),
+        Question::Permitted(style) => permitted(memory, sources, style, file, out),
         Question::Shadowed => shadowed(memory, sources, file, out),
-        Question::Compared(old) => compared(memory, sources, old, file, out),
+        Question::Compared(format, old) => compared(memory, sources, format, old, file, out),
     }
 }

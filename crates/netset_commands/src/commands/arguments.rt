@@ -1,13 +1,12 @@
 //! The words of a command line as options and operands, and the command that they are.
 ghost use Rattle.std.specs.Prelude.{◌≡◌, ◌<◌, [], Ok, Err, Bool, true, false, length, drop, MatchOption, MatchResult, option_map, slice_get, unwrap_or};
 ghost use Rattle.std.specs.List.{after_first, before_first};
-ghost use Rattle.netset_commands.specs.Arguments.{asks_help, choice_by, choice_in, chosen_style, extent_by, extra_operand, free_request, fresh, full_name, help_request, is_equals, is_option, is_plain, is_topic, letter_parts, line_parts, lists_request, long_parts, look_by, look_request, made_request, match_by, match_request, missing_operand, misuse_text, named_format, named_verb, no_option, no_parts, operand_or, part_request, parts_from, question_by, short_option, short_parts, some_style, split_request, style_in_values, style_of, taken_value, takes, target_by, target_in, topic_parts, value_of, verb_of, verb_request, word_parts};
+ghost use Rattle.netset_commands.specs.Arguments.{asks_help, choice_by, choice_in, chosen_style, extent_by, extra_operand, free_request, fresh, full_name, help_request, is_equals, is_option, is_plain, is_topic, letter_parts, line_parts, lists_request, long_parts, look_by, look_request, made_request, match_by, match_request, missing_operand, misuse_text, named_format, named_verb, no_option, no_parts, operand_or, part_request, parts_from, question_by, short_option, short_parts, some_style, split_request, style_in_values, style_of, taken_value, takes, target_by, target_in, topic_parts, value_of, verb_of, verb_request, word_parts, acl_request, chosen_line_format, compared_in, diff_request, line_format_in, named_line_format, not_given, permitted_in, shadowed_in, without_value};
 ghost use Rattle.netset_commands.specs.Command.{AddsParts, IsUsageError, choice_of, extent_of, given, misuse_line, given_parts, question_of, request_of};
 ghost use Rattle.netset_commands.specs.Matching.{is_word};
 ghost use Rattle.netset_commands.specs.Table.{name_of, takes_value, texts};
 ghost use Rattle.netset_commands.specs.declared.errors.Misfit.TheVariants.{NotPlain, Skipping};
 ghost use Rattle.cidr_lists.specs.Formats.{style_in};
-ghost use Rattle.netset_commands.specs.declared.commands.table.Verb.TheVariants.{Acl as AsAcl};
 
 use crate::commands::Command;
 use crate::commands::acl::Question;
@@ -21,7 +20,7 @@ use crate::commands::table::{
 };
 use crate::errors::{Misfit, Misuse, UsageError};
 use cidr_io::memory::Memory;
-use cidr_lists::formats::{Format, Style, format_of};
+use cidr_lists::formats::{Format, LineFormat, Style, format_of};
 use std::alloc::Global;
 
 /// What the next word behind a command is.
@@ -536,6 +535,44 @@ fn style_in_values<'a>(command: Verb, values: &[&'a str]) -> Result<Option<Style
     chosen_style(command, name, prefix, suffix)
 }
 
+/// The format of lines of a name.
+fn named_line_format<'a>(command: Verb, name: &'a str) -> Result<LineFormat, Misuse<'a>>
+    ensures { MatchResult result (λ format. named_line_format command name.now ≡ Ok format)
+        (λ misuse. named_line_format command name.now ≡ Err (misuse_line misuse)) }
+{
+    if name == "plain" {
+        return Ok(LineFormat::Plain);
+    }
+    if name == "json" {
+        return Ok(LineFormat::Json);
+    }
+    Err(Misuse {
+        word: name,
+        why: Misfit::NoLineFormat,
+        command: name_of(command),
+    })
+}
+
+/// How lines are written: as text, unless an option says otherwise.
+fn chosen_line_format<'a>(command: Verb, name: Option<&'a str>) -> Result<LineFormat, Misuse<'a>>
+    ensures { MatchResult result (λ format. chosen_line_format command (given name.entry) ≡ Ok format)
+        (λ misuse. chosen_line_format command (given name.entry) ≡ Err (misuse_line misuse)) }
+{
+    match name {
+        None => Ok(LineFormat::Plain),
+        Some(name) => named_line_format(command, name),
+    }
+}
+
+/// The same by the options with a value.
+fn line_format_in<'a>(command: Verb, values: &[&'a str]) -> Result<LineFormat, Misuse<'a>>
+    ensures { MatchResult result (λ format. line_format_in command (texts values.now) ≡ Ok format)
+        (λ misuse. line_format_in command (texts values.now) ≡ Err (misuse_line misuse)) }
+{
+    let name = value_of(command, "--format", values)?;
+    chosen_line_format(command, name)
+}
+
 /// The command of an operation on lists; `not` may be inside a network.
 fn made_command<'a>(
     operation: Operation,
@@ -617,15 +654,98 @@ fn split_command<'a>(parts: &'a Parts<'a>) -> Result<Command<'a>, Misuse<'a>>
     ))
 }
 
+/// The command `diff`.
+fn diff_command<'a>(parts: &'a Parts<'a>) -> Result<Command<'a>, Misuse<'a>>
+    ensures { MatchResult result (λ command. diff_request (given_parts parts.now) ≡ Ok (request_of command))
+        (λ misuse. diff_request (given_parts parts.now) ≡ Err (misuse_line misuse)) }
+{
+    let operands = parts.operands.as_slice();
+    let format = line_format_in(Verb::Diff, parts.values.as_slice())?;
+    Ok(Command::Diff(
+        format,
+        operand_or(operands, 0, ""),
+        operand_or(operands, 1, ""),
+    ))
+}
+
+/// That an option with a value is not given; the error is that it does not go with another one.
+fn not_given<'a>(
+    command: Verb,
+    option: &'static str,
+    why: Misfit,
+    found: Option<&'a str>,
+) -> Result<(), Misuse<'a>>
+    ensures { MatchResult result (λ done. not_given command option.now why (given found.entry) ≡ Ok done)
+        (λ misuse. not_given command option.now why (given found.entry) ≡ Err (misuse_line misuse)) }
+{
+    match found {
+        None => Ok(()),
+        Some(_) => Err(Misuse {
+            word: option,
+            why,
+            command: name_of(command),
+        }),
+    }
+}
+
+/// The same by the options with a value.
+fn without_value<'a>(
+    command: Verb,
+    option: &'static str,
+    why: Misfit,
+    values: &[&'a str],
+) -> Result<(), Misuse<'a>>
+    ensures { MatchResult result (λ done. without_value command option.now why (texts values.now) ≡ Ok done)
+        (λ misuse. without_value command option.now why (texts values.now) ≡ Err (misuse_line misuse)) }
+{
+    let found = value_of(command, option, values)?;
+    not_given(command, option, why, found)
+}
+
+/// Of an access list which addresses are permitted, in a style.
+fn permitted_in<'a>(values: &[&'a str]) -> Result<Question<'a>, Misuse<'a>>
+    ensures { MatchResult result (λ question. permitted_in (texts values.now) ≡ Ok (question_of question))
+        (λ misuse. permitted_in (texts values.now) ≡ Err (misuse_line misuse)) }
+{
+    let style = style_in_values(Verb::Acl, values)?;
+    Ok(Question::Permitted(style))
+}
+
+/// The rules that no address reaches, which have no style.
+fn shadowed_in<'a>(values: &[&'a str]) -> Result<Question<'a>, Misuse<'a>>
+    ensures { MatchResult result (λ question. shadowed_in (texts values.now) ≡ Ok (question_of question))
+        (λ misuse. shadowed_in (texts values.now) ≡ Err (misuse_line misuse)) }
+{
+    without_value(Verb::Acl, "--format", Misfit::WithShadowed, values)?;
+    without_value(Verb::Acl, "--prefix", Misfit::WithShadowed, values)?;
+    without_value(Verb::Acl, "--suffix", Misfit::WithShadowed, values)?;
+    Ok(Question::Shadowed)
+}
+
+/// What it permits and the list of another file does not, whose lines have a format.
+fn compared_in<'a>(old: &'a str, values: &[&'a str]) -> Result<Question<'a>, Misuse<'a>>
+    ensures { MatchResult result (λ question. compared_in old.now (texts values.now) ≡ Ok (question_of question))
+        (λ misuse. compared_in old.now (texts values.now) ≡ Err (misuse_line misuse)) }
+{
+    let format = line_format_in(Verb::Acl, values)?;
+    without_value(Verb::Acl, "--prefix", Misfit::WithDiff, values)?;
+    without_value(Verb::Acl, "--suffix", Misfit::WithDiff, values)?;
+    Ok(Question::Compared(format, old))
+}
+
 /// What is asked of an access list, by whether `--shadowed` is given and by the value of `--diff`.
-fn question_by<'a>(shadowed: bool, old: Option<&'a str>) -> Result<Question<'a>, Misuse<'a>>
-    ensures { MatchResult result (λ question. question_by shadowed (given old.entry) ≡ Ok (question_of question))
-        (λ misuse. question_by shadowed (given old.entry) ≡ Err (misuse_line misuse)) }
+fn question_by<'a>(
+    shadowed: bool,
+    old: Option<&'a str>,
+    values: &[&'a str],
+) -> Result<Question<'a>, Misuse<'a>>
+    ensures { MatchResult result (λ question. question_by shadowed (given old.entry) (texts values.now) ≡ Ok (question_of question))
+        (λ misuse. question_by shadowed (given old.entry) (texts values.now) ≡ Err (misuse_line misuse)) }
 {
     match (shadowed, old) {
-        (false, None) => Ok(Question::Permitted),
-        (true, None) => Ok(Question::Shadowed),
-        (false, Some(old)) => Ok(Question::Compared(old)),
+        (false, None) => permitted_in(values),
+        (true, None) => shadowed_in(values),
+        (false, Some(old)) => compared_in(old, values),
         (true, Some(_)) => Err(Misuse {
             word: "--shadowed",
             why: Misfit::Extra,
@@ -636,13 +756,13 @@ fn question_by<'a>(shadowed: bool, old: Option<&'a str>) -> Result<Question<'a>,
 
 /// The command `acl`.
 fn acl_command<'a>(parts: &'a Parts<'a>) -> Result<Command<'a>, Misuse<'a>>
-    ensures { MatchResult result (λ command. verb_request AsAcl (given_parts parts.now) ≡ Ok (request_of command))
-        (λ misuse. verb_request AsAcl (given_parts parts.now) ≡ Err (misuse_line misuse)) }
+    ensures { MatchResult result (λ command. acl_request (given_parts parts.now) ≡ Ok (request_of command))
+        (λ misuse. acl_request (given_parts parts.now) ≡ Err (misuse_line misuse)) }
 {
     let operands = parts.operands.as_slice();
     let shadowed = has(parts.options.as_slice(), "--shadowed");
     let old = value_of(Verb::Acl, "--diff", parts.values.as_slice())?;
-    let question = question_by(shadowed, old)?;
+    let question = question_by(shadowed, old, parts.values.as_slice())?;
     Ok(Command::Acl(question, operand_or(operands, 0, "")))
 }
 
@@ -764,7 +884,7 @@ fn verb_command<'a>(verb: Verb, parts: &'a Parts<'a>) -> Result<Command<'a>, Mis
     let operands = parts.operands.as_slice();
     match verb {
         Verb::Lists(operation) => lists_command(operation, parts.values.as_slice(), operands),
-        Verb::Diff => Ok(Command::Diff(operand_or(operands, 0, ""), operand_or(operands, 1, ""))),
+        Verb::Diff => diff_command(parts),
         Verb::Free => free_command(parts),
         Verb::Acl => acl_command(parts),
         Verb::Check => Ok(Command::Check(operands)),

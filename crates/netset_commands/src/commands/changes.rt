@@ -4,7 +4,7 @@ ghost use Rattle.std.specs.List.{flat_map};
 ghost use Rattle.cidr_io.specs.Writing.{Answered, Writes};
 ghost use Rattle.netset_commands.specs.Answering.{changed};
 ghost use Rattle.netset_commands.specs.Changes.{AreSame};
-ghost use Rattle.cidr_lists.specs.Changes.{change_line, merged, printed_changes};
+ghost use Rattle.cidr_lists.specs.Changes.{change_layout_in, change_line, merged, printed_changes};
 ghost use Rattle.cidr_io.specs.Collecting.{Collects};
 ghost use Rattle.netset_commands.specs.Causes.{Cause, FileMayFail};
 ghost use Rattle.netset_commands.specs.Commands.{Diff};
@@ -14,46 +14,53 @@ use crate::errors::CommandError;
 use crate::input::files::Sources;
 use crate::input::several::read_both;
 use crate::output::answers::{Verdict, by_output};
+use cidr::Family;
 use cidr_io::block::Block;
 use cidr_io::memory::Memory;
 use cidr_io::sink::{OutputFailed, Sink};
 use cidr_io::writing::flush;
-use cidr_lists::changes::{Changes, Sign, sign_text};
-use cidr_lists::printing::Printed;
+use cidr_lists::changes::{ChangeLayout, Changes, Sign, change_layout, sign_text};
+use cidr_lists::formats::{LineFormat, Written};
 use cidr_lists::sets::{Sets, Step};
 
 /// Appends a network with its sign to a block, as a line.
-fn push_change<C: Printed, S: Sink>(
+fn push_change<C: Written, S: Sink>(
     block: &mut Block,
     out: &mut S,
+    layout: ChangeLayout<'static>,
     change: (Sign, C),
 ) -> Result<(), OutputFailed>
-    ensures { Collects (S.state out.old) (S.state out.new) block.old block.new (change_line C.text change) result }
+    ensures { Collects (S.state out.old) (S.state out.new) block.old block.new
+        (change_line C.written_as (change_layout_in layout.entry) change) result }
 {
-    let text = change.1.printed();
+    let text = change.1.written(layout.notation);
     block.push_line(
         out,
         &[
+            layout.before.as_bytes(),
             sign_text(change.0).as_bytes(),
+            layout.between.as_bytes(),
             text.as_str().as_bytes(),
+            layout.behind.as_bytes(),
             b"\n",
         ],
     )
 }
 
 /// Writes the networks of two lists in blocks, each with its sign, one a line.
-fn write_changes<C: Printed, S: Sink>(
+fn write_changes<C: Written, S: Sink>(
     out: &mut S,
+    layout: ChangeLayout<'static>,
     added: &[C],
     lacking: &[C],
 ) -> Result<(), OutputFailed>
     ensures { Writes (S.state out.old) (S.state out.new)
-        (flat_map (change_line C.text) (merged C.bits added.now lacking.now)) result }
+        (flat_map (change_line C.written_as (change_layout_in layout.entry)) (merged C.bits added.now lacking.now)) result }
 {
     let mut changes = Changes { added, lacking };
     let mut block = Block::new();
     while let Some(change) = changes.next() {
-        push_change(&mut block, out, change)?;
+        push_change(&mut block, out, layout, change)?;
     }
     block.write(out)
 }
@@ -61,16 +68,19 @@ fn write_changes<C: Printed, S: Sink>(
 /// Writes what is added and what is lacking, one a line. An output that has failed before gets nothing.
 pub(crate) fn write_both<S: Sink>(
     out: &mut S,
+    format: LineFormat,
     added: &Sets,
     lacking: &Sets,
 ) -> Result<(), OutputFailed>
-    ensures { Answered (S.state out.old) (S.state out.new) (printed_changes (changed added.now lacking.now)) result }
+    ensures { Answered (S.state out.old) (S.state out.new) (printed_changes format (changed added.now lacking.now)) result }
 {
     if out.failed() {
         return Err(OutputFailed);
     }
-    write_changes(out, added.v4.as_slice(), lacking.v4.as_slice())?;
-    write_changes(out, added.v6.as_slice(), lacking.v6.as_slice())?;
+    let ipv4 = change_layout(format, Family::Ipv4);
+    write_changes(out, ipv4, added.v4.as_slice(), lacking.v4.as_slice())?;
+    let ipv6 = change_layout(format, Family::Ipv6);
+    write_changes(out, ipv6, added.v6.as_slice(), lacking.v6.as_slice())?;
     flush(out)
 }
 
@@ -89,11 +99,12 @@ pub(crate) fn verdict_of(added: &Sets, lacking: &Sets) -> Verdict
 pub fn diff<'a, M: Memory, F: Sources, O: Sink>(
     memory: &mut M,
     sources: &F,
+    format: LineFormat,
     old: &'a str,
     new: &'a str,
     out: &mut O,
 ) -> Result<Verdict, CommandError<'a>>
-    ensures answers { AnswersRequest (F.contents sources.now) (Diff old.now new.now) (O.state out.old) (O.state out.new) result }
+    ensures answers { AnswersRequest (F.contents sources.now) (Diff format old.now new.now) (O.state out.old) (O.state out.new) result }
     ensures cause { IfErr result (Cause (FileMayFail (F.contents sources.now)) (M.refused memory.new)) }
 {
     let (old, new) = read_both(memory, sources, old, new)?;
@@ -103,6 +114,6 @@ pub fn diff<'a, M: Memory, F: Sources, O: Sink>(
     let lacking = memory.watch(lacking)?;
     by_output(
         verdict_of(&added, &lacking),
-        write_both(out, &added, &lacking),
+        write_both(out, format, &added, &lacking),
     )
 }

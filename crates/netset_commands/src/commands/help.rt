@@ -78,7 +78,7 @@ pub fn write_help<S: Sink>(topic: Option<Verb>, out: &mut S) -> Result<(), Outpu
                 note_of(command, "--host-bits", HOST_BITS),
                 note_of(command, "-k", KEEP_GOING),
                 note_of(command, "--skip-bad", SKIP_BAD),
-                note_of(command, "--format", FORMAT),
+                note_of(command, "--prefix", FORMAT),
                 note_of(command, "-o", OUTPUT),
             ],
         ),

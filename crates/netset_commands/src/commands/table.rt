@@ -73,13 +73,13 @@ const COUNT: &str =
     "netset count [FILE..]   how many addresses of IPv4 and of IPv6 the lists have\n";
 
 const DIFF: &str =
-    "netset diff A B         the networks that B adds to A, as +NET, and that it lacks, as -NET\n";
+    "netset diff [--format plain|json] A B\n                        the networks that B adds to A, as +NET, and that it lacks, as -NET,\n                        or with json an object of JSON for each\n";
 
 const FREE: &str =
     "netset free [--all] [--count N] POOL LEN [USED..]\n                        the first network of this prefix length in the addresses of a\n                        network or of a list that no list of USED has, --all all of\n                        them, --count the first N\n";
 
 const ACL: &str =
-    "netset acl [--shadowed] [--diff OLD] RULES\n                        the addresses that an access list permits, whose lines are permit NET\n                        and deny NET, and the first that has an address decides; --shadowed\n                        the rules that no address reaches, each with the earlier ones that\n                        cover it; --diff what is permitted more than by OLD, as +NET, and\n                        what less, as -NET\n";
+    "netset acl [--shadowed] [--diff OLD] RULES\n                        the addresses that an access list permits, whose lines are permit NET\n                        and deny NET, and the first that has an address decides; --shadowed\n                        the rules that no address reaches, each with the earlier ones that\n                        cover it; --diff what is permitted more than by OLD, as +NET, and\n                        what less, as -NET, in the format plain or json\n";
 
 const CHECK: &str =
     "netset check [FILE..]   what is found in the lists, whose lines may be hosts too: set host\n                        bits, other forms than the printed one, repeats, networks inside\n                        others, and halves of one network\n";
@@ -138,7 +138,7 @@ pub const OPTIONS: &str =
     "\nOptions stand anywhere behind the command; those of one letter may be joined, as -vc:\n";
 
 pub const LISTS: &str =
-    "-h, --help              what this page says of the command\n--                      what is behind it are no options\n--host-bits and --masks are for commands that read lists, but check and which, -k for all that read\nlists but acl, --skip-bad for these but compile; --format, --prefix and --suffix are for merge,\nnets, minus, and, not, free and split, -o for these, ranges, count, diff, acl, reverse and mask.\n\nA line of a list is a network, an address or a range FIRST-LAST, and may end in a comment\nfrom # or ; on. The file - is the standard input, which is also read where no file is named.\nStatus: 0 done, 1 none, a difference or findings, 2 usage, a wrong argument, a file that\ncannot be read or a line in error, 3 output or memory.\n";
+    "-h, --help              what this page says of the command\n--                      what is behind it are no options\n--host-bits and --masks are for commands that read lists, but check and which, -k for all that read\nlists but acl, --skip-bad for these but compile; --format, --prefix and --suffix are for merge,\nnets, minus, and, not, acl, free and split, -o for these, ranges, count, diff, reverse and mask.\n\nA line of a list is a network, an address or a range FIRST-LAST, and may end in a comment\nfrom # or ; on. The file - is the standard input, which is also read where no file is named.\nStatus: 0 done, 1 none, a difference or findings, 2 usage, a wrong argument, a file that\ncannot be read or a line in error, 3 output or memory.\n";
 
 /// The commands, in their order on the page.
 pub fn commands() -> &'static [Verb]
@@ -232,13 +232,13 @@ fn values_of(command: Verb) -> &'static [&'static str]
 {
     match command {
         Verb::Lists(Operation::Not) => &["--in", "--format", "--prefix", "--suffix", "-o"],
-        Verb::Lists(Operation::Ranges)
-        | Verb::Lists(Operation::Count)
-        | Verb::Diff
-        | Verb::Describe(_) => &["-o"],
+        Verb::Lists(Operation::Ranges) | Verb::Lists(Operation::Count) | Verb::Describe(_) => {
+            &["-o"]
+        }
+        Verb::Diff => &["--format", "-o"],
         Verb::Lists(_) | Verb::Split => &["--format", "--prefix", "--suffix", "-o"],
         Verb::Free => &["--count", "--format", "--prefix", "--suffix", "-o"],
-        Verb::Acl => &["--diff", "-o"],
+        Verb::Acl => &["--diff", "--format", "--prefix", "--suffix", "-o"],
         Verb::Match | Verb::Look => &["--field", "--separator"],
         _ => &[],
     }

@@ -251,10 +251,15 @@ fn misfit_text(why: Misfit) -> ArrayString<128>
         Misfit::NoFormat => text.push_str(
             ": no such format, but plain, json, nft, ipset, iptables, cisco, juniper and bird, see: netset help ",
         ),
+        Misfit::NoLineFormat => {
+            text.push_str(": no such format, but plain and json, see: netset help ");
+        }
         Misfit::NotPlain => text.push_str(": for the format plain alone, see: netset help "),
         Misfit::NoField => text.push_str(": only with --field, see: netset help "),
         Misfit::Anywhere => text.push_str(": not with --any, see: netset help "),
         Misfit::Skipping => text.push_str(": not with --skip-bad, see: netset help "),
+        Misfit::WithShadowed => text.push_str(": not with --shadowed, see: netset help "),
+        Misfit::WithDiff => text.push_str(": not with --diff, see: netset help "),
     }
     text
 }

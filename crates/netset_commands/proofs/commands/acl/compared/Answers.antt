@@ -52,7 +52,7 @@ returns-in_err-lacking-clause-cause g c =
 
 pub returns-clause-answers : goal.returns-clause-answers
 returns-clause-answers g c =
-    changes_told (g.F.Sources.contents c.args.sources.now) c.args.old.now c.args.new.now c.in_ok-before.before c.in_ok-after.after c.in_ok-added.added
+    changes_told (g.F.Sources.contents c.args.sources.now) c.args.format c.args.old.now c.args.new.now c.in_ok-before.before c.in_ok-after.after c.in_ok-added.added
     c.in_ok-lacking.lacking (g.O.Sink.state c.args.out.now) (g.O.Sink.state c.write_both.new.out) c.verdict_of.result c.write_both.result c.by_output.result
     c.in_ok-before.ensures.reads c.in_ok-after.ensures.reads (rw (sym c.in_ok-added.ensures.made) at c.stepped-added.ensures)
     (rw (sym c.in_ok-lacking.ensures.made) at c.stepped-lacking.ensures) c.verdict_of.ensures c.write_both.ensures c.by_output.ensures

@@ -11,16 +11,16 @@ pub returns-in_err-old : goal.returns-in_err-old
 returns-in_err-old c =
     let (y, is, same) = err_from_is_err_and c.from_residual.result c.from_residual.ensures.1 in
     let given = given_parts c.args.parts.now in
-    rw (is, same) (ap (λ (r : Result (Option (List ℕ)) (List ℕ)). and_then (and_then r (λ old. question_by (has (codes "--shadowed") given.options) old))
-    (λ asked. Ok (Acl asked (operand_or given.operands 0 []))))
+    rw (is, same) (ap (λ (r : Result (Option (List ℕ)) (List ℕ)). and_then r (λ old. and_then (question_by (has (codes "--shadowed") given.options) old given.values)
+    (λ asked. Ok (Acl asked (operand_or given.operands 0 [])))))
     (rw c.as_slice-2.ensures.value at c.in_err-old.ensures))
 
 pub returns-in_err-question : goal.returns-in_err-question
 returns-in_err-question c =
     let (y, is, same) = err_from_is_err_and c.from_residual-in_err-question.result c.from_residual-in_err-question.ensures.1 in
     let given = given_parts c.args.parts.now in
-    rw (is, same) (ap (λ (r : Result (Option (List ℕ)) (List ℕ)). and_then (and_then r (λ old. question_by (has (codes "--shadowed") given.options) old))
-    (λ asked. Ok (Acl asked (operand_or given.operands 0 []))))
+    rw (is, same) (ap (λ (r : Result (Option (List ℕ)) (List ℕ)). and_then r (λ old. and_then (question_by (has (codes "--shadowed") given.options) old given.values)
+    (λ asked. Ok (Acl asked (operand_or given.operands 0 [])))))
     (rw c.as_slice-2.ensures.value at c.in_ok-old.ensures)
     ∙ ap (λ (r : Result Question (List ℕ)). and_then r (λ asked. Ok (Acl asked (operand_or given.operands 0 []))))
-    (rw (c.has-shadowed.ensures, c.as_slice.ensures.value) at c.in_err-question.ensures))
+    (rw (c.has-shadowed.ensures, c.as_slice.ensures.value, c.as_slice-3.ensures.value) at c.in_err-question.ensures))
