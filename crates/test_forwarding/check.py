@@ -157,12 +157,13 @@ def tables_of_many_rows(count):
         yield kind, rows
 
 
-def table_of_parts(count):
-    """Networks of IPv4, so many that their ranges are kept by parts, and short ones among them."""
+def table_of_parts(count, turns=1):
+    """Networks of IPv4, so many that their ranges are kept by parts, and short ones among them. One in so many turns may
+    have more than 24 bits: where few do, these are blocks."""
     numbers = random.Random(20261128)
     rows = {}
     for index in range(count):
-        length = index % 25 if index < 1000 else numbers.randrange(14, 33)
+        length = index % 25 if index < 1000 else numbers.randrange(14, 25 if index % turns else 33)
         rows[numbers.getrandbits(128) >> 128 - length << 128 - length, 1 + length] = index
     yield "ipv4", rows
 
@@ -285,6 +286,7 @@ def main():
     differ += judge_found(program, "forwarding tables", tables_of_many_rows(3_000 if whole else 90))
     differ += judge_found(program, "a forwarding table by parts", table_of_parts(900_000 if whole else 50_000))
     if whole:
+        differ += judge_found(program, "a forwarding table by blocks", table_of_parts(900_000, 16))
         differ += judge(program, "different values", different_values(900_000), beside)
     sys.exit(differ > 0)
 

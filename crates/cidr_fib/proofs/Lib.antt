@@ -1,4 +1,5 @@
--- The lemmas: first bits as numbers, keys in order, ranges as they grow, what a range says, ranges by parts, and values of parts.
+-- The lemmas: first bits as numbers, keys in order, ranges as they grow, what a range says, ranges by parts, what
+-- is told of blocks, and what is written in place.
 pub mod Leadings
 pub mod Order
 pub mod Growth
@@ -6,3 +7,4 @@ pub mod Found
 pub mod Lows
 pub mod Marks
 pub mod SetRows
+pub mod Written

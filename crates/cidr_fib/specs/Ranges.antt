@@ -1,10 +1,10 @@
 -- Ranges of the numbers that the first 64 bits of a look-up key can be. A range begins with its start, and ends before
 -- the next one's start, or before 2 ^ 64.
-use Rattle.std.specs.Prelude.{◌≡◌, ℕ, ◌+◌, ◌-◌, ◌*◌, ◌%◌, ◌^◌, ◌<◌, ◌≤◌, ◌⊎◌, Bool, List, Some, None, length, map, slice_get, slice_index_or}
+use Rattle.std.specs.Prelude.{◌≡◌, ℕ, ◌+◌, ◌-◌, ◌*◌, ◌%◌, ◌^◌, ◌<◌, ◌≤◌, ◌/◌, ◌⊎◌, Bool, List, Some, None, length, map, slice_get, slice_index_or, count_ones}
 use Rattle.cidr.specs.model.BitString.{leading}
 use Rattle.cidr_fib.specs.declared.find.Ranges.{Ranges}
-use Rattle.cidr_fib.specs.declared.find.Form.{Form}
-use Rattle.cidr_fib.specs.declared.find.Form.TheVariants.{Whole, Parted, Marked}
+use Rattle.cidr_fib.specs.declared.find.Ranges.TheVariants.{Whole, Parted, Marked}
+use Rattle.cidr_fib.specs.declared.marked.Part.{Part}
 use Rattle.cidr_fib.specs.declared.starts.Starts.{Starts}
 use Rattle.cidr_fib.specs.declared.starts.Starts.TheVariants.{Narrow, Wide}
 use Rattle.cidr_table.specs.model.Prefixes.{IsValueLookedUp}
@@ -35,30 +35,58 @@ pub record AreParted (starts firsts lows : List ℕ) : Type 0 where
   pub front : AreFirsts starts firsts
   pub back : lows ≡ map (λ start. start % 2 ^ 16) starts
 
--- the entry of a part of 2 ^ 46 numbers: the code of a range that has them all, or none of the codes that are kept so
-abbrev pub IsEntry : (starts codes : List ℕ) (part entry : ℕ) → Type 0
-IsEntry starts codes part entry = ((2 ^ 31 ≤ entry) × (entry < 2 ^ 32 - 1))
-    ⊎ ((k : ℕ) × IsRangeOfAll starts (part * 2 ^ 46) (part * 2 ^ 46 + (2 ^ 46 - 1)) k × (entry ≡ slice_index_or codes k 0))
-
--- that of each part
-abbrev pub ArePartEntries : (starts codes entries : List ℕ) → Type 0
-ArePartEntries starts codes entries = (p : ℕ) → p < length entries → IsEntry starts codes p (slice_index_or entries p 0)
-
--- ranges with these starts and codes, in each form
-abbrev pub AreFormed : (starts codes : List ℕ) → Form → Type 0
-AreFormed starts codes (Whole ranges) = (numbers ranges.starts ≡ starts) × (ranges.codes.items ≡ codes)
-AreFormed starts codes (Parted ranges) = (ranges.codes.items ≡ codes)
-    × ((narrow : List ℕ) × (map (λ start. start * 2 ^ 32) narrow ≡ starts) × AreParted narrow ranges.firsts.items ranges.lows.items)
-AreFormed starts codes (Marked ranges) = (map (λ start. start * 2 ^ 32) ranges.starts.items ≡ starts) × (ranges.codes.items ≡ codes)
-
--- and with entries of parts
-abbrev pub AreCoded : (starts codes : List ℕ) → Ranges → Type 0
-AreCoded starts codes ranges = ArePartEntries starts codes ranges.entries.items × AreFormed starts codes ranges.form
-
 -- the code of a range of these numbers, or the one that says nothing
 abbrev pub IsRangeCode : (starts codes : List ℕ) (first last code : ℕ) → Type 0
 IsRangeCode starts codes first last code =
     (code ≡ 2 ^ 32 - 2) ⊎ ((k : ℕ) × IsRangeOfAll starts first last k × (code ≡ slice_index_or codes k 0))
+
+-- the same of the ranges from one on
+abbrev pub IsLaterCode : (starts codes : List ℕ) (from first last code : ℕ) → Type 0
+IsLaterCode starts codes from first last code =
+    (code ≡ 2 ^ 32 - 2) ⊎ ((k : ℕ) × (from ≤ k) × IsRangeOfAll starts first last k × (code ≡ slice_index_or codes k 0))
+
+-- what is told of a block of 2 ^ 40 numbers: the code of a range that has them all, or the one that says nothing
+abbrev pub IsLeaf : (starts codes : List ℕ) (block leaf : ℕ) → Type 0
+IsLeaf starts codes block leaf = IsRangeCode starts codes (block * 2 ^ 40) (block * 2 ^ 40 + (2 ^ 40 - 1)) leaf
+
+abbrev pub IsLaterLeaf : (starts codes : List ℕ) (from block leaf : ℕ) → Type 0
+IsLaterLeaf starts codes from block leaf = IsLaterCode starts codes from (block * 2 ^ 40) (block * 2 ^ 40 + (2 ^ 40 - 1)) leaf
+
+-- how many leaves there are up to that of one of the 64 blocks of a part: those before the part, and as many as there are
+-- marks up to the block's, where the last block's is the lowest bit
+abbrev pub leaves_upto : Part → ℕ → ℕ
+leaves_upto part b = part.before + count_ones ((part.first_marks * 2 ^ 32 + part.last_marks) / 2 ^ (63 - b))
+
+-- the last of so many leaves is told of a block, if so many are kept
+abbrev pub IsLastLeaf : (starts codes leaves : List ℕ) (block upto : ℕ) → Type 0
+IsLastLeaf starts codes leaves block upto = 0 < upto → upto ≤ length leaves → IsLeaf starts codes block (slice_index_or leaves (upto - 1) 0)
+
+-- a code that is kept as the entry of a part; other entries are where the part stands
+abbrev pub IsKeptCode : ℕ → Type 0
+IsKeptCode entry = (entry < 2 ^ 31) ⊎ (entry ≡ 2 ^ 32 - 1)
+
+-- the entry of a part of 2 ^ 46 numbers: the code of a range that has them all, or where the part stands whose blocks have
+-- the last of the leaves up to theirs
+pub record IsEntry (starts codes : List ℕ) (parts : List Part) (leaves : List ℕ) (p entry : ℕ) : Type 0 where
+  pub code : IsKeptCode entry → (k : ℕ) × IsRangeOfAll starts (p * 2 ^ 46) (p * 2 ^ 46 + (2 ^ 46 - 1)) k × (entry ≡ slice_index_or codes k 0)
+  pub place : 2 ^ 31 ≤ entry → entry < 2 ^ 32 - 1 → (b : ℕ) (any : Part) → entry - 2 ^ 31 < length parts → b < 64
+      → IsLastLeaf starts codes leaves (p * 64 + b) (leaves_upto (slice_index_or parts (entry - 2 ^ 31) any) b)
+
+-- that of each part
+abbrev pub AreEntries : (starts codes entries : List ℕ) → List Part → (leaves : List ℕ) → Type 0
+AreEntries starts codes entries parts leaves = (p : ℕ) → p < length entries → IsEntry starts codes parts leaves p (slice_index_or entries p 0)
+
+-- while leaves are put where codes stand: the last of so many is told of the block, by the ranges from one on
+abbrev pub IsPut : (starts codes : List ℕ) (from : ℕ) (leaves : List ℕ) (block count upto : ℕ) → Type 0
+IsPut starts codes from leaves block count upto =
+    (upto ≤ count) × (0 < upto → upto ≤ length leaves → IsLaterLeaf starts codes from block (slice_index_or leaves (upto - 1) 0))
+
+-- ranges with these starts and codes, in each form
+abbrev pub AreCoded : (starts codes : List ℕ) → Ranges → Type 0
+AreCoded starts codes (Whole ranges) = (numbers ranges.starts ≡ starts) × (ranges.codes.items ≡ codes)
+AreCoded starts codes (Parted ranges) = (ranges.codes.items ≡ codes)
+    × ((narrow : List ℕ) × (map (λ start. start * 2 ^ 32) narrow ≡ starts) × AreParted narrow ranges.firsts.items ranges.lows.items)
+AreCoded starts codes (Marked ranges) = AreEntries starts codes ranges.entries.items ranges.parts.items ranges.leaves.items
 
 module _ {C : Type 0} (bits : C → List Bool) (rows : List (C × ℕ)) where
   -- what a code says of the longest match of a look-up key: its value, or that there is none; 2 ^ 32 - 2 says nothing

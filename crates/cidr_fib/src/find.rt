@@ -6,31 +6,23 @@ ghost use Rattle.cidr.specs.model.BitString.{leading};
 ghost use Rattle.cidr_table.specs.model.Prefixes.{IsValueLookedUp};
 ghost use Rattle.cidr_fib.specs.Errors.{is_too_large, AreRowsRefused};
 ghost use Rattle.cidr_fib.specs.Growth.{StartsAscend};
-ghost use Rattle.cidr_fib.specs.Ranges.{numbers, AreCoded, AreFormed, HaveAnswers, IsRangeCode, last_leading};
+ghost use Rattle.cidr_fib.specs.Ranges.{numbers, AreCoded, HaveAnswers, IsRangeCode, last_leading};
 
 use crate::codes::{NOTHING, SEARCH, put_codes};
 use crate::error::ForwardingError;
 use crate::level::FirstLevel;
-use crate::marked::{MarkedRanges, PART_BITS, entry_at, is_code};
+use crate::marked::MarkedRanges;
 use crate::parts::PartedRanges;
-use crate::ranges::{Ends, is_in_one_part, last_bits, ranges_of};
+use crate::ranges::{Ends, last_bits, ranges_of};
 use crate::starts::{Start, Starts};
 use crate::tested::code_at;
 use cidr::NetworkBits;
 use cidr_table::LpmTable;
 use std::alloc::{AllocError, Global};
 
-/// The ranges of a table, each with a code.
+/// The ranges of a table, each with a code, in the form that is quickest and takes few bytes.
 #[derive(Drop)]
-pub(crate) struct Ranges {
-    /// What each part of the numbers tells alone. None where the form has no entries.
-    entries: Vec<u32>,
-    form: Form,
-}
-
-/// Ranges in the form that is quickest and takes few bytes.
-#[derive(Drop)]
-pub(crate) enum Form {
+pub(crate) enum Ranges {
     Whole(WholeRanges),
     Parted(PartedRanges),
     Marked(MarkedRanges),
@@ -146,12 +138,11 @@ impl Ranges {
         ensures { IfOk result (λ ranges. AreCoded (map (λ start. start * 2 ^ 32) starts.items) codes.items ranges) }
     {
         if MarkedRanges::fits(starts.as_slice(), rows) {
-            let (entries, ranges) = MarkedRanges::of(alloc, starts, codes)?;
-            let form = Form::Marked(ranges);
-            Ok(Ranges { entries, form })
+            let marked = MarkedRanges::of(alloc, starts.as_slice(), codes)?;
+            Ok(Ranges::Marked(marked))
         } else if PartedRanges::fits(starts.len()) {
-            let ranges = PartedRanges::of(alloc, starts.as_slice(), codes)?;
-            Ok(Ranges::without_entries(alloc, Form::Parted(ranges)))
+            let parted = PartedRanges::of(alloc, starts.as_slice(), codes)?;
+            Ok(Ranges::Parted(parted))
         } else {
             Ranges::whole(alloc, Starts::Narrow(starts), codes)
         }
@@ -167,45 +158,19 @@ impl Ranges {
             codes,
             level,
         };
-        Ok(Ranges::without_entries(alloc, Form::Whole(ranges)))
+        Ok(Ranges::Whole(ranges))
     }
 
-    /// Ranges of which no part tells anything alone.
-    fn without_entries(alloc: Global, form: Form) -> Ranges
-        ensures { (starts codes : List ℕ) → AreFormed starts codes form → AreCoded starts codes result }
-    {
-        let entries = Vec::new(alloc);
-        Ranges { entries, form }
-    }
-
-    /// The code of the range that has all numbers of the look-up key, or `SEARCH` where none is found. Where the key's
-    /// part has one range, its entry is read and nothing else: so much becomes a part of the caller.
+    /// The code of the range that has all numbers of the look-up key, or `SEARCH` where none is found.
     #[inline(always)]
     fn code<C: NetworkBits>(&self, asked: &C) -> u32
         ensures { (starts codes : List ℕ) → AreCoded starts codes self.now
             → IsRangeCode starts codes (leading (C.bits asked.now)) (last_leading (C.bits asked.now)) result }
     {
-        let entry = entry_at(self.entries.as_slice(), asked.first_bits());
-        if is_code(entry) {
-            if is_in_one_part(asked, PART_BITS) {
-                return entry;
-            }
-        }
-        self.form.code(asked, entry)
-    }
-}
-
-impl Form {
-    /// The same, where the part has that entry.
-    #[inline(always)]
-    fn code<C: NetworkBits>(&self, asked: &C, entry: u32) -> u32
-        ensures { (starts codes : List ℕ) → AreFormed starts codes self.now
-            → IsRangeCode starts codes (leading (C.bits asked.now)) (last_leading (C.bits asked.now)) result }
-    {
         match self {
-            Form::Whole(ranges) => ranges.code(asked),
-            Form::Parted(ranges) => ranges.code(asked),
-            Form::Marked(ranges) => ranges.code(asked, entry),
+            Ranges::Whole(ranges) => ranges.code(asked),
+            Ranges::Parted(ranges) => ranges.code(asked),
+            Ranges::Marked(ranges) => ranges.code(asked),
         }
     }
 }

@@ -1,144 +1,211 @@
-//! Many ranges that nearly all begin where a network of 24 bits does: bits tell which of these they are.
-ghost use Rattle.std.specs.Prelude.{◌≡◌, ℕ, ◌-◌, ◌*◌, ◌/◌, ◌^◌, ◌<◌, ◌↔◌, ◌⊎◌, List, map, IfOk, IsTrue};
+//! Many ranges that nearly all begin where a network of 24 bits does: what is told of each of these is found by counting
+//! bits.
+ghost use Rattle.std.specs.Prelude.{◌≡◌, ℕ, ◌+◌, ◌-◌, ◌*◌, ◌/◌, ◌^◌, ◌<◌, ◌≤◌, List, length, map, slice_index_or, IfOk, MatchOption};
 ghost use Rattle.cidr.specs.model.BitString.{leading};
-ghost use Rattle.cidr_fib.specs.Ranges.{ArePartEntries, IsEntry, IsRangeCode, last_leading};
+ghost use Rattle.cidr_fib.specs.Ranges.{AreEntries, IsEntry, IsKeptCode, IsLaterCode, IsLaterLeaf, IsLeaf, IsPut, IsRangeCode, leaves_upto, last_leading};
 
 use crate::codes::{NOTHING, SEARCH};
 use crate::level::last_upto;
-use crate::ranges::last_bits;
-use crate::starts::Start;
-use crate::tested::{code_at, has_all};
+use crate::ranges::is_in_one_part;
+use crate::tested::has_all;
 use cidr::NetworkBits;
 use std::alloc::{AllocError, Global};
 
+/// How many of the first bits choose a block.
+const BLOCK_BITS: usize = 24;
+
+/// How many blocks there are.
+const ALL_BLOCKS: u64 = 1 << 24;
+
+/// How many numbers of 64 bits a block has.
+const BLOCK: u64 = 1 << 40;
+
+/// How many blocks a part has.
+const BLOCKS: u64 = 64;
+
 /// How many of the first bits choose a part.
-pub(crate) const PART_BITS: usize = 18;
+const PART_BITS: usize = 18;
 
 /// How many parts there are.
-const PARTS: usize = 1 << 18;
+const PARTS: u64 = 1 << 18;
 
-/// How many numbers of 64 bits a part has.
-const SIZE: u64 = 1 << 46;
+/// How many numbers a part has.
+const PART: u64 = 1 << 46;
 
-/// What is added to the place of a range, which tells it from a code.
+/// What is added to the place of a part with marks, which tells it from a code.
 const PLACE: u32 = 1 << 31;
 
 /// The bytes that a row may take.
 const MOST_BYTES: usize = 15;
 
-/// Ranges with a code each. They take eight bytes each, and twelve for a part with its entry.
+/// What ranges tell of parts and blocks. It takes four bytes for each part and for each leaf, and twelve for a part that
+/// has leaves.
 #[derive(Drop)]
 pub(crate) struct MarkedRanges {
-    starts: Vec<u32>,
-    codes: Vec<u32>,
-    /// A bit for each of the 64 networks of 24 bits of each part: whether a range begins in it.
-    marks: Vec<u64>,
-}
-
-/// What is told of each part.
-#[derive(Drop)]
-struct AllParts {
-    /// The code of its range, if one has all its numbers. Else about where the range of its first number stands.
+    /// The code of the range that has all numbers of a part, or where the part stands in `parts`, and `PLACE` besides.
     entries: Vec<u32>,
-    /// As in `MarkedRanges`.
-    marks: Vec<u64>,
+    /// The parts whose blocks have leaves.
+    parts: Vec<Part>,
+    /// The code of the range that has all numbers of a block, or `SEARCH` where a range begins within it. Blocks one
+    /// behind the other of which the same is told have one leaf.
+    leaves: Vec<u32>,
 }
 
-/// What a part marks, and the last range that begins in it or before it.
-#[derive(Drop)]
+/// 64 blocks one behind the other. A bit for each is its mark: whether it begins another leaf than the one before it has.
+/// The higher of two bits is that of the block before.
+#[derive(Clone, Copy)]
 struct Part {
-    marks: u64,
-    last: usize,
+    /// How many leaves there are before its own.
+    before: u32,
+    /// The marks of the last 32 blocks, which stand where a load of both finds the lower bits.
+    last_marks: u32,
+    /// The marks of the first 32 blocks.
+    first_marks: u32,
+}
+
+/// Blocks one behind the other of which the same is told.
+#[derive(Clone, Copy)]
+struct Run {
+    leaf: u32,
+    blocks: u64,
+}
+
+/// All entries and parts, and how many leaves there are.
+#[derive(Drop)]
+struct Entries {
+    entries: Vec<u32>,
+    parts: Vec<Part>,
+    count: usize,
+}
+
+/// A part, and how far the leaves and the ranges are behind it.
+#[derive(Clone, Copy)]
+struct Told {
+    part: Part,
+    /// How many leaves there are.
+    count: usize,
+    /// About where the range of the last run stands.
+    place: usize,
 }
 
 impl MarkedRanges {
-    /// Whether this form is quick for such ranges, of which at most an eighth may begin elsewhere, and takes few bytes
-    /// for so many rows.
+    /// Whether this form is quick for such ranges, of which at most an eighth may begin elsewhere than a block, and takes
+    /// few bytes for so many rows.
     pub(crate) fn fits(starts: &[u32], rows: usize) -> bool {
-        let bytes = starts.len().saturating_mul(8).saturating_add(12 * PARTS);
-        bytes <= rows.saturating_mul(MOST_BYTES)
-            && starts.len() < PLACE as usize
-            && elsewhere(starts) <= starts.len() / 8
+        let bytes = starts
+            .len()
+            .saturating_mul(4)
+            .saturating_add(16 * PARTS as usize);
+        bytes <= rows.saturating_mul(MOST_BYTES) && elsewhere(starts) <= starts.len() / 8
     }
 
-    /// The entries of parts, and the ranges with these starts and codes: a pass over both.
+    /// What the ranges with these starts and codes tell: a pass over both. The leaves are put where the codes stand.
     pub(crate) fn of(
         alloc: Global,
-        starts: Vec<u32>,
+        starts: &[u32],
         codes: Vec<u32>,
-    ) -> Result<(Vec<u32>, MarkedRanges), AllocError>
-        ensures starts { IfOk result (λ made. made.1.starts.items ≡ starts.items) }
-        ensures codes { IfOk result (λ made. made.1.codes.items ≡ codes.items) }
-        ensures entries { IfOk result (λ made.
-            ArePartEntries (map (λ start. start * 2 ^ 32) starts.items) codes.items made.0.items) }
+    ) -> Result<MarkedRanges, AllocError>
+        ensures { IfOk result (λ ranges.
+            AreEntries (map (λ start. start * 2 ^ 32) starts.now) codes.items ranges.entries.items ranges.parts.items ranges.leaves.items) }
     {
-        let AllParts { entries, marks } = AllParts::of(alloc, starts.as_slice(), codes.as_slice())?;
-        let ranges = MarkedRanges {
-            starts,
-            codes,
-            marks,
-        };
-        Ok((entries, ranges))
+        let mut leaves = codes;
+        let Entries {
+            entries,
+            parts,
+            count,
+        } = Entries::of(alloc, starts, leaves.as_mut_slice())?;
+        leaves.truncate(count);
+        leaves.shrink_to_fit();
+        Ok(MarkedRanges {
+            entries,
+            parts,
+            leaves,
+        })
     }
 
-    /// The code of the range that has all numbers of the look-up key, or `SEARCH` where none is found, where its part has
-    /// that entry.
+    /// The code of the range that has all numbers of the look-up key's part or block, or `SEARCH` where none is found or
+    /// the key has several of these.
     #[inline(always)]
-    pub(crate) fn code<C: NetworkBits>(&self, asked: &C, entry: u32) -> u32
-        ensures { IsRangeCode (map (λ start. start * 2 ^ 32) self.now.starts.items) self.now.codes.items (leading (C.bits asked.now)) (last_leading (C.bits asked.now)) result }
+    pub(crate) fn code<C: NetworkBits>(&self, asked: &C) -> u32
+        ensures { (starts codes : List ℕ) → AreEntries starts codes self.now.entries.items self.now.parts.items self.now.leaves.items
+            → IsRangeCode starts codes (leading (C.bits asked.now)) (last_leading (C.bits asked.now)) result }
     {
-        self.code_by_marks(entry, asked.first_bits(), last_bits(asked))
-    }
-
-    /// The code of the range that has all numbers from the first to the last, or `SEARCH` where none is found, by the
-    /// entry and the marks of the part.
-    #[inline(never)]
-    fn code_by_marks(&self, entry: u32, first: u64, last: u64) -> u32
-        ensures { IsRangeCode (map (λ start. start * 2 ^ 32) self.now.starts.items) self.now.codes.items first last result }
-    {
-        let part = (first / SIZE) as usize;
-        let marks = self.marks.get(part).copied().unwrap_or(0);
-        let (starts, codes) = (self.starts.as_slice(), self.codes.as_slice());
-        let from = entry.wrapping_sub(PLACE) as usize;
-        let code = code_at(starts, codes, marked_place(from, marks, first), first, last);
-        if code != SEARCH {
-            return code;
+        let number = asked.first_bits();
+        let entries = self.entries.as_slice();
+        let part = (number / PART) as usize;
+        if part >= entries.len() {
+            return SEARCH;
         }
-        self.code_nearby(from, first, last)
-    }
-
-    /// The same by a search from the range `from` on.
-    #[inline(never)]
-    fn code_nearby(&self, from: usize, first: u64, last: u64) -> u32
-        ensures { IsRangeCode (map (λ start. start * 2 ^ 32) self.now.starts.items) self.now.codes.items first last result }
-    {
-        let (starts, codes) = (self.starts.as_slice(), self.codes.as_slice());
-        code_at(starts, codes, nearby(starts, from, first), first, last)
+        let entry = entries[part];
+        match place_of(entry) {
+            Some(place) => {
+                if !is_in_one_part(asked, BLOCK_BITS) {
+                    return SEARCH;
+                }
+                leaf_of(self.parts.as_slice(), self.leaves.as_slice(), place, number)
+            }
+            None => {
+                if !is_in_one_part(asked, PART_BITS) {
+                    return SEARCH;
+                }
+                entry
+            }
+        }
     }
 }
 
-impl AllParts {
-    /// Those of the ranges with these starts and codes.
-    fn of(alloc: Global, starts: &[u32], codes: &[u32]) -> Result<AllParts, AllocError>
-        ensures { IfOk result (λ parts. ArePartEntries (map (λ start. start * 2 ^ 32) starts.now) codes.now parts.entries.items) }
+/// The place of a part, where an entry is no code.
+#[inline(always)]
+fn place_of(entry: u32) -> Option<usize>
+    ensures { MatchOption result (IsKeptCode entry) (λ place. (2 ^ 31 ≤ entry) × (entry < 2 ^ 32 - 1) × (place ≡ entry - 2 ^ 31)) }
+{
+    if entry < PLACE || entry == NOTHING {
+        return None;
+    }
+    Some((entry - PLACE) as usize)
+}
+
+impl Part {
+    /// That with so many leaves before it and these marks.
+    fn with_marks(before: u32, marks: u64) -> Part
+        ensures before { result.before ≡ before }
+        ensures marks { result.first_marks * 2 ^ 32 + result.last_marks ≡ marks }
     {
-        let mut entries = Vec::with_capacity(alloc, PARTS)?;
-        let mut marks = Vec::with_capacity(alloc, PARTS)?;
-        let mut place = 0;
-        for part in 0..PARTS as u64 {
-            let first = part * SIZE;
-            place = last_upto(starts, place, first);
-            let entry = entry_of(starts, codes, place, part);
-            entries.push(entry)?;
-            let marked = Part::of(starts, place, first);
-            marks.push(marked.marks)?;
-            place = marked.last;
+        Part {
+            before,
+            last_marks: (marks % (1 << 32)) as u32,
+            first_marks: (marks >> 32) as u32,
         }
-        Ok(AllParts { entries, marks })
+    }
+
+    /// The marks of all blocks.
+    #[inline(always)]
+    fn marks(self) -> u64
+        ensures { result ≡ self.first_marks * 2 ^ 32 + self.last_marks }
+    {
+        u64::from(self.first_marks) * (1 << 32) + u64::from(self.last_marks)
     }
 }
 
-/// How many ranges begin elsewhere than where a network of 24 bits does.
+/// The leaf of the block that a number is in, or `SEARCH` where there is none. Its part stands at a place.
+#[inline(always)]
+fn leaf_of(parts: &[Part], leaves: &[u32], place: usize, number: u64) -> u32
+    ensures { (starts codes : List ℕ) (entry : ℕ) → place ≡ entry - 2 ^ 31 → 2 ^ 31 ≤ entry → entry < 2 ^ 32 - 1
+        → IsEntry starts codes parts.now leaves.now (number / 2 ^ 46) entry → IsLeaf starts codes (number / 2 ^ 40) result }
+{
+    let Some(part) = parts.get(place) else {
+        return SEARCH;
+    };
+    let upto = part.marks() >> (63 - number / BLOCK % BLOCKS);
+    let count = part.before as usize + upto.count_ones() as usize;
+    let at = count.wrapping_sub(1);
+    if at >= leaves.len() {
+        return SEARCH;
+    }
+    leaves[at]
+}
+
+/// How many ranges begin elsewhere than a block.
 fn elsewhere(starts: &[u32]) -> usize {
     let mut count = 0usize;
     for start in starts {
@@ -147,82 +214,158 @@ fn elsewhere(starts: &[u32]) -> usize {
     count
 }
 
-/// The entry of the part that a number is in, or one that is no code.
-#[inline(always)]
-pub(crate) fn entry_at(entries: &[u32], number: u64) -> u32
-    ensures { (starts codes : List ℕ) → ArePartEntries starts codes entries.now → IsEntry starts codes (number / 2 ^ 46) result }
-{
-    match entries.get((number / SIZE) as usize) {
-        Some(entry) => *entry,
-        None => PLACE,
-    }
-}
-
-/// Whether the entry of a part is the code of its range.
-#[inline(always)]
-pub(crate) fn is_code(entry: u32) -> bool
-    ensures { IsTrue result ↔ (entry < 2 ^ 31 ⊎ (entry ≡ 2 ^ 32 - 1)) }
-{
-    entry < PLACE || entry == NOTHING
-}
-
-/// The entry of a part, where `place` is about where the range of its first number stands.
-fn entry_of(starts: &[u32], codes: &[u32], place: usize, part: u64) -> u32
-    requires { part < 2 ^ 18 }
-    ensures { IsEntry (map (λ start. start * 2 ^ 32) starts.now) codes.now part result }
-{
-    let first = part * SIZE;
-    if has_all(starts, place, first, first + (SIZE - 1)) {
-        if let Some(code) = codes.get(place) {
-            if is_code(*code) {
-                return *code;
+impl Entries {
+    /// Those of ranges with these starts, in place of whose codes the leaves are put. As no range has more leaves than one,
+    /// and a block in which ranges begin has one that stands for one of them, no leaf comes before the code is passed in
+    /// whose place it is put; if one did, the code would be lost, and the rows be searched.
+    fn of(alloc: Global, starts: &[u32], leaves: &mut [u32]) -> Result<Entries, AllocError>
+        ensures { IfOk result (λ made.
+            AreEntries (map (λ start. start * 2 ^ 32) starts.now) leaves.old made.entries.items made.parts.items leaves.new) }
+    {
+        let mut entries = Vec::with_capacity(alloc, PARTS as usize)?;
+        let mut parts = Vec::with_capacity(alloc, PARTS as usize)?;
+        let mut count = 0;
+        let mut place = 0;
+        for part in 0..PARTS {
+            let first = part * PART;
+            place = last_upto(starts, place, first);
+            let code = later_code(starts, leaves, count, place, first, first + (PART - 1));
+            match place_of(code) {
+                Some(_) => {}
+                None => {
+                    entries.push(code)?;
+                    continue;
+                }
             }
+            let behind = parts.as_slice().len() as u32;
+            entries.push(PLACE + behind)?;
+            let told = part_of(starts, leaves, count, place, part);
+            parts.push(told.part)?;
+            count = told.count;
+            place = told.place;
         }
+        parts.shrink_to_fit();
+        Ok(Entries {
+            entries,
+            parts,
+            count,
+        })
     }
-    place.min(PLACE as usize - 3) as u32 + PLACE
 }
 
-impl Part {
-    /// That of a part, where `place` is the range of its first number.
-    fn of(starts: &[u32], place: usize, first: u64) -> Part {
-        let mut part = Part {
-            marks: 0,
-            last: place,
+/// A part, whose leaves are put behind the first `from`. Behind these stand the codes of the ranges from there on, and
+/// `near` is about the range of its first number.
+fn part_of(starts: &[u32], leaves: &mut [u32], from: usize, near: usize, part: u64) -> Told
+    requires part { part < 2 ^ 18 }
+    requires few { from ≤ 64 * part }
+    ensures few { result.count ≤ 64 * part + 64 }
+    ensures more { from ≤ result.count }
+    ensures kept { (i : ℕ) → i < from → slice_index_or leaves.new i 0 ≡ slice_index_or leaves.old i 0 }
+    ensures rest { (i : ℕ) → result.count ≤ i → slice_index_or leaves.new i 0 ≡ slice_index_or leaves.old i 0 }
+    ensures told { (b : ℕ) → b < 64
+        → IsPut (map (λ start. start * 2 ^ 32) starts.now) leaves.old from leaves.new (part * 64 + b) result.count (leaves_upto result.part b) }
+{
+    let mut count = from;
+    let mut place = near;
+    let mut marks = 0;
+    let mut done = 0;
+    while done < BLOCKS {
+        let block = part * BLOCKS + done;
+        place = last_upto(starts, place, block * BLOCK);
+        let run = run_of(starts, leaves, count, place, block);
+        let blocks = run.blocks.min(BLOCKS - done);
+        let longer = put_leaf(leaves, count, run.leaf);
+        marks = marks_more(marks, done, (longer - count) as u64, blocks);
+        done += blocks;
+        count = longer;
+    }
+    Told {
+        part: Part::with_marks(from as u32, marks),
+        count,
+        place,
+    }
+}
+
+/// The blocks from one on of which the same is told as of it, where `place` is about the range of its first number, and
+/// the codes before `from` are none.
+fn run_of(starts: &[u32], codes: &[u32], from: usize, place: usize, block: u64) -> Run
+    requires { block < 2 ^ 24 }
+    ensures some { 0 < result.blocks }
+    ensures leaf { (b : ℕ) → b < result.blocks
+        → IsLaterLeaf (map (λ start. start * 2 ^ 32) starts.now) codes.now from (block + b) result.leaf }
+{
+    let end = next_block(starts, place);
+    if block >= end {
+        return Run {
+            leaf: SEARCH,
+            blocks: 1,
         };
-        for at in place.saturating_add(1)..starts.len() {
-            let behind = starts[at].number().wrapping_sub(first);
-            if behind >= SIZE {
-                return part;
-            }
-            part.marks |= 1u64.wrapping_shl((behind >> 40) as u32);
-            part.last = at;
-        }
-        part
+    }
+    let first = block * BLOCK;
+    let last = (end - 1) * BLOCK + (BLOCK - 1);
+    let leaf = later_code(starts, codes, from, place, first, last);
+    Run {
+        leaf,
+        blocks: end - block,
     }
 }
 
-/// The last range that begins at most with the number by the marks of its part, which don't tell ranges apart that
-/// begin in the same network of 24 bits.
-#[inline(always)]
-fn marked_place(from: usize, marks: u64, number: u64) -> usize {
-    let behind = 63 - (number >> 40) % 64;
-    let before = marks & (u64::MAX >> behind);
-    from.wrapping_add(before.count_ones() as usize)
+/// The first block in which a range begins behind the one at `place`, or how many blocks there are.
+fn next_block(starts: &[u32], place: usize) -> u64
+    ensures { result ≤ 2 ^ 24 }
+{
+    let next = place.wrapping_add(1);
+    if next >= starts.len() {
+        return ALL_BLOCKS;
+    }
+    u64::from(starts[next]) / 256
 }
 
-/// The last range from `from` on that begins at most with a number of the part: a part has 2^14 numbers of 32 bits.
-fn nearby(starts: &[u32], from: usize, number: u64) -> usize {
-    if from >= starts.len() {
-        return from;
+/// The code at a place from `from` on whose range has all numbers from the first to the last, or `SEARCH`.
+fn later_code(
+    starts: &[u32],
+    codes: &[u32],
+    from: usize,
+    place: usize,
+    first: u64,
+    last: u64,
+) -> u32
+    ensures { IsLaterCode (map (λ start. start * 2 ^ 32) starts.now) codes.now from first last result }
+{
+    if place < from || place >= codes.len() || !has_all(starts, place, first, last) {
+        return SEARCH;
     }
-    let mut at = from;
-    let mut left = (starts.len() - from).min(1 << 14);
-    while left > 1 {
-        let half = left / 2;
-        let next = at + half;
-        let is_upto = starts[next].is_upto(number);
-        at = if is_upto { next } else { at };
-        left -= half;
+    codes[place]
+}
+
+/// Puts a leaf behind the first `count`, unless it is the last of these, and returns how many there are with it. Where
+/// there is no room it is left out, and counts.
+fn put_leaf(leaves: &mut [u32], count: usize, leaf: u32) -> usize
+    requires { count < 2 ^ 32 }
+    ensures more { count ≤ result }
+    ensures one { result ≤ count + 1 }
+    ensures last { result ≤ length leaves.new → slice_index_or leaves.new (result - 1) 0 ≡ leaf }
+    ensures kept { (i : ℕ) → i < count → slice_index_or leaves.new i 0 ≡ slice_index_or leaves.old i 0 }
+    ensures rest { (i : ℕ) → result ≤ i → slice_index_or leaves.new i 0 ≡ slice_index_or leaves.old i 0 }
+{
+    let last = count.wrapping_sub(1);
+    if last < leaves.len() && leaves[last] == leaf {
+        return count;
     }
-    at
+    if count < leaves.len() {
+        leaves[count] = leaf;
+    }
+    count + 1
+}
+
+/// The marks of some blocks with those of more, of which the first has this one, and the others have none.
+fn marks_more(marks: u64, done: u64, mark: u64, blocks: u64) -> u64
+    requires marks { marks < 2 ^ done }
+    requires mark { mark < 2 }
+    requires some { 0 < blocks }
+    requires all { done + blocks ≤ 64 }
+    ensures value { result ≡ (marks * 2 + mark) * 2 ^ (blocks - 1) }
+    ensures fits { result < 2 ^ (done + blocks) }
+{
+    (marks * 2 + mark) << (blocks - 1)
 }

@@ -59,7 +59,8 @@ impl<C: NetworkBits + Copy> ReadySet<C> {
     ///
     /// It is one search among the starts of ranges, O(log n) at most and a few steps for most addresses. It is a
     /// `lookup` in a table where a network of the set of more than 64 bits has the first 64 of the one that is asked
-    /// for, for a network that holds the end of a range, and for some of fewer than 18 bits. It allocates nothing.
+    /// for, for a network that holds the end of a range, for some of fewer than 24 bits, and in a large set of IPv4 where
+    /// a network of more than 24 bits has the first 24. It allocates nothing.
     pub fn contains(&self, network: &C) -> bool
         ensures addresses { IsTrue result ↔ IsFull 129 (map C.bits self.now) (C.bits network.now) }
         ensures networks { IsTrue result ↔ Covers (map C.bits self.now) (C.bits network.now) }

@@ -10,8 +10,8 @@ use cidr_table::LpmTable;
 use std::alloc::Global;
 use std::marker::Model;
 
-/// A table made ready for look-ups of values, which it owns: its ranges, at most two for each row and one more, with
-/// six or eight bytes each where no key has more than 32 bits, and else twelve, and what finds one by its first bits.
+/// A table made ready for look-ups of values, which it owns: its ranges, at most two for each row and one more, with four
+/// to eight bytes each where no key has more than 32 bits, and else twelve, and what finds one by its first bits.
 ///
 /// Take it where a `u32` for each row is enough, such as a next hop, and look-ups are many. Where the row itself is
 /// wanted, take `lookups` or `ReadyTable` of `cidr_table`, and where rows change between look-ups `lookup`.
@@ -36,8 +36,8 @@ impl<C: NetworkBits + Copy> Model for ForwardingTable<C> {
 impl<C: NetworkBits + Copy> ForwardingTable<C> {
     /// The table, made ready: O(n) for n rows, which are gone through a few times, 35 to 50 ns a row. It allocates 16
     /// bytes a row, or 24 where a key has more than 32 bits, gives back what the ranges don't take, and allocates at
-    /// most 8 bytes a range more, or 3 MiB. Of keys of at most 32 bits, 65,536 ranges and more take six bytes each in
-    /// the end, or eight with these 3 MiB, where that is at most 15 bytes a row.
+    /// most 8 bytes a range more, or 4 MiB. Of keys of at most 32 bits, 65,536 ranges and more take six bytes each in
+    /// the end, or four with 1 to 4 MiB besides, where that is at most 15 bytes a row.
     ///
     /// The error comes with the table as it was: first where there are more than 4,294,967,294 rows, then for the first
     /// value above 4,294,967,293, and then where an allocation fails.
@@ -65,8 +65,9 @@ impl<C: NetworkBits + Copy> ForwardingTable<C> {
     ///
     /// It is one search among the starts of ranges, O(log n) at most and a few steps for most addresses: a quarter to
     /// four fifths of the time of a look-up by `lookups`. It is a `lookup` in the table where a key of more than 64
-    /// bits has the first 64 of the look-up key, for a network whose parts have different matches, and for some of
-    /// fewer than 18 bits. It allocates nothing.
+    /// bits has the first 64 of the look-up key, for a network whose parts have different matches, for some of fewer
+    /// than 24 bits, and in a table of many rows of IPv4 where a key of more than 24 bits has the first 24. It allocates
+    /// nothing.
     ///
     /// ```
     /// ready.find(&"10.0.0.0/15".parse()?) // Some(2)

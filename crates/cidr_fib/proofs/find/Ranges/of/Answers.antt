@@ -1,13 +1,9 @@
 -- The codes stand where the ends stood.
-use Rattle.std.proofs.Common.{◌≡◌, ℕ, List, [], ◌++◌, length, take, drop, ap, sym, subst, ◌∙◌, arith, append-nil, take_all, drop_of_length-le}
+use Rattle.std.proofs.Common.{◌++◌, length, take, drop, ap, sym, subst, arith}
 use Rattle.cidr_fib.specs.Ranges.{numbers, AreMatchCodes, AreCodes}
 use Rattle.cidr_fib.proofs.Found.{answers}
+use Rattle.cidr_fib.proofs.Written.{written}
 use Rattle.cidr_fib.proofs.find.Ranges.of.Goals as goal
-
-written : (n : ℕ) (new old : List ℕ) → length new ≡ length old → n ≡ length old → take n (new ++ drop (length new) old) ≡ new
-written n new old e s =
-    let none : drop (length new) old ≡ [] = drop_of_length-le old (omega (arith, e)) in
-    ap (λ l. take n (new ++ l)) none ∙ (ap (take n) (append-nil new) ∙ take_all n new (omega (arith, e, s)))
 
 pub returns : goal.returns
 returns g c =

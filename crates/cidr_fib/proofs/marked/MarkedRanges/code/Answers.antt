@@ -1,12 +1,32 @@
-use Rattle.std.proofs.Common.{ℕ, ◌*◌, ◌^◌, map}
+use Rattle.std.proofs.Common.{◌/◌, ◌^◌, ap, arith, sym, subst, refl, length, get_or}
 use Rattle.cidr.specs.model.BitString.{leading}
-use Rattle.cidr_fib.specs.Ranges.{last_leading}
-use Rattle.cidr_fib.proofs.Found.{of_key}
+use Rattle.cidr_fib.specs.Ranges.{IsEntry, last_leading}
+use Rattle.cidr_fib.proofs.Marks.{leaf_code, own_code}
 use Rattle.cidr_fib.proofs.marked.MarkedRanges.code.Goals as goal
 
-pub returns : goal.returns
-returns g c =
+pub returns-else-not-is_in_one_part : goal.returns-else-not-is_in_one_part
+returns-else-not-is_in_one_part g c = λ starts codes told.
     let ranges = c.args.self.now in
-    let p = g.C.BitString.bits c.args.asked.now in
-    of_key (map (λ (start : ℕ). start * 2 ^ 32) ranges.starts.items) ranges.codes.items (leading p) (last_leading p)
-    c.first_bits.result c.last_bits.result c.code_by_marks.result c.first_bits.ensures c.last_bits.ensures c.code_by_marks.ensures
+    let bits = g.C.BitString.bits c.args.asked.now in
+    let p = c.first_bits-number.result / 2 ^ 46 in
+    let entries = c.as_slice-entries in
+    let entry = get_or entries.result.now p 0 in
+    let known = subst (λ l. IsEntry starts codes ranges.parts.items ranges.leaves.items p (get_or l p 0)) (sym entries.ensures.value)
+    (told p (omega (arith, ap length entries.ensures.value))) in
+    let lent = subst (λ l. IsEntry starts codes ranges.parts.items l p entry) (sym c.as_slice-in-Some.ensures.value) known in
+    let here = subst (λ l. IsEntry starts codes l c.as_slice-in-Some.result.now p entry) (sym c.as_slice.ensures.value) lent in
+    let place = c.in-Some.ensures in
+    leaf_code starts codes (c.first_bits-number.result / 2 ^ 40) (leading bits) (last_leading bits) c.leaf_of.result
+    (c.leaf_of.ensures starts codes entry place.2 place.0 place.1 here)
+    (ap (λ n. n / 2 ^ 40) (sym c.first_bits-number.ensures)) (c.if-not-is_in_one_part.ensures refl)
+
+pub returns-else-not-is_in_one_part-2 : goal.returns-else-not-is_in_one_part-2
+returns-else-not-is_in_one_part-2 g c = λ starts codes told.
+    let ranges = c.args.self.now in
+    let bits = g.C.BitString.bits c.args.asked.now in
+    let p = c.first_bits-number.result / 2 ^ 46 in
+    let entries = c.as_slice-entries in
+    let known = subst (λ l. IsEntry starts codes ranges.parts.items ranges.leaves.items p (get_or l p 0)) (sym entries.ensures.value)
+    (told p (omega (arith, ap length entries.ensures.value))) in
+    own_code starts codes ranges.parts.items ranges.leaves.items p (get_or entries.result.now p 0) (leading bits) (last_leading bits) known c.in-None.ensures
+    (ap (λ n. n / 2 ^ 46) (sym c.first_bits-number.ensures)) (c.if-not-is_in_one_part-2.ensures refl)
