@@ -165,7 +165,7 @@ def table_of_parts(count, turns=1):
     for index in range(count):
         length = index % 25 if index < 1000 else numbers.randrange(14, 25 if index % turns else 33)
         rows[numbers.getrandbits(128) >> 128 - length << 128 - length, 1 + length] = index
-    yield "ipv4", rows
+    yield "ipv4", dict(sorted(rows.items()))
 
 
 def different_values(count):

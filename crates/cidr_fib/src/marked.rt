@@ -1,6 +1,6 @@
 //! Many ranges that nearly all begin where a network of 24 bits does: what is told of each of these is found by counting
 //! bits.
-ghost use Rattle.std.specs.Prelude.{◌≡◌, ℕ, ◌+◌, ◌-◌, ◌*◌, ◌/◌, ◌^◌, ◌<◌, ◌≤◌, List, length, map, slice_index_or, IfOk, MatchOption};
+ghost use Rattle.std.specs.Prelude.{◌≡◌, ℕ, ◌+◌, ◌-◌, ◌*◌, ◌/◌, ◌^◌, ◌<◌, ◌≤◌, List, length, map, slice_index_or, IfOk, IsTrue, IsFalse};
 ghost use Rattle.cidr.specs.model.BitString.{leading};
 ghost use Rattle.cidr_fib.specs.Ranges.{AreEntries, IsEntry, IsKeptCode, IsLaterCode, IsLaterLeaf, IsLeaf, IsPut, IsRangeCode, leaves_upto, last_leading};
 
@@ -137,32 +137,26 @@ impl MarkedRanges {
             return SEARCH;
         }
         let entry = entries[part];
-        match place_of(entry) {
-            Some(place) => {
-                if !is_in_one_part(asked, BLOCK_BITS) {
-                    return SEARCH;
-                }
-                leaf_of(self.parts.as_slice(), self.leaves.as_slice(), place, number)
+        if is_place(entry) {
+            if !is_in_one_part(asked, BLOCK_BITS) {
+                return SEARCH;
             }
-            None => {
-                if !is_in_one_part(asked, PART_BITS) {
-                    return SEARCH;
-                }
-                entry
-            }
+            return leaf_of(self.parts.as_slice(), self.leaves.as_slice(), entry, number);
         }
+        if !is_in_one_part(asked, PART_BITS) {
+            return SEARCH;
+        }
+        entry
     }
 }
 
-/// The place of a part, where an entry is no code.
+/// Whether an entry is where a part stands, and no code.
 #[inline(always)]
-fn place_of(entry: u32) -> Option<usize>
-    ensures { MatchOption result (IsKeptCode entry) (λ place. (2 ^ 31 ≤ entry) × (entry < 2 ^ 32 - 1) × (place ≡ entry - 2 ^ 31)) }
+fn is_place(entry: u32) -> bool
+    ensures yes { IsTrue result → (2 ^ 31 ≤ entry) × (entry < 2 ^ 32 - 1) }
+    ensures no { IsFalse result → IsKeptCode entry }
 {
-    if entry < PLACE || entry == NOTHING {
-        return None;
-    }
-    Some((entry - PLACE) as usize)
+    entry >= PLACE && entry != NOTHING
 }
 
 impl Part {
@@ -187,12 +181,13 @@ impl Part {
     }
 }
 
-/// The leaf of the block that a number is in, or `SEARCH` where there is none. Its part stands at a place.
+/// The leaf of the block that a number is in, or `SEARCH` where there is none, where its part has that entry.
 #[inline(always)]
-fn leaf_of(parts: &[Part], leaves: &[u32], place: usize, number: u64) -> u32
-    ensures { (starts codes : List ℕ) (entry : ℕ) → place ≡ entry - 2 ^ 31 → 2 ^ 31 ≤ entry → entry < 2 ^ 32 - 1
+fn leaf_of(parts: &[Part], leaves: &[u32], entry: u32, number: u64) -> u32
+    ensures { (starts codes : List ℕ) → (2 ^ 31 ≤ entry) × (entry < 2 ^ 32 - 1)
         → IsEntry starts codes parts.now leaves.now (number / 2 ^ 46) entry → IsLeaf starts codes (number / 2 ^ 40) result }
 {
+    let place = entry.wrapping_sub(PLACE) as usize;
     let Some(part) = parts.get(place) else {
         return SEARCH;
     };
@@ -230,12 +225,9 @@ impl Entries {
             let first = part * PART;
             place = last_upto(starts, place, first);
             let code = later_code(starts, leaves, count, place, first, first + (PART - 1));
-            match place_of(code) {
-                Some(_) => {}
-                None => {
-                    entries.push(code)?;
-                    continue;
-                }
+            if !is_place(code) {
+                entries.push(code)?;
+                continue;
             }
             let behind = parts.as_slice().len() as u32;
             entries.push(PLACE + behind)?;
