@@ -75,7 +75,7 @@ def one_call_a_line():
         (["split", "192.0.2.0/24", "26"], b""), (["class", "10.0.0.1"], b""), (["class", "-"], b"10.0.0.1\n"),
         (["acl", "-"], b"permit ::1\n"), (["acl", "--shadowed", "-"], b"permit ::1\ndeny ::1\n"),
         (["acl", "--diff", "nothing", "-"], b"permit ::1\n"), (["acl", "--format", "nft", "-"], b"permit ::1\n"),
-        (["diff", "--format", "json", "ten", "-"], b"10.0.0.0/9\n::1\n"),
+        (["diff", "--format", "json", "ten", "-"], b"10.0.0.0/9\n"),
     ):
         found, _ = packets(words, "stdout", given)
         wanted(f"{words}: calls of `write`", len(found) == 1 and found[0].endswith(b"\n"), found)
