@@ -43,12 +43,7 @@ impl From<AllocError> for ReadError {
 fn feed_in(text: &[u8]) -> Option<usize>
     ensures { MatchOption result (HasNoFeed text.now) (IsFirstFeed text.now) }
 {
-    for (place, byte) in text.iter().enumerate() {
-        if *byte == b'\n' {
-            return Some(place);
-        }
-    }
-    None
+    text.iter().position(|byte| *byte == b'\n')
 }
 
 /// Whether a line has more than [`MOST_BYTES`] bytes. Of such a line a [`LineReader`] has the first ones alone.

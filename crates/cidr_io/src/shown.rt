@@ -17,15 +17,6 @@ pub enum Part<'a> {
     Shown(&'a str),
 }
 
-/// A hexadecimal digit.
-fn hex_digit(value: u8) -> char
-    requires { value < 16 }
-    ensures digit { result ≡ digit_char value }
-    ensures ascii { result < 128 }
-{
-    char::from_digit(u32::from(value), 16).unwrap()
-}
-
 /// `\x` and two hexadecimal digits.
 fn escape(code: u8) -> ArrayString<4>
     ensures { result.bytes ≡ escape code }
@@ -33,8 +24,8 @@ fn escape(code: u8) -> ArrayString<4>
     let mut text = ArrayString::new();
     text.push('\\');
     text.push('x');
-    text.push(hex_digit(code / 16));
-    text.push(hex_digit(code % 16));
+    text.push(char::from_digit(u32::from(code / 16), 16).unwrap());
+    text.push(char::from_digit(u32::from(code % 16), 16).unwrap());
     text
 }
 
