@@ -1,5 +1,5 @@
 -- The arguments of a run, without the program's name, each as its bytes.
-use Rattle.std.specs.Prelude.{◌≡◌, ℕ, Bool, true, List, ◌∷◌, ◌++◌, take, Option, Some, None, Result, Ok, Err, IfSome, IsUtf8, ⊤}
+use Rattle.std.specs.Prelude.{◌≡◌, ◌<◌, ℕ, Bool, true, List, ◌∷◌, ◌++◌, length, take, Option, Some, None, Result, Ok, Err, IfSome, IsUtf8}
 use Rattle.std.specs.List.{All, slice_get}
 use Rattle.cidr_io.specs.Shown.{byte_excerpt}
 use Rattle.cidr_io.specs.declared.arguments.ReadError.{ReadError}
@@ -15,7 +15,7 @@ IsArgument told place argument = IfSome told (λ given. slice_get given place �
 abbrev pub BeginsWithArgument : List (List ℕ) → ℕ → Result ℕ FillError → List ℕ → Type 0
 BeginsWithArgument given place (Ok n) buf = slice_get given place ≡ Some (take n buf)
 BeginsWithArgument given place (Err NotPresent) buf = slice_get given place ≡ None
-BeginsWithArgument given place (Err TooLong) buf = ⊤
+BeginsWithArgument given place (Err TooLong) buf = (argument : List ℕ) × (slice_get given place ≡ Some argument) × (length buf < length argument)
 
 -- the same, where the arguments are told
 abbrev pub Fills : Option (List (List ℕ)) → ℕ → Result ℕ FillError → List ℕ → Type 0
