@@ -1,5 +1,6 @@
 -- A whole list, read line by line from its bytes.
-use Rattle.std.proofs.Common.{◌≡◌, refl, sym, ◌∙◌, ap, subst, inl, inr, ℕ, ◌+◌, ◌<◌, ◌≤◌, Bool, List, [], ◌∷◌, ◌++◌, length, take, drop, map, arith, append_assoc, length-append, Result, Ok, Err}
+use Rattle.std.proofs.Common.{◌≡◌, refl, sym, ◌∙◌, ap, subst, inl, inr, ℕ, ◌+◌, ◌<◌, ◌≤◌, Bool, false, List, [], ◌∷◌, ◌++◌, length, take, drop, map, arith, append_assoc, length-append, Result, Ok, Err}
+use Rattle.std.specs.Bool.{Decides}
 use Rattle.std.specs.List.{AllZip, position_or_len}
 use Rattle.std.specs.Result.{MatchResult}
 use Rattle.std.proofs.lemmas.Bool.{cases_lt}
@@ -11,7 +12,7 @@ use Rattle.cidr.specs.declared.family.Family.{Family}
 use Rattle.cidr.specs.declared.family.Family.TheVariants.{Ipv4, Ipv6}
 use Rattle.cidr_sets.specs.model.Sets.{IsSetOf}
 use Rattle.cidr_table.specs.model.Cover.{Covers}
-use Rattle.cidr_lists.specs.Lists.{AreContentNetworks, HasBadField, IsContent, IsField, IsInError, LineSays, is_line_feed, kept_of, lines_of, most_bytes, line_networks, networks_in, text_by}
+use Rattle.cidr_lists.specs.Lists.{AreContentNetworks, HasBadField, IsContent, IsField, IsInError, IsTooLong, LineSays, is_line_feed, kept_of, lines_of, most_bytes, line_networks, networks_in, text_by}
 use Rattle.cidr_lists.specs.Reading.{Grows, listed}
 use Rattle.cidr_lists.specs.Sets.{networks_of}
 use Rattle.cidr_lists.specs.Texts.{AddsListLine, HaveAddresses, HaveNetworks, IsListError}
@@ -25,6 +26,13 @@ use Rattle.cidr_lists.specs.declared.lists.Lists.{Lists}
 use Rattle.cidr_lists.specs.declared.sets.Sets.{Sets}
 
 -- ---- one line, as far as it is kept
+pub short_line : (long : Bool) (line : List ℕ) → Decides long (IsTooLong line) → long ≡ false → length line ≤ most_bytes
+short_line long line is not_long =
+    elim (cases_lt most_bytes (length line)) [
+      | inl more ↦ let yes = is.1 more in cc
+      | inr fits ↦ fits
+    ]
+
 pub kept_short : (line : List ℕ) → length line ≤ most_bytes → kept_of line ≡ line
 kept_short line fits = take_all (most_bytes + 1) line (omega (arith, fits))
 

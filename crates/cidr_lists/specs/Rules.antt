@@ -1,6 +1,6 @@
 -- Access lists: a line is a rule, permit or deny and, behind white space, a network or an address, with white space around it
 -- and a comment behind it as in a list. Of the rules whose networks have an address the first decides.
-use Rattle.std.specs.Prelude.{◌≡◌, ◌≢◌, ◌⊎◌, ◌↔◌, ℕ, Bool, true, false, List, [], ◌∷◌, ◌++◌, map, Contains, slice_index, codes, decimal, Option, Some, None, Result, Ok, Err}
+use Rattle.std.specs.Prelude.{◌≡◌, ◌≢◌, ◌↔◌, ℕ, Bool, true, false, List, [], ◌∷◌, ◌++◌, map, Contains, slice_index, codes, decimal, Option, Some, None, Result, Ok, Err}
 use Rattle.std.specs.List.{All, AllZip, enumerate_from, flat_map}
 use Rattle.std.specs.List.Sorted.{IsStrictlyIncreasing}
 use Rattle.cidr.specs.declared.cidr.combined.IpCidr.{IpCidr}

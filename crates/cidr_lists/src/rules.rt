@@ -15,8 +15,9 @@ use crate::columns::{network_in, split_line};
 use crate::errors::{LineError, ListError};
 use crate::lines::HostBits;
 use crate::sets::Sets;
-use crate::texts::{MOST_BYTES, line_len};
+use crate::texts::line_len;
 use cidr::{IpCidr, Ipv4Cidr, Ipv6Cidr, NetworkBits};
+use cidr_io::lines::is_too_long;
 use cidr_io::shown::{byte_excerpt, shown_char};
 use cidr_sets::NetworkSet;
 use cidr_sets::access::{Action, Rule, Shadow, permitted, shadowed_by};
@@ -87,7 +88,7 @@ fn add_line(
 ) -> Result<(), ListError>
     ensures { AddsRuleLine host_bits (kept_of line.now) number rules.old rules.new result }
 {
-    if line.len() > MOST_BYTES {
+    if is_too_long(line) {
         return Err(ListError::Line(number, LineError::TooLong));
     }
     match rule_of(host_bits, line) {

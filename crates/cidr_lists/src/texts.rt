@@ -14,11 +14,9 @@ use crate::lines::{HostBits, content_of};
 use crate::lists::Lists;
 use crate::printing::{Printed, PrintedAddress, count_text};
 use crate::sets::{Form, Sets};
+use cidr_io::lines::is_too_long;
 use cidr_sets::Ranges;
 use std::alloc::{AllocError, Global};
-
-/// The most bytes of a line, without its line feed: 1 MiB.
-pub(crate) const MOST_BYTES: usize = 1_048_576;
 
 /// Whether a byte is a line feed.
 fn is_line_feed(byte: u8) -> bool
@@ -50,7 +48,7 @@ fn add_line(
 ) -> Result<(), ListError>
     ensures { AddsListLine host_bits (kept_of line.now) number lists.old lists.new result }
 {
-    if line.len() > MOST_BYTES {
+    if is_too_long(line) {
         return Err(ListError::Line(number, LineError::TooLong));
     }
     match content_of(host_bits, line) {
