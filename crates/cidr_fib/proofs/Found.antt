@@ -1,13 +1,14 @@
 -- The value of the row that a range has is the answer for the look-up keys that have no number outside of the range.
-use Rattle.std.proofs.Common.{◌≡◌, refl, sym, subst, ◌∙◌, ap, arith, inl, inr, ℕ, suc, ◌+◌, ◌-◌, ◌^◌, ◌<◌, ◌≤◌, Bool, List, Some, None, length, get_or}
+use Rattle.std.proofs.Common.{◌≡◌, refl, sym, subst, ◌∙◌, ap, arith, inl, inr, ℕ, suc, ◌+◌, ◌-◌, ◌^◌, ◌<◌, ◌≤◌, Bool, false, List, Some, None, length, get_or}
 use Rattle.std.proofs.Math.Nat.{pow-succ'}
 use Rattle.std.proofs.Math.Pow.{pow_mono}
-use Rattle.std.proofs.lemmas.Bool.{cases_eq, cases_lt}
+use Rattle.std.proofs.lemmas.Bool.{cases_eq, cases_lt, leb-false, lt-ltb}
 use Rattle.std.proofs.lemmas.List.{length-map}
 use Rattle.std.proofs.lemmas.Nat.{pow_pos}
-use Rattle.std.proofs.lemmas.Option.{slice_get_within, get_or_from_slice_get}
+use Rattle.std.proofs.lemmas.Option.{none-some, slice_get_within, get_or_from_slice_get}
 use Rattle.std.proofs.lemmas.Map.Keys.{Less-from_sorted}
-use Rattle.std.specs.List.{Contains}
+use Rattle.std.proofs.lemmas.List.Sums.{fails_before_first}
+use Rattle.std.specs.List.{Contains, position, position_or_len}
 use Rattle.std.specs.List.Sorted.{IsStrictlySortedBy}
 use Rattle.std.specs.Map.{keys_of}
 use Rattle.std.specs.declared.cmp.Ordering.{Ordering}
@@ -18,7 +19,8 @@ use Rattle.cidr.specs.model.Network.{BeginsWith}
 use Rattle.cidr_table.specs.model.Prefixes.{IsLongestRow}
 use Rattle.cidr_table.proofs.Insides.{key_at}
 use Rattle.cidr_table.proofs.Matching.{shorter}
-use Rattle.cidr_fib.specs.Ranges.{AreMatchCodes, AreCodes, IsMatchCode, IsRangeCode, last_leading}
+use Rattle.cidr_fib.specs.Errors.{is_too_large}
+use Rattle.cidr_fib.specs.Ranges.{AreMatchCodes, AreCodes, IsAnswerCode, IsMatchCode, IsRangeCode, last_leading}
 use Rattle.cidr_fib.specs.Growth.{IsUpTo, AreRangeEnds, HaveAllNumbers}
 use Rattle.cidr_fib.proofs.Leadings.{leading_begins}
 
@@ -107,3 +109,24 @@ pub of_key : (starts codes : List ℕ) (first last first' last' code : ℕ) → 
     → IsRangeCode starts codes first' last' code → IsRangeCode starts codes first last code
 of_key starts codes first last first' last' code is_first is_last h =
     subst (λ n. IsRangeCode starts codes n last code) is_first (subst (λ n. IsRangeCode starts codes first' n code) is_last h)
+
+-- no value is one of the two codes that are no values
+pub value_is_small : {C : Type 0} (rows : List (C × ℕ)) (row : C × ℕ) → position is_too_large rows ≡ None → Contains rows row → row.1 < 2 ^ 32 - 2
+value_is_small rows row none c = elim (cases_lt (position_or_len is_too_large rows) (length rows)) [
+  | inl inside ↦ absurd (none-some (position_or_len is_too_large rows) (sym (rw (lt-ltb (position_or_len is_too_large rows) (length rows) inside) at none)))
+  | inr past ↦
+      let fails : is_too_large (get_or rows c.0 row) ≡ false = fails_before_first is_too_large rows c.0 row (omega (arith, c.1)) in
+      leb-false (2 ^ 32 - 2) row.1 (rw c.2 at fails)
+]
+
+-- the code of a row that was looked up, or of none
+pub row_answer : {C : Type 0} (bits : C → List Bool) (rows : List (C × ℕ)) (a : List Bool) (row : C × ℕ)
+    → position is_too_large rows ≡ None → IsLongestRow bits a rows row → IsAnswerCode bits rows a row.1
+row_answer bits rows a row none longest =
+    let small = value_is_small rows row none longest.here in (
+      record {
+        some = λ fits. (Some row, longest, refl);
+        none = λ e. absurd (omega arith);
+      },
+      λ e. omega arith,
+    )

@@ -1,7 +1,8 @@
 -- Ranges of the numbers that the first 64 bits of a look-up key can be. A range begins with its start, and ends before
 -- the next one's start, or before 2 ^ 64.
-use Rattle.std.specs.Prelude.{◌≡◌, ℕ, ◌+◌, ◌-◌, ◌*◌, ◌%◌, ◌^◌, ◌<◌, ◌≤◌, ◌/◌, ◌⊎◌, Bool, List, Some, None, length, map, slice_get, slice_index_or, count_ones}
+use Rattle.std.specs.Prelude.{◌≡◌, ℕ, ◌+◌, ◌-◌, ◌*◌, ◌%◌, ◌^◌, ◌<◌, ◌≤◌, ◌/◌, ◌⊎◌, Bool, List, Some, None, length, map, slice_get, slice_index_or, count_ones, position}
 use Rattle.cidr.specs.model.BitString.{leading}
+use Rattle.cidr_fib.specs.Errors.{is_too_large}
 use Rattle.cidr_fib.specs.declared.find.Ranges.{Ranges}
 use Rattle.cidr_fib.specs.declared.find.Ranges.TheVariants.{Whole, Parted, Marked}
 use Rattle.cidr_fib.specs.declared.marked.Part.{Part}
@@ -102,6 +103,14 @@ module _ {C : Type 0} (bits : C → List Bool) (rows : List (C × ℕ)) where
   -- ranges whose codes are such answers
   abbrev pub HaveAnswers : Ranges → Type 0
   HaveAnswers ranges = (starts : List ℕ) × (codes : List ℕ) × AreCoded starts codes ranges × AreMatchCodes starts codes
+
+  -- and rows whose values are none of the two other codes
+  abbrev pub AreReady : Ranges → Type 0
+  AreReady ranges = (position is_too_large rows ≡ None) × HaveAnswers ranges
+
+  -- such a code, which does not say nothing
+  abbrev pub IsAnswerCode : (asked : List Bool) (code : ℕ) → Type 0
+  IsAnswerCode asked code = IsMatchCode asked code × ¬ (code ≡ 2 ^ 32 - 2)
 
   -- the code of a range by how many rows there are up to that of its longest match, or 0 where there is none: the value
   -- of that row only where its key has at most 64 bits

@@ -1,12 +1,12 @@
 //! The value of the longest match, by ranges.
-ghost use Rattle.std.specs.Prelude.{◌≡◌, ℕ, ◌-◌, ◌*◌, ◌^◌, ◌<◌, List, length, map, position, IfOk, IfErr};
+ghost use Rattle.std.specs.Prelude.{◌≡◌, ℕ, ◌-◌, ◌*◌, ◌^◌, ◌<◌, List, length, map, position, None, IfOk, IfErr};
 ghost use Rattle.std.specs.List.Sorted.{IsStrictlySortedBy};
 ghost use Rattle.std.specs.Map.{keys_of};
 ghost use Rattle.cidr.specs.model.BitString.{leading};
 ghost use Rattle.cidr_table.specs.model.Prefixes.{IsValueLookedUp};
 ghost use Rattle.cidr_fib.specs.Errors.{is_too_large, AreRowsRefused};
 ghost use Rattle.cidr_fib.specs.Growth.{StartsAscend};
-ghost use Rattle.cidr_fib.specs.Ranges.{numbers, AreCoded, HaveAnswers, IsRangeCode, last_leading};
+ghost use Rattle.cidr_fib.specs.Ranges.{numbers, AreCoded, AreReady, HaveAnswers, IsAnswerCode, IsRangeCode, last_leading};
 
 use crate::codes::{NOTHING, SEARCH, put_codes};
 use crate::error::ForwardingError;
@@ -43,7 +43,7 @@ pub(crate) fn answers_of<C: NetworkBits + Copy>(
     alloc: Global,
     table: &LpmTable<C, u32>,
 ) -> Result<Ranges, ForwardingError>
-    ensures answers { IfOk result (λ ranges. HaveAnswers C.bits table.now.rows ranges) }
+    ensures answers { IfOk result (λ ranges. AreReady C.bits table.now.rows ranges) }
     ensures refused { IfErr result (AreRowsRefused table.now.rows) }
 {
     let rows = table.iter().as_slice();
@@ -66,34 +66,44 @@ fn first_too_large<C>(rows: &[(C, u32)]) -> Option<usize>
     rows.iter().position(|row| row.1 >= SEARCH)
 }
 
-/// The value of the longest match of the look-up key, or `None` where no key contains it.
+/// The value of the longest match of the look-up key, or `None` where no key contains it. All ways come to one test of
+/// the code, which a caller's own test of the result replaces.
 #[inline(always)]
 pub(crate) fn found<C: NetworkBits + Copy>(
     table: &LpmTable<C, u32>,
     ranges: &Ranges,
     asked: &C,
 ) -> Option<u32>
-    requires { HaveAnswers C.bits table.now.rows ranges.now }
+    requires { AreReady C.bits table.now.rows ranges.now }
     ensures { IsValueLookedUp C.bits (C.bits asked.now) table.now.rows result }
+{
+    let code = found_code(table, ranges, asked);
+    if code == NOTHING { None } else { Some(code) }
+}
+
+/// The code of that value, or `NOTHING`.
+#[inline(always)]
+fn found_code<C: NetworkBits + Copy>(table: &LpmTable<C, u32>, ranges: &Ranges, asked: &C) -> u32
+    requires { AreReady C.bits table.now.rows ranges.now }
+    ensures { IsAnswerCode C.bits table.now.rows (C.bits asked.now) result }
 {
     let code = ranges.code(asked);
     if code == SEARCH {
         searched(table, asked)
-    } else if code == NOTHING {
-        None
     } else {
-        Some(code)
+        code
     }
 }
 
 /// The same by a search of the rows.
 #[inline(never)]
-fn searched<C: NetworkBits + Copy>(table: &LpmTable<C, u32>, asked: &C) -> Option<u32>
-    ensures { IsValueLookedUp C.bits (C.bits asked.now) table.now.rows result }
+fn searched<C: NetworkBits + Copy>(table: &LpmTable<C, u32>, asked: &C) -> u32
+    requires { position is_too_large table.now.rows ≡ None }
+    ensures { IsAnswerCode C.bits table.now.rows (C.bits asked.now) result }
 {
     match table.lookup(asked) {
-        Some(row) => Some(row.1),
-        None => None,
+        Some(row) => row.1,
+        None => NOTHING,
     }
 }
 

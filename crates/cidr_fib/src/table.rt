@@ -24,13 +24,13 @@ pub struct ForwardingTable<C: NetworkBits + Copy> {
 impl<C: NetworkBits + Copy> Model for ForwardingTable<C> {
     ghost use Rattle.std.specs.Prelude.{ℕ};
     ghost use Rattle.cidr_table.specs.model.FiniteMap.{StoredRows};
-    ghost use Rattle.cidr_fib.specs.Ranges.{HaveAnswers};
+    ghost use Rattle.cidr_fib.specs.Ranges.{AreReady};
 
     ghost Value = { StoredRows C ℕ };
 
     ghost view = { λ t. t.table };
 
-    ghost invariant = { λ t. HaveAnswers C.bits t.table.rows t.ranges };
+    ghost invariant = { λ t. AreReady C.bits t.table.rows t.ranges };
 }
 
 impl<C: NetworkBits + Copy> ForwardingTable<C> {
