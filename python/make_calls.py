@@ -11,6 +11,8 @@ HERE = Path(__file__).resolve().parent
 HEADER = HERE.parent / "crates" / "cidr_c" / "include" / "pcidr.h"
 MADE = HERE / "pcidr" / "_calls.py"
 SCALARS = {f"uint{bits}_t": f"c_uint{bits}" for bits in (8, 16, 32, 64)} | {"size_t": "c_size_t"}
+KINDS = SCALARS | {"void": "c_void_p"}
+HINTS = dict.fromkeys(SCALARS, "int") | {"void": "int | None"}
 LIMITS = {"UINT32_MAX": "0xFFFFFFFF", "SIZE_MAX": "0xFFFFFFFFFFFFFFFF"}
 HEAD = '''\
 """The numbers, structs and calls of `pcidr.h`, which `make_calls.py` writes from it."""
@@ -33,8 +35,8 @@ def class_name(struct: str) -> str:
 
 
 def kind_of(declared: str) -> str:
-    """The type of `ctypes` for a type of C that is no pointer."""
-    return SCALARS.get(declared) or class_name(declared)
+    """The type of `ctypes` for a type of C, which is `void` for a pointer to any memory."""
+    return KINDS.get(declared) or class_name(declared)
 
 
 def numbers(header: str) -> list[str]:
@@ -57,15 +59,13 @@ def enums(header: str) -> list[list[str]]:
 
 
 def structs(header: str) -> list[list[str]]:
-    """The structs that have no pointer in them, which are those that calls take."""
+    """The structs, in which a pointer is to any memory."""
     made = []
     for name, body in re.findall(r"^typedef struct (\w+) \{(.*?)\} \w+;", header, re.M | re.S):
-        fields = re.findall(r"(\w+) (\*?)(\w+);", body)
-        if any(star for _, star, _ in fields):
-            continue
+        fields = [("void" if star else kind, field) for kind, star, field in re.findall(r"(\w+) (\*?)(\w+);", body)]
         lines = [f"class {class_name(name)}(Structure):", f'    """`{name}`."""', ""]
-        lines += [f"    {field}: {'int' if kind in SCALARS else class_name(kind)}" for kind, _, field in fields]
-        typed = [f'("{field}", {kind_of(kind)})' for kind, _, field in fields]
+        lines += [f"    {field}: {HINTS.get(kind) or class_name(kind)}" for kind, field in fields]
+        typed = [f'("{field}", {kind_of(kind)})' for kind, field in fields]
         whole = f"    _fields_ = [{', '.join(typed)}]"
         apart = ["    _fields_ = [", *(f"        {each}," for each in typed), "    ]"]
         lines += [whole] if len(whole) <= 120 else apart

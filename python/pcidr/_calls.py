@@ -162,6 +162,29 @@ class Row(Structure):
     _fields_ = [("network", Value), ("value", c_uint64)]
 
 
+class Table(Structure):
+    """`pcidr_table`."""
+
+    ipv4_starts: int | None
+    ipv6_starts: int | None
+    answers: int | None
+    ranges: int
+    level: int | None
+    level_len: int
+    shift: int
+    rows: int
+    _fields_ = [
+        ("ipv4_starts", c_void_p),
+        ("ipv6_starts", c_void_p),
+        ("answers", c_void_p),
+        ("ranges", c_size_t),
+        ("level", c_void_p),
+        ("level_len", c_size_t),
+        ("shift", c_uint32),
+        ("rows", c_uint32),
+    ]
+
+
 class FileTable(Structure):
     """`pcidr_file_table`."""
 
@@ -369,28 +392,8 @@ CALLS: dict[str, tuple[Any, list[Any]]] = {
         c_size_t,
         c_uint32,
     ]),
-    "ipv4_table_lookup": (c_uint32, [
-        c_void_p,
-        c_size_t,
-        c_void_p,
-        c_size_t,
-        c_void_p,
-        c_size_t,
-        c_uint32,
-        c_uint32,
-        POINTER(Value),
-    ]),
-    "ipv6_table_lookup": (c_uint32, [
-        c_void_p,
-        c_size_t,
-        c_void_p,
-        c_size_t,
-        c_void_p,
-        c_size_t,
-        c_uint32,
-        c_uint32,
-        POINTER(Value),
-    ]),
+    "ipv4_table_lookup": (c_uint32, [c_void_p, c_size_t, c_void_p, c_size_t, POINTER(Table), POINTER(Value)]),
+    "ipv6_table_lookup": (c_uint32, [c_void_p, c_size_t, c_void_p, c_size_t, POINTER(Table), POINTER(Value)]),
     "ipv4_table_lookup_each": (c_uint32, [
         c_void_p,
         c_size_t,
@@ -548,8 +551,8 @@ class Calls:
     ipv6_table_build: Callable[[Any, int, Any, int, Any, int, Any, int, int, Any], int]
     ipv4_table_check: Callable[[Any, int, Any, int, Any, int, Any, int, int], int]
     ipv6_table_check: Callable[[Any, int, Any, int, Any, int, Any, int, int], int]
-    ipv4_table_lookup: Callable[[Any, int, Any, int, Any, int, int, int, Any], int]
-    ipv6_table_lookup: Callable[[Any, int, Any, int, Any, int, int, int, Any], int]
+    ipv4_table_lookup: Callable[[Any, int, Any, int, Any, Any], int]
+    ipv6_table_lookup: Callable[[Any, int, Any, int, Any, Any], int]
     ipv4_table_lookup_each: Callable[[Any, int, Any, int, Any, int, int, int, Any, int, Any, int], int]
     ipv6_table_lookup_each: Callable[[Any, int, Any, int, Any, int, int, int, Any, int, Any, int], int]
     file_open: Callable[[Any, int, Any], int]

@@ -603,10 +603,9 @@ static PyType_Slot network_slots[] = {
 
 /* ---- look-ups of one address, in the arrays of a table or in the bytes of a file */
 
-static uint32_t (*ipv4_row)(const uint32_t *, size_t, const uint32_t *, size_t, const uint32_t *, size_t, uint32_t,
-                            uint32_t, const pcidr_value *);
-static uint32_t (*ipv6_row)(const pcidr_halves *, size_t, const uint32_t *, size_t, const uint32_t *, size_t, uint32_t,
-                            uint32_t, const pcidr_value *);
+static uint32_t (*ipv4_row)(const uint32_t *, size_t, const uint32_t *, size_t, const pcidr_table *, const pcidr_value *);
+static uint32_t (*ipv6_row)(const pcidr_halves *, size_t, const uint32_t *, size_t, const pcidr_table *,
+                            const pcidr_value *);
 static uint32_t (*file_row)(const uint8_t *, size_t, const pcidr_file *, const pcidr_value *, pcidr_found *);
 static uint32_t (*file_has)(const uint8_t *, size_t, const pcidr_file *, const pcidr_value *);
 
@@ -677,10 +676,8 @@ static PyObject *finder_call(PyObject *self, PyObject *given) {
         return made;
     }
     const pcidr_table *of = &it->tables[family];
-    uint32_t row = family ? ipv6_row(of->ipv6_starts, of->ranges, of->answers, of->ranges, of->level, of->level_len,
-                                     of->shift, of->rows, &value)
-                          : ipv4_row(of->ipv4_starts, of->ranges, of->answers, of->ranges, of->level, of->level_len,
-                                     of->shift, of->rows, &value);
+    uint32_t row = family ? ipv6_row(of->ipv6_starts, of->ranges, of->level, of->level_len, of, &value)
+                          : ipv4_row(of->ipv4_starts, of->ranges, of->level, of->level_len, of, &value);
     PyObject *made = PyTuple_GetItem(rows, row == PCIDR_NO_ROW ? PyTuple_Size(rows) - 1 : (Py_ssize_t)row);
     Py_XINCREF(made);
     return made;
@@ -718,32 +715,23 @@ static finder *finder_made(PyObject *kept, PyObject *ipv4, PyObject *ipv6) {
     return made;
 }
 
-/* Of a table: of each family the arguments of a look-up, as Python has them, and the rows. */
+/* Of a table: of each family its `pcidr_table`, which is copied, and the rows. */
 static PyObject *table_finder(PyObject *module, PyObject *arguments) {
     (void)module;
     PyObject *kept, *rows[2];
-    unsigned long long at[2][3];
-    Py_ssize_t ranges[2], answers[2], level[2];
-    unsigned shift[2], count[2];
-    if (!PyArg_ParseTuple(arguments, "O(KnKnKnII)O!(KnKnKnII)O!", &kept, &at[0][0], &ranges[0], &at[0][1], &answers[0],
-                          &at[0][2], &level[0], &shift[0], &count[0], &PyTuple_Type, &rows[0], &at[1][0], &ranges[1],
-                          &at[1][1], &answers[1], &at[1][2], &level[1], &shift[1], &count[1], &PyTuple_Type, &rows[1]))
+    Py_buffer tables[2];
+    if (!PyArg_ParseTuple(arguments, "Oy*O!y*O!", &kept, &tables[0], &PyTuple_Type, &rows[0], &tables[1], &PyTuple_Type,
+                          &rows[1]))
         return NULL;
-    for (int family = 0; family < 2; family++)
-        if (ranges[family] != answers[family] || PyTuple_Size(rows[family]) != (Py_ssize_t)count[family] + 1)
-            return PyErr_Format(PyExc_ValueError, "rows and arrays differ");
     finder *made = finder_made(kept, rows[0], rows[1]);
-    for (int family = 0; made && family < 2; family++) {
-        pcidr_table *of = &made->tables[family];
-        void *starts = (void *)(uintptr_t)at[family][0];
-        if (family) of->ipv6_starts = starts;
-        else of->ipv4_starts = starts;
-        of->answers = (uint32_t *)(uintptr_t)at[family][1];
-        of->level = (uint32_t *)(uintptr_t)at[family][2];
-        of->ranges = (size_t)ranges[family];
-        of->level_len = (size_t)level[family];
-        of->shift = shift[family];
-        of->rows = count[family];
+    for (int family = 0; family < 2; family++) {
+        pcidr_table *of = made ? &made->tables[family] : NULL;
+        int fits = of && tables[family].len == (Py_ssize_t)sizeof *of;
+        if (fits) memcpy(of, tables[family].buf, sizeof *of);
+        PyBuffer_Release(&tables[family]);
+        if (!of || (fits && PyTuple_Size(rows[family]) == (Py_ssize_t)of->rows + 1)) continue;
+        PyErr_SetString(PyExc_ValueError, "rows and arrays differ");
+        Py_CLEAR(made);
     }
     return (PyObject *)made;
 }

@@ -25,6 +25,7 @@ from pcidr._calls import (
     Halves,
     Range,
     Row,
+    Table,
     Value,
 )
 
@@ -194,10 +195,12 @@ class Arrays:
         behind = [ctypes.addressof(level), len(level), width - bits]
         build = getattr(calls, f"ipv{family}_table_build")
         check(build(at, count, ctypes.addressof(starts), room, ctypes.addressof(found), room, *behind, ranges))
-        table = [ctypes.addressof(starts), ranges.value, ctypes.addressof(found), ranges.value, *behind, count]
-        self.table = tuple(table)
-        self._row = calls.quick(f"ipv{family}_table_lookup", table)
-        self._each = partial(getattr(calls, f"ipv{family}_table_lookup_each"), *table)
+        begins, places, size = ctypes.addressof(starts), ctypes.addressof(found), ranges.value
+        of_family = (begins, None) if family == 4 else (None, begins)
+        self.table = Table(*of_family, places, size, *behind, count)
+        self._row = calls.quick(f"ipv{family}_table_lookup", [begins, size, *behind[:2], byref(self.table)])
+        each = getattr(calls, f"ipv{family}_table_lookup_each")
+        self._each = partial(each, begins, size, places, size, *behind, count)
         self._kept = starts, found, level  # which the calls have by their addresses
 
     def row(self, address: Value) -> int:

@@ -721,13 +721,21 @@ typedef struct pcidr_table {
     uint32_t rows; /* how many networks there are */
 } pcidr_table;
 
+PCIDR_ASSERT(offsetof(pcidr_table, answers) == 2 * sizeof(void *));
+PCIDR_ASSERT(offsetof(pcidr_table, ranges) == 3 * sizeof(void *));
+PCIDR_ASSERT(offsetof(pcidr_table, level) == 4 * sizeof(void *));
+PCIDR_ASSERT(offsetof(pcidr_table, level_len) == 5 * sizeof(void *));
+PCIDR_ASSERT(offsetof(pcidr_table, shift) == 6 * sizeof(void *));
+PCIDR_ASSERT(offsetof(pcidr_table, rows) == 6 * sizeof(void *) + 4);
+
 /* What stands for no row. */
 #define PCIDR_NO_ROW UINT32_MAX
 
 /* How many starts and answers are room enough for a table of so many networks: twice as many, and one more. */
 size_t pcidr_table_room(uint32_t rows);
 
-/* These take the arrays one by one, and the functions below pass those of a `pcidr_table` on. */
+/* These take the arrays one by one, and the functions below pass those of a `pcidr_table` on. A look-up of one address takes
+ * the answers, the shift and the rows from the table, so that all arguments are in registers. */
 uint32_t pcidr_ipv4_table_build(const pcidr_value *networks, size_t networks_len, uint32_t *starts, size_t starts_len,
                                 uint32_t *answers, size_t answers_len, uint32_t *level, size_t level_len, uint32_t shift,
                                 size_t *count);
@@ -740,12 +748,10 @@ uint32_t pcidr_ipv4_table_check(const pcidr_value *networks, size_t networks_len
 uint32_t pcidr_ipv6_table_check(const pcidr_value *networks, size_t networks_len, const pcidr_halves *starts,
                                 size_t starts_len, const uint32_t *answers, size_t answers_len, const uint32_t *level,
                                 size_t level_len, uint32_t shift);
-uint32_t pcidr_ipv4_table_lookup(const uint32_t *starts, size_t starts_len, const uint32_t *answers, size_t answers_len,
-                                 const uint32_t *level, size_t level_len, uint32_t shift, uint32_t rows,
-                                 const pcidr_value *address);
-uint32_t pcidr_ipv6_table_lookup(const pcidr_halves *starts, size_t starts_len, const uint32_t *answers,
-                                 size_t answers_len, const uint32_t *level, size_t level_len, uint32_t shift,
-                                 uint32_t rows, const pcidr_value *address);
+uint32_t pcidr_ipv4_table_lookup(const uint32_t *starts, size_t starts_len, const uint32_t *level, size_t level_len,
+                                 const pcidr_table *table, const pcidr_value *address);
+uint32_t pcidr_ipv6_table_lookup(const pcidr_halves *starts, size_t starts_len, const uint32_t *level, size_t level_len,
+                                 const pcidr_table *table, const pcidr_value *address);
 uint32_t pcidr_ipv4_table_lookup_each(const uint32_t *starts, size_t starts_len, const uint32_t *answers,
                                       size_t answers_len, const uint32_t *level, size_t level_len, uint32_t shift,
                                       uint32_t rows, const pcidr_value *asked, size_t asked_len, uint32_t *out,
@@ -796,10 +802,8 @@ static inline uint32_t pcidr_table_check(const pcidr_table *table, const pcidr_v
  * is below `table->rows`. Takes some tens of nanoseconds; neither allocates nor writes. */
 static inline uint32_t pcidr_table_lookup(const pcidr_table *table, const pcidr_value *address) {
     return table->ipv6_starts
-               ? pcidr_ipv6_table_lookup(table->ipv6_starts, table->ranges, table->answers, table->ranges, table->level,
-                                         table->level_len, table->shift, table->rows, address)
-               : pcidr_ipv4_table_lookup(table->ipv4_starts, table->ranges, table->answers, table->ranges, table->level,
-                                         table->level_len, table->shift, table->rows, address);
+               ? pcidr_ipv6_table_lookup(table->ipv6_starts, table->ranges, table->level, table->level_len, table, address)
+               : pcidr_ipv4_table_lookup(table->ipv4_starts, table->ranges, table->level, table->level_len, table, address);
 }
 
 /* The same of each of many, at the same index of `out`, whose further places stay. Error: NO_ROOM, and `out` is as it

@@ -175,6 +175,11 @@ static void errors(void) {
     pcidr_table none = {0};
     WANT(pcidr_table_build(&none, NULL, 0, &place) == PCIDR_NO_ROOM && place == 1);
     WANT(pcidr_table_lookup(&none, &address) == PCIDR_NO_ROW);
+    pcidr_halves start = {0, 0};
+    pcidr_table none_wide = {0};
+    pcidr_value wide = value_of("2001:db8::1");
+    none_wide.ipv6_starts = &start;
+    WANT(pcidr_table_lookup(&none_wide, &wide) == PCIDR_NO_ROW && pcidr_table_lookup(&none_wide, &address) == PCIDR_NO_ROW);
     WANT(pcidr_table_lookup_each(&none, NULL, 0, NULL, 0) == PCIDR_OK);
     WANT(pcidr_table_lookup_each(&none, &address, 1, NULL, 0) == PCIDR_NO_ROOM);
     WANT(pcidr_table_room(0) == 1 && pcidr_table_room(UINT32_MAX) == 8589934591u);

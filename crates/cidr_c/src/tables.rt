@@ -11,6 +11,27 @@ use cidr_arrays::{BuildError, Fault, Halves, Key, Word, build, check, fill_level
 use cidr_files::{Ipv4Bytes, Ipv6Bytes};
 use std::alloc::{AllocError, Global};
 
+/// Where a table lies. The calls on whole tables take its parts one by one; a look-up, whose time they count in, takes the
+/// starts and the first level as slices and the rest from here, so that all of its arguments are in registers.
+#[repr(C)]
+#[derive(Clone, Copy)]
+pub struct CTable<'a> {
+    /// The starts of an IPv4 table, which are not read from here.
+    pub ipv4_starts: *const u32,
+    /// The starts of an IPv6 table, which are not read from here.
+    pub ipv6_starts: *const Halves,
+    /// Of each range one more than the row, or 0 for none.
+    pub answers: &'a [u32],
+    /// The first level, which is not read from here.
+    pub level: *const u32,
+    /// How many entries it has, which is not read from here.
+    pub level_len: usize,
+    /// The shift of the first level.
+    pub shift: u32,
+    /// How many networks there are.
+    pub rows: u32,
+}
+
 /// The row that stands for none.
 pub const NO_ROW: u32 = u32::MAX;
 
@@ -360,36 +381,47 @@ pub extern "C" fn pcidr_ipv6_table_check(
 }
 
 /// The row of the longest IPv4 network that an address is in, or `u32::MAX` where it is in none, and of a value that is
-/// no IPv4 address. It reads nothing outside of the arrays, whatever they hold, and allocates nothing.
+/// no IPv4 address. It reads nothing outside of the arrays, whatever they hold, and allocates nothing. Of `table` it
+/// reads the answers, the shift and the rows alone.
 #[unsafe(no_mangle)]
 pub extern "C" fn pcidr_ipv4_table_lookup(
     starts: &[u32],
-    answers: &[u32],
     level: &[u32],
-    shift: u32,
-    rows: u32,
+    table: &CTable<'_>,
     address: &CValue,
 ) -> u32
-    ensures { IsRowFound 32 (map ipv4_number starts.now) answers.now level.now shift rows
+    ensures { IsRowFound 32 (map ipv4_number starts.now) table.now.answers.now level.now table.now.shift table.now.rows
         (ipv4_pair address.now) result }
 {
-    row_in(starts, answers, level, shift, rows, address)
+    row_in(
+        starts,
+        table.answers,
+        level,
+        table.shift,
+        table.rows,
+        address,
+    )
 }
 
 /// The same of IPv6.
 #[unsafe(no_mangle)]
 pub extern "C" fn pcidr_ipv6_table_lookup(
     starts: &[Halves],
-    answers: &[u32],
     level: &[u32],
-    shift: u32,
-    rows: u32,
+    table: &CTable<'_>,
     address: &CValue,
 ) -> u32
-    ensures { IsRowFound 128 (map ipv6_number starts.now) answers.now level.now shift rows
+    ensures { IsRowFound 128 (map ipv6_number starts.now) table.now.answers.now level.now table.now.shift table.now.rows
         (ipv6_pair address.now) result }
 {
-    row_in(starts, answers, level, shift, rows, address)
+    row_in(
+        starts,
+        table.answers,
+        level,
+        table.shift,
+        table.rows,
+        address,
+    )
 }
 
 /// The row of each of many addresses, at its index of `out`: 0, or the number of too little room.
