@@ -19,6 +19,7 @@ from pcidr._library import (
     Buffer,
     Values,
     answers,
+    array,
     calls,
     check,
     filled,
@@ -224,10 +225,10 @@ class Table(_Rows[V], MutableMapping[Network, V]):
     """A table of networks with a value each: ``Table({"10.0.0.0/8": 1})``, a mapping that can be changed as a `dict`.
 
     `lookup` gives the longest network that an address, or a network, is in, with its value. `lookup_each` looks up many
-    by one call of the library for each family. Both look in arrays that are made once. The first `lookup_each`, or walk
-    over the rows, after a change makes them anew: it lists and sorts all rows. A `lookup` does so when there have been
-    more of them than rows since the change, and before that looks in a `dict`, once for each prefix length that the
-    table has had; so it always does for a network that is no address.
+    by one call of the library for each family. Both look in arrays, which the first look-up makes. The first
+    `lookup_each`, or walk over the rows, after a change makes them anew: it lists and sorts all rows. A `lookup` does so
+    once there have been as many changes and such look-ups as rows since they were made, and before that looks in a
+    `dict`, once for each prefix length that the table has had; so it always does for a network that is no address.
 
     Any threads may look up in a table and change it at once, and an interrupt leaves it as it was before the change or
     after it. Each call sees all of a change or nothing of it. Look-ups and walks take no lock, but for the copy of the
@@ -236,17 +237,18 @@ class Table(_Rows[V], MutableMapping[Network, V]):
     """
 
     def __init__(self, rows: Rows[V] = ()) -> None:
-        self._fill(rows)
+        self._fill(_rows_by_key(rows))
 
-    def _fill(self, rows: Rows[V]) -> None:
-        self._rows: dict[Key, V] = _rows_by_key(rows)
+    def _fill(self, rows: dict[Key, V]) -> None:
+        self._rows = rows
         # The tags of all rows, descending, and perhaps of some that were deleted.
         self._tags = tuple(sorted({tag for tag, _ in self._rows}, reverse=True))
         # Another object before each change, so that an interrupt behind it is no harm, and after it.
         self._version = object()
         self._snapshot: _Snapshot | None = None
-        # About how many look-ups there have been in the `dict` since the last change.
-        self._looks = 0
+        # About how many changes and look-ups in the `dict` there have been since the arrays were made. To take the rows was a
+        # change for each.
+        self._since = len(rows)
 
     def _now(self) -> _Snapshot:
         """The rows as they are."""
@@ -254,13 +256,13 @@ class Table(_Rows[V], MutableMapping[Network, V]):
         if made is None or made.version is not self._version:
             with _changing:
                 version, rows = self._version, self._rows.copy()
-            places = sorted(map(_row_order, rows))
-            networks = values_at([(tag, number) for _, number, tag in places])
-            values = [rows[tag, number] for _, number, tag in places]
-            listed = tuple(zip(each_of(Network, networks), values))
-            parts = _parts(listed, networks, bisect_left(places, (1,)), bisect_left(places, (2,)))
+            held = sorted(rows.items(), key=_row_order)
+            networks = values_at([key for key, _ in held])
+            listed = tuple(zip(each_of(Network, networks), [value for _, value in held]))
+            ipv4, ipv6 = (bisect_left(held, family << 136, key=_row_order) for family in (1, 2))
+            parts = _parts(listed, networks, ipv4, ipv6)
             made = _Snapshot(version, listed, networks, parts, _finder(*parts.values()))
-            self._snapshot = made
+            self._snapshot, self._since = made, 0
         return made
 
     def _changed(self, change: Callable[..., R], *arguments: object) -> R:
@@ -268,7 +270,8 @@ class Table(_Rows[V], MutableMapping[Network, V]):
         goes until the lock is free: values may have finalizers, and these may wait for another thread."""
         self._version = object()
         result = change(*arguments)
-        self._version, self._snapshot, self._looks = object(), None, 0
+        self._version, self._snapshot = object(), None
+        self._since += 1
         return result
 
     def _put(self, put: Callable[[Key, V], R], key: Key, value: V) -> R:
@@ -280,14 +283,15 @@ class Table(_Rows[V], MutableMapping[Network, V]):
             return self._changed(put, key, value)
 
     def __getstate__(self) -> dict[str, Any]:
-        state = {**vars(self), "_rows": [(str(network), value) for network, value in self.items()]}
-        for derived in ("_tags", "_version", "_snapshot", "_looks"):
+        state = {**vars(self), "_rows": _packed(self._now())}
+        for derived in ("_tags", "_version", "_snapshot", "_since"):
             del state[derived]
         return state
 
     def __setstate__(self, state: dict[str, Any]) -> None:
         others = dict(state)
-        self._fill(others.pop("_rows"))
+        rows = others.pop("_rows")  # once they were pairs of a string and a value
+        self._fill(_unpacked(*rows) if isinstance(rows, tuple) else _rows_by_key(rows))
         vars(self).update(others)
 
     def __repr__(self) -> str:
@@ -406,14 +410,14 @@ class Table(_Rows[V], MutableMapping[Network, V]):
                 row_of_address: tuple[Network, V] | None = found
                 return row_of_address
         value = network_value(asked)
+        if value.tag not in ADDRESS_TAGS:
+            return next(iter(self._outer(value, 1)), None)
         if made is None or made.version is not self._version:
-            self._looks += 1
-            if self._looks <= len(self._rows):
+            self._since += 1
+            if self._since < len(self._rows):
                 return next(iter(self._outer(value, 1)), None)
             made = self._now()
-        part = made.parts.get(value.tag)
-        if part is None:
-            return next(iter(self._outer(value, 1)), None)
+        part = made.parts[value.tag]
         row = part.arrays.row(value)
         return part.rows[-1 if row == NO_ROW else row]
 
@@ -594,6 +598,29 @@ def _places_inside(count: int, network_at: Callable[[int], Value], outer: Value)
     return range(begin, end)
 
 
+def _packed(made: _Snapshot) -> tuple[bytes, list[Any] | None, tuple[Any, ...]]:
+    """Rows as the bytes of a file, which have the values where all are `bytes`, else these beside it, and the value of
+    `any`, of which a file has no row."""
+    begin = 1 if made.rows and made.rows[0][0].version is None else 0
+    values = [value for _, value in made.rows[begin:]]
+    networks = array(made.networks[begin:]) if begin else made.networks
+    is_whole = set(map(type, values)) <= {bytes} and sum(map(len, values)) < 1 << 32
+    content = file_of(networks, values if is_whole else [b""] * len(values))
+    return content, None if is_whole else values, tuple(value for _, value in made.rows[:begin])
+
+
+def _unpacked(content: bytes, values: list[Any] | None, of_any: tuple[Any, ...]) -> dict[Key, Any]:
+    """The same rows."""
+    stored = Stored(content)
+    stored.check()
+    if values is None:
+        values = [part.value(row) for part in stored.parts.values() for row in range(part.rows)]
+    keys = [*[(255, 0)] * len(of_any), *map(_row_key, stored.networks())]
+    if len(keys) != len(of_any) + len(values):
+        raise ValueError("other counts of networks and values")
+    return dict(zip(keys, (*of_any, *values)))
+
+
 def _stored_value(network: Network, value: object) -> bytes:
     """What a file has of a value."""
     if isinstance(value, bytes):
@@ -637,10 +664,10 @@ def _outer_keys(value: Value, tags: Iterable[int]) -> Iterator[Key]:
     yield 255, 0
 
 
-def _row_order(key: Key) -> tuple[int, int, int]:
+def _row_order(row: tuple[Key, object]) -> int:
     """Where the row stands: `any`, then IPv4, then IPv6; the lower first address, and then the shorter prefix."""
-    tag, number = key
-    return (0 if tag == 255 else 1 if tag < 64 else 2, number, tag)
+    tag, number = row[0]
+    return (0 if tag == 255 else 1 if tag < 64 else 2) << 136 | number << 8 | tag
 
 
 def _row_network(key: Key) -> Network:

@@ -311,6 +311,41 @@ class Tables(unittest.TestCase):
         typed = Table[int]({"::/0": 1})
         self.assertEqual(pickle.loads(pickle.dumps(typed)), typed)
 
+    def test_pickles_are_the_bytes_of_files(self):
+        names = ["any", "0.0.0.0/0", "10.0.0.0/8", "10.1.2.3", "::/0", "2001:db8::/32", "2001:db8::1"]
+        for begin, end in ((0, 7), (1, 7), (1, 4), (4, 7), (0, 1), (7, 7)):
+            for value in (lambda name: name.encode(), lambda name: name, lambda name: [name, 1], lambda name: None):
+                table = Table({name: value(name) for name in names[begin:end]})
+                content, values, of_any = table.__getstate__()["_rows"]
+                self.assertEqual(len(of_any), begin == 0 and end > 0)
+                held = [table[name] for name in names[max(begin, 1) : end]]
+                self.assertEqual(values, None if set(map(type, held)) <= {bytes} else held)
+                for protocol in range(pickle.HIGHEST_PROTOCOL + 1):
+                    copied = pickle.loads(pickle.dumps(table, protocol))
+                    self.assertEqual((copied, list(copied.items())), (table, list(table.items())))
+                    for address in ("10.1.2.3", "11.0.0.0", "2001:db8::1", "fe80::"):
+                        self.assertEqual(copied.lookup(address), table.lookup(address))
+                    copied["10.9.0.0/16"] = 1
+                    self.assertEqual(copied.lookup("10.9.1.1")[1], 1)
+                    self.assertNotIn("10.9.0.0/16", table)
+
+    def test_pickles_of_rows(self):
+        table = Table.__new__(Named)
+        table.__setstate__({"_rows": [("10.0.0.0/8", [1]), ("::/0", 2), ("any", 3)], "name": "mine"})
+        self.assertEqual((table, table.name), (Table({"10.0.0.0/8": [1], "::/0": 2, "any": 3}), "mine"))
+        self.assertEqual(table.lookup("10.1.2.3"), (Network("10.0.0.0/8"), [1]))
+        table.__setstate__({"_rows": []})
+        self.assertEqual(len(table), 0)
+
+    def test_pickles_that_are_cut_or_changed(self):
+        content, values, of_any = Table({"10.0.0.0/8": 1, "::/0": 2}).__getstate__()["_rows"]
+        wrong = [(content[:end], values, of_any) for end in range(len(content))]
+        wrong += [(content, values[1:], of_any), (content, [*values, 3], of_any)]
+        wrong += [(content[:place] + b"\xff" + content[place + 1 :], values, of_any) for place in (0, 4, 16, 128)]
+        for state in wrong:
+            with self.assertRaises(ValueError):
+                Table().__setstate__({"_rows": state})
+
 
 if __name__ == "__main__":
     unittest.main()

@@ -187,11 +187,33 @@ class Tables(unittest.TestCase):
             for asked in (four, six, [*four, *six], ["::ffff:10.1.2.3"]):
                 table = Table((name, name) for name in rows)
                 wanted = [next(iter(table.covering(text)), None) for text in asked]
+                table._since = -len(asked) - 1  # as many look-ups come before the arrays are made
+                self.assertEqual([table.lookup(text) for text in asked], wanted)
                 self.assertIsNone(table._snapshot)
-                for _ in range(len(rows) + 2):
-                    self.assertEqual([table.lookup(text) for text in asked], wanted)
-                self.assertIsNotNone(table._snapshot)  # there were more look-ups than rows
+                table._since = len(rows)
+                self.assertEqual([table.lookup(text) for text in asked], wanted)
+                self.assertIsNotNone(table._snapshot)
                 self.assertEqual(table.lookup_each(asked), wanted)
+
+    def test_when_the_arrays_are_made(self):
+        rows = {f"10.{i}.0.0/16": i for i in range(20)}
+        table = Table(rows)
+        self.assertEqual(table.lookup("10.1.0.0/17")[1], 1)
+        self.assertIsNone(table._snapshot)  # which has networks that are no addresses by its `dict`
+        self.assertEqual(table.lookup("10.1.2.3")[1], 1)
+        self.assertIsNotNone(table._snapshot)
+        table["10.1.0.0/16"] = "other"
+        for _ in range(18):  # with the change as many as rows but one
+            self.assertEqual(table.lookup("10.1.2.3")[1], "other")
+        self.assertIsNone(table._snapshot)
+        self.assertEqual(table.lookup("10.1.2.3")[1], "other")
+        self.assertIsNotNone(table._snapshot)
+        filled = Table()
+        for network, value in rows.items():
+            filled[network] = value
+        self.assertEqual(filled.lookup("10.2.3.4")[1], 2)
+        self.assertIsNotNone(filled._snapshot)
+        self.assertIsNone(Table().lookup("10.2.3.4"))
 
     def test_lookups_of_networks_of_both_families(self):
         names = ["any", "0.0.0.0/0", "10.0.0.0/8", "10.1.2.3", "::/0", "2001:db8::/32", "2001:db8::1"]

@@ -111,10 +111,11 @@ class Interleaved(unittest.TestCase):
 
         looks = {
             lambda table: table.lookup(ASKED)[1]: ("old", "new"),
-            lambda table: (setattr(table, "_looks", 9), table.lookup(ASKED)[1])[1]: ("old", "new"),
+            lambda table: (setattr(table, "_since", -9), table.lookup(ASKED)[1])[1]: ("old", "new"),
             lambda table: table.lookup_each([ASKED])[0][1]: ("old", "new"),
             lambda table: [value for _, value in table.covering(ASKED)]: (["old", "wide"], ["new", "wide"]),
             lambda table: [value for _, value in table.items()][:2]: (["wide", "old"], ["wide", "new"]),
+            lambda table: pickle.loads(pickle.dumps(table)).lookup(ASKED)[1]: ("old", "new"),
         }
         for look, wanted in looks.items():
             seen = []
@@ -132,6 +133,7 @@ class Interleaved(unittest.TestCase):
 
         for look in (
             lambda table: table.lookup(ASKED)[1],
+            lambda table: (setattr(table, "_since", -9), table.lookup(ASKED)[1])[1],
             lambda table: table.lookup_each([ASKED])[0][1],
             lambda table: table.get("10.1.0.0/16", "wide"),
         ):
@@ -183,6 +185,7 @@ class Interleaved(unittest.TestCase):
         for outer, handler in ((remove, add), (add, remove)):
             table = rows()
             table["192.0.2.0/24"] = "another of this length"
+            table._since = -9  # look-ups to come before the arrays are made
             begun, written, results = threading.Event(), threading.Event(), []
 
             def look_up():
@@ -424,6 +427,7 @@ class Threads(unittest.TestCase):
 
     def test_a_look_up_does_not_wait_for_a_writer(self):
         table = rows()
+        table._since = -9  # look-ups to come before the arrays are made
         with pcidr._tables._changing:
             self.assertEqual(in_thread(self, lambda: table.lookup(ASKED)[1]), "old")
             self.assertEqual(in_thread(self, lambda: len(table.covering(ASKED))), 2)
