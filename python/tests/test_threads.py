@@ -361,6 +361,33 @@ class Signals(unittest.TestCase):
 
 
 class Threads(unittest.TestCase):
+    def test_first_look_ups_at_once(self):
+        """Threads make the arrays of one table, while another one changes it."""
+        names = [f"10.{i}.0.0/16" for i in range(200)]
+        for _ in range(10):
+            table, wrong, begin = Table(dict.fromkeys(names, "old")), [], threading.Barrier(9)
+
+            def look_up():
+                begin.wait(PATIENCE)
+                found = [(table.lookup(name[:-3]), name) for name in names]
+                wrong.extend(row for row, name in found if row[0] != Network(name) or row[1] not in ("old", "new"))
+                copied = pickle.loads(pickle.dumps(table))
+                wrong.extend(row for row in copied.items() if row[1] not in ("old", "new"))
+
+            def move():
+                begin.wait(PATIENCE)
+                for name in names:
+                    table[name] = "new"
+
+            threads = [threading.Thread(target=each, daemon=True) for each in (*[look_up] * 8, move)]
+            for thread in threads:
+                thread.start()
+            for thread in threads:
+                thread.join(PATIENCE)
+                self.assertFalse(thread.is_alive(), "a thread is stuck")
+            self.assertEqual(wrong, [])
+            self.assertEqual([table.lookup(name[:-3])[1] for name in names], ["new"] * 200)
+
     def test_many_at_once(self):
         """Rows move between two lengths, each there before it goes from the other, while others look up."""
         table, stop, wrong = rows(), time.monotonic() + 1, []
