@@ -1,4 +1,4 @@
--- The ends of walks over hosts, and host masks, of either family.
+-- The ends of walks over hosts of either family.
 use Rattle.std.proofs.Common.{◌≡◌, ◌∷◌, ◌++◌, [], List, ap}
 use Rattle.cidr.specs.model.Host.{Host}
 use Rattle.cidr.specs.model.Network.{width_of}
@@ -24,10 +24,3 @@ pub last_host : (host : IpInet) (hosts rest : List (Family × Host)) → hosts �
     → IsLastHost hosts (host_address host)
 last_host (V4 h) hosts rest e = (h.len, rest, e)
 last_host (V6 h) hosts rest e = (h.len, rest, e)
-
-pub mask_address : (n : IpCidr) (a : IpAddr) → plain_bits a ≡ host_mask_of (width_of (network_family n)) (network_prefix n)
-    → address_family a ≡ network_family n → a ≡ address_by host_mask_of n
-mask_address (network.V4 p) (address.V4 a) e same = ap address.V4 e
-mask_address (network.V6 p) (address.V6 a) e same = ap address.V6 e
-mask_address (network.V4 p) (address.V6 a) e same = cc
-mask_address (network.V6 p) (address.V4 a) e same = cc

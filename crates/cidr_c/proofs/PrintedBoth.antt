@@ -1,5 +1,5 @@
 -- Two strings with a slash between them, written into a room one after the other.
-use Rattle.std.proofs.Common.{◌≡◌, ℕ, suc, ◌+◌, ◌-◌, ◌<◌, List, [], ◌∷◌, ◌++◌, length, take, drop, get_or, set, subst, sym, ap, ap₂, refl, Bool, ◌∙◌, arith, append_assoc, length-append, length-drop, drop-cons, drop-drop, take_at, drop_at}
+use Rattle.std.proofs.Common.{◌≡◌, ℕ, suc, ◌+◌, ◌-◌, ◌<◌, List, [], ◌∷◌, ◌++◌, length, drop, get_or, set, subst, sym, ap, ap₂, refl, Bool, ◌∙◌, arith, append_assoc, length-append, length-drop, drop-cons, drop-drop, take_at, drop_at}
 use Rattle.std.proofs.lemmas.List.{set_at}
 use borrow.Rule.Slice.PartMut.{put_mid}
 use Rattle.cidr.specs.either.IpNetwork.{address_by, network_family, network_prefix}

@@ -1,5 +1,5 @@
 //! Masks of networks, as addresses and in strings.
-ghost use Rattle.std.specs.Prelude.{◌≡◌, ◌∷◌, ◌++◌, ℕ};
+ghost use Rattle.std.specs.Prelude.{◌≡◌, ◌<◌, ◌+◌, ◌^◌, ◌∷◌, ◌++◌, length, ℕ};
 ghost use Rattle.cidr.specs.either.IpAddress.{address_family, plain_bits};
 ghost use Rattle.cidr.specs.either.IpNetwork.{network_family, network_prefix};
 ghost use Rattle.cidr.specs.model.Network.{mask_of};
@@ -98,18 +98,26 @@ pub extern "C" fn pcidr_print_host_with_host_mask(host: &CValue, out: &mut [u8])
     }
 }
 
-/// Writes an address, a slash and a mask, and returns the length.
+/// Writes an address, a slash and a mask, and returns the length. Each string stays where it was printed.
+#[inline(always)]
 fn print_masked(address: &IpAddr, mask: &IpAddr, out: &mut [u8]) -> usize
     ensures { IsPrintedInto (ip_text address.now ++ slash ∷ ip_text mask.now) out.old out.new result }
 {
-    let address = address.to_text();
-    let mask = mask.to_text();
-    let slash = address.len();
-    let end = slash + 1 + mask.len();
+    print_both(address.to_text().as_str(), mask.to_text().as_str(), out)
+}
+
+/// Writes two strings with a slash between them, and returns the length.
+#[inline(always)]
+fn print_both(front: &str, back: &str, out: &mut [u8]) -> usize
+    requires { length front.now + 1 + length back.now < 2 ^ 64 }
+    ensures { IsPrintedInto (front.now ++ slash ∷ back.now) out.old out.new result }
+{
+    let slash = front.len();
+    let end = slash + 1 + back.len();
     if end < out.len() {
-        out[..slash].copy_from_slice(address.as_str().as_bytes());
+        out[..slash].copy_from_slice(front.as_bytes());
         out[slash] = b'/';
-        out[slash + 1..end].copy_from_slice(mask.as_str().as_bytes());
+        out[slash + 1..end].copy_from_slice(back.as_bytes());
         out[end] = 0;
     }
     end
